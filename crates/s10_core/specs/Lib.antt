@@ -1,0 +1,4 @@
+pub mod Letters
+pub mod Serial
+pub mod Id
+pub mod TextFault

@@ -1,0 +1,36 @@
+-- Why a text spells no identifier: the first refusal that applies.
+use Rattle.std.specs.Prelude.{◌≡◌, ◌≢◌, ℕ, ◌<◌, ◌≤◌, ◌⊎◌, List, length, slice_index, slice_range}
+use Rattle.std.specs.Char.{IsAsciiDigit}
+use Rattle.s10_core.specs.declared.text_fault.TextFault.{TextFault}
+use Rattle.s10_core.specs.declared.text_fault.TextFault.TheVariants.{Length, Letter, Digit, CheckDigit}
+use Rattle.s10_core.specs.Letters.{IsCapital}
+use Rattle.s10_core.specs.Serial.{number_of, check_digit_of, character_of}
+
+-- letters stand in places 0, 1, 11 and 12
+abbrev pub IsLetterPlace : ℕ → Type 0
+IsLetterPlace at = (at < 2) ⊎ ((11 ≤ at) × (at < 13))
+
+-- digits stand in places 2 to 10
+abbrev pub IsDigitPlace : ℕ → Type 0
+IsDigitPlace at = (2 ≤ at) × (at < 11)
+
+-- the character at a place is of the kind that belongs there
+pub record IsRightAt (text : List ℕ) (at : ℕ) : Type 0 where
+  pub letter : IsLetterPlace at → IsCapital (slice_index text at)
+  pub digit : IsDigitPlace at → IsAsciiDigit (slice_index text at)
+
+abbrev pub IsRightBefore : List ℕ → ℕ → Type 0
+IsRightBefore text at = (place : ℕ) → place < at → IsRightAt text place
+
+-- the check digit is that of the serial number
+abbrev pub IsChecked : List ℕ → Type 0
+IsChecked text = slice_index text 10 ≡ character_of (check_digit_of (number_of (slice_range text 2 10)))
+
+-- the refusal applies to the text, and none before it does
+abbrev pub IsFirstRefusal : List ℕ → TextFault → Type 0
+IsFirstRefusal text Length = length text ≢ 13
+IsFirstRefusal text (Letter at) =
+    (length text ≡ 13) × IsRightBefore text at × IsLetterPlace at × ¬ IsCapital (slice_index text at)
+IsFirstRefusal text (Digit at) =
+    (length text ≡ 13) × IsRightBefore text at × IsDigitPlace at × ¬ IsAsciiDigit (slice_index text at)
+IsFirstRefusal text CheckDigit = (length text ≡ 13) × IsRightBefore text 13 × ¬ IsChecked text

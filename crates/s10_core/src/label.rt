@@ -1,0 +1,28 @@
+//! Texts as they stand on labels.
+ghost use Rattle.std.specs.Prelude.{◌≡◌, ◌≢◌, IfOk, OnErr, IfErr, length};
+ghost use Rattle.s10_core.specs.Id.{tidied};
+
+use crate::text_fault::TextFault;
+
+/// The 13 characters of a label text, without its spaces and in capitals.
+pub fn tidy(text: &[u8]) -> Result<[u8; 13], TextFault>
+    ensures ok { IfOk result (λ strict. strict ≡ tidied text.now) }
+    ensures refused { IfErr result (λ fault. fault ≡ TextFault.Length) }
+    ensures length { OnErr result (length (tidied text.now) ≢ 13) }
+{
+    let mut strict = [0u8; 13];
+    let mut count: usize = 0;
+    for character in text {
+        if *character != b' ' {
+            if count == 13 {
+                return Err(TextFault::Length);
+            }
+            strict[count] = character.to_ascii_uppercase();
+            count += 1;
+        }
+    }
+    if count < 13 {
+        return Err(TextFault::Length);
+    }
+    Ok(strict)
+}
