@@ -1,0 +1,9 @@
+pub mod Identifiers
+pub mod Refusals
+pub mod Asked
+pub mod Replied
+pub mod Writing
+pub mod Lengths
+mod SameFrames
+mod Scripts
+pub mod Numerals

@@ -1,0 +1,33 @@
+-- Refusals in order, one list of them behind another.
+use Rattle.std.proofs.Common.{◌≡◌, ℕ, Bool, true, false, List, [], ◌∷◌, ◌++◌, Option, Some, None, refl, sym, ap, ◌∙◌}
+use Rattle.s10_wire.specs.declared.wire_fault.WireFault.{WireFault}
+use Rattle.s10_wire.specs.declared.kind.Kind.{Kind}
+use Rattle.s10_wire.specs.Kind.{is_reply_long}
+use Rattle.s10_wire.specs.WireFault.{first_refusal, kind_named, of_kind, header_refusals, request_fields, outcome_refusals, reply_refusals, refusals_behind_reply}
+
+passed_over : (applies : Bool) (fault : WireFault) (r s : List (Bool × WireFault)) → (first_refusal r ≡ None → first_refusal (r ++ s) ≡ first_refusal s)
+    → first_refusal ((applies, fault) ∷ r) ≡ None → first_refusal ((applies, fault) ∷ (r ++ s)) ≡ first_refusal s
+passed_over true fault r s later none = absurd cc
+passed_over false fault r s later none = later none
+
+-- where none of the first list applies, the second decides
+pub second_decides : (r s : List (Bool × WireFault)) → first_refusal r ≡ None → first_refusal (r ++ s) ≡ first_refusal s
+second_decides [] s none = refl
+second_decides (refusal ∷ r) s none = passed_over refusal.0 refusal.1 r s (second_decides r s) none
+
+found_before : (applies : Bool) (other fault : WireFault) (r s : List (Bool × WireFault)) → (first_refusal r ≡ Some fault → first_refusal (r ++ s) ≡ Some fault)
+    → first_refusal ((applies, other) ∷ r) ≡ Some fault → first_refusal ((applies, other) ∷ (r ++ s)) ≡ Some fault
+found_before true other fault r s later found = found
+found_before false other fault r s later found = later found
+
+-- what the first list refuses is refused so
+pub first_decides : (r s : List (Bool × WireFault)) (fault : WireFault) → first_refusal r ≡ Some fault → first_refusal (r ++ s) ≡ Some fault
+first_decides [] s fault found = absurd cc
+first_decides (refusal ∷ r) s fault found = found_before refusal.0 refusal.1 fault r s (first_decides r s fault) found
+
+-- behind the header and the length of a reply its fields decide
+pub fields_decide : (b : List ℕ) (kind : Kind) → None ≡ first_refusal (header_refusals 0x80 b) → kind_named 0x80 b ≡ Some kind → is_reply_long kind b ≡ true
+    → first_refusal (reply_refusals b) ≡ first_refusal (request_fields kind b ++ outcome_refusals kind b)
+fields_decide b kind passed named long =
+    second_decides (header_refusals 0x80 b) (of_kind (kind_named 0x80 b) (refusals_behind_reply b)) (sym passed)
+    ∙ ap (λ (named : Option Kind). first_refusal (of_kind named (refusals_behind_reply b))) named ∙ rw long refl

@@ -1,0 +1,91 @@
+-- The datagrams of requests and replies, by kind. Numbers are big-endian.
+use Rattle.std.specs.Prelude.{◌≡◌, ℕ, ◌+◌, ◌^◌, ◌<◌, ⊤, IsTrue, List, [], ◌∷◌, ◌++◌}
+use Rattle.std.specs.Int.{w32, to_be_bytes}
+use Rattle.s10_core.specs.Letters.{AreCapitals, letters_of}
+use Rattle.s10_core.specs.Serial.{IsSerial}
+use Rattle.s10_core.specs.Id.{IsId, spelling_of}
+use Rattle.s10_wire.specs.declared.body.Body.{Body}
+use Rattle.s10_wire.specs.declared.body.Body.TheVariants.{Grant, Draw, Void, Query}
+use Rattle.s10_wire.specs.declared.request.Request.{Request}
+use Rattle.s10_wire.specs.declared.status.Status.{Status}
+use Rattle.s10_wire.specs.declared.status.Status.TheVariants.{Unknown, Never, Issued, Voided as StatusVoided}
+use Rattle.s10_wire.specs.declared.outcome.Outcome.{Outcome}
+use Rattle.s10_wire.specs.declared.outcome.Outcome.TheVariants.{Granted, Drawn, Voided, Told, NotThePost, BadGrant, Overlap, NoRange, NoneFree, NotYours, NotIssued, AlreadyVoid, NumberReused}
+use Rattle.s10_wire.specs.Kind.{kind_of, code_of, version_of, fits}
+
+-- a number in four bytes
+abbrev pub u32_bytes : ℕ → List ℕ
+u32_bytes n = to_be_bytes w32 n
+
+-- what a request has behind its header
+abbrev pub fields : Body → List ℕ
+fields (Grant holder service country first last) =
+    u32_bytes holder ++ letters_of service ++ letters_of country ++ u32_bytes first ++ u32_bytes last
+fields (Draw service country) = letters_of service ++ letters_of country
+fields (Void id) = spelling_of id
+fields (Query id) = spelling_of id
+
+-- the bytes of a request, where mark is added to the kind byte
+abbrev pub datagram : ℕ → Request → List ℕ
+datagram mark q =
+    0x53 ∷ 0x31 ∷ version_of (kind_of q.body) ∷ (code_of (kind_of q.body) + mark) ∷ [] ++ u32_bytes q.customer ++ u32_bytes q.number ++ fields q.body
+
+-- a number of four bytes
+abbrev pub IsU32 : ℕ → Type 0
+IsU32 n = n < 2 ^ 32
+
+-- the parts are in their ranges
+abbrev pub IsBody : Body → Type 0
+IsBody (Grant holder service country first last) =
+    IsU32 holder × AreCapitals service × AreCapitals country × IsSerial first × IsSerial last
+IsBody (Draw service country) = AreCapitals service × AreCapitals country
+IsBody (Void id) = IsId id
+IsBody (Query id) = IsId id
+
+abbrev pub IsRequest : Request → Type 0
+IsRequest q = IsU32 q.customer × IsU32 q.number × IsBody q.body
+
+-- the bytes are the datagram of the request
+abbrev pub Asks : List ℕ → Request → Type 0
+Asks b q = IsRequest q × (b ≡ datagram 0 q)
+
+abbrev pub IsStatus : Status → Type 0
+IsStatus Unknown = ⊤
+IsStatus Never = ⊤
+IsStatus (Issued day) = IsU32 day
+IsStatus (StatusVoided day) = IsU32 day
+
+-- the parts of the outcome are in their ranges
+abbrev pub IsOutcome : Outcome → Type 0
+IsOutcome (Granted range) = IsU32 range
+IsOutcome (Drawn day id) = IsU32 day × IsId id
+IsOutcome (Told status) = IsStatus status
+IsOutcome outcome = ⊤
+
+-- a status in five bytes
+abbrev pub status_bytes : Status → List ℕ
+status_bytes Unknown = 0 ∷ u32_bytes 0
+status_bytes Never = 1 ∷ u32_bytes 0
+status_bytes (Issued day) = 2 ∷ u32_bytes day
+status_bytes (StatusVoided day) = 3 ∷ u32_bytes day
+
+-- the outcome byte and what a Done reply has behind it
+abbrev pub outcome_bytes : Outcome → List ℕ
+outcome_bytes (Granted range) = 0 ∷ u32_bytes range
+outcome_bytes (Drawn day id) = 0 ∷ u32_bytes day ++ spelling_of id
+outcome_bytes Voided = 0 ∷ []
+outcome_bytes (Told status) = 0 ∷ status_bytes status
+outcome_bytes NotThePost = 1 ∷ []
+outcome_bytes BadGrant = 2 ∷ []
+outcome_bytes Overlap = 3 ∷ []
+outcome_bytes NoRange = 4 ∷ []
+outcome_bytes NoneFree = 5 ∷ []
+outcome_bytes NotYours = 6 ∷ []
+outcome_bytes NotIssued = 7 ∷ []
+outcome_bytes AlreadyVoid = 8 ∷ []
+outcome_bytes NumberReused = 9 ∷ []
+
+-- the bytes are the datagram of the reply: the outcome fits, and it stands behind the request
+abbrev pub Replies : List ℕ → Request → Outcome → Type 0
+Replies b q o =
+    IsRequest q × IsOutcome o × IsTrue (fits q.body o) × (b ≡ datagram 0x80 q ++ outcome_bytes o)

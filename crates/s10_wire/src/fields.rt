@@ -1,0 +1,77 @@
+//! The fields of a datagram, each at its offset.
+
+ghost use Rattle.std.specs.Prelude.{◌≡◌, ℕ, ◌+◌, ◌<◌, ◌≤◌, ◌^◌, ◌++◌, Bool, true, false, length, take, drop, IfOk, IfErr};
+ghost use Rattle.s10_core.specs.Serial.{IsSerial};
+ghost use Rattle.s10_wire.specs.Datagrams.{u32_bytes};
+ghost use Rattle.s10_core.specs.Letters.{AreCapitals, letters_of};
+ghost use Rattle.s10_core.specs.Id.{IsId, spelling_of};
+ghost use Rattle.s10_wire.specs.WireFault.{are_letters, is_serial, is_identifier, number};
+
+use crate::wire_fault::WireFault;
+use s10_core::{Country, Id, Serial, Service};
+
+/// The number at an offset.
+pub fn number_at(bytes: &[u8], at: usize) -> u32
+    requires { at + 4 ≤ length bytes.now }
+    ensures value { result ≡ number bytes.now at }
+    ensures read { drop at bytes.now ≡ u32_bytes result ++ drop (at + 4) bytes.now }
+{
+    u32::from_be_bytes([bytes[at], bytes[at + 1], bytes[at + 2], bytes[at + 3]])
+}
+
+/// The service at an offset.
+pub fn service_at(bytes: &[u8], at: u16) -> Result<Service, WireFault>
+    requires { at + 2 ≤ length bytes.now }
+    ensures ok { IfOk result (λ s. are_letters bytes.now at ≡ true) }
+    ensures read { IfOk result (λ s. AreCapitals s × (drop at bytes.now ≡ letters_of s ++ drop (at + 2) bytes.now)) }
+    ensures err { IfErr result (λ f. (f ≡ WireFault.Field at) × (are_letters bytes.now at ≡ false)) }
+{
+    let start = at as usize;
+    match Service::new([bytes[start], bytes[start + 1]]) {
+        Some(service) => Ok(service),
+        None => Err(WireFault::Field(at)),
+    }
+}
+
+/// The country at an offset.
+pub fn country_at(bytes: &[u8], at: u16) -> Result<Country, WireFault>
+    requires { at + 2 ≤ length bytes.now }
+    ensures ok { IfOk result (λ s. are_letters bytes.now at ≡ true) }
+    ensures read { IfOk result (λ s. AreCapitals s × (drop at bytes.now ≡ letters_of s ++ drop (at + 2) bytes.now)) }
+    ensures err { IfErr result (λ f. (f ≡ WireFault.Field at) × (are_letters bytes.now at ≡ false)) }
+{
+    let start = at as usize;
+    match Country::new([bytes[start], bytes[start + 1]]) {
+        Some(country) => Ok(country),
+        None => Err(WireFault::Field(at)),
+    }
+}
+
+/// The serial number at an offset.
+pub fn serial_at(bytes: &[u8], at: u16) -> Result<Serial, WireFault>
+    requires { at + 4 ≤ length bytes.now }
+    ensures ok { IfOk result (λ v. is_serial bytes.now at ≡ true) }
+    ensures read { IfOk result (λ v. IsSerial v × (drop at bytes.now ≡ u32_bytes v ++ drop (at + 4) bytes.now)) }
+    ensures err { IfErr result (λ f. (f ≡ WireFault.Field at) × (is_serial bytes.now at ≡ false)) }
+{
+    match Serial::new(number_at(bytes, at as usize)) {
+        Some(serial) => Ok(serial),
+        None => Err(WireFault::Field(at)),
+    }
+}
+
+/// The identifier at an offset.
+#[tactic(auto, using(crate::proofs::Identifiers::spells_passes, crate::proofs::Identifiers::refused_fails, crate::proofs::Identifiers::stands_at))]
+pub fn id_at(bytes: &[u8], at: u16) -> Result<Id, WireFault>
+    requires { at + 13 ≤ length bytes.now }
+    ensures ok { IfOk result (λ id. is_identifier bytes.now at ≡ true) }
+    ensures read { IfOk result (λ id. IsId id × (drop at bytes.now ≡ spelling_of id ++ drop (at + 13) bytes.now)) }
+    ensures err { IfErr result (λ f. (f ≡ WireFault.Field at) × (is_identifier bytes.now at ≡ false)) }
+{
+    let (_, rest) = bytes.split_at(at as usize);
+    let (text, _) = rest.split_at(13);
+    match Id::read(text) {
+        Ok(id) => Ok(id),
+        Err(_) => Err(WireFault::Field(at)),
+    }
+}

@@ -1,0 +1,88 @@
+//! What holds of all datagrams.
+
+ghost use Rattle.std.specs.Prelude.{◌≡◌, ◌≤◌, ◌↔◌, ℕ, List, length, IsTrue, IsOk, Ok, IfOk, IsOkAnd};
+ghost use Rattle.s10_core.specs.declared.id.Id.{Id};
+ghost use Rattle.s10_core.specs.Id.{Spells};
+ghost use Rattle.s10_wire.specs.declared.request.Request.{Request};
+ghost use Rattle.s10_wire.specs.declared.outcome.Outcome.{Outcome};
+ghost use Rattle.s10_wire.specs.Datagrams.{Asks, Replies};
+ghost use Rattle.s10_wire.specs.Frame.{frame_bytes};
+ghost use Rattle.s10_wire.specs.Packet.{packet_bytes};
+ghost use Rattle.s10_wire.specs.Reply.{request_of, outcome_of};
+ghost use Rattle.s10_wire.specs.WireFault.{is_spelling};
+
+use crate::encoders::{encode_reply, encode_request};
+use crate::frame::Frame;
+use crate::packet::Packet;
+use crate::reply::Reply;
+use crate::reply_decoder::decode_reply;
+use crate::request::Request;
+use crate::request_decoder::decode_request;
+use crate::wire_fault::WireFault;
+
+/// Bytes ask one request at most, and are one reply at most; a request has one datagram, and so
+/// has a reply.
+pub fn one_datagram_each()
+    ensures one_request { (b : List ℕ) (p q : Request) → Asks b p → Asks b q → p ≡ q }
+    ensures one_datagram { (a b : List ℕ) (q : Request) → Asks a q → Asks b q → a ≡ b }
+    ensures one_reply { (b : List ℕ) (p q : Request) (u o : Outcome) → Replies b p u → Replies b q o
+        → (p ≡ q) × (u ≡ o) }
+    ensures one_reply_datagram { (a b : List ℕ) (q : Request) (o : Outcome)
+        → Replies a q o → Replies b q o → a ≡ b }
+{}
+
+/// A request has 28 bytes at most, and a reply 34.
+pub fn datagrams_are_short()
+    ensures request { (b : List ℕ) (q : Request) → Asks b q → length b ≤ 28 }
+    ensures reply { (b : List ℕ) (q : Request) (o : Outcome) → Replies b q o → length b ≤ 34 }
+{}
+
+/// A frame holds 256 bytes at most, and a packet 512.
+pub fn rooms_are_kept(_frame: &Frame, _packet: &Packet)
+    ensures frame { length (frame_bytes _frame.now) ≤ 256 }
+    ensures packet { length (packet_bytes _packet.now) ≤ 512 }
+{}
+
+/// The datagram of a request is read as this request.
+pub fn encoded_request_decodes(request: &Request) -> Result<Request, WireFault>
+    ensures { result ≡ Ok request.now }
+{
+    let frame = encode_request(request);
+    decode_request(frame.bytes())
+}
+
+/// The datagram of a reply is read as this reply.
+pub fn encoded_reply_decodes(reply: &Reply) -> Result<Reply, WireFault>
+    ensures { IsOkAnd result (λ read.
+        (request_of read ≡ request_of reply.now) × (outcome_of read ≡ outcome_of reply.now)) }
+{
+    let frame = encode_reply(reply);
+    decode_reply(frame.bytes())
+}
+
+/// The request that is read of bytes is written as these bytes.
+pub fn decoded_request_encodes(bytes: &[u8]) -> Result<Frame, WireFault>
+    ensures same { IfOk result (λ frame. frame_bytes frame ≡ bytes.now) }
+    ensures asked { (q : Request) → Asks bytes.now q → IsOk result }
+{
+    match decode_request(bytes) {
+        Ok(request) => Ok(encode_request(&request)),
+        Err(fault) => Err(fault),
+    }
+}
+
+/// The reply that is read of bytes is written as these bytes.
+pub fn decoded_reply_encodes(bytes: &[u8]) -> Result<Frame, WireFault>
+    ensures same { IfOk result (λ frame. frame_bytes frame ≡ bytes.now) }
+    ensures replied { (q : Request) (o : Outcome) → Replies bytes.now q o → IsOk result }
+{
+    match decode_reply(bytes) {
+        Ok(reply) => Ok(encode_reply(&reply)),
+        Err(fault) => Err(fault),
+    }
+}
+
+/// Thirteen bytes pass the test of an identifier's field exactly where they spell one.
+pub fn identifier_fields_are_spellings()
+    ensures { (text : List ℕ) → length text ≡ 13 → (IsTrue (is_spelling text) ↔ ((id : Id) × Spells text id)) }
+{}

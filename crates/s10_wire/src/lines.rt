@@ -1,0 +1,148 @@
+//! Requests and replies as lines that a person reads.
+
+ghost use Rattle.std.specs.Prelude.{◌≡◌, [], ◌∷◌, ◌++◌, codes, decimal, OnOk};
+ghost use Rattle.std.specs.Io.KnownBytes.{Appends};
+ghost use Rattle.s10_wire.specs.declared.body.Body.TheVariants as bodies;
+ghost use Rattle.s10_wire.specs.Lines.{spaced, body_words, kind_word, request_words, status_words, outcome_words, request_line, reply_line};
+ghost use Rattle.s10_wire.specs.Reply.{request_of, outcome_of};
+
+use crate::body::Body;
+use crate::outcome::Outcome;
+use crate::reply::Reply;
+use crate::request::Request;
+use crate::status::Status;
+use crate::words::{write_decimal, write_id, write_letters, write_serials, write_text, write_word};
+use crate::write_fault::WriteFault;
+use s10_core::{Country, Id, Serial, Service};
+use std::io::Write;
+
+/// Writes the line of a request, with its line feed. A fault may leave part of it written.
+pub fn write_request_line<W: Write>(request: &Request, out: &mut W) -> Result<(), WriteFault>
+    ensures { OnOk result (Appends (W.contents out.old) (W.contents out.new) (request_line request.now)) }
+{
+    write_text(b"request", out)?;
+    write_request(request, out)?;
+    write_text(b"\n", out)
+}
+
+/// Writes the line of a reply, with its line feed. A fault may leave part of it written.
+pub fn write_reply_line<W: Write>(reply: &Reply, out: &mut W) -> Result<(), WriteFault>
+    ensures { OnOk result (Appends (W.contents out.old) (W.contents out.new)
+        (reply_line (request_of reply.now) (outcome_of reply.now))) }
+{
+    write_text(b"reply", out)?;
+    write_request(&reply.request(), out)?;
+    write_outcome(&reply.outcome(), out)?;
+    write_text(b"\n", out)
+}
+
+fn write_request<W: Write>(request: &Request, out: &mut W) -> Result<(), WriteFault>
+    ensures { OnOk result (Appends (W.contents out.old) (W.contents out.new) (spaced (request_words request.now))) }
+{
+    write_word(kind_name(&request.body), out)?;
+    write_named(b"customer", request.customer, out)?;
+    write_named(b"number", request.number, out)?;
+    write_body(&request.body, out)
+}
+
+fn kind_name(body: &Body) -> &'static [u8]
+    ensures { result.now ≡ kind_word body.now }
+{
+    match body {
+        Body::Grant { .. } => b"grant",
+        Body::Draw { .. } => b"draw",
+        Body::Void { .. } => b"void",
+        Body::Query { .. } => b"query",
+    }
+}
+
+// A number behind its name.
+fn write_named<W: Write>(name: &[u8], number: u32, out: &mut W) -> Result<(), WriteFault>
+    ensures { OnOk result (Appends (W.contents out.old) (W.contents out.new) (spaced (name.now ∷ decimal number ∷ []))) }
+{
+    write_word(name, out)?;
+    write_decimal(number, out)
+}
+
+fn write_body<W: Write>(body: &Body, out: &mut W) -> Result<(), WriteFault>
+    ensures { OnOk result (Appends (W.contents out.old) (W.contents out.new) (spaced (body_words body.now))) }
+{
+    match *body {
+        Body::Grant {
+            holder,
+            service,
+            country,
+            first,
+            last,
+        } => write_grant(holder, service, country, first, last, out),
+        Body::Draw { service, country } => write_letters(service, country, out),
+        Body::Void { id } => write_id(&id, out),
+        Body::Query { id } => write_id(&id, out),
+    }
+}
+
+fn write_grant<W: Write>(
+    holder: u32,
+    service: Service,
+    country: Country,
+    first: Serial,
+    last: Serial,
+    out: &mut W,
+) -> Result<(), WriteFault>
+    ensures { OnOk result (Appends (W.contents out.old) (W.contents out.new)
+        (spaced (body_words (bodies.Grant holder service country first last)))) }
+{
+    write_named(b"holder", holder, out)?;
+    write_letters(service, country, out)?;
+    write_serials(first, last, out)
+}
+
+fn write_outcome<W: Write>(outcome: &Outcome, out: &mut W) -> Result<(), WriteFault>
+    ensures { OnOk result (Appends (W.contents out.old) (W.contents out.new) (spaced (outcome_words outcome.now))) }
+{
+    match *outcome {
+        Outcome::Granted { range } => write_granted(range, out),
+        Outcome::Drawn { day, id } => write_drawn(day, &id, out),
+        Outcome::Voided => write_word(b"done", out),
+        Outcome::Told(status) => write_told(&status, out),
+        Outcome::NotThePost => write_word(b"not-the-post", out),
+        Outcome::BadGrant => write_word(b"bad-grant", out),
+        Outcome::Overlap => write_word(b"overlap", out),
+        Outcome::NoRange => write_word(b"no-range", out),
+        Outcome::NoneFree => write_word(b"none-free", out),
+        Outcome::NotYours => write_word(b"not-yours", out),
+        Outcome::NotIssued => write_word(b"not-issued", out),
+        Outcome::AlreadyVoid => write_word(b"already-void", out),
+        Outcome::NumberReused => write_word(b"number-reused", out),
+    }
+}
+
+fn write_granted<W: Write>(range: u32, out: &mut W) -> Result<(), WriteFault>
+    ensures { OnOk result (Appends (W.contents out.old) (W.contents out.new)
+        (spaced (codes "done" ∷ codes "range" ∷ decimal range ∷ []))) }
+{
+    write_word(b"done", out)?;
+    write_named(b"range", range, out)
+}
+
+fn write_drawn<W: Write>(day: u32, id: &Id, out: &mut W) -> Result<(), WriteFault>
+    ensures { OnOk result (Appends (W.contents out.old) (W.contents out.new)
+        (spaced (outcome_words (Outcome.Drawn day id.now)))) }
+{
+    write_word(b"done", out)?;
+    write_named(b"day", day, out)?;
+    write_id(id, out)
+}
+
+fn write_told<W: Write>(status: &Status, out: &mut W) -> Result<(), WriteFault>
+    ensures { OnOk result (Appends (W.contents out.old) (W.contents out.new)
+        (spaced (codes "done" ∷ status_words status.now))) }
+{
+    write_word(b"done", out)?;
+    match *status {
+        Status::Unknown => write_word(b"unknown", out),
+        Status::Never => write_word(b"never", out),
+        Status::Issued { day } => write_named(b"issued", day, out),
+        Status::Voided { day } => write_named(b"voided", day, out),
+    }
+}

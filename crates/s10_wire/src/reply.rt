@@ -1,0 +1,74 @@
+ghost use Rattle.std.specs.Prelude.{◌≡◌, IsTrue};
+ghost use Rattle.s10_wire.specs.Kind.{fits as fits_body};
+
+use crate::body::Body;
+use crate::outcome::Outcome;
+use crate::request::Request;
+
+/// A request with an outcome that fits its kind. Which outcomes fit is told in docs/DATAGRAMS.md.
+#[derive(Clone, Copy, Debug, PartialEq, Eq)]
+pub struct Reply {
+    request: Request,
+    outcome: Outcome,
+    ghost fitting: { IsTrue (fits_body request.body outcome) },
+}
+
+impl Reply {
+    ghost use Rattle.std.specs.Prelude.{◌≡◌, ◌↔◌, IsTrue, IsSome, IfSome};
+    ghost use Rattle.s10_wire.specs.Kind.{fits as fits_body};
+    ghost use Rattle.s10_wire.specs.Reply.{request_of, outcome_of};
+
+    /// None where the outcome doesn't fit the kind of the request.
+    pub fn new(request: Request, outcome: Outcome) -> Option<Reply>
+        ensures fits { IsSome result ↔ IsTrue (fits_body request.body outcome) }
+        ensures parts { IfSome result (λ reply. (request_of reply ≡ request) × (outcome_of reply ≡ outcome)) }
+    {
+        if fits(&request.body, &outcome) {
+            Some(Reply { request, outcome })
+        } else {
+            None
+        }
+    }
+
+    // The reply, where the outcome is known to fit.
+    pub(crate) fn of(request: Request, outcome: Outcome) -> Reply
+        requires { IsTrue (fits_body request.body outcome) }
+        ensures { (request_of result ≡ request) × (outcome_of result ≡ outcome) }
+    {
+        Reply { request, outcome }
+    }
+
+    /// The request that is replied to.
+    pub fn request(&self) -> Request
+        ensures { result ≡ request_of self.now }
+    {
+        self.request
+    }
+
+    /// What came of it.
+    pub fn outcome(&self) -> Outcome
+        ensures outcome { result ≡ outcome_of self.now }
+        ensures fits { IsTrue (fits_body (request_of self.now).body result) }
+    {
+        self.outcome
+    }
+}
+
+fn fits(body: &Body, outcome: &Outcome) -> bool
+    ensures { result ≡ fits_body body.now outcome.now }
+{
+    match (body, outcome) {
+        (_, Outcome::NumberReused) => true,
+        (
+            Body::Grant { .. },
+            Outcome::Granted { .. } | Outcome::NotThePost | Outcome::BadGrant | Outcome::Overlap,
+        ) => true,
+        (Body::Draw { .. }, Outcome::Drawn { .. } | Outcome::NoRange | Outcome::NoneFree) => true,
+        (
+            Body::Void { .. },
+            Outcome::Voided | Outcome::NotYours | Outcome::NotIssued | Outcome::AlreadyVoid,
+        ) => true,
+        (Body::Query { .. }, Outcome::Told(_) | Outcome::NotYours) => true,
+        _ => false,
+    }
+}

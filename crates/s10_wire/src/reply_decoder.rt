@@ -1,0 +1,131 @@
+//! Replies are read.
+
+ghost use Rattle.std.specs.Prelude.{◌≡◌, ◌≢◌, ℕ, ◌+◌, ◌<◌, ◌≤◌, ◌∷◌, [], ◌++◌, ◌==◌, if◌then◌else◌, Bool, true, None, Some, length, drop, slice_index, IfOk, IfErr, IsTrue, IsOkAnd, Ok};
+ghost use Rattle.std.specs.Result.{result_err};
+ghost use Rattle.s10_wire.specs.declared.kind.Kind.TheVariants as kinds;
+ghost use Rattle.s10_wire.specs.declared.request.Request.{Request};
+ghost use Rattle.s10_wire.specs.declared.outcome.Outcome.{Outcome};
+ghost use Rattle.s10_wire.specs.Kind.{kind_of, code_of, version_of, request_length, done_length, is_reply_long, fits};
+ghost use Rattle.s10_wire.specs.Datagrams.{outcome_bytes, status_bytes, IsOutcome, IsStatus, Replies};
+ghost use Rattle.s10_wire.specs.Reply.{request_of, outcome_of};
+ghost use Rattle.s10_wire.specs.WireFault.{first_refusal, done_fields, code_fits, outcome_refusals, reply_refusals, IsFirstRefusalOfReply};
+
+use crate::body::Body;
+use crate::fields::{id_at, number_at};
+use crate::kind::Kind;
+use crate::outcome::Outcome;
+use crate::reply::Reply;
+use crate::request_decoder::{kind_at, request_at};
+use crate::status::Status;
+use crate::wire_fault::WireFault;
+
+/// The status and the day of a Query's reply.
+fn status_at(bytes: &[u8]) -> Result<Status, WireFault>
+    requires { 31 ≤ length bytes.now }
+    ensures read { IfOk result (λ status. IsStatus status × (drop 26 bytes.now ≡ status_bytes status ++ drop 31 bytes.now)) }
+    ensures refused { result_err result ≡ first_refusal (done_fields kinds.Query bytes.now) }
+{
+    let code = bytes[26];
+    let day = number_at(bytes, 27);
+    match code {
+        0 if day == 0 => Ok(Status::Unknown),
+        1 if day == 0 => Ok(Status::Never),
+        0 | 1 => Err(WireFault::Field(27)),
+        2 => Ok(Status::Issued { day }),
+        3 => Ok(Status::Voided { day }),
+        _ => Err(WireFault::Field(26)),
+    }
+}
+
+/// What was done, where the outcome byte behind the request is 0.
+fn done_at(body: &Body, bytes: &[u8]) -> Result<Outcome, WireFault>
+    requires long { done_length (kind_of body.now) bytes.now ≤ length bytes.now }
+    requires done { slice_index bytes.now (request_length (kind_of body.now)) ≡ 0 }
+    ensures fits { IfOk result (λ outcome. IsTrue (fits body.now outcome)) }
+    ensures read { IfOk result (λ outcome. IsOutcome outcome
+        × (drop (request_length (kind_of body.now)) bytes.now
+        ≡ outcome_bytes outcome ++ drop (done_length (kind_of body.now) bytes.now) bytes.now)) }
+    ensures refused { result_err result ≡ first_refusal (done_fields (kind_of body.now) bytes.now) }
+{
+    match body {
+        Body::Grant { .. } => Ok(Outcome::Granted {
+            range: number_at(bytes, 29),
+        }),
+        Body::Draw { .. } => {
+            let day = number_at(bytes, 17);
+            let id = id_at(bytes, 21)?;
+            Ok(Outcome::Drawn { day, id })
+        }
+        Body::Void { .. } => Ok(Outcome::Voided),
+        Body::Query { .. } => {
+            let status = status_at(bytes)?;
+            Ok(Outcome::Told(status))
+        }
+    }
+}
+
+/// The outcome with this byte, which is not Done.
+fn refusal_of(body: &Body, code: u8) -> Result<Outcome, WireFault>
+    requires { code ≢ 0 }
+    ensures fits { IfOk result (λ outcome. IsTrue (fits body.now outcome)) }
+    ensures read { IfOk result (λ outcome. IsOutcome outcome × (outcome_bytes outcome ≡ code ∷ [])) }
+    ensures refused { result_err result
+        ≡ (if code_fits (kind_of body.now) code then None else Some WireFault.Outcome) }
+{
+    match (body, code) {
+        (_, 9) => Ok(Outcome::NumberReused),
+        (Body::Grant { .. }, 1) => Ok(Outcome::NotThePost),
+        (Body::Grant { .. }, 2) => Ok(Outcome::BadGrant),
+        (Body::Grant { .. }, 3) => Ok(Outcome::Overlap),
+        (Body::Draw { .. }, 4) => Ok(Outcome::NoRange),
+        (Body::Draw { .. }, 5) => Ok(Outcome::NoneFree),
+        (Body::Void { .. } | Body::Query { .. }, 6) => Ok(Outcome::NotYours),
+        (Body::Void { .. }, 7) => Ok(Outcome::NotIssued),
+        (Body::Void { .. }, 8) => Ok(Outcome::AlreadyVoid),
+        _ => Err(WireFault::Outcome),
+    }
+}
+
+/// The outcome behind the request.
+fn outcome_at(body: &Body, bytes: &[u8]) -> Result<Outcome, WireFault>
+    requires { IsTrue (is_reply_long (kind_of body.now) bytes.now) }
+    ensures fits { IfOk result (λ outcome. IsTrue (fits body.now outcome)) }
+    ensures read { IfOk result (λ outcome. IsOutcome outcome
+        × (drop (request_length (kind_of body.now)) bytes.now ≡ outcome_bytes outcome)) }
+    ensures refused { result_err result ≡ first_refusal (outcome_refusals (kind_of body.now) bytes.now) }
+{
+    let code = bytes[Kind::of(body).request_length()];
+    if code == 0 {
+        done_at(body, bytes)
+    } else {
+        refusal_of(body, code)
+    }
+}
+
+/// The reply that the bytes are, or the first refusal.
+fn reply_of(bytes: &[u8]) -> Result<Reply, WireFault>
+    ensures found { IfOk result (λ reply. Replies bytes.now (request_of reply) (outcome_of reply)) }
+    ensures refused { result_err result ≡ first_refusal (reply_refusals bytes.now) }
+{
+    let kind = kind_at(bytes, 0x80)?;
+    if !kind.is_reply_long(bytes) {
+        return Err(WireFault::Length);
+    }
+    let request = request_at(kind, bytes)?;
+    let outcome = outcome_at(&request.body, bytes)?;
+    Ok(Reply::of(request, outcome))
+}
+
+/// Reads a reply. The whole datagram is read: bytes behind it are refused.
+pub fn decode_reply(bytes: &[u8]) -> Result<Reply, WireFault>
+    // What is read is what the bytes reply.
+    ensures found { IfOk result (λ reply. Replies bytes.now (request_of reply) (outcome_of reply)) }
+    // What the bytes reply is read.
+    ensures replied { (q : Request) (o : Outcome) → Replies bytes.now q o
+        → IsOkAnd result (λ reply. (request_of reply ≡ q) × (outcome_of reply ≡ o)) }
+    ensures refused { IfErr result (IsFirstRefusalOfReply bytes.now) }
+    // Bytes that are refused reply nothing.
+    ensures nothing { IfErr result (λ fault. (q : Request) (o : Outcome) → ¬ Replies bytes.now q o) }
+{
+    reply_of(bytes)
+}

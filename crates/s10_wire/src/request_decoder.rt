@@ -1,0 +1,151 @@
+//! Requests as datagrams.
+
+ghost use Rattle.std.specs.Prelude.{◌≡◌, ℕ, ◌+◌, ◌-◌, ◌≤◌, ◌∷◌, ◌++◌, length, drop, IfOk, IfErr, Ok, Some};
+ghost use Rattle.std.specs.Result.{result_err};
+ghost use Rattle.s10_wire.specs.declared.kind.Kind.TheVariants as kinds;
+ghost use Rattle.s10_wire.specs.declared.request.Request.{Request};
+ghost use Rattle.s10_wire.specs.Kind.{kind_of, code_of, version_of, request_length};
+ghost use Rattle.s10_wire.specs.Datagrams.{u32_bytes, fields, IsBody, IsRequest, Asks};
+ghost use Rattle.s10_wire.specs.WireFault.{first_refusal, kind_named, header_refusals, request_fields, request_refusals, IsFirstRefusalOfRequest};
+
+use crate::body::Body;
+use crate::fields::{country_at, id_at, number_at, serial_at, service_at};
+use crate::kind::Kind;
+use crate::request::Request;
+use crate::wire_fault::WireFault;
+
+/// The kind that the header names, mark being added to its byte.
+pub fn kind_at(bytes: &[u8], mark: u8) -> Result<Kind, WireFault>
+    ensures refused { result_err result ≡ first_refusal (header_refusals mark bytes.now) }
+    ensures named { IfOk result (λ kind. kind_named mark bytes.now ≡ Some kind) }
+    ensures long { IfOk result (λ kind. 12 ≤ length bytes.now) }
+    ensures read { IfOk result (λ kind. bytes.now ≡ 0x53 ∷ 0x31 ∷ version_of kind ∷ (code_of kind + mark) ∷ drop 4 bytes.now) }
+{
+    if bytes.len() < 12 {
+        return Err(WireFault::Short);
+    }
+    if !(bytes[0] == 0x53 && bytes[1] == 0x31) {
+        return Err(WireFault::Magic);
+    }
+    if bytes[2] != 1 {
+        return Err(WireFault::Version);
+    }
+    match Kind::of_codes(bytes[2], bytes[3].saturating_sub(mark)) {
+        Some(kind) => Ok(kind),
+        None => Err(WireFault::Kind),
+    }
+}
+
+/// The body of a Draw.
+fn draw_at(bytes: &[u8]) -> Result<Body, WireFault>
+    requires { 16 ≤ length bytes.now }
+    ensures kind { IfOk result (λ body. kind_of body ≡ kinds.Draw) }
+    ensures read { IfOk result (λ body. IsBody body × (drop 12 bytes.now ≡ fields body ++ drop 16 bytes.now)) }
+    ensures refused { result_err result ≡ first_refusal (request_fields kinds.Draw bytes.now) }
+{
+    let service = service_at(bytes, 12)?;
+    let country = country_at(bytes, 14)?;
+    Ok(Body::Draw { service, country })
+}
+
+/// The body of a Grant.
+fn grant_at(bytes: &[u8]) -> Result<Body, WireFault>
+    requires { 28 ≤ length bytes.now }
+    ensures kind { IfOk result (λ body. kind_of body ≡ kinds.Grant) }
+    ensures read { IfOk result (λ body. IsBody body × (drop 12 bytes.now ≡ fields body ++ drop 28 bytes.now)) }
+    ensures refused { result_err result ≡ first_refusal (request_fields kinds.Grant bytes.now) }
+{
+    let holder = number_at(bytes, 12);
+    let service = service_at(bytes, 16)?;
+    let country = country_at(bytes, 18)?;
+    let first = serial_at(bytes, 20)?;
+    let last = serial_at(bytes, 24)?;
+    Ok(Body::Grant {
+        holder,
+        service,
+        country,
+        first,
+        last,
+    })
+}
+
+/// The body of a Void.
+fn void_at(bytes: &[u8]) -> Result<Body, WireFault>
+    requires { 25 ≤ length bytes.now }
+    ensures kind { IfOk result (λ body. kind_of body ≡ kinds.Void) }
+    ensures read { IfOk result (λ body. IsBody body × (drop 12 bytes.now ≡ fields body ++ drop 25 bytes.now)) }
+    ensures refused { result_err result ≡ first_refusal (request_fields kinds.Void bytes.now) }
+{
+    let id = id_at(bytes, 12)?;
+    Ok(Body::Void { id })
+}
+
+/// The body of a Query.
+fn query_at(bytes: &[u8]) -> Result<Body, WireFault>
+    requires { 25 ≤ length bytes.now }
+    ensures kind { IfOk result (λ body. kind_of body ≡ kinds.Query) }
+    ensures read { IfOk result (λ body. IsBody body × (drop 12 bytes.now ≡ fields body ++ drop 25 bytes.now)) }
+    ensures refused { result_err result ≡ first_refusal (request_fields kinds.Query bytes.now) }
+{
+    let id = id_at(bytes, 12)?;
+    Ok(Body::Query { id })
+}
+
+/// The body of a call of this kind.
+fn body_at(kind: Kind, bytes: &[u8]) -> Result<Body, WireFault>
+    requires { request_length kind ≤ length bytes.now }
+    ensures kind { IfOk result (λ body. kind_of body ≡ kind) }
+    ensures read { IfOk result (λ body. IsBody body × (drop 12 bytes.now ≡ fields body ++ drop (request_length kind) bytes.now)) }
+    ensures refused { result_err result ≡ first_refusal (request_fields kind bytes.now) }
+{
+    match kind {
+        Kind::Grant => grant_at(bytes),
+        Kind::Draw => draw_at(bytes),
+        Kind::Void => void_at(bytes),
+        Kind::Query => query_at(bytes),
+    }
+}
+
+/// The request of this kind that the bytes begin with.
+pub fn request_at(kind: Kind, bytes: &[u8]) -> Result<Request, WireFault>
+    requires { request_length kind ≤ length bytes.now }
+    ensures kind { IfOk result (λ q. kind_of q.body ≡ kind) }
+    ensures in_range { IfOk result IsRequest }
+    ensures read { IfOk result (λ q. drop 4 bytes.now
+        ≡ u32_bytes q.customer ++ u32_bytes q.number ++ fields q.body ++ drop (request_length kind) bytes.now) }
+    ensures refused { result_err result ≡ first_refusal (request_fields kind bytes.now) }
+{
+    let customer = number_at(bytes, 4);
+    let number = number_at(bytes, 8);
+    let body = body_at(kind, bytes)?;
+    Ok(Request {
+        customer,
+        number,
+        body,
+    })
+}
+
+/// The request that the bytes ask, or the first refusal.
+fn request_of(bytes: &[u8]) -> Result<Request, WireFault>
+    ensures found { IfOk result (Asks bytes.now) }
+    ensures refused { result_err result ≡ first_refusal (request_refusals bytes.now) }
+{
+    let kind = kind_at(bytes, 0)?;
+    if bytes.len() != kind.request_length() {
+        return Err(WireFault::Length);
+    }
+    request_at(kind, bytes)
+}
+
+/// Reads a request. The whole datagram is read: bytes behind it are refused.
+pub fn decode_request(bytes: &[u8]) -> Result<Request, WireFault>
+    // What is read is what the bytes ask.
+    ensures found { IfOk result (Asks bytes.now) }
+    // What the bytes ask is read.
+    ensures asked { (q : Request) → Asks bytes.now q → result ≡ Ok q }
+    ensures refused { IfErr result (IsFirstRefusalOfRequest bytes.now) }
+    // Bytes that are refused ask nothing.
+    ensures nothing { IfErr result (λ fault. (q : Request) → ¬ Asks bytes.now q) }
+{
+    request_of(bytes)
+}

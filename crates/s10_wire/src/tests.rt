@@ -1,0 +1,5 @@
+mod datagrams;
+mod lines;
+mod parts;
+mod refusals;
+mod vectors;
