@@ -1,0 +1,16 @@
+-- One call after another.
+use Rattle.std.proofs.Common.{◌∙◌, refl, List}
+use Rattle.s10_book.specs.declared.entry.Entry.{Entry}
+use Rattle.s10_book.specs.Settings.{Terms}
+use Rattle.s10_book.specs.Book.{Keeps}
+
+pub Keeps-refl : {B : Type 0} {history : B → List Entry} {terms : B → Terms} {honest : B → Type 0} (a : B) → Keeps history terms honest a a
+Keeps-refl a = record { was_honest = λ h. h; same_history = λ _. refl; same_terms = λ _. refl }
+
+pub Keeps-trans : {B : Type 0} {history : B → List Entry} {terms : B → Terms} {honest : B → Type 0} {a b c : B}
+    → Keeps history terms honest a b → Keeps history terms honest b c → Keeps history terms honest a c
+Keeps-trans first second = record {
+  was_honest = λ h. first.was_honest (second.was_honest h);
+  same_history = λ h. second.same_history h ∙ first.same_history (second.was_honest h);
+  same_terms = λ h. second.same_terms h ∙ first.same_terms (second.was_honest h);
+}

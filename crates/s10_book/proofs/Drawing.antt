@@ -1,0 +1,78 @@
+-- A walk over ranges by their numbers, until one passes a test.
+use Rattle.std.proofs.Common.{◌≡◌, ℕ, ◌-◌, leb, ◌<◌, Bool, true, false, cond, List, [], ◌∷◌, Option, Some, None, refl, sym, ap, ◌∙◌, inl, inr, arith, length}
+use Rattle.std.specs.Prelude.{find, filter}
+use Rattle.std.proofs.lemmas.Bool.{cases_lt}
+use Rattle.std.specs.Option.{option_map}
+use Rattle.s10_book.specs.declared.entry.Entry.{Entry}
+use Rattle.s10_book.specs.declared.range.Range.{Range}
+use Rattle.s10_book.specs.declared.issue.Issue.{Issue}
+use Rattle.s10_book.specs.declared.issuance.Issuance.{Issuance}
+use Rattle.s10_book.specs.declared.candidate.Candidate.{Candidate}
+use Rattle.s10_book.specs.Issues.{issues_of, last_issuance_of, id_at, pick_of, candidate_of, is_free_since}
+use Rattle.s10_book.specs.Rules.{has_free_pick, outcome_of_pick}
+use Rattle.s10_wire.specs.declared.outcome.Outcome.TheVariants.{Drawn, NoRange, NoneFree}
+use Rattle.s10_book.proofs.Ranges.{above, Numbered, filter_above, next_above, filter_none}
+
+-- no range up to the number passes, and there is one if the number isn't 0
+pub record Remaining (passes p : Range → Bool) (rs : List Range) (after : ℕ) : Type 0 where
+  pub free : find passes (filter p rs) ≡ find passes (filter (above p after) rs)
+  pub some : 0 < after → 0 < length (filter p rs)
+
+pub Remaining-start : (passes p : Range → Bool) (rs : List Range) → Numbered 1 rs → Remaining passes p rs 0
+Remaining-start passes p rs h = record {
+  free = ap (find passes) (sym (filter_above p 0 1 rs (omega arith) h));
+  some = λ lt. absurd (omega (arith, lt));
+}
+
+-- the next range is the first of those that are left
+rest_is : (passes p : Range → Bool) (rs : List Range) (after : ℕ) (r : Range) → Numbered 1 rs → find (above p after) rs ≡ Some r → Remaining passes p rs after
+    → find passes (filter p rs) ≡ cond (passes r) (Some r) (find passes (filter (above p r.num) rs))
+rest_is passes p rs after r h found left = left.free ∙ ap (find passes) (next_above p after 1 rs r h found)
+
+some_is : (p : Range → Bool) (rs : List Range) (after : ℕ) (r : Range) → Numbered 1 rs → find (above p after) rs ≡ Some r → (0 < after → 0 < length (filter p rs)) → 0 < length (filter p rs)
+some_is p rs after r h found some =
+    elim (cases_lt 0 after) [
+      | inl lt ↦ some lt
+      | inr ge ↦
+          let zero_is : after ≡ 0 = omega arith in
+          let same : filter p rs ≡ r ∷ filter (above p r.num) rs = sym (filter_above p 0 1 rs (omega arith) h) ∙ next_above p 0 1 rs r h (rw zero_is at found) in
+          rw same (omega arith)
+    ]
+
+pub Remaining-next : (passes p : Range → Bool) (rs : List Range) (after : ℕ) (r : Range) → Numbered 1 rs → find (above p after) rs ≡ Some r → passes r ≡ false → Remaining passes p rs after → Remaining passes p rs r.num
+Remaining-next passes p rs after r h found fails left = record {
+  free = rest_is passes p rs after r h found left ∙ ap (λ b. cond b (Some r) (find passes (filter (above p r.num) rs))) fails;
+  some = λ _. some_is p rs after r h found left.some;
+}
+
+-- the next range passes
+pub Remaining-found : (passes p : Range → Bool) (rs : List Range) (after : ℕ) (r : Range) → Numbered 1 rs → find (above p after) rs ≡ Some r → passes r ≡ true → Remaining passes p rs after → find passes (filter p rs) ≡ Some r
+Remaining-found passes p rs after r h found pass left = rest_is passes p rs after r h found left ∙ ap (λ b. cond b (Some r) (find passes (filter (above p r.num) rs))) pass
+
+-- no range is left
+pub Remaining-none : (passes p : Range → Bool) (rs : List Range) (after : ℕ) → find (above p after) rs ≡ None → Remaining passes p rs after → find passes (filter p rs) ≡ None
+Remaining-none passes p rs after none left = left.free ∙ ap (find passes) (filter_none (above p after) rs none)
+
+-- there never was one
+pub Remaining-empty : (p : Range → Bool) (rs : List Range) → Numbered 1 rs → find (above p 0) rs ≡ None → filter p rs ≡ []
+Remaining-empty p rs h none = sym (filter_above p 0 1 rs (omega arith) h) ∙ filter_none (above p 0) rs none
+
+pub free_last : (day interval : ℕ) (o : Option Issuance) (f : Issuance → Issue) → ((i : Issuance) → (f i).day ≡ i.day) → is_free_since day interval (option_map (λ (i : Issue). i.day) (option_map f o)) ≡ is_free_since day interval (option_map (λ (i : Issuance). i.day) o)
+free_last day interval None f same = refl
+free_last day interval (Some i) f same = ap (λ d. leb interval (day - d)) (same i)
+
+-- the test of the candidate's issue is the test of its range
+pub passes_is : (h : List Entry) (r : Range) (day interval : ℕ) (found : Candidate) (b : Bool) → found ≡ candidate_of h r → b ≡ is_free_since day interval (option_map (λ (i : Issue). i.day) found.issue) → has_free_pick h day interval r ≡ b
+passes_is h r day interval found b e t =
+    sym (t ∙ ap (λ (c : Candidate). is_free_since day interval (option_map (λ (i : Issue). i.day) c.issue)) e ∙ free_last day interval (last_issuance_of (issues_of h) (id_at r (pick_of (issues_of h) r))) _ (λ _. refl))
+
+pub drawn_found : (h : List Entry) (day : ℕ) (rs : List Range) (o : Option Range) (r : Range) → o ≡ Some r → outcome_of_pick h day rs o ≡ Drawn day (id_at r (pick_of (issues_of h) r))
+drawn_found h day [] o r e = ap (outcome_of_pick h day []) e
+drawn_found h day (x ∷ xs) o r e = ap (outcome_of_pick h day (x ∷ xs)) e
+
+pub drawn_none : (h : List Entry) (day : ℕ) (rs : List Range) (o : Option Range) → 0 < length rs → o ≡ None → outcome_of_pick h day rs o ≡ NoneFree
+drawn_none h day [] o some e = absurd (omega arith)
+drawn_none h day (x ∷ xs) o some e = ap (outcome_of_pick h day (x ∷ xs)) e
+
+pub drawn_empty : (h : List Entry) (day : ℕ) (passes : Range → Bool) (rs : List Range) → rs ≡ [] → outcome_of_pick h day rs (find passes rs) ≡ NoRange
+drawn_empty h day passes rs e = ap (λ l. outcome_of_pick h day l (find passes l)) e

@@ -1,0 +1,60 @@
+-- The outcome of the rules fits the request.
+use Rattle.std.proofs.Common.{◌≡◌, ℕ, suc, ◌+◌, Bool, true, false, cond, not, eqb, ltb, ◌||◌, List, [], ◌∷◌, Option, Some, None, refl, sym, ap, inl, inr, length, take}
+use Rattle.std.specs.Prelude.{find, IsTrue, IfSome, slice_get}
+use Rattle.std.specs.List.{list_any}
+use Rattle.s10_wire.specs.Kind.{fits}
+use Rattle.s10_core.specs.declared.id.Id.{Id}
+use Rattle.s10_wire.specs.declared.body.Body.{Body}
+use Rattle.s10_wire.specs.declared.body.Body.TheVariants.{Grant, Draw, Void, Query}
+use Rattle.s10_wire.specs.declared.outcome.Outcome.{Outcome}
+use Rattle.s10_wire.specs.declared.outcome.Outcome.TheVariants.{Granted, Voided, Told, NotThePost, BadGrant, Overlap, NotYours, AlreadyVoid}
+use Rattle.s10_book.specs.declared.entry.Entry.{Entry}
+use Rattle.s10_book.specs.declared.range.Range.{Range}
+use Rattle.s10_book.specs.declared.issue.Issue.{Issue}
+use Rattle.s10_book.specs.Settings.{Terms}
+use Rattle.s10_book.specs.History.{has_key, entry_with_key, ranges_of, is_own, overlaps}
+use Rattle.s10_book.specs.Issues.{last_issue_of}
+use Rattle.s10_book.specs.Rules.{IsLegal, body_answer, outcome_of_pick, void_issue, status_of}
+use Rattle.s10_book.proofs.Ranges.{find_cases}
+use Rattle.std.proofs.lemmas.Option.{none-some}
+
+either : (b : Body) (test : Bool) (x y : Outcome) → IsTrue (fits b x) → IsTrue (fits b y) → IsTrue (fits b (cond test x y))
+either b true x y p q = p
+either b false x y p q = q
+
+drawn_fits : (service country : ℕ × ℕ) (h : List Entry) (day : ℕ) (rs : List Range) (o : Option Range) → IsTrue (fits (Draw service country) (outcome_of_pick h day rs o))
+drawn_fits service country h day [] None = refl
+drawn_fits service country h day [] (Some r) = refl
+drawn_fits service country h day (x ∷ xs) None = refl
+drawn_fits service country h day (x ∷ xs) (Some r) = refl
+
+void_fits : (x : Id) (o : Option Issue) → IsTrue (fits (Void x) (void_issue o))
+void_fits x None = refl
+void_fits x (Some i) = either (Void x) i.voided AlreadyVoid Voided refl refl
+
+pub answer_fits : (h : List Entry) (customer : ℕ) (b : Body) (day interval : ℕ) → IsTrue (fits b (body_answer h customer b day interval))
+answer_fits h customer (Grant holder service country first last) day interval =
+    let body = Grant holder service country first last in
+    let granted = cond (list_any (overlaps service country first last) (ranges_of h)) Overlap (Granted (length (ranges_of h) + 1)) in
+    let named = cond (eqb holder 0 || ltb last first) BadGrant granted in
+    either body (not (eqb customer 0)) NotThePost named refl
+    (either body (eqb holder 0 || ltb last first) BadGrant granted refl
+    (either body (list_any (overlaps service country first last) (ranges_of h)) Overlap (Granted (length (ranges_of h) + 1)) refl refl))
+answer_fits h customer (Draw service country) day interval = drawn_fits service country h day _ _
+answer_fits h customer (Void x) day interval = either (Void x) (list_any (is_own customer x) (ranges_of h)) (void_issue (last_issue_of h x)) NotYours (void_fits x (last_issue_of h x)) refl
+answer_fits h customer (Query x) day interval = either (Query x) (eqb customer 0 || list_any (is_own customer x) (ranges_of h)) (Told (status_of h x)) NotYours refl refl
+
+found_place : {A : Type 0} (p : A → Bool) (xs : List A) (x : A) → find p xs ≡ Some x → (k : ℕ) × (slice_get xs k ≡ Some x)
+found_place p [] x found = absurd (none-some x found)
+found_place p (y ∷ ys) x found =
+    elim (find_cases p y x ys found) [
+      | inl w ↦ (0, ap Some w.1)
+      | inr w ↦ let there = found_place p ys x w.1 in (suc there.0, there.1)
+    ]
+
+-- the outcome of a call that is found fits it
+pub found_fits : (h : List Entry) (t : Terms) (customer number : ℕ) (o : Option Entry) → IsLegal h t → o ≡ entry_with_key h customer number → IfSome o (λ e. IsTrue (fits e.request.body e.outcome))
+found_fits h t customer number None legal e = tt
+found_fits h t customer number (Some e) legal is =
+    let there = found_place (has_key customer number) h e (sym is) in
+    rw (legal.right there.0 e there.1) (answer_fits (take there.0 h) e.request.customer e.request.body e.day t.interval)

@@ -1,0 +1,172 @@
+-- In a legal history each issue lies in a range that its customer holds by an earlier call.
+use Rattle.std.proofs.Common.{◌≡◌, ℕ, zero, suc, ◌+◌, ◌-◌, ◌<◌, ◌≤◌, Bool, true, false, cond, not, eqb, ltb, ◌&&◌, List, [], ◌∷◌, ◌++◌, map, Option, Some, None, refl, sym, ap, ◌∙◌, inl, inr, arith, subst, length, take, append-nil, length-append, take_all}
+use Rattle.std.specs.Prelude.{find, filter, All, IsTrue, Contains, option_to_list}
+use Rattle.std.specs.List.{list_any, range_with_len}
+use Rattle.std.proofs.lemmas.Bool.{eq-eqb, eqb-true, le-leb, ltb-false, and_parts, and_from, or_parts}
+use Rattle.std.proofs.lemmas.Option.{none-some, same_Some}
+use Rattle.std.proofs.lemmas.List.{take-append-le}
+use Rattle.std.proofs.lemmas.List.Folds.{list_any_at}
+use Rattle.std.proofs.lemmas.List.Elements.{All-nil, All-cons, All-append, All-push, All-weaker, All-contains, All-filter, All-contains_itself, filter_passes}
+use Rattle.s10_core.specs.declared.id.Id.{Id}
+use Rattle.s10_wire.specs.declared.body.Body.{Body}
+use Rattle.s10_wire.specs.declared.body.Body.TheVariants.{Grant, Draw, Void, Query}
+use Rattle.s10_wire.specs.declared.outcome.Outcome.{Outcome}
+use Rattle.s10_wire.specs.declared.outcome.Outcome.TheVariants.{Granted, Drawn, NotThePost, BadGrant, Overlap}
+use Rattle.s10_book.specs.declared.entry.Entry.{Entry}
+use Rattle.s10_book.specs.declared.range.Range.{Range}
+use Rattle.s10_book.specs.declared.issuance.Issuance.{Issuance}
+use Rattle.s10_book.specs.Settings.{Terms}
+use Rattle.s10_book.specs.History.{ranges_of, range_of_grant, lies_in, is_own, is_held, ranges_held}
+use Rattle.s10_book.specs.Issues.{issues_of, is_issued, serial_issued_earliest, pick_of, id_at, carried_by}
+use Rattle.s10_book.specs.Rules.{IsLegal, body_answer, outcome_of_pick, has_free_pick}
+use Rattle.s10_book.specs.Promises.{IsOwn}
+use Rattle.s10_book.proofs.Ranges.{chosen, find_cases, Contains-find}
+use Rattle.s10_book.proofs.Push.{ranges_from-push, issues_from-push}
+use Rattle.s10_book.proofs.Fitting.{answer_fits}
+use Rattle.std.specs.Option.{option_or, unwrap_or}
+use Rattle.s10_book.proofs.Earliest.{earliest_cons}
+use Rattle.s10_book.proofs.Legal.{legal_induction}
+use Rattle.s10_book.proofs.Apart.{within}
+use Rattle.s10_book.proofs.Spaced.{letters_itself, drawn_parts, other_kind}
+
+-- a serial of a range
+pub record IsSerialOf (r : Range) (s : ℕ) : Type 0 where
+  pub low : r.first ≤ s
+  pub high : s ≤ r.last
+
+found_low : (p : ℕ → Bool) (low n s : ℕ) → find p (range_with_len low n) ≡ Some s → (low ≤ s) × (s < low + n)
+found_low p low zero s found = absurd (none-some s found)
+found_low p low (suc n) s found =
+    elim (find_cases p low s (range_with_len (low + 1) n) found) [
+      | inl w ↦ (omega (arith, w.1), omega (arith, w.1))
+      | inr w ↦ let rest = found_low p (low + 1) n s w.1 in (omega (arith, rest.0), omega (arith, rest.1))
+    ]
+
+oldest_within : (r : Range) (is : List Issuance) (s : ℕ) → serial_issued_earliest r is ≡ Some s → IsSerialOf r s
+oldest_within r [] s e = absurd (none-some s e)
+oldest_within r (i ∷ is) s e =
+    elim (chosen (lies_in r i.id && not (is_issued is i.id)) i.id.serial s (serial_issued_earliest r is) (sym (earliest_cons r i is) ∙ e)) [
+      | inl w ↦ let in' = within r i.id (and_parts _ _ w.0).0 in record { low = omega (arith, in'.low, w.1); high = omega (arith, in'.high, w.1) }
+      | inr w ↦ oldest_within r is s w.1
+    ]
+
+choice_within : (r : Range) (f o : Option ℕ) → r.first ≤ r.last → ((s : ℕ) → f ≡ Some s → IsSerialOf r s) → ((s : ℕ) → o ≡ Some s → IsSerialOf r s) → IsSerialOf r (unwrap_or (option_or f o) r.first)
+choice_within r (Some s) o order fs os = fs s refl
+choice_within r None (Some s) order fs os = os s refl
+choice_within r None None order fs os = record { low = omega arith; high = order }
+
+-- a range gives one of its serials
+pub pick_within : (is : List Issuance) (r : Range) → r.first ≤ r.last → IsSerialOf r (pick_of is r)
+pick_within is r order =
+    choice_within r _ _ order
+    (λ s found. let w = found_low (λ serial. not (is_issued is (id_at r serial))) r.first (r.last + 1 - r.first) s found in record { low = w.0; high = omega (arith, w.1) })
+    (oldest_within r is)
+
+pub lies_at : (r : Range) (s : ℕ) → IsSerialOf r s → lies_in r (id_at r s) ≡ true
+lies_at r s in' = and_from _ _ (and_from _ _ (and_from _ _ (letters_itself r.service) (letters_itself r.country)) (le-leb r.first s in'.low)) (le-leb s r.last in'.high)
+
+-- a Grant is Done only where its first serial is not above its last
+granted_order : (b1 b2 b3 : Bool) (n m : ℕ) → cond b1 NotThePost (cond b2 BadGrant (cond b3 Overlap (Granted n))) ≡ Granted m → b2 ≡ false
+granted_order true b2 b3 n m h = cc
+granted_order false true b3 n m h = cc
+granted_order false false b3 n m h = refl
+
+pub new_ordered : (h : List Entry) (customer day interval num : ℕ) (b : Body) (o : Outcome) (r : Range) → o ≡ body_answer h customer b day interval → range_of_grant num b o ≡ Some r → r.first ≤ r.last
+new_ordered h customer day interval num (Grant holder s c first last) (Granted n) r is made =
+    let e = same_Some _ _ made in
+    let order : first ≤ last = ltb-false last first (or_parts (eqb holder 0) (ltb last first) (granted_order _ _ _ _ _ (sym is))).1 in
+    omega (arith, order, ap (λ (y : Range). y.first) e, ap (λ (y : Range). y.last) e)
+new_ordered h customer day interval num b o r is made = absurd (none-some r made)
+
+all_more : {A : Type 0} (P : A → Type 0) (rs : List A) (made : Option A) → All P rs → ((r : A) → made ≡ Some r → P r) → All P (rs ++ option_to_list made)
+all_more P rs None all new = rw append-nil all
+all_more P rs (Some r) all new = All-push P rs r all (new r refl)
+
+-- each range has a serial
+pub ordered : (h : List Entry) (t : Terms) → IsLegal h t → All (λ r. r.first ≤ r.last) (ranges_of h)
+ordered h t legal = legal_induction (λ g. All (λ r. r.first ≤ r.last) (ranges_of g)) h t legal (All-nil (λ r. r.first ≤ r.last))
+    (λ g e legal_g before may.
+    let P : List Range → Type 0 = All (λ r. r.first ≤ r.last) in
+    subst P (sym (ranges_from-push 1 g e))
+    (all_more (λ r. r.first ≤ r.last) (ranges_of g) _ before (λ r made. new_ordered g e.request.customer e.day t.interval _ e.request.body e.outcome r may.right made)))
+
+-- the range that an identifier is drawn from
+pub record DrawnFrom (g : List Entry) (customer : ℕ) (x : Id) : Type 0 where
+  pub range : Range
+  pub there : Contains (ranges_of g) range
+  pub holder : range.holder ≡ customer
+  pub picked : id_at range (pick_of (issues_of g) range) ≡ x
+
+Contains-filter : {A : Type 0} (p : A → Bool) (xs : List A) (x : A) → Contains (filter p xs) x → Contains xs x
+Contains-filter {A} p xs x in' = let P : A → Type 0 = Contains xs in All-contains P (filter p xs) x (All-filter p P xs (All-contains_itself xs)) in'
+
+from_range : (g : List Entry) (customer day interval d : ℕ) (s c : ℕ × ℕ) (x : Id) (r : Range) → find (has_free_pick g day interval) (ranges_held g customer s c) ≡ Some r → Drawn day (id_at r (pick_of (issues_of g) r)) ≡ Drawn d x → DrawnFrom g customer x
+from_range g customer day interval d s c x r found is =
+    let at : Contains (ranges_held g customer s c) r = Contains-find (has_free_pick g day interval) (ranges_held g customer s c) r found in
+    let passes : is_held customer s c r ≡ true = All-contains (λ y. is_held customer s c y ≡ true) (ranges_held g customer s c) r (filter_passes (is_held customer s c) (ranges_of g)) at in
+    record {
+      range = r;
+      there = Contains-filter (is_held customer s c) (ranges_of g) r at;
+      holder = eqb-true r.holder customer (and_parts _ _ (and_parts _ _ passes).0).0;
+      picked = (drawn_parts day d (id_at r (pick_of (issues_of g) r)) x is).1;
+    }
+
+from_at : (g : List Entry) (customer day interval d : ℕ) (s c : ℕ × ℕ) (x : Id) (rs : List Range) (o : Option Range) → find (has_free_pick g day interval) (ranges_held g customer s c) ≡ o → outcome_of_pick g day rs o ≡ Drawn d x → DrawnFrom g customer x
+from_at g customer day interval d s c x [] None found is = cc
+from_at g customer day interval d s c x (y ∷ ys) None found is = cc
+from_at g customer day interval d s c x [] (Some r) found is = from_range g customer day interval d s c x r found is
+from_at g customer day interval d s c x (y ∷ ys) (Some r) found is = from_range g customer day interval d s c x r found is
+
+pub drawn_from : (g : List Entry) (customer day interval d : ℕ) (b : Body) (x : Id) → body_answer g customer b day interval ≡ Drawn d x → DrawnFrom g customer x
+drawn_from g customer day interval d (Draw s c) x is = from_at g customer day interval d s c x (ranges_held g customer s c) _ refl is
+drawn_from g customer day interval d (Grant holder service country first last) x is = absurd (other_kind (Grant holder service country first last) _ d x refl (answer_fits g customer (Grant holder service country first last) day interval) is)
+drawn_from g customer day interval d (Void y) x is = absurd (other_kind (Void y) _ d x refl (answer_fits g customer (Void y) day interval) is)
+drawn_from g customer day interval d (Query y) x is = absurd (other_kind (Query y) _ d x refl (answer_fits g customer (Query y) day interval) is)
+
+-- what is drawn from a range lies in it
+pub lies_drawn : (g : List Entry) (t : Terms) (customer : ℕ) (x : Id) → IsLegal g t → (from : DrawnFrom g customer x) → lies_in from.range x ≡ true
+lies_drawn g t customer x legal from =
+    let order : from.range.first ≤ from.range.last = All-contains (λ r. r.first ≤ r.last) (ranges_of g) from.range (ordered g t legal) from.there in
+    let P : Id → Type 0 = λ y. lies_in from.range y ≡ true in
+    subst P from.picked (lies_at from.range (pick_of (issues_of g) from.range) (pick_within (issues_of g) from.range order))
+
+pub own_drawn : (g : List Entry) (t : Terms) (customer : ℕ) (x : Id) → IsLegal g t → DrawnFrom g customer x → list_any (is_own customer x) (ranges_of g) ≡ true
+own_drawn g t customer x legal from =
+    let P : Range → Type 0 = λ r. is_own customer x r ≡ true in
+    list_any_at (is_own customer x) (ranges_of g) from.there.0 from.range from.there.1
+    (subst P (sym from.there.2) (and_from (eqb from.range.holder customer) (lies_in from.range x) (eq-eqb _ _ from.holder) (lies_drawn g t customer x legal from)))
+
+-- what each legal history has: an issue is made by one of its calls, from a range of those before
+abbrev pub IsOwned : List Entry → Issuance → Type 0
+IsOwned h i = (1 ≤ i.arrival) × (i.arrival ≤ length h) × (list_any (is_own i.customer i.id) (ranges_of (take (i.arrival - 1) h)) ≡ true)
+
+owned_more : (g : List Entry) (e : Entry) (i : Issuance) → IsOwned g i → IsOwned (g ++ e ∷ []) i
+owned_more g e i h =
+    let le : i.arrival - 1 ≤ length g = omega (arith, h.1) in
+    (h.0, omega (arith, h.1, length-append g (e ∷ [])), rw (take-append-le (i.arrival - 1) g (e ∷ []) le) h.2)
+
+take_front : (g ys : List Entry) (n : ℕ) → n ≡ length g → take n (g ++ ys) ≡ g
+take_front g ys n e = take-append-le n g ys (omega arith) ∙ take_all n g (omega arith)
+
+pub issued_at : (P : Issuance → Type 0) (customer number arrival : ℕ) (o : Outcome) → ((d : ℕ) (x : Id) → o ≡ Drawn d x → P (record { id = x; day = d; customer = customer; number = number; arrival = arrival }))
+    → All P (map (λ (c : ℕ × Id). record { id = c.1; day = c.0; customer = customer; number = number; arrival = arrival }) (carried_by o))
+issued_at P customer number arrival (Drawn d x) new = All-cons P _ [] (new d x refl) (All-nil P)
+issued_at P customer number arrival o new = All-nil P
+
+pub owned : (h : List Entry) (t : Terms) → IsLegal h t → All (IsOwned h) (issues_of h)
+owned h t legal = legal_induction (λ g. All (IsOwned g) (issues_of g)) h t legal (All-nil (IsOwned []))
+    (λ g e legal_g before may.
+    let P : Issuance → Type 0 = IsOwned (g ++ e ∷ []) in
+    let Q : List Issuance → Type 0 = All P in
+    let R : List Entry → ℕ → Id → Type 0 = λ l customer x. list_any (is_own customer x) (ranges_of l) ≡ true in
+    subst Q (sym (issues_from-push 1 g e))
+    (All-append P (issues_of g) _ (All-weaker (IsOwned g) P (owned_more g e) (issues_of g) before)
+    (issued_at P e.request.customer e.request.number (1 + length g) e.outcome (λ d x is. (
+      omega arith,
+      omega (arith, length-append g (e ∷ [])),
+      rw (take_front g (e ∷ []) (1 + length g - 1) (omega arith))
+          (own_drawn g t e.request.customer x legal_g (drawn_from g e.request.customer e.day t.interval d e.request.body x (sym may.right ∙ is))),
+    )))))
+
+pub own : (h : List Entry) (t : Terms) → IsLegal h t → IsOwn h
+own h t legal = All-weaker (IsOwned h) (λ i. IsTrue (list_any (is_own i.customer i.id) (ranges_of (take (i.arrival - 1) h)))) (λ i o. o.2) (issues_of h) (owned h t legal)

@@ -1,0 +1,136 @@
+-- One more call at the end of a history.
+use Rattle.std.proofs.Common.{◌≡◌, ℕ, zero, suc, ◌+◌, ◌≤◌, Bool, true, false, cond, eqb, List, [], ◌∷◌, ◌++◌, Option, Some, None, refl, sym, ap, ◌∙◌, ◌⊎◌, inl, inr, arith, length, get_or, take, append-nil, append_assoc, length-append}
+use Rattle.std.specs.Prelude.{find, fold, All, AllPairs, IsTrue, slice_get, option_to_list}
+use Rattle.std.proofs.lemmas.Bool.{both_ways, eqb-true, and_parts, eq-eqb, and_from}
+use Rattle.std.proofs.lemmas.Option.{none-some, same_Some}
+use Rattle.std.proofs.lemmas.List.Quantifiers.{all_pairs_push}
+use Rattle.std.proofs.lemmas.List.Elements.{All-cons, All-nil}
+use Rattle.s10_book.specs.declared.entry.Entry.{Entry}
+use Rattle.s10_book.specs.declared.range.Range.{Range}
+use Rattle.s10_book.specs.declared.issuance.Issuance.{Issuance}
+use Rattle.s10_book.specs.Settings.{Terms}
+use Rattle.s10_book.specs.History.{has_key, day_of, ranges_from, ranges_of, range_of_grant, then_ranges}
+use Rattle.s10_book.specs.Issues.{issues_from, issues_of, issues_at}
+use Rattle.s10_book.specs.Rules.{IsLegal, MayFollow}
+
+granted : ℕ → Entry → Option Range
+granted n e = range_of_grant n e.request.body e.outcome
+
+single : (o : Option Range) → then_ranges o [] [] ≡ option_to_list o
+single None = refl
+single (Some r) = refl
+
+then_push : (o : Option Range) (xs : List Entry) (e : Entry) (n : ℕ)
+    → (ranges_from n (xs ++ e ∷ []) ≡ ranges_from n xs ++ option_to_list (range_of_grant (n + length (ranges_from n xs)) e.request.body e.outcome))
+    → (ranges_from (n + 1) (xs ++ e ∷ []) ≡ ranges_from (n + 1) xs ++ option_to_list (range_of_grant (n + 1 + length (ranges_from (n + 1) xs)) e.request.body e.outcome))
+    → then_ranges o (ranges_from n (xs ++ e ∷ [])) (ranges_from (n + 1) (xs ++ e ∷ []))
+    ≡ then_ranges o (ranges_from n xs) (ranges_from (n + 1) xs) ++ option_to_list (range_of_grant (n + length (then_ranges o (ranges_from n xs) (ranges_from (n + 1) xs))) e.request.body e.outcome)
+then_push None xs e n here next = here
+then_push (Some r) xs e n here next =
+    let same : n + 1 + length (ranges_from (n + 1) xs) ≡ n + length (r ∷ ranges_from (n + 1) xs) = omega arith in
+    ap (λ l. r ∷ l) (next ∙ ap (λ m. ranges_from (n + 1) xs ++ option_to_list (range_of_grant m e.request.body e.outcome)) same)
+
+pub ranges_from-push : (n : ℕ) (xs : List Entry) (e : Entry) → ranges_from n (xs ++ e ∷ []) ≡ ranges_from n xs ++ option_to_list (range_of_grant (n + length (ranges_from n xs)) e.request.body e.outcome)
+ranges_from-push n [] e =
+    let same : n ≡ n + 0 = omega arith in
+    single (range_of_grant n e.request.body e.outcome) ∙ ap (λ m. option_to_list (range_of_grant m e.request.body e.outcome)) same
+ranges_from-push n (x ∷ xs) e = then_push (range_of_grant n x.request.body x.outcome) xs e n (ranges_from-push n xs e) (ranges_from-push (n + 1) xs e)
+
+pub issues_from-push : (n : ℕ) (xs : List Entry) (e : Entry) → issues_from n (xs ++ e ∷ []) ≡ issues_from n xs ++ issues_at (n + length xs) e
+issues_from-push n [] e =
+    let same : n ≡ n + 0 = omega arith in
+    append-nil (issues_at n e) ∙ ap (λ m. issues_at m e) same
+issues_from-push n (x ∷ xs) e =
+    let same : n + 1 + length xs ≡ n + length (x ∷ xs) = omega arith in
+    ap (λ l. issues_at n x ++ l) (issues_from-push (n + 1) xs e ∙ ap (λ m. issues_from (n + 1) xs ++ issues_at m e) same)
+    ∙ sym (append_assoc (issues_at n x) (issues_from (n + 1) xs) (issues_at (n + length (x ∷ xs)) e))
+
+then_few : (o : Option Range) (xs : List Entry) (n : ℕ) → length (ranges_from n xs) ≤ length xs → length (ranges_from (n + 1) xs) ≤ length xs → length (then_ranges o (ranges_from n xs) (ranges_from (n + 1) xs)) ≤ length xs + 1
+then_few None xs n here next = omega arith
+then_few (Some r) xs n here next = omega arith
+
+-- there are no more ranges than calls
+pub length-ranges_from : (n : ℕ) (xs : List Entry) → length (ranges_from n xs) ≤ length xs
+length-ranges_from n [] = omega arith
+length-ranges_from n (x ∷ xs) = omega (arith, then_few (range_of_grant n x.request.body x.outcome) xs n (length-ranges_from n xs) (length-ranges_from (n + 1) xs))
+
+-- the day of each call is at most that of the last
+days_below : (a : ℕ) (xs : List Entry) → AllPairs (λ d e. d.day ≤ e.day) xs → All (λ e. a ≤ e.day) xs → (a ≤ fold (λ d e. e.day) a xs) × All (λ e. e.day ≤ fold (λ d e. e.day) a xs) xs
+days_below a [] pairs from = (omega arith, All-nil (λ e. e.day ≤ a))
+days_below a (x ∷ xs) pairs from =
+    let tail : AllPairs (λ d e. d.day ≤ e.day) xs = λ i j d lt in'. pairs (suc i) (suc j) d (omega arith) (omega arith) in
+    let first : All (λ e. x.day ≤ e.day) xs = λ k d lt. pairs 0 (suc k) d (omega arith) (omega arith) in
+    let below = days_below x.day xs tail first in
+    let up : a ≤ x.day = from 0 x (omega arith) in
+    (omega (arith, below.0), All-cons (λ e. e.day ≤ fold (λ d e. e.day) x.day xs) x xs below.0 below.1)
+
+none_at : (p : Entry → Bool) (x : Entry) (xs : List Entry) (b : Bool) → p x ≡ b → cond b (Some x) (find p xs) ≡ None → (find p xs ≡ None → All (λ e. p e ≡ false) xs) → All (λ e. p e ≡ false) (x ∷ xs)
+none_at p x xs true e none rest = absurd (none-some x (sym none))
+none_at p x xs false e none rest = All-cons (λ y. p y ≡ false) x xs e (rest none)
+
+-- what isn't found passes nowhere
+pub none_kept : (p : Entry → Bool) (xs : List Entry) → find p xs ≡ None → All (λ e. p e ≡ false) xs
+none_kept p [] none = All-nil (λ e. p e ≡ false)
+none_kept p (x ∷ xs) none = none_at p x xs (p x) refl none (none_kept p xs)
+
+-- whether two calls have one key is the same in both orders
+keys_turned : (d e : Entry) → has_key e.request.customer e.request.number d ≡ false → ¬ (IsTrue (has_key d.request.customer d.request.number e))
+keys_turned d e other same =
+    let both = and_parts (eqb e.request.customer d.request.customer) (eqb e.request.number d.request.number) same in
+    both_ways (has_key e.request.customer e.request.number d) other
+    (and_from (eqb d.request.customer e.request.customer) (eqb d.request.number e.request.number)
+    (eq-eqb d.request.customer e.request.customer (sym (eqb-true e.request.customer d.request.customer both.0)))
+    (eq-eqb d.request.number e.request.number (sym (eqb-true e.request.number d.request.number both.1))))
+
+-- the call at a place is one of those before the last, or the last
+place_cases : (h : List Entry) (e : Entry) (k : ℕ) (x : Entry) → slice_get (h ++ e ∷ []) k ≡ Some x
+    → ((slice_get h k ≡ Some x) × (take k (h ++ e ∷ []) ≡ take k h)) ⊎ ((x ≡ e) × (take k (h ++ e ∷ []) ≡ h))
+place_cases [] e zero x is = inr (sym (same_Some e x is), refl)
+place_cases [] e (suc k) x is = absurd (none-some x is)
+place_cases (y ∷ ys) e zero x is = inl (is, refl)
+place_cases (y ∷ ys) e (suc k) x is =
+    elim (place_cases ys e k x is) [
+      | inl w ↦ inl (w.0, ap (λ l. y ∷ l) w.1)
+      | inr w ↦ inr (w.0, ap (λ l. y ∷ l) w.1)
+    ]
+
+-- a history stays legal under a call that may follow it
+pub IsLegal-push : (h : List Entry) (t : Terms) (e : Entry) → IsLegal h t → MayFollow h t e → IsLegal (h ++ e ∷ []) t
+IsLegal-push h t e legal may = record {
+  distinct = all_pairs_push (λ d f. ¬ (IsTrue (has_key d.request.customer d.request.number f))) h e legal.distinct
+      (λ k d lt. keys_turned (get_or h k d) e (none_kept (has_key e.request.customer e.request.number) h may.new_key k d lt));
+  in_order = all_pairs_push (λ d f. d.day ≤ f.day) h e legal.in_order
+      (λ k d lt. let below : (get_or h k d).day ≤ day_of h = (days_below 0 h legal.in_order (λ i f lt'. omega arith)).1 k d lt in omega (arith, may.in_order));
+  few = omega (arith, may.room, length-append h (e ∷ []));
+  right = λ k x is. elim (place_cases h e k x is) [
+    | inl w ↦ rw w.1 (legal.right k x w.0)
+    | inr w ↦ rw (w.1, w.0) may.right
+  ];
+}
+
+-- a new history is legal
+pub IsLegal-nil : (t : Terms) → IsLegal [] t
+IsLegal-nil t = record {
+  distinct = λ i j d lt in'. absurd (omega arith);
+  in_order = λ i j d lt in'. absurd (omega arith);
+  few = omega arith;
+  right = λ k x is. absurd (none-some x is);
+}
+
+-- the kept ranges stay those of the history
+pub granted-push : (h new : List Entry) (rs rs' : List Range) (made : Option Range) (count : ℕ) (e : Entry) → rs ≡ ranges_of h → new ≡ h ++ e ∷ [] → count ≡ length rs
+    → made ≡ range_of_grant (count + 1) e.request.body e.outcome → rs' ≡ rs ++ option_to_list made → rs' ≡ ranges_of new
+granted-push h new rs rs' made count e are grown counted is after =
+    let num : count + 1 ≡ 1 + length (ranges_of h) = omega (arith, counted, ap length are) in
+    after ∙ ap (λ l. l ++ option_to_list made) are
+    ∙ ap (λ o. ranges_of h ++ option_to_list o) (is ∙ ap (λ n. range_of_grant n e.request.body e.outcome) num)
+    ∙ sym (ranges_from-push 1 h e) ∙ ap ranges_of (sym grown)
+
+-- and the kept issues
+pub issued-push : (h new : List Entry) (is is' : List Issuance) (made : Option Issuance) (count : ℕ) (e : Entry) → is ≡ issues_of h → new ≡ h ++ e ∷ [] → count ≡ length h
+    → option_to_list made ≡ issues_at (count + 1) e → is' ≡ is ++ option_to_list made → is' ≡ issues_of new
+issued-push h new is is' made count e are grown counted made-is after =
+    let num : count + 1 ≡ 1 + length h = omega (arith, counted) in
+    after ∙ ap (λ l. l ++ option_to_list made) are
+    ∙ ap (λ l. issues_of h ++ l) (made-is ∙ ap (λ n. issues_at n e) num)
+    ∙ sym (issues_from-push 1 h e) ∙ ap issues_of (sym grown)

@@ -1,0 +1,174 @@
+-- In a legal history the issues of one identifier are an interval apart.
+use Rattle.std.proofs.Common.{◌≡◌, ℕ, suc, ◌+◌, ◌-◌, ◌<◌, ◌≤◌, Bool, true, false, eqb, List, [], ◌∷◌, ◌++◌, map, Option, Some, None, refl, sym, ap, ◌∙◌, inl, inr, arith, subst, length, get_or, append-nil}
+use Rattle.std.specs.Prelude.{filter, fold, All, AllPairs, IsTrue}
+use Rattle.std.specs.List.{last_or}
+use Rattle.std.proofs.lemmas.Bool.{both_ways, cases_lt, eq-eqb, leb-true, and_from}
+use Rattle.std.proofs.lemmas.Option.{none-some, same_Some}
+use Rattle.std.proofs.lemmas.List.Quantifiers.{all_pairs_push}
+use Rattle.std.proofs.lemmas.List.Elements.{All-nil, All-cons, All-head, All-tail, All-push, All-weaker}
+use Rattle.std.specs.Option.{option_map}
+use Rattle.s10_core.specs.declared.id.Id.{Id}
+use Rattle.s10_core.specs.Letters.{same_letters}
+use Rattle.s10_core.specs.Id.{same_id}
+use Rattle.s10_wire.specs.Kind.{fits}
+use Rattle.s10_wire.specs.declared.body.Body.{Body}
+use Rattle.s10_wire.specs.declared.body.Body.TheVariants.{Grant, Draw, Void, Query}
+use Rattle.s10_wire.specs.declared.outcome.Outcome.{Outcome}
+use Rattle.s10_wire.specs.declared.outcome.Outcome.TheVariants.{Drawn}
+use Rattle.s10_book.specs.declared.entry.Entry.{Entry}
+use Rattle.s10_book.specs.declared.range.Range.{Range}
+use Rattle.s10_book.specs.declared.issuance.Issuance.{Issuance}
+use Rattle.s10_book.specs.Settings.{Terms}
+use Rattle.s10_book.specs.History.{day_of, ranges_held}
+use Rattle.s10_book.specs.Issues.{issues_of, is_of, last_issuance_of, is_free, is_free_since, id_at, pick_of, carried_by}
+use Rattle.s10_book.specs.Rules.{IsLegal, body_answer, outcome_of_pick, has_free_pick}
+use Rattle.s10_book.specs.Promises.{IsSpaced}
+use Rattle.s10_book.proofs.Ranges.{found_passes}
+use Rattle.s10_book.proofs.Push.{issues_from-push}
+use Rattle.s10_book.proofs.Fitting.{answer_fits}
+use Rattle.s10_book.proofs.Legal.{legal_induction}
+
+abbrev pub InDays : List Issuance → Type 0
+InDays is = AllPairs (λ i j. i.day ≤ j.day) is
+
+pub tail_days : (x : Issuance) (xs : List Issuance) → InDays (x ∷ xs) → InDays xs
+tail_days x xs h = λ i j d lt lt'. h (suc i) (suc j) d (omega arith) (omega arith)
+
+pub head_days : (x : Issuance) (xs : List Issuance) → InDays (x ∷ xs) → All (λ i. x.day ≤ i.day) xs
+head_days x xs h = λ k d lt. h 0 (suc k) d (omega arith) (omega arith)
+
+-- the last that passes has the greatest day of those that pass
+record IsLatest (p : Issuance → Bool) (o : Option Issuance) (is : List Issuance) (l : Issuance) : Type 0 where
+  each : All (λ i. p i ≡ true → i.day ≤ l.day) is
+  before : (m : Issuance) → o ≡ Some m → m.day ≤ l.day
+
+latest_at : (p : Issuance → Bool) (o : Option Issuance) (i : Issuance) (is : List Issuance) (l : Issuance) (b : Bool) → p i ≡ b
+    → ((b ≡ true) → IsLatest p (Some i) is l) → ((b ≡ false) → IsLatest p o is l) → ((m : Issuance) → o ≡ Some m → m.day ≤ i.day) → IsLatest p o (i ∷ is) l
+latest_at p o i is l true e yes' no' up =
+    let rest = yes' refl in
+    record {
+      each = All-cons (λ j. p j ≡ true → j.day ≤ l.day) i is (λ _. rest.before i refl) rest.each;
+      before = λ m s. omega (arith, up m s, rest.before i refl);
+    }
+latest_at p o i is l false e yes' no' up =
+    let rest = no' refl in
+    record {
+      each = All-cons (λ j. p j ≡ true → j.day ≤ l.day) i is (λ t. absurd (both_ways (p i) e t)) rest.each;
+      before = rest.before;
+    }
+
+is_latest : (p : Issuance → Bool) (o : Option Issuance) (is : List Issuance) (l : Issuance) → InDays is → ((m : Issuance) → o ≡ Some m → All (λ i. m.day ≤ i.day) is)
+    → last_or o (filter p is) ≡ Some l → IsLatest p o is l
+is_latest p o [] l days from last = record {
+  each = All-nil (λ i. p i ≡ true → i.day ≤ l.day);
+  before = λ m s. let e : m ≡ l = same_Some m l (sym s ∙ last) in omega (arith, ap (λ (x : Issuance). x.day) e);
+}
+is_latest p o (i ∷ is) l days from last =
+    latest_at p o i is l (p i) refl
+    (λ t. is_latest p (Some i) is l (tail_days i is days) (λ m s. let Q : Issuance → Type 0 = λ x. All (λ j. x.day ≤ j.day) is in subst Q (same_Some i m s) (head_days i is days))
+    (rw t at last))
+    (λ f. is_latest p o is l (tail_days i is days) (λ m s. All-tail (λ j. m.day ≤ j.day) i is (from m s)) (rw f at last))
+    (λ m s. All-head (λ j. m.day ≤ j.day) i is (from m s))
+
+-- without a last one none passes
+pub last_none : (p : Issuance → Bool) (o : Option Issuance) (is : List Issuance) → last_or o (filter p is) ≡ None → (o ≡ None) × All (λ i. p i ≡ false) is
+last_none p o [] last = (last, All-nil (λ i. p i ≡ false))
+last_none p o (i ∷ is) last = none_at (p i) refl (λ t. last_none p (Some i) is (rw t at last)) (λ f. last_none p o is (rw f at last))
+  where
+    none_at : (b : Bool) → p i ≡ b → ((p i ≡ true) → (Some i ≡ None) × All (λ j. p j ≡ false) is) → ((p i ≡ false) → (o ≡ None) × All (λ j. p j ≡ false) is) → (o ≡ None) × All (λ j. p j ≡ false) (i ∷ is)
+    none_at true e yes' no' = absurd (none-some i (sym (yes' e).0))
+    none_at false e yes' no' = let rest = no' e in (rest.0, All-cons (λ j. p j ≡ false) i is e rest.1)
+
+free_at : (is : List Issuance) (x : Id) (day n : ℕ) (o : Option Issuance) → last_issuance_of is x ≡ o → InDays is → is_free_since day n (option_map (λ (i : Issuance). i.day) o) ≡ true → 0 < n → All (λ i. is_of x i ≡ true → i.day + n ≤ day) is
+free_at is x day n None last days free pos =
+    All-weaker (λ i. is_of x i ≡ false) (λ i. is_of x i ≡ true → i.day + n ≤ day) (λ i f t. absurd (both_ways (is_of x i) f t)) is (last_none (is_of x) None is last).1
+free_at is x day n (Some l) last days free pos =
+    let le : n ≤ day - l.day = leb-true n (day - l.day) free in
+    All-weaker (λ i. is_of x i ≡ true → i.day ≤ l.day) (λ i. is_of x i ≡ true → i.day + n ≤ day) (λ i up t. omega (arith, up t)) is
+    (is_latest (is_of x) None is l days (λ m s. absurd (none-some m s)) last).each
+
+-- a free identifier was issued an interval before, if at all
+pub free_since : (is : List Issuance) (x : Id) (day n : ℕ) → InDays is → is_free is x day n ≡ true → 0 < n → All (λ i. is_of x i ≡ true → i.day + n ≤ day) is
+free_since is x day n days free pos = free_at is x day n (last_issuance_of is x) refl days free pos
+
+pub letters_itself : (a : ℕ × ℕ) → same_letters a a ≡ true
+letters_itself a = and_from (eqb a.0 a.0) (eqb a.1 a.1) (eq-eqb _ _ refl) (eq-eqb _ _ refl)
+
+pub id_itself : (x : Id) → same_id x x ≡ true
+id_itself x = and_from _ _ (and_from _ _ (letters_itself x.service) (eq-eqb x.serial x.serial refl)) (letters_itself x.country)
+
+pub id_same : (x y : Id) → x ≡ y → same_id x y ≡ true
+id_same x y e = let P : Id → Type 0 = λ z. same_id x z ≡ true in subst P e (id_itself x)
+
+-- what a Draw that is Done says
+record IsDrawn (g : List Entry) (customer day interval d : ℕ) (x : Id) : Type 0 where
+  same_day : d ≡ day
+  free : is_free (issues_of g) x day interval ≡ true
+
+pub drawn_parts : (d d' : ℕ) (x x' : Id) → Drawn d x ≡ Drawn d' x' → (d ≡ d') × (x ≡ x')
+drawn_parts d d' x x' e = let a : d ≡ d' = cc in let b : x ≡ x' = cc in (a, b)
+
+drawn_free : (g : List Entry) (customer day interval d : ℕ) (x : Id) (r : Range) → has_free_pick g day interval r ≡ true → Drawn day (id_at r (pick_of (issues_of g) r)) ≡ Drawn d x → IsDrawn g customer day interval d x
+drawn_free g customer day interval d x r passes is =
+    let parts = drawn_parts day d (id_at r (pick_of (issues_of g) r)) x is in
+    let P : Id → Type 0 = λ y. is_free (issues_of g) y day interval ≡ true in
+    record { same_day = sym parts.0; free = subst P parts.1 passes }
+
+drawn_at : (g : List Entry) (customer day interval d : ℕ) (x : Id) (rs : List Range) (o : Option Range) → ((r : Range) → o ≡ Some r → has_free_pick g day interval r ≡ true) → outcome_of_pick g day rs o ≡ Drawn d x → IsDrawn g customer day interval d x
+drawn_at g customer day interval d x [] None passes is = cc
+drawn_at g customer day interval d x (y ∷ ys) None passes is = cc
+drawn_at g customer day interval d x [] (Some r) passes is = drawn_free g customer day interval d x r (passes r refl) is
+drawn_at g customer day interval d x (y ∷ ys) (Some r) passes is = drawn_free g customer day interval d x r (passes r refl) is
+
+-- no other request is answered so
+pub other_kind : (b : Body) (o : Outcome) (d : ℕ) (x : Id) → fits b (Drawn d x) ≡ false → IsTrue (fits b o) → o ≡ Drawn d x → ⊥
+other_kind b o d x no' yes' is = both_ways (fits b (Drawn d x)) no' (let P : Outcome → Type 0 = λ y. IsTrue (fits b y) in subst P is yes')
+
+is_drawn : (g : List Entry) (customer day interval d : ℕ) (b : Body) (x : Id) → body_answer g customer b day interval ≡ Drawn d x → IsDrawn g customer day interval d x
+is_drawn g customer day interval d (Draw service country) x is =
+    drawn_at g customer day interval d x (ranges_held g customer service country) _ (found_passes (has_free_pick g day interval) (ranges_held g customer service country)) is
+is_drawn g customer day interval d (Grant holder service country first last) x is = absurd (other_kind (Grant holder service country first last) _ d x refl (answer_fits g customer (Grant holder service country first last) day interval) is)
+is_drawn g customer day interval d (Void y) x is = absurd (other_kind (Void y) _ d x refl (answer_fits g customer (Void y) day interval) is)
+is_drawn g customer day interval d (Query y) x is = absurd (other_kind (Query y) _ d x refl (answer_fits g customer (Query y) day interval) is)
+
+-- what each legal history has
+pub record IsSound (is : List Issuance) (day n : ℕ) : Type 0 where
+  pub days : AllPairs (λ i j. i.day ≤ j.day) is
+  pub upto : All (λ i. i.day ≤ day) is
+  pub spaced : AllPairs (λ i j. i.id ≡ j.id → i.day + n ≤ j.day) is
+
+step_at : (g : List Entry) (customer number arrival before day n : ℕ) (o : Outcome) → IsSound (issues_of g) before n → before ≤ day
+    → ((d : ℕ) (x : Id) → o ≡ Drawn d x → IsDrawn g customer day n d x)
+    → IsSound (issues_of g ++ map (λ (c : ℕ × Id). record { id = c.1; day = c.0; customer = customer; number = number; arrival = arrival }) (carried_by o)) day n
+step_at g customer number arrival before day n (Drawn d x) sound le drawn =
+    let is = issues_of g in
+    let y : Issuance = record { id = x; day = d; customer = customer; number = number; arrival = arrival } in
+    let said = drawn d x refl in
+    let later : All (λ i. i.day ≤ day) is = All-weaker (λ i. i.day ≤ before) (λ i. i.day ≤ day) (λ i h. omega arith) is sound.upto in
+    let since : All (λ i. is_of x i ≡ true → i.day + n ≤ day) is =
+    elim (cases_lt 0 n) [
+      | inl pos ↦ free_since is x day n sound.days said.free pos
+      | inr zero' ↦ All-weaker (λ i. i.day ≤ day) (λ i. is_of x i ≡ true → i.day + n ≤ day) (λ i up t. omega arith) is later
+    ] in
+    record {
+      days = all_pairs_push (λ i j. i.day ≤ j.day) is y sound.days (λ k e lt. omega (arith, later k e lt, said.same_day));
+      upto = All-push (λ i. i.day ≤ day) is y later (omega (arith, said.same_day));
+      spaced = all_pairs_push (λ i j. i.id ≡ j.id → i.day + n ≤ j.day) is y sound.spaced (λ k e lt same. omega (arith, since k e lt (id_same (get_or is k e).id x same), said.same_day));
+    }
+step_at g customer number arrival before day n o sound le drawn =
+    rw append-nil record { days = sound.days; upto = All-weaker (λ i. i.day ≤ before) (λ i. i.day ≤ day) (λ i h. omega arith) (issues_of g) sound.upto; spaced = sound.spaced }
+
+day_push : (a : ℕ) (g : List Entry) (e : Entry) → fold (λ d x. x.day) a (g ++ e ∷ []) ≡ e.day
+day_push a [] e = refl
+day_push a (x ∷ xs) e = day_push x.day xs e
+
+pub sound : (h : List Entry) (t : Terms) → IsLegal h t → IsSound (issues_of h) (day_of h) t.interval
+sound h t legal = legal_induction (λ g. IsSound (issues_of g) (day_of g) t.interval) h t legal
+    (record { days = λ i j d lt lt'. absurd (omega arith); upto = All-nil (λ i. i.day ≤ 0); spaced = λ i j d lt lt'. absurd (omega arith) })
+    (λ g e legal_g before may.
+    rw (issues_from-push 1 g e, day_push 0 g e)
+    (step_at g e.request.customer e.request.number (1 + length g) (day_of g) e.day t.interval e.outcome before may.in_order
+    (λ d x is. is_drawn g e.request.customer e.day t.interval d e.request.body x (sym may.right ∙ is))))
+
+pub spaced : (h : List Entry) (t : Terms) → IsLegal h t → IsSpaced h t.interval
+spaced h t legal = (sound h t legal).spaced

@@ -1,0 +1,11 @@
+pub mod Settings
+pub mod History
+pub mod Issues
+pub mod Usage
+pub mod Rules
+pub mod BookFault
+pub mod Book
+pub mod Promises
+pub mod Once
+pub mod Reports
+pub mod ReportFault

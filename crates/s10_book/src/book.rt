@@ -1,0 +1,134 @@
+use crate::book_fault::BookFault;
+use crate::candidate::Candidate;
+use crate::entry::Entry;
+use crate::issue::Issue;
+use crate::range::Range;
+use crate::settings::Settings;
+use crate::usage::Usage;
+use s10_core::{Country, Id, Serial, Service};
+
+/// Kept calls in order of arrival, with what follows from them.
+///
+/// A book may stand on something that can break, such as a disk. It is honest while that works as promised, and what is
+/// said of its history and its answers holds where it is honest as the call ends. A condition on the history is asked
+/// only where the book is honest as the call begins. What is said of its count of faults holds for every book: a call
+/// that answers Memory or Store counts one fault (the count stays at the greatest u64), any other answer none, and no
+/// call answers Full. After a fault history and settings are as before.
+pub trait Book {
+    ghost use Rattle.s10_book.specs.declared.entry.Entry.{Entry};
+    ghost use Rattle.s10_book.specs.Settings.{Terms};
+    ghost use Rattle.s10_wire.specs.Kind.{fits};
+    ghost use Rattle.s10_book.specs.History.{entry_with_key, entry_at, day_of, ranges_of, is_held_above, overlaps};
+    ghost use Rattle.s10_book.specs.Issues.{last_issue_of, candidate_of};
+    ghost use Rattle.s10_book.specs.Usage.{usage_of};
+    ghost use Rattle.s10_book.specs.Rules.{MayFollow, IsLegal};
+    ghost use Rattle.s10_book.specs.BookFault.{Counts};
+    ghost use Rattle.s10_book.specs.Book.{Keeps};
+    ghost use Rattle.std.specs.Prelude.{◌≡◌, ℕ, ◌++◌, ◌∷◌, [], ◌<◌, ◌≤◌, ◌==◌, List, length, find, IfOk, IfSome, IsTrue, OnErr, OnOk, Contains, slice_get};
+
+    /// The kept calls.
+    ghost history: { Self → List Entry };
+
+    /// The settings.
+    ghost terms: { Self → Terms };
+
+    /// How many faults there were.
+    ghost faults: { Self → ℕ };
+
+    /// Whether what is under the book works as promised.
+    ghost honest: { Self → Type 0 };
+
+    /// What the book was made with.
+    fn settings(&self) -> Settings
+        ensures { honest self.now → result ≡ terms self.now };
+
+    /// How many calls are kept.
+    fn len(&self) -> u32
+        ensures answer { honest self.now → result ≡ length (history self.now) }
+        ensures few { result ≤ 1000000000 };
+
+    /// The day of the last kept call, 0 where there is none.
+    fn day(&self) -> u32
+        ensures { honest self.now → result ≡ day_of (history self.now) };
+
+    /// The kept call with that key, if there is one.
+    fn find(&mut self, customer: u32, number: u32) -> Result<Option<Entry>, BookFault>
+        ensures faults { Counts result (faults self.old) (faults self.new) }
+        ensures keeps { Keeps history terms honest self.old self.new }
+        ensures answer { honest self.new → IfOk result (λ e. e ≡ entry_with_key (history self.old) customer number) }
+
+        // Of an entry that is answered the outcome fits the request, whatever is under the book.
+        ensures fits { IfOk result (λ found. IfSome found (λ e. IsTrue (fits e.request.body e.outcome))) };
+
+    /// Kept call number `at`, counted from 1, if there are so many.
+    fn entry(&mut self, at: u32) -> Result<Option<Entry>, BookFault>
+        ensures faults { Counts result (faults self.old) (faults self.new) }
+        ensures keeps { Keeps history terms honest self.old self.new }
+        ensures answer { honest self.new → IfOk result (λ e. e ≡ entry_at (history self.old) at) };
+
+    /// The range of that number, if there is one. Numbers begin at 1.
+    fn range(&mut self, num: u32) -> Result<Option<Range>, BookFault>
+        ensures faults { Counts result (faults self.old) (faults self.new) }
+        ensures keeps { Keeps history terms honest self.old self.new }
+        ensures answer { honest self.new → IfOk result (λ r. r ≡ find (λ x. x.num == num) (ranges_of (history self.old))) };
+
+    /// The range of least number above `after` with that holder, service and country, if there is one.
+    fn next_range(
+        &mut self,
+        customer: u32,
+        service: Service,
+        country: Country,
+        after: u32,
+    ) -> Result<Option<Range>, BookFault>
+        ensures faults { Counts result (faults self.old) (faults self.new) }
+        ensures keeps { Keeps history terms honest self.old self.new }
+        ensures above { IfOk result (λ found. IfSome found (λ r. after < r.num)) }
+        ensures answer { honest self.new → IfOk result (λ found. found ≡ find (is_held_above after customer service country) (ranges_of (history self.old))) };
+
+    /// The range of least number of that service and country that has a serial in common with `first` to `last`, if
+    /// there is one. Where `first` is above `last` there is none.
+    fn covering(
+        &mut self,
+        service: Service,
+        country: Country,
+        first: Serial,
+        last: Serial,
+    ) -> Result<Option<Range>, BookFault>
+        ensures faults { Counts result (faults self.old) (faults self.new) }
+        ensures keeps { Keeps history terms honest self.old self.new }
+        ensures answer { honest self.new → IfOk result (λ found. found ≡ find (overlaps service country first last) (ranges_of (history self.old))) };
+
+    /// The last issue of an identifier, if it was ever issued.
+    fn last_issue(&mut self, id: &Id) -> Result<Option<Issue>, BookFault>
+        ensures faults { Counts result (faults self.old) (faults self.new) }
+        ensures keeps { Keeps history terms honest self.old self.new }
+        ensures answer { honest self.new → IfOk result (λ i. i ≡ last_issue_of (history self.old) id.now) };
+
+    /// The pick of one of the book's ranges with its last issue: the serial that the range gives next.
+    fn candidate(&mut self, range: &Range) -> Result<Candidate, BookFault>
+        requires { honest self.old → Contains (ranges_of (history self.old)) range.now }
+        ensures faults { Counts result (faults self.old) (faults self.new) }
+        ensures keeps { Keeps history terms honest self.old self.new }
+        ensures answer { honest self.new → IfOk result (λ c. c ≡ candidate_of (history self.old) range.now) };
+
+    /// How many serials of one of the book's ranges were ever issued, are voided since their last issue, and are free on the greater of
+    /// `day` and the day of the last kept call.
+    fn usage(&mut self, range: &Range, day: u32) -> Result<Usage, BookFault>
+        requires { honest self.old → Contains (ranges_of (history self.old)) range.now }
+        ensures faults { Counts result (faults self.old) (faults self.new) }
+        ensures keeps { Keeps history terms honest self.old self.new }
+        ensures answer { honest self.new → IfOk result (λ u. u ≡ usage_of (history self.old) range.now day (terms self.old).interval) };
+
+    /// Adds a call at the end. Its key is new, its day is not before the book's, there is room below the limit, and its
+    /// outcome is that of the rules.
+    fn keep(&mut self, entry: Entry) -> Result<(), BookFault>
+        requires { honest self.old → MayFollow (history self.old) (terms self.old) entry }
+        ensures faults { Counts result (faults self.old) (faults self.new) }
+        ensures was_honest { honest self.new → honest self.old }
+        ensures same_terms { honest self.new → terms self.new ≡ terms self.old }
+        ensures ok { honest self.new → OnOk result (history self.new ≡ history self.old ++ entry ∷ []) }
+        ensures err { honest self.new → OnErr result (history self.new ≡ history self.old) };
+
+    // A history is legal.
+    ghost legal: { (book : Self) → honest book → IsLegal (history book) (terms book) };
+}

@@ -1,0 +1,53 @@
+//! What every legal history keeps.
+
+ghost use Rattle.std.specs.Prelude.{◌≡◌, ℕ, ◌+◌, ◌≤◌, ◌==◌, if◌then◌else◌, List, [], ◌∷◌, ◌++◌, length, map, Some, Contains, IsTrue};
+ghost use Rattle.s10_book.specs.declared.entry.Entry.{Entry};
+ghost use Rattle.s10_book.specs.Settings.{Terms};
+ghost use Rattle.s10_core.specs.declared.id.Id.{Id};
+ghost use Rattle.s10_book.specs.declared.range.Range.{Range};
+ghost use Rattle.s10_book.specs.History.{day_of, lies_in, ranges_of, range_of_grant, overlaps};
+ghost use Rattle.s10_book.specs.Issues.{issues_of, is_free, pick_of};
+ghost use Rattle.s10_book.specs.Rules.{IsLegal, MayFollow, has_free_pick, draw_answer, NothingFree};
+ghost use Rattle.s10_book.specs.Promises.{IsSpaced, IsOwn, IsApart, IsInCommon, request_on_day};
+
+use s10_wire::Outcome;
+
+/// In a legal history no identifier goes to two requests within the interval, each is issued from a range that its
+/// customer holds by an earlier call, and none lies in two ranges. Each outcome follows from what stands before it: the
+/// requests with their days make the whole history.
+pub fn legal_histories()
+    ensures spaced { (h : List Entry) (t : Terms) → IsLegal h t → IsSpaced h t.interval }
+    ensures own { (h : List Entry) (t : Terms) → IsLegal h t → IsOwn h }
+    ensures apart { (h : List Entry) (t : Terms) → IsLegal h t → IsApart h }
+    ensures determined { (g h : List Entry) (t : Terms) → IsLegal g t → IsLegal h t → map request_on_day g ≡ map request_on_day h → g ≡ h }
+{}
+
+/// What overlaps a range has a serial in common with it.
+pub fn overlaps_are_common_serials()
+    ensures common { (r : Range) (service country : ℕ × ℕ) (first last : ℕ) → r.first ≤ r.last → IsTrue (overlaps service country first last r)
+        → (x : Id) × IsInCommon r service country first last x }
+    ensures overlaps { (r : Range) (service country : ℕ × ℕ) (first last : ℕ) (x : Id) → IsInCommon r service country first last x
+        → IsTrue (overlaps service country first last r) }
+{}
+
+/// In a legal history, where any serial of a range is free on a day, so is its pick. So NoneFree is answered only where
+/// no serial of the sender's ranges of that service and country is free.
+pub fn free_picks()
+    ensures pick { (h : List Entry) (t : Terms) → IsLegal h t → (r : Range) (x : Id) (day : ℕ) → day_of h ≤ day
+        → IsTrue (lies_in r x) → IsTrue (is_free (issues_of h) x day t.interval) → IsTrue (has_free_pick h day t.interval r) }
+    ensures none_free { (h : List Entry) (t : Terms) → IsLegal h t → (customer : ℕ) (service country : ℕ × ℕ) (day : ℕ) → day_of h ≤ day
+        → draw_answer h customer service country day t.interval ≡ Outcome.NoneFree → NothingFree h customer service country day t.interval }
+{}
+
+/// The pick of a range in a legal history: its first serial as the range is made, after a Done Draw from it the next
+/// serial, or its first one behind its last. Every other call leaves it.
+pub fn picks_in_turn()
+    ensures made { (h : List Entry) (t : Terms) (e : Entry) → IsLegal h t → MayFollow h t e → (r : Range)
+        → range_of_grant (length (ranges_of h) + 1) e.request.body e.outcome ≡ Some r → pick_of (issues_of (h ++ e ∷ [])) r ≡ r.first }
+    ensures drawn { (h : List Entry) (t : Terms) (e : Entry) → IsLegal h t → MayFollow h t e → (r : Range) → Contains (ranges_of h) r
+        → (day : ℕ) (x : Id) → e.outcome ≡ Outcome.Drawn day x → IsTrue (lies_in r x)
+        → pick_of (issues_of (h ++ e ∷ [])) r ≡ (if x.serial == r.last then r.first else x.serial + 1) }
+    ensures left { (h : List Entry) (t : Terms) (e : Entry) → IsLegal h t → MayFollow h t e → (r : Range) → Contains (ranges_of h) r
+        → ((day : ℕ) (x : Id) → e.outcome ≡ Outcome.Drawn day x → ¬ (IsTrue (lies_in r x)))
+        → pick_of (issues_of (h ++ e ∷ [])) r ≡ pick_of (issues_of h) r }
+{}

@@ -1,0 +1,39 @@
+//! The ledger: the history of kept calls, the rules that each outcome follows, and books that keep a history.
+#![tactic(auto)]
+
+mod book;
+mod book_fault;
+mod candidate;
+mod entry;
+mod issuance;
+mod issue;
+mod issues_report;
+mod laws;
+mod lists;
+mod plain_book;
+mod range;
+mod ranges_report;
+mod report_fault;
+mod rules;
+mod settings;
+#[cfg(test)]
+mod tests;
+mod trip_book;
+mod usage;
+
+pub use book::Book;
+pub use book_fault::BookFault;
+pub use candidate::Candidate;
+pub use entry::Entry;
+pub use issuance::Issuance;
+pub use issue::Issue;
+pub use issues_report::write_issues;
+pub use laws::{free_picks, legal_histories, overlaps_are_common_serials, picks_in_turn};
+pub use plain_book::PlainBook;
+pub use range::Range;
+pub use ranges_report::write_ranges;
+pub use report_fault::ReportFault;
+pub use rules::decide;
+pub use settings::Settings;
+pub use trip_book::TripBook;
+pub use usage::Usage;

@@ -1,0 +1,207 @@
+//! The book in memory.
+
+ghost use Rattle.std.specs.Prelude.{◌≡◌, ◌∷◌, ◌++◌, [], ⊤, OnOk, OnErr, IfOk, IfErr, IfSome, IsTrue, Contains, find, ◌==◌, ◌<◌, ◌+◌, vec_len, vec_capacity, option_to_list};
+ghost use Rattle.s10_wire.specs.Kind.{fits};
+ghost use Rattle.s10_book.specs.History.{ranges_of, entry_with_key, entry_at, is_held_above, overlaps};
+ghost use Rattle.s10_book.specs.Issues.{issues_of, last_issue_of, candidate_of};
+ghost use Rattle.s10_book.specs.Usage.{usage_of};
+ghost use Rattle.s10_book.specs.Rules.{IsLegal, MayFollow};
+ghost use Rattle.s10_book.specs.BookFault.{Counts};
+
+use crate::book::Book;
+use crate::book_fault::BookFault;
+use crate::candidate::Candidate;
+use crate::entry::Entry;
+use crate::issuance::Issuance;
+use crate::issue::Issue;
+use crate::lists::{
+    call_at, issue_made, kept_call, last_state, next_serial, range_after, range_made,
+    range_numbered, range_over, usage_in,
+};
+use crate::range::Range;
+use crate::settings::Settings;
+use crate::usage::Usage;
+use s10_core::{Country, Id, Serial, Service};
+use std::alloc::{AllocError, Global};
+
+/// A book as lists in memory: the calls, and the ranges and issues that they make. It is always honest, and only `keep`
+/// can be refused, by Memory.
+#[derive(Drop)]
+pub struct PlainBook {
+    settings: Settings,
+    faults: u64,
+    entries: Vec<Entry>,
+    ranges: Vec<Range>,
+    issues: Vec<Issuance>,
+    ghost granted: { ranges.items ≡ ranges_of entries.items },
+    ghost issued: { issues.items ≡ issues_of entries.items },
+    ghost legal: { IsLegal entries.items settings },
+}
+
+impl PlainBook {
+    /// An empty book with these settings and no fault counted.
+    pub fn new(alloc: Global, settings: Settings) -> PlainBook
+        ensures history { ⟦<PlainBook as Book>⟧.history result ≡ [] }
+        ensures terms { ⟦<PlainBook as Book>⟧.terms result ≡ settings }
+        ensures faults { ⟦<PlainBook as Book>⟧.faults result ≡ 0 }
+        ensures honest { ⟦<PlainBook as Book>⟧.honest result }
+    {
+        PlainBook {
+            settings,
+            faults: 0,
+            entries: Vec::new(alloc),
+            ranges: Vec::new(alloc),
+            issues: Vec::new(alloc),
+        }
+    }
+
+    // Adds a call and what it makes, once there is room for all of it.
+    fn add(&mut self, entry: Entry) -> Result<(), AllocError>
+        requires { MayFollow self.old.entries.items self.old.settings entry }
+        ensures terms { self.new.settings ≡ self.old.settings }
+        ensures faults { self.new.faults ≡ self.old.faults }
+        ensures ok { OnOk result (self.new.entries.items ≡ self.old.entries.items ++ entry ∷ []) }
+        ensures err { OnErr result (self.new.entries.items ≡ self.old.entries.items) }
+    {
+        let _limit = self.settings.limit();
+        self.ranges.reserve(1)?;
+        self.issues.reserve(1)?;
+        self.entries.reserve(1)?;
+        let made = range_made(self.ranges.len(), &entry);
+        let issued = issue_made(self.entries.len(), &entry);
+        push_made(&mut self.ranges, made);
+        push_made(&mut self.issues, issued);
+        push_made(&mut self.entries, Some(entry));
+        Ok(())
+    }
+}
+
+// Adds what was made, for which there is room.
+fn push_made<T: Copy>(list: &mut Vec<T>, made: Option<T>)
+    requires { vec_len list.old < vec_capacity list.old }
+    ensures { list.new.items ≡ list.old.items ++ option_to_list made }
+{
+    if let Some(item) = made {
+        let _ = list.push(item);
+    }
+}
+
+// A read of a book in memory always succeeds and changes nothing.
+impl Book for PlainBook {
+    ghost history = { λ b. b.entries.items };
+
+    ghost terms = { λ b. b.settings };
+
+    ghost faults = { λ b. b.faults };
+
+    ghost honest = { λ b. ⊤ };
+
+    ghost legal = { λ b h. b.legal };
+
+    fn settings(&self) -> Settings {
+        self.settings
+    }
+
+    fn len(&self) -> u32 {
+        let _limit = self.settings.limit();
+        self.entries.len() as u32
+    }
+
+    fn day(&self) -> u32 {
+        match self.entries.last() {
+            None => 0,
+            Some(entry) => entry.day,
+        }
+    }
+
+    fn find(&mut self, customer: u32, number: u32) -> Result<Option<Entry>, BookFault>
+        ensures same { self.new ≡ self.old }
+        ensures answer { result ≡ Ok (entry_with_key (⟦<PlainBook as Book>⟧.history self.old) customer number) }
+        ensures fits { IfOk result (λ found. IfSome found (λ e. IsTrue (fits e.request.body e.outcome))) }
+    {
+        Ok(kept_call(&self.entries, customer, number))
+    }
+
+    fn entry(&mut self, at: u32) -> Result<Option<Entry>, BookFault>
+        ensures same { self.new ≡ self.old }
+        ensures answer { result ≡ Ok (entry_at (⟦<PlainBook as Book>⟧.history self.old) at) }
+    {
+        Ok(call_at(&self.entries, at))
+    }
+
+    fn range(&mut self, num: u32) -> Result<Option<Range>, BookFault>
+        ensures same { self.new ≡ self.old }
+        ensures answer { result ≡ Ok (find (λ r. r.num == num) (ranges_of (⟦<PlainBook as Book>⟧.history self.old))) }
+    {
+        Ok(range_numbered(&self.ranges, num))
+    }
+
+    fn next_range(
+        &mut self,
+        customer: u32,
+        service: Service,
+        country: Country,
+        after: u32,
+    ) -> Result<Option<Range>, BookFault>
+        ensures same { self.new ≡ self.old }
+        ensures answer { result ≡ Ok (find (is_held_above after customer service country) (ranges_of (⟦<PlainBook as Book>⟧.history self.old))) }
+        ensures above { IfOk result (λ found. IfSome found (λ r. after < r.num)) }
+    {
+        Ok(range_after(&self.ranges, customer, service, country, after))
+    }
+
+    fn covering(
+        &mut self,
+        service: Service,
+        country: Country,
+        first: Serial,
+        last: Serial,
+    ) -> Result<Option<Range>, BookFault>
+        ensures same { self.new ≡ self.old }
+        ensures answer { result ≡ Ok (find (overlaps service country first last) (ranges_of (⟦<PlainBook as Book>⟧.history self.old))) }
+    {
+        Ok(range_over(&self.ranges, service, country, first, last))
+    }
+
+    fn last_issue(&mut self, id: &Id) -> Result<Option<Issue>, BookFault>
+        ensures same { self.new ≡ self.old }
+        ensures answer { result ≡ Ok (last_issue_of (⟦<PlainBook as Book>⟧.history self.old) id.now) }
+    {
+        Ok(last_state(&self.entries, &self.issues, id))
+    }
+
+    fn candidate(&mut self, range: &Range) -> Result<Candidate, BookFault>
+        requires { Contains (ranges_of (⟦<PlainBook as Book>⟧.history self.old)) range.now }
+        ensures same { self.new ≡ self.old }
+        ensures answer { result ≡ Ok (candidate_of (⟦<PlainBook as Book>⟧.history self.old) range.now) }
+    {
+        Ok(next_serial(&self.entries, &self.issues, range))
+    }
+
+    fn usage(&mut self, range: &Range, day: u32) -> Result<Usage, BookFault>
+        requires { Contains (ranges_of (⟦<PlainBook as Book>⟧.history self.old)) range.now }
+        ensures same { self.new ≡ self.old }
+        ensures answer { result ≡ Ok (usage_of (⟦<PlainBook as Book>⟧.history self.old) range.now day (⟦<PlainBook as Book>⟧.terms self.old).interval) }
+    {
+        let interval = self.settings.interval();
+        let day = self.day().max(day);
+        Ok(usage_in(&self.entries, &self.issues, range, day, interval))
+    }
+
+    fn keep(&mut self, entry: Entry) -> Result<(), BookFault>
+        requires { MayFollow (⟦<PlainBook as Book>⟧.history self.old) (⟦<PlainBook as Book>⟧.terms self.old) entry }
+        ensures faults { Counts result (⟦<PlainBook as Book>⟧.faults self.old) (⟦<PlainBook as Book>⟧.faults self.new) }
+        ensures memory { IfErr result (λ fault. fault ≡ BookFault.Memory) }
+        ensures same_terms { ⟦<PlainBook as Book>⟧.terms self.new ≡ ⟦<PlainBook as Book>⟧.terms self.old }
+        ensures ok { OnOk result (⟦<PlainBook as Book>⟧.history self.new ≡ ⟦<PlainBook as Book>⟧.history self.old ++ entry ∷ []) }
+        ensures err { OnErr result (⟦<PlainBook as Book>⟧.history self.new ≡ ⟦<PlainBook as Book>⟧.history self.old) }
+    {
+        match self.add(entry) {
+            Ok(()) => Ok(()),
+            Err(_) => {
+                self.faults = self.faults.saturating_add(1);
+                Err(BookFault::Memory)
+            }
+        }
+    }
+}

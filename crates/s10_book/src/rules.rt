@@ -1,0 +1,224 @@
+//! The rules: what comes of a request.
+
+ghost use Rattle.std.specs.Prelude.{ℕ, ◌≡◌, ◌≤◌, ◌+◌, length, IfOk, IsTrue};
+ghost use Rattle.std.specs.List.{list_any};
+ghost use Rattle.std.specs.Option.{option_map};
+ghost use Rattle.s10_book.specs.History.{day_of, ranges_of, is_own};
+ghost use Rattle.s10_book.specs.Rules.{grant_answer, draw_answer, void_answer, status_of, status_of_issue, query_answer, answer_of, NothingFree};
+ghost use Rattle.s10_wire.specs.Kind.{fits};
+ghost use Rattle.s10_book.specs.Issues.{last_issue_of, is_free_since};
+ghost use Rattle.s10_book.specs.BookFault.{Counts};
+ghost use Rattle.s10_book.specs.Book.{Keeps};
+
+use crate::book::Book;
+use crate::book_fault::BookFault;
+use crate::issue::Issue;
+use s10_core::{Country, Id, Serial, Service};
+use s10_wire::{Body, Outcome, Request, Status};
+
+pub(crate) fn is_free(issue: &Option<Issue>, day: u32, interval: u32) -> bool
+    ensures { result ≡ is_free_since day interval (option_map (λ i. i.day) issue.now) }
+{
+    match issue {
+        None => true,
+        Some(issue) => day.saturating_sub(issue.day) >= interval,
+    }
+}
+
+// The outcome of a Draw: the pick of the lowest-numbered range of the sender whose pick is free.
+fn decide_draw<B: Book>(
+    book: &mut B,
+    customer: u32,
+    service: Service,
+    country: Country,
+    day: u32,
+) -> Result<Outcome, BookFault>
+    ensures faults { Counts result (B.faults book.old) (B.faults book.new) }
+    ensures keeps { Keeps B.history B.terms B.honest book.old book.new }
+    ensures answer { B.honest book.new → IfOk result (λ o. o ≡ draw_answer (B.history book.old) customer service country day (B.terms book.old).interval) }
+    ensures fits { IfOk result (λ o. IsTrue (fits (Body.Draw service country) o)) }
+{
+    let interval = book.settings().interval();
+    let mut after = 0;
+    while let Some(range) = book.next_range(customer, service, country, after)? {
+        after = range.num;
+        let candidate = book.candidate(&range)?;
+        if is_free(&candidate.issue, day, interval) {
+            let id = Id {
+                service: range.service,
+                serial: candidate.serial,
+                country: range.country,
+            };
+            return Ok(Outcome::Drawn { day, id });
+        }
+    }
+    if after == 0 {
+        Ok(Outcome::NoRange)
+    } else {
+        Ok(Outcome::NoneFree)
+    }
+}
+
+// Whether the identifier lies in one of the customer's ranges.
+fn owns<B: Book>(book: &mut B, customer: u32, id: &Id) -> Result<bool, BookFault>
+    ensures faults { Counts result (B.faults book.old) (B.faults book.new) }
+    ensures keeps { Keeps B.history B.terms B.honest book.old book.new }
+    ensures answer { B.honest book.new → IfOk result (λ b. b ≡ list_any (is_own customer id.now) (ranges_of (B.history book.old))) }
+{
+    match book.covering(id.service, id.country, id.serial, id.serial)? {
+        None => Ok(false),
+        Some(range) => Ok(range.holder == customer),
+    }
+}
+
+// The outcome of a Void.
+fn decide_void<B: Book>(book: &mut B, customer: u32, id: &Id) -> Result<Outcome, BookFault>
+    ensures faults { Counts result (B.faults book.old) (B.faults book.new) }
+    ensures keeps { Keeps B.history B.terms B.honest book.old book.new }
+    ensures answer { B.honest book.new → IfOk result (λ o. o ≡ void_answer (B.history book.old) customer id.now) }
+    ensures fits { IfOk result (λ o. IsTrue (fits (Body.Void id.now) o)) }
+{
+    if !owns(book, customer, id)? {
+        return Ok(Outcome::NotYours);
+    }
+    match book.last_issue(id)? {
+        None => Ok(Outcome::NotIssued),
+        Some(issue) => {
+            if issue.voided {
+                Ok(Outcome::AlreadyVoid)
+            } else {
+                Ok(Outcome::Voided)
+            }
+        }
+    }
+}
+
+// What is known of an identifier that lies in a range.
+fn issue_status<B: Book>(book: &mut B, id: &Id) -> Result<Status, BookFault>
+    ensures faults { Counts result (B.faults book.old) (B.faults book.new) }
+    ensures keeps { Keeps B.history B.terms B.honest book.old book.new }
+    ensures answer { B.honest book.new → IfOk result (λ s. s ≡ status_of_issue (last_issue_of (B.history book.old) id.now)) }
+{
+    match book.last_issue(id)? {
+        None => Ok(Status::Never),
+        Some(issue) => {
+            if issue.voided {
+                Ok(Status::Voided { day: issue.day })
+            } else {
+                Ok(Status::Issued { day: issue.day })
+            }
+        }
+    }
+}
+
+// The number of the next range. Range numbers have no gap, and are at most the number of calls.
+fn next_number<B: Book>(book: &mut B) -> Result<u32, BookFault>
+    ensures faults { Counts result (B.faults book.old) (B.faults book.new) }
+    ensures keeps { Keeps B.history B.terms B.honest book.old book.new }
+    ensures answer { B.honest book.new → IfOk result (λ n. n ≡ length (ranges_of (B.history book.old)) + 1) }
+{
+    let mut low = 0;
+    let mut high = book.len();
+    while low < high {
+        let middle = high - (high - low) / 2;
+        if book.range(middle)?.is_some() {
+            low = middle;
+        } else {
+            high = middle - 1;
+        }
+    }
+    Ok(low + 1)
+}
+
+// The outcome of a Grant.
+fn decide_grant<B: Book>(
+    book: &mut B,
+    customer: u32,
+    holder: u32,
+    service: Service,
+    country: Country,
+    first: Serial,
+    last: Serial,
+) -> Result<Outcome, BookFault>
+    ensures faults { Counts result (B.faults book.old) (B.faults book.new) }
+    ensures keeps { Keeps B.history B.terms B.honest book.old book.new }
+    ensures answer { B.honest book.new → IfOk result (λ o. o ≡ grant_answer (B.history book.old) customer holder service country first last) }
+    ensures fits { IfOk result (λ o. IsTrue (fits (Body.Grant holder service country first last) o)) }
+{
+    if customer != 0 {
+        return Ok(Outcome::NotThePost);
+    }
+    if holder == 0 || last.value() < first.value() {
+        return Ok(Outcome::BadGrant);
+    }
+    if book.covering(service, country, first, last)?.is_some() {
+        return Ok(Outcome::Overlap);
+    }
+    let range = next_number(book)?;
+    Ok(Outcome::Granted { range })
+}
+
+// What the post is told of an identifier.
+fn known_status<B: Book>(book: &mut B, id: &Id) -> Result<Status, BookFault>
+    ensures faults { Counts result (B.faults book.old) (B.faults book.new) }
+    ensures keeps { Keeps B.history B.terms B.honest book.old book.new }
+    ensures answer { B.honest book.new → IfOk result (λ s. s ≡ status_of (B.history book.old) id.now) }
+{
+    let found = book.covering(id.service, id.country, id.serial, id.serial)?;
+    if found.is_none() {
+        return Ok(Status::Unknown);
+    }
+    issue_status(book, id)
+}
+
+// The outcome of a Query.
+fn decide_query<B: Book>(book: &mut B, customer: u32, id: &Id) -> Result<Outcome, BookFault>
+    ensures faults { Counts result (B.faults book.old) (B.faults book.new) }
+    ensures keeps { Keeps B.history B.terms B.honest book.old book.new }
+    ensures answer { B.honest book.new → IfOk result (λ o. o ≡ query_answer (B.history book.old) customer id.now) }
+    ensures fits { IfOk result (λ o. IsTrue (fits (Body.Query id.now) o)) }
+{
+    if customer == 0 {
+        let status = known_status(book, id)?;
+        return Ok(Outcome::Told(status));
+    }
+    if !owns(book, customer, id)? {
+        return Ok(Outcome::NotYours);
+    }
+    let status = known_status(book, id)?;
+    Ok(Outcome::Told(status))
+}
+
+/// The outcome of a request by the rules, on a day that is not before the book's. Nothing is kept. Memory and Store
+/// come where a call of the book answers them.
+pub fn decide<B: Book>(book: &mut B, request: &Request, day: u32) -> Result<Outcome, BookFault>
+    requires { B.honest book.old → day_of (B.history book.old) ≤ day }
+    ensures faults { Counts result (B.faults book.old) (B.faults book.new) }
+    ensures keeps { Keeps B.history B.terms B.honest book.old book.new }
+    ensures answer { B.honest book.new → IfOk result (λ o. o ≡ answer_of (B.history book.old) request.now day (B.terms book.old).interval) }
+    ensures fits { IfOk result (λ o. IsTrue (fits request.now.body o)) }
+    ensures none_free { B.honest book.new → (service country : ℕ × ℕ) → request.now.body ≡ Body.Draw service country → result ≡ Ok Outcome.NoneFree → NothingFree (B.history book.old) request.now.customer service country day (B.terms book.old).interval }
+{
+    match request.body {
+        Body::Grant {
+            holder,
+            service,
+            country,
+            first,
+            last,
+        } => decide_grant(
+            book,
+            request.customer,
+            holder,
+            service,
+            country,
+            first,
+            last,
+        ),
+        Body::Draw { service, country } => {
+            decide_draw(book, request.customer, service, country, day)
+        }
+        Body::Void { id } => decide_void(book, request.customer, &id),
+        Body::Query { id } => decide_query(book, request.customer, &id),
+    }
+}

@@ -1,0 +1,159 @@
+//! A book that fails once.
+
+ghost use Rattle.std.specs.Prelude.{◌≡◌, ◌||◌, false};
+ghost use Rattle.std.specs.Bool.{OnTrue};
+ghost use Rattle.s10_book.specs.BookFault.{trip_count};
+
+use crate::book::Book;
+use crate::book_fault::BookFault;
+use crate::candidate::Candidate;
+use crate::entry::Entry;
+use crate::issue::Issue;
+use crate::range::Range;
+use crate::settings::Settings;
+use crate::usage::Usage;
+use s10_core::{Country, Id, Serial, Service};
+
+/// A book over a book, to show what a failure does. Of its calls that answer a Result, counted from 0, the one with the
+/// number that it was made with answers Store without asking the inner book, and counts as one fault more. All other
+/// calls are the inner book's.
+#[derive(Drop)]
+pub struct TripBook<B> {
+    inner: B,
+    // how many calls come before the one that fails
+    left: u64,
+    tripped: bool,
+}
+
+impl<B: Book> TripBook<B> {
+    /// The book over `inner` whose call number `at` fails; none has been made yet.
+    pub fn new(inner: B, at: u64) -> TripBook<B>
+        ensures history { ⟦<TripBook<B> as Book>⟧.history result ≡ B.history inner }
+        ensures terms { ⟦<TripBook<B> as Book>⟧.terms result ≡ B.terms inner }
+        ensures faults { ⟦<TripBook<B> as Book>⟧.faults result ≡ B.faults inner }
+        ensures was_honest { ⟦<TripBook<B> as Book>⟧.honest result → B.honest inner }
+        ensures honest { B.honest inner → ⟦<TripBook<B> as Book>⟧.honest result }
+    {
+        TripBook {
+            inner,
+            left: at,
+            tripped: false,
+        }
+    }
+
+    // Counts a call, and says whether it is the one that fails.
+    fn trips(&mut self) -> bool
+        ensures inner { self.new.inner ≡ self.old.inner }
+        ensures tripped { self.new.tripped ≡ (self.old.tripped || result) }
+        ensures once { OnTrue result (self.old.tripped ≡ false) }
+    {
+        if self.tripped {
+            return false;
+        }
+        if self.left == 0 {
+            self.tripped = true;
+            return true;
+        }
+        self.left -= 1;
+        false
+    }
+}
+
+impl<B: Book> Book for TripBook<B> {
+    ghost history = { λ b. B.history b.inner };
+
+    ghost terms = { λ b. B.terms b.inner };
+
+    ghost faults = { λ b. trip_count b.tripped (B.faults b.inner) };
+
+    ghost honest = { λ b. B.honest b.inner };
+
+    ghost legal = { λ b h. B.legal b.inner h };
+
+    fn settings(&self) -> Settings {
+        self.inner.settings()
+    }
+
+    fn len(&self) -> u32 {
+        self.inner.len()
+    }
+
+    fn day(&self) -> u32 {
+        self.inner.day()
+    }
+
+    fn find(&mut self, customer: u32, number: u32) -> Result<Option<Entry>, BookFault> {
+        if self.trips() {
+            return Err(BookFault::Store);
+        }
+        self.inner.find(customer, number)
+    }
+
+    fn entry(&mut self, at: u32) -> Result<Option<Entry>, BookFault> {
+        if self.trips() {
+            return Err(BookFault::Store);
+        }
+        self.inner.entry(at)
+    }
+
+    fn range(&mut self, num: u32) -> Result<Option<Range>, BookFault> {
+        if self.trips() {
+            return Err(BookFault::Store);
+        }
+        self.inner.range(num)
+    }
+
+    fn next_range(
+        &mut self,
+        customer: u32,
+        service: Service,
+        country: Country,
+        after: u32,
+    ) -> Result<Option<Range>, BookFault> {
+        if self.trips() {
+            return Err(BookFault::Store);
+        }
+        self.inner.next_range(customer, service, country, after)
+    }
+
+    fn covering(
+        &mut self,
+        service: Service,
+        country: Country,
+        first: Serial,
+        last: Serial,
+    ) -> Result<Option<Range>, BookFault> {
+        if self.trips() {
+            return Err(BookFault::Store);
+        }
+        self.inner.covering(service, country, first, last)
+    }
+
+    fn last_issue(&mut self, id: &Id) -> Result<Option<Issue>, BookFault> {
+        if self.trips() {
+            return Err(BookFault::Store);
+        }
+        self.inner.last_issue(id)
+    }
+
+    fn candidate(&mut self, range: &Range) -> Result<Candidate, BookFault> {
+        if self.trips() {
+            return Err(BookFault::Store);
+        }
+        self.inner.candidate(range)
+    }
+
+    fn usage(&mut self, range: &Range, day: u32) -> Result<Usage, BookFault> {
+        if self.trips() {
+            return Err(BookFault::Store);
+        }
+        self.inner.usage(range, day)
+    }
+
+    fn keep(&mut self, entry: Entry) -> Result<(), BookFault> {
+        if self.trips() {
+            return Err(BookFault::Store);
+        }
+        self.inner.keep(entry)
+    }
+}
