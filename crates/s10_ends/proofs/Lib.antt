@@ -1,0 +1,9 @@
+pub mod Applied
+pub mod Whole
+pub mod One
+pub mod Runs
+pub mod Drawn
+pub mod Pending
+pub mod Turns
+pub mod Listening
+pub mod Trying

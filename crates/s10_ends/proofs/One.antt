@@ -1,0 +1,51 @@
+-- One delivery.
+use Rattle.std.proofs.Common.{◌≡◌, ℕ, zero, suc, List, [], ◌∷◌, take, subst, Some, refl}
+use Rattle.std.specs.Prelude.{slice_get}
+use Rattle.std.proofs.lemmas.Option.{none-some, same_Some}
+use Rattle.s10_wire.specs.declared.request.Request.{Request}
+use Rattle.s10_wire.specs.declared.outcome.Outcome.{Outcome}
+use Rattle.s10_wire.specs.declared.wire_fault.WireFault.{WireFault}
+use Rattle.s10_wire.specs.declared.frame.Frame.{Frame}
+use Rattle.s10_wire.specs.Datagrams.{Asks, Replies}
+use Rattle.s10_wire.specs.Frame.{frame_bytes}
+use Rattle.s10_wire.specs.WireFault.{IsFirstRefusalOfRequest}
+use Rattle.s10_book.specs.declared.entry.Entry.{Entry}
+use Rattle.s10_book.specs.declared.book_fault.BookFault.{BookFault}
+use Rattle.s10_book.specs.declared.book_fault.BookFault.TheVariants.{Full}
+use Rattle.s10_book.specs.Settings.{Terms}
+use Rattle.s10_book.specs.History.{entry_with_key}
+use Rattle.s10_book.specs.Once.{applied_once}
+use Rattle.s10_ends.specs.declared.answer.Answer.{Answer}
+use Rattle.s10_ends.specs.declared.answer.Answer.TheVariants.{Reply, Dropped, Faulted}
+use Rattle.s10_ends.specs.Served.{Dated, AskNothing, Gives, IsFullFor, not_faulted, Served}
+use Rattle.s10_ends.specs.Served.AreAsked.{none, nothing, request}
+use Rattle.s10_ends.proofs.Whole.{FullBefore}
+
+-- an answer other than Full
+not_full : (a : Answer) (k : ℕ) → (a ≡ Faulted Full → ⊥) → slice_get (a ∷ []) k ≡ Some (Faulted Full) → ⊥
+not_full a zero other at = other (same_Some a (Faulted Full) at)
+not_full a (suc k) other at = none-some (Faulted Full) at
+
+pub Served-dropped : (h : List Entry) (t : Terms) (b : List ℕ) (day : ℕ) (fault : WireFault) → AskNothing b → IsFirstRefusalOfRequest b fault → Served h t ((b, day) ∷ []) (Dropped fault ∷ []) h
+Served-dropped h t b day fault asks refused =
+    record { once_each = ([], nothing asks none, refl); answered = ((asks, refused), tt); full = λ k d is at. absurd (not_full (Dropped fault) k (λ e. cc) at) }
+
+pub Served-reply : (h h' : List Entry) (t : Terms) (b : List ℕ) (day : ℕ) (q : Request) (o : Outcome) (frame : Frame) → Asks b q → h' ≡ applied_once h ((q, day) ∷ []) t.interval
+    → Gives (entry_with_key h' q.customer q.number) q o → Replies (frame_bytes frame) q o → Served h t ((b, day) ∷ []) (Reply frame ∷ []) h'
+Served-reply h h' t b day q o frame asks applied gives replies =
+    record { once_each = ((q, day) ∷ [], request asks none, applied); answered = ((q, o, asks, gives, replies), tt); full = λ k d is at. absurd (not_full (Reply frame) k (λ e. cc) at) }
+
+faulted_full : (h : List Entry) (t : Terms) (b : List ℕ) (day : ℕ) (q : Request) (fault : BookFault) → Asks b q → (fault ≡ Full → IsFullFor h t q)
+    → (k : ℕ) (d : Dated) → slice_get ((b, day) ∷ []) k ≡ Some d → slice_get (Faulted fault ∷ []) k ≡ Some (Faulted Full)
+    → FullBefore h t (not_faulted (take k ((b, day) ∷ [])) (take k (Faulted fault ∷ []))) d
+faulted_full h t b day q fault asks full zero d is at =
+    let e : (b, day) ≡ d = same_Some (b, day) d is in
+    let same : fault ≡ Full = cc in
+    let P : Dated → Type 0 = λ x. Asks x.0 q in
+    (h, q, ([], none, refl), subst P e asks, full same)
+faulted_full h t b day q fault asks full (suc k) d is at = absurd (none-some d is)
+
+pub Served-faulted : (h h' : List Entry) (t : Terms) (b : List ℕ) (day : ℕ) (q : Request) (fault : BookFault) → Asks b q → h' ≡ h
+    → (fault ≡ Full → IsFullFor h t q) → Served h t ((b, day) ∷ []) (Faulted fault ∷ []) h'
+Served-faulted h h' t b day q fault asks same full =
+    record { once_each = ([], none, same); answered = ((q, asks), tt); full = faulted_full h t b day q fault asks full }

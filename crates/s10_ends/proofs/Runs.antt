@@ -1,0 +1,61 @@
+-- Deliveries of a run, one after another.
+use Rattle.std.proofs.Common.{◌≡◌, ◌∙◌, ap, Bool, true, false, cond, ℕ, ◌+◌, ◌≤◌, List, [], ◌∷◌, ◌++◌, map, refl, sym, inl, inr, arith, subst}
+use Rattle.std.specs.List.{count_by}
+use Rattle.std.proofs.lemmas.Bool.{cases_lt}
+use Rattle.std.proofs.lemmas.List.{map-append}
+use Rattle.std.proofs.lemmas.List.Sums.{sum_by_push}
+use Rattle.s10_book.specs.declared.entry.Entry.{Entry}
+use Rattle.s10_book.specs.declared.book_fault.BookFault.TheVariants.{Memory, Store, Full}
+use Rattle.s10_book.specs.Settings.{Terms}
+use Rattle.s10_book.specs.Rules.{IsLegal}
+use Rattle.s10_book.specs.BookFault.{Rises}
+use Rattle.s10_book.proofs.Spaced.{spaced}
+use Rattle.s10_book.proofs.Own.{own}
+use Rattle.s10_book.proofs.Apart.{apart}
+use Rattle.s10_ends.specs.declared.answer.Answer.{Answer}
+use Rattle.s10_ends.specs.declared.answer.Answer.TheVariants.{Reply, Dropped, Faulted}
+use Rattle.s10_ends.specs.declared.delivery.Delivery.{Delivery}
+use Rattle.s10_ends.specs.Served.{Dated, Served, CountsAnswer}
+use Rattle.s10_ends.specs.Runs.{dated, is_book_fault, CountsAll, IsKept}
+use Rattle.s10_ends.proofs.Whole.{Served-push}
+
+pub CountsAll-nil : (n : ℕ) → CountsAll [] n n
+CountsAll-nil n = record { at_most = omega arith; never_falls = omega arith; each = λ _. omega arith }
+
+more_same : (ans : List Answer) (a : Answer) (x y z : ℕ) → CountsAll ans x y → is_book_fault a ≡ false → z ≡ y → CountsAll (ans ++ a ∷ []) x z
+more_same ans a x y z counts no' same =
+    let e : count_by is_book_fault (ans ++ a ∷ []) ≡ count_by is_book_fault ans + 0 = sum_by_push _ ans a ∙ ap (λ (b : Bool). count_by is_book_fault ans + cond b 1 0) no' in
+    record { at_most = omega (arith, e, counts.at_most); never_falls = omega (arith, counts.never_falls); each = λ lt. omega (arith, e, same, counts.each (omega arith)) }
+
+more_risen : (ans : List Answer) (a : Answer) (x y z : ℕ) → CountsAll ans x y → is_book_fault a ≡ true → Rises y z → CountsAll (ans ++ a ∷ []) x z
+more_risen ans a x y z counts yes' rises =
+    let e : count_by is_book_fault (ans ++ a ∷ []) ≡ count_by is_book_fault ans + 1 = sum_by_push _ ans a ∙ ap (λ (b : Bool). count_by is_book_fault ans + cond b 1 0) yes' in
+    record {
+      at_most = omega (arith, e, counts.at_most, rises.by_one);
+      never_falls = omega (arith, counts.never_falls, rises.never_falls);
+      each = λ lt.
+          let few : count_by is_book_fault ans + x ≤ y = omega (arith, counts.each (omega (arith, rises.never_falls, lt))) in
+          elim (cases_lt y z) [
+            | inl up ↦ omega (arith, e)
+            | inr ge ↦ absurd (omega (arith, lt, rises.unless_greatest (omega (arith, rises.never_falls))))
+          ];
+    }
+
+-- one more answer
+pub CountsAll-push : (ans : List Answer) (a : Answer) (x y z : ℕ) → CountsAll ans x y → CountsAnswer a y z → CountsAll (ans ++ a ∷ []) x z
+CountsAll-push ans (Reply frame) x y z counts step = more_same ans (Reply frame) x y z counts refl step
+CountsAll-push ans (Dropped fault) x y z counts step = more_same ans (Dropped fault) x y z counts refl step
+CountsAll-push ans (Faulted Memory) x y z counts step = more_risen ans (Faulted Memory) x y z counts refl step
+CountsAll-push ans (Faulted Store) x y z counts step = more_risen ans (Faulted Store) x y z counts refl step
+CountsAll-push ans (Faulted Full) x y z counts step = more_same ans (Faulted Full) x y z counts refl step
+
+-- one more delivery
+pub Served-map_push : (h h1 h2 : List Entry) (t t1 : Terms) (ds : List Delivery) (ans : List Answer) (d : Delivery) (a : Answer)
+    → Served h t (map dated ds) ans h1 → t1 ≡ t → Served h1 t1 (dated d ∷ []) (a ∷ []) h2 → Served h t (map dated (ds ++ d ∷ [])) (ans ++ a ∷ []) h2
+Served-map_push h h1 h2 t t1 ds ans d a before same one =
+    let P : Terms → Type 0 = λ u. Served h1 u (dated d ∷ []) (a ∷ []) h2 in
+    let Q : List Dated → Type 0 = λ l. Served h t l (ans ++ a ∷ []) h2 in
+    subst Q (sym (map-append dated ds (d ∷ []))) (Served-push h h1 h2 t (map dated ds) ans (dated d) a before (subst P same one))
+
+pub IsKept-legal : (h : List Entry) (t : Terms) → IsLegal h t → IsKept h t
+IsKept-legal h t legal = record { legal = legal; spaced = spaced h t legal; own = own h t legal; apart = apart h t legal }

@@ -1,0 +1,187 @@
+-- The tries of a call.
+use Rattle.std.proofs.Common.{◌≡◌, ◌≢◌, ℕ, zero, suc, ◌+◌, ◌<◌, ◌≤◌, Option, Some, None, Ok, Err, refl, sym, ap, ◌∙◌, subst, inl, inr, arith}
+use Rattle.s10_wire.specs.declared.trace.Trace.{Trace}
+use Rattle.s10_wire.specs.declared.peer.Peer.{Peer}
+use Rattle.s10_wire.specs.declared.frame.Frame.{Frame}
+use Rattle.s10_wire.specs.declared.request.Request.{Request}
+use Rattle.s10_wire.specs.declared.link_fault.LinkFault.{LinkFault}
+use Rattle.s10_wire.specs.declared.link_fault.LinkFault.TheVariants.{Bind, Receive, Send, Spent}
+use Rattle.s10_wire.specs.Trace.{Gives}
+use Rattle.s10_wire.specs.Link.{Sends}
+use Rattle.std.proofs.lemmas.Option.{same_Some}
+use Rattle.s10_wire.specs.declared.body.Body.{Body}
+use Rattle.s10_wire.specs.declared.reply.Reply.{Reply}
+use Rattle.s10_wire.specs.Datagrams.{Asks}
+use Rattle.s10_wire.specs.Frame.{frame_bytes}
+use Rattle.s10_wire.specs.Reply.{request_of}
+use Rattle.s10_ends.specs.declared.call_fault.CallFault.TheVariants.{GaveUp, Link}
+use Rattle.s10_ends.specs.Client.{ClientState, next_request, after_submit, submit_fault, settled}
+use Rattle.s10_ends.specs.Calls.{SentOnly, Tried, Stopped, Heard, IsUnanswered, IsNoReply, Attempts, Calls, failures_of}
+
+pub tried_none : (t : Trace) (p : Peer × Frame) → Tried t t p 0
+tried_none t p = record {
+  sent = record { sends = omega arith; given = λ wrong. absurd (omega arith); alike = λ wrong. absurd (omega arith) };
+  least = omega arith;
+  most = omega arith;
+  failures = refl;
+}
+
+alike_again : (m s : Trace) (p : Peer × Frame) (k : ℕ) → (0 < k → m.given ≡ Some p) → (0 < k → k ≤ m.alike) → Gives m s p → k + 1 ≤ s.alike
+alike_again m s p zero given alike g = omega (arith, g.some)
+alike_again m s p (suc k) given alike g = let on : s.alike ≡ m.alike + 1 = g.again (given (omega arith)) in let low : suc k ≤ m.alike = alike (omega arith) in omega (arith, on, low)
+
+-- one more send
+pub sent_again : (t m s : Trace) (p : Peer × Frame) (k : ℕ) → SentOnly t m p k → Gives m s p → SentOnly t s p (k + 1)
+sent_again t m s p k sent g =
+    let sends : s.sends ≡ m.sends + 1 = ap (λ (x : Trace). x.sends) g.after in
+    record {
+      sends = omega (arith, sent.sends, sends);
+      given = λ some. ap (λ (x : Trace). x.given) g.after;
+      alike = λ some. alike_again m s p k sent.given sent.alike g;
+    }
+
+-- receives send nothing
+pub sent_heard : (t s t' : Trace) (p : Peer × Frame) (k failed : ℕ) → SentOnly t s p k → Heard s t' failed → SentOnly t t' p k
+sent_heard t s t' p k failed sent h = record {
+  sends = h.sends ∙ sent.sends;
+  given = λ some. h.given ∙ sent.given some;
+  alike = λ some. let low : k ≤ s.alike = sent.alike some in omega (arith, low, h.alike);
+}
+
+-- one more try
+pub tried_again : (t m s t' : Trace) (p : Peer × Frame) (k : ℕ) → Tried t m p k → Gives m s p → Heard s t' 0 → s.calls < t'.calls → Tried t t' p (k + 1)
+tried_again t m s t' p k tried g h more =
+    let calls : s.calls ≡ m.calls + 1 = ap (λ (x : Trace). x.calls) g.after in
+    let failures : s.failures ≡ m.failures = ap (λ (x : Trace). x.failures) g.after in
+    record {
+      sent = sent_heard t s t' p (k + 1) 0 (sent_again t m s p k tried.sent g) h;
+      least = omega (arith, tried.least, calls, more);
+      most = omega (arith, tried.most, calls, h.most);
+      failures = omega (arith, h.failures, failures, tried.failures);
+    }
+
+-- a try whose send was refused
+pub stopped_unsent : (t m t' : Trace) (p : Peer × Frame) (k tries : ℕ) (fault : LinkFault) → Tried t m p k → k < tries → Sends m t' p (Err fault) → Stopped t t' p tries fault
+stopped_unsent t m t' p k tries Send tried few refused =
+    let calls : t'.calls ≡ m.calls + 1 = ap (λ (x : Trace). x.calls) refused in
+    let failures : t'.failures ≡ m.failures + 1 = ap (λ (x : Trace). x.failures) refused in
+    let sends : t'.sends ≡ m.sends = ap (λ (x : Trace). x.sends) refused in
+    let alike : t'.alike ≡ m.alike = ap (λ (x : Trace). x.alike) refused in
+    record {
+      sent = (
+        k,
+        omega arith,
+        record {
+          sends = sends ∙ tried.sent.sends;
+          given = λ some. ap (λ (x : Trace). x.given) refused ∙ tried.sent.given some;
+          alike = λ some. let low : k ≤ m.alike = tried.sent.alike some in omega (arith, low, alike);
+        },
+      );
+      most = omega (arith, tried.most, calls);
+      failures = omega (arith, failures, tried.failures);
+      not_bind = λ wrong. cc;
+    }
+stopped_unsent t m t' p k tries Spent tried few refused =
+    let P : Trace → Type 0 = λ x. Stopped t x p tries Spent in
+    let here : Stopped t m p tries Spent = record { sent = (k, omega arith, tried.sent); most = omega (arith, tried.most); failures = omega (arith, tried.failures); not_bind = λ wrong. cc } in
+    subst P (sym refused) here
+stopped_unsent t m t' p k tries Receive tried few refused = absurd refused
+stopped_unsent t m t' p k tries Bind tried few refused = absurd refused
+
+-- a try in which a receive was refused
+pub stopped_sent : (t m s t' : Trace) (p : Peer × Frame) (k tries : ℕ) (fault : LinkFault) → Tried t m p k → k < tries → Gives m s p → Heard s t' (failures_of fault) → fault ≢ Bind
+    → Stopped t t' p tries fault
+stopped_sent t m s t' p k tries fault tried few g h other =
+    let calls : s.calls ≡ m.calls + 1 = ap (λ (x : Trace). x.calls) g.after in
+    let failures : s.failures ≡ m.failures = ap (λ (x : Trace). x.failures) g.after in
+    record {
+      sent = (k + 1, omega arith, sent_heard t s t' p (k + 1) (failures_of fault) (sent_again t m s p k tried.sent g) h);
+      most = omega (arith, tried.most, calls, h.most);
+      failures = omega (arith, h.failures, failures, tried.failures);
+      not_bind = other;
+    }
+
+-- another try without a reply
+pub unanswered_again : (t m s t' : Trace) (p : Peer × Frame) (pending : Option Request) → IsUnanswered t m pending → Gives m s p → IsUnanswered s t' pending → IsUnanswered t t' pending
+unanswered_again t m s t' p pending before g after =
+    let received : s.received ≡ m.received = ap (λ (x : Trace). x.received) g.after in
+    let taken : s.taken ≡ m.taken = ap (λ (x : Trace). x.taken) g.after in
+    joined before after received taken
+  where
+    joined : IsUnanswered t m pending → IsUnanswered s t' pending → s.received ≡ m.received → s.taken ≡ m.taken → IsUnanswered t t' pending
+    joined (inl a) (inl b) received taken = inl (b.0 ∙ received ∙ a.0, b.1 ∙ taken ∙ a.1)
+    joined (inr a) (inl b) received taken =
+        inr (
+          omega (arith, a.0, b.0, received),
+          λ q pends.
+              let w = a.1 q pends in
+              (w.0, w.1, b.1 ∙ taken ∙ w.2, w.3),
+        )
+    joined (inl a) (inr b) received taken = inr (omega (arith, a.0, b.0, received), b.1)
+    joined (inr a) (inr b) received taken = inr (omega (arith, a.0, b.0, received), b.1)
+
+-- the reply to what is pending was accepted
+pub accepted_call : (c c1 c' : ClientState) (t m t' : Trace) (to : Peer) (body : Body) (tries k : ℕ) (frame : Frame) (q : Request) (reply : Reply)
+    → None ≡ submit_fault c → q ≡ next_request c body → Asks (frame_bytes frame) q → c1 ≡ after_submit c body → Tried t m (to, frame) k → k < tries
+    → Attempts c1 c' m t' (to, frame) (Ok (Some reply)) → Calls c c' t t' to body tries (Ok reply)
+accepted_call c c1 c' t m t' to body tries k frame q reply free own asks client tried few found =
+    let heard : Heard found.0 t' 0 = found.2.0 in
+    let pends : Some (next_request c body) ≡ Some (request_of reply) = sym (ap (λ (x : ClientState). x.pending) client) ∙ found.2.2 in
+    let P : Request → Type 0 = λ x. Asks (frame_bytes frame) x in (
+      record { submitted = sym free; client = found.2.3 ∙ ap settled client },
+      sym (same_Some _ _ pends),
+      found.2.4,
+      frame,
+      subst P own asks,
+      k + 1,
+      omega arith,
+      omega arith,
+      tried_again t m found.0 t' (to, frame) k tried found.1 heard found.2.1,
+    )
+
+-- a try found no reply
+pub still_tried : (c1 c' : ClientState) (t m t' : Trace) (p : Peer × Frame) (k : ℕ) → Tried t m p k → Attempts c1 c' m t' p (Ok None) → Tried t t' p (k + 1)
+still_tried c1 c' t m t' p k tried found = tried_again t m found.0 t' p k tried found.1 found.2.0 found.2.1
+
+pub still_unanswered : (c1 c' : ClientState) (t m t' : Trace) (p : Peer × Frame) (q : Request) → c1.pending ≡ Some q → IsUnanswered t m (Some q) → Attempts c1 c' m t' p (Ok None)
+    → IsUnanswered t t' (Some q)
+still_unanswered c1 c' t m t' p q pends before found =
+    let P : Option Request → Type 0 = λ x. IsUnanswered found.0 t' x in
+    unanswered_again t m found.0 t' p (Some q) before found.1 (subst P pends found.2.3)
+
+-- the link refused a call
+pub stopped_call : (c c1 c2 c' : ClientState) (t m t' : Trace) (to : Peer) (body : Body) (tries k : ℕ) (frame : Frame) (q : Request) (fault : LinkFault)
+    → None ≡ submit_fault c → q ≡ next_request c body → Asks (frame_bytes frame) q → c1 ≡ after_submit c body → Tried t m (to, frame) k → k < tries
+    → Attempts c1 c2 m t' (to, frame) (Err fault) → c' ≡ settled c2 → Calls c c' t t' to body tries (Err (Link q fault))
+stopped_call c c1 c2 c' t m t' to body tries k frame q fault free own asks client tried few (inl unsent) given_up = (
+  record { submitted = sym free; client = given_up ∙ ap settled (unsent.1 ∙ client) },
+  own,
+  frame,
+  asks,
+  stopped_unsent t m t' (to, frame) k tries fault tried few unsent.0,
+)
+stopped_call c c1 c2 c' t m t' to body tries k frame q fault free own asks client tried few (inr sent) given_up = (
+  record { submitted = sym free; client = given_up ∙ ap settled (sent.2.1 ∙ client) },
+  own,
+  frame,
+  asks,
+  stopped_sent t m sent.0 t' (to, frame) k tries fault tried few sent.1 sent.2.0 sent.2.2,
+)
+
+-- no try found a reply
+pub gave_up_call : (c c1 c' : ClientState) (t t' : Trace) (to : Peer) (body : Body) (tries k : ℕ) (frame : Frame) (q : Request)
+    → None ≡ submit_fault c → q ≡ next_request c body → Asks (frame_bytes frame) q → c1 ≡ after_submit c body → Tried t t' (to, frame) k → k ≡ tries
+    → IsUnanswered t t' (Some (next_request c body)) → c' ≡ settled c1 → Calls c c' t t' to body tries (Err (GaveUp q))
+gave_up_call c c1 c' t t' to body tries k frame q free own asks client tried all unanswered given_up =
+    let P : ℕ → Type 0 = λ n. Tried t t' (to, frame) n in (
+      record { submitted = sym free; client = given_up ∙ ap settled client },
+      own,
+      last_is unanswered,
+      frame,
+      asks,
+      subst P all tried,
+    )
+  where
+    last_is : IsUnanswered t t' (Some (next_request c body)) → t.received < t'.received → IsNoReply t' q
+    last_is (inl none) more = absurd (omega (arith, none.0))
+    last_is (inr some) more = some.1 q (ap (λ (x : Request). Some x) (sym own))

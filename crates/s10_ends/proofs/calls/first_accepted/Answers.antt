@@ -1,0 +1,54 @@
+use Rattle.std.proofs.Common.{◌≡◌, Some, refl, ap, ◌∙◌, inl, arith}
+use Rattle.std.specs.Prelude.{IsSome}
+use Rattle.s10_wire.specs.declared.trace.Trace.{Trace}
+use Rattle.s10_wire.specs.declared.request.Request.{Request}
+use Rattle.s10_wire.specs.declared.outcome.Outcome.{Outcome}
+use Rattle.s10_wire.specs.Datagrams.{Replies}
+use Rattle.s10_wire.specs.Packet.{packet_bytes}
+use Rattle.s10_ends.proofs.Turns.{same_error, taken_is}
+use Rattle.s10_ends.proofs.Listening.{hearing_none, hearing_call, hearing_datagram, heard, heard_refused, unanswered_call, unanswered_datagram, unaccepted, quiet_is, accepted_reply, receive_not_bind}
+use Rattle.s10_ends.proofs.calls.first_accepted.Goals as goal
+
+pub loop-read-init : goal.loop-read-init
+loop-read-init g c = record {
+  hearing = hearing_none (g.L.Link.trace_of c.args.link.now);
+  client = refl;
+  unanswered = inl (refl, refl);
+}
+
+pub returns-in_err-packet : goal.returns-in_err-packet
+returns-in_err-packet g c =
+    rw (same_error c.from_residual.result c.in_err-packet.field-0.0 c.from_residual.ensures.1)
+    (heard_refused (g.L.Link.trace_of c.args.link.now) (g.L.Link.trace_of c.loop-read.link) (g.L.Link.trace_of c.receive.new.self) c.loop-read._read c.in_err-packet.field-0.0 c.loop-read.invariant.hearing (omega arith) c.in_err-packet.ensures, c.loop-read.invariant.client, receive_not_bind (g.L.Link.trace_of c.loop-read.link) (g.L.Link.trace_of c.receive.new.self) c.in_err-packet.field-0.0 c.in_err-packet.ensures)
+
+pub returns-in_default : goal.returns-in_default
+returns-in_default g c =
+    let quiet = quiet_is (g.L.Link.trace_of c.loop-read.link) (g.L.Link.trace_of c.receive.new.self) c.in_ok-packet.field-0 c.in_ok-packet.ensures c.in_default.is in
+    let h = hearing_call (g.L.Link.trace_of c.args.link.now) (g.L.Link.trace_of c.loop-read.link) (g.L.Link.trace_of c.receive.new.self) c.loop-read._read c.loop-read.invariant.hearing quiet in
+    (heard (g.L.Link.trace_of c.args.link.now) (g.L.Link.trace_of c.receive.new.self) _ h (omega arith), omega (arith, h.calls), c.loop-read.invariant.client, unanswered_call (g.L.Link.trace_of c.args.link.now) (g.L.Link.trace_of c.loop-read.link) (g.L.Link.trace_of c.receive.new.self) _ c.loop-read.invariant.unanswered quiet)
+
+pub returns-in-Accepted : goal.returns-in-Accepted
+returns-in-Accepted g c =
+    let taken = taken_is (g.L.Link.trace_of c.loop-read.link) (g.L.Link.trace_of c.receive.new.self) c.in_ok-packet.field-0 (c.in-Some.field-0-0, c.in-Some.packet) c.in_ok-packet.ensures c.in-Some.is in
+    let h = hearing_datagram (g.L.Link.trace_of c.args.link.now) (g.L.Link.trace_of c.loop-read.link) (g.L.Link.trace_of c.receive.new.self) c.loop-read._read _ c.loop-read.invariant.hearing taken in
+    let own = accepted_reply c.args.client.now c.loop-read.client c.receive-in-loop-read.new.self c.bytes.result.now (g.L.Link.trace_of c.receive.new.self) c.in-Some.field-0-0 c.in-Some.packet c.in-Accepted.reply
+    c.loop-read.invariant.client c.bytes.ensures c.in-Accepted.ensures (ap (λ (x : Trace). x.taken) taken) in
+    (heard (g.L.Link.trace_of c.args.link.now) (g.L.Link.trace_of c.receive.new.self) _ h (omega arith), omega (arith, h.calls), own.0, own.1, own.2)
+
+pub loop-read-preserved : goal.loop-read-preserved
+loop-read-preserved g c =
+    let taken = taken_is (g.L.Link.trace_of c.loop-read.link) (g.L.Link.trace_of c.receive.new.self) c.in_ok-packet.field-0 (c.in-Some.field-0-0, c.in-Some.packet) c.in_ok-packet.ensures c.in-Some.is in
+    let pends : IsSome c.loop-read.client.pending = rw c.loop-read.invariant.client c.requires in
+    let kept = unaccepted c.loop-read.client c.receive-in-loop-read.new.self c.bytes.result.now c.receive-in-loop-read.result c.receive-in-loop-read.ensures c.in_default-receive.not-Accepted pends in
+    let other : (q : Request) → c.args.client.now.pending ≡ Some q → (o : Outcome) → ¬ (Replies (packet_bytes c.in-Some.packet) q o) =
+    rw (← c.bytes.ensures, ← c.loop-read.invariant.client) kept.1 in
+    record {
+      hearing = hearing_datagram (g.L.Link.trace_of c.args.link.now) (g.L.Link.trace_of c.loop-read.link) (g.L.Link.trace_of c.receive.new.self) c.loop-read._read _ c.loop-read.invariant.hearing taken;
+      client = kept.0 ∙ c.loop-read.invariant.client;
+      unanswered = unanswered_datagram (g.L.Link.trace_of c.args.link.now) (g.L.Link.trace_of c.loop-read.link) (g.L.Link.trace_of c.receive.new.self) c.args.client.now.pending c.in-Some.field-0-0 c.in-Some.packet c.loop-read.invariant.unanswered taken other;
+    }
+
+pub returns : goal.returns
+returns g c =
+    let h = c.loop-read.invariant.hearing in
+    (heard (g.L.Link.trace_of c.args.link.now) (g.L.Link.trace_of c.loop-read.link) _ h (omega arith), omega (arith, h.calls), c.loop-read.invariant.client, c.loop-read.invariant.unanswered)

@@ -1,0 +1,59 @@
+use Rattle.std.proofs.Common.{◌≡◌, ◌<◌, ◌∷◌, ◌++◌, [], ℕ, ◌+◌, List, sym, ap, ◌∙◌, refl, subst, arith, length, take}
+use Rattle.std.proofs.lemmas.List.{take_more}
+use Rattle.s10_ends.specs.declared.delivery.Delivery.{Delivery}
+use Rattle.s10_ends.specs.declared.answer.Answer.{Answer}
+use Rattle.s10_ends.specs.Served.{Served}
+use Rattle.s10_ends.specs.Runs.{CountsAll}
+use Rattle.s10_ends.proofs.Whole.{Served-nil}
+use Rattle.s10_ends.proofs.Runs.{CountsAll-nil, CountsAll-push, Served-map_push, IsKept-legal}
+use Rattle.s10_ends.proofs.Drawn.{Served-issued}
+use Rattle.s10_ends.proofs.server.Server.run.Goals as goal
+
+pub returns-in_err-answers-clause-kept : goal.returns-in_err-answers-clause-kept
+returns-in_err-answers-clause-kept g c = λ h.
+    let book = c.args.self.now.book in
+    IsKept-legal (g.B.Book.history book) (g.B.Book.terms book) (g.met.B.Book.legal book h)
+
+pub loop-delivery-init : goal.loop-delivery-init
+loop-delivery-init g c =
+    let book = c.args.self.now.book in
+    let P : List Answer → Type 0 = λ l. CountsAll l (g.B.Book.faults book) (g.B.Book.faults book) in
+    let Q : List Answer → Type 0 = λ l. Served (g.B.Book.history book) (g.B.Book.terms book) [] l (g.B.Book.history book) in
+    record {
+      room = omega (arith, c.in_ok-answers.ensures.capacity);
+      many = c.in_ok-answers.ensures.len;
+      faults = subst P (sym c.in_ok-answers.ensures.items) (CountsAll-nil (g.B.Book.faults book));
+      was_honest = λ h. h;
+      same_terms = λ h. refl;
+      served = λ h. subst Q (sym c.in_ok-answers.ensures.items) (Served-nil (g.B.Book.history book) (g.B.Book.terms book));
+    }
+
+pub loop-delivery-preserved : goal.loop-delivery-preserved
+loop-delivery-preserved g c =
+    let before = c.loop-delivery.invariant in
+    record {
+      room = omega (arith, before.room, c.push_reserved.ensures.capacity);
+      many = omega (arith, before.many, c.push_reserved.ensures.len);
+      faults = rw c.push_reserved.ensures.items (CountsAll-push _ _ _ _ _ before.faults c.handle-answer.ensures.faults);
+      was_honest = λ h. before.was_honest (c.handle-answer.ensures.was_honest h);
+      same_terms = λ h. c.handle-answer.ensures.same_terms h ∙ before.same_terms (c.handle-answer.ensures.was_honest h);
+      served = λ h.
+          let h0 = c.handle-answer.ensures.was_honest h in
+          let one = c.handle-answer.ensures.served h in
+          let lt : c.loop-delivery.delivery-index < length c.args.deliveries.now = omega (arith, c.loop-delivery-test.true) in
+          let all : take (c.loop-delivery.delivery-index + 1) c.args.deliveries.now ≡ take c.loop-delivery.delivery-index c.args.deliveries.now ++ c.delivery-item.result ∷ [] =
+          take_more c.args.deliveries.now c.loop-delivery.delivery-index c.delivery-item.result lt ∙ ap (λ (d : Delivery). take c.loop-delivery.delivery-index c.args.deliveries.now ++ d ∷ []) (sym c.delivery-item.is) in
+          let P : List ℕ → Type 0 = λ b. Served (g.B.Book.history c.loop-delivery.self.book) (g.B.Book.terms c.loop-delivery.self.book) ((b, c.delivery-item.result.day) ∷ []) (c.handle-answer.result ∷ []) (g.B.Book.history c.handle-answer.new.self.book) in
+          rw (all, c.push_reserved.ensures.items)
+          (Served-map_push (g.B.Book.history c.args.self.now.book) (g.B.Book.history c.loop-delivery.self.book) (g.B.Book.history c.handle-answer.new.self.book) (g.B.Book.terms c.args.self.now.book) (g.B.Book.terms c.loop-delivery.self.book)
+          (take c.loop-delivery.delivery-index c.args.deliveries.now) c.loop-delivery.answers.items c.delivery-item.result c.handle-answer.result
+          (before.served h0) (before.same_terms h0) (subst P c.bytes.ensures one));
+    }
+
+pub returns-clause-kept : goal.returns-clause-kept
+returns-clause-kept g c = λ h.
+    let book = c.loop-delivery.self.book in
+    IsKept-legal (g.B.Book.history book) (g.B.Book.terms book) (g.met.B.Book.legal book h)
+
+pub returns-clause-issued : goal.returns-clause-issued
+returns-clause-issued g c = λ h. Served-issued _ _ _ _ _ (c.loop-delivery.invariant.served h)

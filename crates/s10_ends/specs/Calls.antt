@@ -1,0 +1,103 @@
+-- What a call of a client over a link does.
+use Rattle.std.specs.Prelude.{◌≡◌, ◌≢◌, ◌⊎◌, ℕ, ◌+◌, ◌*◌, ◌<◌, ◌≤◌, Option, Some, None, Result, Ok, Err}
+use Rattle.s10_wire.specs.declared.body.Body.{Body}
+use Rattle.s10_wire.specs.declared.request.Request.{Request}
+use Rattle.s10_wire.specs.declared.outcome.Outcome.{Outcome}
+use Rattle.s10_wire.specs.declared.reply.Reply.{Reply}
+use Rattle.s10_wire.specs.declared.trace.Trace.{Trace}
+use Rattle.s10_wire.specs.declared.peer.Peer.{Peer}
+use Rattle.s10_wire.specs.declared.packet.Packet.{Packet}
+use Rattle.s10_wire.specs.declared.frame.Frame.{Frame}
+use Rattle.s10_wire.specs.declared.link_fault.LinkFault.{LinkFault}
+use Rattle.s10_wire.specs.declared.link_fault.LinkFault.TheVariants.{Bind, Receive, Send, Spent}
+use Rattle.s10_wire.specs.Datagrams.{Asks, Replies}
+use Rattle.s10_wire.specs.Frame.{frame_bytes}
+use Rattle.s10_wire.specs.Packet.{packet_bytes}
+use Rattle.s10_wire.specs.Reply.{request_of, outcome_of}
+use Rattle.s10_wire.specs.Trace.{Gives}
+use Rattle.s10_wire.specs.Link.{Sends}
+use Rattle.s10_ends.specs.declared.call_fault.CallFault.{CallFault}
+use Rattle.s10_ends.specs.declared.call_fault.CallFault.TheVariants.{Submit, GaveUp, Link}
+use Rattle.s10_ends.specs.Client.{ClientState, next_request, after_submit, submit_fault, settled}
+
+-- the datagram taken last is the reply
+abbrev pub IsTakenReply : Trace → Reply → Type 0
+IsTakenReply t reply =
+    (from : Peer) × (packet : Packet) × (t.taken ≡ Some (from, packet)) × Replies (packet_bytes packet) (request_of reply) (outcome_of reply)
+
+-- the datagram taken last is no reply to the request
+abbrev pub IsNoReply : Trace → Request → Type 0
+IsNoReply t q = (from : Peer) × (packet : Packet) × (t.taken ≡ Some (from, packet)) × ((o : Outcome) → ¬ (Replies (packet_bytes packet) q o))
+
+-- how many failures a fault of a link counts
+abbrev pub failures_of : LinkFault → ℕ
+failures_of Receive = 1
+failures_of Send = 1
+failures_of Spent = 0
+failures_of Bind = 0
+
+-- n frames were sent, each of them this one to this peer
+pub record SentOnly (old new : Trace) (p : Peer × Frame) (n : ℕ) : Type 0 where
+  pub sends : new.sends ≡ old.sends + n
+  pub given : 0 < n → new.given ≡ Some p
+  pub alike : 0 < n → n ≤ new.alike
+
+-- n tries were made, each a send and one to eight receives, of which none failed
+pub record Tried (old new : Trace) (p : Peer × Frame) (n : ℕ) : Type 0 where
+  pub sent : SentOnly old new p n
+  pub least : old.calls + 2 * n ≤ new.calls
+  pub most : new.calls ≤ old.calls + 9 * n
+  pub failures : new.failures ≡ old.failures
+
+-- a call of the link was refused with the fault, in one of so many tries
+pub record Stopped (old new : Trace) (p : Peer × Frame) (tries : ℕ) (fault : LinkFault) : Type 0 where
+  pub sent : (n : ℕ) × (n ≤ tries) × SentOnly old new p n
+  pub most : new.calls ≤ old.calls + 9 * tries
+  pub failures : new.failures ≡ old.failures + failures_of fault
+  pub not_bind : fault ≢ Bind
+
+-- the request was submitted and is not pending any more; its number stays spent
+pub record IsOver (c c' : ClientState) (body : Body) : Type 0 where
+  pub submitted : submit_fault c ≡ None
+  pub client : c' ≡ settled (after_submit c body)
+
+-- what a call does to the client and to the link's trace, by its result
+abbrev pub Calls : ClientState → ClientState → Trace → Trace → Peer → Body → ℕ → Result Reply CallFault → Type 0
+Calls c c' t t' to body tries (Ok reply) =
+    IsOver c c' body × (request_of reply ≡ next_request c body) × IsTakenReply t' reply
+    × (frame : Frame) × Asks (frame_bytes frame) (next_request c body)
+    × (n : ℕ) × (1 ≤ n) × (n ≤ tries) × Tried t t' (to, frame) n
+Calls c c' t t' to body tries (Err (Submit fault)) = (submit_fault c ≡ Some fault) × (c' ≡ c) × (t' ≡ t)
+Calls c c' t t' to body tries (Err (GaveUp q)) =
+    IsOver c c' body × (q ≡ next_request c body) × (t.received < t'.received → IsNoReply t' q)
+    × (frame : Frame) × Asks (frame_bytes frame) q × Tried t t' (to, frame) tries
+Calls c c' t t' to body tries (Err (Link q fault)) =
+    IsOver c c' body × (q ≡ next_request c body)
+    × (frame : Frame) × Asks (frame_bytes frame) q × Stopped t t' (to, frame) tries fault
+
+-- receives of one try: at most eight, with so many failures
+pub record Heard (old new : Trace) (failed : ℕ) : Type 0 where
+  pub most : new.calls ≤ old.calls + 8
+  pub failures : new.failures ≡ old.failures + failed
+  pub sends : new.sends ≡ old.sends
+  pub given : new.given ≡ old.given
+  pub alike : new.alike ≡ old.alike
+
+-- either no datagram was taken, or the last one is no reply to what is pending
+abbrev pub IsUnanswered : Trace → Trace → Option Request → Type 0
+IsUnanswered old new pending =
+    ((new.received ≡ old.received) × (new.taken ≡ old.taken))
+    ⊎ ((old.received < new.received) × ((q : Request) → pending ≡ Some q → IsNoReply new q))
+
+-- what the receives of one try do
+abbrev pub Listens : ClientState → ClientState → Trace → Trace → Result (Option Reply) LinkFault → Type 0
+Listens c c' t t' (Ok (Some reply)) =
+    Heard t t' 0 × (t.calls < t'.calls) × (c.pending ≡ Some (request_of reply)) × (c' ≡ settled c) × IsTakenReply t' reply
+Listens c c' t t' (Ok None) = Heard t t' 0 × (t.calls < t'.calls) × (c' ≡ c) × IsUnanswered t t' c.pending
+Listens c c' t t' (Err fault) = Heard t t' (failures_of fault) × (c' ≡ c) × (fault ≢ Bind)
+
+-- what one try does: the frame is sent, and then its reply is listened for
+abbrev pub Attempts : ClientState → ClientState → Trace → Trace → Peer × Frame → Result (Option Reply) LinkFault → Type 0
+Attempts c c' t t' p (Ok found) = (sent : Trace) × Gives t sent p × Listens c c' sent t' (Ok found)
+Attempts c c' t t' p (Err fault) =
+    (Sends t t' p (Err fault) × (c' ≡ c)) ⊎ ((sent : Trace) × Gives t sent p × Listens c c' sent t' (Err fault))

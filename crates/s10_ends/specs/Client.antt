@@ -1,0 +1,83 @@
+-- What a client knows, and what each of its calls makes of it.
+use Rattle.std.specs.Prelude.{◌≡◌, ◌≢◌, ℕ, ◌+◌, ◌≤◌, nat_lt, ⊤, if◌then◌else◌, is_some, IfSome, List, Option, Some, None}
+use Rattle.s10_wire.specs.declared.body.Body.{Body}
+use Rattle.s10_wire.specs.declared.request.Request.{Request}
+use Rattle.s10_wire.specs.declared.outcome.Outcome.{Outcome}
+use Rattle.s10_wire.specs.declared.frame.Frame.{Frame}
+use Rattle.s10_wire.specs.Frame.{frame_bytes}
+use Rattle.s10_wire.specs.Datagrams.{Asks, Replies}
+use Rattle.s10_wire.specs.WireFault.{IsFirstRefusalOfReply}
+use Rattle.s10_wire.specs.Reply.{request_of, outcome_of}
+use Rattle.s10_ends.specs.declared.submit_fault.SubmitFault.{SubmitFault}
+use Rattle.s10_ends.specs.declared.submit_fault.SubmitFault.TheVariants.{Busy, NumbersSpent}
+use Rattle.s10_ends.specs.declared.received.Received.{Received}
+use Rattle.s10_ends.specs.declared.received.Received.TheVariants.{Malformed, Idle, NotMine, Accepted}
+
+-- a client: its customer, its first and last number, how many numbers it took, and the request
+-- that waits for a reply
+pub record ClientState : Type 0 where
+  pub customer : ℕ
+  pub first : ℕ
+  pub last : ℕ
+  pub taken : ℕ
+  pub pending : Option Request
+
+-- a client as it is made
+abbrev pub new_client : ℕ → ℕ → ℕ → ClientState
+new_client customer first lst = record { customer = customer; first = first; last = lst; taken = 0; pending = None }
+
+-- no number was taken, so nothing is pending
+abbrev pub IsNew : ClientState → Type 0
+IsNew c = (c.taken ≡ 0) × (c.pending ≡ None)
+
+-- the number that is taken next
+abbrev pub next_number : ClientState → ℕ
+next_number c = c.first + c.taken
+
+-- the request that a submit of the body makes
+abbrev pub next_request : ClientState → Body → Request
+next_request c body = record { customer = c.customer; number = next_number c; body = body }
+
+-- the request is pending, and its number is taken
+abbrev pub after_submit : ClientState → Body → ClientState
+after_submit c body = record { customer = c.customer; first = c.first; last = c.last; taken = c.taken + 1; pending = Some (next_request c body) }
+
+-- why a submit is refused: something is pending, or else no number is left
+abbrev pub submit_fault : ClientState → Option SubmitFault
+submit_fault c = if is_some c.pending then Some Busy else if nat_lt c.last (next_number c) then Some NumbersSpent else None
+
+-- nothing is pending any more; the numbers stay taken
+abbrev pub settled : ClientState → ClientState
+settled c = record { customer = c.customer; first = c.first; last = c.last; taken = c.taken; pending = None }
+
+-- what is pending is the customer's, with the number taken last
+abbrev pub IsLatest : ClientState → Request → Type 0
+IsLatest c q = (q.customer ≡ c.customer) × (c.first ≤ q.number) × (q.number + 1 ≡ next_number c)
+
+-- the numbers are taken in turn, from the first to the last
+pub record IsClient (c : ClientState) : Type 0 where
+  pub ordered : c.first ≤ c.last
+  pub within : next_number c ≤ c.last + 1
+  pub latest : IfSome c.pending (IsLatest c)
+
+-- a frame that asks what is pending, and none where nothing is
+abbrev pub Resends : Option Request → Option Frame → Type 0
+Resends None None = ⊤
+Resends None (Some frame) = ⊥
+Resends (Some q) None = ⊥
+Resends (Some q) (Some frame) = Asks (frame_bytes frame) q
+
+-- the bytes are a reply to exactly what is pending
+abbrev pub IsOwnReply : ClientState → List ℕ → Request → Outcome → Type 0
+IsOwnReply c b q o = (c.pending ≡ Some q) × Replies b q o
+
+-- the bytes are a reply to something
+abbrev pub IsReply : List ℕ → Type 0
+IsReply b = (q : Request) × (o : Outcome) × Replies b q o
+
+-- what becomes of bytes that came, and of the client
+abbrev pub Receives : ClientState → List ℕ → Received → ClientState → Type 0
+Receives c b (Malformed fault) c' = ¬ (IsReply b) × IsFirstRefusalOfReply b fault × (c' ≡ c)
+Receives c b Idle c' = IsReply b × (c.pending ≡ None) × (c' ≡ c)
+Receives c b NotMine c' = (q p : Request) × (o : Outcome) × Replies b q o × (c.pending ≡ Some p) × (p ≢ q) × (c' ≡ c)
+Receives c b (Accepted reply) c' = IsOwnReply c b (request_of reply) (outcome_of reply) × (c' ≡ settled c)

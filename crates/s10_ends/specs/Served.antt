@@ -1,0 +1,89 @@
+-- What a server makes of deliveries: bytes, each with the day on which they came.
+use Rattle.std.specs.Prelude.{◌≡◌, ◌≢◌, ℕ, ⊤, Bool, true, false, not, List, [], ◌∷◌, length, take, map, filter, Option, Some, None, slice_get}
+use Rattle.std.specs.List.{AllZip, zip}
+use Rattle.s10_wire.specs.declared.request.Request.{Request}
+use Rattle.s10_wire.specs.declared.outcome.Outcome.{Outcome}
+use Rattle.s10_wire.specs.declared.outcome.Outcome.TheVariants.{NumberReused}
+use Rattle.s10_wire.specs.Datagrams.{Asks, Replies}
+use Rattle.s10_wire.specs.Frame.{frame_bytes}
+use Rattle.s10_wire.specs.WireFault.{IsFirstRefusalOfRequest}
+use Rattle.s10_book.specs.declared.entry.Entry.{Entry}
+use Rattle.s10_book.specs.declared.book_fault.BookFault.{BookFault}
+use Rattle.s10_book.specs.declared.book_fault.BookFault.TheVariants.{Memory, Store, Full}
+use Rattle.s10_book.specs.Settings.{Terms}
+use Rattle.s10_book.specs.History.{entry_with_key}
+use Rattle.s10_book.specs.Once.{applied_once}
+use Rattle.s10_book.specs.BookFault.{Rises}
+use Rattle.s10_ends.specs.declared.answer.Answer.{Answer}
+use Rattle.s10_ends.specs.declared.answer.Answer.TheVariants.{Reply, Dropped, Faulted}
+
+-- bytes, and the day on which they came
+abbrev pub Dated : Type 0
+Dated = List ℕ × ℕ
+
+abbrev pub AskNothing : List ℕ → Type 0
+AskNothing b = (q : Request) → ¬ (Asks b q)
+
+abbrev pub AskSomething : List ℕ → Type 0
+AskSomething b = (q : Request) × Asks b q
+
+-- what the deliveries ask, in their order, each request with its day; bytes that ask nothing are passed over
+pub data AreAsked : List Dated → List (Request × ℕ) → Type 0 where
+  none : AreAsked [] []
+  nothing : {d : Dated} {ds : List Dated} {asked : List (Request × ℕ)} → AskNothing d.0 → AreAsked ds asked → AreAsked (d ∷ ds) asked
+  request : {d : Dated} {q : Request} {ds : List Dated} {asked : List (Request × ℕ)} → Asks d.0 q → AreAsked ds asked → AreAsked (d ∷ ds) ((q, d.1) ∷ asked)
+
+-- h' is the history h after each distinct request of the deliveries once, in order of first arrival
+abbrev pub IsOnce : List Entry → List Dated → ℕ → List Entry → Type 0
+IsOnce h ds interval h' = (asked : List (Request × ℕ)) × AreAsked ds asked × (h' ≡ applied_once h asked interval)
+
+-- the outcome that the call kept under its key gives the request: its own, or NumberReused where that was another request
+abbrev pub Gives : Option Entry → Request → Outcome → Type 0
+Gives None q o = ⊥
+Gives (Some e) q o = (e.request ≡ q → o ≡ e.outcome) × (e.request ≢ q → o ≡ NumberReused)
+
+-- the bytes f are the reply that the history owes to the bytes b
+abbrev pub IsOwed : List Entry → List ℕ → List ℕ → Type 0
+IsOwed h b f = (q : Request) × (o : Outcome) × Asks b q × Gives (entry_with_key h q.customer q.number) q o × Replies f q o
+
+-- the answer to bytes, by the history in the end: bytes that ask nothing are dropped with their first refusal,
+-- and bytes that ask something get the reply that is owed, unless the book failed or was full
+abbrev pub IsAnswered : List Entry → List ℕ → Answer → Type 0
+IsAnswered h b (Reply frame) = IsOwed h b (frame_bytes frame)
+IsAnswered h b (Dropped fault) = AskNothing b × IsFirstRefusalOfRequest b fault
+IsAnswered h b (Faulted fault) = AskSomething b
+
+-- there are as many calls as the limit allows, and none with the key of what the bytes ask
+abbrev pub IsFullFor : List Entry → Terms → Request → Type 0
+IsFullFor h t q = (length h ≡ t.limit) × (entry_with_key h q.customer q.number ≡ None)
+
+abbrev pub is_faulted : Answer → Bool
+is_faulted (Faulted fault) = true
+is_faulted answer = false
+
+-- the deliveries whose answer is not Faulted
+abbrev pub not_faulted : List Dated → List Answer → List Dated
+not_faulted ds answers = map (λ p. p.0) (filter (λ p. not (is_faulted p.1)) (zip ds answers))
+
+-- the answers to deliveries, from the history h to the history h'
+pub record Served (h : List Entry) (t : Terms) (ds : List Dated) (answers : List Answer) (h' : List Entry) : Type 0 where
+  pub once_each : IsOnce h (not_faulted ds answers) t.interval h'
+  pub answered : AllZip (λ d a. IsAnswered h' d.0 a) ds answers
+  pub full : (k : ℕ) (d : Dated) → slice_get ds k ≡ Some d → slice_get answers k ≡ Some (Faulted Full)
+      → (before : List Entry) × (q : Request) × IsOnce h (not_faulted (take k ds) (take k answers)) t.interval before × Asks d.0 q × IsFullFor before t q
+
+-- a fact about an answer that is no reply
+abbrev pub UnlessReply : Answer → Type 0 → Type 0
+UnlessReply (Reply frame) P = ⊤
+UnlessReply answer P = P
+
+-- what an answer does to the book's count of faults; Full is no fault of the book
+abbrev pub CountsFault : BookFault → ℕ → ℕ → Type 0
+CountsFault Memory before after = Rises before after
+CountsFault Store before after = Rises before after
+CountsFault Full before after = after ≡ before
+
+abbrev pub CountsAnswer : Answer → ℕ → ℕ → Type 0
+CountsAnswer (Reply frame) before after = after ≡ before
+CountsAnswer (Dropped fault) before after = after ≡ before
+CountsAnswer (Faulted fault) before after = CountsFault fault before after

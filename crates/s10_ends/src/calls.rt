@@ -1,0 +1,74 @@
+//! A call of a client over a link.
+
+ghost use Rattle.std.specs.Prelude.{◌≡◌, ◌≤◌, IsSome};
+ghost use Rattle.s10_ends.specs.Calls.{Calls, Attempts, Listens};
+
+use crate::call_fault::CallFault;
+use crate::client::Client;
+use crate::received::Received;
+use s10_wire::{Body, Frame, Link, LinkFault, Peer, Reply, encode_request};
+
+/// Asks the server at `to`, in 1 to 100 tries. Each try sends the request, and receives until its
+/// reply is accepted, eight datagrams came, or nothing came (at-most-once calls: Birrell and
+/// Nelson 1984). Who sent a datagram is not looked at.
+pub fn call<L: Link>(
+    client: &mut Client,
+    link: &mut L,
+    to: Peer,
+    body: Body,
+    tries: u32,
+) -> Result<Reply, CallFault>
+    requires { (1 ≤ tries) × (tries ≤ 100) }
+    ensures { Calls client.old client.new (L.trace_of link.old) (L.trace_of link.new) to body tries result }
+{
+    let request = match client.submit(body) {
+        Ok(request) => request,
+        Err(fault) => return Err(CallFault::Submit(fault)),
+    };
+    let frame = encode_request(&request);
+    for _done in 0..tries {
+        match attempt(client, link, to, &frame) {
+            Ok(Some(reply)) => return Ok(reply),
+            Ok(None) => {}
+            Err(fault) => {
+                let _ = client.give_up();
+                return Err(CallFault::Link(request, fault));
+            }
+        }
+    }
+    let _ = client.give_up();
+    Err(CallFault::GaveUp(request))
+}
+
+// One try: a send, and the reply where one is accepted.
+fn attempt<L: Link>(
+    client: &mut Client,
+    link: &mut L,
+    to: Peer,
+    frame: &Frame,
+) -> Result<Option<Reply>, LinkFault>
+    requires { IsSome client.old.pending }
+    ensures { Attempts client.old client.new (L.trace_of link.old) (L.trace_of link.new) (to, frame.now) result }
+{
+    link.send(to, frame)?;
+    first_accepted(client, link)
+}
+
+// The first reply that is accepted, of at most eight datagrams.
+fn first_accepted<L: Link>(client: &mut Client, link: &mut L) -> Result<Option<Reply>, LinkFault>
+    requires { IsSome client.old.pending }
+    ensures { Listens client.old client.new (L.trace_of link.old) (L.trace_of link.new) result }
+{
+    for _read in 0..8u32 {
+        let Some((_, packet)) = link.receive()? else {
+            return Ok(None);
+        };
+        if let Received::Accepted(reply) = client.receive(packet.bytes()) {
+            return Ok(Some(reply));
+        }
+    }
+    Ok(None)
+}
+
+#[cfg(test)]
+mod tests;

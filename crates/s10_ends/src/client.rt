@@ -1,0 +1,138 @@
+//! A client's core.
+
+ghost use Rattle.std.specs.Prelude.{◌≡◌, ◌≤◌, ◌↔◌, IsTrue, IfOk, IfSome, OnErr};
+ghost use Rattle.std.specs.Result.{OkIff, result_err};
+ghost use Rattle.s10_ends.specs.Client.{ClientState, IsNew, IsClient, IsLatest, new_client, next_request, after_submit, submit_fault, settled, Resends, Receives};
+
+use crate::bad_numbers::BadNumbers;
+use crate::received::Received;
+use crate::submit_fault::SubmitFault;
+use s10_wire::{Body, Frame, Request, decode_reply, encode_request, same_request};
+use std::marker::Model;
+
+/// A caller of one customer, which numbers its requests in turn and waits for one reply at a
+/// time (at-most-once calls: Birrell and Nelson 1984). A number is never used again, whether or
+/// not its reply came. No call takes memory.
+#[derive(Debug, Drop)]
+pub struct Client {
+    customer: u32,
+    first: u32,
+    last: u32,
+    // up to 2^32
+    taken: u64,
+    pending: Option<Request>,
+}
+
+impl Model for Client {
+    ghost use Rattle.s10_ends.specs.Client.{ClientState, IsClient};
+
+    ghost Value = { ClientState };
+
+    ghost view = { λ c. record { customer = c.customer; first = c.first; last = c.last; taken = c.taken; pending = c.pending } };
+
+    ghost invariant = { λ c. IsClient (record { customer = c.customer; first = c.first; last = c.last; taken = c.taken; pending = c.pending }) };
+}
+
+impl Client {
+    /// A client with the numbers `first` to `last`.
+    pub fn new(customer: u32, first: u32, last: u32) -> Result<Client, BadNumbers>
+        ensures { OkIff result (first ≤ last) (new_client customer first last) }
+    {
+        if first > last {
+            return Err(BadNumbers);
+        }
+        Ok(Client {
+            customer,
+            first,
+            last,
+            taken: 0,
+            pending: None,
+        })
+    }
+
+    /// Whether no number was taken yet.
+    #[tactic(auto, using(crate::proofs::Pending::none_pending))]
+    pub fn is_new(&self) -> bool
+        ensures { IsTrue result ↔ IsNew self.now }
+    {
+        self.taken == 0
+    }
+
+    pub fn customer(&self) -> u32
+        ensures { result ≡ self.now.customer }
+    {
+        self.customer
+    }
+
+    /// The request that waits for its reply.
+    pub fn pending(&self) -> Option<Request>
+        ensures pending { result ≡ self.now.pending }
+        ensures latest { IfSome result (IsLatest self.now) }
+        ensures numbers { IsClient self.now }
+    {
+        self.pending
+    }
+
+    /// Takes the next number for a request, which is then pending.
+    pub fn submit(&mut self, body: Body) -> Result<Request, SubmitFault>
+        ensures refused { result_err result ≡ submit_fault self.old }
+        ensures ok { IfOk result (λ q. (q ≡ next_request self.old body) × (self.new ≡ after_submit self.old body)) }
+        ensures err { OnErr result (self.new ≡ self.old) }
+    {
+        if self.pending.is_some() {
+            return Err(SubmitFault::Busy);
+        }
+        let number = self.first as u64 + self.taken;
+        if number > self.last as u64 {
+            return Err(SubmitFault::NumbersSpent);
+        }
+        let request = Request {
+            customer: self.customer,
+            number: number as u32,
+            body,
+        };
+        self.taken += 1;
+        let submitted = request;
+        self.pending = Some(request);
+        Ok(submitted)
+    }
+
+    /// The datagram of the pending request, as often as it is wanted.
+    pub fn resend(&self) -> Option<Frame>
+        ensures { Resends self.now.pending result }
+    {
+        match &self.pending {
+            None => None,
+            Some(request) => Some(encode_request(request)),
+        }
+    }
+
+    /// Takes a datagram that came. Whoever sent it, it is accepted only as the reply to the
+    /// pending request, which is compared in every field.
+    pub fn receive(&mut self, datagram: &[u8]) -> Received
+        ensures { Receives self.old datagram.now result self.new }
+    {
+        let reply = match decode_reply(datagram) {
+            Ok(reply) => reply,
+            Err(fault) => return Received::Malformed(fault),
+        };
+        let request = match self.pending {
+            None => return Received::Idle,
+            Some(request) => request,
+        };
+        if !same_request(&request, &reply.request()) {
+            return Received::NotMine;
+        }
+        self.pending = None;
+        Received::Accepted(reply)
+    }
+
+    /// Waits no more for the pending request, which may have been executed or not. Its number
+    /// stays spent.
+    pub fn give_up(&mut self) -> Option<Request>
+        ensures pending { result ≡ self.old.pending }
+        ensures settled { self.new ≡ settled self.old }
+    {
+        self.pending.take()
+    }
+}

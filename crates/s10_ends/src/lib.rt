@@ -1,0 +1,35 @@
+//! Both ends: the server, the client, and the links between them.
+#![tactic(auto)]
+
+mod answer;
+mod bad_numbers;
+mod call_fault;
+mod calls;
+mod client;
+mod delivery;
+mod near_link;
+mod received;
+mod served;
+mod server;
+mod submit_fault;
+mod turn;
+mod udp_link;
+
+pub use answer::Answer;
+pub use bad_numbers::BadNumbers;
+pub use call_fault::CallFault;
+pub use calls::call;
+pub use client::Client;
+pub use delivery::Delivery;
+pub use near_link::NearLink;
+pub use received::Received;
+pub use served::Served;
+pub use server::Server;
+pub use submit_fault::SubmitFault;
+pub use turn::serve_one;
+pub use udp_link::UdpLink;
+
+#[cfg(test)]
+mod client_tests;
+#[cfg(test)]
+mod tests;

@@ -1,0 +1,55 @@
+//! A link to a server in the same process.
+
+ghost use Rattle.std.specs.Prelude.{◌≡◌, Result};
+
+use crate::server::Server;
+use crate::turn::serve_one;
+use s10_book::Book;
+use s10_wire::{Frame, Link, LinkFault, Packet, Peer, Trace};
+
+/// The near end of a network for a client in the server's own process: before each receive the
+/// server at the far end gets one turn on the day, whatever comes of it.
+#[derive(Drop)]
+pub struct NearLink<B, F, N> {
+    pub server: Server<B>,
+    pub far: F,
+    pub near: N,
+    pub day: u32,
+}
+
+impl<B: Book, F: Link, N: Link> Link for NearLink<B, F, N> {
+    ghost use Rattle.s10_wire.specs.Link.{Receives, Sends};
+    ghost use Rattle.s10_wire.specs.declared.link_fault.LinkFault.{LinkFault};
+    ghost use Rattle.s10_ends.specs.declared.served.Served.{Served};
+    ghost use Rattle.s10_ends.specs.Server.{book_of};
+    ghost use Rattle.s10_ends.specs.Turn.{Handles, ServesOne};
+
+    ghost trace_of = { λ link. N.trace_of link.near };
+
+    fn receive(&mut self) -> Result<Option<(Peer, Packet)>, LinkFault>
+        ensures trace { Receives (N.trace_of self.old.near) (N.trace_of self.new.near) result }
+
+        // The server has one turn on the far end.
+        ensures turn { (turn : Result Served LinkFault)
+            × ServesOne (F.trace_of self.old.far) (F.trace_of self.new.far) (book_of self.new.server ≡ book_of self.old.server)
+            (Handles B.faults B.honest B.terms B.history (book_of self.old.server) (book_of self.new.server) self.old.day) turn }
+        ensures day { self.new.day ≡ self.old.day }
+    {
+        let _ = serve_one(&mut self.server, &mut self.far, self.day);
+        self.near.receive()
+    }
+
+    fn send(&mut self, to: Peer, frame: &Frame) -> Result<(), LinkFault>
+        ensures trace { Sends (N.trace_of self.old.near) (N.trace_of self.new.near) (to, frame.now) result }
+        ensures same { self.new ≡ record self.old { near = self.new.near } }
+    {
+        self.near.send(to, frame)
+    }
+
+    fn trace(&self) -> Trace {
+        self.near.trace()
+    }
+}
+
+#[cfg(test)]
+mod tests;

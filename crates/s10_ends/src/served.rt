@@ -1,0 +1,15 @@
+use s10_book::BookFault;
+use s10_wire::{Frame, Peer, WireFault};
+
+/// What one turn of a server did, with the peer that the datagram came from.
+#[derive(Clone, Copy, Debug, PartialEq, Eq)]
+pub enum Served {
+    /// Nothing came.
+    Quiet,
+    /// The datagram asks nothing.
+    Dropped(Peer, WireFault),
+    /// The request was not answered, and may be handed in again.
+    Faulted(Peer, BookFault),
+    /// This frame was sent back to the peer.
+    Replied(Peer, Frame),
+}

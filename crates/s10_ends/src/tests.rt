@@ -1,0 +1,102 @@
+//! Scripts of deliveries, each with the answer that it gets. Datagrams are in hex, in groups for reading.
+
+mod days;
+mod failures;
+mod memory;
+mod ranges;
+mod refusals;
+mod repeats;
+
+use super::{Answer, Delivery, Server};
+use s10_book::{Book, BookFault, PlainBook, Settings};
+use s10_wire::{Packet, WireFault};
+use std::alloc::{AllocError, Global};
+use std::process::Abort;
+use std::test::Fail;
+
+/// The answer to a delivery.
+#[derive(Clone, Copy, Debug)]
+enum Want {
+    Reply(&'static str),
+    Dropped(WireFault),
+    Faulted(BookFault),
+}
+
+/// A day, a datagram and its answer.
+type Step = (u32, &'static str, Want);
+
+/// The post grants range 1 to customer 7: RA GB 0 to 2.
+const GRANT: Step = (
+    20000,
+    "53310101 00000000 00000001 00000007 52414742 00000000 00000002",
+    Want::Reply("53310181 00000000 00000001 00000007 52414742 00000000 00000002 00 00000001"),
+);
+
+/// Customer 7's first Draw, which is given serial 0.
+const DRAW: Step = (
+    20000,
+    "53310102 00000007 00000001 52414742",
+    Want::Reply("53310182 00000007 00000001 52414742 00 00004e20 52413030303030303030354742"),
+);
+
+/// The bytes of hex digits, whatever stands between them.
+fn bytes_of(alloc: Global, text: &str) -> Result<Vec<u8>, AllocError> {
+    let mut bytes = Vec::new(alloc);
+    let mut high = None;
+    for character in text.bytes() {
+        let digit = match character {
+            b'0'..=b'9' => character - b'0',
+            b'a'..=b'f' => character - b'a' + 10,
+            _ => continue,
+        };
+        match high {
+            None => high = Some(digit),
+            Some(first) => {
+                bytes.push(first.wrapping_mul(16) | digit)?;
+                high = None;
+            }
+        }
+    }
+    Ok(bytes)
+}
+
+/// Whether the answer is as wanted.
+fn is_as_wanted(alloc: Global, answer: &Answer, want: Want) -> Result<bool, AllocError> {
+    Ok(match (answer, want) {
+        (Answer::Reply(frame), Want::Reply(text)) => {
+            frame.bytes() == bytes_of(alloc, text)?.as_slice()
+        }
+        (Answer::Dropped(fault), Want::Dropped(wanted)) => *fault == wanted,
+        (Answer::Faulted(fault), Want::Faulted(wanted)) => *fault == wanted,
+        _ => false,
+    })
+}
+
+/// A server over an empty book.
+fn new_server(alloc: Global, limit: u32) -> Result<Server<PlainBook>, Fail> {
+    let settings = Settings::new(30, limit).ok_or("settings")?;
+    Ok(Server::new(PlainBook::new(alloc, settings)))
+}
+
+/// Hands all datagrams to the server at once, and compares each answer.
+fn play<B: Book>(
+    rt: &impl Abort,
+    alloc: Global,
+    server: &mut Server<B>,
+    steps: &[Step],
+) -> Result<(), Fail> {
+    let mut deliveries = Vec::new(alloc);
+    for (day, datagram, _) in steps {
+        let bytes = bytes_of(alloc, datagram)?;
+        deliveries.push(Delivery {
+            packet: Packet::new(&bytes),
+            day: *day,
+        })?;
+    }
+    let answers = server.run(alloc, &deliveries)?;
+    assert_eq!(rt; answers.len(), steps.len());
+    for (answer, (_, datagram, want)) in answers.iter().zip(steps) {
+        assert!(rt; is_as_wanted(alloc, answer, *want)?, "{datagram}");
+    }
+    Ok(())
+}

@@ -1,0 +1,43 @@
+//! One turn of a server on a link.
+
+ghost use Rattle.std.specs.Prelude.{◌≡◌};
+ghost use Rattle.s10_ends.specs.Server.{book_of};
+ghost use Rattle.s10_ends.specs.Turn.{Handles, SendsReply, ServesOne};
+
+use crate::answer::Answer;
+use crate::served::Served;
+use crate::server::Server;
+use s10_book::Book;
+use s10_wire::{Frame, Link, LinkFault, Peer};
+
+/// One receive and at most one send: what came is handled on this day, and a reply goes to the
+/// peer that it came from. Refused with Receive, which leaves the server as it was, with Send,
+/// after which the request is kept with its reply, or with Spent.
+pub fn serve_one<B: Book, L: Link>(
+    server: &mut Server<B>,
+    link: &mut L,
+    day: u32,
+) -> Result<Served, LinkFault>
+    ensures { ServesOne (L.trace_of link.old) (L.trace_of link.new) (book_of server.new ≡ book_of server.old)
+        (Handles B.faults B.honest B.terms B.history (book_of server.old) (book_of server.new) day) result }
+{
+    let Some((from, packet)) = link.receive()? else {
+        return Ok(Served::Quiet);
+    };
+    match server.handle(packet.bytes(), day) {
+        Answer::Reply(frame) => send_reply(link, from, frame),
+        Answer::Dropped(fault) => Ok(Served::Dropped(from, fault)),
+        Answer::Faulted(fault) => Ok(Served::Faulted(from, fault)),
+    }
+}
+
+// Sends a reply back to the peer.
+fn send_reply<L: Link>(link: &mut L, to: Peer, frame: Frame) -> Result<Served, LinkFault>
+    ensures { SendsReply (L.trace_of link.old) (L.trace_of link.new) (to, frame) result }
+{
+    link.send(to, &frame)?;
+    Ok(Served::Replied(to, frame))
+}
+
+#[cfg(test)]
+mod tests;

@@ -1,0 +1,160 @@
+//! A link over a UDP socket.
+
+ghost use Rattle.std.specs.Prelude.{◌≡◌};
+ghost use Rattle.std.specs.Net.Addr.{ipv4_octets};
+ghost use Rattle.std.specs.Net.Socket.{v4_ip, v4_port};
+
+use s10_wire::{Frame, Link, LinkFault, Packet, Peer, Trace};
+use std::io;
+use std::io::ErrorKind;
+use std::marker::Model;
+use std::net::{Ipv4Addr, Net, SocketAddr, SocketAddrV4, UdpSocket};
+use std::time::Duration;
+
+/// A link over an IPv4 UDP socket. A receive in which nothing came in time, or a datagram from
+/// another source than IPv4, is `None`.
+#[derive(Drop)]
+pub struct UdpLink {
+    socket: UdpSocket,
+    at: Peer,
+    trace: Trace,
+}
+
+impl Model for UdpLink {
+    ghost use Rattle.s10_wire.specs.Trace.{IsCounted};
+    ghost use Rattle.s10_ends.specs.UdpLink.{BoundLink};
+
+    ghost Value = { BoundLink };
+
+    ghost view = { λ link. record { at = link.at; trace = link.trace } };
+
+    ghost invariant = { λ link. IsCounted link.trace };
+}
+
+impl UdpLink {
+    ghost use Rattle.std.specs.Prelude.{◌≡◌, IfOk, IfErr};
+    ghost use Rattle.s10_wire.specs.Trace.{new_trace};
+
+    /// A socket at this address, where port 0 lets the system pick one. A receive waits so many
+    /// milliseconds at most; 0 is taken as 1. Refused with Bind alone.
+    pub fn bind<N: Net>(net: &N, at: Peer, wait_ms: u32) -> Result<UdpLink, LinkFault>
+        ensures ok { IfOk result (λ link. link.trace ≡ new_trace) }
+        ensures refused { IfErr result (λ fault. fault ≡ LinkFault.Bind) }
+    {
+        match bound_socket(net, at, wait_ms) {
+            Ok((socket, SocketAddr::V4(at))) => Ok(UdpLink {
+                socket,
+                at: peer_of(at),
+                trace: Trace::new(),
+            }),
+            _ => Err(LinkFault::Bind),
+        }
+    }
+
+    /// Where the socket is bound, with the port that the system picked.
+    pub fn local(&self) -> Peer
+        ensures { result ≡ self.now.at }
+    {
+        self.at
+    }
+
+    // The next datagram from an IPv4 source, if one came in time.
+    fn next_datagram(&self) -> io::Result<Option<(Peer, Packet)>> {
+        let mut room = [0u8; 512];
+        match self.socket.recv_from(&mut room) {
+            Ok((len, SocketAddr::V4(from))) => {
+                Ok(Some((peer_of(from), Packet::new(&room[..len]))))
+            }
+            Ok((_, SocketAddr::V6(_))) => Ok(None),
+            Err(error) => match error.kind() {
+                ErrorKind::WouldBlock | ErrorKind::TimedOut => Ok(None),
+                _ => Err(error),
+            },
+        }
+    }
+}
+
+impl Link for UdpLink {
+    ghost use Rattle.std.specs.Prelude.{◌≡◌, ◌-◌, ◌^◌, Err};
+    ghost use Rattle.s10_wire.specs.Link.{Receives, Sends};
+
+    ghost trace_of = { λ link. link.trace };
+
+    fn receive(&mut self) -> Result<Option<(Peer, Packet)>, LinkFault>
+        ensures trace { Receives self.old.trace self.new.trace result }
+        ensures same_address { self.new.at ≡ self.old.at }
+    {
+        if self.trace.calls == u64::MAX {
+            return Err(LinkFault::Spent);
+        }
+        match self.next_datagram() {
+            Ok(Some((from, packet))) => {
+                self.trace = self.trace.after_datagram(from, packet);
+                Ok(Some((from, packet)))
+            }
+            Ok(None) => {
+                self.trace = self.trace.after_call();
+                Ok(None)
+            }
+            Err(_) => {
+                self.trace = self.trace.after_failure();
+                Err(LinkFault::Receive)
+            }
+        }
+    }
+
+    fn send(&mut self, to: Peer, frame: &Frame) -> Result<(), LinkFault>
+        ensures trace { Sends self.old.trace self.new.trace (to, frame.now) result }
+        ensures spent { result ≡ Err LinkFault.Spent → self.old.trace.calls ≡ 2 ^ 64 - 1 }
+        ensures same_address { self.new.at ≡ self.old.at }
+    {
+        if self.trace.calls == u64::MAX {
+            return Err(LinkFault::Spent);
+        }
+        let bytes = frame.bytes();
+        match self.socket.send_to(bytes, SocketAddr::V4(address(to))) {
+            Ok(len) if len == bytes.len() => {
+                self.trace = self.trace.after_send(to, frame);
+                Ok(())
+            }
+            _ => {
+                self.trace = self.trace.after_failure();
+                Err(LinkFault::Send)
+            }
+        }
+    }
+
+    fn trace(&self) -> Trace {
+        self.trace
+    }
+}
+
+// A socket at the address that waits so long in a receive, and where it is bound.
+fn bound_socket<N: Net>(net: &N, at: Peer, wait_ms: u32) -> io::Result<(UdpSocket, SocketAddr)> {
+    let socket = UdpSocket::bind(net, SocketAddr::V4(address(at)))?;
+    let wait = Duration::from_millis(u64::from(wait_ms.max(1)));
+    socket.set_read_timeout(Some(wait))?;
+    let at = socket.local_addr()?;
+    Ok((socket, at))
+}
+
+fn address(peer: Peer) -> SocketAddrV4
+    ensures ip { ipv4_octets (v4_ip result) ≡ peer.ip }
+    ensures port { v4_port result ≡ peer.port }
+{
+    let [a, b, c, d] = peer.ip;
+    SocketAddrV4::new(Ipv4Addr::new(a, b, c, d), peer.port)
+}
+
+fn peer_of(at: SocketAddrV4) -> Peer
+    ensures ip { result.ip ≡ ipv4_octets (v4_ip at) }
+    ensures port { result.port ≡ v4_port at }
+{
+    Peer {
+        ip: at.ip().octets(),
+        port: at.port(),
+    }
+}
+
+#[cfg(test)]
+mod tests;
