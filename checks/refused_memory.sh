@@ -1,0 +1,34 @@
+#!/bin/sh
+# Refuses the first request for memory of a test, then the second, and so on, until the test beside it, which
+# asks for the same memory and wants all of it, meets no refusal. After each refusal the server's run, or the
+# world, has to be that of the other deliveries or events. Some minutes.
+# Run it as: sh checks/refused_memory.sh
+set -eu
+cd "$(dirname "$0")/../crates"
+written=$(mktemp)
+trap 'rm -f "$written"' EXIT
+
+# A crate, its test under a refusal, and its test that wants all memory.
+refuse_each() {
+    n=0
+    while :; do
+        n=$((n + 1))
+        (cd "$1" && rt try --test --fail-alloc "$n") > "$written" 2>&1 || true
+        if ! grep -q "test $2 \.\.\. ok" "$written"; then
+            cat "$written"
+            echo "$1: request $n for memory: FAILED"
+            exit 1
+        fi
+        if grep -q "test $3 \.\.\. ok" "$written"; then
+            echo "$1: ok: $((n - 1)) requests for memory, each refused in turn"
+            return
+        fi
+    done
+}
+
+refuse_each s10_ends \
+    tests::memory::a_refused_request_for_memory_leaves_a_run_of_the_other_deliveries \
+    tests::memory::a_run_with_ample_memory_faults_nothing
+refuse_each s10_world \
+    tests::a_refused_request_for_memory_leaves_a_run_of_the_other_events \
+    tests::each_call_is_executed_once_and_answered_to_its_own_client

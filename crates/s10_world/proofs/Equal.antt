@@ -1,0 +1,72 @@
+-- Two requests are the same or not.
+use Rattle.std.proofs.Common.{◌≡◌, ◌≢◌, ◌∙◌, ◌⊎◌, inl, inr, ℕ, List, [], ◌∷◌, refl, ap}
+use Rattle.std.proofs.lemmas.Bool.Decides.{eqb_tells}
+use Rattle.s10_core.specs.declared.id.Id.{Id}
+use Rattle.s10_wire.specs.declared.body.Body.{Body}
+use Rattle.s10_wire.specs.declared.body.Body.TheVariants.{Grant, Draw, Void, Query}
+use Rattle.s10_wire.specs.declared.request.Request.{Request}
+
+same_or_not : (xs ys : List ℕ) → (xs ≡ ys) ⊎ (xs ≢ ys)
+same_or_not [] [] = inl refl
+same_or_not [] (y ∷ ys) = inr (λ e. cc)
+same_or_not (x ∷ xs) [] = inr (λ e. cc)
+same_or_not (x ∷ xs) (y ∷ ys) = elim (eqb_tells x y) [
+  | inl first ↦ elim (same_or_not xs ys) [
+    | inl rest ↦ let head : x ≡ y = first.1 in inl (cc)
+    | inr rest ↦ inr (λ e. let tails : xs ≡ ys = cc in rest tails)
+  ]
+  | inr first ↦ inr (λ e. let heads : x ≡ y = cc in first.1 heads)
+]
+
+pair_one : (p q : ℕ × ℕ) → p.0 ≡ q.0 → p.1 ≡ q.1 → p ≡ q
+pair_one p q first second = ap (λ (x : ℕ). let r : ℕ × ℕ = (x, p.1) in r) first ∙ ap (λ (y : ℕ). let r : ℕ × ℕ = (q.0, y) in r) second
+
+-- the numbers of an identifier tell it from every other
+abbrev id_numbers : Id → List ℕ
+id_numbers x = x.service.0 ∷ x.service.1 ∷ x.serial ∷ x.country.0 ∷ x.country.1 ∷ []
+
+id_made : ℕ × ℕ → ℕ → ℕ × ℕ → Id
+id_made service serial country = record { service = service; serial = serial; country = country }
+
+id_one : (x y : Id) → id_numbers x ≡ id_numbers y → x ≡ y
+unfolding id_made
+id_one x y same =
+    let service : x.service ≡ y.service = pair_one x.service y.service (cc) (cc) in
+    let country : x.country ≡ y.country = pair_one x.country y.country (cc) (cc) in
+    let serial : x.serial ≡ y.serial = cc in
+    let made : id_made x.service x.serial x.country ≡ id_made y.service y.serial y.country = cc in
+    made
+
+abbrev body_numbers : Body → List ℕ
+body_numbers (Grant holder service country first lst) = 0 ∷ holder ∷ service.0 ∷ service.1 ∷ country.0 ∷ country.1 ∷ first ∷ lst ∷ []
+body_numbers (Draw service country) = 1 ∷ service.0 ∷ service.1 ∷ country.0 ∷ country.1 ∷ []
+body_numbers (Void x) = 2 ∷ id_numbers x
+body_numbers (Query x) = 3 ∷ id_numbers x
+
+body_one : (a b : Body) → body_numbers a ≡ body_numbers b → a ≡ b
+body_one (Grant h s c f l) (Grant h' s' c' f' l') same =
+    let service : s ≡ s' = pair_one s s' (cc) (cc) in
+    let country : c ≡ c' = pair_one c c' (cc) (cc) in
+    cc
+body_one (Draw s c) (Draw s' c') same =
+    let service : s ≡ s' = pair_one s s' (cc) (cc) in
+    let country : c ≡ c' = pair_one c c' (cc) (cc) in
+    cc
+body_one (Void x) (Void y) same = let id : x ≡ y = id_one x y (cc) in ap Void id
+body_one (Query x) (Query y) same = let id : x ≡ y = id_one x y (cc) in ap Query id
+body_one a b same = cc
+
+request_one : (p q : Request) → p.customer ≡ q.customer → p.number ≡ q.number → p.body ≡ q.body → p ≡ q
+request_one p q customer number body =
+    ap (λ (n : ℕ). let r : Request = record { customer = n; number = p.number; body = p.body } in r) customer
+    ∙ ap (λ (n : ℕ). let r : Request = record { customer = q.customer; number = n; body = p.body } in r) number
+    ∙ ap (λ (b : Body). let r : Request = record { customer = q.customer; number = q.number; body = b } in r) body
+
+abbrev request_numbers : Request → List ℕ
+request_numbers q = q.customer ∷ q.number ∷ body_numbers q.body
+
+pub same_request_or_not : (p q : Request) → (p ≡ q) ⊎ (p ≢ q)
+same_request_or_not p q = elim (same_or_not (request_numbers p) (request_numbers q)) [
+  | inl same ↦ inl (request_one p q (cc) (cc) (body_one p.body q.body (cc)))
+  | inr other ↦ inr (λ e. other (ap request_numbers e))
+]

@@ -1,0 +1,9 @@
+pub mod Places
+pub mod Once
+pub mod Sent
+pub mod Run
+pub mod Kept
+pub mod Equal
+pub mod Told
+pub mod Unshared
+pub mod Reached

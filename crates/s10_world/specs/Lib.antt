@@ -1,0 +1,4 @@
+pub mod World
+pub mod Parts
+pub mod Agreement
+pub mod Sound

@@ -1,0 +1,58 @@
+-- The parts of a world.
+use Rattle.std.specs.Prelude.{ℕ, List, map}
+use Rattle.s10_wire.specs.declared.request.Request.{Request}
+use Rattle.s10_wire.specs.declared.reply.Reply.{Reply}
+use Rattle.s10_wire.specs.declared.frame.Frame.{Frame}
+use Rattle.s10_wire.specs.Frame.{frame_bytes}
+use Rattle.s10_wire.specs.Reply.{request_of, outcome_of}
+use Rattle.s10_book.specs.declared.entry.Entry.{Entry}
+use Rattle.s10_ends.specs.declared.server.Server.{Server}
+use Rattle.s10_ends.specs.Server.{book_of}
+use Rattle.s10_ends.specs.Client.{ClientState}
+use Rattle.s10_world.specs.declared.network.Network.{Network}
+use Rattle.s10_world.specs.declared.world_fault.WorldFault.{WorldFault}
+use Rattle.s10_world.specs.declared.world_fault.WorldFault.TheVariants.{Memory}
+use Rattle.s10_world.specs.World.{Acceptance, WorldState}
+
+abbrev pub server_of : {B : Type 0} → Network B → Server B
+server_of w = w.server
+
+-- the book of its server
+abbrev pub book_in : {B : Type 0} → Network B → B
+book_in w = book_of (server_of w)
+
+abbrev pub clients_of : {B : Type 0} → Network B → List ClientState
+clients_of w = w.clients.items
+
+abbrev pub asked_of : {B : Type 0} → Network B → List Frame
+asked_of w = w.asked.items
+
+abbrev pub replied_of : {B : Type 0} → Network B → List Frame
+replied_of w = w.replied.items
+
+abbrev pub submitted_of : {B : Type 0} → Network B → List (ℕ × Request)
+submitted_of w = w.submitted.items
+
+abbrev pub accepted_of : {B : Type 0} → Network B → List (ℕ × Reply)
+accepted_of w = w.accepted.items
+
+-- a reply that the client at the place accepted
+abbrev pub acceptance : ℕ × Reply → Acceptance
+acceptance a = record { client = a.0; request = request_of a.1; outcome = outcome_of a.1 }
+
+-- the state of a world, by what its book's history and count of faults are
+abbrev pub state_of : {B : Type 0} → (B → List Entry) → (B → ℕ) → Network B → WorldState
+state_of history faults w =
+    record {
+      history = history (book_in w);
+      faults = faults (book_in w);
+      asked = map frame_bytes (asked_of w);
+      replied = map frame_bytes (replied_of w);
+      submitted = submitted_of w;
+      accepted = map acceptance (accepted_of w);
+      clients = clients_of w;
+    }
+
+-- the place of the event that was not done
+abbrev pub place_of : WorldFault → ℕ
+place_of (Memory place) = place

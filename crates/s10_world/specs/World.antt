@@ -1,0 +1,107 @@
+-- A server, its clients and everything that was sent between them, and the steps that they take.
+use Rattle.std.specs.Prelude.{◌≡◌, ℕ, ◌<◌, ◌⊎◌, is_some, if◌then◌else◌, IsSome, List, [], ◌∷◌, ◌++◌, length, Option, Some, None, slice_get, slice_set}
+use Rattle.s10_wire.specs.declared.body.Body.{Body}
+use Rattle.s10_wire.specs.declared.request.Request.{Request}
+use Rattle.s10_wire.specs.declared.outcome.Outcome.{Outcome}
+use Rattle.s10_wire.specs.Datagrams.{Asks}
+use Rattle.s10_wire.specs.Packet.{packet_bytes}
+use Rattle.s10_book.specs.declared.entry.Entry.{Entry}
+use Rattle.s10_book.specs.Settings.{Terms}
+use Rattle.s10_book.specs.History.{entry_with_key}
+use Rattle.s10_book.specs.Once.{applied_once}
+use Rattle.s10_book.specs.BookFault.{Rises}
+use Rattle.s10_ends.specs.Served.{AskNothing, IsOwed, IsFullFor}
+use Rattle.s10_ends.specs.Client.{ClientState, next_request, after_submit, submit_fault, settled, IsOwnReply}
+use Rattle.s10_world.specs.declared.event.Event.{Event}
+use Rattle.s10_world.specs.declared.event.Event.TheVariants.{Submit, Resend, GiveUp, ToServer, Strange, ToClient}
+
+-- an accepted reply: the place of its client, the request and the outcome
+pub record Acceptance : Type 0 where
+  pub client : ℕ
+  pub request : Request
+  pub outcome : Outcome
+
+-- the server's history and its book's count of faults, the bytes of every request and of every reply that was sent,
+-- the submitted requests, each with the place of its client, the accepted replies, and the clients
+pub record WorldState : Type 0 where
+  pub history : List Entry
+  pub faults : ℕ
+  pub asked : List (List ℕ)
+  pub replied : List (List ℕ)
+  pub submitted : List (ℕ × Request)
+  pub accepted : List Acceptance
+  pub clients : List ClientState
+
+-- Submit: where the client is there, nothing is pending and a number is left, the next number is taken, the request is
+-- pending and joins those submitted
+abbrev pub after_submit_by : WorldState → ℕ → Body → Option ClientState → WorldState
+after_submit_by w k body None = w
+after_submit_by w k body (Some c) =
+    if is_some (submit_fault c) then w
+    else record w { submitted = w.submitted ++ (k, next_request c body) ∷ []; clients = slice_set w.clients k (after_submit c body) }
+
+-- Resend: where something is pending, the bytes that ask it are sent
+abbrev pub Sends : WorldState → Option Request → WorldState → Type 0
+Sends w None w' = w' ≡ w
+Sends w (Some q) w' = (b : List ℕ) × Asks b q × (w' ≡ record w { asked = w.asked ++ b ∷ [] })
+
+abbrev pub Resends : WorldState → Option ClientState → WorldState → Type 0
+Resends w None w' = w' ≡ w
+Resends w (Some c) w' = Sends w c.pending w'
+
+-- GiveUp: nothing is pending any more
+abbrev pub after_give_up_by : WorldState → ℕ → Option ClientState → WorldState
+after_give_up_by w k None = w
+after_give_up_by w k (Some c) = record w { clients = slice_set w.clients k (settled c) }
+
+-- a fault of the book: its count rises, or is the greatest number
+abbrev pub Faults : WorldState → WorldState → Type 0
+Faults w w' = Rises w.faults w'.faults × (w' ≡ record w { faults = w'.faults })
+
+-- there are fewer calls than the limit allows, or one has the key of the request
+abbrev pub HasRoomFor : List Entry → Terms → Request → Type 0
+HasRoomFor h t q = (length h < t.limit) ⊎ IsSome (entry_with_key h q.customer q.number)
+
+-- the request is executed, unless it was before, and the reply that is owed is sent
+abbrev pub RepliesTo : Terms → WorldState → List ℕ → Request → ℕ → WorldState → Type 0
+RepliesTo t w b q day w' =
+    let h = applied_once w.history ((q, day) ∷ []) t.interval in
+    HasRoomFor w.history t q × (f : List ℕ) × IsOwed h b f × (w' ≡ record w { history = h; replied = w.replied ++ f ∷ [] })
+
+-- a request reaches the server on a day
+abbrev pub Serves : Terms → WorldState → List ℕ → Request → ℕ → WorldState → Type 0
+Serves t w b q day w' = Faults w w' ⊎ ((IsFullFor w.history t q × (w' ≡ w)) ⊎ RepliesTo t w b q day w')
+
+-- bytes reach the server on a day
+abbrev pub ReachesServer : Terms → WorldState → List ℕ → ℕ → WorldState → Type 0
+ReachesServer t w b day w' = (AskNothing b × (w' ≡ w)) ⊎ ((q : Request) × Asks b q × Serves t w b q day w')
+
+-- ToServer: bytes that were sent
+abbrev pub DeliversRequest : Terms → WorldState → Option (List ℕ) → ℕ → WorldState → Type 0
+DeliversRequest t w None day w' = w' ≡ w
+DeliversRequest t w (Some b) day w' = ReachesServer t w b day w'
+
+-- the bytes reply to exactly what is pending: nothing is pending any more, and the reply joins those accepted
+abbrev pub Accepts : WorldState → ℕ → ClientState → List ℕ → WorldState → Type 0
+Accepts w k c b w' = (q : Request) × (o : Outcome) × IsOwnReply c b q o
+    × (w' ≡ record w { accepted = w.accepted ++ record { client = k; request = q; outcome = o } ∷ []; clients = slice_set w.clients k (settled c) })
+
+-- ToClient: bytes that were sent in reply
+abbrev pub DeliversReply : WorldState → ℕ → Option ClientState → Option (List ℕ) → WorldState → Type 0
+DeliversReply w k None b w' = w' ≡ w
+DeliversReply w k (Some c) None w' = w' ≡ w
+DeliversReply w k (Some c) (Some b) w' = Accepts w k c b w' ⊎ (((q : Request) (o : Outcome) → ¬ (IsOwnReply c b q o)) × (w' ≡ w))
+
+-- one step, by its event
+abbrev pub Step : Terms → WorldState → Event → WorldState → Type 0
+Step t w (Submit k body) w' = w' ≡ after_submit_by w k body (slice_get w.clients k)
+Step t w (Resend k) w' = Resends w (slice_get w.clients k) w'
+Step t w (GiveUp k) w' = w' ≡ after_give_up_by w k (slice_get w.clients k)
+Step t w (ToServer index day) w' = DeliversRequest t w (slice_get w.asked index) day w'
+Step t w (Strange packet day) w' = ReachesServer t w (packet_bytes packet) day w'
+Step t w (ToClient k index) w' = DeliversReply w k (slice_get w.clients k) (slice_get w.replied index) w'
+
+-- the steps of the world, one event after another
+abbrev pub Steps : Terms → WorldState → List Event → WorldState → Type 0
+Steps t w [] w' = w' ≡ w
+Steps t w (e ∷ es) w' = (between : WorldState) × Step t w e between × Steps t between es w'

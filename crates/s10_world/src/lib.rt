@@ -1,0 +1,16 @@
+//! A server, its clients and the network between them, over every loss, repeat and order.
+#![tactic(auto)]
+
+mod event;
+mod laws;
+mod network;
+mod world;
+mod world_fault;
+
+pub use event::Event;
+pub use laws::reachable_worlds;
+pub use world::World;
+pub use world_fault::WorldFault;
+
+#[cfg(test)]
+mod tests;

@@ -1,0 +1,159 @@
+//! A server, its clients and what was sent between them.
+
+use crate::event::Event;
+use crate::world_fault::WorldFault;
+use s10_book::Book;
+use s10_ends::{Answer, Client, Received, Server};
+use s10_wire::{Body, Frame, Reply, Request};
+use std::alloc::AllocError;
+
+/// A server, its clients, and everything that was sent between them.
+#[derive(Drop)]
+pub struct Network<B> {
+    pub(crate) server: Server<B>,
+    pub(crate) clients: Vec<Client>,
+    pub(crate) asked: Vec<Frame>,
+    pub(crate) replied: Vec<Frame>,
+    pub(crate) submitted: Vec<(u32, Request)>,
+    pub(crate) accepted: Vec<(u32, Reply)>,
+}
+
+impl<B: Book> Network<B> {
+    ghost use Rattle.std.specs.Prelude.{◌≡◌, ◌<◌, length, map, take, slice_get, OnOk, OnErr, IfErr};
+    ghost use Rattle.s10_wire.specs.Frame.{frame_bytes};
+    ghost use Rattle.s10_world.specs.World.{Step, Steps, Resends, ReachesServer, DeliversRequest, DeliversReply, after_submit_by, after_give_up_by};
+    ghost use Rattle.s10_world.specs.Parts.{server_of, book_in, clients_of, asked_of, replied_of, state_of, place_of};
+
+    // The events in order. All memory that one may take is taken before it changes anything.
+    pub(crate) fn run(&mut self, events: &[Event]) -> Result<(), WorldFault>
+        ensures was_honest { B.honest (book_in self.new) → B.honest (book_in self.old) }
+        ensures same_terms { B.honest (book_in self.new) → B.terms (book_in self.new) ≡ B.terms (book_in self.old) }
+
+        // The state is one that the steps reach by the events in order.
+        ensures ok { B.honest (book_in self.new) → OnOk result (Steps (B.terms (book_in self.old)) (state_of B.history B.faults self.old) events.now (state_of B.history B.faults self.new)) }
+
+        // Where memory was wanting, by the events before that place.
+        ensures place { IfErr result (λ fault. place_of fault < length events.now) }
+        ensures memory { B.honest (book_in self.new) → IfErr result (λ fault.
+            Steps (B.terms (book_in self.old)) (state_of B.history B.faults self.old) (take (place_of fault) events.now) (state_of B.history B.faults self.new)) }
+    {
+        for (place, event) in events.iter().enumerate() {
+            let Ok(()) = self.step(event) else {
+                return Err(WorldFault::Memory(place));
+            };
+        }
+        Ok(())
+    }
+
+    // One event. Where there is no memory for it, nothing is done.
+    pub(crate) fn step(&mut self, event: &Event) -> Result<(), AllocError>
+        ensures was_honest { B.honest (book_in self.new) → B.honest (book_in self.old) }
+        ensures same_terms { B.honest (book_in self.new) → B.terms (book_in self.new) ≡ B.terms (book_in self.old) }
+        ensures ok { B.honest (book_in self.new) → OnOk result (Step (B.terms (book_in self.old)) (state_of B.history B.faults self.old) event.now (state_of B.history B.faults self.new)) }
+        ensures err { OnErr result ((server_of self.new ≡ server_of self.old) × (state_of B.history B.faults self.new ≡ state_of B.history B.faults self.old)) }
+    {
+        match *event {
+            Event::Submit { client, body } => self.submit(client, body),
+            Event::Resend { client } => self.resend(client),
+            Event::GiveUp { client } => {
+                self.give_up(client);
+                Ok(())
+            }
+            Event::ToServer { index, day } => self.deliver_request(index, day),
+            Event::Strange { packet, day } => self.reach_server(packet.bytes(), day),
+            Event::ToClient { client, index } => self.deliver_reply(client, index),
+        }
+    }
+
+    fn submit(&mut self, client: u32, body: Body) -> Result<(), AllocError>
+        ensures server { server_of self.new ≡ server_of self.old }
+        ensures ok { OnOk result (state_of B.history B.faults self.new ≡ after_submit_by (state_of B.history B.faults self.old) client body (slice_get (clients_of self.old) client)) }
+        ensures err { OnErr result (state_of B.history B.faults self.new ≡ state_of B.history B.faults self.old) }
+    {
+        self.submitted.reserve(1)?;
+        let Some(caller) = self.clients.get_mut(client as usize) else {
+            return Ok(());
+        };
+        let Ok(request) = caller.submit(body) else {
+            return Ok(());
+        };
+        self.submitted.push_reserved((client, request));
+        Ok(())
+    }
+
+    fn resend(&mut self, client: u32) -> Result<(), AllocError>
+        ensures server { server_of self.new ≡ server_of self.old }
+        ensures ok { OnOk result (Resends (state_of B.history B.faults self.old) (slice_get (clients_of self.old) client) (state_of B.history B.faults self.new)) }
+        ensures err { OnErr result (state_of B.history B.faults self.new ≡ state_of B.history B.faults self.old) }
+    {
+        self.asked.reserve(1)?;
+        let Some(caller) = self.clients.get(client as usize) else {
+            return Ok(());
+        };
+        let Some(frame) = caller.resend() else {
+            return Ok(());
+        };
+        self.asked.push_reserved(frame);
+        Ok(())
+    }
+
+    fn give_up(&mut self, client: u32)
+        ensures server { server_of self.new ≡ server_of self.old }
+        ensures state { state_of B.history B.faults self.new ≡ after_give_up_by (state_of B.history B.faults self.old) client (slice_get (clients_of self.old) client) }
+    {
+        let Some(caller) = self.clients.get_mut(client as usize) else {
+            return;
+        };
+        let _ = caller.give_up();
+    }
+
+    // Hands bytes to the server. A reply is sent; what was dropped or faulted leaves no trace here.
+    fn reach_server(&mut self, bytes: &[u8], day: u32) -> Result<(), AllocError>
+        ensures was_honest { B.honest (book_in self.new) → B.honest (book_in self.old) }
+        ensures same_terms { B.honest (book_in self.new) → B.terms (book_in self.new) ≡ B.terms (book_in self.old) }
+        ensures ok { B.honest (book_in self.new) → OnOk result (ReachesServer (B.terms (book_in self.old)) (state_of B.history B.faults self.old) bytes.now day (state_of B.history B.faults self.new)) }
+        ensures err { OnErr result ((server_of self.new ≡ server_of self.old) × (state_of B.history B.faults self.new ≡ state_of B.history B.faults self.old)) }
+    {
+        self.replied.reserve(1)?;
+        match self.server.handle(bytes, day) {
+            Answer::Reply(frame) => {
+                self.replied.push_reserved(frame);
+                Ok(())
+            }
+            Answer::Dropped(_) => Ok(()),
+            Answer::Faulted(_) => Ok(()),
+        }
+    }
+
+    fn deliver_request(&mut self, index: usize, day: u32) -> Result<(), AllocError>
+        ensures was_honest { B.honest (book_in self.new) → B.honest (book_in self.old) }
+        ensures same_terms { B.honest (book_in self.new) → B.terms (book_in self.new) ≡ B.terms (book_in self.old) }
+        ensures ok { B.honest (book_in self.new) → OnOk result (DeliversRequest (B.terms (book_in self.old)) (state_of B.history B.faults self.old) (slice_get (map frame_bytes (asked_of self.old)) index) day (state_of B.history B.faults self.new)) }
+        ensures err { OnErr result ((server_of self.new ≡ server_of self.old) × (state_of B.history B.faults self.new ≡ state_of B.history B.faults self.old)) }
+    {
+        let Some(frame) = self.asked.get(index) else {
+            return Ok(());
+        };
+        let frame = *frame;
+        self.reach_server(frame.bytes(), day)
+    }
+
+    fn deliver_reply(&mut self, client: u32, index: usize) -> Result<(), AllocError>
+        ensures server { server_of self.new ≡ server_of self.old }
+        ensures ok { OnOk result (DeliversReply (state_of B.history B.faults self.old) client (slice_get (clients_of self.old) client) (slice_get (map frame_bytes (replied_of self.old)) index) (state_of B.history B.faults self.new)) }
+        ensures err { OnErr result (state_of B.history B.faults self.new ≡ state_of B.history B.faults self.old) }
+    {
+        self.accepted.reserve(1)?;
+        let Some(frame) = self.replied.get(index) else {
+            return Ok(());
+        };
+        let Some(caller) = self.clients.get_mut(client as usize) else {
+            return Ok(());
+        };
+        let Received::Accepted(reply) = caller.receive(frame.bytes()) else {
+            return Ok(());
+        };
+        self.accepted.push_reserved((client, reply));
+        Ok(())
+    }
+}
