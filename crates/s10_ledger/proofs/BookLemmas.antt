@@ -1,0 +1,100 @@
+-- What a read leaves of a ledger, and what it answers.
+use Rattle.std.proofs.Common.{◌≡◌, ℕ, ◌+◌, IsTrue, List, [], ◌∷◌, ◌++◌, length, All, Result, Ok, Err, IfOk, OnOk, OnErr, Option, sym, ap, subst, refl, ◌∙◌, arith, length-append}
+use Rattle.std.specs.Coded.{coded_list}
+use Rattle.std.proofs.lemmas.List.Sums.{fold-append}
+use Rattle.std.proofs.lemmas.List.Elements.{All-push}
+use Rattle.std.proofs.Math.Logic.{∥∥₁_elim, ∥∥₁_map}
+use base.Stored.{Coded-set}
+use Rattle.sqlite_trees.specs.declared.store.Store.{Ghosts}
+use Rattle.sqlite_schema.specs.contracts.schema.Schema as schema
+use Rattle.sqlite.specs.Effect.{Database}
+use Rattle.sqlite.specs.State.{HasCleanDisk}
+use Rattle.sqlite.specs.Held.{Held, state}
+use Rattle.s10_book.specs.declared.entry.Entry.{Entry}
+use Rattle.s10_book.specs.contracts.entry.Entry as entry
+use Rattle.s10_book.specs.History.{day_of}
+use Rattle.s10_book.specs.Rules.{MayFollow}
+use Rattle.s10_book.proofs.Push.{IsLegal-push}
+use Rattle.s10_book.specs.Book.{Keeps}
+use Rattle.s10_book.specs.Settings.{Terms}
+use Rattle.s10_ledger.specs.Schema.{ledger_schema}
+use Rattle.s10_ledger.specs.Statements.{Leaves}
+use Rattle.s10_ledger.specs.Ledger.{Ledger, IsLedger, Holds, IsHonest, history_in}
+use Rattle.s10_ledger.specs.Selected.{IsCall}
+use Rattle.s10_ledger.specs.Shown.{StandsFor}
+use Rattle.s10_ledger.proofs.HistoryLemmas.{history_is}
+
+-- what is kept true of a ledger's connection
+abbrev pub IsKept : {S : Type 0} → Ghosts S → Held S → Terms → ℕ → ℕ → Type 0
+IsKept g conn t len day = HasCleanDisk (state g conn) → IsTrue (state g conn).is_open → IsLedger (state g conn).now t len day
+
+pub schema_is : (db : Database) (t : Terms) (len day : ℕ) → IsLedger db t len day → db.schema ≡ ledger_schema
+schema_is db t len day it = ∥∥₁_elim it.held (Coded-set schema.the_row.coded _ _) (λ h. h.tables.schema)
+
+module _ {S : Type 0} (g : Ghosts S) (old new : Held S) (t : Terms) (len day : ℕ) (leaves : Leaves g old new) (kept : IsKept g old t len day) where
+  -- the tables are as they were
+  pub same_tables : HasCleanDisk (state g new) → IsTrue (state g new).is_open → (state g new).now ≡ (state g old).now
+  same_tables clean opened = leaves.now clean opened (schema_is (state g old).now t len day (kept (omega (arith, leaves.clean)) (leaves.was_open clean opened)))
+
+  pub was_ledger : HasCleanDisk (state g new) → IsTrue (state g new).is_open → IsLedger (state g old).now t len day
+  was_ledger clean opened = kept (omega (arith, leaves.clean)) (leaves.was_open clean opened)
+
+  pub still_kept : IsKept g new t len day
+  still_kept clean opened = subst (λ (d : Database). IsLedger d t len day) (sym (same_tables clean opened)) (was_ledger clean opened)
+
+abbrev pub history_of : {S : Type 0} → Ghosts S → Ledger S → List Entry
+history_of g l = history_in (state g l.conn).now
+
+pub read_keeps : {S : Type 0} (g : Ghosts S) (old : Ledger S) (conn : Held S) (faults : ℕ) → Leaves g old.conn conn → IsKept g old.conn old.terms old.len old.day
+    → Keeps (history_of g) (λ (l : Ledger S). l.terms) (IsHonest g) old (record old { conn = conn; faults = faults })
+read_keeps g old conn faults leaves kept = record {
+  was_honest = λ h. record {
+    clean = omega (arith, leaves.clean, h.clean);
+    is_open = leaves.was_open h.clean h.is_open;
+    ledger = was_ledger g old.conn conn old.terms old.len old.day leaves kept h.clean h.is_open;
+  };
+  same_history = λ h. ap history_in (same_tables g old.conn conn old.terms old.len old.day leaves kept h.clean h.is_open);
+  same_terms = λ h. refl;
+}
+
+pub answered : {A T E : Type 0} → IsSet T → (r : Result T E) (x : T) → ∥ A ∥₁ → (A → IfOk r (λ y. y ≡ x)) → IfOk r (λ y. y ≡ x)
+answered set (Ok y) x a f = ∥∥₁_elim a (set y x) f
+answered set (Err e) x a f = tt
+
+day_of-push : (h : List Entry) (e : Entry) → day_of (h ++ e ∷ []) ≡ e.day
+day_of-push h e = rw fold-append refl
+
+-- with one more call the tables stand for the longer history
+module _ (old new : Database) (t : Terms) (len day : ℕ) (e : Entry) (was : IsLedger old t len day) (follows : MayFollow (history_in old) t e)
+    (made : Holds old t len day → IsCall e × StandsFor new (history_in old ++ e ∷ []) t) where
+  pub longer_history : history_in new ≡ history_in old ++ e ∷ []
+  longer_history = ∥∥₁_elim was.held (Coded-set (coded_list entry.the_row.coded) _ _)
+      (λ h. let m = made h in history_is new (history_in old ++ e ∷ []) t (All-push IsCall (history_in old) e h.calls m.0) m.1)
+
+  pub longer_ledger : (len' day' : ℕ) → len' ≡ len + 1 → day' ≡ e.day → IsLedger new t len' day'
+  longer_ledger len' day' p q = record {
+    legal = rw longer_history (IsLegal-push (history_in old) t e was.legal follows);
+    held = ∥∥₁_map was.held (λ h.
+        let m = made h in
+        record {
+          tables = rw longer_history m.1;
+          calls = rw longer_history (All-push IsCall (history_in old) e h.calls m.0);
+          len_is = p ∙ rw longer_history (omega (arith, h.len_is, length-append (history_in old) (e ∷ [])));
+          day_is = q ∙ rw longer_history (sym (day_of-push (history_in old) e));
+        });
+  }
+
+-- after the call was kept, or was not
+module _ {T E : Type 0} (old new : Database) (t : Terms) (len day len' day' : ℕ) (e : Entry) (was : IsLedger old t len day) (follows : MayFollow (history_in old) t e) where
+  pub kept_ledger : (r : Result T E) → (Holds old t len day → OnOk r (IsCall e × StandsFor new (history_in old ++ e ∷ []) t)) → OnOk r ((len' ≡ len + 1) × (day' ≡ e.day)) → OnErr r (new ≡ old)
+      → OnErr r ((len' ≡ len) × (day' ≡ day)) → IsLedger new t len' day'
+  kept_ledger (Ok x) made counts same uncounted = longer_ledger old new t len day e was follows made len' day' counts.0 counts.1
+  kept_ledger (Err x) made counts same uncounted = rw (same, uncounted.0, uncounted.1) was
+
+  pub kept_longer : (r : Result T E) → (Holds old t len day → OnOk r (IsCall e × StandsFor new (history_in old ++ e ∷ []) t)) → OnOk r (history_in new ≡ history_in old ++ e ∷ [])
+  kept_longer (Ok x) made = longer_history old new t len day e was follows made
+  kept_longer (Err x) made = tt
+
+  pub kept_same : (r : Result T E) → OnErr r (new ≡ old) → OnErr r (history_in new ≡ history_in old)
+  kept_same (Ok x) same = tt
+  kept_same (Err x) same = ap history_in same

@@ -1,0 +1,157 @@
+-- What the texts of the reads mean under the schema.
+use Rattle.std.proofs.Common.{◌≡◌, ℕ, pos, negsuc, List, [], ◌∷◌, codes, true, false, Some, None, refl}
+use Rattle.sqlite_value.specs.declared.keys.Collation.TheVariants.{Binary}
+use Rattle.sqlite_value.specs.declared.keys.Key.{Key}
+use Rattle.sqlite_value.specs.declared.value.Value.TheVariants.{Int}
+use Rattle.sqlite_value.specs.Keys.{ascending}
+use Rattle.sqlite_sql.specs.declared.ops.BinaryOp.TheVariants.{Compare}
+use Rattle.sqlite_sql.specs.declared.ops.CompareOp.TheVariants.{Eq, Ge, Le}
+use Rattle.sqlite_sql.specs.Term.{Term, lit, col, op2}
+use Rattle.sqlite_sql.specs.Query.{Query, inner, end}
+use Rattle.sqlite_schema.specs.declared.command.Command.TheVariants.{Select}
+use Rattle.sqlite_tied.specs.Compute.{everything}
+use Rattle.sqlite.specs.Listing.{understood, reads_listing}
+use Rattle.sqlite.specs.Given.{IsPlain}
+use Rattle.sqlite.proofs.Callers.{command_of}
+use Rattle.s10_ledger.specs.Schema.{ledger_schema}
+use Rattle.s10_ledger.specs.Statements.{head_text, key_text, arrivals_text, calls_text, ranges_text, within_text, serials_text}
+
+-- a read of one table
+abbrev pub read_of : ℕ → List Term → List Term → List Term → Query
+read_of tree filter project order = record {
+  from = inner tree end;
+  filter = filter;
+  group = None;
+  project = project;
+  distinct = false;
+  collations = [];
+  order = Rattle.std.specs.Prelude.map (λ term. (term, ascending Binary)) order;
+  limit = lit (Int (negsuc 0));
+  offset = lit (Int (pos 0));
+}
+
+abbrev pub by_one : List Term
+by_one = col 1 0 ∷ []
+
+abbrev pub call_terms : List Term
+call_terms = col 1 0 ∷ col 1 2 ∷ col 1 3 ∷ col 1 4 ∷ col 1 5 ∷ []
+
+abbrev pub serial_terms : List Term
+serial_terms = col 1 1 ∷ col 1 2 ∷ col 1 3 ∷ col 1 4 ∷ col 1 5 ∷ col 1 6 ∷ col 1 7 ∷ []
+
+abbrev pub equals : ℕ → ℕ → Term
+equals place at = op2 (Compare Eq Binary) (col 1 place) (col 0 at)
+
+abbrev pub from_to : ℕ → ℕ → ℕ → List Term
+from_to place low high = op2 (Compare Ge Binary) (col 1 place) (col 0 low) ∷ op2 (Compare Le Binary) (col 1 place) (col 0 high) ∷ []
+
+abbrev pub call_names : List (List ℕ)
+call_names = codes "arrival" ∷ codes "customer" ∷ codes "number" ∷ codes "day" ∷ codes "reply" ∷ []
+
+abbrev pub serial_names : List (List ℕ)
+serial_names = codes "pair" ∷ codes "serial" ∷ codes "arrival" ∷ codes "day" ∷ codes "customer" ∷ codes "number" ∷ codes "voided" ∷ []
+
+abbrev pub head_query : Query
+head_query = read_of 0 [] (col 1 0 ∷ col 1 2 ∷ col 1 3 ∷ col 1 4 ∷ []) by_one
+
+pub head_is : command_of (understood ledger_schema head_text) ≡ Select (record { lets = []; body = head_query }) (codes "one" ∷ codes "schema" ∷ codes "interval" ∷ codes "cap" ∷ [])
+unfolding understood everything
+head_is = refl
+
+pub head_plain : IsPlain (understood ledger_schema head_text)
+unfolding understood everything
+head_plain = (refl, refl)
+
+pub head_unlisted : reads_listing ledger_schema head_text ≡ false
+unfolding understood everything
+head_unlisted = refl
+
+abbrev pub key_query : Query
+key_query = read_of 1 (equals 2 0 ∷ equals 3 1 ∷ []) call_terms by_one
+
+pub key_is : command_of (understood ledger_schema key_text) ≡ Select (record { lets = []; body = key_query }) (call_names)
+unfolding understood everything
+key_is = refl
+
+pub key_plain : IsPlain (understood ledger_schema key_text)
+unfolding understood everything
+key_plain = (refl, refl)
+
+pub key_unlisted : reads_listing ledger_schema key_text ≡ false
+unfolding understood everything
+key_unlisted = refl
+
+abbrev pub arrivals_query : Query
+arrivals_query = read_of 1 (from_to 0 0 1) call_terms by_one
+
+pub arrivals_is : command_of (understood ledger_schema arrivals_text) ≡ Select (record { lets = []; body = arrivals_query }) (call_names)
+unfolding understood everything
+arrivals_is = refl
+
+pub arrivals_plain : IsPlain (understood ledger_schema arrivals_text)
+unfolding understood everything
+arrivals_plain = (refl, refl)
+
+pub arrivals_unlisted : reads_listing ledger_schema arrivals_text ≡ false
+unfolding understood everything
+arrivals_unlisted = refl
+
+abbrev pub calls_query : Query
+calls_query = read_of 1 [] call_terms by_one
+
+pub calls_is : command_of (understood ledger_schema calls_text) ≡ Select (record { lets = []; body = calls_query }) (call_names)
+unfolding understood everything
+calls_is = refl
+
+pub calls_plain : IsPlain (understood ledger_schema calls_text)
+unfolding understood everything
+calls_plain = (refl, refl)
+
+pub calls_unlisted : reads_listing ledger_schema calls_text ≡ false
+unfolding understood everything
+calls_unlisted = refl
+
+abbrev pub ranges_query : Query
+ranges_query = read_of 3 [] (col 1 0 ∷ col 1 2 ∷ col 1 3 ∷ col 1 4 ∷ col 1 5 ∷ col 1 6 ∷ []) by_one
+
+pub ranges_is : command_of (understood ledger_schema ranges_text) ≡ Select (record { lets = []; body = ranges_query }) (codes "num" ∷ codes "holder" ∷ codes "pair" ∷ codes "low" ∷ codes "high" ∷ codes "mark" ∷ [])
+unfolding understood everything
+ranges_is = refl
+
+pub ranges_plain : IsPlain (understood ledger_schema ranges_text)
+unfolding understood everything
+ranges_plain = (refl, refl)
+
+pub ranges_unlisted : reads_listing ledger_schema ranges_text ≡ false
+unfolding understood everything
+ranges_unlisted = refl
+
+abbrev pub within_query : Query
+within_query = read_of 4 (equals 1 0 ∷ from_to 2 1 2) serial_terms (col 1 1 ∷ col 1 2 ∷ [])
+
+pub within_is : command_of (understood ledger_schema within_text) ≡ Select (record { lets = []; body = within_query }) (serial_names)
+unfolding understood everything
+within_is = refl
+
+pub within_plain : IsPlain (understood ledger_schema within_text)
+unfolding understood everything
+within_plain = (refl, refl)
+
+pub within_unlisted : reads_listing ledger_schema within_text ≡ false
+unfolding understood everything
+within_unlisted = refl
+
+abbrev pub serials_query : Query
+serials_query = read_of 4 [] (col 1 1 ∷ col 1 2 ∷ col 1 3 ∷ col 1 4 ∷ col 1 5 ∷ col 1 6 ∷ col 1 7 ∷ col 1 0 ∷ []) (col 1 1 ∷ col 1 2 ∷ [])
+
+pub serials_is : command_of (understood ledger_schema serials_text) ≡ Select (record { lets = []; body = serials_query }) (codes "pair" ∷ codes "serial" ∷ codes "arrival" ∷ codes "day" ∷ codes "customer" ∷ codes "number" ∷ codes "voided" ∷ codes "rowid" ∷ [])
+unfolding understood everything
+serials_is = refl
+
+pub serials_plain : IsPlain (understood ledger_schema serials_text)
+unfolding understood everything
+serials_plain = (refl, refl)
+
+pub serials_unlisted : reads_listing ledger_schema serials_text ≡ false
+unfolding understood everything
+serials_unlisted = refl

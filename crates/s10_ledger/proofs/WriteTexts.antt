@@ -1,0 +1,67 @@
+-- What the texts of the writes mean under the schema.
+use Rattle.std.proofs.Common.{◌≡◌, ℕ, pos, negsuc, List, [], ◌∷◌, true, false, Some, None, refl}
+use Rattle.sqlite_value.specs.declared.keys.Collation.TheVariants.{Binary}
+use Rattle.sqlite_value.specs.declared.value.Value.TheVariants.{Null, Int}
+use Rattle.sqlite_sql.specs.declared.ops.BinaryOp.TheVariants.{Compare}
+use Rattle.sqlite_sql.specs.declared.ops.CompareOp.TheVariants.{Eq}
+use Rattle.sqlite_sql.specs.Term.{Term, lit, col, op2}
+use Rattle.sqlite_sql.specs.Query.{Query, inner, end}
+use Rattle.sqlite_schema.specs.declared.command.Source.TheVariants.{Values}
+use Rattle.sqlite_schema.specs.declared.command.Conflict.TheVariants.{Abort, Replace}
+use Rattle.sqlite_schema.specs.declared.command.Upsert.{Upsert}
+use Rattle.sqlite_schema.specs.declared.command.Command.TheVariants.{Insert, InsertOr}
+use Rattle.sqlite_tied.specs.Compute.{everything}
+use Rattle.sqlite.specs.Listing.{understood}
+use Rattle.sqlite.specs.Given.{IsPlain}
+use Rattle.sqlite.proofs.Callers.{command_of}
+use Rattle.s10_ledger.specs.Schema.{ledger_schema}
+use Rattle.s10_ledger.specs.Statements.{keep_text, mark_text, issue_text}
+
+abbrev pub keep_terms : List Term
+keep_terms = col 0 0 ∷ lit Null ∷ col 0 1 ∷ col 0 2 ∷ col 0 3 ∷ col 0 4 ∷ []
+
+pub keep_is : command_of (understood ledger_schema keep_text) ≡ Insert 1 (Values keep_terms 6)
+unfolding understood everything
+keep_is = refl
+
+pub keep_plain : IsPlain (understood ledger_schema keep_text)
+unfolding understood everything
+keep_plain = (refl, refl)
+
+abbrev pub mark_terms : List Term
+mark_terms = col 0 0 ∷ lit Null ∷ col 0 1 ∷ col 0 2 ∷ col 0 3 ∷ col 0 4 ∷ col 0 5 ∷ []
+
+pub mark_is : command_of (understood ledger_schema mark_text) ≡ InsertOr 2 Replace (Values mark_terms 7) []
+unfolding understood everything
+mark_is = refl
+
+pub mark_plain : IsPlain (understood ledger_schema mark_text)
+unfolding understood everything
+mark_plain = (refl, refl)
+
+abbrev pub issue_terms : List Term
+issue_terms = lit Null ∷ col 0 0 ∷ col 0 1 ∷ col 0 2 ∷ col 0 3 ∷ col 0 4 ∷ col 0 5 ∷ col 0 6 ∷ []
+
+abbrev pub update_query : Query
+update_query = record {
+  from = inner 4 end;
+  filter = op2 (Compare Eq Binary) (col 1 0) (col 0 7) ∷ [];
+  group = None;
+  project = col 1 0 ∷ col 1 0 ∷ col 1 1 ∷ col 1 2 ∷ col 0 11 ∷ col 0 12 ∷ col 0 13 ∷ col 0 14 ∷ col 0 15 ∷ [];
+  distinct = false;
+  collations = [];
+  order = [];
+  limit = lit (Int (negsuc 0));
+  offset = lit (Int (pos 0));
+}
+
+abbrev pub issue_upsert : Upsert
+issue_upsert = record { target = Some (1 ∷ 2 ∷ []); update = Some (record { lets = []; body = update_query }) }
+
+pub issue_is : command_of (understood ledger_schema issue_text) ≡ InsertOr 3 Abort (Values issue_terms 8) (issue_upsert ∷ [])
+unfolding understood everything
+issue_is = refl
+
+pub issue_plain : IsPlain (understood ledger_schema issue_text)
+unfolding understood everything
+issue_plain = (refl, refl)

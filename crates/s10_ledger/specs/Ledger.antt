@@ -1,0 +1,79 @@
+-- What a ledger in tables holds, and what is kept true of it.
+use Rattle.std.specs.Prelude.{◌≡◌, ℕ, zero, suc, ◌+◌, ℤ, pos, IsTrue, List, [], ◌∷◌, ◌++◌, length, map, filter, All, refl}
+use Rattle.std.specs.Coded.{Coded, code_by, coded×, coded_ℕ}
+use Rattle.sqlite_value.specs.declared.value.Value.{Value}
+use Rattle.sqlite_value.specs.declared.value.Value.TheVariants.{Null, Int, Real, Text, Blob}
+use Rattle.sqlite_value.specs.Order.{Row, column}
+use Rattle.sqlite_trees.specs.declared.store.Store.{Ghosts}
+use Rattle.sqlite.specs.Effect.{Database}
+use Rattle.sqlite.specs.State.{HasCleanDisk}
+use Rattle.sqlite.specs.Held.{Held, held_code, state}
+use Rattle.s10_book.specs.declared.entry.Entry.{Entry}
+use Rattle.s10_book.specs.Settings.{Terms}
+use Rattle.s10_book.specs.History.{day_of}
+use Rattle.s10_book.specs.Rules.{IsLegal}
+use Rattle.s10_ledger.specs.CallRow.{StoredCall}
+use Rattle.s10_ledger.specs.RightRows.{entry_of}
+use Rattle.s10_ledger.specs.Selected.{IsCall, arrives_between}
+use Rattle.s10_ledger.specs.Shown.{StandsFor, call_columns}
+
+abbrev pub int_in : Value → ℤ
+int_in Null = pos 0
+int_in (Int n) = n
+int_in (Real x) = pos 0
+int_in (Text t) = pos 0
+int_in (Blob b) = pos 0
+
+abbrev pub blob_in : Value → List ℕ
+blob_in Null = []
+blob_in (Int n) = []
+blob_in (Real x) = []
+blob_in (Text t) = []
+blob_in (Blob b) = b
+
+-- the row of calls that shows so
+abbrev pub call_from : Row → StoredCall
+call_from v = record { arrival = int_in (column v 0); customer = int_in (column v 1); number = int_in (column v 2); day = int_in (column v 3); reply = blob_in (column v 4) }
+
+-- the calls of this and the next arrivals, so many of them
+abbrev pub in_turn : ℕ → ℕ → List StoredCall → List Entry
+in_turn zero arrival calls = []
+in_turn (suc n) arrival calls = map entry_of (filter (arrives_between (pos arrival) (pos arrival)) calls) ++ in_turn n (arrival + 1) calls
+
+-- the calls that the rows keep, in order of arrival
+unfoldable pub history_in : Database → List Entry
+history_in db = let calls = map call_from (map call_columns (db.trees 1)) in in_turn (length calls) 1 calls
+
+-- what a ledger holds: its connection, its settings, how many calls are kept, the day of the last one, and the faults so far
+pub record Ledger (S : Type 0) : Type 0 where
+  pub conn : Held S
+  pub terms : Terms
+  pub len : ℕ
+  pub day : ℕ
+  pub faults : ℕ
+
+abbrev pub terms_code : Coded Terms
+terms_code = code_by (ℕ × ℕ) (coded× coded_ℕ coded_ℕ) (λ t. (t.interval, t.limit)) (λ p. record { interval = p.0; limit = p.1 }) (λ _. refl)
+
+abbrev pub ledger_code : {S : Type 0} → Coded S → Coded (Ledger S)
+ledger_code {S} store =
+    code_by (Held S × (Terms × (ℕ × (ℕ × ℕ)))) (coded× (held_code store) (coded× terms_code (coded× coded_ℕ (coded× coded_ℕ coded_ℕ))))
+    (λ l. (l.conn, (l.terms, (l.len, (l.day, l.faults))))) (λ p. record { conn = p.0; terms = p.1.0; len = p.1.1.0; day = p.1.1.1.0; faults = p.1.1.1.1 }) (λ _. refl)
+
+-- the tables stand for a history, whose length and last day are known
+pub record Holds (db : Database) (t : Terms) (len day : ℕ) : Type 0 where
+  pub tables : StandsFor db (history_in db) t
+  pub calls : All IsCall (history_in db)
+  pub len_is : len ≡ length (history_in db)
+  pub day_is : day ≡ day_of (history_in db)
+
+-- the history is legal, and the tables stand for it
+pub record IsLedger (db : Database) (t : Terms) (len day : ℕ) : Type 0 where
+  pub legal : IsLegal (history_in db) t
+  pub held : ∥ Holds db t len day ∥₁
+
+-- what is said of the history holds where the store is clean and the connection open
+pub record IsHonest {S : Type 0} (g : Ghosts S) (l : Ledger S) : Type 0 where
+  pub clean : HasCleanDisk (state g l.conn)
+  pub is_open : IsTrue (state g l.conn).is_open
+  pub ledger : IsLedger (state g l.conn).now l.terms l.len l.day

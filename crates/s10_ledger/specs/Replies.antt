@@ -1,0 +1,62 @@
+-- What the bytes of a reply say, by their offsets. Where they are the datagram of a reply, these are its request and its outcome.
+use Rattle.std.specs.Prelude.{ℕ, ◌+◌, ◌==◌, if◌then◌else◌, List, ◌++◌, take, drop}
+use Rattle.s10_core.specs.declared.id.Id.{Id}
+use Rattle.s10_core.specs.Serial.{number_of}
+use Rattle.s10_wire.specs.declared.body.Body.{Body}
+use Rattle.s10_wire.specs.declared.body.Body.TheVariants.{Grant, Draw, Void, Query}
+use Rattle.s10_wire.specs.declared.request.Request.{Request}
+use Rattle.s10_wire.specs.declared.status.Status.{Status}
+use Rattle.s10_wire.specs.declared.status.Status.TheVariants as statuses
+use Rattle.s10_wire.specs.declared.outcome.Outcome.{Outcome}
+use Rattle.s10_wire.specs.declared.outcome.Outcome.TheVariants.{Granted, Drawn, Voided, Told, NotThePost, BadGrant, Overlap, NoRange, NoneFree, NotYours, NotIssued, AlreadyVoid, NumberReused}
+use Rattle.s10_wire.specs.declared.kind.Kind.{Kind}
+use Rattle.s10_wire.specs.declared.kind.Kind.TheVariants as kinds
+use Rattle.s10_wire.specs.Kind.{kind_of, request_length}
+use Rattle.s10_wire.specs.WireFault.{byte, number}
+use Rattle.s10_wire.specs.Datagrams.{datagram, outcome_bytes}
+
+abbrev pub pair_in : List ℕ → ℕ → ℕ × ℕ
+pair_in b at = (byte b at, byte b (at + 1))
+
+abbrev pub id_in : List ℕ → ℕ → Id
+id_in b at = record { service = pair_in b at; serial = number_of (take 8 (drop (at + 2) b)); country = pair_in b (at + 11) }
+
+-- the body, by the kind byte of the reply
+unfoldable pub body_in : List ℕ → Body
+body_in b =
+    let code = byte b 3 in
+    if code == 0x81 then Grant (number b 12) (pair_in b 16) (pair_in b 18) (number b 20) (number b 24)
+    else if code == 0x82 then Draw (pair_in b 12) (pair_in b 14)
+    else if code == 0x83 then Void (id_in b 12)
+    else Query (id_in b 12)
+
+abbrev pub request_in : List ℕ → Request
+request_in b = record { customer = number b 4; number = number b 8; body = body_in b }
+
+abbrev pub status_in : ℕ → ℕ → Status
+status_in code day =
+    if code == 0 then statuses.Unknown else if code == 1 then statuses.Never
+    else if code == 2 then statuses.Issued day else statuses.Voided day
+
+abbrev pub done_in : Kind → List ℕ → Outcome
+done_in kinds.Grant rest = Granted (number rest 1)
+done_in kinds.Draw rest = Drawn (number rest 1) (id_in rest 5)
+done_in kinds.Void rest = Voided
+done_in kinds.Query rest = Told (status_in (byte rest 1) (number rest 2))
+
+abbrev pub refusal_in : ℕ → Outcome
+refusal_in code =
+    if code == 1 then NotThePost else if code == 2 then BadGrant else if code == 3 then Overlap
+    else if code == 4 then NoRange else if code == 5 then NoneFree else if code == 6 then NotYours
+    else if code == 7 then NotIssued else if code == 8 then AlreadyVoid else NumberReused
+
+-- the outcome, by the bytes from the outcome byte on
+unfoldable pub outcome_behind : Kind → List ℕ → Outcome
+outcome_behind k rest = if byte rest 0 == 0 then done_in k rest else refusal_in (byte rest 0)
+
+abbrev pub outcome_in : List ℕ → Outcome
+outcome_in b = let k = kind_of (body_in b) in outcome_behind k (drop (request_length k) b)
+
+-- the datagram of the reply to the request with the outcome
+unfoldable pub reply_bytes : Request → Outcome → List ℕ
+reply_bytes q o = datagram 0x80 q ++ outcome_bytes o

@@ -1,0 +1,95 @@
+-- The four tables of a ledger, as CREATE TABLE makes them in an empty database, each with its tree.
+use Rattle.std.specs.Prelude.{true, false, [], ◌∷◌, Some, None, codes, List, ℕ, Bool}
+use Rattle.sqlite_value.specs.declared.keys.Collation.TheVariants.{Binary}
+use Rattle.sqlite_value.specs.declared.value.Value.TheVariants.{Null, Int}
+use Rattle.sqlite_value.specs.Keys.{plain}
+use Rattle.std.specs.Prelude.{pos}
+use Rattle.sqlite_sql.specs.declared.ops.BinaryOp.TheVariants.{Compare}
+use Rattle.sqlite_sql.specs.declared.ops.CompareOp.TheVariants.{Eq}
+use Rattle.sqlite_sql.specs.Term.{Term, lit, col, op2}
+use Rattle.sqlite_schema.specs.declared.schema.Column.{Column}
+use Rattle.sqlite_schema.specs.declared.schema.Table.{Table}
+use Rattle.sqlite_schema.specs.declared.schema.Index.{Index}
+use Rattle.sqlite_schema.specs.declared.schema.Schema.{Schema}
+use Rattle.sqlite_schema.specs.declared.schema.Kind.{Kind}
+use Rattle.sqlite_schema.specs.declared.schema.Kind.TheVariants.{Integer, Blob}
+
+-- a column of this type that is never NULL
+abbrev pub column_of : List ℕ → Kind → Column
+column_of name kind = record { name = name; kind = kind; is_strict = true; not_null = true; default = Null; collation = Binary }
+
+abbrev pub integer : List ℕ → Column
+integer name = column_of name Integer
+
+abbrev pub head_table : Table
+head_table = record {
+  name = codes "head";
+  tree = 0;
+  columns = integer (codes "one") ∷ integer (codes "schema") ∷ integer (codes "interval") ∷ integer (codes "cap") ∷ [];
+  key = Some 0;
+  primary = 0 ∷ [];
+  uniques = [];
+  orders = [];
+  checks = op2 (Compare Eq Binary) (col 1 0) (lit (Int (pos 1))) ∷ [];
+  references = [];
+  computed = [];
+  stamps = record { places = []; terms = []; formats = [] };
+  is_counted = false;
+}
+
+abbrev pub calls_table : Table
+calls_table = record {
+  name = codes "calls";
+  tree = 1;
+  columns = integer (codes "arrival") ∷ integer (codes "customer") ∷ integer (codes "number") ∷ integer (codes "day") ∷ column_of (codes "reply") Blob ∷ [];
+  key = Some 0;
+  primary = 0 ∷ [];
+  uniques = (2 ∷ 3 ∷ []) ∷ [];
+  orders = plain ∷ [];
+  checks = [];
+  references = [];
+  computed = [];
+  stamps = record { places = []; terms = []; formats = [] };
+  is_counted = false;
+}
+
+abbrev pub ranges_table : Table
+ranges_table = record {
+  name = codes "ranges";
+  tree = 3;
+  columns = integer (codes "num") ∷ integer (codes "holder") ∷ integer (codes "pair") ∷ integer (codes "low") ∷ integer (codes "high") ∷ integer (codes "mark") ∷ [];
+  key = Some 0;
+  primary = 0 ∷ [];
+  uniques = [];
+  orders = [];
+  checks = [];
+  references = [];
+  computed = [];
+  stamps = record { places = []; terms = []; formats = [] };
+  is_counted = false;
+}
+
+abbrev pub serials_table : Table
+serials_table = record {
+  name = codes "serials";
+  tree = 4;
+  columns = integer (codes "pair") ∷ integer (codes "serial") ∷ integer (codes "arrival") ∷ integer (codes "day") ∷ integer (codes "customer") ∷ integer (codes "number") ∷ integer (codes "voided") ∷ [];
+  key = None;
+  primary = 1 ∷ 2 ∷ [];
+  uniques = (1 ∷ 2 ∷ []) ∷ [];
+  orders = plain ∷ [];
+  checks = [];
+  references = [];
+  computed = [];
+  stamps = record { places = []; terms = []; formats = [] };
+  is_counted = false;
+}
+
+abbrev pub calls_index : Index
+calls_index = record { name = codes "sqlite_autoindex_calls_1"; tree = 2; table = 1; columns = 2 ∷ 3 ∷ []; order = plain; is_unique = true }
+
+abbrev pub serials_index : Index
+serials_index = record { name = codes "sqlite_autoindex_serials_1"; tree = 5; table = 4; columns = 1 ∷ 2 ∷ []; order = plain; is_unique = true }
+
+abbrev pub ledger_schema : Schema
+ledger_schema = record { tables = head_table ∷ calls_table ∷ ranges_table ∷ serials_table ∷ []; indexes = calls_index ∷ serials_index ∷ []; views = [] }

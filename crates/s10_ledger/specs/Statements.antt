@@ -1,0 +1,47 @@
+-- The texts of the statements, and what a read leaves.
+use Rattle.std.specs.Prelude.{◌≡◌, ◌≤◌, ℕ, false, List, codes, IsTrue}
+use Rattle.sqlite_trees.specs.View.{doubt}
+use Rattle.sqlite_trees.specs.declared.store.Store.{Ghosts}
+use Rattle.sqlite.specs.State.{HasCleanDisk}
+use Rattle.sqlite.specs.Held.{Held, state}
+use Rattle.s10_ledger.specs.Schema.{ledger_schema}
+
+abbrev pub head_text : List ℕ
+head_text = codes "SELECT one, schema, interval, cap FROM head ORDER BY one"
+
+abbrev pub key_text : List ℕ
+key_text = codes "SELECT arrival, customer, number, day, reply FROM calls WHERE customer = ?1 AND number = ?2 ORDER BY arrival"
+
+abbrev pub arrivals_text : List ℕ
+arrivals_text = codes "SELECT arrival, customer, number, day, reply FROM calls WHERE arrival BETWEEN ?1 AND ?2 ORDER BY arrival"
+
+abbrev pub calls_text : List ℕ
+calls_text = codes "SELECT arrival, customer, number, day, reply FROM calls ORDER BY arrival"
+
+abbrev pub ranges_text : List ℕ
+ranges_text = codes "SELECT num, holder, pair, low, high, mark FROM ranges ORDER BY num"
+
+abbrev pub within_text : List ℕ
+within_text = codes "SELECT pair, serial, arrival, day, customer, number, voided FROM serials WHERE pair = ?1 AND serial BETWEEN ?2 AND ?3 ORDER BY pair, serial"
+
+abbrev pub serials_text : List ℕ
+serials_text = codes "SELECT pair, serial, arrival, day, customer, number, voided, rowid FROM serials ORDER BY pair, serial"
+
+abbrev pub keep_text : List ℕ
+keep_text = codes "INSERT INTO calls (arrival, customer, number, day, reply) VALUES (?1, ?2, ?3, ?4, ?5)"
+
+abbrev pub mark_text : List ℕ
+mark_text = codes "INSERT OR REPLACE INTO ranges (num, holder, pair, low, high, mark) VALUES (?1, ?2, ?3, ?4, ?5, ?6)"
+
+abbrev pub issue_text : List ℕ
+issue_text = codes "INSERT INTO serials (pair, serial, arrival, day, customer, number, voided) VALUES (?1, ?2, ?3, ?4, ?5, ?6, ?7) ON CONFLICT (pair, serial) DO UPDATE SET arrival = excluded.arrival, day = excluded.day, customer = excluded.customer, number = excluded.number, voided = excluded.voided"
+
+-- A read leaves the tables as they were. What is said of them holds where the store is clean and the connection open as the
+-- read ends; the disk does not come clean again.
+pub record Leaves {S : Type 0} (g : Ghosts S) (old new : Held S) : Type 0 where
+  pub clean : doubt (state g old).is_clean ≤ doubt (state g new).is_clean
+  pub was_open : HasCleanDisk (state g new) → IsTrue (state g new).is_open → IsTrue (state g old).is_open
+  pub now : HasCleanDisk (state g new) → IsTrue (state g new).is_open → (state g old).now.schema ≡ ledger_schema → (state g new).now ≡ (state g old).now
+  pub committed : HasCleanDisk (state g new) → IsTrue (state g new).is_open → (state g old).now.schema ≡ ledger_schema
+      → (state g new).committed ≡ (state g old).committed
+  pub mode : old.in_transaction ≡ false → new.in_transaction ≡ false

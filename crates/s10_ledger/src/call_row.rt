@@ -1,0 +1,69 @@
+//! A row of `calls`.
+
+ghost use Rattle.std.specs.Prelude.{◌≡◌};
+ghost use Rattle.s10_ledger.specs.CallRow.{StoredCall};
+
+use std::marker::Model;
+
+/// A row of `calls`: the key columns, the day, and the bytes of the reply.
+#[derive(Debug, Drop)]
+pub struct CallRow {
+    arrival: i64,
+    customer: i64,
+    number: i64,
+    day: i64,
+    reply: Vec<u8>,
+}
+
+impl Model for CallRow {
+    ghost use Rattle.s10_ledger.specs.CallRow.{StoredCall};
+
+    ghost Value = { StoredCall };
+
+    ghost view = { λ c. record { arrival = c.arrival; customer = c.customer; number = c.number; day = c.day; reply = c.reply.items } };
+}
+
+impl CallRow {
+    pub fn new(arrival: i64, customer: i64, number: i64, day: i64, reply: Vec<u8>) -> CallRow
+        ensures { let row : StoredCall = record { arrival = arrival; customer = customer; number = number; day = day; reply = reply.items } in result ≡ row }
+    {
+        CallRow {
+            arrival,
+            customer,
+            number,
+            day,
+            reply,
+        }
+    }
+
+    pub fn arrival(&self) -> i64
+        ensures { result ≡ self.now.arrival }
+    {
+        self.arrival
+    }
+
+    pub fn customer(&self) -> i64
+        ensures { result ≡ self.now.customer }
+    {
+        self.customer
+    }
+
+    pub fn number(&self) -> i64
+        ensures { result ≡ self.now.number }
+    {
+        self.number
+    }
+
+    pub fn day(&self) -> i64
+        ensures { result ≡ self.now.day }
+    {
+        self.day
+    }
+
+    /// The bytes of the reply's datagram.
+    pub fn reply(&self) -> &[u8]
+        ensures { result.now ≡ self.now.reply }
+    {
+        &self.reply
+    }
+}

@@ -1,0 +1,160 @@
+//! A call is kept.
+
+ghost use Rattle.std.specs.Prelude.{◌≡◌, ◌≢◌, ℕ, ◌≤◌, ◌<◌, ◌+◌, ◌^◌, ◌++◌, ◌∷◌, [], List, length, filter, All, Err, IfOk, IfSome, IsTrue, OnOk, OnErr};
+ghost use Rattle.sqlite_trees.specs.View.{doubt};
+ghost use Rattle.sqlite.specs.Held.{state};
+ghost use Rattle.sqlite.specs.State.{HasCleanDisk};
+ghost use Rattle.s10_wire.specs.declared.outcome.Outcome.TheVariants.{Drawn, Voided};
+ghost use Rattle.s10_book.specs.declared.entry.Entry.{Entry};
+ghost use Rattle.s10_book.specs.declared.book_fault.BookFault.TheVariants.{Full};
+ghost use Rattle.s10_book.specs.Settings.{Terms};
+ghost use Rattle.s10_book.specs.Rules.{IsLegal, MayFollow};
+ghost use Rattle.s10_ledger.specs.Schema.{ledger_schema};
+ghost use Rattle.s10_ledger.specs.Shown.{StandsFor};
+ghost use Rattle.s10_ledger.specs.Selected.{IsCall};
+ghost use Rattle.s10_ledger.specs.Tables.{serial_rows};
+ghost use Rattle.s10_ledger.specs.Kept.{Makes, is_at};
+ghost use Rattle.s10_ledger.specs.Statements.{Leaves};
+
+use crate::column::pair_number;
+use crate::lookups::fault_of;
+use crate::made_rows::{Made, drawn_rows, granted_row, voided_row};
+use crate::reads::{all_ranges, serials_within};
+use crate::writes::keep_rows;
+use s10_book::{BookFault, Entry};
+use s10_core::Id;
+use s10_wire::{Body, Outcome, Reply, encode_reply};
+use sqlite::{Alter, Connection};
+use std::alloc::Global;
+
+// What a Done Draw makes, by the rows of all ranges.
+fn drawn_made<S: Alter>(
+    alloc: Global,
+    conn: &mut Connection<S>,
+    arrival: u32,
+    entry: &Entry,
+    id: &Id,
+) -> Result<Made, BookFault>
+    ensures leaves { Leaves S.Store conn.old conn.new }
+    ensures fault { result ≢ Err Full }
+    ensures answer { HasCleanDisk (state S.Store conn.new) → (h : List Entry) (t : Terms) (day : ℕ) → IsLegal h t → MayFollow h t entry.now → All IsCall h → IsCall entry.now → StandsFor (state S.Store conn.old).now h t
+        → entry.now.outcome ≡ Drawn day id.now → arrival ≡ length h + 1 → IfOk result (λ made. Makes h entry.now made.range made.serial) }
+{
+    let ranges = match all_ranges(alloc, conn) {
+        Ok(ranges) => ranges,
+        Err(error) => return Err(fault_of(error)),
+    };
+    drawn_rows(&ranges, arrival, entry, id)
+}
+
+// What a Done Void makes, by the row of its identifier.
+fn voided_made<S: Alter>(
+    alloc: Global,
+    conn: &mut Connection<S>,
+    entry: &Entry,
+) -> Result<Made, BookFault>
+    ensures leaves { Leaves S.Store conn.old conn.new }
+    ensures fault { result ≢ Err Full }
+    ensures answer { HasCleanDisk (state S.Store conn.new) → (h : List Entry) (t : Terms) → IsLegal h t → MayFollow h t entry.now → All IsCall h → IsCall entry.now → StandsFor (state S.Store conn.old).now h t
+        → entry.now.outcome ≡ Voided → IfOk result (λ made. Makes h entry.now made.range made.serial) }
+{
+    let body = entry.request.body;
+    let Body::Void { id } = body else {
+        return Err(BookFault::Store);
+    };
+    let pair = pair_number(id.service, id.country);
+    let serial = id.serial.value();
+    let rows = match serials_within(alloc, conn, pair, serial, serial) {
+        Ok(rows) => rows,
+        Err(error) => return Err(fault_of(error)),
+    };
+    voided_row(&rows)
+}
+
+// The rows of ranges and of serials that the call makes behind the history that the tables stand for.
+fn rows_made<S: Alter>(
+    alloc: Global,
+    conn: &mut Connection<S>,
+    arrival: u32,
+    entry: &Entry,
+) -> Result<Made, BookFault>
+    ensures leaves { Leaves S.Store conn.old conn.new }
+    ensures fault { result ≢ Err Full }
+    ensures answer { HasCleanDisk (state S.Store conn.new) → (h : List Entry) (t : Terms) → IsLegal h t → MayFollow h t entry.now → All IsCall h → IsCall entry.now → StandsFor (state S.Store conn.old).now h t
+        → arrival ≡ length h + 1 → IfOk result (λ made. Makes h entry.now made.range made.serial) }
+{
+    match entry.outcome {
+        Outcome::Granted { .. } => Ok(granted_row(entry)),
+        Outcome::Drawn { id, .. } => drawn_made(alloc, conn, arrival, entry, &id),
+        Outcome::Voided => voided_made(alloc, conn, entry),
+        _ => Ok(Made {
+            range: None,
+            serial: None,
+        }),
+    }
+}
+
+/// Keeps the call behind the history that the tables stand for, in one transaction.
+pub(crate) fn keep_call<S: Alter>(
+    alloc: Global,
+    conn: &mut Connection<S>,
+    arrival: u32,
+    entry: &Entry,
+) -> Result<(), BookFault>
+    ensures fault { result ≢ Err Full }
+    ensures clean { doubt (state S.Store conn.old).is_clean ≤ doubt (state S.Store conn.new).is_clean }
+    ensures was_open { HasCleanDisk (state S.Store conn.new) → IsTrue (state S.Store conn.new).is_open → IsTrue (state S.Store conn.old).is_open }
+    ensures ok { HasCleanDisk (state S.Store conn.new) → IsTrue (state S.Store conn.new).is_open → (h : List Entry) (t : Terms) → IsLegal h t → MayFollow h t entry.now → All IsCall h → StandsFor (state S.Store conn.old).now h t
+        → arrival ≡ length h + 1 → OnOk result (IsCall entry.now × StandsFor (state S.Store conn.new).now (h ++ entry.now ∷ []) t) }
+    ensures err { HasCleanDisk (state S.Store conn.new) → IsTrue (state S.Store conn.new).is_open → (state S.Store conn.old).now.schema ≡ ledger_schema
+        → OnErr result ((state S.Store conn.new).now ≡ (state S.Store conn.old).now) }
+{
+    let _day = entry.day;
+    let Some(reply) = Reply::new(entry.request, entry.outcome) else {
+        return Err(BookFault::Store);
+    };
+    let frame = encode_reply(&reply);
+    let made = rows_made(alloc, conn, arrival, entry)?;
+    match keep_rows(
+        conn,
+        arrival,
+        entry,
+        frame.bytes(),
+        &made.range,
+        &made.serial,
+    ) {
+        Ok(()) => Ok(()),
+        Err(error) => Err(fault_of(error)),
+    }
+}
+
+/// Keeps the call, and counts it: how many calls there are then, and the day of the last one.
+pub(crate) fn keep_next<S: Alter>(
+    alloc: Global,
+    conn: &mut Connection<S>,
+    len: &mut u32,
+    day: &mut u32,
+    limit: u32,
+    entry: &Entry,
+) -> Result<(), BookFault>
+    requires { limit ≤ 1000000000 }
+    ensures fault { result ≢ Err Full }
+    ensures clean { doubt (state S.Store conn.old).is_clean ≤ doubt (state S.Store conn.new).is_clean }
+    ensures was_open { HasCleanDisk (state S.Store conn.new) → IsTrue (state S.Store conn.new).is_open → IsTrue (state S.Store conn.old).is_open }
+    ensures few { len.old ≤ 1000000000 → len.new ≤ 1000000000 }
+    ensures counts { OnOk result ((len.new ≡ len.old + 1) × (day.new ≡ entry.now.day)) }
+    ensures same_counts { OnErr result ((len.new ≡ len.old) × (day.new ≡ day.old)) }
+    ensures ok { HasCleanDisk (state S.Store conn.new) → IsTrue (state S.Store conn.new).is_open → (h : List Entry) (t : Terms) → IsLegal h t → MayFollow h t entry.now → All IsCall h → StandsFor (state S.Store conn.old).now h t
+        → len.old ≡ length h → OnOk result (IsCall entry.now × StandsFor (state S.Store conn.new).now (h ++ entry.now ∷ []) t) }
+    ensures err { HasCleanDisk (state S.Store conn.new) → IsTrue (state S.Store conn.new).is_open → (state S.Store conn.old).now.schema ≡ ledger_schema
+        → OnErr result ((state S.Store conn.new).now ≡ (state S.Store conn.old).now) }
+{
+    if *len >= limit {
+        return Err(BookFault::Store);
+    }
+    let arrival = *len + 1;
+    keep_call(alloc, conn, arrival, entry)?;
+    *len = arrival;
+    *day = entry.day;
+    Ok(())
+}

@@ -1,0 +1,221 @@
+//! What a book is asked, by the rows of the tables.
+
+ghost use Rattle.std.specs.Prelude.{◌≡◌, ◌≢◌, ℕ, ◌<◌, ◌^◌, ◌==◌, max, List, length, find, All, Contains, Err, IfOk, IfSome, IsTrue};
+ghost use Rattle.sqlite.specs.Held.{state};
+ghost use Rattle.sqlite.specs.State.{HasCleanDisk};
+ghost use Rattle.s10_wire.specs.Kind.{fits};
+ghost use Rattle.s10_book.specs.declared.entry.Entry.{Entry};
+ghost use Rattle.s10_book.specs.declared.book_fault.BookFault.TheVariants.{Full};
+ghost use Rattle.s10_book.specs.Settings.{Terms};
+ghost use Rattle.s10_book.specs.History.{entry_with_key, entry_at, day_of, ranges_of, is_held_above, overlaps};
+ghost use Rattle.s10_book.specs.Issues.{issues_of, last_issue_of, candidate_of, pick_of};
+ghost use Rattle.s10_book.specs.Usage.{usage_of};
+ghost use Rattle.s10_book.specs.Rules.{IsLegal};
+ghost use Rattle.s10_core.specs.Id.{IsId};
+ghost use Rattle.s10_ledger.specs.Tables.{pair_of};
+ghost use Rattle.s10_ledger.specs.Shown.{StandsFor};
+ghost use Rattle.s10_ledger.specs.Selected.{IsCall};
+ghost use Rattle.s10_ledger.specs.Statements.{Leaves};
+
+use crate::call_reading::only_call;
+use crate::column::pair_number;
+use crate::range_reading::{mark_of, range_after, range_numbered, range_over};
+use crate::reads::{all_ranges, calls_between, calls_with_key, serials_within};
+use crate::serial_reading::only_issue;
+use crate::usage_reading::usage_among;
+use s10_book::{BookFault, Candidate, Entry, Issue, Range, Usage};
+use s10_core::{Country, Id, Serial, Service};
+use sqlite::{Alter, Connection, Error, ErrorCode};
+use std::alloc::Global;
+
+// Want of memory, or a fault of the store.
+pub(crate) fn fault_of(error: Error) -> BookFault
+    ensures { result ≢ Full }
+{
+    match error {
+        Error::SqliteFailure(ErrorCode::OutOfMemory) => BookFault::Memory,
+        _ => BookFault::Store,
+    }
+}
+
+// The columns of an identifier.
+fn columns_of(id: &Id) -> (u32, u32)
+    ensures pair { result.0 ≡ pair_of id.now.service id.now.country }
+    ensures serial { result.1 ≡ id.now.serial }
+    ensures parts { IsId id.now }
+{
+    let _service = id.service.bytes();
+    let _country = id.country.bytes();
+    (pair_number(id.service, id.country), id.serial.value())
+}
+
+pub(crate) fn call_with_key<S: Alter>(
+    alloc: Global,
+    conn: &mut Connection<S>,
+    customer: u32,
+    number: u32,
+) -> Result<Option<Entry>, BookFault>
+    ensures leaves { Leaves S.Store conn.old conn.new }
+    ensures fault { result ≢ Err Full }
+    ensures fits { IfOk result (λ o. IfSome o (λ e. IsTrue (fits e.request.body e.outcome))) }
+    ensures answer { HasCleanDisk (state S.Store conn.new) → (h : List Entry) (t : Terms) → IsLegal h t → All IsCall h → StandsFor (state S.Store conn.old).now h t
+        → IfOk result (λ answer. answer ≡ entry_with_key h customer number) }
+{
+    let rows = match calls_with_key(alloc, conn, customer, number) {
+        Ok(rows) => rows,
+        Err(error) => return Err(fault_of(error)),
+    };
+    only_call(&rows)
+}
+
+pub(crate) fn call_at<S: Alter>(
+    alloc: Global,
+    conn: &mut Connection<S>,
+    at: u32,
+) -> Result<Option<Entry>, BookFault>
+    ensures leaves { Leaves S.Store conn.old conn.new }
+    ensures fault { result ≢ Err Full }
+    ensures answer { HasCleanDisk (state S.Store conn.new) → (h : List Entry) (t : Terms) → IsLegal h t → All IsCall h → StandsFor (state S.Store conn.old).now h t
+        → IfOk result (λ answer. answer ≡ entry_at h at) }
+{
+    let rows = match calls_between(alloc, conn, at, at) {
+        Ok(rows) => rows,
+        Err(error) => return Err(fault_of(error)),
+    };
+    only_call(&rows)
+}
+
+pub(crate) fn range_with_number<S: Alter>(
+    alloc: Global,
+    conn: &mut Connection<S>,
+    num: u32,
+) -> Result<Option<Range>, BookFault>
+    ensures leaves { Leaves S.Store conn.old conn.new }
+    ensures fault { result ≢ Err Full }
+    ensures answer { HasCleanDisk (state S.Store conn.new) → (h : List Entry) (t : Terms) → IsLegal h t → All IsCall h → StandsFor (state S.Store conn.old).now h t
+        → length h < 2 ^ 32 → IfOk result (λ answer. answer ≡ find (λ r. r.num == num) (ranges_of h)) }
+{
+    let rows = match all_ranges(alloc, conn) {
+        Ok(rows) => rows,
+        Err(error) => return Err(fault_of(error)),
+    };
+    range_numbered(&rows, num)
+}
+
+pub(crate) fn range_held<S: Alter>(
+    alloc: Global,
+    conn: &mut Connection<S>,
+    customer: u32,
+    service: Service,
+    country: Country,
+    after: u32,
+) -> Result<Option<Range>, BookFault>
+    ensures leaves { Leaves S.Store conn.old conn.new }
+    ensures fault { result ≢ Err Full }
+    ensures above { IfOk result (λ o. IfSome o (λ r. after < r.num)) }
+    ensures answer { HasCleanDisk (state S.Store conn.new) → (h : List Entry) (t : Terms) → IsLegal h t → All IsCall h → StandsFor (state S.Store conn.old).now h t
+        → length h < 2 ^ 32 → IfOk result (λ answer. answer ≡ find (is_held_above after customer service country) (ranges_of h)) }
+{
+    let rows = match all_ranges(alloc, conn) {
+        Ok(rows) => rows,
+        Err(error) => return Err(fault_of(error)),
+    };
+    range_after(&rows, customer, service, country, after)
+}
+
+pub(crate) fn range_covering<S: Alter>(
+    alloc: Global,
+    conn: &mut Connection<S>,
+    service: Service,
+    country: Country,
+    first: Serial,
+    last: Serial,
+) -> Result<Option<Range>, BookFault>
+    ensures leaves { Leaves S.Store conn.old conn.new }
+    ensures fault { result ≢ Err Full }
+    ensures answer { HasCleanDisk (state S.Store conn.new) → (h : List Entry) (t : Terms) → IsLegal h t → All IsCall h → StandsFor (state S.Store conn.old).now h t
+        → length h < 2 ^ 32 → IfOk result (λ answer. answer ≡ find (overlaps service country first last) (ranges_of h)) }
+{
+    let rows = match all_ranges(alloc, conn) {
+        Ok(rows) => rows,
+        Err(error) => return Err(fault_of(error)),
+    };
+    range_over(&rows, service, country, first, last)
+}
+
+pub(crate) fn issue_of<S: Alter>(
+    alloc: Global,
+    conn: &mut Connection<S>,
+    id: &Id,
+) -> Result<Option<Issue>, BookFault>
+    ensures leaves { Leaves S.Store conn.old conn.new }
+    ensures fault { result ≢ Err Full }
+    ensures answer { HasCleanDisk (state S.Store conn.new) → (h : List Entry) (t : Terms) → IsLegal h t → All IsCall h → StandsFor (state S.Store conn.old).now h t
+        → IfOk result (λ answer. answer ≡ last_issue_of h id.now) }
+{
+    let (pair, serial) = columns_of(id);
+    let rows = match serials_within(alloc, conn, pair, serial, serial) {
+        Ok(rows) => rows,
+        Err(error) => return Err(fault_of(error)),
+    };
+    only_issue(&rows)
+}
+
+pub(crate) fn mark_in<S: Alter>(
+    alloc: Global,
+    conn: &mut Connection<S>,
+    range: &Range,
+) -> Result<Serial, BookFault>
+    ensures leaves { Leaves S.Store conn.old conn.new }
+    ensures fault { result ≢ Err Full }
+    ensures answer { HasCleanDisk (state S.Store conn.new) → (h : List Entry) (t : Terms) → IsLegal h t → All IsCall h → StandsFor (state S.Store conn.old).now h t
+        → length h < 2 ^ 32 → Contains (ranges_of h) range.now → IfOk result (λ answer. answer ≡ pick_of (issues_of h) range.now) }
+{
+    let rows = match all_ranges(alloc, conn) {
+        Ok(rows) => rows,
+        Err(error) => return Err(fault_of(error)),
+    };
+    mark_of(&rows, range)
+}
+
+pub(crate) fn candidate_in<S: Alter>(
+    alloc: Global,
+    conn: &mut Connection<S>,
+    range: &Range,
+) -> Result<Candidate, BookFault>
+    ensures leaves { Leaves S.Store conn.old conn.new }
+    ensures fault { result ≢ Err Full }
+    ensures answer { HasCleanDisk (state S.Store conn.new) → IsTrue (state S.Store conn.new).is_open → (h : List Entry) (t : Terms) → IsLegal h t → All IsCall h → StandsFor (state S.Store conn.old).now h t
+        → length h < 2 ^ 32 → Contains (ranges_of h) range.now → IfOk result (λ answer. answer ≡ candidate_of h range.now) }
+{
+    let serial = mark_in(alloc, conn, range)?;
+    let id = Id {
+        service: range.service,
+        serial,
+        country: range.country,
+    };
+    let issue = issue_of(alloc, conn, &id)?;
+    Ok(Candidate { serial, issue })
+}
+
+pub(crate) fn usage_in<S: Alter>(
+    alloc: Global,
+    conn: &mut Connection<S>,
+    range: &Range,
+    day: u32,
+    interval: u32,
+) -> Result<Usage, BookFault>
+    ensures leaves { Leaves S.Store conn.old conn.new }
+    ensures fault { result ≢ Err Full }
+    ensures answer { HasCleanDisk (state S.Store conn.new) → (h : List Entry) (t : Terms) → IsLegal h t → All IsCall h → StandsFor (state S.Store conn.old).now h t
+        → length h < 2 ^ 32 → Contains (ranges_of h) range.now → (asked : ℕ) → day ≡ max (day_of h) asked → IfOk result (λ answer. answer ≡ usage_of h range.now asked interval) }
+{
+    let pair = pair_number(range.service, range.country);
+    let first = range.first.value();
+    let last = range.last.value();
+    let rows = match serials_within(alloc, conn, pair, first, last) {
+        Ok(rows) => rows,
+        Err(error) => return Err(fault_of(error)),
+    };
+    usage_among(&rows, range, day, interval)
+}

@@ -1,0 +1,153 @@
+//! A book over the tables of a database.
+
+ghost use Rattle.std.specs.Prelude.{◌≡◌, ◌≢◌, Err};
+ghost use Rattle.s10_book.specs.declared.book_fault.BookFault.TheVariants.{Full};
+ghost use Rattle.s10_book.specs.BookFault.{Counts};
+ghost use Rattle.sqlite.specs.Held.{state};
+ghost use Rattle.s10_ledger.specs.Ledger.{history_in, IsHonest};
+
+use crate::keeping::keep_next;
+use crate::lookups::{
+    call_at, call_with_key, candidate_in, issue_of, range_covering, range_held, range_with_number,
+    usage_in,
+};
+use s10_book::{Book, BookFault, Candidate, Entry, Issue, Range, Settings, Usage};
+use s10_core::{Country, Id, Serial, Service};
+use sqlite::{Alter, Connection};
+use std::alloc::Global;
+use std::marker::Model;
+
+/// A book over the tables of a connection.
+pub struct SqlBook<S: Alter> {
+    alloc: Global,
+    conn: Connection<S>,
+    settings: Settings,
+    len: u32,
+    day: u32,
+    faults: u64,
+}
+
+impl<S: Alter> Model for SqlBook<S> {
+    ghost use Rattle.std.specs.Prelude.{IsTrue, ◌≤◌};
+    ghost use Rattle.sqlite.specs.Held.{state};
+    ghost use Rattle.sqlite.specs.State.{HasCleanDisk};
+    ghost use Rattle.s10_ledger.specs.Ledger.{Ledger, ledger_code, IsLedger};
+
+    ghost Value = { Ledger S };
+
+    ghost coded = { ledger_code S.code };
+
+    ghost view = { λ b. record { conn = b.conn; terms = b.settings; len = b.len; day = b.day; faults = b.faults } };
+
+    ghost invariant = { λ b. (b.len ≤ 1000000000) × (HasCleanDisk (state S.Store b.conn) → IsTrue (state S.Store b.conn).is_open → IsLedger (state S.Store b.conn).now b.settings b.len b.day) };
+}
+
+// Counts an answer that is a fault.
+fn counted<T>(faults: &mut u64, answer: Result<T, BookFault>) -> Result<T, BookFault>
+    requires { answer ≢ Err Full }
+    ensures same { result ≡ answer }
+    ensures faults { Counts result faults.old faults.new }
+{
+    if answer.is_err() {
+        *faults = faults.saturating_add(1);
+    }
+    answer
+}
+
+impl<S: Alter> Book for SqlBook<S> {
+    ghost history = { λ b. history_in (state S.Store b.conn).now };
+
+    ghost terms = { λ b. b.terms };
+
+    ghost faults = { λ b. b.faults };
+
+    ghost honest = { IsHonest S.Store };
+
+    ghost legal = { λ b h. h.ledger.legal };
+
+    fn settings(&self) -> Settings {
+        self.settings
+    }
+
+    fn len(&self) -> u32 {
+        self.len
+    }
+
+    fn day(&self) -> u32 {
+        self.day
+    }
+
+    fn find(&mut self, customer: u32, number: u32) -> Result<Option<Entry>, BookFault> {
+        let found = call_with_key(self.alloc, &mut self.conn, customer, number);
+        counted(&mut self.faults, found)
+    }
+
+    fn entry(&mut self, at: u32) -> Result<Option<Entry>, BookFault> {
+        let found = call_at(self.alloc, &mut self.conn, at);
+        counted(&mut self.faults, found)
+    }
+
+    fn range(&mut self, num: u32) -> Result<Option<Range>, BookFault> {
+        let found = range_with_number(self.alloc, &mut self.conn, num);
+        counted(&mut self.faults, found)
+    }
+
+    fn next_range(
+        &mut self,
+        customer: u32,
+        service: Service,
+        country: Country,
+        after: u32,
+    ) -> Result<Option<Range>, BookFault> {
+        let found = range_held(
+            self.alloc,
+            &mut self.conn,
+            customer,
+            service,
+            country,
+            after,
+        );
+        counted(&mut self.faults, found)
+    }
+
+    fn covering(
+        &mut self,
+        service: Service,
+        country: Country,
+        first: Serial,
+        last: Serial,
+    ) -> Result<Option<Range>, BookFault> {
+        let found = range_covering(self.alloc, &mut self.conn, service, country, first, last);
+        counted(&mut self.faults, found)
+    }
+
+    fn last_issue(&mut self, id: &Id) -> Result<Option<Issue>, BookFault> {
+        let found = issue_of(self.alloc, &mut self.conn, id);
+        counted(&mut self.faults, found)
+    }
+
+    fn candidate(&mut self, range: &Range) -> Result<Candidate, BookFault> {
+        let found = candidate_in(self.alloc, &mut self.conn, range);
+        counted(&mut self.faults, found)
+    }
+
+    fn usage(&mut self, range: &Range, day: u32) -> Result<Usage, BookFault> {
+        let interval = self.settings.interval();
+        let day = self.day.max(day);
+        let found = usage_in(self.alloc, &mut self.conn, range, day, interval);
+        counted(&mut self.faults, found)
+    }
+
+    fn keep(&mut self, entry: Entry) -> Result<(), BookFault> {
+        let limit = self.settings.limit();
+        let kept = keep_next(
+            self.alloc,
+            &mut self.conn,
+            &mut self.len,
+            &mut self.day,
+            limit,
+            &entry,
+        );
+        counted(&mut self.faults, kept)
+    }
+}

@@ -1,0 +1,169 @@
+//! The writes of a kept call.
+
+ghost use Rattle.std.specs.Prelude.{◌≡◌, ◌≤◌, ◌++◌, ◌∷◌, [], pos, true, IsTrue, List, length, filter, IfSome, OnOk, OnErr};
+ghost use Rattle.sqlite_trees.specs.View.{doubt};
+ghost use Rattle.sqlite.specs.Held.{state};
+ghost use Rattle.sqlite.specs.State.{HasCleanDisk, Shows, KeepsCommit, Survives};
+ghost use Rattle.s10_ledger.specs.CallRow.{StoredCall};
+ghost use Rattle.s10_ledger.specs.Tables.{Tables};
+ghost use Rattle.s10_ledger.specs.Shown.{HasTables};
+ghost use Rattle.s10_ledger.specs.Kept.{is_at, with_range, with_serial};
+ghost use Rattle.std.specs.Prelude.{Some};
+
+use crate::range_row::RangeRow;
+use crate::serial_row::SerialRow;
+use s10_book::Entry;
+use sqlite::{Alter, Connection, Error, ErrorCode, Transaction, params};
+
+/// Adds the row of a call.
+pub(crate) fn put_call<S: Alter>(
+    tx: &mut Transaction<'_, S>,
+    arrival: u32,
+    entry: &Entry,
+    reply: &[u8],
+) -> Result<(), Error>
+    ensures same_reference { tx.new.conn.ghost_name ≡ tx.old.conn.ghost_name }
+    ensures made { let row : StoredCall = record { arrival = pos arrival; customer = pos entry.now.request.customer; number = pos entry.now.request.number; day = pos entry.now.day; reply = reply.now } in
+        HasCleanDisk (state S.Store tx.new.conn.now) → IsTrue (state S.Store tx.old.conn.now).in_transaction → OnOk result ((tables : Tables) → HasTables (state S.Store tx.old.conn.now).now tables
+        → HasTables (state S.Store tx.new.conn.now).now (record tables { calls = tables.calls ++ row ∷ [] })) }
+    ensures inside { HasCleanDisk (state S.Store tx.new.conn.now) → IsTrue (state S.Store tx.old.conn.now).in_transaction
+        → OnOk result (Shows (state S.Store tx.old.conn.now) (state S.Store tx.new.conn.now) (state S.Store tx.new.conn.now).now (state S.Store tx.old.conn.now).committed true) }
+    ensures kept { HasCleanDisk (state S.Store tx.new.conn.now) → IsTrue (state S.Store tx.old.conn.now).in_transaction → KeepsCommit (state S.Store tx.old.conn.now) (state S.Store tx.new.conn.now) }
+    ensures survives { Survives (state S.Store tx.old.conn.now) (state S.Store tx.new.conn.now) (λ _. ⊥) }
+{
+    tx.execute(
+        "INSERT INTO calls (arrival, customer, number, day, reply) VALUES (?1, ?2, ?3, ?4, ?5)",
+        params![
+            arrival,
+            entry.request.customer,
+            entry.request.number,
+            entry.day,
+            reply
+        ],
+    )?;
+    Ok(())
+}
+
+/// Puts the row of a range in the place of the one with its number, or adds it.
+pub(crate) fn put_range<S: Alter>(
+    tx: &mut Transaction<'_, S>,
+    range: &RangeRow,
+) -> Result<(), Error>
+    ensures same_reference { tx.new.conn.ghost_name ≡ tx.old.conn.ghost_name }
+    ensures made { HasCleanDisk (state S.Store tx.new.conn.now) → IsTrue (state S.Store tx.old.conn.now).in_transaction → OnOk result ((tables : Tables) → HasTables (state S.Store tx.old.conn.now).now tables
+        → HasTables (state S.Store tx.new.conn.now).now (record tables { ranges = with_range (Some range.now) tables.ranges })) }
+    ensures inside { HasCleanDisk (state S.Store tx.new.conn.now) → IsTrue (state S.Store tx.old.conn.now).in_transaction
+        → OnOk result (Shows (state S.Store tx.old.conn.now) (state S.Store tx.new.conn.now) (state S.Store tx.new.conn.now).now (state S.Store tx.old.conn.now).committed true) }
+    ensures kept { HasCleanDisk (state S.Store tx.new.conn.now) → IsTrue (state S.Store tx.old.conn.now).in_transaction → KeepsCommit (state S.Store tx.old.conn.now) (state S.Store tx.new.conn.now) }
+    ensures survives { Survives (state S.Store tx.old.conn.now) (state S.Store tx.new.conn.now) (λ _. ⊥) }
+{
+    let RangeRow {
+        num,
+        holder,
+        pair,
+        low,
+        high,
+        mark,
+    } = *range;
+    tx.execute(
+        "INSERT OR REPLACE INTO ranges (num, holder, pair, low, high, mark) VALUES (?1, ?2, ?3, ?4, ?5, ?6)",
+        params![num, holder, pair, low, high, mark],
+    )?;
+    Ok(())
+}
+
+/// Puts the row of a serial in the place of the one of its identifier, or adds it. It fails unless one row is changed.
+pub(crate) fn put_serial<S: Alter>(
+    tx: &mut Transaction<'_, S>,
+    serial: &SerialRow,
+) -> Result<(), Error>
+    ensures same_reference { tx.new.conn.ghost_name ≡ tx.old.conn.ghost_name }
+    ensures made { HasCleanDisk (state S.Store tx.new.conn.now) → IsTrue (state S.Store tx.old.conn.now).in_transaction → OnOk result ((tables : Tables) → HasTables (state S.Store tx.old.conn.now).now tables
+        → length (filter (is_at serial.now.pair serial.now.serial) tables.serials) ≤ 1 → HasTables (state S.Store tx.new.conn.now).now (record tables { serials = with_serial (Some serial.now) tables.serials })) }
+    ensures inside { HasCleanDisk (state S.Store tx.new.conn.now) → IsTrue (state S.Store tx.old.conn.now).in_transaction
+        → OnOk result (Shows (state S.Store tx.old.conn.now) (state S.Store tx.new.conn.now) (state S.Store tx.new.conn.now).now (state S.Store tx.old.conn.now).committed true) }
+    ensures kept { HasCleanDisk (state S.Store tx.new.conn.now) → IsTrue (state S.Store tx.old.conn.now).in_transaction → KeepsCommit (state S.Store tx.old.conn.now) (state S.Store tx.new.conn.now) }
+    ensures survives { Survives (state S.Store tx.old.conn.now) (state S.Store tx.new.conn.now) (λ _. ⊥) }
+{
+    let SerialRow {
+        pair,
+        serial,
+        arrival,
+        day,
+        customer,
+        number,
+        voided,
+    } = *serial;
+    let changed = tx.execute(
+        "INSERT INTO serials (pair, serial, arrival, day, customer, number, voided) VALUES (?1, ?2, ?3, ?4, ?5, ?6, ?7) ON CONFLICT (pair, serial) DO UPDATE SET arrival = excluded.arrival, day = excluded.day, customer = excluded.customer, number = excluded.number, voided = excluded.voided",
+        params![pair, serial, arrival, day, customer, number, voided],
+    )?;
+    if changed == 1 {
+        Ok(())
+    } else {
+        Err(Error::QueryReturnedNoRows)
+    }
+}
+
+fn put_range_made<S: Alter>(
+    tx: &mut Transaction<'_, S>,
+    range: &Option<RangeRow>,
+) -> Result<(), Error>
+    ensures same_reference { tx.new.conn.ghost_name ≡ tx.old.conn.ghost_name }
+    ensures made { HasCleanDisk (state S.Store tx.new.conn.now) → IsTrue (state S.Store tx.old.conn.now).in_transaction → OnOk result ((tables : Tables) → HasTables (state S.Store tx.old.conn.now).now tables
+        → HasTables (state S.Store tx.new.conn.now).now (record tables { ranges = with_range range.now tables.ranges })) }
+    ensures inside { HasCleanDisk (state S.Store tx.new.conn.now) → IsTrue (state S.Store tx.old.conn.now).in_transaction
+        → OnOk result (IsTrue (state S.Store tx.new.conn.now).in_transaction) }
+    ensures kept { HasCleanDisk (state S.Store tx.new.conn.now) → IsTrue (state S.Store tx.old.conn.now).in_transaction → KeepsCommit (state S.Store tx.old.conn.now) (state S.Store tx.new.conn.now) }
+    ensures clean { doubt (state S.Store tx.old.conn.now).is_clean ≤ doubt (state S.Store tx.new.conn.now).is_clean }
+{
+    match range {
+        None => Ok(()),
+        Some(row) => put_range(tx, row),
+    }
+}
+
+fn put_serial_made<S: Alter>(
+    tx: &mut Transaction<'_, S>,
+    serial: &Option<SerialRow>,
+) -> Result<(), Error>
+    ensures same_reference { tx.new.conn.ghost_name ≡ tx.old.conn.ghost_name }
+    ensures made { HasCleanDisk (state S.Store tx.new.conn.now) → IsTrue (state S.Store tx.old.conn.now).in_transaction → OnOk result ((tables : Tables) → HasTables (state S.Store tx.old.conn.now).now tables
+        → IfSome serial.now (λ s. length (filter (is_at s.pair s.serial) tables.serials) ≤ 1) → HasTables (state S.Store tx.new.conn.now).now (record tables { serials = with_serial serial.now tables.serials })) }
+    ensures inside { HasCleanDisk (state S.Store tx.new.conn.now) → IsTrue (state S.Store tx.old.conn.now).in_transaction
+        → OnOk result (IsTrue (state S.Store tx.new.conn.now).in_transaction) }
+    ensures kept { HasCleanDisk (state S.Store tx.new.conn.now) → IsTrue (state S.Store tx.old.conn.now).in_transaction → KeepsCommit (state S.Store tx.old.conn.now) (state S.Store tx.new.conn.now) }
+    ensures clean { doubt (state S.Store tx.old.conn.now).is_clean ≤ doubt (state S.Store tx.new.conn.now).is_clean }
+{
+    match serial {
+        None => Ok(()),
+        Some(row) => put_serial(tx, row),
+    }
+}
+
+/// Writes the row of a call and those that it makes, in one transaction: all of them, or none.
+pub(crate) fn keep_rows<S: Alter>(
+    conn: &mut Connection<S>,
+    arrival: u32,
+    entry: &Entry,
+    reply: &[u8],
+    range: &Option<RangeRow>,
+    serial: &Option<SerialRow>,
+) -> Result<(), Error>
+    ensures all { let row : StoredCall = record { arrival = pos arrival; customer = pos entry.now.request.customer; number = pos entry.now.request.number; day = pos entry.now.day; reply = reply.now } in
+        HasCleanDisk (state S.Store conn.new) → OnOk result ((tables : Tables) → HasTables (state S.Store conn.old).now tables
+        → IfSome serial.now (λ s. length (filter (is_at s.pair s.serial) tables.serials) ≤ 1)
+        → HasTables (state S.Store conn.new).now (record tables { calls = tables.calls ++ row ∷ []; ranges = with_range range.now tables.ranges; serials = with_serial serial.now tables.serials })) }
+    ensures none { HasCleanDisk (state S.Store conn.new) → IsTrue (state S.Store conn.new).is_open → OnErr result ((state S.Store conn.new).now ≡ (state S.Store conn.old).now) }
+    ensures was_open { HasCleanDisk (state S.Store conn.new) → IsTrue (state S.Store conn.new).is_open → IsTrue (state S.Store conn.old).is_open }
+    ensures clean { doubt (state S.Store conn.old).is_clean ≤ doubt (state S.Store conn.new).is_clean }
+{
+    if !conn.is_autocommit() {
+        return Err(Error::SqliteFailure(ErrorCode::TransactionState));
+    }
+    let mut tx = conn.transaction();
+    put_call(&mut tx, arrival, entry, reply)?;
+    put_range_made(&mut tx, range)?;
+    put_serial_made(&mut tx, serial)?;
+    tx.commit()
+}
