@@ -1,0 +1,3 @@
+mod LineReading
+mod HexReading
+mod Replaying

@@ -1,0 +1,27 @@
+//! What a command line may say.
+use crate::check::check_command;
+use crate::make::make_command;
+use crate::replay_command::replay_command;
+use crate::show::show_command;
+use clap::Command;
+use std::alloc::{AllocError, Global};
+
+const VERSION: &str = "0.1.0";
+
+const STATUSES: &str = "\
+Exit status: 0 done; 1 refused by a rule; 2 the words are no command line; 3 memory, input or
+output failed. `s10 help COMMAND` explains a command, with examples.";
+
+/// The command with all its subcommands.
+pub fn command<'a>(alloc: Global) -> Result<Command<'a>, AllocError> {
+    Command::new(alloc, "s10")
+        .version(VERSION)
+        .about("Issue S10 identifiers of postal items, as RA473124829US, and check them")
+        .after_help(STATUSES)
+        .subcommand_required(true)
+        .arg_required_else_help(true)
+        .subcommand(check_command(alloc)?)?
+        .subcommand(make_command(alloc)?)?
+        .subcommand(show_command(alloc)?)?
+        .subcommand(replay_command(alloc)?)
+}

@@ -1,0 +1,565 @@
+mod replays;
+
+use super::run_line;
+use std::io;
+use std::io::{Read, Write};
+use std::process::Abort;
+use std::test::Fail;
+
+/// Words, the exit status, and what is printed.
+type Case<'a> = (&'a [&'a str], u8, &'a str);
+
+fn run_case<R: Eprint + AllocGlobal + Abort>(rt: &R, words: &[&str], status: u8, text: &str) {
+    let mut input: &[u8] = b"";
+    let mut output = Vec::new(rt.alloc());
+    let answer = run_line(rt, words, &mut input, &mut output);
+    assert_eq!(rt; answer, Some(status), "{words:?}");
+    assert_eq!(rt; output.as_slice(), text.as_bytes(), "{words:?}");
+}
+
+fn run_cases<R: Eprint + AllocGlobal + Abort>(rt: &R, cases: &[Case<'_>]) {
+    for (words, status, text) in cases {
+        run_case(rt, words, *status, text);
+    }
+}
+
+#[test]
+fn check_names_the_group_of_a_valid_identifier(rt: HostRuntime) {
+    run_cases(
+        &rt,
+        &[
+            (
+                &["s10", "check", "RA473124829US"],
+                0,
+                "RA473124829US valid registered\n",
+            ),
+            (
+                &["s10", "check", "CA473124829US"],
+                0,
+                "CA473124829US valid parcel\n",
+            ),
+            (
+                &["s10", "check", "EE473124829US"],
+                0,
+                "EE473124829US valid ems\n",
+            ),
+            (
+                &["s10", "check", "VV473124829US"],
+                0,
+                "VV473124829US valid insured\n",
+            ),
+            (
+                &["s10", "check", "LA473124829US"],
+                0,
+                "LA473124829US valid other\n",
+            ),
+            (
+                &["s10", "check", "RA000000045GB"],
+                0,
+                "RA000000045GB valid registered\n",
+            ),
+        ],
+    );
+}
+
+#[test]
+fn check_reads_a_label_only_where_it_is_asked_to(rt: HostRuntime) {
+    run_cases(
+        &rt,
+        &[
+            (
+                &["s10", "check", "--label", "ra 473 124 829 us"],
+                0,
+                "RA473124829US valid registered\n",
+            ),
+            (
+                &["s10", "check", "ra 473 124 829 us", "--label"],
+                0,
+                "RA473124829US valid registered\n",
+            ),
+            (
+                &["s10", "check", "--label", "ra 473 124 82x us"],
+                1,
+                "refused digit 10\n",
+            ),
+            (
+                &["s10", "check", "ra 473 124 829 us"],
+                1,
+                "refused length\n",
+            ),
+        ],
+    );
+}
+
+#[test]
+fn check_names_the_first_fault(rt: HostRuntime) {
+    run_cases(
+        &rt,
+        &[
+            (&["s10", "check", ""], 1, "refused length\n"),
+            (&["s10", "check", "RA47312482US"], 1, "refused length\n"),
+            (&["s10", "check", "ra473124829US"], 1, "refused letter 0\n"),
+            (&["s10", "check", "RA473124829Us"], 1, "refused letter 12\n"),
+            (&["s10", "check", "RA47312482XUS"], 1, "refused digit 10\n"),
+            (
+                &["s10", "check", "RA473124828US"],
+                1,
+                "refused check-digit\n",
+            ),
+            (
+                &["s10", "check", "--", "-A473124829US"],
+                1,
+                "refused letter 0\n",
+            ),
+        ],
+    );
+}
+
+#[test]
+fn make_writes_the_identifier_of_its_parts(rt: HostRuntime) {
+    run_cases(
+        &rt,
+        &[
+            (
+                &["s10", "make", "RA", "00000000", "GB"],
+                0,
+                "RA000000005GB\n",
+            ),
+            (
+                &["s10", "make", "RA", "00000008", "GB"],
+                0,
+                "RA000000080GB\n",
+            ),
+            (
+                &["s10", "make", "RA", "99999999", "GB"],
+                0,
+                "RA999999995GB\n",
+            ),
+            (
+                &["s10", "make", "RA", "12345678", "GB"],
+                0,
+                "RA123456785GB\n",
+            ),
+        ],
+    );
+}
+
+#[test]
+fn make_names_the_first_part_that_is_wrong(rt: HostRuntime) {
+    run_cases(
+        &rt,
+        &[
+            (
+                &["s10", "make", "RA", "1234567", "GB"],
+                1,
+                "refused serial\n",
+            ),
+            (
+                &["s10", "make", "RA", "123456789", "GB"],
+                1,
+                "refused serial\n",
+            ),
+            (
+                &["s10", "make", "RA", "1234567x", "GB"],
+                1,
+                "refused serial\n",
+            ),
+            (
+                &["s10", "make", "ra", "1234567", "G"],
+                1,
+                "refused service\n",
+            ),
+            (
+                &["s10", "make", "RAA", "00000000", "GB"],
+                1,
+                "refused service\n",
+            ),
+            (
+                &["s10", "make", "RA", "1234567", "G"],
+                1,
+                "refused serial\n",
+            ),
+            (
+                &["s10", "make", "RA", "12345678", "G"],
+                1,
+                "refused country\n",
+            ),
+            (
+                &["s10", "make", "RA", "12345678", "G8"],
+                1,
+                "refused country\n",
+            ),
+        ],
+    );
+}
+
+#[test]
+fn show_names_the_parts_of_a_request(rt: HostRuntime) {
+    run_cases(
+        &rt,
+        &[
+            (
+                &[
+                    "s10",
+                    "show",
+                    "53310101000000000000000100000007524147420000000000000002",
+                ],
+                0,
+                "request grant customer 0 number 1 holder 7 RA GB 00000000 00000002\n",
+            ),
+            (
+                &["s10", "show", "53310102000000070000000152414742"],
+                0,
+                "request draw customer 7 number 1 RA GB\n",
+            ),
+            (
+                &[
+                    "s10",
+                    "show",
+                    "53310103000000070000000352413030303030303031344742",
+                ],
+                0,
+                "request void customer 7 number 3 RA000000014GB\n",
+            ),
+            (
+                &[
+                    "s10",
+                    "show",
+                    "53310104000000070000000152413030303030303030354742",
+                ],
+                0,
+                "request query customer 7 number 1 RA000000005GB\n",
+            ),
+        ],
+    );
+}
+
+#[test]
+fn show_names_the_outcome_of_a_reply(rt: HostRuntime) {
+    run_cases(
+        &rt,
+        &[
+            (
+                &[
+                    "s10",
+                    "show",
+                    "533101810000000000000001000000075241474200000000000000020000000001",
+                ],
+                0,
+                "reply grant customer 0 number 1 holder 7 RA GB 00000000 00000002 done range 1\n",
+            ),
+            (
+                &[
+                    "s10",
+                    "show",
+                    "5331018100000000000000020000000852414742000000020000000503",
+                ],
+                0,
+                "reply grant customer 0 number 2 holder 8 RA GB 00000002 00000005 overlap\n",
+            ),
+            (
+                &[
+                    "s10",
+                    "show",
+                    "533101820000000700000001524147420000004E2052413030303030303030354742",
+                ],
+                0,
+                "reply draw customer 7 number 1 RA GB done day 20000 RA000000005GB\n",
+            ),
+            (
+                &["s10", "show", "5331018200000007000000045241474205"],
+                0,
+                "reply draw customer 7 number 4 RA GB none-free\n",
+            ),
+            (
+                &[
+                    "s10",
+                    "show",
+                    "5331018300000007000000035241303030303030303134474200",
+                ],
+                0,
+                "reply void customer 7 number 3 RA000000014GB done\n",
+            ),
+            (
+                &[
+                    "s10",
+                    "show",
+                    "5331018300000007000000045241303030303030303134474208",
+                ],
+                0,
+                "reply void customer 7 number 4 RA000000014GB already-void\n",
+            ),
+            (
+                &[
+                    "s10",
+                    "show",
+                    "5331018400000007000000015241303030303030303035474209",
+                ],
+                0,
+                "reply query customer 7 number 1 RA000000005GB number-reused\n",
+            ),
+            (
+                &[
+                    "s10",
+                    "show",
+                    "53310184000000070000000952413030303030303031344742000200004e3e",
+                ],
+                0,
+                "reply query customer 7 number 9 RA000000014GB done issued 20030\n",
+            ),
+            (
+                &[
+                    "s10",
+                    "show",
+                    "53310184000000000000000252413437333132343832395553000000000000",
+                ],
+                0,
+                "reply query customer 0 number 2 RA473124829US done unknown\n",
+            ),
+        ],
+    );
+}
+
+#[test]
+fn show_names_what_is_wrong_with_a_datagram(rt: HostRuntime) {
+    run_cases(
+        &rt,
+        &[
+            (&["s10", "show", ""], 1, "refused short\n"),
+            (&["s10", "show", "5331"], 1, "refused short\n"),
+            (
+                &["s10", "show", "53300102000000070000000152414742"],
+                1,
+                "refused magic\n",
+            ),
+            (
+                &["s10", "show", "53310902000000070000000152414742"],
+                1,
+                "refused version\n",
+            ),
+            (
+                &["s10", "show", "53310100000000070000000152414742"],
+                1,
+                "refused kind\n",
+            ),
+            (
+                &["s10", "show", "533101020000000700000001524147"],
+                1,
+                "refused length\n",
+            ),
+            (
+                &["s10", "show", "53310102000000070000000172614742"],
+                1,
+                "refused field 12\n",
+            ),
+            // With 80 hex added to its kind the same datagram is a reply without its outcome.
+            (
+                &["s10", "show", "53310182000000070000000152414742"],
+                1,
+                "refused length\n",
+            ),
+            (
+                &["s10", "show", "533101820000000700000001524147420a"],
+                1,
+                "refused outcome\n",
+            ),
+        ],
+    );
+}
+
+#[test]
+fn show_reads_at_most_512_bytes_of_two_digits_each(rt: HostRuntime) -> Result<(), Fail> {
+    run_cases(
+        &rt,
+        &[
+            (&["s10", "show", "533"], 1, "refused hex\n"),
+            (&["s10", "show", "53g1"], 1, "refused hex\n"),
+            (&["s10", "show", "0x5331"], 1, "refused hex\n"),
+        ],
+    );
+    let mut zeros = String::new(rt.alloc());
+    for _ in 0..512 {
+        zeros.push_str("00")?;
+    }
+    run_case(&rt, &["s10", "show", zeros.as_str()], 1, "refused magic\n");
+    zeros.push_str("00")?;
+    run_case(&rt, &["s10", "show", zeros.as_str()], 1, "refused hex\n");
+    Ok(())
+}
+
+/// The post grants one serial number, and customer 7 draws twice, 29 days apart.
+const TWO_DRAWS: &[u8] = b"20000 53310101000000000000000100000007524147420000000000000000
+20000 53310102000000070000000152414742
+20029 53310102000000070000000252414742
+";
+
+fn run_replay_case<R: Eprint + AllocGlobal + Abort>(
+    rt: &R,
+    words: &[&str],
+    mut input: &[u8],
+    status: u8,
+    text: &str,
+) {
+    let mut output = Vec::new(rt.alloc());
+    let answer = run_line(rt, words, &mut input, &mut output);
+    assert_eq!(rt; answer, Some(status), "{words:?}");
+    assert_eq!(rt; output.as_slice(), text.as_bytes(), "{words:?}");
+}
+
+#[test]
+fn replay_has_the_interval_and_the_limit_that_are_given(rt: HostRuntime) {
+    let none_free = "533101810000000000000001000000075241474200000000000000000000000001
+533101820000000700000001524147420000004e2052413030303030303030354742
+5331018200000007000000025241474205
+";
+    let drawn_again = "533101810000000000000001000000075241474200000000000000000000000001
+533101820000000700000001524147420000004e2052413030303030303030354742
+533101820000000700000002524147420000004e3d52413030303030303030354742
+";
+    let full = "533101810000000000000001000000075241474200000000000000000000000001
+533101820000000700000001524147420000004e2052413030303030303030354742
+faulted full
+";
+    let cases: [(&[&str], &str); 4] = [
+        (&["s10", "replay"], none_free),
+        (
+            &["s10", "replay", "--interval", "30", "--limit", "3"],
+            none_free,
+        ),
+        (&["s10", "replay", "--interval", "29"], drawn_again),
+        (&["s10", "replay", "--limit=2"], full),
+    ];
+    for (words, text) in cases {
+        run_replay_case(&rt, words, TWO_DRAWS, 0, text);
+    }
+    run_replay_case(&rt, &["s10", "replay"], b"", 0, "");
+}
+
+#[test]
+fn replay_names_the_first_refused_line(rt: HostRuntime) {
+    let words = ["s10", "replay"];
+    run_replay_case(&rt, &words, b"20000 5", 1, "refused line 1\n");
+    run_replay_case(
+        &rt,
+        &words,
+        b"1 53310102000000070000000152414742\n\n1 53\n4294967296 53\n1 53\n",
+        1,
+        "5331018200000007000000015241474204\ndropped short\nrefused line 4\n",
+    );
+}
+
+#[test]
+fn a_fault_of_the_command_line_prints_nothing_to_the_output(rt: HostRuntime) {
+    run_cases(
+        &rt,
+        &[
+            (&["s10"], 2, ""),
+            (&["s10", "nothing"], 2, ""),
+            (&["s10", "check"], 2, ""),
+            (&["s10", "check", "RA473124829US", "RA473124829US"], 2, ""),
+            (&["s10", "check", "--strict", "RA473124829US"], 2, ""),
+            (&["s10", "make", "RA", "00000000"], 2, ""),
+            (&["s10", "replay", "--interval", "0"], 2, ""),
+            (&["s10", "replay", "--interval", "3651"], 2, ""),
+            (&["s10", "replay", "--limit", "0"], 2, ""),
+            (&["s10", "replay", "--limit", "1000000001"], 2, ""),
+            (&["s10", "replay", "--limit", "4294967297"], 2, ""),
+        ],
+    );
+}
+
+#[test]
+fn help_and_the_version_are_printed_where_they_are_asked_for(rt: HostRuntime) {
+    let asked: [(&[&str], &str); 9] = [
+        (&["s10", "--version"], "s10 "),
+        (&["s10", "--help"], "Issue S10 identifiers"),
+        (&["s10", "help"], "Issue S10 identifiers"),
+        (&["s10", "help", "check"], "Check an identifier"),
+        (&["s10", "check", "--help"], "Check an identifier"),
+        (&["s10", "help", "make"], "Write the identifier"),
+        (&["s10", "make", "-h"], "Write the identifier"),
+        (&["s10", "show", "--help"], "Show the request or the reply"),
+        (&["s10", "help", "replay"], "Answer the datagrams"),
+    ];
+    for (words, start) in asked {
+        let mut input: &[u8] = b"";
+        let mut output = Vec::new(rt.alloc());
+        assert_eq!(rt;
+            run_line(&rt, words, &mut input, &mut output),
+            Some(0),
+            "{words:?}"
+        );
+        assert!(rt;
+            output.as_slice().starts_with(start.as_bytes()),
+            "{words:?}"
+        );
+    }
+}
+
+/// A writer that refuses every byte.
+#[derive(Drop)]
+struct Refusing;
+
+impl Write for Refusing {
+    fn write(&mut self, _buf: &[u8]) -> io::Result<usize> {
+        Err(io::Error::from(io::ErrorKind::Other))
+    }
+
+    fn flush(&mut self) -> io::Result<()> {
+        Ok(())
+    }
+}
+
+#[test]
+fn a_writer_that_fails_ends_the_line(rt: HostRuntime) {
+    let lines: [&[&str]; 5] = [
+        &["s10", "check", "RA473124829US"],
+        &["s10", "check", "RA473124828US"],
+        &["s10", "make", "RA", "00000000", "GB"],
+        &["s10", "show", "53310102000000070000000152414742"],
+        &["s10", "help"],
+    ];
+    for words in lines {
+        let mut input: &[u8] = b"";
+        assert_eq!(rt;
+            run_line(&rt, words, &mut input, &mut Refusing),
+            Some(3),
+            "{words:?}"
+        );
+    }
+}
+
+#[test]
+fn a_writer_that_fails_ends_a_replay(rt: HostRuntime) {
+    let mut input: &[u8] = b"1 53\n";
+    assert_eq!(rt;
+        run_line(&rt, &["s10", "replay"], &mut input, &mut Refusing),
+        Some(3)
+    );
+}
+
+/// A reader that gives its bytes and then fails.
+#[derive(Drop)]
+struct Broken<'a>(&'a [u8]);
+
+impl Read for Broken<'_> {
+    fn read(&mut self, buf: &mut [u8]) -> io::Result<usize> {
+        if self.0.is_empty() {
+            return Err(io::Error::from(io::ErrorKind::Other));
+        }
+        self.0.read(buf)
+    }
+}
+
+#[test]
+fn a_reader_that_fails_ends_a_replay_after_the_lines_before(rt: HostRuntime) {
+    let mut output = Vec::new(rt.alloc());
+    let answer = run_line(
+        &rt,
+        &["s10", "replay"],
+        &mut Broken(b"1 53\n1 53"),
+        &mut output,
+    );
+    assert_eq!(rt; answer, Some(3));
+    assert_eq!(rt; output.as_slice(), b"dropped short\ninput\n".as_slice());
+}

@@ -1,0 +1,69 @@
+//! The words that are printed for groups and faults.
+ghost use Rattle.std.specs.Prelude.{◌≡◌, [], ◌∷◌, OnOk, decimal};
+ghost use Rattle.std.specs.Io.KnownBytes.{Appends};
+ghost use Rattle.s10_wire.specs.Lines.{spaced};
+ghost use Rattle.s10_cli.specs.Words.{group_words, text_fault_words, wire_fault_words, book_fault_words};
+
+use s10_book::BookFault;
+use s10_core::{Group, TextFault};
+use s10_wire::{WireFault, WriteFault, write_decimal, write_word};
+use std::io::Write;
+
+/// The word of a group.
+pub fn group_word(group: Group) -> &'static str
+    ensures { result.now ≡ group_words group }
+{
+    match group {
+        Group::Parcel => "parcel",
+        Group::Ems => "ems",
+        Group::Registered => "registered",
+        Group::Insured => "insured",
+        Group::Other => "other",
+    }
+}
+
+/// Writes the words of a text fault, with a space before each.
+pub fn write_text_fault<W: Write>(fault: TextFault, out: &mut W) -> Result<(), WriteFault>
+    ensures { OnOk result (Appends (W.contents out.old) (W.contents out.new) (spaced (text_fault_words fault))) }
+{
+    match fault {
+        TextFault::Length => write_word(b"length", out),
+        TextFault::Letter(at) => write_placed(b"letter", u32::from(at), out),
+        TextFault::Digit(at) => write_placed(b"digit", u32::from(at), out),
+        TextFault::CheckDigit => write_word(b"check-digit", out),
+    }
+}
+
+/// Writes the words of a datagram's fault, with a space before each.
+pub fn write_wire_fault<W: Write>(fault: WireFault, out: &mut W) -> Result<(), WriteFault>
+    ensures { OnOk result (Appends (W.contents out.old) (W.contents out.new) (spaced (wire_fault_words fault))) }
+{
+    match fault {
+        WireFault::Short => write_word(b"short", out),
+        WireFault::Magic => write_word(b"magic", out),
+        WireFault::Version => write_word(b"version", out),
+        WireFault::Kind => write_word(b"kind", out),
+        WireFault::Length => write_word(b"length", out),
+        WireFault::Field(at) => write_placed(b"field", u32::from(at), out),
+        WireFault::Outcome => write_word(b"outcome", out),
+    }
+}
+
+/// Writes the word of a book's fault, with a space before it.
+pub fn write_book_fault<W: Write>(fault: BookFault, out: &mut W) -> Result<(), WriteFault>
+    ensures { OnOk result (Appends (W.contents out.old) (W.contents out.new) (spaced (book_fault_words fault))) }
+{
+    match fault {
+        BookFault::Memory => write_word(b"memory", out),
+        BookFault::Store => write_word(b"store", out),
+        BookFault::Full => write_word(b"full", out),
+    }
+}
+
+// A word, and the place that it is about.
+fn write_placed<W: Write>(word: &[u8], at: u32, out: &mut W) -> Result<(), WriteFault>
+    ensures { OnOk result (Appends (W.contents out.old) (W.contents out.new) (spaced (word.now ∷ decimal at ∷ []))) }
+{
+    write_word(word, out)?;
+    write_decimal(at, out)
+}
