@@ -49,7 +49,7 @@ call_from v = record { arrival = int_in (column v 0); customer = int_in (column 
 abbrev pub range_from : Row → RangeRow
 range_from v = record { num = int_in (column v 0); holder = int_in (column v 1); pair = int_in (column v 2); low = int_in (column v 3); high = int_in (column v 4); mark = int_in (column v 5) }
 
-abbrev serial_from : Row → SerialRow
+abbrev pub serial_from : Row → SerialRow
 serial_from v = record { pair = int_in (column v 0); serial = int_in (column v 1); arrival = int_in (column v 2); day = int_in (column v 3); customer = int_in (column v 4); number = int_in (column v 5); voided = int_in (column v 6) }
 
 abbrev pub wide_columns : Row → Row
@@ -57,7 +57,7 @@ wide_columns r = column r 1 ∷ column r 2 ∷ column r 3 ∷ column r 4 ∷ col
 
 -- ---- the keys of ORDER BY
 
-abbrev first_key : Row → Row
+abbrev pub first_key : Row → Row
 first_key v = column v 0 ∷ []
 
 abbrev pair_key : Row → Row
@@ -65,7 +65,7 @@ pair_key v = column v 0 ∷ column v 1 ∷ []
 
 -- ---- the tests of WHERE
 
-abbrev always : Row → Bool
+abbrev pub always : Row → Bool
 always v = true
 
 abbrev pub key_test : Row → Row → Bool
@@ -111,7 +111,7 @@ module _ (params : Row) (old new : State) (rows : List Row) (has : old.now.schem
       rows_are params arrivals_query (old.now.trees 1) call_columns first_key (arrivals_test params) (λ r. refl) (λ r. refl) a.kept a.ordered rows
       (kept_are params arrivals_query (old.now.trees 1) call_columns first_key (arrivals_test params) (λ r. refl) (λ r. refl) a.staged a.kept a.grouped a.distinct) a.same a.shown
 
-  calls_answers : Shown calls_text params old new rows → IsAnswer calls_query (overlay old.now.trees []) params rows
+  pub calls_answers : Shown calls_text params old new rows → IsAnswer calls_query (overlay old.now.trees []) params rows
   calls_answers h = (reads_as calls_text params old new ledger_schema has _ calls_is calls_plain calls_unlisted rows h).answer Null
 
   pub calls_shows : Shown calls_text params old new rows → IsPermutation (map call_columns (old.now.trees 1)) rows

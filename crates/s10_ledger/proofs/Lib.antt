@@ -2,11 +2,14 @@ pub mod Texts
 pub mod ReadLemmas
 pub mod StateLemmas
 pub mod AnswerLemmas
+pub mod ArrivalLemmas
 pub mod RowLemmas
 pub mod FoundLemmas
 pub mod PutLemmas
 pub mod WriteTexts
 pub mod KeepLemmas
+pub mod MakeLemmas
+pub mod HeadLemmas
 pub mod GoneLemmas
 pub mod MarkLemmas
 pub mod IssueLemmas
@@ -25,6 +28,7 @@ pub mod Sums
 pub mod Usage
 pub mod Replaying
 pub mod Made
+pub mod Remade
 pub mod Replaced
 pub mod MadeRows
 pub mod GrantRows
@@ -32,4 +36,8 @@ pub mod DrawRows
 pub mod VoidRows
 pub mod HistoryLemmas
 pub mod BookLemmas
+pub mod NewLedger
 pub mod KeyLemmas
+pub mod SchemaLemmas
+pub mod WholeLemmas
+pub mod RefusalLemmas

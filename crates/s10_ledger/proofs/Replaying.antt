@@ -1,11 +1,13 @@
 -- The rows of calls that were replayed.
-use Rattle.std.proofs.Common.{◌≡◌, ℕ, ℤ, zero, suc, ◌+◌, ◌<◌, List, [], ◌∷◌, ◌++◌, length, get_or, take, length-take, Option, Some, refl, sym, ap, ◌∙◌, ◌⊎◌, inl, inr, arith, pos, subst}
+use Rattle.std.proofs.Common.{◌≡◌, ℕ, ℤ, zero, suc, ◌+◌, ◌^◌, ◌<◌, List, [], ◌∷◌, ◌++◌, length, get_or, take, length-take, Option, Some, refl, sym, ap, ◌∙◌, ◌⊎◌, inl, inr, arith, pos, subst}
 use Rattle.std.specs.Prelude.{slice_get, None, IfSome, IfNone}
 use Rattle.std.proofs.lemmas.Option.{none-some, same_Some}
 use Rattle.std.proofs.lemmas.List.{take_more, map-append, length-map}
 use Rattle.s10_book.specs.declared.entry.Entry.{Entry}
 use Rattle.s10_book.specs.Settings.{Terms, AreTerms}
+use Rattle.s10_book.specs.Rules.{MayFollow}
 use Rattle.s10_ledger.specs.CallRow.{StoredCall}
+use Rattle.s10_ledger.specs.ReadRows.{IsCallOf}
 use Rattle.s10_ledger.specs.declared.head_row.HeadRow.{HeadRow}
 use Rattle.s10_ledger.specs.declared.open_fault.OpenFault.TheVariants.{Damaged}
 use Rattle.s10_ledger.specs.Tables.{Tables, head_row}
@@ -25,6 +27,15 @@ pub unread_is_wrong : (row : StoredCall) (t : Terms) (before : List Entry) → (
 unread_is_wrong row t before none right =
     let r = right.replies in
     none (entry_of row) (record { request = r.0; outcome = r.1; fitting = r.2; day = right.day_fits }) r right.day
+
+-- a row that reads as a call which may follow is right
+pub right_row : (row : StoredCall) (e : Entry) (t : Terms) (before : List Entry) → IsCallOf row e → row.arrival ≡ pos (length before + 1) → row.customer ≡ pos e.request.customer
+    → row.number ≡ pos e.request.number → MayFollow before t e → (e ≡ entry_of row) × IsCall e × IsRightRow t before row
+right_row row e t before read arrival customer number follows =
+    let same : e ≡ entry_of row = read.entry in
+    let right : Entry → Type 0 = λ d. Replies row.reply d.request d.outcome × (row.customer ≡ pos d.request.customer) × (row.number ≡ pos d.request.number) × (row.day ≡ pos d.day) × (d.day < 2 ^ 32) × MayFollow before t d in
+    let r = subst right same (read.replies, customer, number, read.day, read.call.day, follows) in
+    (same, read.call, record { arrival = arrival; replies = r.0; customer = r.1; number = r.2; day = r.3; day_fits = r.4; follows = r.5 })
 
 -- what stands at a place of a list with one more item
 pub place_cases : {A : Type 0} (xs : List A) (a : A) (k : ℕ) (x : A) → slice_get (xs ++ a ∷ []) k ≡ Some x
@@ -87,8 +98,18 @@ right_again s t g h row e f right = subst (λ u. IsRightRow u h row) e (subst (�
 pub kept_length : (rows : List StoredCall) (i : ℕ) → i < length rows → length (kept_of (take i rows)) ≡ i
 kept_length rows i within = length-map (take i rows) entry_of ∙ omega (arith, length-take i rows)
 
+-- the rows are right, and their calls are kept
+pub record HasReplayed (t : Terms) (rows : List StoredCall) (kept : List Entry) : Type 0 where
+  pub right : AreRight t rows
+  pub history : kept ≡ kept_of rows
+
+pub replayed_none : (t : Terms) (kept : List Entry) → kept ≡ [] → HasReplayed t [] kept
+replayed_none t kept none = record { right = right_none t; history = none }
+
 -- the book with one more call keeps one more row's
-pub history_more : (rows : List StoredCall) (i : ℕ) (row : StoredCall) (old mid new : List Entry) (e : Entry) → i < length rows → row ≡ get_or rows i row
-    → old ≡ kept_of (take i rows) → mid ≡ old → e ≡ entry_of row → new ≡ mid ++ e ∷ [] → new ≡ kept_of (take (i + 1) rows)
-history_more rows i row old mid new e within is kept same read more =
-    more ∙ ap (λ l. l ++ e ∷ []) (same ∙ kept) ∙ ap (λ x. kept_of (take i rows) ++ x ∷ []) read ∙ sym (kept_more rows i row within is)
+pub replayed_more : (t : Terms) (rows : List StoredCall) (i : ℕ) (row : StoredCall) (old new : List Entry) (e : Entry) → i < length rows → row ≡ get_or rows i row
+    → HasReplayed t (take i rows) old → IsRightRow t old row → e ≡ entry_of row → new ≡ old ++ e ∷ [] → HasReplayed t (take (i + 1) rows) new
+replayed_more t rows i row old new e within is so_far right read more = record {
+  right = right_more t rows i row within is so_far.right (subst (λ l. IsRightRow t l row) so_far.history right);
+  history = more ∙ ap (λ l. l ++ e ∷ []) so_far.history ∙ ap (λ x. kept_of (take i rows) ++ x ∷ []) read ∙ sym (kept_more rows i row within is);
+}

@@ -10,3 +10,4 @@ pub mod Shown
 pub mod Statements
 pub mod Ledger
 pub mod ReadRows
+pub mod Refusals

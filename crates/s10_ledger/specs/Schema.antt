@@ -1,5 +1,5 @@
 -- The four tables of a ledger, as CREATE TABLE makes them in an empty database, each with its tree.
-use Rattle.std.specs.Prelude.{true, false, [], ◌∷◌, Some, None, codes, List, ℕ, Bool}
+use Rattle.std.specs.Prelude.{◌≡◌, true, false, [], ◌∷◌, Some, None, codes, List, ℕ, Bool, slice_index_or}
 use Rattle.sqlite_value.specs.declared.keys.Collation.TheVariants.{Binary}
 use Rattle.sqlite_value.specs.declared.value.Value.TheVariants.{Null, Int}
 use Rattle.sqlite_value.specs.Keys.{plain}
@@ -7,6 +7,8 @@ use Rattle.std.specs.Prelude.{pos}
 use Rattle.sqlite_sql.specs.declared.ops.BinaryOp.TheVariants.{Compare}
 use Rattle.sqlite_sql.specs.declared.ops.CompareOp.TheVariants.{Eq}
 use Rattle.sqlite_sql.specs.Term.{Term, lit, col, op2}
+use Rattle.sqlite_schema.specs.declared.code.Op.{Op}
+use Rattle.sqlite_schema.specs.declared.code.Op.TheVariants.{Literal}
 use Rattle.sqlite_schema.specs.declared.schema.Column.{Column}
 use Rattle.sqlite_schema.specs.declared.schema.Table.{Table}
 use Rattle.sqlite_schema.specs.declared.schema.Index.{Index}
@@ -21,6 +23,21 @@ column_of name kind = record { name = name; kind = kind; is_strict = true; not_n
 abbrev pub integer : List ℕ → Column
 integer name = column_of name Integer
 
+-- CHECK (one = 1)
+abbrev pub one_is_one : Term
+one_is_one = op2 (Compare Eq Binary) (col 1 0) (lit (Int (pos 1)))
+
+-- the node at a place, where NULL stands at each place that there is not
+abbrev pub node_at : List Op → ℕ → Op
+node_at nodes at = slice_index_or nodes at (Literal Null)
+
+-- the table has no rule but its keys and its checks
+pub record IsBare (t : Table) : Type 0 where
+  pub references : t.references ≡ []
+  pub computed : t.computed ≡ []
+  pub stamps : t.stamps ≡ record { places = []; terms = []; formats = [] }
+  pub uncounted : t.is_counted ≡ false
+
 abbrev pub head_table : Table
 head_table = record {
   name = codes "head";
@@ -30,7 +47,7 @@ head_table = record {
   primary = 0 ∷ [];
   uniques = [];
   orders = [];
-  checks = op2 (Compare Eq Binary) (col 1 0) (lit (Int (pos 1))) ∷ [];
+  checks = one_is_one ∷ [];
   references = [];
   computed = [];
   stamps = record { places = []; terms = []; formats = [] };
@@ -93,3 +110,7 @@ serials_index = record { name = codes "sqlite_autoindex_serials_1"; tree = 5; ta
 
 abbrev pub ledger_schema : Schema
 ledger_schema = record { tables = head_table ∷ calls_table ∷ ranges_table ∷ serials_table ∷ []; indexes = calls_index ∷ serials_index ∷ []; views = [] }
+
+-- the schema of an empty database
+abbrev pub no_schema : Schema
+no_schema = record { tables = []; indexes = []; views = [] }

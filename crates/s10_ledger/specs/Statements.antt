@@ -27,6 +27,21 @@ within_text = codes "SELECT pair, serial, arrival, day, customer, number, voided
 abbrev pub serials_text : List ℕ
 serials_text = codes "SELECT pair, serial, arrival, day, customer, number, voided, rowid FROM serials ORDER BY pair, serial"
 
+abbrev pub head_made : List ℕ
+head_made = codes "CREATE TABLE head (one INTEGER NOT NULL PRIMARY KEY CHECK (one = 1), schema INTEGER NOT NULL, interval INTEGER NOT NULL, cap INTEGER NOT NULL) STRICT"
+
+abbrev pub calls_made : List ℕ
+calls_made = codes "CREATE TABLE calls (arrival INTEGER NOT NULL PRIMARY KEY, customer INTEGER NOT NULL, number INTEGER NOT NULL, day INTEGER NOT NULL, reply BLOB NOT NULL, UNIQUE (customer, number)) STRICT"
+
+abbrev pub ranges_made : List ℕ
+ranges_made = codes "CREATE TABLE ranges (num INTEGER NOT NULL PRIMARY KEY, holder INTEGER NOT NULL, pair INTEGER NOT NULL, low INTEGER NOT NULL, high INTEGER NOT NULL, mark INTEGER NOT NULL) STRICT"
+
+abbrev pub serials_made : List ℕ
+serials_made = codes "CREATE TABLE serials (pair INTEGER NOT NULL, serial INTEGER NOT NULL, arrival INTEGER NOT NULL, day INTEGER NOT NULL, customer INTEGER NOT NULL, number INTEGER NOT NULL, voided INTEGER NOT NULL, PRIMARY KEY (pair, serial)) STRICT"
+
+abbrev pub settings_text : List ℕ
+settings_text = codes "INSERT INTO head (one, schema, interval, cap) VALUES (1, 1, ?1, ?2)"
+
 abbrev pub keep_text : List ℕ
 keep_text = codes "INSERT INTO calls (arrival, customer, number, day, reply) VALUES (?1, ?2, ?3, ?4, ?5)"
 

@@ -88,3 +88,6 @@ serial_rows h = map (λ i. serial_row (voided_after i.arrival h i.id) i) (last_i
 -- the tables that a history makes
 abbrev pub tables_of : List Entry → Terms → Tables
 tables_of h t = record { heads = head_row t ∷ []; calls = call_rows h; ranges = range_rows h; serials = serial_rows h }
+
+abbrev pub no_rows : Tables
+no_rows = record { heads = []; calls = []; ranges = []; serials = [] }

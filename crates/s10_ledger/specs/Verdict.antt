@@ -43,4 +43,4 @@ IsRefusal tables (Damaged zero) = (t : Terms) × IsHead tables.heads (pos 1) t �
 IsRefusal tables (Damaged (suc k)) = (t : Terms) × IsHead tables.heads (pos 1) t × IsFirstWrong t tables.calls k
 IsRefusal tables NotEmpty = ⊥
 IsRefusal tables Memory = ⊤
-IsRefusal tables Store = ⊥
+IsRefusal tables Store = ⊤

@@ -24,6 +24,7 @@ impl Model for CallRow {
 }
 
 impl CallRow {
+    /// The row with these columns: the arrival from 1, the key of the call, its day, and the datagram of its reply.
     pub fn new(arrival: i64, customer: i64, number: i64, day: i64, reply: Vec<u8>) -> CallRow
         ensures { let row : StoredCall = record { arrival = arrival; customer = customer; number = number; day = day; reply = reply.items } in result ≡ row }
     {
@@ -36,24 +37,28 @@ impl CallRow {
         }
     }
 
+    /// The place among the kept calls, from 1.
     pub fn arrival(&self) -> i64
         ensures { result ≡ self.now.arrival }
     {
         self.arrival
     }
 
+    /// The customer of the key.
     pub fn customer(&self) -> i64
         ensures { result ≡ self.now.customer }
     {
         self.customer
     }
 
+    /// The request number of the key.
     pub fn number(&self) -> i64
         ensures { result ≡ self.now.number }
     {
         self.number
     }
 
+    /// The day on which the call was executed.
     pub fn day(&self) -> i64
         ensures { result ≡ self.now.day }
     {

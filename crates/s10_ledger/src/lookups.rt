@@ -1,6 +1,6 @@
 //! What a book is asked, by the rows of the tables.
 
-ghost use Rattle.std.specs.Prelude.{◌≡◌, ◌≢◌, ℕ, ◌<◌, ◌^◌, ◌==◌, max, List, length, find, All, Contains, Err, IfOk, IfSome, IsTrue};
+ghost use Rattle.std.specs.Prelude.{◌≡◌, ◌≢◌, ◌↔◌, ℕ, ◌<◌, ◌^◌, ◌==◌, max, List, length, find, All, Contains, Err, IfOk, IfSome, IsTrue};
 ghost use Rattle.sqlite.specs.Held.{state};
 ghost use Rattle.sqlite.specs.State.{HasCleanDisk};
 ghost use Rattle.s10_wire.specs.Kind.{fits};
@@ -30,7 +30,8 @@ use std::alloc::Global;
 
 // Want of memory, or a fault of the store.
 pub(crate) fn fault_of(error: Error) -> BookFault
-    ensures { result ≢ Full }
+    ensures not_full { result ≢ Full }
+    ensures memory { (result ≡ BookFault.Memory) ↔ (error ≡ Error.SqliteFailure ErrorCode.OutOfMemory) }
 {
     match error {
         Error::SqliteFailure(ErrorCode::OutOfMemory) => BookFault::Memory,

@@ -1,9 +1,12 @@
+use crate::lookups::fault_of;
+use s10_book::BookFault;
+use sqlite::{Error as StatementError, ErrorCode};
 use thiserror::Error;
 
 /// Why a ledger could not be made or opened.
 #[derive(Clone, Copy, Debug, PartialEq, Eq, Error)]
 pub enum OpenFault {
-    /// A table is missing, or `head` is not one row with settings in their limits.
+    /// The tables are not declared as a ledger's, another one is there, or `head` is not one row with settings in their limits.
     #[error("not-a-ledger")]
     NotALedger,
     /// The number of the schema is not 1.
@@ -22,4 +25,31 @@ pub enum OpenFault {
     /// A statement failed that should pass.
     #[error("store")]
     Store,
+}
+
+impl OpenFault {
+    ghost use Rattle.std.specs.Prelude.{◌≡◌, ◌≢◌, ◌↔◌, ◌⊎◌};
+    ghost use Rattle.s10_ledger.specs.Tables.{Tables};
+    ghost use Rattle.s10_ledger.specs.Verdict.{IsRefusal};
+
+    /// What a fault of a book is for the opening.
+    pub(crate) fn of_book(fault: BookFault) -> OpenFault
+        ensures memory { fault ≡ BookFault.Memory → result ≡ OpenFault.Memory }
+        ensures store { fault ≢ BookFault.Memory → result ≡ OpenFault.Store }
+        ensures refusal { (tables : Tables) → IsRefusal tables result }
+    {
+        match fault {
+            BookFault::Memory => OpenFault::Memory,
+            _ => OpenFault::Store,
+        }
+    }
+
+    /// What an error of a statement that should pass is for the opening.
+    pub(crate) fn of_error(error: StatementError) -> OpenFault
+        ensures memory { (result ≡ OpenFault.Memory) ↔ (error ≡ StatementError.SqliteFailure ErrorCode.OutOfMemory) }
+        ensures fault { (result ≡ OpenFault.Memory) ⊎ (result ≡ OpenFault.Store) }
+        ensures refusal { (tables : Tables) → IsRefusal tables result }
+    {
+        OpenFault::of_book(fault_of(error))
+    }
 }

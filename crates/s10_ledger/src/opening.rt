@@ -1,22 +1,120 @@
 //! The rows of a ledger are checked.
 
-ghost use Rattle.std.specs.Prelude.{IfOk, IfErr};
-ghost use Rattle.s10_ledger.specs.Tables.{Tables};
-ghost use Rattle.s10_ledger.specs.Verdict.{IsWhole, IsRefusal};
+ghost use Rattle.std.specs.Prelude.{◌≡◌, ◌↔◌, List, [], All, pos, IfOk, IfErr, IsTrue};
+ghost use Rattle.sqlite.specs.Held.{state};
+ghost use Rattle.sqlite.specs.State.{HasCleanDisk};
+ghost use Rattle.sqlite.specs.Steps.{over_memory};
+ghost use Rattle.s10_book.specs.declared.entry.Entry.{Entry};
+ghost use Rattle.s10_book.specs.Settings.{Terms};
+ghost use Rattle.s10_ledger.specs.Tables.{Tables, HaveSameRows, range_rows, serial_rows};
+ghost use Rattle.s10_ledger.specs.RightRows.{AreRight, kept_of};
+ghost use Rattle.s10_ledger.specs.Verdict.{IsHead, IsWhole, IsRefusal};
+ghost use Rattle.s10_ledger.specs.Selected.{IsCall};
+ghost use Rattle.s10_ledger.specs.Shown.{StandsFor};
+ghost use Rattle.s10_ledger.specs.Statements.{Leaves};
+ghost use Rattle.s10_ledger.specs.Ledger.{IsLedger, history_in};
 
 use crate::call_row::CallRow;
 use crate::head_reading::settings_in;
 use crate::head_row::HeadRow;
-use crate::made_ranges::made_ranges;
-use crate::made_serials::made_serials;
 use crate::open_fault::OpenFault;
 use crate::opened::Opened;
 use crate::range_row::RangeRow;
+use crate::reads::{all_ranges, all_serials};
+use crate::refused::Refused;
 use crate::replay::replay;
 use crate::same_rows::{same_ranges, same_serials};
 use crate::serial_row::SerialRow;
-use s10_book::Book;
+use crate::sql_book::SqlBook;
+use s10_book::{Book, Settings};
+use sqlite::{Alter, Connection, MemStore};
 use std::alloc::Global;
+
+// A ledger in memory, without calls.
+fn empty_ledger(alloc: Global, settings: Settings) -> Result<SqlBook<MemStore>, OpenFault>
+    ensures terms { IfOk result (λ b. b.terms ≡ settings) }
+    ensures empty { IfOk result (λ b. history_in (state over_memory b.conn).now ≡ []) }
+    ensures err { (tables : Tables) → IfErr result (IsRefusal tables) }
+{
+    let Ok(conn) = Connection::open_in_memory(alloc) else {
+        return Err(OpenFault::Memory);
+    };
+    match SqlBook::create(alloc, conn, settings) {
+        Ok(book) => Ok(book),
+        Err(
+            Refused {
+                fault,
+                connection: _,
+            },
+        ) => Err(fault),
+    }
+}
+
+// A ledger in memory that keeps the calls of the rows, each of them right behind those before it.
+fn replayed(
+    alloc: Global,
+    settings: Settings,
+    calls: &[CallRow],
+) -> Result<(Connection<MemStore>, Opened), OpenFault>
+    ensures right { IfOk result (λ found. AreRight settings calls.now) }
+    ensures history { IfOk result (λ found. history_in (state over_memory found.0).now ≡ kept_of calls.now) }
+    ensures ledger { IfOk result (λ found. IsLedger (state over_memory found.0).now settings found.1.len found.1.day) }
+    ensures settings { IfOk result (λ found. found.1.settings ≡ settings) }
+    ensures err { (tables : Tables) → tables.calls ≡ calls.now → IsHead tables.heads (pos 1) settings → IfErr result (IsRefusal tables) }
+{
+    let mut book = empty_ledger(alloc, settings)?;
+    let replayed = replay(&mut book, calls);
+    let opened = Opened {
+        settings,
+        len: book.len(),
+        day: book.day(),
+    };
+    let conn = book.close();
+    replayed?;
+    Ok((conn, opened))
+}
+
+// Whether these are the ranges of the ledger.
+fn has_ranges<S: Alter>(
+    alloc: Global,
+    conn: &mut Connection<S>,
+    rows: &[RangeRow],
+) -> Result<bool, OpenFault>
+    ensures leaves { Leaves S.Store conn.old conn.new }
+    ensures err { (tables : Tables) → IfErr result (IsRefusal tables) }
+    ensures answer { HasCleanDisk (state S.Store conn.new) → (h : List Entry) (t : Terms) → StandsFor (state S.Store conn.old).now h t
+        → IfOk result (λ b. IsTrue b ↔ HaveSameRows (range_rows h) rows.now) }
+{
+    let made = match all_ranges(alloc, conn) {
+        Ok(made) => made,
+        Err(error) => return Err(OpenFault::of_error(error)),
+    };
+    match same_ranges(alloc, &made, rows) {
+        Ok(same) => Ok(same),
+        Err(_) => Err(OpenFault::Memory),
+    }
+}
+
+// Whether these are the serials of the ledger.
+fn has_serials<S: Alter>(
+    alloc: Global,
+    conn: &mut Connection<S>,
+    rows: &[SerialRow],
+) -> Result<bool, OpenFault>
+    ensures leaves { Leaves S.Store conn.old conn.new }
+    ensures err { (tables : Tables) → IfErr result (IsRefusal tables) }
+    ensures answer { HasCleanDisk (state S.Store conn.new) → (h : List Entry) (t : Terms) → All IsCall h → StandsFor (state S.Store conn.old).now h t
+        → IfOk result (λ b. IsTrue b ↔ HaveSameRows (serial_rows h) rows.now) }
+{
+    let made = match all_serials(alloc, conn) {
+        Ok(made) => made,
+        Err(error) => return Err(OpenFault::of_error(error)),
+    };
+    match same_serials(alloc, &made, rows) {
+        Ok(same) => Ok(same),
+        Err(_) => Err(OpenFault::Memory),
+    }
+}
 
 // What is found of the rows of the four tables, those of calls in order of arrival.
 pub(crate) fn verdict(
@@ -30,24 +128,11 @@ pub(crate) fn verdict(
     ensures err { let tables : Tables = record { heads = heads.now; calls = calls.now; ranges = ranges.now; serials = serials.now } in IfErr result (IsRefusal tables) }
 {
     let settings = settings_in(heads)?;
-    let mut replayed = replay(alloc, settings, calls)?;
-    let opened = Opened {
-        settings,
-        len: replayed.book.len(),
-        day: replayed.book.day(),
-    };
-    let made = made_ranges(alloc, &mut replayed.book)?;
-    let Ok(same) = same_ranges(alloc, &made, ranges) else {
-        return Err(OpenFault::Memory);
-    };
-    if !same {
+    let (mut made, opened) = replayed(alloc, settings, calls)?;
+    if !has_ranges(alloc, &mut made, ranges)? {
         return Err(OpenFault::Damaged(0));
     }
-    let issued = made_serials(alloc, &replayed.calls)?;
-    let Ok(same) = same_serials(alloc, &issued, serials) else {
-        return Err(OpenFault::Memory);
-    };
-    if !same {
+    if !has_serials(alloc, &mut made, serials)? {
         return Err(OpenFault::Damaged(0));
     }
     Ok(opened)

@@ -1,6 +1,6 @@
 //! The reads of the four tables.
 
-ghost use Rattle.std.specs.Prelude.{◌≡◌, pos, List, map, filter, IfOk, OnOk};
+ghost use Rattle.std.specs.Prelude.{◌≡◌, ◌≢◌, pos, List, map, filter, IfOk, OnOk};
 ghost use Rattle.std.specs.List.{AllByRecursion};
 ghost use Rattle.std.specs.Ordering.{int_cmp};
 ghost use Rattle.std.specs.declared.cmp.Ordering.TheVariants as Ordering;
@@ -105,6 +105,8 @@ pub(crate) fn all_calls<S: Alter>(
         → HaveSameRows (map shown_call rows.items) (map call_columns ((state S.Store conn.old).now.trees 1))) }
     ensures in_order { HasCleanDisk (state S.Store conn.new) → IfOk result (λ rows. (tables : Tables) → HasTables (state S.Store conn.old).now tables
         → IsAscending (λ a b. int_cmp a.arrival b.arrival ≡ Ordering.Less) tables.calls → rows.items ≡ tables.calls) }
+    ensures sorted { HasCleanDisk (state S.Store conn.new) → IfOk result (λ rows. (state S.Store conn.old).now.schema ≡ ledger_schema
+        → IsAscending (λ a b. int_cmp a.arrival b.arrival ≢ Ordering.Greater) rows.items) }
 {
     let rows = read(
         conn,

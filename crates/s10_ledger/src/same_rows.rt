@@ -1,9 +1,10 @@
 //! Rows are compared, in whatever order they come.
 
-ghost use Rattle.std.specs.Prelude.{◌≡◌, ◌↔◌, false, IfOk, IsTrue};
+ghost use Rattle.std.specs.Prelude.{◌≡◌, ◌↔◌, false, List, IfOk, IsTrue};
 ghost use Rattle.std.specs.Ordering.{int_cmp, ordering_then, is_eq};
 ghost use Rattle.std.specs.declared.cmp.Ordering.TheVariants.{Less};
 ghost use Rattle.sqlite_trees.specs.Tree.{IsAscending};
+ghost use Rattle.s10_ledger.specs.declared.serial_row.SerialRow.{SerialRow};
 ghost use Rattle.s10_ledger.specs.Tables.{HaveSameRows};
 
 use crate::range_row::RangeRow;
@@ -22,28 +23,27 @@ fn are_serials(rows: &[SerialRow], others: &[SerialRow]) -> bool
     rows == others
 }
 
-// Whether the rows are the same ranges.
+// Whether the rows are the same ranges, where those that were made rise by number.
 pub(crate) fn same_ranges(
     alloc: Global,
     made: &[RangeRow],
     rows: &[RangeRow],
 ) -> Result<bool, AllocError>
-    requires { IsAscending (λ a b. int_cmp a.num b.num ≡ Less) made.now }
-    ensures { IfOk result (λ b. IsTrue b ↔ HaveSameRows made.now rows.now) }
+    ensures { IsAscending (λ a b. int_cmp a.num b.num ≡ Less) made.now → IfOk result (λ b. IsTrue b ↔ HaveSameRows made.now rows.now) }
 {
     let mut sorted = Vec::from_slice(alloc, rows)?;
     sorted.sort_unstable_by_key(|row| row.num);
     Ok(are_ranges(made, &sorted))
 }
 
-// Whether the rows are the same serials.
+// Whether the rows are the same serials, where no two of those that were made have one key.
 pub(crate) fn same_serials(
     alloc: Global,
     made: &[SerialRow],
     rows: &[SerialRow],
 ) -> Result<bool, AllocError>
-    requires { IsAscending (λ a b. is_eq (ordering_then (int_cmp a.pair b.pair) (int_cmp a.serial b.serial)) ≡ false) made.now }
-    ensures { IfOk result (λ b. IsTrue b ↔ HaveSameRows made.now rows.now) }
+    ensures { (keyed : List SerialRow) → IsAscending (λ a b. is_eq (ordering_then (int_cmp a.pair b.pair) (int_cmp a.serial b.serial)) ≡ false) keyed → HaveSameRows keyed made.now
+        → IfOk result (λ b. IsTrue b ↔ HaveSameRows made.now rows.now) }
 {
     let mut made = Vec::from_slice(alloc, made)?;
     let mut sorted = Vec::from_slice(alloc, rows)?;

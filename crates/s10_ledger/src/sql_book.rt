@@ -11,6 +11,11 @@ use crate::lookups::{
     call_at, call_with_key, candidate_in, issue_of, range_covering, range_held, range_with_number,
     usage_in,
 };
+use crate::making::{make_ledger, refusal_of};
+use crate::open_fault::OpenFault;
+use crate::opened::Opened;
+use crate::opened_ledger::ledger_in;
+use crate::refused::Refused;
 use s10_book::{Book, BookFault, Candidate, Entry, Issue, Range, Settings, Usage};
 use s10_core::{Country, Id, Serial, Service};
 use sqlite::{Alter, Connection};
@@ -40,6 +45,95 @@ impl<S: Alter> Model for SqlBook<S> {
     ghost view = { λ b. record { conn = b.conn; terms = b.settings; len = b.len; day = b.day; faults = b.faults } };
 
     ghost invariant = { λ b. (b.len ≤ 1000000000) × (HasCleanDisk (state S.Store b.conn) → IsTrue (state S.Store b.conn).is_open → IsLedger (state S.Store b.conn).now b.settings b.len b.day) };
+}
+
+impl<S: Alter> SqlBook<S> {
+    ghost use Rattle.std.specs.Prelude.{◌≡◌, ◌⊎◌, ℕ, IfOk, IfErr, IsTrue, [], false};
+    ghost use Rattle.sqlite.specs.Held.{state};
+    ghost use Rattle.sqlite.specs.State.{HasCleanDisk};
+    ghost use Rattle.s10_book.specs.Settings.{Terms, AreTerms};
+    ghost use Rattle.s10_ledger.specs.Ledger.{IsLedger, IsHonest, history_in};
+    ghost use Rattle.s10_ledger.specs.Refusals.{IsMakingRefusal, IsOpeningRefusal};
+
+    /// Makes an empty ledger with these settings in an empty database, in one transaction. Refused
+    /// with NotEmpty where a table of one of the four names is there, with Memory, and with Store
+    /// where a statement failed or the database has other tables; a refusal leaves no table.
+    pub fn create(
+        alloc: Global,
+        conn: Connection<S>,
+        settings: Settings,
+    ) -> Result<SqlBook<S>, Refused<S>>
+        requires idle { conn.in_transaction ≡ false }
+        ensures new { IfOk result (λ b. (b.terms ≡ settings) × (b.faults ≡ 0)) }
+        ensures empty { IfOk result (λ b. IsHonest S.Store b → history_in (state S.Store b.conn).now ≡ []) }
+        ensures honest { IfOk result (λ b. HasCleanDisk (state S.Store b.conn) → IsTrue (state S.Store b.conn).is_open → IsHonest S.Store b) }
+        ensures refused { IfErr result (λ r. IsMakingRefusal (state S.Store conn).now.schema r.fault) }
+        ensures kept { IfErr result (λ r. HasCleanDisk (state S.Store r.connection) → IsTrue (state S.Store r.connection).is_open → (state S.Store r.connection).now ≡ (state S.Store conn).now) }
+    {
+        let mut connection = conn;
+        if let Some(fault) = refusal_of(&connection) {
+            return Err(Refused { fault, connection });
+        }
+        if let Err(error) = make_ledger(&mut connection, settings) {
+            let fault = OpenFault::of_error(error);
+            return Err(Refused { fault, connection });
+        }
+        Ok(SqlBook {
+            alloc,
+            conn: connection,
+            settings,
+            len: 0,
+            day: 0,
+            faults: 0,
+        })
+    }
+
+    /// Opens a ledger: all its calls are done again, and every table is compared with what they
+    /// make. A ledger has its database for itself. Refused with NotALedger where the tables are not
+    /// declared as a ledger's, another table, index or view is there, or `head` is not its one row,
+    /// with Schema, with Damaged and the first call that is wrong, or 0 where another row is, with
+    /// Memory, and with Store where a statement failed; a refusal leaves the tables as they are.
+    pub fn open(alloc: Global, mut conn: Connection<S>) -> Result<SqlBook<S>, Refused<S>>
+        requires idle { conn.in_transaction ≡ false }
+        ensures new { IfOk result (λ b. b.faults ≡ 0) }
+        ensures honest { IfOk result (λ b. HasCleanDisk (state S.Store b.conn) → IsTrue (state S.Store b.conn).is_open → IsHonest S.Store b) }
+        ensures same { IfOk result (λ b. IsHonest S.Store b → (state S.Store b.conn).now ≡ (state S.Store conn).now) }
+        ensures refused { IfErr result (λ r. HasCleanDisk (state S.Store r.connection) → IsTrue (state S.Store r.connection).is_open → IsOpeningRefusal (state S.Store conn).now r.fault) }
+        ensures kept { IfErr result (λ r. HasCleanDisk (state S.Store r.connection) → IsTrue (state S.Store r.connection).is_open → (state S.Store r.connection).now ≡ (state S.Store conn).now) }
+        ensures whole { IfErr result (λ r. HasCleanDisk (state S.Store r.connection) → IsTrue (state S.Store r.connection).is_open
+            → (t : Terms) (len day : ℕ) → AreTerms t → IsLedger (state S.Store conn).now t len day → (r.fault ≡ OpenFault.Memory) ⊎ (r.fault ≡ OpenFault.Store)) }
+    {
+        match ledger_in(alloc, &mut conn) {
+            Ok(Opened { settings, len, day }) => Ok(SqlBook {
+                alloc,
+                conn,
+                settings,
+                len,
+                day,
+                faults: 0,
+            }),
+            Err(fault) => Err(Refused {
+                fault,
+                connection: conn,
+            }),
+        }
+    }
+
+    /// The connection, whose tables stand for the book's history.
+    pub fn close(self) -> Connection<S>
+        ensures same { result ≡ self.conn }
+        ensures ledger { HasCleanDisk (state S.Store result) → IsTrue (state S.Store result).is_open → IsLedger (state S.Store result).now self.terms self.len self.day }
+    {
+        let SqlBook {
+            alloc: _,
+            conn,
+            settings: _,
+            len: _,
+            day: _,
+            faults: _,
+        } = self;
+        conn
+    }
 }
 
 // Counts an answer that is a fault.

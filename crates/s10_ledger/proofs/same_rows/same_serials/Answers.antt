@@ -7,9 +7,9 @@ use Rattle.s10_ledger.proofs.Made.{by_key, same_where_both_sorted}
 use Rattle.s10_ledger.proofs.same_rows.same_serials.Goals as goal
 
 pub returns : goal.returns
-returns c =
+returns c = λ keyed apart same.
     same_where_both_sorted by_key (then_total (on_total (λ (r : SerialRow). r.pair) int_cmp_total) (on_total (λ (r : SerialRow). r.serial) int_cmp_total))
-    c.args.made.now c.args.rows.now c.in_ok-made.made.items c.in_ok-sorted.sorted.items _ _ c.are_serials.result c.requires
+    keyed c.args.made.now c.args.rows.now c.in_ok-made.made.items c.in_ok-sorted.sorted.items _ _ c.are_serials.result apart same
     c.in_ok-made.ensures.items c.in_ok-sorted.ensures.items
     c.sort_unstable_by_key.ensures.permutation
     (c.sort_unstable_by_key.ensures.sorted (λ (r : SerialRow). (r.pair, r.serial)) (answers_always _ _ _ (λ f a r g h. search rules)))

@@ -1,0 +1,132 @@
+-- Rows that are whole stand for the history that they keep.
+use Rattle.std.proofs.Common.{◌≡◌, ℕ, zero, suc, ◌+◌, ◌<◌, ◌≤◌, List, [], ◌∷◌, ◌++◌, length, map, get_or, take, Some, refl, sym, ap, subst, ◌∙◌, inr, arith}
+use Rattle.std.specs.Prelude.{slice_get, All}
+use Rattle.std.proofs.Math.Logic.{∥∥₁_elim, ∥∥₁_map, ∥∥₁_prop}
+use Rattle.std.proofs.lemmas.List.{take_more, take_all, map-append, length-map}
+use Rattle.std.proofs.lemmas.List.Sorted.{IsPermutation-map, IsPermutation-trans}
+use Rattle.sqlite_value.specs.Order.{Row}
+use Rattle.sqlite.specs.Effect.{Database}
+use Rattle.s10_book.specs.declared.entry.Entry.{Entry}
+use Rattle.s10_book.specs.Settings.{Terms}
+use Rattle.s10_book.specs.History.{day_of}
+use Rattle.s10_book.specs.Rules.{IsLegal}
+use Rattle.s10_book.proofs.Push.{IsLegal-push, IsLegal-nil}
+use Rattle.s10_ledger.specs.declared.head_row.HeadRow.{HeadRow}
+use Rattle.s10_ledger.specs.declared.open_fault.OpenFault.{OpenFault}
+use Rattle.s10_ledger.specs.declared.open_fault.OpenFault.TheVariants.{NotALedger, Schema as OtherSchema, Damaged, NotEmpty, Memory, Store}
+use Rattle.s10_ledger.specs.declared.opened.Opened.{Opened}
+use Rattle.s10_ledger.specs.declared.range_row.RangeRow.{RangeRow}
+use Rattle.s10_ledger.specs.declared.serial_row.SerialRow.{SerialRow}
+use Rattle.s10_ledger.specs.CallRow.{StoredCall}
+use Rattle.s10_ledger.specs.Replies.{reply_bytes}
+use Rattle.s10_ledger.specs.Tables.{Tables, HaveSameRows, call_row, call_rows_from, call_rows}
+use Rattle.s10_ledger.specs.RightRows.{IsRightRow, AreRight, kept_of, entry_of}
+use Rattle.s10_ledger.specs.Selected.{IsCall}
+use Rattle.s10_ledger.specs.Shown.{HasTables, StandsFor, shown_head, shown_range, shown_serial, head_columns}
+use Rattle.s10_ledger.specs.Verdict.{IsWhole, IsRefusal}
+use Rattle.s10_ledger.specs.Refusals.{HasRows, IsOpeningRefusal}
+use Rattle.s10_ledger.specs.Ledger.{IsLedger, history_in}
+use Rattle.s10_ledger.proofs.HistoryLemmas.{history_is}
+use Rattle.s10_ledger.proofs.Replaying.{there_at, kept_length}
+use Rattle.s10_ledger.proofs.Made.{right_calls}
+
+-- a row that is right is that of the call that it stands for
+pub right_row : (t : Terms) (before : List Entry) (row : StoredCall) → IsRightRow t before row → row ≡ call_row (length before + 1) (entry_of row)
+unfolding reply_bytes
+right_row t before row right =
+    let a = right.arrival in let b = right.customer in let d = right.number in let e = right.day in let r = right.replies.3 in
+    λ i. record { arrival = a i; customer = b i; number = d i; day = e i; reply = r i }
+
+rows_from : (n : ℕ) (rows : List StoredCall) → ((k : ℕ) (row : StoredCall) → slice_get rows k ≡ Some row → row ≡ call_row (n + k) (entry_of row)) → call_rows_from n (kept_of rows) ≡ rows
+rows_from n [] each = refl
+rows_from n (row ∷ rows) each =
+    let here : row ≡ call_row n (entry_of row) = each 0 row refl ∙ ap (λ m. call_row m (entry_of row)) (omega arith) in
+    let more : call_rows_from (n + 1) (kept_of rows) ≡ rows =
+    rows_from (n + 1) rows (λ k r is. each (suc k) r is ∙ ap (λ m. call_row m (entry_of r)) (omega arith)) in
+    ap (λ r. r ∷ call_rows_from (n + 1) (kept_of rows)) (sym here) ∙ ap (λ l. row ∷ l) more
+
+within : {A : Type 0} (xs : List A) (k : ℕ) (x : A) → slice_get xs k ≡ Some x → k < length xs
+within = Rattle.std.proofs.lemmas.Option.slice_get_within
+
+-- rows that are right are those of the calls that they keep
+pub right_rows : (t : Terms) (rows : List StoredCall) → AreRight t rows → call_rows (kept_of rows) ≡ rows
+right_rows t rows right = rows_from 1 rows (λ k row is.
+    let before : length (kept_of (take k rows)) + 1 ≡ 1 + k = omega (arith, kept_length rows k (within rows k row is)) in
+    right_row t (kept_of (take k rows)) row (right k row is) ∙ ap (λ n. call_row n (entry_of row)) before)
+
+legal_to : (t : Terms) (rows : List StoredCall) → AreRight t rows → (some : StoredCall) → (n : ℕ) → n ≤ length rows → IsLegal (kept_of (take n rows)) t
+legal_to t rows right some zero few = IsLegal-nil t
+legal_to t rows right some (suc n) few =
+    let row : StoredCall = get_or rows n some in
+    let up : suc n ≡ n + 1 = omega arith in
+    let more : take (suc n) rows ≡ take n rows ++ row ∷ [] = ap (λ m. take m rows) up ∙ take_more rows n some (omega arith) in
+    let one_more : kept_of (take (suc n) rows) ≡ kept_of (take n rows) ++ entry_of row ∷ [] = ap kept_of more ∙ map-append entry_of (take n rows) (row ∷ []) in
+    subst (λ h. IsLegal h t) (sym one_more)
+    (IsLegal-push (kept_of (take n rows)) t (entry_of row) (legal_to t rows right some n (omega arith)) (right n row (there_at rows n some (omega arith))).follows)
+
+-- and these calls are a legal history
+pub right_legal : (t : Terms) (rows : List StoredCall) → AreRight t rows → IsLegal (kept_of rows) t
+right_legal t [] right = IsLegal-nil t
+right_legal t (row ∷ rows) right =
+    let all : List StoredCall = row ∷ rows in
+    subst (λ l. IsLegal (kept_of l) t) (take_all (length all) all (omega arith)) (legal_to t all right row (length all) (omega arith))
+
+-- rows that are the same ones are so as they are shown
+pub shown_again : {X : Type 0} (shown : X → Row) (xs ys : List X) (vs : List Row) → HaveSameRows xs ys → HaveSameRows (map shown ys) vs → HaveSameRows (map shown xs) vs
+shown_again shown xs ys vs same has = ∥∥₁_elim same ∥∥₁_prop (λ p. ∥∥₁_map has (λ q. IsPermutation-trans _ _ _ (IsPermutation-map shown xs ys p) q))
+
+module _ (db : Database) (tables : Tables) (found : Opened) (has : HasTables db tables) (whole : IsWhole tables found) where
+  abbrev kept : List Entry
+  kept = kept_of tables.calls
+
+  stands : StandsFor db kept found.settings
+  stands = record {
+    schema = has.schema;
+    heads = subst (λ l. HaveSameRows (map shown_head l) (map head_columns (db.trees 0))) whole.head.row has.heads;
+    calls = rw (right_rows found.settings tables.calls whole.right) has.calls;
+    ranges = shown_again shown_range _ tables.ranges _ whole.made.ranges has.ranges;
+    serials = shown_again shown_serial _ tables.serials _ whole.made.serials has.serials;
+    numbered = has.numbered;
+  }
+
+  are_calls : All IsCall kept
+  are_calls = right_calls found.settings tables.calls whole.right
+
+  legal : IsLegal kept found.settings
+  legal = right_legal found.settings tables.calls whole.right
+
+  history : history_in db ≡ kept
+  history = history_is db kept found.settings are_calls stands
+
+  -- a database whose rows are whole is a ledger
+  pub whole_ledger : IsLedger db found.settings found.len found.day
+  whole_ledger = record {
+    legal = rw history legal;
+    held = ∣ record {
+      tables = rw history stands;
+      calls = rw history are_calls;
+      len_is = whole.len ∙ sym (ap length history ∙ length-map tables.calls entry_of);
+      day_is = whole.day ∙ sym (ap day_of history);
+    } ∣₁;
+  }
+
+-- and it has no more calls than the settings allow
+pub whole_few : (tables : Tables) (found : Opened) → IsWhole tables found → found.len ≤ 1000000000
+whole_few tables found whole =
+    let legal = right_legal found.settings tables.calls whole.right in
+    omega (arith, legal.few, whole.len, whole.head.in_limits, length-map tables.calls entry_of)
+
+-- what the rows of a database are refused for, the database is
+pub refused_for : (db : Database) (tables : Tables) → HasRows db tables → (fault : OpenFault) → IsRefusal tables fault → IsOpeningRefusal db fault
+refused_for db tables rows NotALedger refusal = inr (record { tables = tables; rows = rows; refusal = refusal })
+refused_for db tables rows (OtherSchema n) refusal = record { tables = tables; rows = rows; refusal = refusal }
+refused_for db tables rows (Damaged k) refusal = record { tables = tables; rows = rows; refusal = refusal }
+refused_for db tables rows NotEmpty refusal = refusal
+refused_for db tables rows Memory refusal = tt
+refused_for db tables rows Store refusal = tt
+
+-- the parts of the rows that were read
+pub these_tables : (heads : List HeadRow) (calls : List StoredCall) (ranges : List RangeRow) (serials : List SerialRow) (tables : Tables)
+    → heads ≡ tables.heads → calls ≡ tables.calls → ranges ≡ tables.ranges → serials ≡ tables.serials
+    → tables ≡ record { heads = heads; calls = calls; ranges = ranges; serials = serials }
+these_tables heads calls ranges serials tables a b c d = λ i. record { heads = sym a i; calls = sym b i; ranges = sym c i; serials = sym d i }

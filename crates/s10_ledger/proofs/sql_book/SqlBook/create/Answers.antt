@@ -1,0 +1,13 @@
+use Rattle.std.proofs.Common.{arith}
+use Rattle.sqlite.specs.Held.{state}
+use Rattle.s10_ledger.proofs.NewLedger.{no_history, new_ledger}
+use Rattle.s10_ledger.proofs.sql_book.SqlBook.create.Goals as goal
+
+pub invariant_of-result : goal.invariant_of-result
+invariant_of-result g c = (omega arith, λ clean opened. new_ledger (state g.S.Store c.make_ledger.new.conn).now c.args.settings (c.in_default-make_ledger.ensures.all clean (c.refusal_of.ensures.none c.in_default.is)))
+
+pub returns-clause-empty : goal.returns-clause-empty
+returns-clause-empty g c honest = no_history (state g.S.Store c.make_ledger.new.conn).now c.args.settings (c.in_default-make_ledger.ensures.all honest.clean (c.refusal_of.ensures.none c.in_default.is))
+
+pub returns-clause-honest : goal.returns-clause-honest
+returns-clause-honest g c clean opened = record { clean = clean; is_open = opened; ledger = new_ledger (state g.S.Store c.make_ledger.new.conn).now c.args.settings (c.in_default-make_ledger.ensures.all clean (c.refusal_of.ensures.none c.in_default.is)) }

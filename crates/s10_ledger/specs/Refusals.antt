@@ -1,0 +1,48 @@
+-- What a ledger that is made or opened is refused for.
+use Rattle.std.specs.Prelude.{◌≡◌, ◌≢◌, ◌⊎◌, ℤ, pos, List, [], ◌∷◌, codes, Some, IsSome, ⊤}
+use Rattle.std.specs.Ordering.{int_cmp}
+use Rattle.std.specs.declared.cmp.Ordering.TheVariants as Ordering
+use Rattle.sqlite_trees.specs.Tree.{IsAscending}
+use Rattle.sqlite_schema.specs.declared.schema.Schema.{Schema}
+use Rattle.sqlite_schema.specs.Names.{table_named}
+use Rattle.sqlite.specs.Effect.{Database}
+use Rattle.s10_ledger.specs.declared.open_fault.OpenFault.{OpenFault}
+use Rattle.s10_ledger.specs.declared.open_fault.OpenFault.TheVariants.{NotALedger, Schema as OtherSchema, Damaged, NotEmpty, Memory, Store}
+use Rattle.s10_ledger.specs.CallRow.{StoredCall}
+use Rattle.s10_ledger.specs.Tables.{Tables}
+use Rattle.s10_ledger.specs.Verdict.{IsRefusal}
+use Rattle.s10_ledger.specs.Schema.{ledger_schema}
+use Rattle.s10_ledger.specs.Shown.{HasTables}
+
+-- a table of one of the four names is there
+abbrev pub HasOneOfTheNames : Schema → Type 0
+HasOneOfTheNames s = IsSome (table_named s (codes "head")) ⊎ (IsSome (table_named s (codes "calls")) ⊎ (IsSome (table_named s (codes "ranges")) ⊎ IsSome (table_named s (codes "serials"))))
+
+-- what the making of a ledger is refused for
+abbrev pub IsMakingRefusal : Schema → OpenFault → Type 0
+IsMakingRefusal s NotALedger = ⊥
+IsMakingRefusal s (OtherSchema n) = ⊥
+IsMakingRefusal s (Damaged k) = ⊥
+IsMakingRefusal s NotEmpty = HasOneOfTheNames s
+IsMakingRefusal s Memory = ⊤
+IsMakingRefusal s Store = ¬ HasOneOfTheNames s
+
+-- the database has the four tables with these rows, those of calls in order of arrival
+pub record HasRows (db : Database) (tables : Tables) : Type 0 where
+  pub has : HasTables db tables
+  pub in_order : IsAscending (λ a b. int_cmp a.arrival b.arrival ≢ Ordering.Greater) tables.calls
+
+-- the rows of the database are refused so
+pub record IsRefusedFor (db : Database) (fault : OpenFault) : Type 0 where
+  pub tables : Tables
+  pub rows : HasRows db tables
+  pub refusal : IsRefusal tables fault
+
+-- what the opening of a database is refused for
+abbrev pub IsOpeningRefusal : Database → OpenFault → Type 0
+IsOpeningRefusal db NotALedger = (db.schema ≢ ledger_schema) ⊎ IsRefusedFor db NotALedger
+IsOpeningRefusal db (OtherSchema n) = IsRefusedFor db (OtherSchema n)
+IsOpeningRefusal db (Damaged k) = IsRefusedFor db (Damaged k)
+IsOpeningRefusal db NotEmpty = ⊥
+IsOpeningRefusal db Memory = ⊤
+IsOpeningRefusal db Store = ⊤

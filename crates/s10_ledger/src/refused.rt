@@ -1,0 +1,8 @@
+use crate::open_fault::OpenFault;
+use sqlite::{Alter, Connection};
+
+/// Why a ledger could not be made or opened, and the connection, handed back.
+pub struct Refused<S: Alter> {
+    pub fault: OpenFault,
+    pub connection: Connection<S>,
+}
