@@ -1,3 +1,8 @@
 mod LineReading
 mod HexReading
 mod Replaying
+mod Auditing
+mod MemoryLedger
+mod Turning
+mod Answering
+mod Looping

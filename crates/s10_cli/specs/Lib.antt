@@ -5,3 +5,11 @@ pub mod InputLines
 pub mod LineReader
 pub mod AnswerLines
 pub mod Replay
+pub mod TurnLines
+pub mod Asked
+pub mod Audited
+pub mod Questions
+pub mod Reporting
+pub mod Questioning
+pub mod Serving
+pub mod Looped

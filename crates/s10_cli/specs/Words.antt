@@ -8,6 +8,11 @@ use Rattle.s10_book.specs.declared.book_fault.BookFault.{BookFault}
 use Rattle.s10_book.specs.declared.book_fault.BookFault.TheVariants.{Memory, Store, Full}
 use Rattle.s10_wire.specs.declared.wire_fault.WireFault.{WireFault}
 use Rattle.s10_wire.specs.declared.wire_fault.WireFault.TheVariants.{Short, Magic, Version, Kind, Length, Field, Outcome}
+use Rattle.std.specs.Fmt.{signed_decimal}
+use Rattle.s10_wire.specs.declared.link_fault.LinkFault.{LinkFault}
+use Rattle.s10_wire.specs.declared.link_fault.LinkFault.TheVariants.{Bind, Receive, Send, Spent}
+use Rattle.s10_ledger.specs.declared.open_fault.OpenFault.{OpenFault}
+use Rattle.s10_ledger.specs.declared.open_fault.OpenFault.TheVariants.{NotALedger, Schema, Damaged, NotEmpty, Memory as NoMemory, Store as NotStored}
 use Rattle.s10_wire.specs.Lines.{line_of}
 use Rattle.s10_cli.specs.declared.status.Status.{Status}
 use Rattle.s10_cli.specs.declared.status.Status.TheVariants.{Refused, Failed}
@@ -42,6 +47,21 @@ abbrev pub book_fault_words : BookFault → List (List ℕ)
 book_fault_words Memory = codes "memory" ∷ []
 book_fault_words Store = codes "store" ∷ []
 book_fault_words Full = codes "full" ∷ []
+
+abbrev pub link_fault_words : LinkFault → List (List ℕ)
+link_fault_words Bind = codes "bind" ∷ []
+link_fault_words Receive = codes "receive" ∷ []
+link_fault_words Send = codes "send" ∷ []
+link_fault_words Spent = codes "spent" ∷ []
+
+-- a call is counted from 1, and 0 stands for another row
+abbrev pub open_fault_words : OpenFault → List (List ℕ)
+open_fault_words NotALedger = codes "not-a-ledger" ∷ []
+open_fault_words (Schema number) = codes "schema" ∷ signed_decimal number ∷ []
+open_fault_words (Damaged call) = codes "damaged" ∷ decimal call ∷ []
+open_fault_words NotEmpty = codes "not-empty" ∷ []
+open_fault_words NoMemory = codes "memory" ∷ []
+open_fault_words NotStored = codes "store" ∷ []
 
 -- a line is counted from 1
 abbrev pub replay_fault_line : ReplayFault → List ℕ

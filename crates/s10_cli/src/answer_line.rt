@@ -24,10 +24,11 @@ pub fn write_answer<W: Write>(answer: &Answer, out: &mut W) -> Result<(), WriteF
     }
 }
 
-// A frame has at most 256 bytes, and a byte two digits.
-fn write_hex<W: Write>(frame: &Frame, out: &mut W) -> Result<(), WriteFault>
+/// Writes a frame in lower-case hex, and ends the line.
+pub fn write_hex<W: Write>(frame: &Frame, out: &mut W) -> Result<(), WriteFault>
     ensures { OnOk result (Appends (W.contents out.old) (W.contents out.new) (encode_lower (frame_bytes frame.now) ++ codes "\n")) }
 {
+    // A frame has at most 256 bytes, and a byte two digits.
     let mut room = [0u8; 512];
     let text = &mut room[..2 * frame.bytes().len()];
     match hex::encode_to_slice(frame.bytes(), text) {
@@ -38,7 +39,8 @@ fn write_hex<W: Write>(frame: &Frame, out: &mut W) -> Result<(), WriteFault>
     write_text(b"\n", out)
 }
 
-fn write_dropped<W: Write>(fault: WireFault, out: &mut W) -> Result<(), WriteFault>
+/// Writes the line of bytes that ask nothing.
+pub fn write_dropped<W: Write>(fault: WireFault, out: &mut W) -> Result<(), WriteFault>
     ensures { OnOk result (Appends (W.contents out.old) (W.contents out.new) (line_of (codes "dropped") (wire_fault_words fault))) }
 {
     write_text(b"dropped", out)?;
@@ -46,7 +48,8 @@ fn write_dropped<W: Write>(fault: WireFault, out: &mut W) -> Result<(), WriteFau
     write_text(b"\n", out)
 }
 
-fn write_faulted<W: Write>(fault: BookFault, out: &mut W) -> Result<(), WriteFault>
+/// Writes the line of a request that the book left unanswered.
+pub fn write_faulted<W: Write>(fault: BookFault, out: &mut W) -> Result<(), WriteFault>
     ensures { OnOk result (Appends (W.contents out.old) (W.contents out.new) (line_of (codes "faulted") (book_fault_words fault))) }
 {
     write_text(b"faulted", out)?;

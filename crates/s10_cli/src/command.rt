@@ -1,16 +1,25 @@
 //! What a command line may say.
+use crate::audit_command::audit_command;
 use crate::check::check_command;
+use crate::create_command::create_command;
+use crate::draw_command::draw_command;
+use crate::grant_command::grant_command;
+use crate::loop_command::loop_command;
 use crate::make::make_command;
+use crate::query_command::query_command;
 use crate::replay_command::replay_command;
+use crate::report_command::report_command;
+use crate::serve_command::serve_command;
 use crate::show::show_command;
+use crate::void_command::void_command;
 use clap::Command;
 use std::alloc::{AllocError, Global};
 
 const VERSION: &str = "0.1.0";
 
 const STATUSES: &str = "\
-Exit status: 0 done; 1 refused by a rule; 2 the words are no command line; 3 memory, input or
-output failed. `s10 help COMMAND` explains a command, with examples.";
+Exit status: 0 done; 1 refused by a rule; 2 the words are no command line; 3 a link, a ledger, the
+clock, memory, input or output failed. `s10 help COMMAND` explains a command, with examples.";
 
 /// The command with all its subcommands.
 pub fn command<'a>(alloc: Global) -> Result<Command<'a>, AllocError> {
@@ -23,5 +32,14 @@ pub fn command<'a>(alloc: Global) -> Result<Command<'a>, AllocError> {
         .subcommand(check_command(alloc)?)?
         .subcommand(make_command(alloc)?)?
         .subcommand(show_command(alloc)?)?
-        .subcommand(replay_command(alloc)?)
+        .subcommand(replay_command(alloc)?)?
+        .subcommand(create_command(alloc)?)?
+        .subcommand(serve_command(alloc)?)?
+        .subcommand(grant_command(alloc)?)?
+        .subcommand(draw_command(alloc)?)?
+        .subcommand(void_command(alloc)?)?
+        .subcommand(query_command(alloc)?)?
+        .subcommand(report_command(alloc)?)?
+        .subcommand(audit_command(alloc)?)?
+        .subcommand(loop_command(alloc)?)
 }

@@ -7,9 +7,11 @@ ghost use Rattle.s10_cli.specs.Replay.{Replayed};
 use crate::answer_line::write_answer;
 use crate::input_line::{read_delivery, without_return};
 use crate::line_reader::{LINE_ROOM, NextLine, next_byte, read_line};
+use crate::memory_ledger::memory_ledger;
 use crate::replay_fault::ReplayFault;
-use s10_book::{Book, PlainBook, Settings};
+use s10_book::{Book, Settings};
 use s10_ends::Server;
+use s10_ledger::OpenFault;
 use std::alloc::Global;
 use std::io::{Read, Write};
 
@@ -32,8 +34,15 @@ pub fn replay<R: Read, W: Write>(
     ensures { IfSome (R.remaining input.old) (λ bytes. IfSome (W.contents output.old) (λ held.
         (after : List Entry) × Replayed [] settings bytes held (W.contents output.new) result after)) }
 {
-    let mut server = Server::new(PlainBook::new(alloc, settings));
-    replay_on(&mut server, input, output)
+    let book = match memory_ledger(alloc, settings) {
+        Ok(book) => book,
+        Err(OpenFault::Memory) => return Err(ReplayFault::Memory),
+        Err(_) => return Err(ReplayFault::Store),
+    };
+    let mut server = Server::new(book);
+    let replayed = replay_on(&mut server, input, output);
+    let _ = server.into_book().close();
+    replayed
 }
 
 // Goes on with the ledger of a server.

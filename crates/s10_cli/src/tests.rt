@@ -1,4 +1,11 @@
+mod asked;
+mod jobs;
+mod ledgers;
+mod questions;
 mod replays;
+mod reporting;
+mod serving;
+mod turn_lines;
 
 use super::run_line;
 use std::io;

@@ -1,0 +1,10 @@
+use Rattle.std.proofs.Common.{refl}
+use Rattle.sqlite.proofs.Callers.{memory_is_clean}
+use Rattle.s10_cli.proofs.memory_ledger.memory_ledger.Goals as goal
+
+pub returns-in-Ok-create-clause-honest : goal.returns-in-Ok-create-clause-honest
+returns-in-Ok-create-clause-honest c = c.in-Ok-create.ensures.honest (memory_is_clean c.in-Ok-create.book.conn) refl
+
+pub returns-in-Ok-create-clause-empty : goal.returns-in-Ok-create-clause-empty
+returns-in-Ok-create-clause-empty c =
+    c.in-Ok-create.ensures.empty (c.in-Ok-create.ensures.honest (memory_is_clean c.in-Ok-create.book.conn) refl)

@@ -1,0 +1,31 @@
+//! The subcommand `audit`.
+use crate::job::Job;
+use crate::options::ledger_option;
+use clap::{ArgMatches, Command};
+use std::alloc::{AllocError, Global};
+
+/// What `audit` may say.
+pub fn audit_command<'a>(alloc: Global) -> Result<Command<'a>, AllocError> {
+    Command::new(alloc, "audit")
+        .about("Check the ledger in a file against the rules, from its first request to its last")
+        .after_help(AUDIT_EXAMPLES)
+        .arg(ledger_option(alloc))
+}
+
+const AUDIT_EXAMPLES: &str = "\
+Does all kept requests again and compares every table with what they make. Prints `ledger ok N`,
+where N is the number of kept requests, with exit status 0, or `ledger FAULT`, with status 3:
+`not-a-ledger` where the file has no ledger, `schema N` where it is one of another make, `damaged N`
+where the N-th kept request is the first that is wrong, `damaged 0` where all are right and another
+row is not, `memory` where memory ran out, `store` where the file cannot be opened or read.
+
+Example:
+  s10 audit --ledger post.db
+  ledger ok 9";
+
+/// The audit that the words ask for.
+pub fn audit_job<'a>(found: &ArgMatches<'a>) -> Option<Job<'a>> {
+    Some(Job::Audit {
+        ledger: found.get_str("ledger")?,
+    })
+}

@@ -1,0 +1,50 @@
+//! The subcommand `draw`.
+use crate::body_words::BodyWords;
+use crate::job::Job;
+use crate::options::{
+    country_option, customer_option, request_option, service_option, to_option, tries_option,
+};
+use crate::question::Question;
+use crate::tries::Tries;
+use clap::{ArgMatches, Command};
+use std::alloc::{AllocError, Global};
+
+/// What `draw` may say.
+pub fn draw_command<'a>(alloc: Global) -> Result<Command<'a>, AllocError> {
+    Command::new(alloc, "draw")
+        .about("Ask a server for the next identifier of a service and a country")
+        .after_help(DRAW_EXAMPLES)
+        .arg(to_option(alloc))?
+        .arg(customer_option(alloc))?
+        .arg(request_option(alloc))?
+        .arg(service_option(alloc))?
+        .arg(country_option(alloc))?
+        .arg(tries_option(alloc))
+}
+
+const DRAW_EXAMPLES: &str = "\
+Prints the reply: the request and `done day D ID`, with exit status 0, or why there is no identifier,
+with status 1: `no-range` where the customer has no range of that service and country, `none-free`
+where no serial number of them is free on that day, `number-reused` where the customer has asked for
+something else under this number. `refused peer`, `refused service` or `refused country`, also with
+status 1, say that nothing was asked. With status 3, `gave-up` says that no reply came, and
+`link FAULT` that the socket failed; the same words again ask again, and draw once at most.
+
+Example:
+  s10 draw --to 127.0.0.1:4711 --customer 7 --number 1 --service RA --country GB
+  reply draw customer 7 number 1 RA GB done day 20000 RA000000005GB";
+
+/// The request that the words ask.
+pub fn draw_job<'a>(found: &ArgMatches<'a>) -> Option<Job<'a>> {
+    let body = BodyWords::Draw {
+        service: found.get_str("service")?,
+        country: found.get_str("country")?,
+    };
+    Some(Job::Ask(Question {
+        to: found.get_str("to")?,
+        customer: found.get_one::<u32>("customer")?,
+        number: found.get_one::<u32>("number")?,
+        body,
+        tries: Tries::new(found.get_one::<u32>("tries")?)?,
+    }))
+}

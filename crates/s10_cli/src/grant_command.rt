@@ -1,0 +1,63 @@
+//! The subcommand `grant`.
+use crate::body_words::BodyWords;
+use crate::job::Job;
+use crate::options::{
+    country_option, number_option, request_option, serial_option, service_option, to_option,
+    tries_option,
+};
+use crate::question::Question;
+use crate::tries::Tries;
+use clap::{ArgMatches, Command};
+use s10_core::Serial;
+use std::alloc::{AllocError, Global};
+
+/// The customer number of the post, which alone can grant.
+const POST: u32 = 0;
+
+/// What `grant` may say.
+pub fn grant_command<'a>(alloc: Global) -> Result<Command<'a>, AllocError> {
+    let holder = number_option(alloc, "holder", "The number of the customer to grant to");
+    let first = serial_option(alloc, "first", "The first serial number, 0 to 99999999");
+    let last = serial_option(alloc, "last", "The last serial number, 0 to 99999999");
+    Command::new(alloc, "grant")
+        .about("Ask a server, as the post, to grant a range of serial numbers to a customer")
+        .after_help(GRANT_EXAMPLES)
+        .arg(to_option(alloc))?
+        .arg(request_option(alloc))?
+        .arg(holder)?
+        .arg(service_option(alloc))?
+        .arg(country_option(alloc))?
+        .arg(first)?
+        .arg(last)?
+        .arg(tries_option(alloc))
+}
+
+const GRANT_EXAMPLES: &str = "\
+Prints the reply: the request and `done range R`, with exit status 0, or why nothing was granted,
+with status 1: `bad-grant` where the holder is 0 or the first number is above the last, `overlap`
+where a range of that service and country has one of the numbers, `number-reused` where the post has
+asked for something else under this number. `refused peer`, `refused service` or `refused country`,
+also with status 1, say that nothing was asked. With status 3, `gave-up` says that no reply came, and
+`link FAULT` that the socket failed; the same words again ask again, and grant once at most.
+
+Example:
+  s10 grant --to 127.0.0.1:4711 --number 1 --holder 7 --service RA --country GB --first 0 --last 2
+  reply grant customer 0 number 1 holder 7 RA GB 00000000 00000002 done range 1";
+
+/// The request that the words ask.
+pub fn grant_job<'a>(found: &ArgMatches<'a>) -> Option<Job<'a>> {
+    let body = BodyWords::Grant {
+        holder: found.get_one::<u32>("holder")?,
+        service: found.get_str("service")?,
+        country: found.get_str("country")?,
+        first: Serial::new(found.get_one::<u32>("first")?)?,
+        last: Serial::new(found.get_one::<u32>("last")?)?,
+    };
+    Some(Job::Ask(Question {
+        to: found.get_str("to")?,
+        customer: POST,
+        number: found.get_one::<u32>("number")?,
+        body,
+        tries: Tries::new(found.get_one::<u32>("tries")?)?,
+    }))
+}

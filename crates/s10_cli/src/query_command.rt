@@ -1,0 +1,47 @@
+//! The subcommand `query`.
+use crate::body_words::BodyWords;
+use crate::job::Job;
+use crate::options::{customer_option, id_option, request_option, to_option, tries_option};
+use crate::question::Question;
+use crate::tries::Tries;
+use clap::{ArgMatches, Command};
+use std::alloc::{AllocError, Global};
+
+/// What `query` may say.
+pub fn query_command<'a>(alloc: Global) -> Result<Command<'a>, AllocError> {
+    Command::new(alloc, "query")
+        .about("Ask a server what became of an identifier")
+        .after_help(QUERY_EXAMPLES)
+        .arg(to_option(alloc))?
+        .arg(customer_option(alloc))?
+        .arg(request_option(alloc))?
+        .arg(id_option(alloc))?
+        .arg(tries_option(alloc))
+}
+
+const QUERY_EXAMPLES: &str = "\
+Prints the reply: the request and `done` with `never` (never issued), `issued D` or `voided D` (D is
+the day of its last issue) or, to the post alone, `unknown` (in no range), with exit status 0. With
+status 1, `not-yours` says that the identifier is in none of the customer's ranges, and
+`number-reused` that the customer has asked for something else under this number. `refused peer`, or
+`refused` with `length`, `letter AT`, `digit AT` or `check-digit`, also with status 1, say that
+nothing was asked. With status 3, `gave-up` says that no reply came, and `link FAULT` that the socket
+failed. A query is kept with its reply: to ask anew, take a new number.
+
+Example:
+  s10 query --to 127.0.0.1:4711 --customer 7 --number 4 --id RA000000005GB
+  reply query customer 7 number 4 RA000000005GB done voided 20000";
+
+/// The request that the words ask.
+pub fn query_job<'a>(found: &ArgMatches<'a>) -> Option<Job<'a>> {
+    let body = BodyWords::Query {
+        id: found.get_str("id")?,
+    };
+    Some(Job::Ask(Question {
+        to: found.get_str("to")?,
+        customer: found.get_one::<u32>("customer")?,
+        number: found.get_one::<u32>("number")?,
+        body,
+        tries: Tries::new(found.get_one::<u32>("tries")?)?,
+    }))
+}

@@ -1,0 +1,59 @@
+//! The subcommand `serve`.
+use crate::job::Job;
+use crate::options::{day_option, ledger_option, number_option, text_option};
+use clap::{ArgMatches, Command};
+use std::alloc::{AllocError, Global};
+
+/// What `serve` may say.
+pub fn serve_command<'a>(alloc: Global) -> Result<Command<'a>, AllocError> {
+    let bind = text_option(
+        alloc,
+        "bind",
+        "PEER",
+        "The address to serve at, as 127.0.0.1:4711; with port 0 the system picks one",
+    );
+    let count = number_option(
+        alloc,
+        "count",
+        "How many turns to serve: each takes one datagram, or waits a second for one",
+    );
+    let day = day_option(
+        alloc,
+        "The day of all requests; by default the clock's day at each turn",
+    );
+    Command::new(alloc, "serve")
+        .about("Answer the requests that come to an address, over the ledger in a file")
+        .after_help(SERVE_EXAMPLES)
+        .arg(ledger_option(alloc))?
+        .arg(bind)?
+        .arg(count)?
+        .arg(day)
+}
+
+const SERVE_EXAMPLES: &str = "\
+Prints one line for each turn, as it is done:
+  replied HEX     a reply was sent; `s10 show HEX` puts it into words
+  quiet           nothing came in a second
+  dropped FAULT   what came asks nothing: short, magic, version, kind, length, field AT or outcome
+  faulted FAULT   a request was left unanswered: memory, store, or full where the limit is reached
+  link FAULT      receive or send: the socket failed, and the next turn follows
+
+After the last turn the ledger is closed and the exit status is 0. `refused peer`, with status 1,
+says that the address does not read. With status 3, `ledger FAULT` says that the ledger could not be
+opened or closed, `link bind` that the address cannot be had, and `clock` that the clock gives no
+day. A stop at any moment leaves a ledger that opens. The address that is served at is printed to
+standard error. There is no authentication: whoever reaches the address can ask as customer 0.
+
+Example:
+  s10 serve --ledger post.db --bind 127.0.0.1:4711 --count 1
+  replied 533101820000000700000001524147420000004e2052413030303030303030354742";
+
+/// The serving that the words ask for.
+pub fn serve_job<'a>(found: &ArgMatches<'a>) -> Option<Job<'a>> {
+    Some(Job::Serve {
+        ledger: found.get_str("ledger")?,
+        bind: found.get_str("bind")?,
+        count: found.get_one::<u32>("count")?,
+        day: found.get_one::<u32>("day"),
+    })
+}

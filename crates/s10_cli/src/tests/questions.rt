@@ -1,0 +1,97 @@
+//! The texts of requests, and requests over sockets.
+
+use super::Refusing;
+use crate::{BodyWords, Question, Status, Tries, run_question};
+use s10_wire::WriteFault;
+use std::test::Fail;
+
+/// Customer 7's first request.
+fn draw<'a>(tries: Tries, to: &'a str, service: &'a str, country: &'a str) -> Question<'a> {
+    Question {
+        to,
+        customer: 7,
+        number: 1,
+        body: BodyWords::Draw { service, country },
+        tries,
+    }
+}
+
+fn query<'a>(tries: Tries, to: &'a str, id: &'a str) -> Question<'a> {
+    Question {
+        to,
+        customer: 7,
+        number: 1,
+        body: BodyWords::Query { id },
+        tries,
+    }
+}
+
+#[test]
+fn what_is_not_asked_has_its_line(rt: HostRuntime) -> Result<(), Fail> {
+    let tries = Tries::new(1).ok_or("tries")?;
+    let server = "127.0.0.1:4711";
+    let cases: [(Question<'_>, Status, &str); 10] = [
+        (
+            draw(tries, "127.0.0.1", "ra", "gb"),
+            Status::Refused,
+            "refused peer\n",
+        ),
+        (
+            draw(tries, "127.0.0.1:04711", "RA", "GB"),
+            Status::Refused,
+            "refused peer\n",
+        ),
+        (
+            draw(tries, server, "ra", "gb"),
+            Status::Refused,
+            "refused service\n",
+        ),
+        (
+            draw(tries, server, "RAA", "GB"),
+            Status::Refused,
+            "refused service\n",
+        ),
+        (
+            draw(tries, server, "RA", "G8"),
+            Status::Refused,
+            "refused country\n",
+        ),
+        (
+            query(tries, "post:4711", "RA"),
+            Status::Refused,
+            "refused peer\n",
+        ),
+        (
+            query(tries, server, "RA"),
+            Status::Refused,
+            "refused length\n",
+        ),
+        (
+            query(tries, server, "ra 473 124 82x us"),
+            Status::Refused,
+            "refused digit 10\n",
+        ),
+        (
+            query(tries, server, "RA 000 000 006 GB"),
+            Status::Refused,
+            "refused check-digit\n",
+        ),
+        // No datagram can be sent to port 0.
+        (
+            query(tries, "127.0.0.1:0", "ra 000 000 005 gb"),
+            Status::Failed,
+            "link send\n",
+        ),
+    ];
+    for (question, status, line) in &cases {
+        let mut out = Vec::new(rt.alloc());
+        assert_eq!(rt;
+            run_question(&rt, question, &mut out),
+            Ok(*status),
+            "{line}"
+        );
+        assert_eq!(rt; out.as_slice(), line.as_bytes());
+        assert_eq!(rt; run_question(&rt, question, &mut Refusing), Err(WriteFault));
+    }
+    Ok(())
+}

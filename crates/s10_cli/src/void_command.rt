@@ -1,0 +1,46 @@
+//! The subcommand `void`.
+use crate::body_words::BodyWords;
+use crate::job::Job;
+use crate::options::{customer_option, id_option, request_option, to_option, tries_option};
+use crate::question::Question;
+use crate::tries::Tries;
+use clap::{ArgMatches, Command};
+use std::alloc::{AllocError, Global};
+
+/// What `void` may say.
+pub fn void_command<'a>(alloc: Global) -> Result<Command<'a>, AllocError> {
+    Command::new(alloc, "void")
+        .about("Tell a server that an identifier will not be used")
+        .after_help(VOID_EXAMPLES)
+        .arg(to_option(alloc))?
+        .arg(customer_option(alloc))?
+        .arg(request_option(alloc))?
+        .arg(id_option(alloc))?
+        .arg(tries_option(alloc))
+}
+
+const VOID_EXAMPLES: &str = "\
+Prints the reply: the request and `done`, with exit status 0, or why it was not done, with status 1:
+`not-yours` where the identifier is in none of the customer's ranges, `not-issued` where it was never
+issued, `already-void` where it is void, `number-reused` where the customer has asked for something
+else under this number. `refused peer`, or `refused` with `length`, `letter AT`, `digit AT` or
+`check-digit`, also with status 1, say that nothing was asked. With status 3, `gave-up` says that no
+reply came, and `link FAULT` that the socket failed; the same words again ask again.
+
+Example:
+  s10 void --to 127.0.0.1:4711 --customer 7 --number 3 --id RA000000005GB
+  reply void customer 7 number 3 RA000000005GB done";
+
+/// The request that the words ask.
+pub fn void_job<'a>(found: &ArgMatches<'a>) -> Option<Job<'a>> {
+    let body = BodyWords::Void {
+        id: found.get_str("id")?,
+    };
+    Some(Job::Ask(Question {
+        to: found.get_str("to")?,
+        customer: found.get_one::<u32>("customer")?,
+        number: found.get_one::<u32>("number")?,
+        body,
+        tries: Tries::new(found.get_one::<u32>("tries")?)?,
+    }))
+}
