@@ -1,7 +1,11 @@
 //! The program `s10`: its words, its standard input and output, and its exit status.
 #![tactic(auto)]
 
-use s10_cli::{Status, run_line};
+mod files;
+mod jobs;
+
+use jobs::run_job;
+use s10_cli::{Status, parse_job, run_line};
 use std::convert::AsStr;
 use std::io;
 use std::io::{BufReader, BufWriter, ErrorKind, Read, Write};
@@ -20,11 +24,31 @@ fn main(rt: HostRuntime) -> ExitCode {
 
 fn run(rt: &HostRuntime) -> io::Result<u8> {
     let words: Vec<String> = std::env::args(rt)?.collect(rt.alloc())?;
-    run_buffered(rt, words.as_slice(), rt.reader(), io::writer(rt))
+    let words = words.as_slice();
+    match run_buffered(rt, words, rt.reader(), io::writer(rt))? {
+        Some(status) => Ok(status),
+        None => run_words(rt, words, io::writer(rt)),
+    }
 }
 
-// Runs a command line over buffers, and writes out what is left in them.
-fn run_buffered<R, S, I, O>(rt: &R, words: &[S], input: I, output: O) -> io::Result<u8>
+// Runs the job that a command line left to the program.
+fn run_words<S: AsStr, O: Write + Drop>(
+    rt: &HostRuntime,
+    words: &[S],
+    output: O,
+) -> io::Result<u8> {
+    let Some(job) = parse_job(rt.alloc(), words) else {
+        return Err(io::Error::from(ErrorKind::OutOfMemory));
+    };
+    let mut output = BufWriter::new(rt.alloc(), output)?;
+    let status = run_job(rt, &job, &mut output);
+    output.flush()?;
+    Ok(status)
+}
+
+// Runs a command line over buffers, and writes out what is left in them. `None` where it asks for a
+// job of the program's.
+fn run_buffered<R, S, I, O>(rt: &R, words: &[S], input: I, output: O) -> io::Result<Option<u8>>
 where
     R: Eprint + AllocGlobal,
     S: AsStr,
@@ -33,7 +57,7 @@ where
 {
     let mut input = BufReader::new(rt.alloc(), input)?;
     let mut output = BufWriter::new(rt.alloc(), output)?;
-    let status = run_line(rt, words, &mut input, &mut output).unwrap_or(Status::Done as u8);
+    let status = run_line(rt, words, &mut input, &mut output);
     output.flush()?;
     Ok(status)
 }
