@@ -1,7 +1,7 @@
 //! Look-ups in the lists of a book in memory.
 
 ghost use Rattle.std.specs.Prelude.{◌≡◌, ◌==◌, find, not, count_by, false, ◌<◌, ◌^◌, ◌-◌, ◌+◌, ◌≤◌, if◌then◌else◌, option_to_list};
-ghost use Rattle.s10_book.specs.History.{has_key, entry_with_key, lies_in, range_of_grant, entry_at, is_held, is_held_above, overlaps};
+ghost use Rattle.s10_book.specs.History.{has_key, entry_with_key, lies_in, range_of_grant, entry_at, is_held_above, overlaps};
 ghost use Rattle.s10_book.specs.Issues.{issues_of, issues_at, last_issue_of, candidate_of, is_of, last_issuance_of, voids, voided_after, is_issued, serial_issued_earliest, least_serial_unissued, id_at, serials, is_voided as is_voided_in, is_free as is_free_on};
 ghost use Rattle.std.specs.Option.{option_map, unwrap_or};
 
@@ -39,22 +39,6 @@ pub(crate) fn range_numbered(ranges: &[Range], num: u32) -> Option<Range>
     ranges.iter().find(|r| r.num == num).copied()
 }
 
-fn is_held_by(range: &Range, customer: u32, service: Service, country: Country) -> bool
-    ensures { result ≡ is_held customer service country range.now }
-{
-    range.holder == customer && range.service == service && range.country == country
-}
-
-fn is_over(range: &Range, service: Service, country: Country, first: Serial, last: Serial) -> bool
-    ensures { result ≡ overlaps service country first last range.now }
-{
-    range.service == service
-        && range.country == country
-        && range.first.value() <= last.value()
-        && first.value() <= range.last.value()
-        && first.value() <= last.value()
-}
-
 pub(crate) fn range_after(
     ranges: &[Range],
     customer: u32,
@@ -66,7 +50,7 @@ pub(crate) fn range_after(
 {
     ranges
         .iter()
-        .find(|r| after < r.num && is_held_by(r, customer, service, country))
+        .find(|r| after < r.num && r.is_held_by(customer, service, country))
         .copied()
 }
 
@@ -81,7 +65,7 @@ pub(crate) fn range_over(
 {
     ranges
         .iter()
-        .find(|r| is_over(r, service, country, first, last))
+        .find(|r| r.overlaps(service, country, first, last))
         .copied()
 }
 

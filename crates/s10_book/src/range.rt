@@ -16,3 +16,29 @@ pub struct Range {
     /// Its last serial, which belongs to it.
     pub last: Serial,
 }
+
+impl Range {
+    ghost use Rattle.std.specs.Prelude.{◌≡◌};
+    ghost use Rattle.s10_book.specs.History.{is_held, overlaps};
+
+    /// Whether the customer is its holder and its identifiers are of that service indicator and
+    /// country code.
+    pub fn is_held_by(&self, customer: u32, service: Service, country: Country) -> bool
+        ensures { result ≡ is_held customer service country self.now }
+    {
+        self.holder == customer && self.service == service && self.country == country
+    }
+
+    /// Whether one of its identifiers is also one of that service indicator and country code with
+    /// a serial of `first` to `last`, both of which belong to them. False where `last` is below
+    /// `first`.
+    pub fn overlaps(&self, service: Service, country: Country, first: Serial, last: Serial) -> bool
+        ensures { result ≡ overlaps service country first last self.now }
+    {
+        self.service == service
+            && self.country == country
+            && self.first.value() <= last.value()
+            && first.value() <= self.last.value()
+            && first.value() <= last.value()
+    }
+}

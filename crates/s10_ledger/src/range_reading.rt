@@ -55,16 +55,6 @@ pub(crate) fn range_numbered(rows: &[RangeRow], num: u32) -> Result<Option<Range
     Ok(None)
 }
 
-fn is_held_by(range: &Range, customer: u32, service: Service, country: Country, after: u32) -> bool
-    ensures held { result ≡ is_held_above after customer service country range.now }
-    ensures above { IsTrue result → after < range.now.num }
-{
-    after < range.num
-        && range.holder == customer
-        && range.service == service
-        && range.country == country
-}
-
 // The range of least number above `after` with that holder, service and country.
 pub(crate) fn range_after(
     rows: &[RangeRow],
@@ -83,21 +73,11 @@ pub(crate) fn range_after(
         let Some(range) = range_in(row) else {
             return Err(BookFault::Store);
         };
-        if is_held_by(&range, customer, service, country, after) {
+        if after < range.num && range.is_held_by(customer, service, country) {
             return Ok(Some(range));
         }
     }
     Ok(None)
-}
-
-fn is_over(range: &Range, service: Service, country: Country, first: Serial, last: Serial) -> bool
-    ensures { result ≡ overlaps service country first last range.now }
-{
-    range.service == service
-        && range.country == country
-        && range.first.value() <= last.value()
-        && first.value() <= range.last.value()
-        && first.value() <= last.value()
 }
 
 // The range of least number that has a serial in common with `first` to `last`.
@@ -117,7 +97,7 @@ pub(crate) fn range_over(
         let Some(range) = range_in(row) else {
             return Err(BookFault::Store);
         };
-        if is_over(&range, service, country, first, last) {
+        if range.overlaps(service, country, first, last) {
             return Ok(Some(range));
         }
     }

@@ -1,4 +1,4 @@
-use Rattle.std.proofs.Common.{◌≡◌, Bool, true, false, Option, Ok, sym, ap, ◌∙◌, arith}
+use Rattle.std.proofs.Common.{◌≡◌, Bool, true, false, Option, Ok, ap, arith, rules, tests}
 use Rattle.s10_book.specs.History.{is_held_above}
 use Rattle.s10_book.specs.declared.range.Range.{Range}
 use Rattle.s10_ledger.proofs.RangeRows.{Tried-start, Tried-step, Tried-found, Tried-end, Passed-found, Passed-end, never_unread}
@@ -14,20 +14,20 @@ returns-in_default-clause-found c = λ h ranges are.
 pub returns-then-is_held_by-clause-found : goal.returns-then-is_held_by-clause-found
 returns-then-is_held_by-clause-found c = λ h ranges are.
     let p : Range → Bool = is_held_above c.args.after c.args.customer c.args.service c.args.country in
-    let passes : p c.in-Some.range ≡ true = sym c.is_held_by.ensures.held ∙ c.if-is_held_by.true in
+    let passes : p c.in-Some.range ≡ true = search (rules, tests) in
     ap (λ (o : Option Range). Ok o)
     (Passed-found p c.args.rows.now c.loop-row.row-index _ c.in-Some.range c.loop-row-test.true c.in-Some.ensures.kept passes c.loop-row.invariant.passed h ranges are)
 
 pub returns-then-is_held_by-clause-read : goal.returns-then-is_held_by-clause-read
 returns-then-is_held_by-clause-read c =
     let p : Range → Bool = is_held_above c.args.after c.args.customer c.args.service c.args.country in
-    let passes : p c.in-Some.range ≡ true = sym c.is_held_by.ensures.held ∙ c.if-is_held_by.true in
+    let passes : p c.in-Some.range ≡ true = search (rules, tests) in
     Tried-found p c.args.rows.now c.loop-row.row-index _ c.in-Some.range c.loop-row-test.true c.in-Some.ensures.read passes
 
 pub loop-row-preserved : goal.loop-row-preserved
 loop-row-preserved c =
     let p : Range → Bool = is_held_above c.args.after c.args.customer c.args.service c.args.country in
-    let fails : p c.in-Some.range ≡ false = sym c.is_held_by.ensures.held ∙ c.if-is_held_by.false in
+    let fails : p c.in-Some.range ≡ false = search (rules, tests) in
     Tried-step p c.args.rows.now c.loop-row.row-index _ c.in-Some.range c.loop-row-test.true c.in-Some.ensures.read c.in-Some.ensures.kept fails c.loop-row.invariant
 
 pub returns-clause-found : goal.returns-clause-found

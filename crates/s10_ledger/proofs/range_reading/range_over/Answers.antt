@@ -11,23 +11,23 @@ pub returns-in_default-clause-found : goal.returns-in_default-clause-found
 returns-in_default-clause-found c = λ h ranges are.
     absurd (never_unread c.args.rows.now c.loop-row.row-index _ c.loop-row-test.true c.in_default.ensures.kept h ranges are)
 
-pub returns-then-is_over-clause-found : goal.returns-then-is_over-clause-found
-returns-then-is_over-clause-found c = λ h ranges are.
+pub returns-then-overlaps-clause-found : goal.returns-then-overlaps-clause-found
+returns-then-overlaps-clause-found c = λ h ranges are.
     let p : Range → Bool = overlaps c.args.service c.args.country c.args.first c.args.last in
-    let passes : p c.in-Some.range ≡ true = sym c.is_over.ensures ∙ c.if-is_over.true in
+    let passes : p c.in-Some.range ≡ true = sym c.overlaps.ensures ∙ c.if-overlaps.true in
     ap (λ (o : Option Range). Ok o)
     (Passed-found p c.args.rows.now c.loop-row.row-index _ c.in-Some.range c.loop-row-test.true c.in-Some.ensures.kept passes c.loop-row.invariant.passed h ranges are)
 
-pub returns-then-is_over-clause-read : goal.returns-then-is_over-clause-read
-returns-then-is_over-clause-read c =
+pub returns-then-overlaps-clause-read : goal.returns-then-overlaps-clause-read
+returns-then-overlaps-clause-read c =
     let p : Range → Bool = overlaps c.args.service c.args.country c.args.first c.args.last in
-    let passes : p c.in-Some.range ≡ true = sym c.is_over.ensures ∙ c.if-is_over.true in
+    let passes : p c.in-Some.range ≡ true = sym c.overlaps.ensures ∙ c.if-overlaps.true in
     Tried-found p c.args.rows.now c.loop-row.row-index _ c.in-Some.range c.loop-row-test.true c.in-Some.ensures.read passes
 
 pub loop-row-preserved : goal.loop-row-preserved
 loop-row-preserved c =
     let p : Range → Bool = overlaps c.args.service c.args.country c.args.first c.args.last in
-    let fails : p c.in-Some.range ≡ false = sym c.is_over.ensures ∙ c.if-is_over.false in
+    let fails : p c.in-Some.range ≡ false = sym c.overlaps.ensures ∙ c.if-overlaps.false in
     Tried-step p c.args.rows.now c.loop-row.row-index _ c.in-Some.range c.loop-row-test.true c.in-Some.ensures.read c.in-Some.ensures.kept fails c.loop-row.invariant
 
 pub returns-clause-found : goal.returns-clause-found
