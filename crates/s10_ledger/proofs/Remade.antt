@@ -1,5 +1,5 @@
 -- What a ledger in memory of the same calls tells of the rows.
-use Rattle.std.proofs.Common.{◌≡◌, ℕ, pos, Bool, IsTrue, List, length, All, refl, sym, ap, subst, ◌∙◌}
+use Rattle.std.proofs.Common.{◌≡◌, ◌⊎◌, inl, inr, ℕ, pos, Bool, IsTrue, List, length, All, refl, sym, ap, subst, ◌∙◌}
 use Rattle.std.specs.Prelude.{◌↔◌}
 use Rattle.std.specs.Coded.{coded_ℕ}
 use Rattle.std.proofs.Math.Bool.{So-prop}
@@ -14,11 +14,13 @@ use Rattle.sqlite.proofs.Callers.{memory_is_clean}
 use Rattle.s10_book.specs.declared.entry.Entry.{Entry}
 use Rattle.s10_book.specs.Settings.{Terms}
 use Rattle.s10_book.specs.History.{day_of}
+use Rattle.s10_ledger.specs.declared.open_fault.OpenFault.{OpenFault}
+use Rattle.s10_ledger.specs.declared.open_fault.OpenFault.TheVariants.{Memory, Store}
 use Rattle.s10_ledger.specs.declared.opened.Opened.{Opened}
 use Rattle.s10_ledger.specs.CallRow.{StoredCall}
 use Rattle.s10_ledger.specs.Tables.{Tables, HaveSameRows}
 use Rattle.s10_ledger.specs.RightRows.{AreRight, kept_of, entry_of}
-use Rattle.s10_ledger.specs.Verdict.{IsHead, AreMade, IsWhole}
+use Rattle.s10_ledger.specs.Verdict.{IsHead, AreMade, IsWhole, IsRefusal}
 use Rattle.s10_ledger.specs.Selected.{IsCall}
 use Rattle.s10_ledger.specs.Shown.{StandsFor}
 use Rattle.s10_ledger.specs.Statements.{Leaves}
@@ -32,6 +34,11 @@ in_memory l conn same ledger = record {
   is_open = refl;
   ledger = subst (λ (c : Held MemStore). IsLedger (state over_memory c).now l.terms l.len l.day) same ledger;
 }
+
+-- where none could be made, the rows may be anything
+pub not_made : (tables : Tables) (fault : OpenFault) → (fault ≡ Memory) ⊎ (fault ≡ Store) → IsRefusal tables fault
+not_made tables fault (inl memory) = subst (IsRefusal tables) (sym memory) tt
+not_made tables fault (inr store) = subst (IsRefusal tables) (sym store) tt
 
 -- the same ledger, with its length and its day
 pub told_ledger : (db : Database) (t u : Terms) (len day len' day' : ℕ) → t ≡ u → IsLedger db t len day → len' ≡ length (history_in db) → day' ≡ day_of (history_in db) → IsLedger db u len' day'

@@ -1,6 +1,6 @@
 //! The rows of a ledger are checked.
 
-ghost use Rattle.std.specs.Prelude.{◌≡◌, ◌↔◌, List, [], All, pos, IfOk, IfErr, IsTrue};
+ghost use Rattle.std.specs.Prelude.{◌≡◌, ◌↔◌, List, All, pos, IfOk, IfErr, IsTrue};
 ghost use Rattle.sqlite.specs.Held.{state};
 ghost use Rattle.sqlite.specs.State.{HasCleanDisk};
 ghost use Rattle.sqlite.specs.Steps.{over_memory};
@@ -21,7 +21,6 @@ use crate::open_fault::OpenFault;
 use crate::opened::Opened;
 use crate::range_row::RangeRow;
 use crate::reads::{all_ranges, all_serials};
-use crate::refused::Refused;
 use crate::replay::replay;
 use crate::same_rows::{same_ranges, same_serials};
 use crate::serial_row::SerialRow;
@@ -29,26 +28,6 @@ use crate::sql_book::SqlBook;
 use s10_book::{Book, Settings};
 use sqlite::{Alter, Connection, MemStore};
 use std::alloc::Global;
-
-// A ledger in memory, without calls.
-fn empty_ledger(alloc: Global, settings: Settings) -> Result<SqlBook<MemStore>, OpenFault>
-    ensures terms { IfOk result (λ b. b.terms ≡ settings) }
-    ensures empty { IfOk result (λ b. history_in (state over_memory b.conn).now ≡ []) }
-    ensures err { (tables : Tables) → IfErr result (IsRefusal tables) }
-{
-    let Ok(conn) = Connection::open_in_memory(alloc) else {
-        return Err(OpenFault::Memory);
-    };
-    match SqlBook::create(alloc, conn, settings) {
-        Ok(book) => Ok(book),
-        Err(
-            Refused {
-                fault,
-                connection: _,
-            },
-        ) => Err(fault),
-    }
-}
 
 // A ledger in memory that keeps the calls of the rows, each of them right behind those before it.
 fn replayed(
@@ -62,7 +41,7 @@ fn replayed(
     ensures settings { IfOk result (λ found. found.1.settings ≡ settings) }
     ensures err { (tables : Tables) → tables.calls ≡ calls.now → IsHead tables.heads (pos 1) settings → IfErr result (IsRefusal tables) }
 {
-    let mut book = empty_ledger(alloc, settings)?;
+    let mut book = SqlBook::in_memory(alloc, settings)?;
     let replayed = replay(&mut book, calls);
     let opened = Opened {
         settings,

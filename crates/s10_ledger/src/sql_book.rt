@@ -18,7 +18,7 @@ use crate::opened_ledger::ledger_in;
 use crate::refused::Refused;
 use s10_book::{Book, BookFault, Candidate, Entry, Issue, Range, Settings, Usage};
 use s10_core::{Country, Id, Serial, Service};
-use sqlite::{Alter, Connection};
+use sqlite::{Alter, Connection, MemStore};
 use std::alloc::Global;
 use std::marker::Model;
 
@@ -133,6 +133,35 @@ impl<S: Alter> SqlBook<S> {
             faults: _,
         } = self;
         conn
+    }
+}
+
+impl SqlBook<MemStore> {
+    ghost use Rattle.std.specs.Prelude.{◌≡◌, ◌⊎◌, IfOk, IfErr, []};
+    ghost use Rattle.sqlite.specs.Held.{state};
+    ghost use Rattle.sqlite.specs.Steps.{over_memory};
+    ghost use Rattle.s10_ledger.specs.Ledger.{IsHonest, history_in};
+
+    /// Makes an empty ledger with these settings in memory. Refused with Memory, and with Store
+    /// where a statement failed.
+    pub fn in_memory(alloc: Global, settings: Settings) -> Result<SqlBook<MemStore>, OpenFault>
+        ensures new { IfOk result (λ b. (b.terms ≡ settings) × (b.faults ≡ 0)) }
+        ensures honest { IfOk result (IsHonest over_memory) }
+        ensures empty { IfOk result (λ b. history_in (state over_memory b.conn).now ≡ []) }
+        ensures refused { IfErr result (λ f. (f ≡ OpenFault.Memory) ⊎ (f ≡ OpenFault.Store)) }
+    {
+        let Ok(conn) = Connection::open_in_memory(alloc) else {
+            return Err(OpenFault::Memory);
+        };
+        match SqlBook::create(alloc, conn, settings) {
+            Ok(book) => Ok(book),
+            Err(
+                Refused {
+                    fault,
+                    connection: _,
+                },
+            ) => Err(fault),
+        }
     }
 }
 

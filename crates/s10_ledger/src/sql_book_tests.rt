@@ -2,14 +2,13 @@
 
 ghost use Rattle.std.specs.Prelude.{◌<◌};
 
-use crate::refused::Refused;
 use crate::sql_book::SqlBook;
 use s10_book::{
     Book, BookFault, Candidate, Entry, Issue, PlainBook, Range, Settings, Usage, decide,
 };
 use s10_core::{Country, Id, Serial, Service};
 use s10_wire::{Body, Outcome, Request, Status};
-use sqlite::{Connection, MemStore};
+use sqlite::MemStore;
 use std::process::Abort;
 
 mod creating;
@@ -122,17 +121,9 @@ fn settings<R: Abort>(rt: &R, limit: u32) -> Settings {
 
 // A new ledger in memory.
 fn ledger<R: Abort + AllocGlobal>(rt: &R, settings: Settings) -> SqlBook<MemStore> {
-    let Ok(conn) = Connection::open_in_memory(rt.alloc()) else {
-        panic!(rt; "no connection")
-    };
-    match SqlBook::create(rt.alloc(), conn, settings) {
+    match SqlBook::in_memory(rt.alloc(), settings) {
         Ok(book) => book,
-        Err(
-            Refused {
-                fault,
-                connection: _,
-            },
-        ) => panic!(rt; "{fault}"),
+        Err(fault) => panic!(rt; "{fault}"),
     }
 }
 

@@ -9,25 +9,25 @@ use Rattle.s10_book.specs.History.{day_of}
 use Rattle.s10_ledger.specs.RightRows.{AreRight}
 use Rattle.s10_ledger.specs.Verdict.{IsHead}
 use Rattle.s10_ledger.specs.Ledger.{history_in}
-use Rattle.s10_ledger.proofs.Remade.{in_memory, told_ledger}
+use Rattle.s10_ledger.proofs.Remade.{in_memory, not_made, told_ledger}
 use Rattle.s10_ledger.proofs.opening.replayed.Goals as goal
 
 pub returns-in_err-book-clause-err : goal.returns-in_err-book-clause-err
 returns-in_err-book-clause-err c = λ tables same head.
     let p = err_from_is_err_and c.from_residual.result c.from_residual.ensures.1 in
-    rw (p.1, p.2) (c.in_err-book.ensures.err tables)
+    rw (p.1, p.2) (not_made tables _ c.in_err-book.ensures.refused)
 
 pub returns-in_err-replayed-clause-err : goal.returns-in_err-replayed-clause-err
 returns-in_err-replayed-clause-err c = λ tables same head.
     let p = err_from_is_err_and c.from_residual-in_err-replayed.result c.from_residual-in_err-replayed.ensures.1 in
     let honest = in_memory c.replay-replayed.new.book c.close-conn.result c.close-conn.ensures.same (c.close-conn.ensures.ledger (memory_is_clean c.close-conn.result) refl) in
     rw (p.1, p.2) (c.in_err-replayed.ensures.err honest c.in_ok-book.ensures.empty tables same
-    (subst (λ (u : Terms). IsHead tables.heads (pos 1) u) (sym c.in_ok-book.ensures.terms) head))
+    (subst (λ (u : Terms). IsHead tables.heads (pos 1) u) (sym c.in_ok-book.ensures.new.0) head))
 
 pub returns-clause-right : goal.returns-clause-right
 returns-clause-right c =
     let honest = in_memory c.replay-replayed.new.book c.close-conn.result c.close-conn.ensures.same (c.close-conn.ensures.ledger (memory_is_clean c.close-conn.result) refl) in
-    subst (λ (u : Terms). AreRight u c.args.calls.now) c.in_ok-book.ensures.terms (c.in_ok-replayed.ensures.right honest c.in_ok-book.ensures.empty)
+    subst (λ (u : Terms). AreRight u c.args.calls.now) c.in_ok-book.ensures.new.0 (c.in_ok-replayed.ensures.right honest c.in_ok-book.ensures.empty)
 
 pub returns-clause-history : goal.returns-clause-history
 returns-clause-history c =
@@ -40,5 +40,5 @@ returns-clause-ledger c =
     let ledger = c.close-conn.ensures.ledger (memory_is_clean c.close-conn.result) refl in
     let honest = in_memory book c.close-conn.result c.close-conn.ensures.same ledger in
     let back = ap (λ (conn : Held MemStore). history_in (state over_memory conn).now) (sym c.close-conn.ensures.same) in
-    told_ledger (state over_memory c.close-conn.result).now book.terms c.args.settings book.len book.day c.len.result c.day.result (c.in_ok-replayed.ensures.same_terms honest ∙ c.in_ok-book.ensures.terms) ledger
+    told_ledger (state over_memory c.close-conn.result).now book.terms c.args.settings book.len book.day c.len.result c.day.result (c.in_ok-replayed.ensures.same_terms honest ∙ c.in_ok-book.ensures.new.0) ledger
     (c.len.ensures.answer honest ∙ ap length back) (c.day.ensures honest ∙ ap day_of back)

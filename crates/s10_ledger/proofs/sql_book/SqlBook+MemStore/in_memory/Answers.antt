@@ -1,6 +1,9 @@
 use Rattle.std.proofs.Common.{refl}
 use Rattle.sqlite.proofs.Callers.{memory_is_clean}
-use Rattle.s10_ledger.proofs.opening.empty_ledger.Goals as goal
+use Rattle.s10_ledger.proofs.sql_book.SqlBook+MemStore.in_memory.Goals as goal
+
+pub returns-in-Ok-create-clause-honest : goal.returns-in-Ok-create-clause-honest
+returns-in-Ok-create-clause-honest c = c.in-Ok-create.ensures.honest (memory_is_clean c.in-Ok-create.book.conn) refl
 
 pub returns-in-Ok-create-clause-empty : goal.returns-in-Ok-create-clause-empty
 returns-in-Ok-create-clause-empty c = c.in-Ok-create.ensures.empty (c.in-Ok-create.ensures.honest (memory_is_clean c.in-Ok-create.book.conn) refl)
