@@ -21,7 +21,6 @@ mod link_fault;
 mod loop_command;
 mod loopback;
 mod make;
-mod memory_ledger;
 mod options;
 mod parts;
 mod query_command;
@@ -42,6 +41,7 @@ mod today;
 mod tries;
 mod turn_line;
 mod void_command;
+mod waiting;
 mod words;
 
 pub use asking::ask;

@@ -8,23 +8,21 @@ ghost use Rattle.s10_cli.specs.Looped.{ra, gb, first_of_range, granted_range, cu
 use crate::asking::ask;
 use crate::ledger_fault::write_ledger_fault;
 use crate::link_fault::write_link_fault;
-use crate::memory_ledger::memory_ledger;
 use crate::status::Status;
+use crate::waiting::WAIT;
 use s10_book::Settings;
 use s10_core::{Country, Id, Serial, Service};
 use s10_ends::{Client, NearLink, Server, UdpLink};
+use s10_ledger::SqlBook;
 use s10_wire::{Body, Link, LinkFault, Peer, WriteFault};
 use std::io::Write;
 use std::net::Net;
 
-/// A port of this machine that the system picks.
-const ANY: Peer = Peer {
+/// The address of this machine to itself, with a port that the system picks.
+const LOCALHOST: Peer = Peer {
     ip: [127, 0, 0, 1],
     port: 0,
 };
-
-/// How many milliseconds a receive waits at most.
-const WAIT: u32 = 1_000;
 
 /// How often a call is tried.
 const TRIES: u32 = 5;
@@ -61,7 +59,7 @@ fn run_calls<N: Net + AllocGlobal, W: Write>(
     let Some(settings) = Settings::new(30, 100) else {
         unreachable!()
     };
-    let book = match memory_ledger(rt.alloc(), settings) {
+    let book = match SqlBook::in_memory(rt.alloc(), settings) {
         Ok(book) => book,
         Err(fault) => {
             write_ledger_fault(fault, out)?;
@@ -88,8 +86,8 @@ fn run_calls<N: Net + AllocGlobal, W: Write>(
 
 // The far and the near end.
 fn two_links<N: Net>(net: &N) -> Result<(UdpLink, UdpLink), LinkFault> {
-    let far = UdpLink::bind(net, ANY, WAIT)?;
-    let near = UdpLink::bind(net, ANY, WAIT)?;
+    let far = UdpLink::bind(net, LOCALHOST, WAIT)?;
+    let near = UdpLink::bind(net, LOCALHOST, WAIT)?;
     Ok((far, near))
 }
 

@@ -14,19 +14,17 @@ use crate::failures::fail_by_link;
 use crate::question::Question;
 use crate::refusal::write_refusal;
 use crate::status::Status;
+use crate::waiting::WAIT;
 use s10_ends::{Client, UdpLink};
 use s10_wire::{Body, Link, Peer, WriteFault};
 use std::io::Write;
 use std::net::Net;
 
 /// Any address of this machine, with a port that the system picks.
-const ANY: Peer = Peer {
+const UNSPECIFIED: Peer = Peer {
     ip: [0, 0, 0, 0],
     port: 0,
 };
-
-/// How many milliseconds a receive waits at most.
-const WAIT: u32 = 1_000;
 
 /// Asks a server, and writes the line of its reply, or of what failed. A text that does not read is
 /// refused before there is a socket.
@@ -42,7 +40,7 @@ pub fn run_question<N: Net, W: Write>(
         Ok(read) => read,
         Err(refusal) => return write_refusal(refusal, out),
     };
-    let mut link = match UdpLink::bind(net, ANY, WAIT) {
+    let mut link = match UdpLink::bind(net, UNSPECIFIED, WAIT) {
         Ok(link) => link,
         Err(fault) => return fail_by_link(fault, out),
     };

@@ -7,11 +7,10 @@ ghost use Rattle.s10_cli.specs.Replay.{Replayed};
 use crate::answer_line::write_answer;
 use crate::input_line::{read_delivery, without_return};
 use crate::line_reader::{LINE_ROOM, NextLine, next_byte, read_line};
-use crate::memory_ledger::memory_ledger;
 use crate::replay_fault::ReplayFault;
 use s10_book::{Book, Settings};
 use s10_ends::Server;
-use s10_ledger::OpenFault;
+use s10_ledger::{OpenFault, SqlBook};
 use std::alloc::Global;
 use std::io::{Read, Write};
 
@@ -34,7 +33,7 @@ pub fn replay<R: Read, W: Write>(
     ensures { IfSome (R.remaining input.old) (λ bytes. IfSome (W.contents output.old) (λ held.
         (after : List Entry) × Replayed [] settings bytes held (W.contents output.new) result after)) }
 {
-    let book = match memory_ledger(alloc, settings) {
+    let book = match SqlBook::in_memory(alloc, settings) {
         Ok(book) => book,
         Err(OpenFault::Memory) => return Err(ReplayFault::Memory),
         Err(_) => return Err(ReplayFault::Store),

@@ -15,15 +15,13 @@ use crate::failures::{fail_by_clock, fail_by_link};
 use crate::status::Status;
 use crate::today::day_or_today;
 use crate::turn_line::write_turn;
+use crate::waiting::WAIT;
 use s10_book::Book;
 use s10_ends::{Server, UdpLink, serve_one};
 use s10_wire::{Link, Peer, WriteFault};
 use std::io::Write;
 use std::net::Net;
 use std::time::Clock;
-
-/// How many milliseconds a receive waits at most.
-const WAIT: u32 = 1_000;
 
 /// Serves at the address, and says on standard error where that is.
 pub fn serve_at<R, B, W>(

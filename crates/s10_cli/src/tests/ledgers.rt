@@ -2,12 +2,11 @@
 
 use super::Refusing;
 use crate::answer_line::write_answer;
-use crate::memory_ledger::memory_ledger;
 use crate::run_audit;
 use s10_book::{Book, PlainBook, Settings, write_issues, write_ranges};
 use s10_core::{Country, Id, Serial, Service};
 use s10_ends::{Answer, Delivery, Server};
-use s10_ledger::OpenFault;
+use s10_ledger::{OpenFault, SqlBook};
 use s10_wire::{Body, Packet, Request, encode_request};
 use sqlite::{Connection, MemStore};
 use std::alloc::AllocError;
@@ -120,7 +119,7 @@ fn hand_in<R: Abort + AllocGlobal, B: Book>(rt: &R, server: &mut Server<B>) {
 
 /// The tables of the nine calls.
 fn worked_ledger<R: Abort + AllocGlobal>(rt: &R) -> Result<Connection<MemStore>, OpenFault> {
-    let mut server = Server::new(memory_ledger(rt.alloc(), settings(rt))?);
+    let mut server = Server::new(SqlBook::in_memory(rt.alloc(), settings(rt))?);
     hand_in(rt, &mut server);
     Ok(server.into_book().close())
 }
@@ -137,7 +136,7 @@ fn both_books_give_the_same_replies(rt: HostRuntime) -> Result<(), Fail> {
 
 #[test]
 fn reports_of_tables_are_as_worked_by_hand(rt: HostRuntime) -> Result<(), Fail> {
-    let mut server = Server::new(memory_ledger(rt.alloc(), settings(&rt))?);
+    let mut server = Server::new(SqlBook::in_memory(rt.alloc(), settings(&rt))?);
     hand_in(&rt, &mut server);
     let mut book = server.into_book();
     let mut out = Vec::new(rt.alloc());
@@ -176,7 +175,7 @@ fn audit<R: Abort + AllocGlobal>(
 #[test]
 fn ledger_as_it_was_kept_is_sound(rt: HostRuntime) -> Result<(), Fail> {
     audit(&rt, worked_ledger(&rt)?, 0, "ledger ok 9\n", "none");
-    let empty = memory_ledger(rt.alloc(), settings(&rt))?.close();
+    let empty = SqlBook::in_memory(rt.alloc(), settings(&rt))?.close();
     audit(&rt, empty, 0, "ledger ok 0\n", "none");
     assert_eq!(rt; audited(&rt, worked_ledger(&rt)?, &mut Refusing), 3);
     Ok(())

@@ -9,4 +9,4 @@ returns g c =
     let honest = subst (IsHonest over_memory) c.into_book.ensures (is_honest c.into_book.result c.close.result c.close.ensures.same c.close.ensures.ledger) in
     from_nothing c.in-Ok.book c.new-server.result.book c.replay_on-replayed.new.server.book c.args.settings
     (g.R.Read.remaining c.args.input.now) (g.W.Write.contents c.args.output.now) (g.W.Write.contents c.replay_on-replayed.new.output) c.replay_on-replayed.result
-    c.in-Ok.ensures.empty c.in-Ok.ensures.terms c.new-server.ensures (c.replay_on-replayed.ensures.replayed honest)
+    c.in-Ok.ensures.empty c.in-Ok.ensures.new.0 c.new-server.ensures (c.replay_on-replayed.ensures.replayed honest)
