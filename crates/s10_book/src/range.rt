@@ -29,9 +29,9 @@ impl Range {
         self.holder == customer && self.service == service && self.country == country
     }
 
-    /// Whether one of its identifiers is also one of that service indicator and country code with
-    /// a serial of `first` to `last`, both of which belong to them. False where `last` is below
-    /// `first`.
+    /// Whether one of its identifiers has that service indicator and country code and a serial of
+    /// `first` to `last`, which belongs to them. False where `last` is below `first`. The range's
+    /// own `last` is taken not to be below its `first`, as in every range that a Grant made.
     pub fn overlaps(&self, service: Service, country: Country, first: Serial, last: Serial) -> bool
         ensures { result ≡ overlaps service country first last self.now }
     {
