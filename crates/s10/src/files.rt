@@ -1,49 +1,63 @@
-//! Ledgers in files.
+//! Ledgers in files, whatever the files held: `S` stands for that.
 
-ghost use Rattle.std.specs.Prelude.{◌≡◌, false, IfOk};
+ghost use Rattle.std.specs.Prelude.{◌≡◌, false, Ok, IfOk, OnOk};
+ghost use Rattle.sqlite_wal.specs.Files.{image_at};
+ghost use Rattle.s10.specs.Files.{IsFoundIn, IsEmptyBook, IsOpenedFrom, IsPutAway};
 
 use s10_book::Settings;
 use s10_ledger::{OpenFault, Refused, SqlBook};
-use sqlite::{Connection, Error, ErrorCode, File, FileStore};
+use sqlite::{Connection, Error, ErrorCode, FileFrom, FileStore, Start};
 use std::fs;
 
 /// A book over the tables of a file.
-pub type FileBook = SqlBook<FileStore<File>>;
+pub type FileBook<S> = SqlBook<FileStore<FileFrom<S>>>;
 
 /// Makes an empty ledger in a file. A refusal leaves the file with no table of a ledger's.
-pub fn create_book(
+pub fn create_book<S: Start>(
     rt: &HostRuntime,
     path: &str,
     settings: Settings,
-) -> Result<FileBook, OpenFault> {
-    let connection = connect(rt, path)?;
+    start: S,
+) -> Result<FileBook<S>, OpenFault>
+    ensures { IfOk result (IsEmptyBook settings) }
+{
+    let connection = connect(rt, path, start)?;
     kept_or_closed(SqlBook::create(rt.alloc(), connection, settings))
 }
 
 /// Opens the ledger of a file, which does all its calls again.
-pub fn open_book(rt: &HostRuntime, path: &str) -> Result<FileBook, OpenFault> {
-    let connection = connect_to_ledger(rt, path)?;
+pub fn open_book<S: Start>(rt: &HostRuntime, path: &str, start: S) -> Result<FileBook<S>, OpenFault>
+    ensures { IfOk result (IsOpenedFrom (image_at S.Start)) }
+{
+    let connection = connect_to_ledger(rt, path, start)?;
     kept_or_closed(SqlBook::open(rt.alloc(), connection))
 }
 
-/// Ends a book: what it kept is then in the file itself.
-pub fn close_book(book: FileBook) -> Result<(), OpenFault> {
-    match book.close().close() {
-        Ok(()) => Ok(()),
-        Err(_) => Err(OpenFault::Store),
+/// Ends a book: what it committed is then in the database file itself.
+pub fn close_book<S: Start>(book: FileBook<S>) -> Result<(), OpenFault>
+    ensures { OnOk result (IsPutAway book) }
+{
+    match book.close().close_files() {
+        Ok(_files) => Ok(()),
+        Err((_, store)) => {
+            drop(store.close());
+            Err(OpenFault::Store)
+        }
     }
 }
 
 /// Opens a file that is there as a database. One that is not there is no ledger, and is not made; in
 /// a folder that is not there it could not be.
-pub fn connect_to_ledger(
+pub fn connect_to_ledger<S: Start>(
     rt: &HostRuntime,
     path: &str,
-) -> Result<Connection<FileStore<File>>, OpenFault>
+    start: S,
+) -> Result<Connection<FileStore<FileFrom<S>>>, OpenFault>
     ensures idle { IfOk result (λ connection. connection.in_transaction ≡ false) }
+    ensures found { IfOk result (IsFoundIn (image_at S.Start)) }
 {
     match fs::exists(rt, path) {
-        Ok(true) => connect(rt, path),
+        Ok(true) => connect(rt, path, start),
         Ok(false) => Err(absence(rt, path)),
         Err(_) => Err(OpenFault::Store),
     }
@@ -61,18 +75,27 @@ fn absence(rt: &HostRuntime, path: &str) -> OpenFault {
 }
 
 // Opens a file as a database, or makes it.
-fn connect(rt: &HostRuntime, path: &str) -> Result<Connection<FileStore<File>>, OpenFault>
+fn connect<S: Start>(
+    rt: &HostRuntime,
+    path: &str,
+    start: S,
+) -> Result<Connection<FileStore<FileFrom<S>>>, OpenFault>
     ensures idle { IfOk result (λ connection. connection.in_transaction ≡ false) }
+    ensures found { IfOk result (IsFoundIn (image_at S.Start)) }
 {
-    match Connection::open(rt, path) {
+    match Connection::open_from(rt, path, false, start) {
         Ok(connection) => Ok(connection),
-        Err(Error::SqliteFailure(ErrorCode::OutOfMemory)) => Err(OpenFault::Memory),
+        Err((Error::SqliteFailure(ErrorCode::OutOfMemory), _)) => Err(OpenFault::Memory),
         Err(_) => Err(OpenFault::Store),
     }
 }
 
 // The book, or why there is none, with its file closed.
-fn kept_or_closed(made: Result<FileBook, Refused<FileStore<File>>>) -> Result<FileBook, OpenFault> {
+fn kept_or_closed<S: Start>(
+    made: Result<FileBook<S>, Refused<FileStore<FileFrom<S>>>>,
+) -> Result<FileBook<S>, OpenFault>
+    ensures { IfOk result (λ book. made ≡ Ok book) }
+{
     match made {
         Ok(book) => Ok(book),
         Err(Refused { fault, connection }) => {

@@ -6,6 +6,7 @@ mod jobs;
 
 use jobs::run_job;
 use s10_cli::{Status, parse_job, run_line};
+use sqlite::Unknown;
 use std::convert::AsStr;
 use std::io;
 use std::io::{BufReader, BufWriter, ErrorKind, Read, Write};
@@ -41,7 +42,7 @@ fn run_words<S: AsStr, O: Write + Drop>(
         return Err(io::Error::from(ErrorKind::OutOfMemory));
     };
     let mut output = BufWriter::new(rt.alloc(), output)?;
-    let status = run_job(rt, &job, &mut output);
+    let status = run_job(rt, &job, Unknown, &mut output);
     output.flush()?;
     Ok(status)
 }

@@ -1,0 +1,55 @@
+-- What a book says of the files that it was made in or opened from.
+use Rattle.std.proofs.Common.{◌≡◌, ◌∙◌, ℕ, ap, subst, Result, Ok}
+use Rattle.std.specs.Prelude.{IfOk, []}
+use Rattle.std.proofs.lemmas.Result.{IfOk-weaker}
+use Rattle.sqlite_disk.specs.declared.Disk.{Ghosts}
+use Rattle.sqlite_wal.specs.Recovery.{Image}
+use Rattle.sqlite_store.specs.declared.store.FileStore.{FileStore}
+use Rattle.sqlite.specs.Effect.{Database}
+use Rattle.sqlite.specs.Held.{Held}
+use Rattle.sqlite.specs.Files.{file_state, over_files}
+use Rattle.s10_book.specs.Settings.{Terms}
+use Rattle.s10_ledger.specs.Ledger.{Ledger, IsHonest, history_in}
+use Rattle.s10.specs.Files.{IsFoundIn, IsHonestWhereClean, IsEmptyBook, IsOpenedFrom}
+
+-- what holds of the value that was made holds of it where it was kept
+kept_is_made : {A E F : Type 0} (P : A → Type 0) (made : Result A E) (kept : Result A F) → IfOk made P → IfOk kept (λ a. made ≡ Ok a) → IfOk kept P
+kept_is_made P made kept holds same = IfOk-weaker kept (λ a. made ≡ Ok a) P (λ a is. subst (λ r. IfOk r P) is holds) same
+
+-- and what follows from two facts of it
+kept_with : {A E F : Type 0} (P Q R : A → Type 0) → ((a : A) → P a → Q a → R a) → (made : Result A E) (kept : Result A F)
+    → IfOk made P → IfOk made Q → IfOk kept (λ a. made ≡ Ok a) → IfOk kept R
+kept_with P Q R gives made kept one other same = IfOk-weaker kept (λ a. made ≡ Ok a) R (λ a is. gives a (subst (λ r. IfOk r P) is one) (subst (λ r. IfOk r Q) is other)) same
+
+-- or from three
+kept_with_three : {A E F : Type 0} (P Q R T : A → Type 0) → ((a : A) → P a → Q a → R a → T a) → (made : Result A E) (kept : Result A F)
+    → IfOk made P → IfOk made Q → IfOk made R → IfOk kept (λ a. made ≡ Ok a) → IfOk kept T
+kept_with_three P Q R T gives made kept one other third same =
+    IfOk-weaker kept (λ a. made ≡ Ok a) T (λ a is. gives a (subst (λ r. IfOk r P) is one) (subst (λ r. IfOk r Q) is other) (subst (λ r. IfOk r R) is third)) same
+
+module _ {D : Type 0} {g : Ghosts D} where
+  pub kept_empty : {E F : Type 0} (terms : Terms) (made : Result (Ledger (FileStore D g)) E) (kept : Result (Ledger (FileStore D g)) F)
+      → IfOk made (λ book. (book.terms ≡ terms) × (book.faults ≡ 0)) → IfOk made IsHonestWhereClean
+      → IfOk made (λ book. IsHonest over_files book → history_in (file_state book.conn).now ≡ [])
+      → IfOk kept (λ book. made ≡ Ok book) → IfOk kept (IsEmptyBook terms)
+  kept_empty terms made kept new honest empty is =
+      kept_with_three _ _ _ (IsEmptyBook terms) (λ book new honest empty. record { settings = new.0; honest = honest; empty = empty }) made kept new honest empty is
+
+  opened_from : (held : Image) (was : Held (FileStore D g)) (book : Ledger (FileStore D g)) → IsFoundIn held was → IsHonestWhereClean book
+      → (IsHonest over_files book → (file_state book.conn).now ≡ (file_state was).now) → IsOpenedFrom held book
+  opened_from held was book found honest same = record {
+    was = was;
+    found = found;
+    honest = honest;
+    same = same;
+    holds = λ db holds clean sound.
+        let (opened, finds) = found clean in
+        ap (λ (d : Database). d.trees) (same sound) ∙ ap (λ (d : Database). d.trees) opened.0.clean ∙ finds.holds db holds;
+  }
+
+  pub kept_from : {E F : Type 0} (held : Image) (was : Held (FileStore D g)) (opened : Result (Ledger (FileStore D g)) E) (kept : Result (Ledger (FileStore D g)) F)
+      → IsFoundIn held was → IfOk opened IsHonestWhereClean
+      → IfOk opened (λ book. IsHonest over_files book → (file_state book.conn).now ≡ (file_state was).now)
+      → IfOk kept (λ book. opened ≡ Ok book) → IfOk kept (IsOpenedFrom held)
+  kept_from held was opened kept found honest same is =
+      kept_with _ _ (IsOpenedFrom held) (λ book. opened_from held was book found) opened kept honest same is

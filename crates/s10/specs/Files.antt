@@ -1,0 +1,64 @@
+-- Ledgers in files, as they are made, opened and put away.
+use denote.RattleType.{RattleType}
+use Rattle.std.specs.Prelude.{◌≡◌, IsTrue, []}
+use Rattle.sqlite_disk.specs.declared.Disk.{Ghosts}
+use Rattle.sqlite_disk.specs.declared.Files.{Files}
+use Rattle.sqlite_disk.specs.declared.modelled.Modelled.{Modelled}
+use Rattle.sqlite_disk.specs.declared.start.Start as start
+use Rattle.sqlite_disk.specs.contracts.modelled.ModelledDisk.TheImpl as disk
+use Rattle.sqlite_std_file.specs.declared.host.Host.{Host}
+use Rattle.sqlite_std_file.specs.contracts.host.Host as host
+use Rattle.sqlite_std_file.specs.contracts.host.HostCalls.TheImpl as calls
+use Rattle.sqlite_wal.specs.Recovery.{Image}
+use Rattle.sqlite_wal.specs.Reads.{AreClean}
+use Rattle.sqlite_trees.specs.Tree.{Trees}
+use Rattle.sqlite_store.specs.declared.store.FileStore.{FileStore}
+use Rattle.sqlite.specs.Held.{Held}
+use Rattle.sqlite.specs.State.{HasCleanDisk}
+use Rattle.sqlite.specs.Files.{file_state, over_files, HoldsDatabase, IsOpened}
+use Rattle.sqlite.specs.Start.{FindsIn}
+use Rattle.sqlite.specs.Closing.{IsCopied}
+use Rattle.s10_book.specs.Settings.{Terms}
+use Rattle.s10_ledger.specs.Ledger.{Ledger, IsHonest, history_in}
+
+module _ {D : Type 0} {g : Ghosts D} where
+  -- the connection is open, and shows what the files held, where the disk has returned what was written
+  abbrev pub IsFoundIn : Image → Held (FileStore D g) → Type 0
+  IsFoundIn held c = HasCleanDisk (file_state c) → IsOpened c × FindsIn held (file_state c)
+
+  -- the book is honest where it is open over disks that kept what they were given
+  abbrev pub IsHonestWhereClean : Ledger (FileStore D g) → Type 0
+  IsHonestWhereClean book = HasCleanDisk (file_state book.conn) → IsTrue (file_state book.conn).is_open → IsHonest over_files book
+
+  -- a ledger with these settings, and no call
+  pub record IsEmptyBook (terms : Terms) (book : Ledger (FileStore D g)) : Type 0 where
+    pub settings : book.terms ≡ terms
+    pub honest : IsHonestWhereClean book
+    pub empty : IsHonest over_files book → history_in (file_state book.conn).now ≡ []
+
+  -- a ledger over the tables of a connection that was found in the files
+  pub record IsOpenedFrom (held : Image) (book : Ledger (FileStore D g)) : Type 0 where
+    pub was : Held (FileStore D g)
+    pub found : IsFoundIn held was
+    pub honest : IsHonestWhereClean book
+    pub same : IsHonest over_files book → (file_state book.conn).now ≡ (file_state was).now
+    -- it is the database that the files held
+    pub holds : (db : Trees) → HoldsDatabase held db → HasCleanDisk (file_state was) → IsHonest over_files book → (file_state book.conn).now.trees ≡ db
+
+  -- the last commit is in the database file, where both files kept what they were given
+  abbrev pub IsPutAway : Ledger (FileStore D g) → Type 0
+  IsPutAway book = (files : Files D) × (AreClean g files.log files.db → IsCopied book.conn files)
+
+-- a file of the system
+abbrev pub SystemFile : (S : RattleType) → start.Ghosts S.Denot → Type 0
+SystemFile S first = Modelled Host S.Denot calls.ghosts first
+
+abbrev pub system_files : (S : RattleType) (first : start.Ghosts S.Denot) → Ghosts (SystemFile S first)
+system_files S first = disk.ghosts host.the_row S calls.ghosts disk.no_dict first disk.no_dict disk.no_dict
+
+-- a connection over files of the system that held this at first, and a ledger over its tables
+abbrev pub FileConnection : (S : RattleType) → start.Ghosts S.Denot → Type 0
+FileConnection S first = Held (FileStore (SystemFile S first) (system_files S first))
+
+abbrev pub FileLedger : (S : RattleType) → start.Ghosts S.Denot → Type 0
+FileLedger S first = Ledger (FileStore (SystemFile S first) (system_files S first))
