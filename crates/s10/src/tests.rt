@@ -1,3 +1,5 @@
+mod world;
+
 use super::{run_buffered, run_words};
 use std::io;
 use std::io::Write;
