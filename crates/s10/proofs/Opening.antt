@@ -1,5 +1,5 @@
 -- What a book says of the files that it was made in or opened from.
-use Rattle.std.proofs.Common.{◌≡◌, ◌∙◌, ℕ, ap, subst, Result, Ok}
+use Rattle.std.proofs.Common.{◌≡◌, ◌∙◌, ap, subst, Result, Ok}
 use Rattle.std.specs.Prelude.{IfOk, []}
 use Rattle.std.proofs.lemmas.Result.{IfOk-weaker}
 use Rattle.sqlite_disk.specs.declared.Disk.{Ghosts}
