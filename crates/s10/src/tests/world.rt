@@ -6,10 +6,9 @@ ghost use Rattle.s10_ends.specs.Client.{IsNew};
 use s10_book::{Book, BookFault, Entry, Settings};
 use s10_core::{Country, Id, Serial, Service};
 use s10_ends::{Client, Server};
-use s10_ledger::{OpenFault, Refused, SqlBook};
+use s10_ledger::SqlBook;
 use s10_wire::{Body, Frame, Outcome, Reply, Request};
 use s10_world::{Event, World};
-use sqlite::{Connection, MemStore};
 use std::alloc::{AllocError, Global};
 use std::test::Fail;
 
@@ -142,25 +141,6 @@ fn kept_calls<B: Book>(book: &mut B) -> Result<[Option<Entry>; 4], BookFault> {
     ])
 }
 
-// A new ledger in memory.
-fn memory_ledger(alloc: Global) -> Result<SqlBook<MemStore>, OpenFault> {
-    let Some(settings) = Settings::new(30, 100) else {
-        unreachable!();
-    };
-    let Ok(connection) = Connection::open_in_memory(alloc) else {
-        return Err(OpenFault::Memory);
-    };
-    match SqlBook::create(alloc, connection, settings) {
-        Ok(book) => Ok(book),
-        Err(
-            Refused {
-                fault,
-                connection: _,
-            },
-        ) => Err(fault),
-    }
-}
-
 fn request(customer: u32, number: u32, body: Body) -> Request {
     Request {
         customer,
@@ -186,7 +166,8 @@ fn kept(request: Request, outcome: Outcome) -> Option<Entry> {
 
 #[test]
 fn a_ledger_in_tables_executes_each_call_of_a_world_once(rt: HostRuntime) -> Result<(), Fail> {
-    let ledger = memory_ledger(rt.alloc())?;
+    let settings = Settings::new(30, 100).ok_or("settings")?;
+    let ledger = SqlBook::in_memory(rt.alloc(), settings)?;
     let (seen, mut ledger) = run_story(rt.alloc(), ledger);
     let calls = kept_calls(&mut ledger);
     let _ = ledger.close();
