@@ -1,6 +1,6 @@
 -- Ledgers in files, as they are made, opened and put away.
 use denote.RattleType.{RattleType}
-use Rattle.std.specs.Prelude.{◌≡◌, IsTrue, []}
+use Rattle.std.specs.Prelude.{◌≡◌, ◌⊎◌, IsTrue, []}
 use Rattle.sqlite_disk.specs.declared.Disk.{Ghosts}
 use Rattle.sqlite_disk.specs.declared.Files.{Files}
 use Rattle.sqlite_disk.specs.declared.modelled.Modelled.{Modelled}
@@ -10,6 +10,7 @@ use Rattle.sqlite_std_file.specs.declared.host.Host.{Host}
 use Rattle.sqlite_std_file.specs.contracts.host.Host as host
 use Rattle.sqlite_std_file.specs.contracts.host.HostCalls.TheImpl as calls
 use Rattle.sqlite_wal.specs.Recovery.{Image}
+use Rattle.sqlite_wal.specs.Files.{image_at}
 use Rattle.sqlite_wal.specs.Reads.{AreClean}
 use Rattle.sqlite_trees.specs.Tree.{Trees}
 use Rattle.sqlite_store.specs.declared.store.FileStore.{FileStore}
@@ -20,6 +21,9 @@ use Rattle.sqlite.specs.Start.{FindsIn}
 use Rattle.sqlite.specs.Closing.{IsCopied}
 use Rattle.s10_book.specs.Settings.{Terms}
 use Rattle.s10_ledger.specs.Ledger.{Ledger, IsHonest, history_in}
+use Rattle.s10_ledger.specs.declared.open_fault.OpenFault.{OpenFault}
+use Rattle.s10_ledger.specs.declared.open_fault.OpenFault.TheVariants.{NotALedger, Memory, Store}
+use Rattle.s10_ledger.specs.Refusals.{IsMakingRefusal, IsOpeningRefusal}
 
 module _ {D : Type 0} {g : Ghosts D} where
   -- the connection is open, and shows what the files held, where the disk has returned what was written
@@ -62,3 +66,31 @@ FileConnection S first = Held (FileStore (SystemFile S first) (system_files S fi
 
 abbrev pub FileLedger : (S : RattleType) → start.Ghosts S.Denot → Type 0
 FileLedger S first = Ledger (FileStore (SystemFile S first) (system_files S first))
+
+-- the file could not be opened as a database
+abbrev pub IsFileFault : OpenFault → Type 0
+IsFileFault fault = (fault ≡ Memory) ⊎ (fault ≡ Store)
+
+-- there is no such file, or something else is wrong
+abbrev pub IsAbsenceOr : (OpenFault → Type 0) → OpenFault → Type 0
+IsAbsenceOr IsFault fault = (fault ≡ NotALedger) ⊎ IsFault fault
+
+module _ (S : RattleType) (first : start.Ghosts S.Denot) where
+  -- the database that was found in the files is refused as the place of a new ledger
+  pub record IsRefusedPlace (fault : OpenFault) : Type 0 where
+    pub was : FileConnection S first
+    pub found : IsFoundIn (image_at first) was
+    pub refusal : IsMakingRefusal (file_state was).now.schema fault
+
+  abbrev pub IsNotMade : OpenFault → Type 0
+  IsNotMade fault = IsFileFault fault ⊎ IsRefusedPlace fault
+
+  -- the database that was found in the files is refused as a ledger, where the disks kept what they were given
+  pub record IsRefusedLedger (fault : OpenFault) : Type 0 where
+    pub was : FileConnection S first
+    pub found : IsFoundIn (image_at first) was
+    pub left : FileConnection S first
+    pub refusal : HasCleanDisk (file_state left) → IsTrue (file_state left).is_open → IsOpeningRefusal (file_state was).now fault
+
+  abbrev pub IsNotOpened : OpenFault → Type 0
+  IsNotOpened fault = IsAbsenceOr (λ f. IsFileFault f ⊎ IsRefusedLedger f) fault

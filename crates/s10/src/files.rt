@@ -1,8 +1,8 @@
 //! Ledgers in files, whatever the files held: `S` stands for that.
 
-ghost use Rattle.std.specs.Prelude.{◌≡◌, false, Ok, IfOk, OnOk};
+ghost use Rattle.std.specs.Prelude.{◌≡◌, false, Ok, IfOk, IfErr, IsErrAnd, OnOk};
 ghost use Rattle.sqlite_wal.specs.Files.{image_at};
-ghost use Rattle.s10.specs.Files.{IsFoundIn, IsEmptyBook, IsOpenedFrom, IsPutAway};
+ghost use Rattle.s10.specs.Files.{IsFoundIn, IsEmptyBook, IsOpenedFrom, IsPutAway, IsFileFault, IsAbsenceOr, IsNotMade, IsNotOpened};
 
 use s10_book::Settings;
 use s10_ledger::{OpenFault, Refused, SqlBook};
@@ -19,7 +19,8 @@ pub fn create_book<S: Start>(
     settings: Settings,
     start: S,
 ) -> Result<FileBook<S>, OpenFault>
-    ensures { IfOk result (IsEmptyBook settings) }
+    ensures made { IfOk result (IsEmptyBook settings) }
+    ensures refused { IfErr result (IsNotMade S.row S.Start) }
 {
     let connection = connect(rt, path, start)?;
     kept_or_closed(SqlBook::create(rt.alloc(), connection, settings))
@@ -27,7 +28,8 @@ pub fn create_book<S: Start>(
 
 /// Opens the ledger of a file, which does all its calls again.
 pub fn open_book<S: Start>(rt: &HostRuntime, path: &str, start: S) -> Result<FileBook<S>, OpenFault>
-    ensures { IfOk result (IsOpenedFrom (image_at S.Start)) }
+    ensures opened { IfOk result (IsOpenedFrom (image_at S.Start)) }
+    ensures refused { IfErr result (IsNotOpened S.row S.Start) }
 {
     let connection = connect_to_ledger(rt, path, start)?;
     kept_or_closed(SqlBook::open(rt.alloc(), connection))
@@ -35,7 +37,8 @@ pub fn open_book<S: Start>(rt: &HostRuntime, path: &str, start: S) -> Result<Fil
 
 /// Ends a book: what it committed is then in the database file itself.
 pub fn close_book<S: Start>(book: FileBook<S>) -> Result<(), OpenFault>
-    ensures { OnOk result (IsPutAway book) }
+    ensures away { OnOk result (IsPutAway book) }
+    ensures refused { IfErr result (λ fault. fault ≡ OpenFault.Store) }
 {
     match book.close().close_files() {
         Ok(_files) => Ok(()),
@@ -55,6 +58,7 @@ pub fn connect_to_ledger<S: Start>(
 ) -> Result<Connection<FileStore<FileFrom<S>>>, OpenFault>
     ensures idle { IfOk result (λ connection. connection.in_transaction ≡ false) }
     ensures found { IfOk result (IsFoundIn (image_at S.Start)) }
+    ensures refused { IfErr result (IsAbsenceOr IsFileFault) }
 {
     match fs::exists(rt, path) {
         Ok(true) => connect(rt, path, start),
@@ -64,7 +68,9 @@ pub fn connect_to_ledger<S: Start>(
 }
 
 // Why a file that is not there cannot be opened.
-fn absence(rt: &HostRuntime, path: &str) -> OpenFault {
+fn absence(rt: &HostRuntime, path: &str) -> OpenFault
+    ensures { IsAbsenceOr IsFileFault result }
+{
     match path.rsplit_once('/') {
         None | Some(("", _)) => OpenFault::NotALedger,
         Some((folder, _)) => match fs::exists(rt, folder) {
@@ -82,6 +88,7 @@ fn connect<S: Start>(
 ) -> Result<Connection<FileStore<FileFrom<S>>>, OpenFault>
     ensures idle { IfOk result (λ connection. connection.in_transaction ≡ false) }
     ensures found { IfOk result (IsFoundIn (image_at S.Start)) }
+    ensures refused { IfErr result IsFileFault }
 {
     match Connection::open_from(rt, path, false, start) {
         Ok(connection) => Ok(connection),
@@ -94,7 +101,8 @@ fn connect<S: Start>(
 fn kept_or_closed<S: Start>(
     made: Result<FileBook<S>, Refused<FileStore<FileFrom<S>>>>,
 ) -> Result<FileBook<S>, OpenFault>
-    ensures { IfOk result (λ book. made ≡ Ok book) }
+    ensures kept { IfOk result (λ book. made ≡ Ok book) }
+    ensures refused { IfErr result (λ fault. IsErrAnd made (λ refusal. refusal.fault ≡ fault)) }
 {
     match made {
         Ok(book) => Ok(book),

@@ -8,5 +8,5 @@ returns g c = λ is.
     (g.W.Write.contents c.args.out.now) (g.W.Write.contents c.write_report-written.new.out) (g.W.Write.contents c.ended.new.out)
     c.in-Some.report c.in-Ok.book c.write_report-written.new.book c.write_report-written.result
     (asked_for c.args.is_of_issues c.args.day c.new.result c.in-Some.report c.in-Some.is c.new.ensures.issues c.new.ensures.ranges)
-    c.in-Ok.ensures c.write_report-written.ensures.written
-    ended.0 ended.2 (at_success c.close_book-closed.result c.close_book-closed.ensures ended.1)
+    c.in-Ok.ensures.opened c.write_report-written.ensures.written
+    ended.0 ended.2 (at_success c.close_book-closed.result c.close_book-closed.ensures.away ended.1)

@@ -7,5 +7,5 @@ returns g c = λ is.
     served_and_away _ g.S.Start c.args.day c.args.count
     (g.W.Write.contents c.args.out.now) (g.W.Write.contents c.serve_at-served.new.out) (g.W.Write.contents c.ended.new.out)
     c.in-Ok.book c.new-server.result.book c.serve_at-served.new.server.book c.into_book.result c.serve_at-served.result
-    c.in-Ok.ensures c.new-server.ensures c.into_book.ensures c.serve_at-served.ensures
-    ended.0 ended.2 (at_success c.close_book-closed.result c.close_book-closed.ensures ended.1)
+    c.in-Ok.ensures.opened c.new-server.ensures c.into_book.ensures c.serve_at-served.ensures
+    ended.0 ended.2 (at_success c.close_book-closed.result c.close_book-closed.ensures.away ended.1)
