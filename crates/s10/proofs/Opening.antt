@@ -1,6 +1,6 @@
 -- What a book says of the files that it was made in or opened from.
 use denote.RattleType.{RattleType}
-use Rattle.std.proofs.Common.{◌≡◌, ◌⊎◌, ◌∙◌, inl, inr, ap, subst, Result, Ok, Err}
+use Rattle.std.proofs.Common.{◌≡◌, ◌∙◌, inr, ap, subst, Result, Ok, Err}
 use Rattle.std.specs.Prelude.{IfOk, IfErr, IsErrAnd, IsTrue, []}
 use Rattle.std.proofs.lemmas.Result.{IfOk-weaker}
 use Rattle.sqlite_disk.specs.declared.Disk.{Ghosts}
