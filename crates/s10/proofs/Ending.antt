@@ -6,8 +6,8 @@ use Rattle.std.proofs.lemmas.Result.{on_ok_weaker}
 use Rattle.sqlite_disk.specs.declared.start.Start.{Ghosts}
 use Rattle.sqlite_wal.specs.Files.{image_at}
 use Rattle.sqlite.specs.Files.{file_state, over_files}
-use Rattle.s10_wire.specs.declared.trace.Trace.{Trace}
-use Rattle.s10_wire.specs.Trace.{new_trace}
+use Rattle.s10_link.specs.declared.trace.Trace.{Trace}
+use Rattle.s10_link.specs.Trace.{new_trace}
 use Rattle.s10_wire.specs.declared.write_fault.WriteFault.{WriteFault}
 use Rattle.s10_book.specs.Settings.{Terms}
 use Rattle.s10_ledger.specs.Ledger.{IsHonest, history_in}

@@ -14,7 +14,8 @@ use s10_cli::{
 };
 use s10_ends::Server;
 use s10_ledger::OpenFault;
-use s10_wire::{Peer, WriteFault, write_text};
+use s10_link::Peer;
+use s10_wire::{WriteFault, write_text};
 use sqlite::Start;
 use std::io::Write;
 

@@ -7,8 +7,8 @@ use Rattle.s10_wire.specs.declared.body.Body.{Body}
 use Rattle.s10_wire.specs.declared.request.Request.{Request}
 use Rattle.s10_wire.specs.declared.outcome.Outcome.{Outcome}
 use Rattle.s10_wire.specs.declared.reply.Reply.{Reply}
-use Rattle.s10_wire.specs.declared.peer.Peer.{Peer}
-use Rattle.s10_wire.specs.declared.trace.Trace.{Trace}
+use Rattle.s10_link.specs.declared.peer.Peer.{Peer}
+use Rattle.s10_link.specs.declared.trace.Trace.{Trace}
 use Rattle.s10_wire.specs.Lines.{reply_line}
 use Rattle.s10_wire.specs.Reply.{outcome_of}
 use Rattle.s10_ends.specs.declared.call_fault.CallFault.{CallFault}

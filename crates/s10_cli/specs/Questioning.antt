@@ -1,12 +1,12 @@
 -- What is printed of a question, and the status that it gives.
 use Rattle.std.specs.Prelude.{◌≡◌, ◌⊎◌, ℕ, List, [], ◌∷◌, codes, Result}
 use Rattle.s10_wire.specs.declared.body.Body.{Body}
-use Rattle.s10_wire.specs.declared.peer.Peer.{Peer}
+use Rattle.s10_link.specs.declared.peer.Peer.{Peer}
 use Rattle.s10_wire.specs.declared.reply.Reply.{Reply}
-use Rattle.s10_wire.specs.declared.trace.Trace.{Trace}
+use Rattle.s10_link.specs.declared.trace.Trace.{Trace}
 use Rattle.s10_wire.specs.Lines.{line_of}
-use Rattle.s10_wire.specs.Peer.{SpellsPeer}
-use Rattle.s10_wire.specs.Trace.{new_trace}
+use Rattle.s10_link.specs.Peer.{SpellsPeer}
+use Rattle.s10_link.specs.Trace.{new_trace}
 use Rattle.s10_ends.specs.Client.{ClientState, new_client}
 use Rattle.s10_ends.specs.Calls.{Calls}
 use Rattle.s10_ends.specs.declared.call_fault.CallFault.{CallFault}

@@ -5,8 +5,8 @@ use Rattle.s10_core.specs.Id.{SpellsLoosely, tidied}
 use Rattle.s10_core.specs.TextFault.{IsFirstRefusal}
 use Rattle.s10_wire.specs.declared.body.Body.{Body}
 use Rattle.s10_wire.specs.declared.body.Body.TheVariants as asked
-use Rattle.s10_wire.specs.declared.peer.Peer.{Peer}
-use Rattle.s10_wire.specs.Peer.{SpellsPeer}
+use Rattle.s10_link.specs.declared.peer.Peer.{Peer}
+use Rattle.s10_link.specs.Peer.{SpellsPeer}
 use Rattle.s10_cli.specs.declared.refusal.Refusal.{Refusal}
 use Rattle.s10_cli.specs.declared.refusal.Refusal.TheVariants as refused
 use Rattle.s10_cli.specs.declared.body_words.BodyWords.{BodyWords}

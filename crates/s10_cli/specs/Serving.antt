@@ -2,8 +2,8 @@
 use Rattle.std.specs.Prelude.{◌≡◌, ℕ, ◌<◌, List, [], ◌∷◌, ◌++◌, length, codes, Option, Some, Result, IfOk}
 use Rattle.std.specs.List.{flat_map}
 use Rattle.std.specs.Io.KnownBytes.{Appends}
-use Rattle.s10_wire.specs.declared.trace.Trace.{Trace}
-use Rattle.s10_wire.specs.declared.link_fault.LinkFault.{LinkFault}
+use Rattle.s10_link.specs.declared.trace.Trace.{Trace}
+use Rattle.s10_link.specs.declared.link_fault.LinkFault.{LinkFault}
 use Rattle.s10_wire.specs.declared.write_fault.WriteFault.{WriteFault}
 use Rattle.s10_book.specs.declared.entry.Entry.{Entry}
 use Rattle.s10_book.specs.Settings.{Terms}

@@ -3,7 +3,7 @@ use Rattle.std.specs.Prelude.{ℕ, List, ◌++◌, codes, Result, Ok, Err}
 use Rattle.hex.specs.Hex.{encode_lower}
 use Rattle.s10_wire.specs.Frame.{frame_bytes}
 use Rattle.s10_wire.specs.Lines.{line_of}
-use Rattle.s10_wire.specs.declared.link_fault.LinkFault.{LinkFault}
+use Rattle.s10_link.specs.declared.link_fault.LinkFault.{LinkFault}
 use Rattle.s10_ends.specs.declared.served.Served.{Served}
 use Rattle.s10_ends.specs.declared.served.Served.TheVariants.{Quiet, Dropped, Faulted, Replied}
 use Rattle.s10_cli.specs.Words.{wire_fault_words, book_fault_words, link_fault_words}

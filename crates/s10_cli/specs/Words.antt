@@ -9,8 +9,8 @@ use Rattle.s10_book.specs.declared.book_fault.BookFault.TheVariants.{Memory, Sto
 use Rattle.s10_wire.specs.declared.wire_fault.WireFault.{WireFault}
 use Rattle.s10_wire.specs.declared.wire_fault.WireFault.TheVariants.{Short, Magic, Version, Kind, Length, Field, Outcome}
 use Rattle.std.specs.Fmt.{signed_decimal}
-use Rattle.s10_wire.specs.declared.link_fault.LinkFault.{LinkFault}
-use Rattle.s10_wire.specs.declared.link_fault.LinkFault.TheVariants.{Bind, Receive, Send, Spent}
+use Rattle.s10_link.specs.declared.link_fault.LinkFault.{LinkFault}
+use Rattle.s10_link.specs.declared.link_fault.LinkFault.TheVariants.{Bind, Receive, Send, Spent}
 use Rattle.s10_ledger.specs.declared.open_fault.OpenFault.{OpenFault}
 use Rattle.s10_ledger.specs.declared.open_fault.OpenFault.TheVariants.{NotALedger, Schema, Damaged, NotEmpty, Memory as NoMemory, Store as NotStored}
 use Rattle.s10_wire.specs.Lines.{line_of}

@@ -9,7 +9,8 @@ use crate::ledger_fault::write_ledger_fault;
 use crate::link_fault::write_link_fault;
 use crate::status::Status;
 use s10_ledger::OpenFault;
-use s10_wire::{LinkFault, WriteFault, write_text};
+use s10_link::LinkFault;
+use s10_wire::{WriteFault, write_text};
 use std::io::Write;
 
 /// Says that the clock gives no day.

@@ -4,12 +4,12 @@ ghost use Rattle.std.specs.List.{list_all};
 ghost use Rattle.std.specs.Option.{option_map};
 ghost use Rattle.std.specs.Char.{IsAsciiDigit, is_ascii_digit};
 ghost use Rattle.s10_core.specs.Serial.{number_of};
-ghost use Rattle.s10_wire.specs.Packet.{packet_bytes};
+ghost use Rattle.s10_link.specs.Packet.{packet_bytes};
 ghost use Rattle.s10_ends.specs.Runs.{dated};
 ghost use Rattle.s10_cli.specs.InputLines.{without_return, day_in, bytes_in, delivery_in};
 
 use s10_ends::Delivery;
-use s10_wire::Packet;
+use s10_link::Packet;
 
 /// The line without one carriage return at its end.
 pub fn without_return(line: &[u8]) -> &[u8]

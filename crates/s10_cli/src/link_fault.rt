@@ -6,7 +6,8 @@ ghost use Rattle.s10_wire.specs.Lines.{line_of};
 ghost use Rattle.s10_cli.specs.Words.{link_fault_words};
 
 use crate::words::write_link_word;
-use s10_wire::{LinkFault, WriteFault, write_text};
+use s10_link::LinkFault;
+use s10_wire::{WriteFault, write_text};
 use std::io::Write;
 
 /// Writes the line of a link's fault. A fault of the writer may leave part of it written.

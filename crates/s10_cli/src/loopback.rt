@@ -14,7 +14,8 @@ use s10_book::Settings;
 use s10_core::{Country, Id, Serial, Service};
 use s10_ends::{Client, NearLink, Server, UdpLink};
 use s10_ledger::SqlBook;
-use s10_wire::{Body, Link, LinkFault, Peer, WriteFault};
+use s10_link::{Link, LinkFault, Peer};
+use s10_wire::{Body, WriteFault};
 use std::io::Write;
 use std::net::Net;
 

@@ -3,7 +3,8 @@
 use crate::body_words::BodyWords;
 use crate::refusal::Refusal;
 use crate::tries::Tries;
-use s10_wire::{Body, Peer};
+use s10_link::Peer;
+use s10_wire::Body;
 
 /// What to ask of a server, its texts as they were given.
 #[derive(Clone, Copy, Debug, PartialEq, Eq)]
@@ -17,7 +18,7 @@ pub struct Question<'a> {
 
 impl Question<'_> {
     ghost use Rattle.std.specs.Prelude.{IfOk, IfErr};
-    ghost use Rattle.s10_wire.specs.Peer.{SpellsPeer};
+    ghost use Rattle.s10_link.specs.Peer.{SpellsPeer};
     ghost use Rattle.s10_cli.specs.Questions.{IsBody, IsRefusal};
 
     /// Reads the texts: the server's address before the body's. Refused with the first that does

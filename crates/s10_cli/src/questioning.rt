@@ -16,7 +16,8 @@ use crate::refusal::write_refusal;
 use crate::status::Status;
 use crate::waiting::WAIT;
 use s10_ends::{Client, UdpLink};
-use s10_wire::{Body, Link, Peer, WriteFault};
+use s10_link::{Link, Peer};
+use s10_wire::{Body, WriteFault};
 use std::io::Write;
 use std::net::Net;
 

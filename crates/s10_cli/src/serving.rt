@@ -2,9 +2,9 @@
 
 ghost use Rattle.std.specs.Prelude.{◌≡◌, ◌≢◌, ◌⊎◌, None, Ok, OnOk, Result};
 ghost use Rattle.std.specs.Io.KnownBytes.{Appends};
-ghost use Rattle.s10_wire.specs.declared.link_fault.LinkFault.{LinkFault};
-ghost use Rattle.s10_wire.specs.declared.trace.Trace.{Trace};
-ghost use Rattle.s10_wire.specs.Trace.{new_trace};
+ghost use Rattle.s10_link.specs.declared.link_fault.LinkFault.{LinkFault};
+ghost use Rattle.s10_link.specs.declared.trace.Trace.{Trace};
+ghost use Rattle.s10_link.specs.Trace.{new_trace};
 ghost use Rattle.s10_ends.specs.declared.served.Served.{Served};
 ghost use Rattle.s10_ends.specs.Server.{book_of};
 ghost use Rattle.s10_ends.specs.Turn.{Handles, ServesOne};
@@ -18,7 +18,8 @@ use crate::turn_line::write_turn;
 use crate::waiting::WAIT;
 use s10_book::Book;
 use s10_ends::{Server, UdpLink, serve_one};
-use s10_wire::{Link, Peer, WriteFault};
+use s10_link::{Link, Peer};
+use s10_wire::WriteFault;
 use std::io::Write;
 use std::net::Net;
 use std::time::Clock;

@@ -9,7 +9,8 @@ use itoa::Buffer;
 use s10_book::BookFault;
 use s10_core::{Group, TextFault};
 use s10_ledger::OpenFault;
-use s10_wire::{LinkFault, WireFault, WriteFault, write_decimal, write_word};
+use s10_link::LinkFault;
+use s10_wire::{WireFault, WriteFault, write_decimal, write_word};
 use std::io::Write;
 
 /// The word of a group.

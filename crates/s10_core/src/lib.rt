@@ -22,6 +22,3 @@ pub use laws::one_spelling_each;
 pub use serial::Serial;
 pub use service::Service;
 pub use text_fault::TextFault;
-
-#[cfg(test)]
-mod tests;

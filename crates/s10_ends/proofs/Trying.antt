@@ -1,13 +1,13 @@
 -- The tries of a call.
 use Rattle.std.proofs.Common.{◌≡◌, ◌≢◌, ℕ, zero, suc, ◌+◌, ◌<◌, ◌≤◌, Option, Some, None, Ok, Err, refl, sym, ap, ◌∙◌, subst, inl, inr, arith}
-use Rattle.s10_wire.specs.declared.trace.Trace.{Trace}
-use Rattle.s10_wire.specs.declared.peer.Peer.{Peer}
+use Rattle.s10_link.specs.declared.trace.Trace.{Trace}
+use Rattle.s10_link.specs.declared.peer.Peer.{Peer}
 use Rattle.s10_wire.specs.declared.frame.Frame.{Frame}
 use Rattle.s10_wire.specs.declared.request.Request.{Request}
-use Rattle.s10_wire.specs.declared.link_fault.LinkFault.{LinkFault}
-use Rattle.s10_wire.specs.declared.link_fault.LinkFault.TheVariants.{Bind, Receive, Send, Spent}
-use Rattle.s10_wire.specs.Trace.{Gives}
-use Rattle.s10_wire.specs.Link.{Sends}
+use Rattle.s10_link.specs.declared.link_fault.LinkFault.{LinkFault}
+use Rattle.s10_link.specs.declared.link_fault.LinkFault.TheVariants.{Bind, Receive, Send, Spent}
+use Rattle.s10_link.specs.Trace.{Gives}
+use Rattle.s10_link.specs.Link.{Sends}
 use Rattle.std.proofs.lemmas.Option.{same_Some}
 use Rattle.s10_wire.specs.declared.body.Body.{Body}
 use Rattle.s10_wire.specs.declared.reply.Reply.{Reply}

@@ -1,15 +1,15 @@
 -- The cases of one turn of a server.
 use Rattle.std.proofs.Common.{◌≡◌, ℕ, List, Option, Some, Result, Ok, Err, sym, ap, ◌∙◌, subst, inr}
 use Rattle.std.specs.Prelude.{IsErrAnd}
-use Rattle.s10_wire.specs.declared.trace.Trace.{Trace}
-use Rattle.s10_wire.specs.declared.peer.Peer.{Peer}
-use Rattle.s10_wire.specs.declared.packet.Packet.{Packet}
+use Rattle.s10_link.specs.declared.trace.Trace.{Trace}
+use Rattle.s10_link.specs.declared.peer.Peer.{Peer}
+use Rattle.s10_link.specs.declared.packet.Packet.{Packet}
 use Rattle.s10_wire.specs.declared.frame.Frame.{Frame}
-use Rattle.s10_wire.specs.declared.link_fault.LinkFault.{LinkFault}
-use Rattle.s10_wire.specs.declared.link_fault.LinkFault.TheVariants.{Bind, Receive, Send, Spent}
-use Rattle.s10_wire.specs.Packet.{packet_bytes}
-use Rattle.s10_wire.specs.Trace.{after_datagram, Gives, after_failure}
-use Rattle.s10_wire.specs.Link.{Receives, Sends}
+use Rattle.s10_link.specs.declared.link_fault.LinkFault.{LinkFault}
+use Rattle.s10_link.specs.declared.link_fault.LinkFault.TheVariants.{Bind, Receive, Send, Spent}
+use Rattle.s10_link.specs.Packet.{packet_bytes}
+use Rattle.s10_link.specs.Trace.{after_datagram, Gives, after_failure}
+use Rattle.s10_link.specs.Link.{Receives, Sends}
 use Rattle.s10_ends.specs.declared.answer.Answer.{Answer}
 use Rattle.s10_ends.specs.declared.answer.Answer.TheVariants as answers
 use Rattle.s10_ends.specs.declared.served.Served.{Served}

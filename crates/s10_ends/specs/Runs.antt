@@ -17,7 +17,7 @@ use Rattle.s10_book.specs.Promises.{IsSpaced, IsOwn, IsApart}
 use Rattle.s10_ends.specs.declared.answer.Answer.{Answer}
 use Rattle.s10_ends.specs.declared.answer.Answer.TheVariants.{Reply, Dropped, Faulted}
 use Rattle.s10_ends.specs.declared.delivery.Delivery.{Delivery}
-use Rattle.s10_wire.specs.Packet.{packet_bytes}
+use Rattle.s10_link.specs.Packet.{packet_bytes}
 use Rattle.s10_ends.specs.Served.{Dated}
 
 -- the bytes of a delivery, and its day

@@ -1,15 +1,15 @@
 -- What one turn of a server on a link does.
 use Rattle.std.specs.Prelude.{◌≡◌, ◌⊎◌, ◌↔◌, ℕ, List, [], ◌∷◌, Result, Ok, Err}
-use Rattle.s10_wire.specs.declared.trace.Trace.{Trace}
-use Rattle.s10_wire.specs.declared.peer.Peer.{Peer}
-use Rattle.s10_wire.specs.declared.packet.Packet.{Packet}
+use Rattle.s10_link.specs.declared.trace.Trace.{Trace}
+use Rattle.s10_link.specs.declared.peer.Peer.{Peer}
+use Rattle.s10_link.specs.declared.packet.Packet.{Packet}
 use Rattle.s10_wire.specs.declared.frame.Frame.{Frame}
 use Rattle.s10_wire.specs.declared.wire_fault.WireFault.{WireFault}
-use Rattle.s10_wire.specs.declared.link_fault.LinkFault.{LinkFault}
-use Rattle.s10_wire.specs.declared.link_fault.LinkFault.TheVariants.{Bind, Receive, Send, Spent}
-use Rattle.s10_wire.specs.Packet.{packet_bytes}
-use Rattle.s10_wire.specs.Trace.{after_call, after_failure, after_datagram, Gives}
-use Rattle.s10_wire.specs.Link.{Sends}
+use Rattle.s10_link.specs.declared.link_fault.LinkFault.{LinkFault}
+use Rattle.s10_link.specs.declared.link_fault.LinkFault.TheVariants.{Bind, Receive, Send, Spent}
+use Rattle.s10_link.specs.Packet.{packet_bytes}
+use Rattle.s10_link.specs.Trace.{after_call, after_failure, after_datagram, Gives}
+use Rattle.s10_link.specs.Link.{Sends}
 use Rattle.s10_wire.specs.WireFault.{IsFirstRefusalOfRequest}
 use Rattle.s10_book.specs.declared.entry.Entry.{Entry}
 use Rattle.s10_book.specs.Settings.{Terms}

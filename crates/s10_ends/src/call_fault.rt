@@ -1,5 +1,6 @@
 use crate::submit_fault::SubmitFault;
-use s10_wire::{LinkFault, Request};
+use s10_link::LinkFault;
+use s10_wire::Request;
 use thiserror::Error;
 
 /// Why a call has no reply. After `GaveUp` and `Link` the request was given up: it was executed

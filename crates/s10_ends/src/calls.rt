@@ -6,7 +6,8 @@ ghost use Rattle.s10_ends.specs.Calls.{Calls, Attempts, Listens};
 use crate::call_fault::CallFault;
 use crate::client::Client;
 use crate::received::Received;
-use s10_wire::{Body, Frame, Link, LinkFault, Peer, Reply, encode_request};
+use s10_link::{Link, LinkFault, Peer};
+use s10_wire::{Body, Frame, Reply, encode_request};
 
 /// Asks the server at `to`, in 1 to 100 tries. Each try sends the request, and receives until its
 /// reply is accepted, eight datagrams came, or nothing came (at-most-once calls: Birrell and

@@ -1,4 +1,4 @@
-use s10_wire::Packet;
+use s10_link::Packet;
 
 /// A datagram, and the day on which it came: a number, counted from whatever day the caller counts from.
 #[derive(Clone, Copy, Debug)]

@@ -5,7 +5,8 @@ ghost use Rattle.std.specs.Prelude.{◌≡◌, Result};
 use crate::server::Server;
 use crate::turn::serve_one;
 use s10_book::Book;
-use s10_wire::{Frame, Link, LinkFault, Packet, Peer, Trace};
+use s10_link::{Link, LinkFault, Packet, Peer, Trace};
+use s10_wire::Frame;
 
 /// The near end of a network for a client in the server's own process: before each receive the
 /// server at the far end gets one turn on the day, whatever comes of it.
@@ -18,8 +19,8 @@ pub struct NearLink<B, F, N> {
 }
 
 impl<B: Book, F: Link, N: Link> Link for NearLink<B, F, N> {
-    ghost use Rattle.s10_wire.specs.Link.{Receives, Sends};
-    ghost use Rattle.s10_wire.specs.declared.link_fault.LinkFault.{LinkFault};
+    ghost use Rattle.s10_link.specs.Link.{Receives, Sends};
+    ghost use Rattle.s10_link.specs.declared.link_fault.LinkFault.{LinkFault};
     ghost use Rattle.s10_ends.specs.declared.served.Served.{Served};
     ghost use Rattle.s10_ends.specs.Server.{book_of};
     ghost use Rattle.s10_ends.specs.Turn.{Handles, ServesOne};

@@ -1,5 +1,6 @@
 use s10_book::BookFault;
-use s10_wire::{Frame, Peer, WireFault};
+use s10_link::Peer;
+use s10_wire::{Frame, WireFault};
 
 /// What one turn of a server did, with the peer that the datagram came from.
 #[derive(Clone, Copy, Debug, PartialEq, Eq)]

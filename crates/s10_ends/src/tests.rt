@@ -9,7 +9,8 @@ mod repeats;
 
 use super::{Answer, Delivery, Server};
 use s10_book::{Book, BookFault, PlainBook, Settings};
-use s10_wire::{Packet, WireFault};
+use s10_link::Packet;
+use s10_wire::WireFault;
 use std::alloc::{AllocError, Global};
 use std::process::Abort;
 use std::test::Fail;

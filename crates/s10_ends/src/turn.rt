@@ -8,7 +8,8 @@ use crate::answer::Answer;
 use crate::served::Served;
 use crate::server::Server;
 use s10_book::Book;
-use s10_wire::{Frame, Link, LinkFault, Peer};
+use s10_link::{Link, LinkFault, Peer};
+use s10_wire::Frame;
 
 /// One receive and at most one send: what came is handled on this day, and a reply goes to the
 /// peer that it came from. Refused with Receive, which leaves the server as it was, with Send,

@@ -4,7 +4,8 @@ ghost use Rattle.std.specs.Prelude.{◌≡◌};
 ghost use Rattle.std.specs.Net.Addr.{ipv4_octets};
 ghost use Rattle.std.specs.Net.Socket.{v4_ip, v4_port};
 
-use s10_wire::{Frame, Link, LinkFault, Packet, Peer, Trace};
+use s10_link::{Link, LinkFault, Packet, Peer, Trace};
+use s10_wire::Frame;
 use std::io;
 use std::io::ErrorKind;
 use std::marker::Model;
@@ -21,7 +22,7 @@ pub struct UdpLink {
 }
 
 impl Model for UdpLink {
-    ghost use Rattle.s10_wire.specs.Trace.{IsCounted};
+    ghost use Rattle.s10_link.specs.Trace.{IsCounted};
     ghost use Rattle.s10_ends.specs.UdpLink.{BoundLink};
 
     ghost Value = { BoundLink };
@@ -33,7 +34,7 @@ impl Model for UdpLink {
 
 impl UdpLink {
     ghost use Rattle.std.specs.Prelude.{◌≡◌, IfOk, IfErr};
-    ghost use Rattle.s10_wire.specs.Trace.{new_trace};
+    ghost use Rattle.s10_link.specs.Trace.{new_trace};
 
     /// A socket at this address, where port 0 lets the system pick one. A receive waits so many
     /// milliseconds at most; 0 is taken as 1. Refused with Bind alone.
@@ -76,7 +77,7 @@ impl UdpLink {
 
 impl Link for UdpLink {
     ghost use Rattle.std.specs.Prelude.{◌≡◌, ◌-◌, ◌^◌, Err};
-    ghost use Rattle.s10_wire.specs.Link.{Receives, Sends};
+    ghost use Rattle.s10_link.specs.Link.{Receives, Sends};
 
     ghost trace_of = { λ link. link.trace };
 

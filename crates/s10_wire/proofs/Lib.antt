@@ -4,6 +4,3 @@ pub mod Asked
 pub mod Replied
 pub mod Writing
 pub mod Lengths
-mod SameFrames
-mod Scripts
-pub mod Numerals

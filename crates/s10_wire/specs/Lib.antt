@@ -1,11 +1,6 @@
 pub mod Datagrams
 pub mod Frame
-pub mod Packet
 pub mod Kind
 pub mod Reply
 pub mod WireFault
 pub mod Lines
-pub mod Peer
-pub mod Trace
-pub mod Link
-pub mod ScriptLink

@@ -7,13 +7,11 @@ ghost use Rattle.s10_wire.specs.declared.request.Request.{Request};
 ghost use Rattle.s10_wire.specs.declared.outcome.Outcome.{Outcome};
 ghost use Rattle.s10_wire.specs.Datagrams.{Asks, Replies};
 ghost use Rattle.s10_wire.specs.Frame.{frame_bytes};
-ghost use Rattle.s10_wire.specs.Packet.{packet_bytes};
 ghost use Rattle.s10_wire.specs.Reply.{request_of, outcome_of};
 ghost use Rattle.s10_wire.specs.WireFault.{is_spelling};
 
 use crate::encoders::{encode_reply, encode_request};
 use crate::frame::Frame;
-use crate::packet::Packet;
 use crate::reply::Reply;
 use crate::reply_decoder::decode_reply;
 use crate::request::Request;
@@ -35,12 +33,6 @@ pub fn one_datagram_each()
 pub fn datagrams_are_short()
     ensures request { (b : List ℕ) (q : Request) → Asks b q → length b ≤ 28 }
     ensures reply { (b : List ℕ) (q : Request) (o : Outcome) → Replies b q o → length b ≤ 34 }
-{}
-
-/// A frame holds 256 bytes at most, and a packet 512.
-pub fn rooms_are_kept(_frame: &Frame, _packet: &Packet)
-    ensures frame { length (frame_bytes _frame.now) ≤ 256 }
-    ensures packet { length (packet_bytes _packet.now) ≤ 512 }
 {}
 
 /// The datagram of a request is read as this request.

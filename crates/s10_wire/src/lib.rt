@@ -8,20 +8,13 @@ mod frame;
 mod kind;
 mod laws;
 mod lines;
-mod link;
-mod link_fault;
 mod outcome;
-mod packet;
-mod peer;
-mod receipt;
 mod reply;
 mod reply_decoder;
 mod request;
 mod request_decoder;
 mod sameness;
-mod script_link;
 mod status;
-mod trace;
 mod wire_fault;
 mod words;
 mod write_fault;
@@ -31,29 +24,19 @@ pub use encoders::{encode_reply, encode_request};
 pub use frame::Frame;
 pub use laws::{
     datagrams_are_short, decoded_reply_encodes, decoded_request_encodes, encoded_reply_decodes,
-    encoded_request_decodes, identifier_fields_are_spellings, one_datagram_each, rooms_are_kept,
+    encoded_request_decodes, identifier_fields_are_spellings, one_datagram_each,
 };
 pub use lines::{write_reply_line, write_request_line};
-pub use link::Link;
-pub use link_fault::LinkFault;
 pub use outcome::Outcome;
-pub use packet::Packet;
-pub use peer::Peer;
-pub use receipt::Receipt;
 pub use reply::Reply;
 pub use reply_decoder::decode_reply;
 pub use request::Request;
 pub use request_decoder::decode_request;
 pub use sameness::same_request;
-pub use script_link::ScriptLink;
 pub use status::Status;
-pub use trace::Trace;
 pub use wire_fault::WireFault;
 pub use words::{
     write_decimal, write_first_decimal, write_id, write_letters, write_serials, write_text,
     write_word,
 };
 pub use write_fault::WriteFault;
-
-#[cfg(test)]
-mod tests;

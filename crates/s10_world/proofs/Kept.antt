@@ -12,7 +12,7 @@ use Rattle.s10_wire.specs.declared.body.Body.{Body}
 use Rattle.s10_wire.specs.declared.request.Request.{Request}
 use Rattle.s10_wire.specs.declared.outcome.Outcome.{Outcome}
 use Rattle.s10_wire.specs.Datagrams.{Replies}
-use Rattle.s10_wire.specs.Packet.{packet_bytes}
+use Rattle.s10_link.specs.Packet.{packet_bytes}
 use Rattle.s10_wire.proofs.Replied.{one_reply}
 use Rattle.s10_book.specs.declared.entry.Entry.{Entry}
 use Rattle.s10_book.specs.Settings.{Terms}

@@ -1,4 +1,5 @@
-use s10_wire::{Body, Packet};
+use s10_link::Packet;
+use s10_wire::Body;
 
 /// What may happen next. Clients and places count from 0. A datagram that is lost is one that no
 /// event hands out; one may be handed out again, and in any order.

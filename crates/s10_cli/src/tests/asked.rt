@@ -4,7 +4,8 @@ use super::Refusing;
 use crate::{Status, ask, run_loop};
 use s10_core::{Country, Service};
 use s10_ends::Client;
-use s10_wire::{Body, Packet, Peer, Receipt, ScriptLink, WriteFault};
+use s10_link::{Packet, Peer, Receipt, ScriptLink};
+use s10_wire::{Body, WriteFault};
 use std::alloc::{AllocError, Global};
 use std::test::Fail;
 

@@ -5,7 +5,8 @@ use crate::{write_ledger_fault, write_link_fault, write_turn};
 use s10_book::BookFault;
 use s10_ends::Served;
 use s10_ledger::OpenFault;
-use s10_wire::{Frame, LinkFault, Peer, WireFault, WriteFault, decode_reply, encode_reply};
+use s10_link::{LinkFault, Peer};
+use s10_wire::{Frame, WireFault, WriteFault, decode_reply, encode_reply};
 use std::test::Fail;
 
 const PEER: Peer = Peer {

@@ -1,9 +1,7 @@
 use crate::{CallFault, Client, SubmitFault, call};
 use s10_core::{Country, Service};
-use s10_wire::{
-    Body, Frame, Link, LinkFault, Packet, Peer, Receipt, Request, ScriptLink, encode_reply,
-    encode_request,
-};
+use s10_link::{Link, LinkFault, Packet, Peer, Receipt, ScriptLink};
+use s10_wire::{Body, Frame, Request, encode_reply, encode_request};
 use std::alloc::{AllocError, Global};
 use std::test::Fail;
 

@@ -1,7 +1,8 @@
 use crate::{CallFault, Client, NearLink, Server, UdpLink, call};
 use s10_book::{Book, PlainBook, Settings};
 use s10_core::{Country, Serial, Service};
-use s10_wire::{Body, Frame, Link, Peer, encode_reply};
+use s10_link::{Link, Peer};
+use s10_wire::{Body, Frame, encode_reply};
 use std::test::Fail;
 
 /// A port of this machine that the system picks.

@@ -1,7 +1,7 @@
 use super::new_server;
 use crate::{Answer, Delivery, Server};
 use s10_book::{Book, BookFault, Entry};
-use s10_wire::Packet;
+use s10_link::Packet;
 use std::test::Fail;
 
 fn delivery(day: u32, datagram: &[u8]) -> Delivery {

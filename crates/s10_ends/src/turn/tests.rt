@@ -1,6 +1,7 @@
 use crate::{Served, Server, serve_one};
 use s10_book::{Book, BookFault, PlainBook, Settings};
-use s10_wire::{Link, LinkFault, Packet, Peer, Receipt, ScriptLink, WireFault};
+use s10_link::{Link, LinkFault, Packet, Peer, Receipt, ScriptLink};
+use s10_wire::WireFault;
 use std::alloc::{AllocError, Global};
 use std::process::Abort;
 use std::test::Fail;

@@ -1,6 +1,7 @@
 use crate::UdpLink;
 use s10_core::{Country, Service};
-use s10_wire::{Body, Link, LinkFault, Packet, Peer, Request, Trace, encode_request};
+use s10_link::{Link, LinkFault, Packet, Peer, Trace};
+use s10_wire::{Body, Request, encode_request};
 use std::test::Fail;
 
 /// A port of this machine that the system picks.

@@ -1,5 +1,5 @@
 use Rattle.std.proofs.Common.{subst, inr}
-use Rattle.s10_wire.specs.declared.trace.Trace.{Trace}
+use Rattle.s10_link.specs.declared.trace.Trace.{Trace}
 use Rattle.s10_cli.specs.Serving.{IsTurn, Serves}
 use Rattle.s10_cli.proofs.serving.serve_at.Goals as goal
 

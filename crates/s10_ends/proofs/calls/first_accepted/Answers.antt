@@ -1,10 +1,10 @@
 use Rattle.std.proofs.Common.{◌≡◌, Some, refl, ap, ◌∙◌, inl, arith}
 use Rattle.std.specs.Prelude.{IsSome}
-use Rattle.s10_wire.specs.declared.trace.Trace.{Trace}
+use Rattle.s10_link.specs.declared.trace.Trace.{Trace}
 use Rattle.s10_wire.specs.declared.request.Request.{Request}
 use Rattle.s10_wire.specs.declared.outcome.Outcome.{Outcome}
 use Rattle.s10_wire.specs.Datagrams.{Replies}
-use Rattle.s10_wire.specs.Packet.{packet_bytes}
+use Rattle.s10_link.specs.Packet.{packet_bytes}
 use Rattle.s10_ends.proofs.Turns.{same_error, taken_is}
 use Rattle.s10_ends.proofs.Listening.{hearing_none, hearing_call, hearing_datagram, heard, heard_refused, unanswered_call, unanswered_datagram, unaccepted, quiet_is, accepted_reply, receive_not_bind}
 use Rattle.s10_ends.proofs.calls.first_accepted.Goals as goal

@@ -1,0 +1,137 @@
+use s10_core::{Country, Group, Id, Serial, Service, TextFault, check_digit};
+use std::test::Fail;
+
+// Worked by hand from the weights, as S = 200 and C = 9 for the first.
+#[test]
+fn check_digits_are_those_worked_by_hand(rt: HostRuntime) {
+    for (value, digit) in [
+        (47312482, 9),
+        (12345678, 5),
+        (0, 5),
+        (1, 4),
+        (2, 8),
+        (3, 1),
+        (4, 5),
+        (8, 0),
+        (9999, 4),
+        (99999998, 7),
+        (99999999, 5),
+    ] {
+        match Serial::new(value) {
+            Some(serial) => assert_eq!(rt; check_digit(serial), digit, "at {value}"),
+            None => panic!(rt; "at {value}"),
+        }
+    }
+}
+
+#[test]
+fn identifiers_are_spelled_from_their_parts(rt: HostRuntime) {
+    let spelled: [(&[u8], &[u8; 13]); 9] = [
+        (b"00000000", b"RA000000005GB"),
+        (b"00000001", b"RA000000014GB"),
+        (b"00000002", b"RA000000028GB"),
+        (b"00000003", b"RA000000031GB"),
+        (b"00000004", b"RA000000045GB"),
+        (b"00000008", b"RA000000080GB"),
+        (b"12345678", b"RA123456785GB"),
+        (b"99999998", b"RA999999987GB"),
+        (b"99999999", b"RA999999995GB"),
+    ];
+    for (digits, text) in spelled {
+        let parts = (
+            Service::new(*b"RA"),
+            Serial::read(digits),
+            Country::new(*b"GB"),
+        );
+        match parts {
+            (Some(service), Some(serial), Some(country)) => {
+                let id = Id {
+                    service,
+                    serial,
+                    country,
+                };
+                assert_eq!(rt; id.write(), *text);
+                assert_eq!(rt; Id::read(text), Ok(id));
+            }
+            _ => panic!(rt),
+        }
+    }
+}
+
+#[test]
+fn a_label_is_read_without_its_spaces_and_in_capitals(rt: HostRuntime) {
+    let text = b"RA473124829US";
+    match Id::read_label(b"ra 473 124 829 us") {
+        Ok(id) => {
+            assert_eq!(rt; id.write(), *text);
+            assert_eq!(rt; Id::read(text), Ok(id));
+            assert_eq!(rt; id.service.bytes(), *b"RA");
+            assert_eq!(rt; id.service.group(), Group::Registered);
+            assert_eq!(rt; id.serial.value(), 47_312_482);
+            assert_eq!(rt; id.country.bytes(), *b"US");
+        }
+        Err(fault) => panic!(rt; "{fault:?}"),
+    }
+    assert_eq!(rt;
+        Id::read_label(b"ra 473 124 82x us"),
+        Err(TextFault::Digit(10))
+    );
+}
+
+#[test]
+fn a_text_is_refused_for_its_first_fault(rt: HostRuntime) {
+    let refused: [(&[u8], TextFault); 7] = [
+        (b"", TextFault::Length),
+        (b"ra 473 124 829 us", TextFault::Length),
+        (b"ra473124829US", TextFault::Letter(0)),
+        (b"RA47312482XUS", TextFault::Digit(10)),
+        (b"RA47312482XuS", TextFault::Digit(10)),
+        (b"RA473124829uS", TextFault::Letter(11)),
+        (b"RA473124828US", TextFault::CheckDigit),
+    ];
+    for (text, fault) in refused {
+        assert_eq!(rt; Id::read(text), Err(fault));
+    }
+}
+
+#[test]
+fn parts_out_of_range_are_refused(rt: HostRuntime) {
+    assert!(rt; Service::new(*b"rA").is_none());
+    assert!(rt; Country::new(*b"G1").is_none());
+    assert!(rt; Serial::new(100_000_000).is_none());
+    assert!(rt; Serial::read(b"1234567").is_none());
+    assert!(rt; Serial::read(b"123456789").is_none());
+    assert!(rt; Serial::read(b"1234567x").is_none());
+}
+
+#[test]
+fn the_first_letter_names_the_group(rt: HostRuntime) {
+    for (letters, group) in [
+        (*b"CA", Group::Parcel),
+        (*b"EA", Group::Ems),
+        (*b"RA", Group::Registered),
+        (*b"VA", Group::Insured),
+        (*b"LA", Group::Other),
+    ] {
+        match Service::new(letters) {
+            Some(service) => assert_eq!(rt; service.group(), group),
+            None => panic!(rt),
+        }
+    }
+}
+
+#[test]
+fn each_fault_has_its_text(rt: HostRuntime) -> Result<(), Fail> {
+    for (fault, text) in [
+        (TextFault::Length, "an identifier has 13 characters"),
+        (TextFault::Letter(11), "place 11 wants a letter from A to Z"),
+        (TextFault::Digit(2), "place 2 wants a digit"),
+        (
+            TextFault::CheckDigit,
+            "the check digit is not that of the serial number",
+        ),
+    ] {
+        assert_eq!(rt; format!(in rt.alloc(); "{fault}")?.as_str(), text);
+    }
+    Ok(())
+}

@@ -1,0 +1,5 @@
+//! Tests of identifiers.
+#![tactic(auto)]
+
+#[cfg(test)]
+mod identifiers;

@@ -1,0 +1,3 @@
+mod SameFrames
+mod Scripts
+mod Numerals

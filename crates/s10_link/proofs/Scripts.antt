@@ -1,0 +1,23 @@
+-- A scripted link takes the next receipt.
+use Rattle.std.proofs.Common.{◌≡◌, ℕ, zero, suc, ◌+◌, List, [], ◌∷◌, length, drop, Option, Some, None, refl, sym, ap, ◌∙◌, add-one}
+use Rattle.std.specs.Prelude.{slice_get}
+use Rattle.std.specs.Borrow.{Bor}
+use Rattle.std.specs.Option.{option_copied}
+use Rattle.std.specs.Slice.{IsItemAt}
+use Rattle.std.proofs.lemmas.Option.{none-some, same_Some, slice_get_read}
+use Rattle.s10_link.specs.declared.receipt.Receipt.{Receipt}
+use Rattle.s10_link.specs.Link.{Received}
+use Rattle.s10_link.specs.ScriptLink.{answer_of, TakesReceipt}
+
+takes_suc : (xs : List Receipt) (k : ℕ) (r : Receipt) (result : Received) → slice_get xs k ≡ Some r → result ≡ answer_of r → TakesReceipt (drop k xs) (drop (suc k) xs) result
+takes_suc [] k r result found is = absurd (none-some r found)
+takes_suc (x ∷ xs) zero r result found is = (is ∙ ap answer_of (sym (same_Some x r found)), refl)
+takes_suc (x ∷ xs) (suc k) r result found is = takes_suc xs k r result found is
+
+pub takes_receipt : (xs : List Receipt) (k : ℕ) (r : Receipt) (result : Received) → slice_get xs k ≡ Some r → result ≡ answer_of r → TakesReceipt (drop k xs) (drop (k + 1) xs) result
+takes_receipt xs k r result found is = rw (add-one k) (takes_suc xs k r result found is)
+
+-- the receipt that was looked up stands at its place
+pub receipt_at : (xs : List Receipt) (k : ℕ) (found : Option (Bor Receipt)) (r : Receipt) → IsItemAt xs k found → Some r ≡ option_copied found → slice_get xs k ≡ Some r
+receipt_at xs k None r looked is = absurd (none-some r (sym is))
+receipt_at xs k (Some b) r looked is = slice_get_read xs (length xs) k b.now refl looked.3.0 looked.1 ∙ sym is

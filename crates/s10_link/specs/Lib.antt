@@ -1,0 +1,5 @@
+pub mod Packet
+pub mod Peer
+pub mod Trace
+pub mod Link
+pub mod ScriptLink

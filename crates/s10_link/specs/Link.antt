@@ -1,0 +1,34 @@
+-- How the calls of a link move its trace, by what they answer.
+use Rattle.std.specs.Prelude.{◌≡◌, ◌-◌, ◌^◌, Option, Some, None, Result, Ok, Err}
+use Rattle.s10_link.specs.declared.trace.Trace.{Trace}
+use Rattle.s10_link.specs.declared.peer.Peer.{Peer}
+use Rattle.s10_link.specs.declared.packet.Packet.{Packet}
+use Rattle.s10_wire.specs.declared.frame.Frame.{Frame}
+use Rattle.s10_link.specs.declared.link_fault.LinkFault.{LinkFault}
+use Rattle.s10_link.specs.declared.link_fault.LinkFault.TheVariants.{Bind, Receive, Send, Spent}
+use Rattle.s10_link.specs.Trace.{after_call, after_failure, after_datagram, Gives}
+
+-- what a receive answers
+abbrev pub Received : Type 0
+Received = Result (Option (Peer × Packet)) LinkFault
+
+-- what a send answers
+abbrev pub Sent : Type 0
+Sent = Result (Unit {0}) LinkFault
+
+-- what a receive does
+abbrev pub Receives : Trace → Trace → Received → Type 0
+Receives old new (Ok None) = new ≡ after_call old
+Receives old new (Ok (Some p)) = new ≡ after_datagram old p
+Receives old new (Err Receive) = new ≡ after_failure old
+Receives old new (Err Spent) = (new ≡ old) × (old.calls ≡ 2 ^ 64 - 1)
+Receives old new (Err Bind) = ⊥
+Receives old new (Err Send) = ⊥
+
+-- what a send of a frame to a peer does
+abbrev pub Sends : Trace → Trace → Peer × Frame → Sent → Type 0
+Sends old new p (Ok _) = Gives old new p
+Sends old new p (Err Send) = new ≡ after_failure old
+Sends old new p (Err Spent) = new ≡ old
+Sends old new p (Err Bind) = ⊥
+Sends old new p (Err Receive) = ⊥

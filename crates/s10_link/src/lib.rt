@@ -1,0 +1,20 @@
+//! What carries datagrams: an end of an unreliable network, its peers, and what it counts.
+#![tactic(auto)]
+
+mod laws;
+mod link;
+mod link_fault;
+mod packet;
+mod peer;
+mod receipt;
+mod script_link;
+mod trace;
+
+pub use laws::rooms_are_kept;
+pub use link::Link;
+pub use link_fault::LinkFault;
+pub use packet::Packet;
+pub use peer::Peer;
+pub use receipt::Receipt;
+pub use script_link::ScriptLink;
+pub use trace::Trace;

@@ -1,0 +1,9 @@
+//! Tests of what carries datagrams.
+#![tactic(auto)]
+
+#[cfg(test)]
+mod packets;
+#[cfg(test)]
+mod peers;
+#[cfg(test)]
+mod scripts;

@@ -1,5 +1,0 @@
-mod datagrams;
-mod lines;
-mod parts;
-mod refusals;
-mod vectors;

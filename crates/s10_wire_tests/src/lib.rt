@@ -1,0 +1,13 @@
+//! Tests of datagrams and lines.
+#![tactic(auto)]
+
+#[cfg(test)]
+mod datagrams;
+#[cfg(test)]
+mod lines;
+#[cfg(test)]
+mod messages;
+#[cfg(test)]
+mod refusals;
+#[cfg(test)]
+mod vectors;

@@ -1,0 +1,96 @@
+//! Why bytes are refused.
+
+use s10_wire::{WireFault, WriteFault, decode_reply, decode_request};
+use std::test::Fail;
+
+#[test]
+fn a_request_is_refused_for_the_first_thing_wrong(rt: HostRuntime) {
+    let refused: [(&[u8], WireFault); 10] = [
+        (
+            b"S1\x01\x02\x00\x00\x00\x07\x00\x00\x00\x01RAG",
+            WireFault::Length,
+        ),
+        (
+            b"S1\x01\x02\x00\x00\x00\x07\x00\x00\x00\x01RAGB\x00",
+            WireFault::Length,
+        ),
+        (
+            b"S1\x09\x02\x00\x00\x00\x07\x00\x00\x00\x01RAGB",
+            WireFault::Version,
+        ),
+        (
+            b"S1\x01\x00\x00\x00\x00\x07\x00\x00\x00\x01RAGB",
+            WireFault::Kind,
+        ),
+        (
+            b"S1\x01\x82\x00\x00\x00\x07\x00\x00\x00\x01RAGB\x00\x00\x00\x4e\x20RA000000005GB",
+            WireFault::Kind,
+        ),
+        (
+            b"S1\x01\x02\x00\x00\x00\x07\x00\x00\x00\x01raGB",
+            WireFault::Field(12),
+        ),
+        (
+            b"S1\x01\x01\x00\x00\x00\x00\x00\x00\x00\x01\x00\x00\x00\x07RAGB\x00\x00\x00\x00\x05\xf5\xe1\x00",
+            WireFault::Field(24),
+        ),
+        (
+            b"S0\x01\x02\x00\x00\x00\x07\x00\x00\x00\x01RAGB",
+            WireFault::Magic,
+        ),
+        (b"S1\x01\x02\x00\x00\x00\x07\x00\x00\x00", WireFault::Short),
+        (b"", WireFault::Short),
+    ];
+    for (bytes, fault) in refused {
+        assert_eq!(rt; decode_request(bytes), Err(fault));
+    }
+}
+
+#[test]
+fn a_reply_is_refused_for_the_first_thing_wrong(rt: HostRuntime) {
+    let refused: [(&[u8], WireFault); 5] = [
+        (
+            b"S1\x01\x82\x00\x00\x00\x07\x00\x00\x00\x04RAGB\x00",
+            WireFault::Length,
+        ),
+        (
+            b"S1\x01\x82\x00\x00\x00\x07\x00\x00\x00\x04RAGB\x0a",
+            WireFault::Outcome,
+        ),
+        (
+            b"S1\x01\x83\x00\x00\x00\x07\x00\x00\x00\x03RA000000014GB\x04",
+            WireFault::Outcome,
+        ),
+        (
+            b"S1\x01\x84\x00\x00\x00\x07\x00\x00\x00\x09RA000000014GB\x00\x04\x00\x00\x4e\x3e",
+            WireFault::Field(26),
+        ),
+        (
+            b"S1\x01\x84\x00\x00\x00\x07\x00\x00\x00\x09RA000000014GB\x00\x01\x00\x00\x00\x05",
+            WireFault::Field(27),
+        ),
+    ];
+    for (bytes, fault) in refused {
+        assert_eq!(rt; decode_reply(bytes), Err(fault));
+    }
+}
+
+#[test]
+fn faults_say_what_is_wrong(rt: HostRuntime) -> Result<(), Fail> {
+    for (fault, text) in [
+        (WireFault::Short, "a datagram has at least 12 bytes"),
+        (WireFault::Magic, "a datagram begins with the bytes 53 31"),
+        (WireFault::Version, "the version is not 1"),
+        (WireFault::Kind, "no such kind"),
+        (WireFault::Length, "the length is not that of the kind"),
+        (WireFault::Field(12), "the field at 12 is wrong"),
+        (WireFault::Outcome, "the outcome does not fit the kind"),
+    ] {
+        assert_eq!(rt; format!(in rt.alloc(); "{fault}")?.as_str(), text);
+    }
+    assert_eq!(rt;
+        format!(in rt.alloc(); "{WriteFault}")?.as_str(),
+        "the line could not be written"
+    );
+    Ok(())
+}

@@ -1,0 +1,153 @@
+//! Datagrams as they stand in a dump, and what they say.
+
+use s10_core::{Country, Id, Serial, Service};
+use s10_wire::{Body, Outcome, Reply, Request, Status};
+use std::process::Abort;
+
+/// Requests.
+pub const REQUESTS: [&[u8]; 8] = [
+    b"S1\x01\x01\x00\x00\x00\x00\x00\x00\x00\x01\x00\x00\x00\x07RAGB\x00\x00\x00\x00\x00\x00\x00\x02",
+    b"S1\x01\x02\x00\x00\x00\x07\x00\x00\x00\x01RAGB",
+    b"S1\x01\x02\x00\x00\x00\x07\x00\x00\x00\x02RAGB",
+    b"S1\x01\x02\x00\x00\x00\x07\x00\x00\x00\x03RAGB",
+    b"S1\x01\x02\x00\x00\x00\x07\x00\x00\x00\x04RAGB",
+    b"S1\x01\x02\x00\x00\x00\x07\x00\x00\x00\x05RAGB",
+    b"S1\x01\x03\x00\x00\x00\x07\x00\x00\x00\x03RA000000014GB",
+    b"S1\x01\x04\x00\x00\x00\x07\x00\x00\x00\x01RA000000005GB",
+];
+
+/// Replies.
+pub const REPLIES: [&[u8]; 12] = [
+    b"S1\x01\x81\x00\x00\x00\x00\x00\x00\x00\x01\x00\x00\x00\x07RAGB\x00\x00\x00\x00\x00\x00\x00\x02\x00\x00\x00\x00\x01",
+    b"S1\x01\x82\x00\x00\x00\x07\x00\x00\x00\x01RAGB\x00\x00\x00\x4e\x20RA000000005GB",
+    b"S1\x01\x82\x00\x00\x00\x07\x00\x00\x00\x02RAGB\x00\x00\x00\x4e\x20RA000000014GB",
+    b"S1\x01\x82\x00\x00\x00\x07\x00\x00\x00\x03RAGB\x00\x00\x00\x4e\x20RA000000028GB",
+    b"S1\x01\x82\x00\x00\x00\x07\x00\x00\x00\x04RAGB\x05",
+    b"S1\x01\x82\x00\x00\x00\x07\x00\x00\x00\x05RAGB\x00\x00\x00\x4e\x3eRA000000005GB",
+    b"S1\x01\x83\x00\x00\x00\x07\x00\x00\x00\x03RA000000014GB\x00",
+    b"S1\x01\x83\x00\x00\x00\x07\x00\x00\x00\x04RA000000014GB\x08",
+    b"S1\x01\x84\x00\x00\x00\x07\x00\x00\x00\x01RA000000005GB\x09",
+    b"S1\x01\x84\x00\x00\x00\x07\x00\x00\x00\x09RA000000014GB\x00\x02\x00\x00\x4e\x3e",
+    b"S1\x01\x84\x00\x00\x00\x00\x00\x00\x00\x02RA473124829US\x00\x00\x00\x00\x00\x00",
+    b"S1\x01\x81\x00\x00\x00\x00\x00\x00\x00\x02\x00\x00\x00\x08RAGB\x00\x00\x00\x02\x00\x00\x00\x05\x03",
+];
+
+pub fn requests(rt: &impl Abort) -> [Request; 8] {
+    [
+        request(0, 1, grant(rt, 7, 0, 2)),
+        request(7, 1, draw(rt)),
+        request(7, 2, draw(rt)),
+        request(7, 3, draw(rt)),
+        request(7, 4, draw(rt)),
+        request(7, 5, draw(rt)),
+        request(7, 3, void(rt, b"RA000000014GB")),
+        request(7, 1, query(rt, b"RA000000005GB")),
+    ]
+}
+
+pub fn replies(rt: &impl Abort) -> [(Request, Outcome); 12] {
+    [
+        (
+            request(0, 1, grant(rt, 7, 0, 2)),
+            Outcome::Granted { range: 1 },
+        ),
+        (request(7, 1, draw(rt)), drawn(rt, 20_000, b"RA000000005GB")),
+        (request(7, 2, draw(rt)), drawn(rt, 20_000, b"RA000000014GB")),
+        (request(7, 3, draw(rt)), drawn(rt, 20_000, b"RA000000028GB")),
+        (request(7, 4, draw(rt)), Outcome::NoneFree),
+        (request(7, 5, draw(rt)), drawn(rt, 20_030, b"RA000000005GB")),
+        (request(7, 3, void(rt, b"RA000000014GB")), Outcome::Voided),
+        (
+            request(7, 4, void(rt, b"RA000000014GB")),
+            Outcome::AlreadyVoid,
+        ),
+        (
+            request(7, 1, query(rt, b"RA000000005GB")),
+            Outcome::NumberReused,
+        ),
+        (
+            request(7, 9, query(rt, b"RA000000014GB")),
+            Outcome::Told(Status::Issued { day: 20_030 }),
+        ),
+        (
+            request(0, 2, query(rt, b"RA473124829US")),
+            Outcome::Told(Status::Unknown),
+        ),
+        (request(0, 2, grant(rt, 8, 2, 5)), Outcome::Overlap),
+    ]
+}
+
+pub fn request(customer: u32, number: u32, body: Body) -> Request {
+    Request {
+        customer,
+        number,
+        body,
+    }
+}
+
+pub fn grant(rt: &impl Abort, holder: u32, first: u32, last: u32) -> Body {
+    Body::Grant {
+        holder,
+        service: service(rt),
+        country: country(rt),
+        first: serial(rt, first),
+        last: serial(rt, last),
+    }
+}
+
+pub fn draw(rt: &impl Abort) -> Body {
+    Body::Draw {
+        service: service(rt),
+        country: country(rt),
+    }
+}
+
+pub fn void(rt: &impl Abort, text: &[u8]) -> Body {
+    Body::Void { id: id(rt, text) }
+}
+
+pub fn query(rt: &impl Abort, text: &[u8]) -> Body {
+    Body::Query { id: id(rt, text) }
+}
+
+pub fn drawn(rt: &impl Abort, day: u32, text: &[u8]) -> Outcome {
+    Outcome::Drawn {
+        day,
+        id: id(rt, text),
+    }
+}
+
+pub fn reply(rt: &impl Abort, request: Request, outcome: Outcome) -> Reply {
+    match Reply::new(request, outcome) {
+        Some(reply) => reply,
+        None => panic!(rt; "{request:?} {outcome:?}"),
+    }
+}
+
+fn service(rt: &impl Abort) -> Service {
+    match Service::new(*b"RA") {
+        Some(service) => service,
+        None => panic!(rt),
+    }
+}
+
+fn country(rt: &impl Abort) -> Country {
+    match Country::new(*b"GB") {
+        Some(country) => country,
+        None => panic!(rt),
+    }
+}
+
+fn serial(rt: &impl Abort, value: u32) -> Serial {
+    match Serial::new(value) {
+        Some(serial) => serial,
+        None => panic!(rt),
+    }
+}
+
+fn id(rt: &impl Abort, text: &[u8]) -> Id {
+    match Id::read(text) {
+        Ok(id) => id,
+        Err(fault) => panic!(rt; "{fault}"),
+    }
+}
