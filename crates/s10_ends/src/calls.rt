@@ -70,6 +70,3 @@ fn first_accepted<L: Link>(client: &mut Client, link: &mut L) -> Result<Option<R
     }
     Ok(None)
 }
-
-#[cfg(test)]
-mod tests;

@@ -28,8 +28,3 @@ pub use server::Server;
 pub use submit_fault::SubmitFault;
 pub use turn::serve_one;
 pub use udp_link::UdpLink;
-
-#[cfg(test)]
-mod client_tests;
-#[cfg(test)]
-mod tests;

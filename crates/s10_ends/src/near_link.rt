@@ -51,6 +51,3 @@ impl<B: Book, F: Link, N: Link> Link for NearLink<B, F, N> {
         self.near.trace()
     }
 }
-
-#[cfg(test)]
-mod tests;

@@ -39,6 +39,3 @@ fn send_reply<L: Link>(link: &mut L, to: Peer, frame: Frame) -> Result<Served, L
     link.send(to, &frame)?;
     Ok(Served::Replied(to, frame))
 }
-
-#[cfg(test)]
-mod tests;

@@ -156,6 +156,3 @@ fn peer_of(at: SocketAddrV4) -> Peer
         port: at.port(),
     }
 }
-
-#[cfg(test)]
-mod tests;

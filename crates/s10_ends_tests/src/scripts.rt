@@ -1,14 +1,7 @@
 //! Scripts of deliveries, each with the answer that it gets. Datagrams are in hex, in groups for reading.
 
-mod days;
-mod failures;
-mod memory;
-mod ranges;
-mod refusals;
-mod repeats;
-
-use super::{Answer, Delivery, Server};
-use s10_book::{Book, BookFault, PlainBook, Settings};
+use s10_book::{Book, BookFault};
+use s10_ends::{Answer, Delivery, Server};
 use s10_link::Packet;
 use s10_wire::WireFault;
 use std::alloc::{AllocError, Global};
@@ -17,31 +10,31 @@ use std::test::Fail;
 
 /// The answer to a delivery.
 #[derive(Clone, Copy, Debug)]
-enum Want {
+pub enum Want {
     Reply(&'static str),
     Dropped(WireFault),
     Faulted(BookFault),
 }
 
 /// A day, a datagram and its answer.
-type Step = (u32, &'static str, Want);
+pub type Step = (u32, &'static str, Want);
 
 /// The post grants range 1 to customer 7: RA GB 0 to 2.
-const GRANT: Step = (
+pub const GRANT: Step = (
     20000,
     "53310101 00000000 00000001 00000007 52414742 00000000 00000002",
     Want::Reply("53310181 00000000 00000001 00000007 52414742 00000000 00000002 00 00000001"),
 );
 
 /// Customer 7's first Draw, which is given serial 0.
-const DRAW: Step = (
+pub const DRAW: Step = (
     20000,
     "53310102 00000007 00000001 52414742",
     Want::Reply("53310182 00000007 00000001 52414742 00 00004e20 52413030303030303030354742"),
 );
 
 /// The bytes of hex digits, whatever stands between them.
-fn bytes_of(alloc: Global, text: &str) -> Result<Vec<u8>, AllocError> {
+pub fn bytes_of(alloc: Global, text: &str) -> Result<Vec<u8>, AllocError> {
     let mut bytes = Vec::new(alloc);
     let mut high = None;
     for character in text.bytes() {
@@ -62,7 +55,7 @@ fn bytes_of(alloc: Global, text: &str) -> Result<Vec<u8>, AllocError> {
 }
 
 /// Whether the answer is as wanted.
-fn is_as_wanted(alloc: Global, answer: &Answer, want: Want) -> Result<bool, AllocError> {
+pub fn is_as_wanted(alloc: Global, answer: &Answer, want: Want) -> Result<bool, AllocError> {
     Ok(match (answer, want) {
         (Answer::Reply(frame), Want::Reply(text)) => {
             frame.bytes() == bytes_of(alloc, text)?.as_slice()
@@ -73,14 +66,8 @@ fn is_as_wanted(alloc: Global, answer: &Answer, want: Want) -> Result<bool, Allo
     })
 }
 
-/// A server over an empty book.
-fn new_server(alloc: Global, limit: u32) -> Result<Server<PlainBook>, Fail> {
-    let settings = Settings::new(30, limit).ok_or("settings")?;
-    Ok(Server::new(PlainBook::new(alloc, settings)))
-}
-
 /// Hands all datagrams to the server at once, and compares each answer.
-fn play<B: Book>(
+pub fn play<B: Book>(
     rt: &impl Abort,
     alloc: Global,
     server: &mut Server<B>,

@@ -1,6 +1,6 @@
-use super::new_server;
-use crate::{Answer, Delivery, Server};
+use crate::fixtures::new_server;
 use s10_book::{Book, BookFault, Entry};
+use s10_ends::{Answer, Delivery, Server};
 use s10_link::Packet;
 use std::test::Fail;
 

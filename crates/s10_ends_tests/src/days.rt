@@ -1,5 +1,6 @@
-use super::Want::Reply;
-use super::{DRAW, GRANT, new_server, play};
+use crate::fixtures::new_server;
+use crate::scripts::Want::Reply;
+use crate::scripts::{DRAW, GRANT, play};
 use s10_book::Book;
 use std::test::Fail;
 

@@ -1,5 +1,6 @@
-use super::Want::{Dropped, Reply};
-use super::{DRAW, GRANT, new_server, play};
+use crate::fixtures::new_server;
+use crate::scripts::Want::{Dropped, Reply};
+use crate::scripts::{DRAW, GRANT, play};
 use s10_book::Book;
 use s10_wire::WireFault;
 use std::test::Fail;

@@ -1,7 +1,7 @@
-use super::Want::Faulted;
-use super::{DRAW, GRANT, bytes_of, is_as_wanted};
-use crate::Server;
+use crate::scripts::Want::Faulted;
+use crate::scripts::{DRAW, GRANT, bytes_of, is_as_wanted};
 use s10_book::{Book, BookFault, PlainBook, Settings, TripBook};
+use s10_ends::Server;
 use std::test::Fail;
 
 #[test]

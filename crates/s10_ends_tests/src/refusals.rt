@@ -1,5 +1,6 @@
-use super::Want::{Dropped, Faulted, Reply};
-use super::{DRAW, GRANT, bytes_of, is_as_wanted, new_server, play};
+use crate::fixtures::new_server;
+use crate::scripts::Want::{Dropped, Faulted, Reply};
+use crate::scripts::{DRAW, GRANT, bytes_of, is_as_wanted, play};
 use s10_book::{Book, BookFault};
 use s10_wire::WireFault;
 use std::test::Fail;

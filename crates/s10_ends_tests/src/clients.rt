@@ -1,0 +1,121 @@
+use crate::fixtures::draw;
+use s10_ends::{BadNumbers, Client, Received, SubmitFault};
+use s10_wire::{Outcome, Request, WireFault};
+use std::test::Fail;
+
+// the datagram of customer 7's Draw of RA GB with number 5
+const REQUEST: [u8; 16] = *b"S1\x01\x02\0\0\0\x07\0\0\0\x05RAGB";
+
+// its reply, RA000000005GB issued on day 20000
+const REPLY: [u8; 34] = *b"S1\x01\x82\0\0\0\x07\0\0\0\x05RAGB\0\0\0\x4e\x20RA000000005GB";
+
+// NoRange, in reply to customer 8's Draw of RA GB with number 5
+const OTHER: [u8; 17] = *b"S1\x01\x82\0\0\0\x08\0\0\0\x05RAGB\x04";
+
+/// Customer 7's Draw of RA GB with this number.
+fn request(number: u32) -> Result<Request, &'static str> {
+    Ok(Request {
+        customer: 7,
+        number,
+        body: draw()?,
+    })
+}
+
+/// Whether a client without a number taken has nothing to send.
+fn is_unused(client: &Client) -> bool {
+    client.is_new() && client.customer() == 7 && client.resend().is_none()
+}
+
+/// Whether the client sends this datagram for its pending request.
+fn is_sending(client: &Client, request: Request, datagram: &[u8]) -> bool {
+    match client.resend() {
+        Some(frame) => {
+            !client.is_new() && client.pending() == Some(request) && frame.bytes() == datagram
+        }
+        None => false,
+    }
+}
+
+/// Whether a Draw is submitted with this number.
+fn takes(client: &mut Client, number: u32) -> Result<bool, &'static str> {
+    Ok(client.submit(draw()?) == Ok(request(number)?))
+}
+
+/// Whether a Draw is refused for this reason.
+fn refuses(client: &mut Client, fault: SubmitFault) -> Result<bool, &'static str> {
+    Ok(client.submit(draw()?) == Err(fault))
+}
+
+/// Whether the datagram is taken so, and leaves the client waiting for the same.
+fn passes_over(client: &mut Client, datagram: &[u8], received: Received) -> bool {
+    let pending = client.pending();
+    client.receive(datagram) == received && client.pending() == pending
+}
+
+/// Whether the datagram is accepted as a serial drawn on day 20000 for the request.
+fn accepts(client: &mut Client, datagram: &[u8], request: Request) -> bool {
+    match client.receive(datagram) {
+        Received::Accepted(reply) => {
+            reply.request() == request
+                && matches!(&reply.outcome(), Outcome::Drawn { day: 20_000, .. })
+                && client.pending().is_none()
+        }
+        _ => false,
+    }
+}
+
+#[test]
+fn a_reply_is_accepted_by_its_own_call_alone(rt: HostRuntime) -> Result<(), Fail> {
+    let mut client = Client::new(7, 5, 5)?;
+    assert!(rt; is_unused(&client));
+    assert!(rt; passes_over(&mut client, &REPLY, Received::Idle));
+
+    let request = request(5)?;
+    assert!(rt; takes(&mut client, 5)?);
+    assert!(rt; refuses(&mut client, SubmitFault::Busy)?);
+    assert!(rt; is_sending(&client, request, &REQUEST));
+
+    let passed_over: [(&[u8], Received); 3] = [
+        (&OTHER, Received::NotMine),
+        (b"S1", Received::Malformed(WireFault::Short)),
+        (&REQUEST, Received::Malformed(WireFault::Kind)),
+    ];
+    for (datagram, received) in passed_over {
+        assert!(rt;
+            passes_over(&mut client, datagram, received),
+            "{received:?}"
+        );
+    }
+    assert_eq!(rt; client.pending(), Some(request));
+    assert!(rt; accepts(&mut client, &REPLY, request));
+    assert!(rt; passes_over(&mut client, &REPLY, Received::Idle));
+    assert!(rt; refuses(&mut client, SubmitFault::NumbersSpent)?);
+    Ok(())
+}
+
+/// Whether the client gives up its pending request of this number, and has none then.
+fn gives_up(client: &mut Client, number: u32) -> Result<bool, &'static str> {
+    Ok(client.give_up() == Some(request(number)?) && client.give_up().is_none())
+}
+
+#[test]
+fn a_number_given_up_stays_spent(rt: HostRuntime) -> Result<(), Fail> {
+    let mut client = Client::new(7, 5, 6)?;
+    assert!(rt; takes(&mut client, 5)?);
+    assert!(rt; gives_up(&mut client, 5)?);
+    assert!(rt; passes_over(&mut client, &REPLY, Received::Idle));
+    assert!(rt; takes(&mut client, 6)?);
+    assert!(rt; gives_up(&mut client, 6)?);
+    assert!(rt; refuses(&mut client, SubmitFault::NumbersSpent)?);
+    Ok(())
+}
+
+#[test]
+fn numbers_end_with_the_last(rt: HostRuntime) -> Result<(), Fail> {
+    assert!(rt; matches!(&Client::new(7, 6, 5), Err(BadNumbers)));
+    let mut client = Client::new(7, 4_294_967_295, 4_294_967_295)?;
+    assert!(rt; takes(&mut client, 4_294_967_295)?);
+    assert!(rt; gives_up(&mut client, 4_294_967_295)?);
+    assert!(rt; refuses(&mut client, SubmitFault::NumbersSpent)?);
+    Ok(())
+}

@@ -1,0 +1,50 @@
+//! What several of these tests use: a server over an empty book, a scripted link, and two calls.
+
+use s10_book::{PlainBook, Settings};
+use s10_core::{Country, Service};
+use s10_ends::Server;
+use s10_link::{Peer, Receipt, ScriptLink};
+use s10_wire::Body;
+use std::alloc::{AllocError, Global};
+use std::test::Fail;
+
+/// A port of this machine that the system picks.
+pub const ANY_PORT: Peer = Peer {
+    ip: [127, 0, 0, 1],
+    port: 0,
+};
+
+/// The post's first Grant and its reply: range 1 for customer 7, RA GB 0 to 2.
+pub const FIRST_GRANT: (&'static [u8], &'static [u8]) = (
+    b"S1\x01\x01\0\0\0\0\0\0\0\x01\0\0\0\x07RAGB\0\0\0\0\0\0\0\x02",
+    b"S1\x01\x81\0\0\0\0\0\0\0\x01\0\0\0\x07RAGB\0\0\0\0\0\0\0\x02\0\0\0\0\x01",
+);
+
+/// Customer 7's first Draw and its reply: RA000000005GB, issued on day 20000.
+pub const FIRST_DRAW: (&'static [u8], &'static [u8]) = (
+    b"S1\x01\x02\0\0\0\x07\0\0\0\x01RAGB",
+    b"S1\x01\x82\0\0\0\x07\0\0\0\x01RAGB\0\0\0\x4e\x20RA000000005GB",
+);
+
+/// A Draw of RA GB.
+pub fn draw() -> Result<Body, &'static str> {
+    match (Service::new(*b"RA"), Country::new(*b"GB")) {
+        (Some(service), Some(country)) => Ok(Body::Draw { service, country }),
+        _ => Err("letters"),
+    }
+}
+
+/// A server over an empty book.
+pub fn new_server(alloc: Global, limit: u32) -> Result<Server<PlainBook>, Fail> {
+    let settings = Settings::new(30, limit).ok_or("settings")?;
+    Ok(Server::new(PlainBook::new(alloc, settings)))
+}
+
+/// A link that follows these lists.
+pub fn script(
+    alloc: Global,
+    receipts: &[Receipt],
+    sends: &[bool],
+) -> Result<ScriptLink, AllocError> {
+    ScriptLink::new(alloc, receipts.to_vec(alloc)?, sends.to_vec(alloc)?)
+}

@@ -1,0 +1,29 @@
+//! Tests of the server, the client and the links between them.
+#![tactic(auto)]
+
+#[cfg(test)]
+mod calls;
+#[cfg(test)]
+mod clients;
+#[cfg(test)]
+mod days;
+#[cfg(test)]
+mod failures;
+#[cfg(test)]
+mod fixtures;
+#[cfg(test)]
+mod memory;
+#[cfg(test)]
+mod near_links;
+#[cfg(test)]
+mod ranges;
+#[cfg(test)]
+mod refusals;
+#[cfg(test)]
+mod repeats;
+#[cfg(test)]
+mod scripts;
+#[cfg(test)]
+mod turns;
+#[cfg(test)]
+mod udp_links;

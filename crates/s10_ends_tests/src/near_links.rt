@@ -1,0 +1,48 @@
+use crate::fixtures::{ANY_PORT, FIRST_DRAW, FIRST_GRANT, draw, new_server};
+use s10_book::Book;
+use s10_core::{Country, Serial, Service};
+use s10_ends::{Client, NearLink, UdpLink, call};
+use s10_link::{Link, Peer};
+use s10_wire::{Body, encode_reply};
+use std::test::Fail;
+
+/// A Grant of RA GB 0 to 2 to customer 7.
+fn grant() -> Option<Body> {
+    Some(Body::Grant {
+        holder: 7,
+        service: Service::new(*b"RA")?,
+        country: Country::new(*b"GB")?,
+        first: Serial::new(0)?,
+        last: Serial::new(2)?,
+    })
+}
+
+/// Whether the customer's first call is answered by this datagram.
+fn is_answered<L: Link>(
+    link: &mut L,
+    to: Peer,
+    customer: u32,
+    body: Body,
+    datagram: &[u8],
+) -> Result<bool, Fail> {
+    let mut client = Client::new(customer, 1, 1)?;
+    let reply = call(&mut client, link, to, body, 5)?;
+    Ok(encode_reply(&reply).bytes() == datagram)
+}
+
+#[test]
+fn calls_are_served_over_loopback(rt: HostRuntime) -> Result<(), Fail> {
+    let far = UdpLink::bind(&rt, ANY_PORT, 1_000)?;
+    let server = far.local();
+    let mut link = NearLink {
+        server: new_server(rt.alloc(), 100)?,
+        far,
+        near: UdpLink::bind(&rt, ANY_PORT, 1_000)?,
+        day: 20_000,
+    };
+    let granting = grant().ok_or("grant")?;
+    assert!(rt; is_answered(&mut link, server, 0, granting, FIRST_GRANT.1)?);
+    assert!(rt; is_answered(&mut link, server, 7, draw()?, FIRST_DRAW.1)?);
+    assert_eq!(rt; link.server.book().len(), 2);
+    Ok(())
+}

@@ -1,0 +1,76 @@
+use crate::fixtures::{ANY_PORT, FIRST_DRAW, draw};
+use s10_ends::UdpLink;
+use s10_link::{Link, LinkFault, Packet, Trace};
+use s10_wire::{Frame, Request, encode_request};
+use std::net::Net;
+use std::test::Fail;
+
+/// Whether two unused links stand at two ports of this machine.
+fn are_apart(near: &UdpLink, far: &UdpLink) -> bool {
+    near.local().ip == ANY_PORT.ip
+        && near.local().port != 0
+        && near.local() != far.local()
+        && near.trace() == Trace::new()
+}
+
+/// Whether the frame passes from one link to the other, and comes as this packet.
+fn passes(from: &mut UdpLink, to: &mut UdpLink, frame: &Frame, packet: Packet) -> bool {
+    from.send(to.local(), frame) == Ok(()) && to.receive() == Ok(Some((from.local(), packet)))
+}
+
+/// Whether nothing can be sent to port 0.
+fn is_refused(link: &mut UdpLink, frame: &Frame) -> bool {
+    link.send(ANY_PORT, frame) == Err(LinkFault::Send)
+}
+
+#[test]
+fn datagrams_pass_over_loopback(rt: HostRuntime) -> Result<(), Fail> {
+    let mut near = UdpLink::bind(&rt, ANY_PORT, 1_000)?;
+    let mut far = UdpLink::bind(&rt, ANY_PORT, 1_000)?;
+    assert!(rt; are_apart(&near, &far));
+
+    let frame = encode_request(&Request {
+        customer: 7,
+        number: 1,
+        body: draw()?,
+    });
+    let packet = Packet::new(FIRST_DRAW.0);
+    assert!(rt; passes(&mut near, &mut far, &frame, packet));
+    assert!(rt; passes(&mut far, &mut near, &frame, packet));
+    assert!(rt; is_refused(&mut near, &frame));
+    let trace = Trace {
+        calls: 3,
+        failures: 1,
+        sends: 1,
+        alike: 1,
+        received: 1,
+        taken: Some((far.local(), packet)),
+        given: Some((far.local(), frame)),
+    };
+    assert_eq!(rt; near.trace(), trace);
+    Ok(())
+}
+
+/// Whether a receive that waits so many milliseconds answers that nothing came.
+fn hears_nothing<N: Net>(net: &N, wait_ms: u32) -> Result<bool, LinkFault> {
+    let mut link = UdpLink::bind(net, ANY_PORT, wait_ms)?;
+    Ok(link.receive() == Ok(None) && link.trace().calls == 1 && link.trace().failures == 0)
+}
+
+#[test]
+fn wait_that_ran_out_is_nothing(rt: HostRuntime) -> Result<(), Fail> {
+    for wait in [0, 1, 20] {
+        assert!(rt; hears_nothing(&rt, wait)?, "after {wait} ms");
+    }
+    Ok(())
+}
+
+#[test]
+fn taken_port_cannot_be_bound(rt: HostRuntime) -> Result<(), Fail> {
+    let first = UdpLink::bind(&rt, ANY_PORT, 1)?;
+    match UdpLink::bind(&rt, first.local(), 1) {
+        Err(fault) => assert_eq!(rt; fault, LinkFault::Bind),
+        Ok(_) => panic!(rt; "bound twice"),
+    }
+    Ok(())
+}
