@@ -16,8 +16,6 @@ mod ranges_report;
 mod report_fault;
 mod rules;
 mod settings;
-#[cfg(test)]
-mod tests;
 mod trip_book;
 mod usage;
 

@@ -2,8 +2,8 @@ use Rattle.std.specs.Prelude.{◌==◌}
 use Rattle.s10_book.specs.declared.range.Range.{Range}
 use Rattle.s10_book.specs.History.{ranges_of}
 use Rattle.s10_book.proofs.Ranges.{Contains-answered}
-use Rattle.s10_book.proofs.tests.usage_of_first.Goals as goal
+use Rattle.s10_book_tests.proofs.reads.candidate_of_first.Goals as goal
 
-pub usage-requires : goal.usage-requires
-usage-requires c =
+pub candidate-requires : goal.candidate-requires
+candidate-requires c =
     rw c.range.ensures.same (Contains-answered (λ (r : Range). r.num == 1) (ranges_of c.args.book.now.entries.items) c.range.result c.in-Ok-Some.field-0 c.in-Ok-Some.range c.range.ensures.answer c.in-Ok-Some.is c.in-Ok-Some.field-0-is)

@@ -1,0 +1,13 @@
+//! Tests of books, rules and reports.
+#![tactic(auto)]
+
+#[cfg(test)]
+mod answers;
+#[cfg(test)]
+mod books;
+#[cfg(test)]
+mod failures;
+#[cfg(test)]
+mod reads;
+#[cfg(test)]
+mod reports;

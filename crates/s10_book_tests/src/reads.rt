@@ -1,0 +1,143 @@
+use crate::books::{Asked, NINE_CALLS, book_after, first_unlike, gb, id, ra, request, serial};
+use s10_book::{Book, Candidate, Entry, Issue, PlainBook, Range, Usage};
+use s10_wire::Outcome;
+use std::test::Fail;
+
+/// The range of the opening.
+fn first_range() -> Result<Range, &'static str> {
+    Ok(Range {
+        num: 1,
+        holder: 7,
+        service: ra()?,
+        country: gb()?,
+        first: serial(0)?,
+        last: serial(2)?,
+    })
+}
+
+fn issue(day: u32, voided: bool, number: u32) -> Issue {
+    Issue {
+        day,
+        voided,
+        customer: 7,
+        number,
+    }
+}
+
+/// The sixth call: a Draw of the last serial.
+fn sixth() -> Result<Entry, &'static str> {
+    Ok(Entry {
+        request: request(7, 5, Asked::Draw)?,
+        day: 20000,
+        outcome: Outcome::Drawn {
+            day: 20000,
+            id: id(2)?,
+        },
+    })
+}
+
+/// The usage of the book's first range: used, voided and free.
+fn usage_of_first(book: &mut PlainBook, day: u32) -> Option<Usage> {
+    match book.range(1) {
+        Ok(Some(range)) => book.usage(&range, day).ok(),
+        _ => None,
+    }
+}
+
+/// What the book's first range gives next.
+fn candidate_of_first(book: &mut PlainBook) -> Option<Candidate> {
+    match book.range(1) {
+        Ok(Some(range)) => book.candidate(&range).ok(),
+        _ => None,
+    }
+}
+
+/// Whether the first range is used so on a day.
+fn is_used(book: &mut PlainBook, day: u32, used: u32, voided: u32, free: u32) -> bool {
+    usage_of_first(book, day) == Some(Usage { used, voided, free })
+}
+
+/// Whether serial 1 was issued last so.
+fn was_last_issued(book: &mut PlainBook, issue: Issue) -> Result<bool, &'static str> {
+    Ok(book.last_issue(&id(1)?) == Ok(Some(issue)))
+}
+
+/// Whether the call of customer and number is this.
+fn finds(book: &mut PlainBook, customer: u32, number: u32, entry: Option<Entry>) -> bool {
+    book.find(customer, number) == Ok(entry)
+}
+
+/// Whether the call that arrived at a place is this.
+fn holds(book: &mut PlainBook, at: u32, entry: Option<Entry>) -> bool {
+    book.entry(at) == Ok(entry)
+}
+
+/// Whether range 1 is the first, there is no other, and customer 7 holds it alone.
+fn has_one_range(book: &mut PlainBook) -> Result<bool, &'static str> {
+    let range = first_range()?;
+    Ok(
+        book.range(1) == Ok(Some(range))
+            && book.range(2) == Ok(None)
+            && book.next_range(7, ra()?, gb()?, 0) == Ok(Some(range))
+            && book.next_range(7, ra()?, gb()?, 1) == Ok(None),
+    )
+}
+
+/// Whether the range found over these serials is this.
+fn has_over(
+    book: &mut PlainBook,
+    first: u32,
+    last: u32,
+    range: Option<Range>,
+) -> Result<bool, &'static str> {
+    Ok(book.covering(ra()?, gb()?, serial(first)?, serial(last)?) == Ok(range))
+}
+
+/// Whether the first range gives this serial next, which was issued last so.
+fn gives_next(book: &mut PlainBook, value: u32, issue: Issue) -> Result<bool, &'static str> {
+    let candidate = Candidate {
+        serial: serial(value)?,
+        issue: Some(issue),
+    };
+    Ok(candidate_of_first(book) == Some(candidate))
+}
+
+/// Whether the book is that of nine calls, the last on day 20030.
+fn is_of_nine_calls(book: &PlainBook) -> bool {
+    let settings = book.settings();
+    book.len() == 9 && book.day() == 20030 && settings.interval() == 30 && settings.limit() == 100
+}
+
+#[test]
+fn reads_answer_from_the_kept_calls(rt: HostRuntime) -> Result<(), Fail> {
+    let calls = &NINE_CALLS[..];
+    let mut book = book_after(&rt, "six calls", 100, &calls[..6])?;
+    assert!(rt; was_last_issued(&mut book, issue(20000, true, 2))?);
+    assert!(rt; is_used(&mut book, 20000, 3, 1, 0));
+    assert_eq!(rt; first_unlike(&mut book, &calls[6..])?, None);
+    for (day, free) in [(0, 1), (20030, 1), (20059, 1), (20060, 3)] {
+        assert!(rt; is_used(&mut book, day, 3, 0, free), "on {day}");
+    }
+    assert!(rt; is_of_nine_calls(&book));
+    let sixth = sixth()?;
+    for (customer, number, entry) in [(7, 5, Some(sixth)), (5, 7, None)] {
+        assert!(rt;
+            finds(&mut book, customer, number, entry),
+            "number {number}"
+        );
+    }
+    for (at, entry) in [(6, Some(sixth)), (0, None), (10, None)] {
+        assert!(rt; holds(&mut book, at, entry), "at {at}");
+    }
+    assert!(rt; has_one_range(&mut book)?);
+    let range = first_range()?;
+    for (first, last, found) in [(2, 5, Some(range)), (3, 5, None), (2, 1, None)] {
+        assert!(rt;
+            has_over(&mut book, first, last, found)?,
+            "{first} to {last}"
+        );
+    }
+    assert!(rt; was_last_issued(&mut book, issue(20030, false, 8))?);
+    assert!(rt; gives_next(&mut book, 2, issue(20000, false, 5))?);
+    Ok(())
+}

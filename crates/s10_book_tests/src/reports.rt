@@ -1,0 +1,155 @@
+//! The two reports.
+
+use crate::books::{NINE_CALLS, OPENING, book_after};
+use s10_book::{Book, BookFault, PlainBook, ReportFault, TripBook, write_issues, write_ranges};
+use std::alloc::Global;
+use std::io;
+use std::io::Write;
+use std::process::Abort;
+use std::test::Fail;
+
+const NO_RANGES: &[u8] = b"range customer service country first last used voided free\n";
+
+const NO_ISSUES: &[u8] = b"arrival day customer number identifier state\n";
+
+const SIX_CALLS_RANGES: &[u8] = b"range customer service country first last used voided free\n\
+1 7 RA GB 00000000 00000002 3 1 0\n";
+
+const SIX_CALLS_ISSUES: &[u8] = b"arrival day customer number identifier state\n\
+2 20000 7 1 RA000000005GB issued\n\
+3 20000 7 2 RA000000014GB voided\n\
+6 20000 7 5 RA000000028GB issued\n";
+
+const RANGES: &[u8] = b"range customer service country first last used voided free\n\
+1 7 RA GB 00000000 00000002 3 0 1\n";
+
+const ISSUES: &[u8] = b"arrival day customer number identifier state\n\
+2 20000 7 1 RA000000005GB reissued\n\
+3 20000 7 2 RA000000014GB reissued\n\
+6 20000 7 5 RA000000028GB issued\n\
+8 20030 7 7 RA000000005GB issued\n\
+9 20030 7 8 RA000000014GB issued\n";
+
+/// A book of one range of three serials, each drawn, two of them drawn again on the thirtieth day.
+fn book_of_nine_calls<R: Abort + AllocGlobal>(rt: &R) -> Result<PlainBook, Fail> {
+    book_after(rt, "nine calls", 100, &NINE_CALLS)
+}
+
+/// Whether this is the report of the book's ranges on a day.
+fn reports_ranges<B: Book>(alloc: Global, book: &mut B, day: u32, report: &[u8]) -> bool {
+    let mut out = Vec::new(alloc);
+    write_ranges(book, day, &mut out) == Ok(()) && out.as_slice() == report
+}
+
+/// Whether this is the report of the book's issues.
+fn reports_issues<B: Book>(alloc: Global, book: &mut B, report: &[u8]) -> bool {
+    let mut out = Vec::new(alloc);
+    write_issues(book, &mut out) == Ok(()) && out.as_slice() == report
+}
+
+#[test]
+fn reports_are_as_worked_by_hand(rt: HostRuntime) -> Result<(), Fail> {
+    let mut book = book_of_nine_calls(&rt)?;
+    assert!(rt; reports_ranges(rt.alloc(), &mut book, 20030, RANGES));
+    assert!(rt; reports_issues(rt.alloc(), &mut book, ISSUES));
+    Ok(())
+}
+
+#[test]
+fn a_voided_identifier_is_counted_and_named(rt: HostRuntime) -> Result<(), Fail> {
+    let mut book = book_after(&rt, "six calls", 100, &NINE_CALLS[..6])?;
+    assert!(rt; reports_ranges(rt.alloc(), &mut book, 20000, SIX_CALLS_RANGES));
+    assert!(rt; reports_issues(rt.alloc(), &mut book, SIX_CALLS_ISSUES));
+    Ok(())
+}
+
+#[test]
+fn an_empty_ledger_has_headers_alone(rt: HostRuntime) -> Result<(), Fail> {
+    let mut book = book_after(&rt, "empty", 100, &[])?;
+    assert!(rt; reports_ranges(rt.alloc(), &mut book, 20000, NO_RANGES));
+    let mut book = book_after(&rt, "one grant", 100, &[OPENING])?;
+    assert!(rt; reports_issues(rt.alloc(), &mut book, NO_ISSUES));
+    Ok(())
+}
+
+/// Whether a text ends where a line of the whole ends.
+fn is_of_whole_lines(text: &[u8], whole: &[u8]) -> bool {
+    whole.starts_with(text) && (text.is_empty() || text.ends_with(b"\n"))
+}
+
+/// Whether a report of issues stops at this call of the book, after whole lines.
+fn stops_in_issues(alloc: Global, book: PlainBook, at: u64) -> bool {
+    let mut book = TripBook::new(book, at);
+    let mut out = Vec::new(alloc);
+    write_issues(&mut book, &mut out) == Err(ReportFault::Book(BookFault::Store))
+        && is_of_whole_lines(out.as_slice(), ISSUES)
+}
+
+/// Whether a report of ranges stops at this call of the book, after whole lines.
+fn stops_in_ranges(alloc: Global, book: PlainBook, at: u64) -> bool {
+    let mut book = TripBook::new(book, at);
+    let mut out = Vec::new(alloc);
+    write_ranges(&mut book, 20030, &mut out) == Err(ReportFault::Book(BookFault::Store))
+        && is_of_whole_lines(out.as_slice(), RANGES)
+}
+
+#[test]
+fn a_book_that_fails_leaves_whole_lines(rt: HostRuntime) -> Result<(), Fail> {
+    for at in 0..14u64 {
+        let book = book_of_nine_calls(&rt)?;
+        assert!(rt; stops_in_issues(rt.alloc(), book, at), "at {at}");
+    }
+    for at in 0..3u64 {
+        let book = book_of_nine_calls(&rt)?;
+        assert!(rt; stops_in_ranges(rt.alloc(), book, at), "at {at}");
+    }
+    Ok(())
+}
+
+/// A writer with room for so many bytes.
+#[derive(Drop)]
+struct Narrow {
+    room: usize,
+}
+
+impl Write for Narrow {
+    fn write(&mut self, text: &[u8]) -> io::Result<usize> {
+        if text.len() > self.room {
+            return Err(io::Error::from(io::ErrorKind::Other));
+        }
+        self.room -= text.len();
+        Ok(text.len())
+    }
+
+    fn flush(&mut self) -> io::Result<()> {
+        Ok(())
+    }
+}
+
+/// Whether issues don't fit into so many bytes.
+fn is_too_narrow_for_issues(book: &mut PlainBook, room: usize) -> bool {
+    write_issues(book, &mut Narrow { room }) == Err(ReportFault::Write)
+}
+
+/// Whether ranges don't fit into so many bytes.
+fn is_too_narrow_for_ranges(book: &mut PlainBook, room: usize) -> bool {
+    write_ranges(book, 20030, &mut Narrow { room }) == Err(ReportFault::Write)
+}
+
+#[test]
+fn a_writer_that_fails_is_a_fault(rt: HostRuntime) -> Result<(), Fail> {
+    let mut book = book_of_nine_calls(&rt)?;
+    for room in 0..ISSUES.len() {
+        assert!(rt; is_too_narrow_for_issues(&mut book, room), "{room} bytes");
+    }
+    for room in 0..RANGES.len() {
+        assert!(rt; is_too_narrow_for_ranges(&mut book, room), "{room} bytes");
+    }
+    for (fault, text) in [
+        (ReportFault::Book(BookFault::Memory), "book: memory"),
+        (ReportFault::Write, "the report could not be written"),
+    ] {
+        assert_eq!(rt; format!(in rt.alloc(); "{fault}")?.as_str(), text);
+    }
+    Ok(())
+}
