@@ -29,6 +29,6 @@ refuse_each() {
 refuse_each s10_ends_tests \
     memory::a_refused_request_for_memory_leaves_a_run_of_the_other_deliveries \
     memory::a_run_with_ample_memory_faults_nothing
-refuse_each s10_world \
-    tests::a_refused_request_for_memory_leaves_a_run_of_the_other_events \
-    tests::each_call_is_executed_once_and_answered_to_its_own_client
+refuse_each s10_world_tests \
+    memory::a_refused_request_for_memory_leaves_a_run_of_the_other_events \
+    worlds::each_call_is_executed_once_and_answered_to_its_own_client

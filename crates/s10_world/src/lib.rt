@@ -11,6 +11,3 @@ pub use event::Event;
 pub use laws::reachable_worlds;
 pub use world::World;
 pub use world_fault::WorldFault;
-
-#[cfg(test)]
-mod tests;

@@ -1,0 +1,9 @@
+//! Tests of a server and its clients over a network.
+#![tactic(auto)]
+
+#[cfg(test)]
+mod memory;
+#[cfg(test)]
+mod story;
+#[cfg(test)]
+mod worlds;
