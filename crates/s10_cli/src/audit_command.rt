@@ -1,4 +1,5 @@
 //! The subcommand `audit`.
+use crate::builders::{named, with};
 use crate::job::Job;
 use crate::options::ledger_option;
 use clap::{ArgMatches, Command};
@@ -6,10 +7,13 @@ use std::alloc::{AllocError, Global};
 
 /// What `audit` may say.
 pub fn audit_command<'a>(alloc: Global) -> Result<Command<'a>, AllocError> {
-    Command::new(alloc, "audit")
-        .about("Check the ledger in a file against the rules, from its first request to its last")
-        .after_help(AUDIT_EXAMPLES)
-        .arg(ledger_option(alloc))
+    let command = named(
+        alloc,
+        "audit",
+        "Check the ledger in a file against the rules, from its first request to its last",
+        AUDIT_EXAMPLES,
+    );
+    with(command, ledger_option(alloc))
 }
 
 const AUDIT_EXAMPLES: &str = "\

@@ -8,10 +8,11 @@ ghost use Rattle.s10_core.specs.TextFault.{IsFirstRefusal};
 ghost use Rattle.s10_cli.specs.Words.{text_fault_words};
 ghost use Rattle.s10_cli.specs.Lines.{text_read, valid_line, refused_line};
 
+use crate::builders::{flag, named, with, word};
 use crate::refusals::refuse_text;
 use crate::status::Status;
 use crate::words::group_word;
-use clap::{Arg, ArgAction, Command};
+use clap::Command;
 use s10_core::{Id, TextFault};
 use s10_wire::{WriteFault, write_text, write_word};
 use std::alloc::{AllocError, Global};
@@ -19,19 +20,29 @@ use std::io::Write;
 
 /// What `check` may say.
 pub fn check_command<'a>(alloc: Global) -> Result<Command<'a>, AllocError> {
-    let label = Arg::new(alloc, "label")
-        .long("label")
-        .action(ArgAction::SetTrue)
-        .help("Also read spaces and small letters, as they stand on a label");
-    let text = Arg::new(alloc, "text")
-        .value_name("TEXT")
-        .required(true)
-        .help("The identifier: 13 characters, as RA473124829US");
-    Command::new(alloc, "check")
-        .about("Check an identifier, and name the group of its service indicator")
-        .after_help(CHECK_EXAMPLES)
-        .arg(label)?
-        .arg(text)
+    let command = named(
+        alloc,
+        "check",
+        "Check an identifier, and name the group of its service indicator",
+        CHECK_EXAMPLES,
+    );
+    let command = with(
+        command,
+        flag(
+            alloc,
+            "label",
+            "Also read spaces and small letters, as they stand on a label",
+        ),
+    )?;
+    with(
+        command,
+        word(
+            alloc,
+            "text",
+            "TEXT",
+            "The identifier: 13 characters, as RA473124829US",
+        ),
+    )
 }
 
 const CHECK_EXAMPLES: &str = "\

@@ -1,5 +1,6 @@
 //! What a command line may say.
 use crate::audit_command::audit_command;
+use crate::builders::{named, with_subcommand};
 use crate::check::check_command;
 use crate::create_command::create_command;
 use crate::draw_command::draw_command;
@@ -23,23 +24,26 @@ clock, memory, input or output failed. `s10 help COMMAND` explains a command, wi
 
 /// The command with all its subcommands.
 pub fn command<'a>(alloc: Global) -> Result<Command<'a>, AllocError> {
-    Command::new(alloc, "s10")
+    let command = program(alloc);
+    let command = with_subcommand(command, check_command(alloc)?)?;
+    let command = with_subcommand(command, make_command(alloc)?)?;
+    let command = with_subcommand(command, show_command(alloc)?)?;
+    let command = with_subcommand(command, replay_command(alloc)?)?;
+    let command = with_subcommand(command, create_command(alloc)?)?;
+    let command = with_subcommand(command, serve_command(alloc)?)?;
+    let command = with_subcommand(command, grant_command(alloc)?)?;
+    let command = with_subcommand(command, draw_command(alloc)?)?;
+    let command = with_subcommand(command, void_command(alloc)?)?;
+    let command = with_subcommand(command, query_command(alloc)?)?;
+    let command = with_subcommand(command, report_command(alloc)?)?;
+    let command = with_subcommand(command, audit_command(alloc)?)?;
+    with_subcommand(command, loop_command(alloc)?)
+}
+
+fn program<'a>(alloc: Global) -> Command<'a> {
+    let about = "Issue S10 identifiers of postal items, as RA473124829US, and check them";
+    named(alloc, "s10", about, STATUSES)
         .version(VERSION)
-        .about("Issue S10 identifiers of postal items, as RA473124829US, and check them")
-        .after_help(STATUSES)
         .subcommand_required(true)
         .arg_required_else_help(true)
-        .subcommand(check_command(alloc)?)?
-        .subcommand(make_command(alloc)?)?
-        .subcommand(show_command(alloc)?)?
-        .subcommand(replay_command(alloc)?)?
-        .subcommand(create_command(alloc)?)?
-        .subcommand(serve_command(alloc)?)?
-        .subcommand(grant_command(alloc)?)?
-        .subcommand(draw_command(alloc)?)?
-        .subcommand(void_command(alloc)?)?
-        .subcommand(query_command(alloc)?)?
-        .subcommand(report_command(alloc)?)?
-        .subcommand(audit_command(alloc)?)?
-        .subcommand(loop_command(alloc)?)
 }

@@ -1,25 +1,27 @@
 //! The subcommand `draw`.
 use crate::body_words::BodyWords;
+use crate::builders::{named, with};
 use crate::job::Job;
 use crate::options::{
-    country_option, customer_option, request_option, service_option, to_option, tries_option,
+    asked, country_option, customer_option, request_option, service_option, to_option, tries_option,
 };
-use crate::question::Question;
-use crate::tries::Tries;
 use clap::{ArgMatches, Command};
 use std::alloc::{AllocError, Global};
 
 /// What `draw` may say.
 pub fn draw_command<'a>(alloc: Global) -> Result<Command<'a>, AllocError> {
-    Command::new(alloc, "draw")
-        .about("Ask a server for the next identifier of a service and a country")
-        .after_help(DRAW_EXAMPLES)
-        .arg(to_option(alloc))?
-        .arg(customer_option(alloc))?
-        .arg(request_option(alloc))?
-        .arg(service_option(alloc))?
-        .arg(country_option(alloc))?
-        .arg(tries_option(alloc))
+    let command = named(
+        alloc,
+        "draw",
+        "Ask a server for the next identifier of a service and a country",
+        DRAW_EXAMPLES,
+    );
+    let command = with(command, to_option(alloc))?;
+    let command = with(command, customer_option(alloc))?;
+    let command = with(command, request_option(alloc))?;
+    let command = with(command, service_option(alloc))?;
+    let command = with(command, country_option(alloc))?;
+    with(command, tries_option(alloc))
 }
 
 const DRAW_EXAMPLES: &str = "\
@@ -40,11 +42,5 @@ pub fn draw_job<'a>(found: &ArgMatches<'a>) -> Option<Job<'a>> {
         service: found.get_str("service")?,
         country: found.get_str("country")?,
     };
-    Some(Job::Ask(Question {
-        to: found.get_str("to")?,
-        customer: found.get_one::<u32>("customer")?,
-        number: found.get_one::<u32>("number")?,
-        body,
-        tries: Tries::new(found.get_one::<u32>("tries")?)?,
-    }))
+    asked(found, found.get_one::<u32>("customer")?, body)
 }

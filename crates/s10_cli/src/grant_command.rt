@@ -1,12 +1,10 @@
 //! The subcommand `grant`.
 use crate::body_words::BodyWords;
+use crate::builders::{named, number_option, serial_option, with};
 use crate::job::Job;
 use crate::options::{
-    country_option, number_option, request_option, serial_option, service_option, to_option,
-    tries_option,
+    asked, country_option, request_option, service_option, to_option, tries_option,
 };
-use crate::question::Question;
-use crate::tries::Tries;
 use clap::{ArgMatches, Command};
 use s10_core::Serial;
 use std::alloc::{AllocError, Global};
@@ -16,20 +14,29 @@ const POST: u32 = 0;
 
 /// What `grant` may say.
 pub fn grant_command<'a>(alloc: Global) -> Result<Command<'a>, AllocError> {
-    let holder = number_option(alloc, "holder", "The number of the customer to grant to");
-    let first = serial_option(alloc, "first", "The first serial number, 0 to 99999999");
-    let last = serial_option(alloc, "last", "The last serial number, 0 to 99999999");
-    Command::new(alloc, "grant")
-        .about("Ask a server, as the post, to grant a range of serial numbers to a customer")
-        .after_help(GRANT_EXAMPLES)
-        .arg(to_option(alloc))?
-        .arg(request_option(alloc))?
-        .arg(holder)?
-        .arg(service_option(alloc))?
-        .arg(country_option(alloc))?
-        .arg(first)?
-        .arg(last)?
-        .arg(tries_option(alloc))
+    let command = named(
+        alloc,
+        "grant",
+        "Ask a server, as the post, to grant a range of serial numbers to a customer",
+        GRANT_EXAMPLES,
+    );
+    let command = with(command, to_option(alloc))?;
+    let command = with(command, request_option(alloc))?;
+    let command = with(
+        command,
+        number_option(alloc, "holder", "The number of the customer to grant to"),
+    )?;
+    let command = with(command, service_option(alloc))?;
+    let command = with(command, country_option(alloc))?;
+    let command = with(
+        command,
+        serial_option(alloc, "first", "The first serial number, 0 to 99999999"),
+    )?;
+    let command = with(
+        command,
+        serial_option(alloc, "last", "The last serial number, 0 to 99999999"),
+    )?;
+    with(command, tries_option(alloc))
 }
 
 const GRANT_EXAMPLES: &str = "\
@@ -53,11 +60,5 @@ pub fn grant_job<'a>(found: &ArgMatches<'a>) -> Option<Job<'a>> {
         first: Serial::new(found.get_one::<u32>("first")?)?,
         last: Serial::new(found.get_one::<u32>("last")?)?,
     };
-    Some(Job::Ask(Question {
-        to: found.get_str("to")?,
-        customer: POST,
-        number: found.get_one::<u32>("number")?,
-        body,
-        tries: Tries::new(found.get_one::<u32>("tries")?)?,
-    }))
+    asked(found, POST, body)
 }

@@ -6,6 +6,7 @@ mod asking;
 mod audit;
 mod audit_command;
 mod body_words;
+mod builders;
 mod check;
 mod command;
 mod create_command;

@@ -2,12 +2,12 @@
 use crate::check::check;
 use crate::command::command;
 use crate::make::make;
+use crate::options::settings_of;
 use crate::replay_command::run_replay;
 use crate::show::show;
 use crate::status::Status;
 use clap::error::ErrorKind;
 use clap::{ArgMatches, Error};
-use s10_book::Settings;
 use s10_wire::{WriteFault, write_text};
 use std::alloc::Global;
 use std::convert::AsStr;
@@ -70,12 +70,6 @@ fn run_subcommand<I: Read, O: Write>(
         }
         _ => None,
     }
-}
-
-fn settings_of(found: &ArgMatches<'_>) -> Option<Settings> {
-    let interval = found.get_one::<u32>("interval")?;
-    let limit = found.get_one::<u32>("limit")?;
-    Settings::new(interval, limit)
 }
 
 // The value of a required argument, which a parsed command line has.

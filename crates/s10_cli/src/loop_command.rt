@@ -1,4 +1,5 @@
 //! The subcommand `loop`.
+use crate::builders::{named, with};
 use crate::job::Job;
 use crate::options::day_option;
 use clap::{ArgMatches, Command};
@@ -6,11 +7,16 @@ use std::alloc::{AllocError, Global};
 
 /// What `loop` may say.
 pub fn loop_command<'a>(alloc: Global) -> Result<Command<'a>, AllocError> {
-    let day = day_option(alloc, "The day of the requests; by default the clock's day");
-    Command::new(alloc, "loop")
-        .about("Show a server and its customers on this machine, over real sockets")
-        .after_help(LOOP_EXAMPLES)
-        .arg(day)
+    let command = named(
+        alloc,
+        "loop",
+        "Show a server and its customers on this machine, over real sockets",
+        LOOP_EXAMPLES,
+    );
+    with(
+        command,
+        day_option(alloc, "The day of the requests; by default the clock's day"),
+    )
 }
 
 const LOOP_EXAMPLES: &str = "\

@@ -4,10 +4,11 @@ ghost use Rattle.std.specs.Io.KnownBytes.{Appends};
 ghost use Rattle.s10_core.specs.Serial.{AreEightDigits};
 ghost use Rattle.s10_cli.specs.Lines.{AreTwoCapitals, made_line, refused_line};
 
+use crate::builders::{named, with, word};
 use crate::parts::{read_country, read_service};
 use crate::refusals::refuse;
 use crate::status::Status;
-use clap::{Arg, Command};
+use clap::Command;
 use s10_core::{Id, Serial};
 use s10_wire::{WriteFault, write_text};
 use std::alloc::{AllocError, Global};
@@ -15,24 +16,39 @@ use std::io::Write;
 
 /// What `make` may say.
 pub fn make_command<'a>(alloc: Global) -> Result<Command<'a>, AllocError> {
-    let service = Arg::new(alloc, "service")
-        .value_name("SERVICE")
-        .required(true)
-        .help("The service indicator: two capital letters, as RA");
-    let serial = Arg::new(alloc, "serial")
-        .value_name("SERIAL")
-        .required(true)
-        .help("The serial number: eight digits, 00000000 to 99999999");
-    let country = Arg::new(alloc, "country")
-        .value_name("COUNTRY")
-        .required(true)
-        .help("The country code: two capital letters, as GB");
-    Command::new(alloc, "make")
-        .about("Write the identifier of these parts, with its check digit")
-        .after_help(MAKE_EXAMPLES)
-        .arg(service)?
-        .arg(serial)?
-        .arg(country)
+    let command = named(
+        alloc,
+        "make",
+        "Write the identifier of these parts, with its check digit",
+        MAKE_EXAMPLES,
+    );
+    let command = with(
+        command,
+        word(
+            alloc,
+            "service",
+            "SERVICE",
+            "The service indicator: two capital letters, as RA",
+        ),
+    )?;
+    let command = with(
+        command,
+        word(
+            alloc,
+            "serial",
+            "SERIAL",
+            "The serial number: eight digits, 00000000 to 99999999",
+        ),
+    )?;
+    with(
+        command,
+        word(
+            alloc,
+            "country",
+            "COUNTRY",
+            "The country code: two capital letters, as GB",
+        ),
+    )
 }
 
 const MAKE_EXAMPLES: &str = "\

@@ -1,5 +1,11 @@
 //! Options that several subcommands have.
-use clap::{Arg, value_parser};
+use crate::body_words::BodyWords;
+use crate::builders::{number_option, option, text_option};
+use crate::job::Job;
+use crate::question::Question;
+use crate::tries::Tries;
+use clap::{Arg, ArgMatches, value_parser};
+use s10_book::Settings;
 use std::alloc::Global;
 
 /// The file of a ledger.
@@ -10,6 +16,36 @@ pub fn ledger_option<'a>(alloc: Global) -> Arg<'a> {
         "FILE",
         "The file that keeps the ledger: an SQLite database",
     )
+}
+
+/// The reuse interval of a ledger.
+pub fn interval_option<'a>(alloc: Global) -> Arg<'a> {
+    option(
+        alloc,
+        "interval",
+        "DAYS",
+        "The reuse interval: days before a serial number is issued again, 1 to 3650",
+    )
+    .value_parser(value_parser!(u32).range(1..=3650))
+}
+
+/// The limit of a ledger.
+pub fn limit_option<'a>(alloc: Global) -> Arg<'a> {
+    option(
+        alloc,
+        "limit",
+        "N",
+        "How many requests the ledger keeps at most, 1 to 1000000000",
+    )
+    .value_parser(value_parser!(u32).range(1..=1_000_000_000))
+}
+
+/// The settings of a ledger, which a parsed command line with both options has within their
+/// limits.
+pub fn settings_of(found: &ArgMatches<'_>) -> Option<Settings> {
+    let interval = found.get_one::<u32>("interval")?;
+    let limit = found.get_one::<u32>("limit")?;
+    Settings::new(interval, limit)
 }
 
 /// The address of the server that is asked.
@@ -72,50 +108,28 @@ pub fn id_option<'a>(alloc: Global) -> Arg<'a> {
 
 /// How often a call is tried.
 pub fn tries_option<'a>(alloc: Global) -> Arg<'a> {
-    Arg::new(alloc, "tries")
-        .long("tries")
-        .value_name("N")
-        .value_parser(value_parser!(u32).range(1..=100))
-        .default_value("5")
-        .help(
-            "How often the request is sent at most, 1 to 100; each time a reply is awaited for a second",
-        )
+    option(
+        alloc,
+        "tries",
+        "N",
+        "How often the request is sent at most, 1 to 100; each time a reply is awaited for a second",
+    )
+    .value_parser(value_parser!(u32).range(1..=100))
+    .default_value("5")
+}
+
+/// The request of a customer, with the server, the number and the tries that the words name.
+pub fn asked<'a>(found: &ArgMatches<'a>, customer: u32, body: BodyWords<'a>) -> Option<Job<'a>> {
+    Some(Job::Ask(Question {
+        to: found.get_str("to")?,
+        customer,
+        number: found.get_one::<u32>("number")?,
+        body,
+        tries: Tries::new(found.get_one::<u32>("tries")?)?,
+    }))
 }
 
 /// A day, which the clock gives where it is left out.
 pub fn day_option<'a>(alloc: Global, help: &'a str) -> Arg<'a> {
-    Arg::new(alloc, "day")
-        .long("day")
-        .value_name("D")
-        .value_parser(value_parser!(u32))
-        .help(help)
-}
-
-/// A number that has to be given.
-pub fn number_option<'a>(alloc: Global, name: &'a str, help: &'a str) -> Arg<'a> {
-    Arg::new(alloc, name)
-        .long(name)
-        .value_name("N")
-        .required(true)
-        .value_parser(value_parser!(u32))
-        .help(help)
-}
-
-/// A serial number that has to be given.
-pub fn serial_option<'a>(alloc: Global, name: &'a str, help: &'a str) -> Arg<'a> {
-    Arg::new(alloc, name)
-        .long(name)
-        .value_name("N")
-        .required(true)
-        .value_parser(value_parser!(u32).range(0..=99_999_999))
-        .help(help)
-}
-
-/// A text that has to be given.
-pub fn text_option<'a>(alloc: Global, name: &'a str, value: &'a str, help: &'a str) -> Arg<'a> {
-    Arg::new(alloc, name)
-        .long(name)
-        .value_name(value)
-        .required(true)
-        .help(help)
+    option(alloc, "day", "D", help).value_parser(value_parser!(u32))
 }

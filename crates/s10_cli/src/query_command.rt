@@ -1,22 +1,24 @@
 //! The subcommand `query`.
 use crate::body_words::BodyWords;
+use crate::builders::{named, with};
 use crate::job::Job;
-use crate::options::{customer_option, id_option, request_option, to_option, tries_option};
-use crate::question::Question;
-use crate::tries::Tries;
+use crate::options::{asked, customer_option, id_option, request_option, to_option, tries_option};
 use clap::{ArgMatches, Command};
 use std::alloc::{AllocError, Global};
 
 /// What `query` may say.
 pub fn query_command<'a>(alloc: Global) -> Result<Command<'a>, AllocError> {
-    Command::new(alloc, "query")
-        .about("Ask a server what became of an identifier")
-        .after_help(QUERY_EXAMPLES)
-        .arg(to_option(alloc))?
-        .arg(customer_option(alloc))?
-        .arg(request_option(alloc))?
-        .arg(id_option(alloc))?
-        .arg(tries_option(alloc))
+    let command = named(
+        alloc,
+        "query",
+        "Ask a server what became of an identifier",
+        QUERY_EXAMPLES,
+    );
+    let command = with(command, to_option(alloc))?;
+    let command = with(command, customer_option(alloc))?;
+    let command = with(command, request_option(alloc))?;
+    let command = with(command, id_option(alloc))?;
+    with(command, tries_option(alloc))
 }
 
 const QUERY_EXAMPLES: &str = "\
@@ -37,11 +39,5 @@ pub fn query_job<'a>(found: &ArgMatches<'a>) -> Option<Job<'a>> {
     let body = BodyWords::Query {
         id: found.get_str("id")?,
     };
-    Some(Job::Ask(Question {
-        to: found.get_str("to")?,
-        customer: found.get_one::<u32>("customer")?,
-        number: found.get_one::<u32>("number")?,
-        body,
-        tries: Tries::new(found.get_one::<u32>("tries")?)?,
-    }))
+    asked(found, found.get_one::<u32>("customer")?, body)
 }

@@ -3,10 +3,12 @@ ghost use Rattle.std.specs.Prelude.{◌≡◌, IfOk};
 ghost use Rattle.std.specs.Io.KnownBytes.{Appends};
 ghost use Rattle.s10_cli.specs.Words.{replay_fault_line, replay_fault_status};
 
+use crate::builders::{named, with};
+use crate::options::{interval_option, limit_option};
 use crate::replay_fault::ReplayFault;
 use crate::replay_input::replay;
 use crate::status::Status;
-use clap::{Arg, Command, value_parser};
+use clap::Command;
 use s10_book::Settings;
 use s10_wire::{WriteFault, write_decimal, write_text, write_word};
 use std::alloc::{AllocError, Global};
@@ -14,23 +16,14 @@ use std::io::{Read, Write};
 
 /// What `replay` may say.
 pub fn replay_command<'a>(alloc: Global) -> Result<Command<'a>, AllocError> {
-    let interval = Arg::new(alloc, "interval")
-        .long("interval")
-        .value_name("DAYS")
-        .value_parser(value_parser!(u32).range(1..=3650))
-        .default_value("30")
-        .help("The reuse interval: days before a serial number is issued again, 1 to 3650");
-    let limit = Arg::new(alloc, "limit")
-        .long("limit")
-        .value_name("N")
-        .value_parser(value_parser!(u32).range(1..=1_000_000_000))
-        .default_value("1000000")
-        .help("How many requests the ledger keeps at most, 1 to 1000000000");
-    Command::new(alloc, "replay")
-        .about("Answer the datagrams of standard input, with an empty ledger to begin with")
-        .after_help(REPLAY_EXAMPLES)
-        .arg(interval)?
-        .arg(limit)
+    let command = named(
+        alloc,
+        "replay",
+        "Answer the datagrams of standard input, with an empty ledger to begin with",
+        REPLAY_EXAMPLES,
+    );
+    let command = with(command, interval_option(alloc).default_value("30"))?;
+    with(command, limit_option(alloc).default_value("1000000"))
 }
 
 const REPLAY_EXAMPLES: &str = "\

@@ -1,25 +1,34 @@
 //! The subcommand `report`.
+use crate::builders::{flag, named, with};
 use crate::job::Job;
 use crate::options::{day_option, ledger_option};
-use clap::{Arg, ArgAction, ArgMatches, Command};
+use clap::{ArgMatches, Command};
 use std::alloc::{AllocError, Global};
 
 /// What `report` may say.
 pub fn report_command<'a>(alloc: Global) -> Result<Command<'a>, AllocError> {
-    let issues = Arg::new(alloc, "issues")
-        .long("issues")
-        .action(ArgAction::SetTrue)
-        .help("Report the identifiers issued instead of the ranges");
-    let day = day_option(
+    let command = named(
         alloc,
-        "The day on which serial numbers are counted as free; by default the clock's day",
+        "report",
+        "Report the ranges of the ledger in a file, or the identifiers issued",
+        REPORT_EXAMPLES,
     );
-    Command::new(alloc, "report")
-        .about("Report the ranges of the ledger in a file, or the identifiers issued")
-        .after_help(REPORT_EXAMPLES)
-        .arg(ledger_option(alloc))?
-        .arg(issues)?
-        .arg(day)
+    let command = with(command, ledger_option(alloc))?;
+    let command = with(
+        command,
+        flag(
+            alloc,
+            "issues",
+            "Report the identifiers issued instead of the ranges",
+        ),
+    )?;
+    with(
+        command,
+        day_option(
+            alloc,
+            "The day on which serial numbers are counted as free; by default the clock's day",
+        ),
+    )
 }
 
 const REPORT_EXAMPLES: &str = "\

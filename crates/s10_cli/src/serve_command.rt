@@ -1,33 +1,43 @@
 //! The subcommand `serve`.
+use crate::builders::{named, number_option, text_option, with};
 use crate::job::Job;
-use crate::options::{day_option, ledger_option, number_option, text_option};
+use crate::options::{day_option, ledger_option};
 use clap::{ArgMatches, Command};
 use std::alloc::{AllocError, Global};
 
 /// What `serve` may say.
 pub fn serve_command<'a>(alloc: Global) -> Result<Command<'a>, AllocError> {
-    let bind = text_option(
+    let command = named(
         alloc,
-        "bind",
-        "PEER",
-        "The address to serve at, as 127.0.0.1:4711; with port 0 the system picks one",
+        "serve",
+        "Answer the requests that come to an address, over the ledger in a file",
+        SERVE_EXAMPLES,
     );
-    let count = number_option(
-        alloc,
-        "count",
-        "How many turns to serve: each takes one datagram, or waits a second for one",
-    );
-    let day = day_option(
-        alloc,
-        "The day of all requests; by default the clock's day at each turn",
-    );
-    Command::new(alloc, "serve")
-        .about("Answer the requests that come to an address, over the ledger in a file")
-        .after_help(SERVE_EXAMPLES)
-        .arg(ledger_option(alloc))?
-        .arg(bind)?
-        .arg(count)?
-        .arg(day)
+    let command = with(command, ledger_option(alloc))?;
+    let command = with(
+        command,
+        text_option(
+            alloc,
+            "bind",
+            "PEER",
+            "The address to serve at, as 127.0.0.1:4711; with port 0 the system picks one",
+        ),
+    )?;
+    let command = with(
+        command,
+        number_option(
+            alloc,
+            "count",
+            "How many turns to serve: each takes one datagram, or waits a second for one",
+        ),
+    )?;
+    with(
+        command,
+        day_option(
+            alloc,
+            "The day of all requests; by default the clock's day at each turn",
+        ),
+    )
 }
 
 const SERVE_EXAMPLES: &str = "\

@@ -5,23 +5,32 @@ ghost use Rattle.s10_cli.specs.Lines.{refused_line};
 ghost use Rattle.s10_cli.specs.InputLines.{bytes_in};
 ghost use Rattle.s10_cli.specs.Shown.{is_marked_reply, IsRequestShown, IsReplyShown, IsShown, Prints};
 
+use crate::builders::{named, with, word};
 use crate::input_line::read_bytes;
 use crate::refusals::{refuse, refuse_datagram};
 use crate::status::Status;
-use clap::{Arg, Command};
+use clap::Command;
 use s10_wire::{WriteFault, decode_reply, decode_request, write_reply_line, write_request_line};
 use std::alloc::{AllocError, Global};
 use std::io::Write;
 
 /// What `show` may say.
 pub fn show_command<'a>(alloc: Global) -> Result<Command<'a>, AllocError> {
-    let hex = Arg::new(alloc, "hex").value_name("HEX").required(true).help(
-        "The bytes of the datagram, two hexadecimal digits each, at most 512 bytes",
+    let command = named(
+        alloc,
+        "show",
+        "Show the request or the reply that a datagram carries",
+        SHOW_EXAMPLES,
     );
-    Command::new(alloc, "show")
-        .about("Show the request or the reply that a datagram carries")
-        .after_help(SHOW_EXAMPLES)
-        .arg(hex)
+    with(
+        command,
+        word(
+            alloc,
+            "hex",
+            "HEX",
+            "The bytes of the datagram, two hexadecimal digits each, at most 512 bytes",
+        ),
+    )
 }
 
 const SHOW_EXAMPLES: &str = "\

@@ -1,0 +1,60 @@
+//! Builders of commands and of their arguments.
+use clap::{Arg, ArgAction, Command, value_parser};
+use std::alloc::{AllocError, Global};
+
+/// A command without arguments, and what its help says.
+pub fn named<'a>(alloc: Global, name: &'a str, about: &'a str, examples: &'a str) -> Command<'a> {
+    Command::new(alloc, name).about(about).after_help(examples)
+}
+
+/// The command with one more argument.
+pub fn with<'a>(command: Command<'a>, arg: Arg<'a>) -> Result<Command<'a>, AllocError> {
+    command.arg(arg)
+}
+
+/// The command with one more subcommand.
+pub fn with_subcommand<'a>(
+    command: Command<'a>,
+    subcommand: Command<'a>,
+) -> Result<Command<'a>, AllocError> {
+    command.subcommand(subcommand)
+}
+
+/// A word that has to be given in its place.
+pub fn word<'a>(alloc: Global, name: &'a str, value: &'a str, help: &'a str) -> Arg<'a> {
+    Arg::new(alloc, name)
+        .value_name(value)
+        .required(true)
+        .help(help)
+}
+
+/// An option without a value.
+pub fn flag<'a>(alloc: Global, name: &'a str, help: &'a str) -> Arg<'a> {
+    Arg::new(alloc, name)
+        .long(name)
+        .action(ArgAction::SetTrue)
+        .help(help)
+}
+
+/// An option with a value.
+pub fn option<'a>(alloc: Global, name: &'a str, value: &'a str, help: &'a str) -> Arg<'a> {
+    Arg::new(alloc, name)
+        .long(name)
+        .value_name(value)
+        .help(help)
+}
+
+/// A text that has to be given.
+pub fn text_option<'a>(alloc: Global, name: &'a str, value: &'a str, help: &'a str) -> Arg<'a> {
+    option(alloc, name, value, help).required(true)
+}
+
+/// A number that has to be given.
+pub fn number_option<'a>(alloc: Global, name: &'a str, help: &'a str) -> Arg<'a> {
+    text_option(alloc, name, "N", help).value_parser(value_parser!(u32))
+}
+
+/// A serial number that has to be given.
+pub fn serial_option<'a>(alloc: Global, name: &'a str, help: &'a str) -> Arg<'a> {
+    text_option(alloc, name, "N", help).value_parser(value_parser!(u32).range(0..=99_999_999))
+}
