@@ -1,19 +1,14 @@
 //! The program `s10`: its words, its standard input and output, and its exit status.
 #![tactic(auto)]
 
-mod files;
-mod jobs;
-
-use jobs::run_job;
-use s10_cli::{Status, parse_job, run_line};
+use s10_cli::{parse_job, run_buffered};
+use s10_host::run_job;
+use s10_jobs::Status;
 use sqlite::Unknown;
 use std::convert::AsStr;
 use std::io;
-use std::io::{BufReader, BufWriter, ErrorKind, Read, Write};
+use std::io::{BufWriter, ErrorKind, Write};
 use std::process::ExitCode;
-
-#[cfg(test)]
-mod tests;
 
 fn main(rt: HostRuntime) -> ExitCode {
     let status = match run(&rt) {
@@ -43,22 +38,6 @@ fn run_words<S: AsStr, O: Write + Drop>(
     };
     let mut output = BufWriter::new(rt.alloc(), output)?;
     let status = run_job(rt, &job, Unknown, &mut output);
-    output.flush()?;
-    Ok(status)
-}
-
-// Runs a command line over buffers, and writes out what is left in them. `None` where it asks for a
-// job of the program's.
-fn run_buffered<R, S, I, O>(rt: &R, words: &[S], input: I, output: O) -> io::Result<Option<u8>>
-where
-    R: Eprint + AllocGlobal,
-    S: AsStr,
-    I: Read + Drop,
-    O: Write + Drop,
-{
-    let mut input = BufReader::new(rt.alloc(), input)?;
-    let mut output = BufWriter::new(rt.alloc(), output)?;
-    let status = run_line(rt, words, &mut input, &mut output);
     output.flush()?;
     Ok(status)
 }

@@ -1,8 +1,8 @@
 //! The subcommand `audit`.
 use crate::builders::{named, with};
-use crate::job::Job;
 use crate::options::ledger_option;
 use clap::{ArgMatches, Command};
+use s10_jobs::Job;
 use std::alloc::{AllocError, Global};
 
 /// What `audit` may say.

@@ -1,20 +1,21 @@
 //! What a command line may say.
 use crate::audit_command::audit_command;
 use crate::builders::{named, with_subcommand};
-use crate::check::check_command;
+use crate::check_command::check_command;
 use crate::create_command::create_command;
 use crate::draw_command::draw_command;
 use crate::grant_command::grant_command;
 use crate::loop_command::loop_command;
-use crate::make::make_command;
+use crate::make_command::make_command;
 use crate::query_command::query_command;
 use crate::replay_command::replay_command;
 use crate::report_command::report_command;
 use crate::serve_command::serve_command;
-use crate::show::show_command;
+use crate::show_command::show_command;
 use crate::void_command::void_command;
-use clap::Command;
+use clap::{ArgMatches, Command, Error};
 use std::alloc::{AllocError, Global};
+use std::convert::AsStr;
 
 const VERSION: &str = "0.1.0";
 
@@ -46,4 +47,10 @@ fn program<'a>(alloc: Global) -> Command<'a> {
         .version(VERSION)
         .subcommand_required(true)
         .arg_required_else_help(true)
+}
+
+/// Parses a command line.
+pub fn parse<'a, S: AsStr>(alloc: Global, words: &'a [S]) -> Result<ArgMatches<'a>, Error> {
+    let command = command(alloc)?;
+    command.try_get_matches_from(words)
 }

@@ -1,8 +1,8 @@
 //! The subcommand `create`.
 use crate::builders::{named, with};
-use crate::job::Job;
 use crate::options::{interval_option, ledger_option, limit_option, settings_of};
 use clap::{ArgMatches, Command};
+use s10_jobs::Job;
 use std::alloc::{AllocError, Global};
 
 /// What `create` may say.

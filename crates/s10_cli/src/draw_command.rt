@@ -1,11 +1,10 @@
 //! The subcommand `draw`.
-use crate::body_words::BodyWords;
 use crate::builders::{named, with};
-use crate::job::Job;
 use crate::options::{
     asked, country_option, customer_option, request_option, service_option, to_option, tries_option,
 };
 use clap::{ArgMatches, Command};
+use s10_jobs::{BodyWords, Job};
 use std::alloc::{AllocError, Global};
 
 /// What `draw` may say.

@@ -1,12 +1,11 @@
 //! The subcommand `grant`.
-use crate::body_words::BodyWords;
 use crate::builders::{named, number_option, serial_option, with};
-use crate::job::Job;
 use crate::options::{
     asked, country_option, request_option, service_option, to_option, tries_option,
 };
 use clap::{ArgMatches, Command};
 use s10_core::Serial;
+use s10_jobs::{BodyWords, Job};
 use std::alloc::{AllocError, Global};
 
 /// The customer number of the post, which alone can grant.

@@ -1,71 +1,24 @@
-//! The command lines of `s10`: what the words say, what is done and what is printed.
+//! The words of the command line of `s10`, and the lines and statuses that need no file or socket.
 #![tactic(auto)]
 
-mod answer_line;
-mod asking;
-mod audit;
 mod audit_command;
-mod body_words;
 mod builders;
-mod check;
+mod check_command;
 mod command;
+mod command_line;
 mod create_command;
 mod draw_command;
-mod failures;
 mod grant_command;
-mod input_line;
-mod job;
-mod ledger_fault;
-mod line;
-mod line_reader;
-mod link_fault;
+mod job_words;
 mod loop_command;
-mod loopback;
-mod make;
+mod make_command;
 mod options;
-mod parts;
 mod query_command;
-mod question;
-mod questioning;
-mod refusal;
-mod refusals;
 mod replay_command;
-mod replay_fault;
-mod replay_input;
 mod report_command;
-mod reporting;
 mod serve_command;
-mod serving;
-mod show;
-mod status;
-mod today;
-mod tries;
-mod turn_line;
+mod show_command;
 mod void_command;
-mod waiting;
-mod words;
 
-pub use asking::ask;
-pub use audit::run_audit;
-pub use body_words::BodyWords;
-pub use failures::{fail_by_clock, fail_by_ledger};
-pub use job::{Job, parse_job};
-pub use ledger_fault::write_ledger_fault;
-pub use line::run_line;
-pub use link_fault::write_link_fault;
-pub use loopback::run_loop;
-pub use question::Question;
-pub use questioning::run_question;
-pub use refusal::Refusal;
-pub use refusals::refuse;
-pub use replay_fault::ReplayFault;
-pub use replay_input::replay;
-pub use reporting::{Report, write_report};
-pub use serving::serve_at;
-pub use status::Status;
-pub use today::day_or_today;
-pub use tries::Tries;
-pub use turn_line::write_turn;
-
-#[cfg(test)]
-mod tests;
+pub use command_line::{run_buffered, run_line};
+pub use job_words::parse_job;

@@ -1,8 +1,8 @@
 //! The subcommand `loop`.
 use crate::builders::{named, with};
-use crate::job::Job;
 use crate::options::day_option;
 use clap::{ArgMatches, Command};
+use s10_jobs::Job;
 use std::alloc::{AllocError, Global};
 
 /// What `loop` may say.

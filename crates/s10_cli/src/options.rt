@@ -1,11 +1,8 @@
 //! Options that several subcommands have.
-use crate::body_words::BodyWords;
 use crate::builders::{number_option, option, text_option};
-use crate::job::Job;
-use crate::question::Question;
-use crate::tries::Tries;
 use clap::{Arg, ArgMatches, value_parser};
 use s10_book::Settings;
+use s10_jobs::{BodyWords, Job, Question, Tries};
 use std::alloc::Global;
 
 /// The file of a ledger.

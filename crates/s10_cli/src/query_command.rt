@@ -1,9 +1,8 @@
 //! The subcommand `query`.
-use crate::body_words::BodyWords;
 use crate::builders::{named, with};
-use crate::job::Job;
 use crate::options::{asked, customer_option, id_option, request_option, to_option, tries_option};
 use clap::{ArgMatches, Command};
+use s10_jobs::{BodyWords, Job};
 use std::alloc::{AllocError, Global};
 
 /// What `query` may say.

@@ -1,18 +1,8 @@
 //! The subcommand `replay`.
-ghost use Rattle.std.specs.Prelude.{◌≡◌, IfOk};
-ghost use Rattle.std.specs.Io.KnownBytes.{Appends};
-ghost use Rattle.s10_cli.specs.Words.{replay_fault_line, replay_fault_status};
-
 use crate::builders::{named, with};
 use crate::options::{interval_option, limit_option};
-use crate::replay_fault::ReplayFault;
-use crate::replay_input::replay;
-use crate::status::Status;
 use clap::Command;
-use s10_book::Settings;
-use s10_wire::{WriteFault, write_decimal, write_text, write_word};
 use std::alloc::{AllocError, Global};
-use std::io::{Read, Write};
 
 /// What `replay` may say.
 pub fn replay_command<'a>(alloc: Global) -> Result<Command<'a>, AllocError> {
@@ -38,36 +28,3 @@ Example:
   5331018200000007000000015241474204
 
 The reply says that customer 7 has no range of RA GB: `s10 show` puts it into words.";
-
-/// Runs a replay. A fault of it is written as the last line.
-pub fn run_replay<R: Read, W: Write>(
-    alloc: Global,
-    settings: Settings,
-    input: &mut R,
-    output: &mut W,
-) -> Result<Status, WriteFault> {
-    match replay(alloc, settings, input, output) {
-        Ok(_) => Ok(Status::Done),
-        Err(fault) => write_fault(fault, output),
-    }
-}
-
-fn write_fault<W: Write>(fault: ReplayFault, out: &mut W) -> Result<Status, WriteFault>
-    ensures { IfOk result (λ status. (status ≡ replay_fault_status fault)
-        × Appends (W.contents out.old) (W.contents out.new) (replay_fault_line fault)) }
-{
-    match fault {
-        ReplayFault::Line(number) => {
-            write_text(b"refused", out)?;
-            write_word(b"line", out)?;
-            write_decimal(number, out)?;
-            write_text(b"\n", out)?;
-            return Ok(Status::Refused);
-        }
-        ReplayFault::Read => write_text(b"input\n", out)?,
-        ReplayFault::Write => write_text(b"output\n", out)?,
-        ReplayFault::Memory => write_text(b"memory\n", out)?,
-        ReplayFault::Store => write_text(b"store\n", out)?,
-    }
-    Ok(Status::Failed)
-}

@@ -1,8 +1,8 @@
 //! The subcommand `report`.
 use crate::builders::{flag, named, with};
-use crate::job::Job;
 use crate::options::{day_option, ledger_option};
 use clap::{ArgMatches, Command};
+use s10_jobs::Job;
 use std::alloc::{AllocError, Global};
 
 /// What `report` may say.

@@ -1,8 +1,8 @@
 //! The subcommand `serve`.
 use crate::builders::{named, number_option, text_option, with};
-use crate::job::Job;
 use crate::options::{day_option, ledger_option};
 use clap::{ArgMatches, Command};
+use s10_jobs::Job;
 use std::alloc::{AllocError, Global};
 
 /// What `serve` may say.

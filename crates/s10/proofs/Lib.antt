@@ -1,2 +1,0 @@
-mod Opening
-mod Ending

@@ -1,8 +1,0 @@
-mod LineReading
-mod HexReading
-mod Replaying
-mod Auditing
-mod MemoryLedger
-mod Turning
-mod Answering
-mod Looping

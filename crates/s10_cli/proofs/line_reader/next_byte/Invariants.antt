@@ -1,6 +1,0 @@
-use Rattle.std.specs.Io.KnownBytes.{Keeps}
-use Rattle.s10_cli.proofs.line_reader.next_byte.Given as goal
-
--- no byte is taken yet
-abbrev pub invariant-tries : goal.invariant-tries
-invariant-tries g l = Keeps (g.R.Read.remaining l.fn.input) (g.R.Read.remaining l.input)

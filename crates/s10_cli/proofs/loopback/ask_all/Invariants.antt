@@ -1,7 +1,0 @@
-use Rattle.std.proofs.Common.{take}
-use Rattle.s10_cli.proofs.Looping.{HasDone}
-use Rattle.s10_cli.proofs.loopback.ask_all.Given as goal
-
--- the calls so far were done
-abbrev pub invariant-loop-body : goal.invariant-loop-body
-invariant-loop-body g l = HasDone l.fn.client l.client (take l.body-index l.bodies) (g.W.Write.contents l.fn.out) (g.W.Write.contents l.out)

@@ -1,9 +1,0 @@
-use Rattle.s10_cli.specs.Serving.{IsTurn}
-use Rattle.s10_cli.proofs.Turning.{HasServed}
-use Rattle.s10_cli.proofs.serving.serve_turns.Given as goal
-
--- so many turns were served, and their lines written
-abbrev pub invariant-loop-done : goal.invariant-loop-done
-invariant-loop-done g l =
-    HasServed (IsTurn g.B.Book.faults g.B.Book.honest g.B.Book.terms g.B.Book.history l.fn.day)
-    (g.L.Link.trace_of l.fn.link, l.fn.server.book) (g.L.Link.trace_of l.link, l.server.book) (g.W.Write.contents l.fn.out) (g.W.Write.contents l.out) l._done

@@ -1,0 +1,103 @@
+//! A command line, from its words to its exit status.
+use crate::command::parse;
+use crate::options::settings_of;
+use clap::error::ErrorKind;
+use clap::{ArgMatches, Error};
+use s10_jobs::{Status, check, make, run_replay, show};
+use s10_wire::{WriteFault, write_text};
+use std::alloc::Global;
+use std::convert::AsStr;
+use std::io;
+use std::io::{BufReader, BufWriter, Read, Write};
+
+/// Does the subcommands `check`, `make`, `show` and `replay`, and answers the exit status, also that of a fault of
+/// the command line, of help and of the version, whichever subcommand it is about.
+///
+/// `words` begins with the program's name. For words that parse as another subcommand nothing is
+/// written and the answer is `None`: that one is the program's. A fault of the command line goes
+/// to standard error, and all else to `output`, which the caller flushes. Where memory runs out
+/// the line is `memory`.
+pub fn run_line<R: Eprint + AllocGlobal, S: AsStr, I: Read, O: Write>(
+    rt: &R,
+    words: &[S],
+    input: &mut I,
+    output: &mut O,
+) -> Option<u8> {
+    let done = match parse(rt.alloc(), words) {
+        Ok(matches) => run_subcommand(rt.alloc(), &matches, input, output)?,
+        Err(error) => tell(rt, &error, output),
+    };
+    let status = match done {
+        Ok(status) => status,
+        Err(WriteFault) => Status::Failed,
+    };
+    Some(status as u8)
+}
+
+/// Runs a command line over buffers, and writes out what is left in them. `None` where it asks for a
+/// job of the program's.
+pub fn run_buffered<R, S, I, O>(rt: &R, words: &[S], input: I, output: O) -> io::Result<Option<u8>>
+where
+    R: Eprint + AllocGlobal,
+    S: AsStr,
+    I: Read + Drop,
+    O: Write + Drop,
+{
+    let mut input = BufReader::new(rt.alloc(), input)?;
+    let mut output = BufWriter::new(rt.alloc(), output)?;
+    let status = run_line(rt, words, &mut input, &mut output);
+    output.flush()?;
+    Ok(status)
+}
+
+fn run_subcommand<I: Read, O: Write>(
+    alloc: Global,
+    matches: &ArgMatches<'_>,
+    input: &mut I,
+    output: &mut O,
+) -> Option<Result<Status, WriteFault>> {
+    match matches.subcommand() {
+        Some(("check", found)) => {
+            let text = value_of(found, "text");
+            Some(check(text, found.get_flag("label"), output))
+        }
+        Some(("make", found)) => {
+            let service = value_of(found, "service");
+            let serial = value_of(found, "serial");
+            let country = value_of(found, "country");
+            Some(make(service, serial, country, output))
+        }
+        Some(("show", found)) => Some(show(value_of(found, "hex"), output)),
+        Some(("replay", found)) => {
+            // A parsed command line has both settings within their limits.
+            let Some(settings) = settings_of(found) else {
+                return Some(Ok(Status::CommandLine));
+            };
+            Some(run_replay(alloc, settings, input, output))
+        }
+        _ => None,
+    }
+}
+
+// The value of a required argument, which a parsed command line has.
+fn value_of<'a>(found: &ArgMatches<'a>, id: &str) -> &'a str {
+    found.get_str(id).unwrap_or("")
+}
+
+// Prints help, the version or a fault of the command line.
+fn tell<R: Eprint, O: Write>(rt: &R, error: &Error, output: &mut O) -> Result<Status, WriteFault> {
+    if matches!(error.kind(), ErrorKind::OutOfMemory) {
+        write_text(b"memory\n", output)?;
+        return Ok(Status::Failed);
+    }
+    if error.use_stderr() {
+        let Ok(()) = rt.eprint(error) else {
+            return Err(WriteFault);
+        };
+        return Ok(Status::CommandLine);
+    }
+    let Ok(()) = write!(output, "{error}") else {
+        return Err(WriteFault);
+    };
+    Ok(Status::Done)
+}

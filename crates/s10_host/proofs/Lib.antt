@@ -1,0 +1,4 @@
+mod Answering
+mod Looping
+mod Opening
+mod Ending

@@ -1,0 +1,11 @@
+use Rattle.s10_host.proofs.Opening.{kept_empty, not_made}
+use Rattle.s10_host.proofs.files.create_book.Goals as goal
+
+pub returns-clause-made : goal.returns-clause-made
+returns-clause-made g c =
+    kept_empty c.args.settings c.create.result c.kept_or_closed.result c.create.ensures.new c.create.ensures.honest c.create.ensures.empty c.kept_or_closed.ensures.kept
+
+pub returns-clause-refused : goal.returns-clause-refused
+returns-clause-refused g c =
+    not_made _ g.S.Start c.in_ok-connection.connection c.create.result c.kept_or_closed.result (λ refusal. refusal.fault)
+    c.in_ok-connection.ensures.found c.create.ensures.refused c.kept_or_closed.ensures.refused

@@ -1,0 +1,7 @@
+use Rattle.std.proofs.Common.{take}
+use Rattle.s10_host.proofs.Looping.{HasDone}
+use Rattle.s10_host.proofs.loopback.ask_all.Given as goal
+
+-- the calls so far were done
+abbrev pub invariant-loop-body : goal.invariant-loop-body
+invariant-loop-body g l = HasDone l.fn.client l.client (take l.body-index l.bodies) (g.W.Write.contents l.fn.out) (g.W.Write.contents l.out)

@@ -1,0 +1,5 @@
+pub mod Files
+pub mod Questioning
+pub mod Unbound
+pub mod Looped
+pub mod Jobs

@@ -1,0 +1,114 @@
+//! Ledgers in files, whatever the files held: `S` stands for that.
+
+ghost use Rattle.std.specs.Prelude.{◌≡◌, false, Ok, IfOk, IfErr, IsErrAnd, OnOk};
+ghost use Rattle.sqlite_wal.specs.Files.{image_at};
+ghost use Rattle.s10_host.specs.Files.{IsFoundIn, IsEmptyBook, IsOpenedFrom, IsPutAway, IsFileFault, IsAbsenceOr, IsNotMade, IsNotOpened};
+
+use s10_book::Settings;
+use s10_ledger::{OpenFault, Refused, SqlBook};
+use sqlite::{Connection, Error, ErrorCode, FileFrom, FileStore, Start};
+use std::fs;
+
+/// A book over the tables of a file.
+pub type FileBook<S> = SqlBook<FileStore<FileFrom<S>>>;
+
+/// Makes an empty ledger in a file. A refusal leaves the file with no table of a ledger's.
+pub fn create_book<S: Start>(
+    rt: &HostRuntime,
+    path: &str,
+    settings: Settings,
+    start: S,
+) -> Result<FileBook<S>, OpenFault>
+    ensures made { IfOk result (IsEmptyBook settings) }
+    ensures refused { IfErr result (IsNotMade S.row S.Start) }
+{
+    let connection = connect(rt, path, start)?;
+    kept_or_closed(SqlBook::create(rt.alloc(), connection, settings))
+}
+
+/// Opens the ledger of a file, which does all its calls again.
+pub fn open_book<S: Start>(rt: &HostRuntime, path: &str, start: S) -> Result<FileBook<S>, OpenFault>
+    ensures opened { IfOk result (IsOpenedFrom (image_at S.Start)) }
+    ensures refused { IfErr result (IsNotOpened S.row S.Start) }
+{
+    let connection = connect_to_ledger(rt, path, start)?;
+    kept_or_closed(SqlBook::open(rt.alloc(), connection))
+}
+
+/// Ends a book: what it committed is then in the database file itself.
+pub fn close_book<S: Start>(book: FileBook<S>) -> Result<(), OpenFault>
+    ensures away { OnOk result (IsPutAway book) }
+    ensures refused { IfErr result (λ fault. fault ≡ OpenFault.Store) }
+{
+    match book.close().close_files() {
+        Ok(_files) => Ok(()),
+        Err((_, store)) => {
+            drop(store.close());
+            Err(OpenFault::Store)
+        }
+    }
+}
+
+/// Opens a file that is there as a database. One that is not there is no ledger, and is not made; in
+/// a folder that is not there it could not be.
+pub fn connect_to_ledger<S: Start>(
+    rt: &HostRuntime,
+    path: &str,
+    start: S,
+) -> Result<Connection<FileStore<FileFrom<S>>>, OpenFault>
+    ensures idle { IfOk result (λ connection. connection.in_transaction ≡ false) }
+    ensures found { IfOk result (IsFoundIn (image_at S.Start)) }
+    ensures refused { IfErr result (IsAbsenceOr IsFileFault) }
+{
+    match fs::exists(rt, path) {
+        Ok(true) => connect(rt, path, start),
+        Ok(false) => Err(absence(rt, path)),
+        Err(_) => Err(OpenFault::Store),
+    }
+}
+
+// Why a file that is not there cannot be opened.
+fn absence(rt: &HostRuntime, path: &str) -> OpenFault
+    ensures { IsAbsenceOr IsFileFault result }
+{
+    match path.rsplit_once('/') {
+        None | Some(("", _)) => OpenFault::NotALedger,
+        Some((folder, _)) => match fs::exists(rt, folder) {
+            Ok(true) => OpenFault::NotALedger,
+            _ => OpenFault::Store,
+        },
+    }
+}
+
+// Opens a file as a database, or makes it.
+fn connect<S: Start>(
+    rt: &HostRuntime,
+    path: &str,
+    start: S,
+) -> Result<Connection<FileStore<FileFrom<S>>>, OpenFault>
+    ensures idle { IfOk result (λ connection. connection.in_transaction ≡ false) }
+    ensures found { IfOk result (IsFoundIn (image_at S.Start)) }
+    ensures refused { IfErr result IsFileFault }
+{
+    match Connection::open_from(rt, path, false, start) {
+        Ok(connection) => Ok(connection),
+        Err((Error::SqliteFailure(ErrorCode::OutOfMemory), _)) => Err(OpenFault::Memory),
+        Err(_) => Err(OpenFault::Store),
+    }
+}
+
+// The book, or why there is none, with its file closed.
+fn kept_or_closed<S: Start>(
+    made: Result<FileBook<S>, Refused<FileStore<FileFrom<S>>>>,
+) -> Result<FileBook<S>, OpenFault>
+    ensures kept { IfOk result (λ book. made ≡ Ok book) }
+    ensures refused { IfErr result (λ fault. IsErrAnd made (λ refusal. refusal.fault ≡ fault)) }
+{
+    match made {
+        Ok(book) => Ok(book),
+        Err(Refused { fault, connection }) => {
+            let _ = connection.close();
+            Err(fault)
+        }
+    }
+}

@@ -1,0 +1,181 @@
+//! A run of calls between two sockets of this machine.
+
+ghost use Rattle.std.specs.Prelude.{◌≡◌, ◌∷◌, [], IfOk};
+ghost use Rattle.s10_wire.specs.declared.body.Body.TheVariants.{Draw};
+ghost use Rattle.s10_jobs.specs.Shown.{Prints};
+ghost use Rattle.s10_host.specs.Looped.{ra, gb, first_of_range, granted_range, customer_calls, requests_of, loop_requests, AreDone};
+
+use crate::waiting::WAIT;
+use s10_book::Settings;
+use s10_core::{Country, Id, Serial, Service};
+use s10_ends::{Client, NearLink, Server, UdpLink};
+use s10_jobs::{Status, ask, write_ledger_fault, write_link_fault};
+use s10_ledger::SqlBook;
+use s10_link::{Link, LinkFault, Peer};
+use s10_wire::{Body, WriteFault};
+use std::io::Write;
+use std::net::Net;
+
+/// The address of this machine to itself, with a port that the system picks.
+const LOCALHOST: Peer = Peer {
+    ip: [127, 0, 0, 1],
+    port: 0,
+};
+
+/// How often a call is tried.
+const TRIES: u32 = 5;
+
+/// Makes a ledger in memory with a reuse interval of 30 days, serves it on this day over a socket of this machine, and
+/// writes the lines of five calls to it over another: the post grants RA GB 0 to 2 to customer 7, who draws twice,
+/// voids the first identifier and asks about it. Answers the exit status: 0 where all were done. The first call that is
+/// not done ends the run; a fault of the ledger or of a socket is written, and its status is 3, as where the output
+/// failed.
+pub fn run_loop<N: Net + AllocGlobal, W: Write>(rt: &N, day: u32, output: &mut W) -> u8
+    ensures { result ≡ 0 → Prints (W.contents output.old) (W.contents output.new) (AreDone loop_requests) }
+{
+    match run_calls(rt, day, output) {
+        Ok(Status::Done) => 0,
+        Ok(Status::Refused) => 1,
+        _ => 3,
+    }
+}
+
+fn run_calls<N: Net + AllocGlobal, W: Write>(
+    rt: &N,
+    day: u32,
+    out: &mut W,
+) -> Result<Status, WriteFault>
+    ensures { IfOk result (λ status. status ≡ Status.Done → Prints (W.contents out.old) (W.contents out.new) (AreDone loop_requests)) }
+{
+    let (far, near) = match two_links(rt) {
+        Ok(links) => links,
+        Err(fault) => {
+            write_link_fault(fault, out)?;
+            return Ok(Status::Failed);
+        }
+    };
+    let Some(settings) = Settings::new(30, 100) else {
+        unreachable!()
+    };
+    let book = match SqlBook::in_memory(rt.alloc(), settings) {
+        Ok(book) => book,
+        Err(fault) => {
+            write_ledger_fault(fault, out)?;
+            return Ok(Status::Failed);
+        }
+    };
+    let to = far.local();
+    let mut link = NearLink {
+        server: Server::new(book),
+        far,
+        near,
+        day,
+    };
+    let status = make_calls(&mut link, to, out);
+    let NearLink {
+        server,
+        far: _,
+        near: _,
+        day: _,
+    } = link;
+    let _ = server.into_book().close();
+    status
+}
+
+// The far and the near end.
+fn two_links<N: Net>(net: &N) -> Result<(UdpLink, UdpLink), LinkFault> {
+    let far = UdpLink::bind(net, LOCALHOST, WAIT)?;
+    let near = UdpLink::bind(net, LOCALHOST, WAIT)?;
+    Ok((far, near))
+}
+
+// The five calls, up to the first that is not done.
+fn make_calls<L: Link, W: Write>(link: &mut L, to: Peer, out: &mut W) -> Result<Status, WriteFault>
+    ensures { IfOk result (λ status. status ≡ Status.Done → Prints (W.contents out.old) (W.contents out.new) (AreDone loop_requests)) }
+{
+    let Ok(mut post) = Client::new(0, 1, 1) else {
+        unreachable!()
+    };
+    let Ok(mut customer) = Client::new(7, 1, 4) else {
+        unreachable!()
+    };
+    let granted = ask_all(&mut post, link, to, &[first_range()], out)?;
+    if granted != Status::Done {
+        return Ok(granted);
+    }
+    ask_all(&mut customer, link, to, &customer_bodies(), out)
+}
+
+// Asks one after another, up to the first that is not done.
+fn ask_all<L: Link, W: Write>(
+    client: &mut Client,
+    link: &mut L,
+    to: Peer,
+    bodies: &[Body],
+    out: &mut W,
+) -> Result<Status, WriteFault>
+    ensures { IfOk result (λ status. status ≡ Status.Done
+        → Prints (W.contents out.old) (W.contents out.new) (AreDone (requests_of client.old bodies.now))) }
+{
+    for body in bodies {
+        let status = ask(client, link, to, *body, TRIES, out)?;
+        if status != Status::Done {
+            return Ok(status);
+        }
+    }
+    Ok(Status::Done)
+}
+
+// RA GB 0 to 2 for customer 7.
+fn first_range() -> Body
+    ensures { result ≡ granted_range }
+{
+    Body::Grant {
+        holder: 7,
+        service: ra(),
+        country: gb(),
+        first: Serial::new(0).unwrap(),
+        last: Serial::new(2).unwrap(),
+    }
+}
+
+// Two draws from the range, and the void and a query of the first identifier.
+fn customer_bodies() -> [Body; 4]
+    ensures { result ≡ customer_calls }
+{
+    let void = Body::Void { id: first_id() };
+    let query = Body::Query { id: first_id() };
+    [draw(), draw(), void, query]
+}
+
+fn draw() -> Body
+    ensures { result ≡ Draw ra gb }
+{
+    Body::Draw {
+        service: ra(),
+        country: gb(),
+    }
+}
+
+fn ra() -> Service
+    ensures { result ≡ ra }
+{
+    Service::new(*b"RA").unwrap()
+}
+
+fn gb() -> Country
+    ensures { result ≡ gb }
+{
+    Country::new(*b"GB").unwrap()
+}
+
+// The identifier of the range's first serial number.
+fn first_id() -> Id
+    ensures { result ≡ first_of_range }
+{
+    Id {
+        service: ra(),
+        serial: Serial::new(0).unwrap(),
+        country: gb(),
+    }
+}

@@ -1,0 +1,65 @@
+//! A request over a socket of its own.
+
+ghost use Rattle.std.specs.Prelude.{◌≡◌, ℕ, List, Result, IfOk};
+ghost use Rattle.std.specs.Io.KnownBytes.{Appends};
+ghost use Rattle.s10_wire.specs.declared.reply.Reply.{Reply};
+ghost use Rattle.s10_ends.specs.declared.call_fault.CallFault.{CallFault};
+ghost use Rattle.s10_ends.specs.Calls.{Calls};
+ghost use Rattle.s10_ends.specs.Client.{ClientState, new_client};
+ghost use Rattle.s10_jobs.specs.Asked.{asked_status, asked_line};
+ghost use Rattle.s10_host.specs.Questioning.{IsAnswer};
+
+use crate::waiting::WAIT;
+use s10_ends::{Client, UdpLink};
+use s10_jobs::{Question, Status, ask, fail_by_link, write_refusal};
+use s10_link::{Link, Peer};
+use s10_wire::{Body, WriteFault};
+use std::io::Write;
+use std::net::Net;
+
+/// Any address of this machine, with a port that the system picks.
+const UNSPECIFIED: Peer = Peer {
+    ip: [0, 0, 0, 0],
+    port: 0,
+};
+
+/// Asks a server, and writes the line of its reply, or of what failed. A text that does not read is
+/// refused before there is a socket.
+pub fn run_question<N: Net, W: Write>(
+    net: &N,
+    question: &Question<'_>,
+    out: &mut W,
+) -> Result<Status, WriteFault>
+    ensures { IfOk result (λ status. (line : List ℕ) × IsAnswer question.now status line
+        × Appends (W.contents out.old) (W.contents out.new) line) }
+{
+    let (to, body) = match question.read() {
+        Ok(read) => read,
+        Err(refusal) => return write_refusal(refusal, out),
+    };
+    let mut link = match UdpLink::bind(net, UNSPECIFIED, WAIT) {
+        Ok(link) => link,
+        Err(fault) => return fail_by_link(fault, out),
+    };
+    ask_once(question, &mut link, to, body, out)
+}
+
+// Asks under the one number of the question.
+fn ask_once<L: Link, W: Write>(
+    question: &Question<'_>,
+    link: &mut L,
+    to: Peer,
+    body: Body,
+    out: &mut W,
+) -> Result<Status, WriteFault>
+    ensures { (client : ClientState) × (called : Result Reply CallFault)
+        × Calls (new_client question.now.customer question.now.number question.now.number) client
+        (L.trace_of link.old) (L.trace_of link.new) to body question.now.tries called
+        × IfOk result (λ status. (status ≡ asked_status called)
+        × Appends (W.contents out.old) (W.contents out.new) (asked_line called)) }
+{
+    let Ok(mut client) = Client::new(question.customer, question.number, question.number) else {
+        unreachable!()
+    };
+    ask(&mut client, link, to, body, question.tries.count(), out)
+}

@@ -1,0 +1,45 @@
+//! The turns of a server, over a socket of its own.
+
+ghost use Rattle.std.specs.Prelude.{◌⊎◌};
+ghost use Rattle.s10_link.specs.declared.trace.Trace.{Trace};
+ghost use Rattle.s10_link.specs.Trace.{new_trace};
+ghost use Rattle.s10_ends.specs.Server.{book_of};
+ghost use Rattle.s10_jobs.specs.Serving.{IsTurn, Serves};
+ghost use Rattle.s10_host.specs.Unbound.{IsUnbound};
+
+use crate::waiting::WAIT;
+use s10_book::Book;
+use s10_ends::{Server, UdpLink};
+use s10_jobs::{Status, fail_by_link, serve_turns};
+use s10_link::Peer;
+use s10_wire::WriteFault;
+use std::io::Write;
+use std::net::Net;
+use std::time::Clock;
+
+/// Serves at the address, and says on standard error where that is.
+pub fn serve_at<R, B, W>(
+    rt: &R,
+    at: Peer,
+    server: &mut Server<B>,
+    count: u32,
+    day: Option<u32>,
+    out: &mut W,
+) -> Result<Status, WriteFault>
+where
+    R: Net + Clock + Eprint,
+    B: Book,
+    W: Write,
+    ensures { IsUnbound (book_of server.old) (book_of server.new) (W.contents out.old) (W.contents out.new) result
+        ⊎ ((left : Trace) × Serves (IsTurn B.faults B.honest B.terms B.history day)
+        (new_trace, book_of server.old) (left, book_of server.new)
+        (W.contents out.old) (W.contents out.new) count result) }
+{
+    let mut link = match UdpLink::bind(rt, at, WAIT) {
+        Ok(link) => link,
+        Err(fault) => return fail_by_link(fault, out),
+    };
+    // The turns go on where standard error is closed.
+    let _ = eprintln!(rt; "serving on {}", link.local());
+    serve_turns(rt, server, &mut link, count, day, out)
+}

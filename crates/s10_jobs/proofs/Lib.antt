@@ -1,0 +1,6 @@
+mod LineReading
+mod HexReading
+mod ReplayedLines
+mod Auditing
+mod MemoryLedger
+mod Turning

@@ -1,0 +1,41 @@
+-- What is printed of a call over a link, and the status that it gives.
+use Rattle.std.specs.Prelude.{ℕ, List, [], codes, Result, Ok, Err}
+use Rattle.s10_wire.specs.declared.outcome.Outcome.{Outcome}
+use Rattle.s10_wire.specs.declared.outcome.Outcome.TheVariants.{Granted, Drawn, Voided, Told, NotThePost, BadGrant, Overlap, NoRange, NoneFree, NotYours, NotIssued, AlreadyVoid, NumberReused}
+use Rattle.s10_wire.specs.declared.reply.Reply.{Reply}
+use Rattle.s10_wire.specs.Reply.{request_of, outcome_of}
+use Rattle.s10_wire.specs.Lines.{line_of, reply_line}
+use Rattle.s10_ends.specs.declared.call_fault.CallFault.{CallFault}
+use Rattle.s10_ends.specs.declared.call_fault.CallFault.TheVariants.{Submit, GaveUp, Link}
+use Rattle.s10_jobs.specs.declared.status.Status.{Status}
+use Rattle.s10_jobs.specs.declared.status.Status.TheVariants.{Done, Refused, CommandLine, Failed}
+use Rattle.s10_jobs.specs.Words.{link_fault_words}
+
+-- the first four outcomes say that what was asked was done
+abbrev pub outcome_status : Outcome → Status
+outcome_status (Granted range) = Done
+outcome_status (Drawn day id) = Done
+outcome_status Voided = Done
+outcome_status (Told status) = Done
+outcome_status NotThePost = Refused
+outcome_status BadGrant = Refused
+outcome_status Overlap = Refused
+outcome_status NoRange = Refused
+outcome_status NoneFree = Refused
+outcome_status NotYours = Refused
+outcome_status NotIssued = Refused
+outcome_status AlreadyVoid = Refused
+outcome_status NumberReused = Refused
+
+abbrev pub asked_status : Result Reply CallFault → Status
+asked_status (Ok reply) = outcome_status (outcome_of reply)
+asked_status (Err (Submit fault)) = CommandLine
+asked_status (Err (GaveUp q)) = Failed
+asked_status (Err (Link q fault)) = Failed
+
+-- where nothing was submitted nothing is printed
+abbrev pub asked_line : Result Reply CallFault → List ℕ
+asked_line (Ok reply) = reply_line (request_of reply) (outcome_of reply)
+asked_line (Err (Submit fault)) = []
+asked_line (Err (GaveUp q)) = codes "gave-up\n"
+asked_line (Err (Link q fault)) = line_of (codes "link") (link_fault_words fault)

@@ -1,0 +1,39 @@
+-- What an audit finds of a database, and prints.
+use Rattle.std.specs.Prelude.{◌≡◌, ℕ, IsTrue, List, [], ◌∷◌, length, codes, decimal, Result, Ok, Err}
+use Rattle.sqlite_trees.specs.declared.store.Store.{Ghosts}
+use Rattle.sqlite.specs.Effect.{Database}
+use Rattle.sqlite.specs.Held.{Held, state}
+use Rattle.sqlite.specs.State.{HasCleanDisk}
+use Rattle.s10_book.specs.Settings.{Terms}
+use Rattle.s10_wire.specs.Lines.{line_of}
+use Rattle.s10_ledger.specs.declared.open_fault.OpenFault.{OpenFault}
+use Rattle.s10_ledger.specs.Ledger.{IsLedger, history_in}
+use Rattle.s10_ledger.specs.Refusals.{IsOpeningRefusal}
+use Rattle.s10_jobs.specs.declared.status.Status.{Status}
+use Rattle.s10_jobs.specs.declared.status.Status.TheVariants.{Done, Failed}
+use Rattle.s10_jobs.specs.Words.{open_fault_words}
+
+-- the database is a ledger of so many calls
+pub record HoldsCalls (db : Database) (count : ℕ) : Type 0 where
+  pub terms : Terms
+  pub len : ℕ
+  pub day : ℕ
+  pub ledger : IsLedger db terms len day
+  pub counted : count ≡ length (history_in db)
+
+-- what is found of a database: so many kept calls, or why it is no ledger
+abbrev pub IsFinding : Database → Result ℕ OpenFault → Type 0
+IsFinding db (Ok count) = HoldsCalls db count
+IsFinding db (Err fault) = IsOpeningRefusal db fault
+
+-- the same where the connection, as the audit leaves it, is open over disks that kept what they were given
+abbrev pub IsFound : {S : Type 0} → Ghosts S → Held S → Held S → Result ℕ OpenFault → Type 0
+IsFound g before left found = HasCleanDisk (state g left) → IsTrue (state g left).is_open → IsFinding (state g before).now found
+
+abbrev pub audit_line : Result ℕ OpenFault → List ℕ
+audit_line (Ok count) = line_of (codes "ledger") (codes "ok" ∷ decimal count ∷ [])
+audit_line (Err fault) = line_of (codes "ledger") (open_fault_words fault)
+
+abbrev pub audit_status : Result ℕ OpenFault → Status
+audit_status (Ok count) = Done
+audit_status (Err fault) = Failed

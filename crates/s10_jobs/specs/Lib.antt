@@ -1,0 +1,13 @@
+pub mod Words
+pub mod Lines
+pub mod Shown
+pub mod InputLines
+pub mod LineReader
+pub mod AnswerLines
+pub mod Replay
+pub mod TurnLines
+pub mod Asked
+pub mod Audited
+pub mod Questions
+pub mod Reporting
+pub mod Serving

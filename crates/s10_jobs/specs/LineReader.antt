@@ -1,0 +1,28 @@
+-- What a read of a byte, or of a line, does to the bytes that a reader has left, where these are known.
+use Rattle.std.specs.Prelude.{◌≡◌, ℕ, ◌<◌, ◌≤◌, ⊤, List, [], ◌∷◌, length, take, Option, Some, None}
+use Rattle.std.specs.Io.KnownBytes.{Consumes, IsAtEnd}
+use Rattle.s10_jobs.specs.declared.line_reader.NextLine.{NextLine}
+use Rattle.s10_jobs.specs.declared.line_reader.NextLine.TheVariants.{End, Whole, Long}
+use Rattle.s10_jobs.specs.InputLines.{lines_of}
+
+-- the next byte was taken, or there was none
+abbrev pub ReadsByte : Option (List ℕ) → Option (List ℕ) → Option ℕ → Type 0
+ReadsByte old new None = IsAtEnd old × Consumes old new []
+ReadsByte old new (Some b) = Consumes old new (b ∷ [])
+
+-- a line in the buffer is within it
+abbrev pub FitsIn : NextLine → Type 0
+FitsIn End = ⊤
+FitsIn (Whole n) = n ≤ 1036
+FitsIn Long = ⊤
+
+-- the next line is in the buffer, or there is none, or it is too long
+abbrev pub TakesLine : List ℕ → List ℕ → List ℕ → NextLine → Type 0
+TakesLine old new buffer End = lines_of old ≡ []
+TakesLine old new buffer (Whole n) = lines_of old ≡ take n buffer ∷ lines_of new
+TakesLine old new buffer Long = (line : List ℕ) × (more : List (List ℕ)) × (lines_of old ≡ line ∷ more) × (1036 < length line)
+
+abbrev pub ReadsLine : Option (List ℕ) → Option (List ℕ) → List ℕ → NextLine → Type 0
+ReadsLine None new buffer next = ⊤
+ReadsLine (Some old) None buffer next = ⊥
+ReadsLine (Some old) (Some new) buffer next = TakesLine old new buffer next

@@ -1,0 +1,27 @@
+-- The lines that `check` and `make` print.
+use Rattle.std.specs.Prelude.{◌≡◌, ℕ, Bool, if◌then◌else◌, List, [], ◌∷◌, ◌++◌, length, codes, All}
+use Rattle.s10_core.specs.declared.id.Id.{Id}
+use Rattle.s10_core.specs.Letters.{IsCapital, group_of}
+use Rattle.s10_core.specs.Serial.{number_of, check_digit_of, character_of}
+use Rattle.s10_core.specs.Id.{spelling_of, tidied}
+use Rattle.s10_wire.specs.Lines.{line_of}
+use Rattle.s10_jobs.specs.Words.{group_words}
+
+-- why something is refused
+abbrev pub refused_line : List (List ℕ) → List ℕ
+refused_line words = line_of (codes "refused") words
+
+-- a label is read without its spaces and in capitals, any other text as it stands
+abbrev pub text_read : Bool → List ℕ → List ℕ
+text_read is_label text = if is_label then tidied text else text
+
+abbrev pub valid_line : Id → List ℕ
+valid_line id = line_of (spelling_of id) (codes "valid" ∷ group_words (group_of id.service.0) ∷ [])
+
+abbrev pub AreTwoCapitals : List ℕ → Type 0
+AreTwoCapitals text = (length text ≡ 2) × All IsCapital text
+
+-- the parts in their order, the check digit after the eight digits of the serial number
+abbrev pub made_line : List ℕ → List ℕ → List ℕ → List ℕ
+made_line service digits country =
+    service ++ digits ++ character_of (check_digit_of (number_of digits)) ∷ [] ++ country ++ codes "\n"

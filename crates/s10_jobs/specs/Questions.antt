@@ -1,0 +1,60 @@
+-- What the words of a request ask, and which of its texts is refused.
+use Rattle.std.specs.Prelude.{◌≡◌, ℕ, List, [], ◌∷◌, codes}
+use Rattle.s10_core.specs.Letters.{letters_of}
+use Rattle.s10_core.specs.Id.{SpellsLoosely, tidied}
+use Rattle.s10_core.specs.TextFault.{IsFirstRefusal}
+use Rattle.s10_wire.specs.declared.body.Body.{Body}
+use Rattle.s10_wire.specs.declared.body.Body.TheVariants as asked
+use Rattle.s10_link.specs.declared.peer.Peer.{Peer}
+use Rattle.s10_link.specs.Peer.{SpellsPeer}
+use Rattle.s10_jobs.specs.declared.refusal.Refusal.{Refusal}
+use Rattle.s10_jobs.specs.declared.refusal.Refusal.TheVariants as refused
+use Rattle.s10_jobs.specs.declared.body_words.BodyWords.{BodyWords}
+use Rattle.s10_jobs.specs.declared.body_words.BodyWords.TheVariants.{Grant, Draw, Void, Query}
+use Rattle.s10_jobs.specs.declared.question.Question.{Question}
+use Rattle.s10_jobs.specs.Words.{text_fault_words}
+use Rattle.s10_jobs.specs.Lines.{AreTwoCapitals}
+
+abbrev pub refusal_words : Refusal → List (List ℕ)
+refusal_words refused.Peer = codes "peer" ∷ []
+refusal_words refused.Service = codes "service" ∷ []
+refusal_words refused.Country = codes "country" ∷ []
+refusal_words (refused.Text fault) = text_fault_words fault
+
+-- the body asks what the words say
+abbrev pub IsBody : BodyWords → Body → Type 0
+IsBody (Grant holder service country first last) (asked.Grant h s c f l) =
+    (h ≡ holder) × (letters_of s ≡ service.now) × (letters_of c ≡ country.now) × (f ≡ first) × (l ≡ last)
+IsBody (Draw service country) (asked.Draw s c) = (letters_of s ≡ service.now) × (letters_of c ≡ country.now)
+IsBody (Void id) (asked.Void x) = SpellsLoosely id.now x
+IsBody (Query id) (asked.Query x) = SpellsLoosely id.now x
+IsBody words body = ⊥
+
+-- the service is read before the country
+abbrev pub IsPairRefusal : List ℕ → List ℕ → Refusal → Type 0
+IsPairRefusal service country refused.Peer = ⊥
+IsPairRefusal service country refused.Service = ¬ AreTwoCapitals service
+IsPairRefusal service country refused.Country = AreTwoCapitals service × ¬ AreTwoCapitals country
+IsPairRefusal service country (refused.Text fault) = ⊥
+
+abbrev pub IsIdRefusal : List ℕ → Refusal → Type 0
+IsIdRefusal id refused.Peer = ⊥
+IsIdRefusal id refused.Service = ⊥
+IsIdRefusal id refused.Country = ⊥
+IsIdRefusal id (refused.Text fault) = IsFirstRefusal (tidied id) fault
+
+abbrev pub IsBodyRefusal : BodyWords → Refusal → Type 0
+IsBodyRefusal (Grant holder service country first last) refusal = IsPairRefusal service.now country.now refusal
+IsBodyRefusal (Draw service country) refusal = IsPairRefusal service.now country.now refusal
+IsBodyRefusal (Void id) refusal = IsIdRefusal id.now refusal
+IsBodyRefusal (Query id) refusal = IsIdRefusal id.now refusal
+
+abbrev pub IsPeerText : List ℕ → Type 0
+IsPeerText text = (p : Peer) × SpellsPeer text p
+
+-- the server's address is read before the body
+abbrev pub IsRefusal : Question → Refusal → Type 0
+IsRefusal question refused.Peer = ¬ IsPeerText question.to.now
+IsRefusal question refused.Service = IsPeerText question.to.now × IsBodyRefusal question.body refused.Service
+IsRefusal question refused.Country = IsPeerText question.to.now × IsBodyRefusal question.body refused.Country
+IsRefusal question (refused.Text fault) = IsPeerText question.to.now × IsBodyRefusal question.body (refused.Text fault)

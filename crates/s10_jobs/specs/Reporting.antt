@@ -1,0 +1,35 @@
+-- What is printed of a report.
+use Rattle.std.specs.Prelude.{ℕ, ◌⊎◌, List, ◌++◌, take, codes, Option}
+use Rattle.std.specs.Io.KnownBytes.{Appends}
+use Rattle.s10_wire.specs.Lines.{line_of}
+use Rattle.s10_book.specs.declared.entry.Entry.{Entry}
+use Rattle.s10_book.specs.declared.book_fault.BookFault.{BookFault}
+use Rattle.s10_book.specs.Settings.{Terms}
+use Rattle.s10_book.specs.Reports.{joined, ranges_report, issues_report}
+use Rattle.s10_jobs.specs.declared.reporting.Report.{Report}
+use Rattle.s10_jobs.specs.declared.reporting.Report.TheVariants.{Ranges, Issues}
+use Rattle.s10_jobs.specs.declared.status.Status.{Status}
+use Rattle.s10_jobs.specs.declared.status.Status.TheVariants.{Done, Refused, CommandLine, Failed}
+use Rattle.s10_jobs.specs.Words.{book_fault_words}
+
+-- the lines of a report of a history
+abbrev pub report_lines : Report → List Entry → Terms → List (List ℕ)
+report_lines (Ranges day) h t = ranges_report h day t.interval
+report_lines Issues h t = issues_report h
+
+-- so many first lines of the report, and the fault of the book that ended it
+abbrev pub EndsByBook : Option (List ℕ) → Option (List ℕ) → List (List ℕ) → Type 0
+EndsByBook old new lines =
+    (count : ℕ) × (fault : BookFault)
+    × Appends old new (joined (take count lines) ++ line_of (codes "faulted") (book_fault_words fault))
+
+-- the writer failed in the report, and took its last line
+abbrev pub EndsByWriter : Option (List ℕ) → Type 0
+EndsByWriter new = (before : Option (List ℕ)) × Appends before new (codes "output\n")
+
+-- the whole report where it is done
+abbrev pub PrintsReport : Option (List ℕ) → Option (List ℕ) → List (List ℕ) → Status → Type 0
+PrintsReport old new lines Done = Appends old new (joined lines)
+PrintsReport old new lines Refused = ⊥
+PrintsReport old new lines CommandLine = ⊥
+PrintsReport old new lines Failed = EndsByBook old new lines ⊎ EndsByWriter new

@@ -1,0 +1,80 @@
+-- The words that are printed for groups and faults.
+use Rattle.std.specs.Prelude.{ℕ, List, [], ◌∷◌, codes, decimal}
+use Rattle.s10_core.specs.declared.group.Group.{Group}
+use Rattle.s10_core.specs.declared.group.Group.TheVariants.{Parcel, Ems, Registered, Insured, Other}
+use Rattle.s10_core.specs.declared.text_fault.TextFault.{TextFault}
+use Rattle.s10_core.specs.declared.text_fault.TextFault.TheVariants.{Length as TextLength, Letter, Digit, CheckDigit}
+use Rattle.s10_book.specs.declared.book_fault.BookFault.{BookFault}
+use Rattle.s10_book.specs.declared.book_fault.BookFault.TheVariants.{Memory, Store, Full}
+use Rattle.s10_wire.specs.declared.wire_fault.WireFault.{WireFault}
+use Rattle.s10_wire.specs.declared.wire_fault.WireFault.TheVariants.{Short, Magic, Version, Kind, Length, Field, Outcome}
+use Rattle.std.specs.Fmt.{signed_decimal}
+use Rattle.s10_link.specs.declared.link_fault.LinkFault.{LinkFault}
+use Rattle.s10_link.specs.declared.link_fault.LinkFault.TheVariants.{Bind, Receive, Send, Spent}
+use Rattle.s10_ledger.specs.declared.open_fault.OpenFault.{OpenFault}
+use Rattle.s10_ledger.specs.declared.open_fault.OpenFault.TheVariants.{NotALedger, Schema, Damaged, NotEmpty, Memory as NoMemory, Store as NotStored}
+use Rattle.s10_wire.specs.Lines.{line_of}
+use Rattle.s10_jobs.specs.declared.status.Status.{Status}
+use Rattle.s10_jobs.specs.declared.status.Status.TheVariants.{Refused, Failed}
+use Rattle.s10_jobs.specs.declared.replay_fault.ReplayFault.{ReplayFault}
+use Rattle.s10_jobs.specs.declared.replay_fault.ReplayFault.TheVariants.{Line, Read, Write, Memory as LedgerMemory, Store as LedgerStore}
+
+abbrev pub group_words : Group → List ℕ
+group_words Parcel = codes "parcel"
+group_words Ems = codes "ems"
+group_words Registered = codes "registered"
+group_words Insured = codes "insured"
+group_words Other = codes "other"
+
+-- a place is counted from 0
+abbrev pub text_fault_words : TextFault → List (List ℕ)
+text_fault_words TextLength = codes "length" ∷ []
+text_fault_words (Letter at) = codes "letter" ∷ decimal at ∷ []
+text_fault_words (Digit at) = codes "digit" ∷ decimal at ∷ []
+text_fault_words CheckDigit = codes "check-digit" ∷ []
+
+-- an offset is counted from 0
+abbrev pub wire_fault_words : WireFault → List (List ℕ)
+wire_fault_words Short = codes "short" ∷ []
+wire_fault_words Magic = codes "magic" ∷ []
+wire_fault_words Version = codes "version" ∷ []
+wire_fault_words Kind = codes "kind" ∷ []
+wire_fault_words Length = codes "length" ∷ []
+wire_fault_words (Field at) = codes "field" ∷ decimal at ∷ []
+wire_fault_words Outcome = codes "outcome" ∷ []
+
+abbrev pub book_fault_words : BookFault → List (List ℕ)
+book_fault_words Memory = codes "memory" ∷ []
+book_fault_words Store = codes "store" ∷ []
+book_fault_words Full = codes "full" ∷ []
+
+abbrev pub link_fault_words : LinkFault → List (List ℕ)
+link_fault_words Bind = codes "bind" ∷ []
+link_fault_words Receive = codes "receive" ∷ []
+link_fault_words Send = codes "send" ∷ []
+link_fault_words Spent = codes "spent" ∷ []
+
+-- a call is counted from 1, and 0 stands for another row
+abbrev pub open_fault_words : OpenFault → List (List ℕ)
+open_fault_words NotALedger = codes "not-a-ledger" ∷ []
+open_fault_words (Schema number) = codes "schema" ∷ signed_decimal number ∷ []
+open_fault_words (Damaged call) = codes "damaged" ∷ decimal call ∷ []
+open_fault_words NotEmpty = codes "not-empty" ∷ []
+open_fault_words NoMemory = codes "memory" ∷ []
+open_fault_words NotStored = codes "store" ∷ []
+
+-- a line is counted from 1
+abbrev pub replay_fault_line : ReplayFault → List ℕ
+replay_fault_line (Line number) = line_of (codes "refused") (codes "line" ∷ decimal number ∷ [])
+replay_fault_line Read = codes "input\n"
+replay_fault_line Write = codes "output\n"
+replay_fault_line LedgerMemory = codes "memory\n"
+replay_fault_line LedgerStore = codes "store\n"
+
+-- a refused line is refused by a rule, all else failed
+abbrev pub replay_fault_status : ReplayFault → Status
+replay_fault_status (Line number) = Refused
+replay_fault_status Read = Failed
+replay_fault_status Write = Failed
+replay_fault_status LedgerMemory = Failed
+replay_fault_status LedgerStore = Failed

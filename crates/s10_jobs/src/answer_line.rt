@@ -1,0 +1,58 @@
+//! The output line of an answer.
+ghost use Rattle.std.specs.Prelude.{◌++◌, OnOk, codes};
+ghost use Rattle.std.specs.Io.KnownBytes.{Appends};
+ghost use Rattle.hex.specs.Hex.{encode_lower};
+ghost use Rattle.s10_wire.specs.Frame.{frame_bytes};
+ghost use Rattle.s10_wire.specs.Lines.{line_of};
+ghost use Rattle.s10_jobs.specs.Words.{wire_fault_words, book_fault_words};
+ghost use Rattle.s10_jobs.specs.AnswerLines.{answer_line};
+
+use crate::words::{write_book_fault, write_wire_fault};
+use s10_book::BookFault;
+use s10_ends::Answer;
+use s10_wire::{Frame, WireFault, WriteFault, write_text};
+use std::io::Write;
+
+/// Writes the reply in lower-case hex, or why there is none.
+pub fn write_answer<W: Write>(answer: &Answer, out: &mut W) -> Result<(), WriteFault>
+    ensures { OnOk result (Appends (W.contents out.old) (W.contents out.new) (answer_line answer.now)) }
+{
+    match answer {
+        Answer::Reply(frame) => write_hex(frame, out),
+        Answer::Dropped(fault) => write_dropped(*fault, out),
+        Answer::Faulted(fault) => write_faulted(*fault, out),
+    }
+}
+
+/// Writes a frame in lower-case hex, and ends the line.
+pub fn write_hex<W: Write>(frame: &Frame, out: &mut W) -> Result<(), WriteFault>
+    ensures { OnOk result (Appends (W.contents out.old) (W.contents out.new) (encode_lower (frame_bytes frame.now) ++ codes "\n")) }
+{
+    // A frame has at most 256 bytes, and a byte two digits.
+    let mut room = [0u8; 512];
+    let text = &mut room[..2 * frame.bytes().len()];
+    match hex::encode_to_slice(frame.bytes(), text) {
+        Ok(()) => {}
+        Err(_) => unreachable!(),
+    }
+    write_text(text, out)?;
+    write_text(b"\n", out)
+}
+
+/// Writes the line of bytes that ask nothing.
+pub fn write_dropped<W: Write>(fault: WireFault, out: &mut W) -> Result<(), WriteFault>
+    ensures { OnOk result (Appends (W.contents out.old) (W.contents out.new) (line_of (codes "dropped") (wire_fault_words fault))) }
+{
+    write_text(b"dropped", out)?;
+    write_wire_fault(fault, out)?;
+    write_text(b"\n", out)
+}
+
+/// Writes the line of a request that the book left unanswered.
+pub fn write_faulted<W: Write>(fault: BookFault, out: &mut W) -> Result<(), WriteFault>
+    ensures { OnOk result (Appends (W.contents out.old) (W.contents out.new) (line_of (codes "faulted") (book_fault_words fault))) }
+{
+    write_text(b"faulted", out)?;
+    write_book_fault(fault, out)?;
+    write_text(b"\n", out)
+}

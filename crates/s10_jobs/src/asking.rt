@@ -1,0 +1,73 @@
+//! A call, and the line of what came of it.
+
+ghost use Rattle.std.specs.Prelude.{◌≡◌, ◌≤◌, Result, IfOk};
+ghost use Rattle.std.specs.Io.KnownBytes.{Appends};
+ghost use Rattle.s10_wire.specs.declared.reply.Reply.{Reply};
+ghost use Rattle.s10_ends.specs.declared.call_fault.CallFault.{CallFault};
+ghost use Rattle.s10_ends.specs.Calls.{Calls};
+ghost use Rattle.s10_jobs.specs.Asked.{outcome_status, asked_status, asked_line};
+
+use crate::link_fault::write_link_fault;
+use crate::status::Status;
+use s10_ends::{CallFault, Client, call};
+use s10_link::{Link, Peer};
+use s10_wire::{Body, Outcome, Reply, WriteFault, write_reply_line, write_text};
+use std::io::Write;
+
+/// Asks the server at `to`, in 1 to 100 tries, and writes the line of the reply, `gave-up`, or `link` and why.
+///
+/// A client that has a request pending, or no number left, asks nothing: nothing is written, and the status is
+/// `CommandLine`. A fault of the writer may leave part of the line written; the call was made.
+pub fn ask<L: Link, W: Write>(
+    client: &mut Client,
+    link: &mut L,
+    to: Peer,
+    body: Body,
+    tries: u32,
+    out: &mut W,
+) -> Result<Status, WriteFault>
+    requires { (1 ≤ tries) × (tries ≤ 100) }
+    ensures { (called : Result Reply CallFault)
+        × Calls client.old client.new (L.trace_of link.old) (L.trace_of link.new) to body tries called
+        × IfOk result (λ status. (status ≡ asked_status called)
+        × Appends (W.contents out.old) (W.contents out.new) (asked_line called)) }
+{
+    let called = call(client, link, to, body, tries);
+    write_called(&called, out)
+}
+
+fn write_called<W: Write>(
+    called: &Result<Reply, CallFault>,
+    out: &mut W,
+) -> Result<Status, WriteFault>
+    ensures { IfOk result (λ status. (status ≡ asked_status called.now)
+        × Appends (W.contents out.old) (W.contents out.new) (asked_line called.now)) }
+{
+    match called {
+        Ok(reply) => {
+            write_reply_line(reply, out)?;
+            Ok(status_of(&reply.outcome()))
+        }
+        Err(CallFault::Submit(_)) => Ok(Status::CommandLine),
+        Err(CallFault::GaveUp(_)) => {
+            write_text(b"gave-up\n", out)?;
+            Ok(Status::Failed)
+        }
+        Err(CallFault::Link(_, fault)) => {
+            write_link_fault(*fault, out)?;
+            Ok(Status::Failed)
+        }
+    }
+}
+
+// Whether the outcome says that what was asked was done.
+fn status_of(outcome: &Outcome) -> Status
+    ensures { result ≡ outcome_status outcome.now }
+{
+    match outcome {
+        Outcome::Granted { .. } | Outcome::Drawn { .. } | Outcome::Voided | Outcome::Told(_) => {
+            Status::Done
+        }
+        _ => Status::Refused,
+    }
+}

@@ -1,0 +1,92 @@
+//! An audit of a ledger.
+
+ghost use Rattle.std.specs.Prelude.{◌≡◌, ◌⊎◌, ◌∷◌, [], ℕ, false, codes, decimal, Result, Ok, OnOk, IfOk};
+ghost use Rattle.std.specs.Io.KnownBytes.{Appends};
+ghost use Rattle.sqlite.specs.Held.{Held};
+ghost use Rattle.s10_wire.specs.Lines.{line_of};
+ghost use Rattle.s10_ledger.specs.declared.open_fault.OpenFault.{OpenFault};
+ghost use Rattle.s10_jobs.specs.Audited.{IsFound, audit_line, audit_status};
+
+use crate::ledger_fault::write_ledger_fault;
+use crate::status::Status;
+use s10_book::Book;
+use s10_ledger::{OpenFault, Refused, SqlBook};
+use s10_wire::{WriteFault, write_decimal, write_text, write_word};
+use sqlite::{Alter, Connection};
+use std::alloc::Global;
+use std::io::Write;
+
+/// Opens the ledger of a connection, which does all its calls again, and writes `ledger ok N` with the number of its
+/// calls, or `ledger` and why it is none. Answers the exit status: 0 for a ledger, else 3, also where the output
+/// failed. The connection is let go.
+pub fn run_audit<S: Alter + Drop, W: Write>(
+    alloc: Global,
+    connection: Connection<S>,
+    output: &mut W,
+) -> u8
+    requires idle { connection.in_transaction ≡ false }
+    ensures ok { result ≡ 0 → (left : Held S) × (count : ℕ) × IsFound S.Store connection left (Ok count)
+        × Appends (W.contents output.old) (W.contents output.new) (audit_line (Ok count)) }
+    ensures status { (result ≡ 0) ⊎ (result ≡ 3) }
+{
+    match audit(alloc, connection, output) {
+        Ok(Status::Done) => 0,
+        _ => 3,
+    }
+}
+
+fn audit<S: Alter + Drop, W: Write>(
+    alloc: Global,
+    connection: Connection<S>,
+    out: &mut W,
+) -> Result<Status, WriteFault>
+    requires idle { connection.in_transaction ≡ false }
+    ensures { (left : Held S) × (found : Result ℕ OpenFault) × IsFound S.Store connection left found
+        × IfOk result (λ status. (status ≡ audit_status found)
+        × Appends (W.contents out.old) (W.contents out.new) (audit_line found)) }
+{
+    let (found, _left) = count_calls(alloc, connection);
+    write_found(found, out)
+}
+
+// How many calls the ledger keeps, or why it is none; and the connection.
+fn count_calls<S: Alter>(
+    alloc: Global,
+    connection: Connection<S>,
+) -> (Result<u32, OpenFault>, Connection<S>)
+    requires idle { connection.in_transaction ≡ false }
+    ensures { IsFound S.Store connection result.1 result.0 }
+{
+    match SqlBook::open(alloc, connection) {
+        Ok(book) => {
+            let count = book.len();
+            (Ok(count), book.close())
+        }
+        Err(Refused { fault, connection }) => (Err(fault), connection),
+    }
+}
+
+fn write_found<W: Write>(found: Result<u32, OpenFault>, out: &mut W) -> Result<Status, WriteFault>
+    ensures { IfOk result (λ status. (status ≡ audit_status found)
+        × Appends (W.contents out.old) (W.contents out.new) (audit_line found)) }
+{
+    match found {
+        Ok(count) => {
+            write_count(count, out)?;
+            Ok(Status::Done)
+        }
+        Err(fault) => {
+            write_ledger_fault(fault, out)?;
+            Ok(Status::Failed)
+        }
+    }
+}
+
+fn write_count<W: Write>(count: u32, out: &mut W) -> Result<(), WriteFault>
+    ensures { OnOk result (Appends (W.contents out.old) (W.contents out.new) (line_of (codes "ledger") (codes "ok" ∷ decimal count ∷ []))) }
+{
+    write_text(b"ledger", out)?;
+    write_word(b"ok", out)?;
+    write_decimal(count, out)?;
+    write_text(b"\n", out)
+}

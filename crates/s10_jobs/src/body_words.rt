@@ -1,0 +1,93 @@
+//! The body of a request, as words of a command line.
+
+ghost use Rattle.std.specs.Prelude.{◌≡◌, IfOk, IfErr};
+ghost use Rattle.s10_core.specs.Letters.{letters_of};
+ghost use Rattle.s10_core.specs.Id.{SpellsLoosely};
+ghost use Rattle.s10_jobs.specs.Questions.{IsPairRefusal, IsIdRefusal};
+
+use crate::parts::{read_country, read_service};
+use crate::refusal::Refusal;
+use s10_core::{Country, Id, Serial, Service};
+use s10_wire::Body;
+
+/// What is asked, its texts as they were given.
+#[derive(Clone, Copy, Debug, PartialEq, Eq)]
+pub enum BodyWords<'a> {
+    Grant {
+        holder: u32,
+        service: &'a str,
+        country: &'a str,
+        first: Serial,
+        last: Serial,
+    },
+    Draw {
+        service: &'a str,
+        country: &'a str,
+    },
+    Void {
+        id: &'a str,
+    },
+    Query {
+        id: &'a str,
+    },
+}
+
+impl BodyWords<'_> {
+    ghost use Rattle.std.specs.Prelude.{IfOk, IfErr};
+    ghost use Rattle.s10_jobs.specs.Questions.{IsBody, IsBodyRefusal};
+
+    /// Reads the texts: the service before the country, an identifier as on a label. Refused with
+    /// the first that does not read.
+    pub fn read(&self) -> Result<Body, Refusal>
+        ensures ok { IfOk result (IsBody self.now) }
+        ensures refused { IfErr result (IsBodyRefusal self.now) }
+    {
+        match *self {
+            BodyWords::Grant {
+                holder,
+                service,
+                country,
+                first,
+                last,
+            } => {
+                let (service, country) = read_pair(service, country)?;
+                Ok(Body::Grant {
+                    holder,
+                    service,
+                    country,
+                    first,
+                    last,
+                })
+            }
+            BodyWords::Draw { service, country } => {
+                let (service, country) = read_pair(service, country)?;
+                Ok(Body::Draw { service, country })
+            }
+            BodyWords::Void { id } => Ok(Body::Void { id: read_id(id)? }),
+            BodyWords::Query { id } => Ok(Body::Query { id: read_id(id)? }),
+        }
+    }
+}
+
+fn read_pair(service: &str, country: &str) -> Result<(Service, Country), Refusal>
+    ensures ok { IfOk result (λ pair. (letters_of pair.0 ≡ service.now) × (letters_of pair.1 ≡ country.now)) }
+    ensures refused { IfErr result (IsPairRefusal service.now country.now) }
+{
+    let Some(service) = read_service(service) else {
+        return Err(Refusal::Service);
+    };
+    let Some(country) = read_country(country) else {
+        return Err(Refusal::Country);
+    };
+    Ok((service, country))
+}
+
+fn read_id(text: &str) -> Result<Id, Refusal>
+    ensures ok { IfOk result (SpellsLoosely text.now) }
+    ensures refused { IfErr result (IsIdRefusal text.now) }
+{
+    match Id::read_label(text.as_bytes()) {
+        Ok(id) => Ok(id),
+        Err(fault) => Err(Refusal::Text(fault)),
+    }
+}

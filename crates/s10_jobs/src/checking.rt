@@ -1,0 +1,51 @@
+//! The check of an identifier.
+ghost use Rattle.std.specs.Prelude.{◌≡◌, IfOk, IfErr};
+ghost use Rattle.std.specs.Io.KnownBytes.{Appends};
+ghost use Rattle.s10_core.specs.declared.id.Id.{Id};
+ghost use Rattle.s10_core.specs.declared.text_fault.TextFault.{TextFault};
+ghost use Rattle.s10_core.specs.Id.{Spells};
+ghost use Rattle.s10_core.specs.TextFault.{IsFirstRefusal};
+ghost use Rattle.s10_jobs.specs.Words.{text_fault_words};
+ghost use Rattle.s10_jobs.specs.Lines.{text_read, valid_line, refused_line};
+
+use crate::refusals::refuse_text;
+use crate::status::Status;
+use crate::words::group_word;
+use s10_core::{Id, TextFault};
+use s10_wire::{WriteFault, write_text, write_word};
+use std::io::Write;
+
+/// Writes the line of a text.
+pub fn check<W: Write>(text: &str, is_label: bool, out: &mut W) -> Result<Status, WriteFault>
+    ensures valid { (id : Id) → Spells (text_read is_label text.now) id → IfOk result (λ status.
+        (status ≡ Status.Done) × Appends (W.contents out.old) (W.contents out.new) (valid_line id)) }
+    ensures refused { (fault : TextFault) → IsFirstRefusal (text_read is_label text.now) fault → IfOk result (λ status.
+        (status ≡ Status.Refused) × Appends (W.contents out.old) (W.contents out.new) (refused_line (text_fault_words fault))) }
+{
+    match read(text, is_label) {
+        Ok(id) => write_valid(&id, out),
+        Err(fault) => refuse_text(fault, out),
+    }
+}
+
+fn read(text: &str, is_label: bool) -> Result<Id, TextFault>
+    ensures ok { IfOk result (Spells (text_read is_label text.now)) }
+    ensures refused { IfErr result (IsFirstRefusal (text_read is_label text.now)) }
+{
+    if is_label {
+        Id::read_label(text.as_bytes())
+    } else {
+        Id::read(text.as_bytes())
+    }
+}
+
+fn write_valid<W: Write>(id: &Id, out: &mut W) -> Result<Status, WriteFault>
+    ensures { IfOk result (λ status.
+        (status ≡ Status.Done) × Appends (W.contents out.old) (W.contents out.new) (valid_line id.now)) }
+{
+    write_text(&id.write(), out)?;
+    write_word(b"valid", out)?;
+    write_word(group_word(id.service.group()).as_bytes(), out)?;
+    write_text(b"\n", out)?;
+    Ok(Status::Done)
+}

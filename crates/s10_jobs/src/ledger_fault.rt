@@ -1,0 +1,20 @@
+//! The line of a ledger that could not be made or opened.
+
+ghost use Rattle.std.specs.Prelude.{OnOk, codes};
+ghost use Rattle.std.specs.Io.KnownBytes.{Appends};
+ghost use Rattle.s10_wire.specs.Lines.{line_of};
+ghost use Rattle.s10_jobs.specs.Words.{open_fault_words};
+
+use crate::words::write_open_fault;
+use s10_ledger::OpenFault;
+use s10_wire::{WriteFault, write_text};
+use std::io::Write;
+
+/// Writes the line of a ledger's fault. A fault of the writer may leave part of it written.
+pub fn write_ledger_fault<W: Write>(fault: OpenFault, out: &mut W) -> Result<(), WriteFault>
+    ensures { OnOk result (Appends (W.contents out.old) (W.contents out.new) (line_of (codes "ledger") (open_fault_words fault))) }
+{
+    write_text(b"ledger", out)?;
+    write_open_fault(fault, out)?;
+    write_text(b"\n", out)
+}

@@ -1,0 +1,53 @@
+//! What each subcommand reads, does and writes, over readers, writers, links, connections and books
+//! that are handed in.
+#![tactic(auto)]
+
+mod answer_line;
+mod asking;
+mod audit;
+mod body_words;
+mod checking;
+mod day;
+mod delivery_line;
+mod failures;
+mod job;
+mod ledger_fault;
+mod line_reader;
+mod link_fault;
+mod making;
+mod parts;
+mod question;
+mod refusal;
+mod refusals;
+mod replay_fault;
+mod replaying;
+mod reporting;
+mod showing;
+mod status;
+mod tries;
+mod turn_line;
+mod turns;
+mod words;
+
+pub use answer_line::write_answer;
+pub use asking::ask;
+pub use audit::run_audit;
+pub use body_words::BodyWords;
+pub use checking::check;
+pub use day::{day_or_today, today};
+pub use failures::{fail_by_clock, fail_by_ledger, fail_by_link};
+pub use job::Job;
+pub use ledger_fault::write_ledger_fault;
+pub use link_fault::write_link_fault;
+pub use making::make;
+pub use question::Question;
+pub use refusal::{Refusal, write_refusal};
+pub use refusals::refuse;
+pub use replay_fault::ReplayFault;
+pub use replaying::{replay, run_replay};
+pub use reporting::{Report, write_report};
+pub use showing::show;
+pub use status::Status;
+pub use tries::Tries;
+pub use turn_line::write_turn;
+pub use turns::serve_turns;

@@ -1,0 +1,78 @@
+//! The lines of an input, read a byte at a time into a fixed buffer.
+ghost use Rattle.std.specs.Prelude.{IfOk, OnErr};
+ghost use Rattle.std.specs.Io.KnownBytes.{Keeps};
+ghost use Rattle.s10_jobs.specs.LineReader.{ReadsByte, ReadsLine, FitsIn};
+
+use std::io;
+use std::io::{ErrorKind, Read};
+
+/// How many bytes a line may have, without its line feed.
+pub const LINE_ROOM: usize = 1036;
+
+/// What stood next in an input.
+#[derive(Clone, Copy)]
+pub enum NextLine {
+    /// Nothing.
+    End,
+    /// A line of so many bytes.
+    Whole(usize),
+    /// A line that does not fit.
+    Long,
+}
+
+// Takes the next byte in one read, if there is one.
+fn try_byte<R: Read>(input: &mut R) -> io::Result<Option<u8>>
+    ensures read { IfOk result (ReadsByte (R.remaining input.old) (R.remaining input.new)) }
+    ensures kept { OnErr result (Keeps (R.remaining input.old) (R.remaining input.new)) }
+{
+    let mut one = [0u8];
+    let count = input.read(&mut one)?;
+    if count == 0 {
+        Ok(None)
+    } else {
+        Ok(Some(one[0]))
+    }
+}
+
+/// Takes the next byte, if there is one. An interrupted read is tried again, as std does.
+pub fn next_byte<R: Read>(input: &mut R) -> io::Result<Option<u8>>
+    ensures { IfOk result (ReadsByte (R.remaining input.old) (R.remaining input.new)) }
+{
+    'tries: for _ in 0..u64::MAX {
+        match try_byte(input) {
+            Ok(byte) => return Ok(byte),
+            Err(error) => {
+                if error.kind() != ErrorKind::Interrupted {
+                    return Err(error);
+                }
+            }
+        }
+    }
+    Err(io::Error::from(ErrorKind::Interrupted))
+}
+
+/// Reads the next line into the buffer, and no byte past its line feed; of a line that does not fit, one byte more than
+/// the buffer has room for.
+pub fn read_line<R: Read>(input: &mut R, buffer: &mut [u8; LINE_ROOM]) -> io::Result<NextLine>
+    ensures fits { IfOk result FitsIn }
+    ensures line { IfOk result (ReadsLine (R.remaining input.old) (R.remaining input.new) buffer.new) }
+{
+    for at in 0..LINE_ROOM {
+        match next_byte(input)? {
+            None => {
+                return Ok(if at == 0 {
+                    NextLine::End
+                } else {
+                    NextLine::Whole(at)
+                });
+            }
+            Some(b'\n') => return Ok(NextLine::Whole(at)),
+            Some(byte) => buffer[at] = byte,
+        }
+    }
+    match next_byte(input)? {
+        None => Ok(NextLine::Whole(LINE_ROOM)),
+        Some(b'\n') => Ok(NextLine::Whole(LINE_ROOM)),
+        Some(_byte) => Ok(NextLine::Long),
+    }
+}

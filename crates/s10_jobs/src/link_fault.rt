@@ -1,0 +1,20 @@
+//! The line of a link that failed.
+
+ghost use Rattle.std.specs.Prelude.{OnOk, codes};
+ghost use Rattle.std.specs.Io.KnownBytes.{Appends};
+ghost use Rattle.s10_wire.specs.Lines.{line_of};
+ghost use Rattle.s10_jobs.specs.Words.{link_fault_words};
+
+use crate::words::write_link_word;
+use s10_link::LinkFault;
+use s10_wire::{WriteFault, write_text};
+use std::io::Write;
+
+/// Writes the line of a link's fault. A fault of the writer may leave part of it written.
+pub fn write_link_fault<W: Write>(fault: LinkFault, out: &mut W) -> Result<(), WriteFault>
+    ensures { OnOk result (Appends (W.contents out.old) (W.contents out.new) (line_of (codes "link") (link_fault_words fault))) }
+{
+    write_text(b"link", out)?;
+    write_link_word(fault, out)?;
+    write_text(b"\n", out)
+}

@@ -1,0 +1,48 @@
+//! The identifier of parts.
+ghost use Rattle.std.specs.Prelude.{◌≡◌, [], ◌∷◌, codes, IfOk};
+ghost use Rattle.std.specs.Io.KnownBytes.{Appends};
+ghost use Rattle.s10_core.specs.Serial.{AreEightDigits};
+ghost use Rattle.s10_jobs.specs.Lines.{AreTwoCapitals, made_line, refused_line};
+
+use crate::parts::{read_country, read_service};
+use crate::refusals::refuse;
+use crate::status::Status;
+use s10_core::{Id, Serial};
+use s10_wire::{WriteFault, write_text};
+use std::io::Write;
+
+/// Writes the identifier of these parts, or the first that is wrong.
+pub fn make<W: Write>(
+    service: &str,
+    serial: &str,
+    country: &str,
+    out: &mut W,
+) -> Result<Status, WriteFault>
+    ensures made { AreTwoCapitals service.now → AreEightDigits serial.now → AreTwoCapitals country.now → IfOk result (λ status.
+        (status ≡ Status.Done)
+        × Appends (W.contents out.old) (W.contents out.new) (made_line service.now serial.now country.now)) }
+    ensures service { ¬ AreTwoCapitals service.now → IfOk result (λ status.
+        (status ≡ Status.Refused) × Appends (W.contents out.old) (W.contents out.new) (refused_line (codes "service" ∷ []))) }
+    ensures serial { AreTwoCapitals service.now → ¬ AreEightDigits serial.now → IfOk result (λ status.
+        (status ≡ Status.Refused) × Appends (W.contents out.old) (W.contents out.new) (refused_line (codes "serial" ∷ []))) }
+    ensures country { AreTwoCapitals service.now → AreEightDigits serial.now → ¬ AreTwoCapitals country.now → IfOk result (λ status.
+        (status ≡ Status.Refused) × Appends (W.contents out.old) (W.contents out.new) (refused_line (codes "country" ∷ []))) }
+{
+    let Some(service) = read_service(service) else {
+        return refuse(b"service", out);
+    };
+    let Some(serial) = Serial::read(serial.as_bytes()) else {
+        return refuse(b"serial", out);
+    };
+    let Some(country) = read_country(country) else {
+        return refuse(b"country", out);
+    };
+    let id = Id {
+        service,
+        serial,
+        country,
+    };
+    write_text(&id.write(), out)?;
+    write_text(b"\n", out)?;
+    Ok(Status::Done)
+}

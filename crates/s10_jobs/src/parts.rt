@@ -1,0 +1,28 @@
+//! Parts of an identifier, as words of a command line.
+ghost use Rattle.std.specs.Prelude.{◌≡◌, ◌↔◌, IsSome, IfSome};
+ghost use Rattle.s10_core.specs.Letters.{letters_of};
+ghost use Rattle.s10_jobs.specs.Lines.{AreTwoCapitals};
+
+use s10_core::{Country, Service};
+
+/// Reads a service indicator: exactly two capital letters.
+pub fn read_service(text: &str) -> Option<Service>
+    ensures capitals { IsSome result ↔ AreTwoCapitals text.now }
+    ensures letters { IfSome result (λ service. letters_of service ≡ text.now) }
+{
+    let [first, second] = text.as_bytes() else {
+        return None;
+    };
+    Service::new([*first, *second])
+}
+
+/// Reads a country code: exactly two capital letters.
+pub fn read_country(text: &str) -> Option<Country>
+    ensures capitals { IsSome result ↔ AreTwoCapitals text.now }
+    ensures letters { IfSome result (λ country. letters_of country ≡ text.now) }
+{
+    let [first, second] = text.as_bytes() else {
+        return None;
+    };
+    Country::new([*first, *second])
+}

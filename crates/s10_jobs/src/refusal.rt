@@ -1,0 +1,38 @@
+//! Why the texts of a request are refused.
+
+ghost use Rattle.std.specs.Prelude.{◌≡◌, IfOk};
+ghost use Rattle.std.specs.Io.KnownBytes.{Appends};
+ghost use Rattle.s10_jobs.specs.Lines.{refused_line};
+ghost use Rattle.s10_jobs.specs.Questions.{refusal_words};
+
+use crate::refusals::{refuse, refuse_text};
+use crate::status::Status;
+use s10_core::TextFault;
+use s10_wire::WriteFault;
+use std::io::Write;
+
+/// The first text of a request that does not read.
+#[derive(Clone, Copy, Debug, PartialEq, Eq)]
+pub enum Refusal {
+    /// The address of the server.
+    Peer,
+    /// The service indicator.
+    Service,
+    /// The country code.
+    Country,
+    /// The identifier.
+    Text(TextFault),
+}
+
+/// Writes the line of a refusal.
+pub fn write_refusal<W: Write>(refusal: Refusal, out: &mut W) -> Result<Status, WriteFault>
+    ensures { IfOk result (λ status. (status ≡ Status.Refused)
+        × Appends (W.contents out.old) (W.contents out.new) (refused_line (refusal_words refusal))) }
+{
+    match refusal {
+        Refusal::Peer => refuse(b"peer", out),
+        Refusal::Service => refuse(b"service", out),
+        Refusal::Country => refuse(b"country", out),
+        Refusal::Text(fault) => refuse_text(fault, out),
+    }
+}

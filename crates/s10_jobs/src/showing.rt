@@ -1,0 +1,65 @@
+//! What a datagram carries, as a line.
+ghost use Rattle.std.specs.Prelude.{◌≡◌, ℕ, List, [], ◌∷◌, codes, IfOk, None, Some};
+ghost use Rattle.std.specs.Io.KnownBytes.{Appends};
+ghost use Rattle.s10_jobs.specs.Lines.{refused_line};
+ghost use Rattle.s10_jobs.specs.InputLines.{bytes_in};
+ghost use Rattle.s10_jobs.specs.Shown.{is_marked_reply, IsRequestShown, IsReplyShown, IsShown, Prints};
+
+use crate::delivery_line::read_bytes;
+use crate::refusals::{refuse, refuse_datagram};
+use crate::status::Status;
+use s10_wire::{WriteFault, decode_reply, decode_request, write_reply_line, write_request_line};
+use std::io::Write;
+
+/// Writes the line of the datagram that the hexadecimal digits stand for.
+pub fn show<W: Write>(text: &str, out: &mut W) -> Result<Status, WriteFault>
+    ensures hex { bytes_in text.now ≡ None → IfOk result (λ status. (status ≡ Status.Refused)
+        × Appends (W.contents out.old) (W.contents out.new) (refused_line (codes "hex" ∷ []))) }
+    ensures datagram { (bytes : List ℕ) → bytes_in text.now ≡ Some bytes → IfOk result (λ status.
+        Prints (W.contents out.old) (W.contents out.new) (IsShown bytes status)) }
+{
+    match read_bytes(text.as_bytes()) {
+        Some(packet) => show_datagram(packet.bytes(), out),
+        None => refuse(b"hex", out),
+    }
+}
+
+fn show_datagram<W: Write>(bytes: &[u8], out: &mut W) -> Result<Status, WriteFault>
+    ensures { IfOk result (λ status. Prints (W.contents out.old) (W.contents out.new) (IsShown bytes.now status)) }
+{
+    if is_reply(bytes) {
+        show_reply(bytes, out)
+    } else {
+        show_request(bytes, out)
+    }
+}
+
+fn is_reply(bytes: &[u8]) -> bool
+    ensures { result ≡ is_marked_reply bytes.now }
+{
+    bytes.len() >= 4 && bytes[3] >= 0x80
+}
+
+fn show_request<W: Write>(bytes: &[u8], out: &mut W) -> Result<Status, WriteFault>
+    ensures { IfOk result (λ status. Prints (W.contents out.old) (W.contents out.new) (IsRequestShown bytes.now status)) }
+{
+    match decode_request(bytes) {
+        Ok(request) => {
+            write_request_line(&request, out)?;
+            Ok(Status::Done)
+        }
+        Err(fault) => refuse_datagram(fault, out),
+    }
+}
+
+fn show_reply<W: Write>(bytes: &[u8], out: &mut W) -> Result<Status, WriteFault>
+    ensures { IfOk result (λ status. Prints (W.contents out.old) (W.contents out.new) (IsReplyShown bytes.now status)) }
+{
+    match decode_reply(bytes) {
+        Ok(reply) => {
+            write_reply_line(&reply, out)?;
+            Ok(Status::Done)
+        }
+        Err(fault) => refuse_datagram(fault, out),
+    }
+}

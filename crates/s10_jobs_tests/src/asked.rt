@@ -1,0 +1,113 @@
+//! Calls over links, and what is printed of them.
+
+use crate::refusing::Refusing;
+use s10_core::{Country, Service};
+use s10_ends::Client;
+use s10_jobs::{Status, ask};
+use s10_link::{Packet, Peer, Receipt, ScriptLink};
+use s10_wire::{Body, WriteFault};
+use std::alloc::{AllocError, Global};
+use std::test::Fail;
+
+const SERVER: Peer = Peer {
+    ip: [10, 0, 0, 1],
+    port: 4711,
+};
+
+// RA000000005GB issued on day 20000 to customer 7's Draw of RA GB with number 1
+const DRAWN: &[u8] = b"S1\x01\x82\0\0\0\x07\0\0\0\x01RAGB\0\0\0\x4e\x20RA000000005GB";
+
+// NoneFree, in reply to the same Draw
+const NONE_FREE: &[u8] = b"S1\x01\x82\0\0\0\x07\0\0\0\x01RAGB\x05";
+
+fn draw() -> Result<Body, &'static str> {
+    match (Service::new(*b"RA"), Country::new(*b"GB")) {
+        (Some(service), Some(country)) => Ok(Body::Draw { service, country }),
+        _ => Err("letters"),
+    }
+}
+
+fn script(alloc: Global, receipts: &[Receipt], sends: &[bool]) -> Result<ScriptLink, AllocError> {
+    ScriptLink::new(alloc, receipts.to_vec(alloc)?, sends.to_vec(alloc)?)
+}
+
+fn delivered(bytes: &[u8]) -> Receipt {
+    Receipt::Deliver(SERVER, Packet::new(bytes))
+}
+
+/// Whether a call in two tries has this status and prints this line.
+fn is_told(
+    alloc: Global,
+    client: &mut Client,
+    link: &mut ScriptLink,
+    status: Status,
+    line: &str,
+) -> Result<bool, Fail> {
+    let mut out = Vec::new(alloc);
+    let asked = ask(client, link, SERVER, draw()?, 2, &mut out);
+    Ok(asked == Ok(status) && out.as_slice() == line.as_bytes())
+}
+
+/// Whether customer 7's first call over this script has this status and prints this line, and the
+/// next asks nothing: the number is spent, whatever came of it.
+fn is_asked_once(
+    alloc: Global,
+    receipts: &[Receipt],
+    sends: &[bool],
+    status: Status,
+    line: &str,
+) -> Result<bool, Fail> {
+    let mut link = script(alloc, receipts, sends)?;
+    let mut client = Client::new(7, 1, 1)?;
+    Ok(is_told(alloc, &mut client, &mut link, status, line)?
+        && is_told(alloc, &mut client, &mut link, Status::CommandLine, "")?)
+}
+
+#[test]
+fn what_came_of_a_call_is_printed(rt: HostRuntime) -> Result<(), Fail> {
+    let drawn = delivered(DRAWN);
+    let none_free = delivered(NONE_FREE);
+    let cases: [(&[Receipt], &[bool], Status, &str); 7] = [
+        (
+            &[drawn],
+            &[true],
+            Status::Done,
+            "reply draw customer 7 number 1 RA GB done day 20000 RA000000005GB\n",
+        ),
+        (
+            &[Receipt::Nothing, drawn],
+            &[true, true],
+            Status::Done,
+            "reply draw customer 7 number 1 RA GB done day 20000 RA000000005GB\n",
+        ),
+        (
+            &[none_free],
+            &[true],
+            Status::Refused,
+            "reply draw customer 7 number 1 RA GB none-free\n",
+        ),
+        (&[], &[true, true], Status::Failed, "gave-up\n"),
+        (&[], &[false], Status::Failed, "link send\n"),
+        (&[Receipt::Fail], &[true], Status::Failed, "link receive\n"),
+        (&[], &[true], Status::Failed, "link spent\n"),
+    ];
+    for (receipts, sends, status, line) in cases {
+        let is_asked = is_asked_once(rt.alloc(), receipts, sends, status, line)?;
+        assert!(rt; is_asked, "{line}");
+    }
+    Ok(())
+}
+
+/// Whether a call whose line cannot be written was made.
+fn is_made_unwritten(alloc: Global) -> Result<bool, Fail> {
+    let mut link = script(alloc, &[delivered(DRAWN)], &[true])?;
+    let mut client = Client::new(7, 1, 1)?;
+    let asked = ask(&mut client, &mut link, SERVER, draw()?, 1, &mut Refusing);
+    Ok(asked == Err(WriteFault) && link.log().len() == 1 && client.pending().is_none())
+}
+
+#[test]
+fn line_that_cannot_be_written_is_told_after_the_call(rt: HostRuntime) -> Result<(), Fail> {
+    assert!(rt; is_made_unwritten(rt.alloc())?);
+    Ok(())
+}

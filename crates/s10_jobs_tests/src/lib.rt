@@ -1,0 +1,19 @@
+//! Tests of the jobs: calls, ledgers, replays, reports, turns and their lines.
+#![tactic(auto)]
+
+#[cfg(test)]
+mod asked;
+#[cfg(test)]
+mod ledgers;
+#[cfg(test)]
+mod refusing;
+#[cfg(test)]
+mod replays;
+#[cfg(test)]
+mod reports;
+#[cfg(test)]
+mod tries;
+#[cfg(test)]
+mod turn_lines;
+#[cfg(test)]
+mod turns;

@@ -1,0 +1,242 @@
+use s10_book::Settings;
+use s10_jobs::{ReplayFault, replay};
+use std::io;
+use std::io::{ErrorKind, Read, Write};
+use std::process::Abort;
+use std::test::Fail;
+
+/// The post grants range 1 to customer 7: RA GB 0 to 2.
+const GRANT: &str = "20000 53310101000000000000000100000007524147420000000000000002\n";
+
+const GRANTED: &str = "5331018100000000000000010000000752414742000000000000000200\
+00000001\n";
+
+/// Customer 7's first Draw.
+const DRAW: &str = "20000 53310102000000070000000152414742\n";
+
+const DRAWN: &str = "533101820000000700000001524147420000004e2052413030303030303030354742\n";
+
+fn settings(limit: u32) -> Result<Settings, Fail> {
+    Ok(Settings::new(30, limit).ok_or("settings")?)
+}
+
+/// Replays an input, and compares the answer and what was written.
+fn compare<R: AllocGlobal + Abort>(
+    rt: &R,
+    bytes: &[u8],
+    want: Result<u32, ReplayFault>,
+    text: &str,
+) -> Result<(), Fail> {
+    let mut input: &[u8] = bytes;
+    let mut output = Vec::new(rt.alloc());
+    let answer = replay(rt.alloc(), settings(100)?, &mut input, &mut output);
+    assert_eq!(rt; answer, want);
+    assert_eq!(rt; output.as_slice(), text.as_bytes());
+    Ok(())
+}
+
+#[test]
+fn nine_lines_get_their_nine_lines(rt: HostRuntime) -> Result<(), Fail> {
+    compare(
+        &rt,
+        b"20000 53310101000000000000000100000007524147420000000000000002
+20000 53310102000000070000000152414742
+20400 53310102000000070000000152414742
+20000 53310102000000070000000252414742
+20000 53310102000000070000000352414742
+20029 53310102000000070000000452414742
+20030 53310102000000070000000452414742
+20030 53310102000000070000000552414742
+20030 533101020000000700000006524147
+",
+        Ok(9),
+        "533101810000000000000001000000075241474200000000000000020000000001
+533101820000000700000001524147420000004e2052413030303030303030354742
+533101820000000700000001524147420000004e2052413030303030303030354742
+533101820000000700000002524147420000004e2052413030303030303031344742
+533101820000000700000003524147420000004e2052413030303030303032384742
+5331018200000007000000045241474205
+5331018200000007000000045241474205
+533101820000000700000005524147420000004e3e52413030303030303030354742
+dropped length
+",
+    )
+}
+
+#[test]
+fn small_inputs_are_read_as_lines(rt: HostRuntime) -> Result<(), Fail> {
+    let cases: [(&[u8], Result<u32, ReplayFault>, &str); 19] = [
+        (b"", Ok(0), ""),
+        (b"20000 ", Ok(1), "dropped short\n"),
+        (b"20000 \n", Ok(1), "dropped short\n"),
+        (b"20000 5", Err(ReplayFault::Line(1)), ""),
+        (b"20000", Err(ReplayFault::Line(1)), ""),
+        (b" 53", Err(ReplayFault::Line(1)), ""),
+        (b"20000  53", Err(ReplayFault::Line(1)), ""),
+        (b"2000x 53", Err(ReplayFault::Line(1)), ""),
+        (b"20000 5g", Err(ReplayFault::Line(1)), ""),
+        (b"00000020000 53", Err(ReplayFault::Line(1)), ""),
+        (b"0000020000 53", Ok(1), "dropped short\n"),
+        (b"4294967295 53", Ok(1), "dropped short\n"),
+        (b"4294967296 53", Err(ReplayFault::Line(1)), ""),
+        // Empty lines are counted and passed over, also with a carriage return.
+        (b"\n\r\n\n20000 x\n", Err(ReplayFault::Line(4)), ""),
+        (b"\n\r\n\n20000 \r\n", Ok(1), "dropped short\n"),
+        (b"20000 \r\r\n", Err(ReplayFault::Line(1)), ""),
+        (
+            b"1 \n2 \nx\n4 \n",
+            Err(ReplayFault::Line(3)),
+            "dropped short\ndropped short\n",
+        ),
+        (
+            b"1 533001020000000700000001\n1 533102020000000700000001\n1 533101050000000700000001\n",
+            Ok(3),
+            "dropped magic\ndropped version\ndropped kind\n",
+        ),
+        (
+            b"1 53310102000000070000000172614742\n1 53310102000000070000000152416762",
+            Ok(2),
+            "dropped field 12\ndropped field 14\n",
+        ),
+    ];
+    for (bytes, want, text) in cases {
+        compare(&rt, bytes, want, text)?;
+    }
+    Ok(())
+}
+
+#[test]
+fn digits_of_both_cases_are_read_and_small_ones_written(rt: HostRuntime) -> Result<(), Fail> {
+    compare(
+        &rt,
+        b"20000 53310101000000000000000100000007524147420000000A0000000c",
+        Ok(1),
+        "5331018100000000000000010000000752414742\
+0000000a0000000c0000000001\n",
+    )
+}
+
+#[test]
+fn longest_line_is_read_whole(rt: HostRuntime) -> Result<(), Fail> {
+    let mut line = Vec::new(rt.alloc());
+    line.extend_from_slice(b"0000020000 ")?;
+    for _ in 0..1024u32 {
+        line.push(b'0')?;
+    }
+    line.push(b'\r')?;
+    assert_eq!(rt; line.len(), 1036);
+    compare(&rt, &line, Ok(1), "dropped magic\n")?;
+    line.push(b'\n')?;
+    compare(&rt, &line, Ok(1), "dropped magic\n")
+}
+
+#[test]
+fn longer_line_is_refused_without_reading_more(rt: HostRuntime) -> Result<(), Fail> {
+    let mut line = Vec::new(rt.alloc());
+    for _ in 0..1036u32 {
+        line.push(b'0')?;
+    }
+    for (more, want) in [("", ReplayFault::Read), ("0", ReplayFault::Line(1))] {
+        line.extend_from_slice(more.as_bytes())?;
+        let mut input = Failing {
+            bytes: &line,
+            is_interrupted: false,
+        };
+        let mut output = Vec::new(rt.alloc());
+        let answer = replay(rt.alloc(), settings(100)?, &mut input, &mut output);
+        assert_eq!(rt; answer, Err(want));
+    }
+    compare(&rt, &line, Err(ReplayFault::Line(1)), "")
+}
+
+#[test]
+fn full_ledger_is_told(rt: HostRuntime) -> Result<(), Fail> {
+    let mut text = String::from_str(rt.alloc(), GRANT)?;
+    text.push_str(DRAW)?;
+    text.push_str("20000 53310102000000070000000252414742\n")?;
+    text.push_str(DRAW)?;
+    let mut wanted = String::from_str(rt.alloc(), GRANTED)?;
+    wanted.push_str(DRAWN)?;
+    wanted.push_str("faulted full\n")?;
+    wanted.push_str(DRAWN)?;
+    let mut input: &[u8] = text.as_bytes();
+    let mut output = Vec::new(rt.alloc());
+    assert_eq!(rt;
+        replay(rt.alloc(), settings(2)?, &mut input, &mut output),
+        Ok(4)
+    );
+    assert_eq!(rt; output.as_slice(), wanted.as_bytes());
+    Ok(())
+}
+
+/// A reader that fails once its bytes are read, and is interrupted before each read.
+#[derive(Drop)]
+struct Failing<'a> {
+    bytes: &'a [u8],
+    is_interrupted: bool,
+}
+
+impl Read for Failing<'_> {
+    fn read(&mut self, buf: &mut [u8]) -> io::Result<usize> {
+        self.is_interrupted = !self.is_interrupted;
+        if self.is_interrupted {
+            return Err(io::Error::from(ErrorKind::Interrupted));
+        }
+        if self.bytes.is_empty() {
+            return Err(io::Error::from(ErrorKind::Other));
+        }
+        self.bytes.read(buf)
+    }
+}
+
+/// A writer with room for so many bytes.
+#[derive(Drop)]
+struct Narrow {
+    room: usize,
+}
+
+impl Write for Narrow {
+    fn write(&mut self, buf: &[u8]) -> io::Result<usize> {
+        if buf.len() > self.room {
+            return Err(io::Error::from(ErrorKind::Other));
+        }
+        self.room -= buf.len();
+        Ok(buf.len())
+    }
+
+    fn flush(&mut self) -> io::Result<()> {
+        Ok(())
+    }
+}
+
+#[test]
+fn reader_that_fails_ends_the_replay(rt: HostRuntime) -> Result<(), Fail> {
+    let mut input = Failing {
+        bytes: b"20000 \n20000 5",
+        is_interrupted: false,
+    };
+    let mut output = Vec::new(rt.alloc());
+    let answer = replay(rt.alloc(), settings(100)?, &mut input, &mut output);
+    assert_eq!(rt; answer, Err(ReplayFault::Read));
+    assert_eq!(rt; output.as_slice(), b"dropped short\n".as_slice());
+    Ok(())
+}
+
+#[test]
+fn writer_that_fails_ends_the_replay(rt: HostRuntime) -> Result<(), Fail> {
+    let text: &[u8] = b"20000 \n20000 \n";
+    for room in [0, 13, 14, 27] {
+        let mut input = text;
+        let answer = replay(rt.alloc(), settings(100)?, &mut input, &mut Narrow { room });
+        assert_eq!(rt; answer, Err(ReplayFault::Write), "{room}");
+    }
+    let mut input = text;
+    let answer = replay(
+        rt.alloc(),
+        settings(100)?,
+        &mut input,
+        &mut Narrow { room: 28 },
+    );
+    assert_eq!(rt; answer, Ok(2));
+    Ok(())
+}

@@ -1,0 +1,115 @@
+//! Reports, and the lines of those that end early.
+
+use crate::refusing::Refusing;
+use s10_book::{PlainBook, Settings, TripBook};
+use s10_ends::Server;
+use s10_jobs::{Report, Status, write_report};
+use s10_wire::WriteFault;
+use std::alloc::Global;
+use std::io;
+use std::io::Write;
+use std::test::Fail;
+
+const RANGES: &str = "range customer service country first last used voided free
+1 7 RA GB 00000000 00000002 1 0 2
+";
+
+const ISSUES: &str = "arrival day customer number identifier state
+2 20000 7 1 RA000000005GB issued
+";
+
+/// The book of a grant of three serials and a draw.
+fn one_issue(alloc: Global) -> Result<PlainBook, Fail> {
+    let settings = Settings::new(30, 100).ok_or("settings")?;
+    let mut server = Server::new(PlainBook::new(alloc, settings));
+    let grant = b"S1\x01\x01\0\0\0\0\0\0\0\x01\0\0\0\x07RAGB\0\0\0\0\0\0\0\x02";
+    let draw = b"S1\x01\x02\0\0\0\x07\0\0\0\x01RAGB";
+    let _ = server.handle(grant, 20_000);
+    let _ = server.handle(draw, 20_000);
+    Ok(server.into_book())
+}
+
+#[test]
+fn reports_are_written_whole(rt: HostRuntime) -> Result<(), Fail> {
+    for (is_of_issues, text) in [(false, RANGES), (true, ISSUES)] {
+        let mut book = one_issue(rt.alloc())?;
+        let report = Report::new(&rt, is_of_issues, Some(20_000)).ok_or("day")?;
+        let mut out = Vec::new(rt.alloc());
+        assert_eq!(rt; write_report(&mut book, report, &mut out), Ok(Status::Done));
+        assert_eq!(rt; out.as_slice(), text.as_bytes());
+    }
+    Ok(())
+}
+
+#[test]
+fn a_report_has_the_day_that_is_given(rt: HostRuntime) {
+    let on_day = |day| Some(Report::Ranges { day });
+    assert_eq!(rt; Report::new(&rt, false, Some(7)), on_day(7));
+    assert_eq!(rt; Report::new(&rt, true, Some(7)), Some(Report::Issues));
+    assert_eq!(rt; Report::new(&rt, true, None), Some(Report::Issues));
+    assert!(rt; Report::new(&rt, false, None).is_some());
+}
+
+#[test]
+fn a_fault_of_the_book_ends_a_report(rt: HostRuntime) -> Result<(), Fail> {
+    let cases = [
+        (
+            Report::Ranges { day: 20_000 },
+            "range customer service country first last used voided free\nfaulted store\n",
+        ),
+        (
+            Report::Issues,
+            "arrival day customer number identifier state\nfaulted store\n",
+        ),
+    ];
+    for (report, text) in cases {
+        let mut book = TripBook::new(one_issue(rt.alloc())?, 0);
+        let mut out = Vec::new(rt.alloc());
+        assert_eq!(rt;
+            write_report(&mut book, report, &mut out),
+            Ok(Status::Failed)
+        );
+        assert_eq!(rt; out.as_slice(), text.as_bytes());
+    }
+    Ok(())
+}
+
+/// A writer that refuses its first bytes alone.
+#[derive(Drop)]
+struct Once {
+    has_failed: bool,
+    bytes: Vec<u8>,
+}
+
+impl Write for Once {
+    fn write(&mut self, buf: &[u8]) -> io::Result<usize> {
+        if self.has_failed {
+            return self.bytes.write(buf);
+        }
+        self.has_failed = true;
+        Err(io::Error::from(io::ErrorKind::Other))
+    }
+
+    fn flush(&mut self) -> io::Result<()> {
+        Ok(())
+    }
+}
+
+#[test]
+fn a_writer_that_fails_ends_a_report(rt: HostRuntime) -> Result<(), Fail> {
+    let mut book = one_issue(rt.alloc())?;
+    let mut once = Once {
+        has_failed: false,
+        bytes: Vec::new(rt.alloc()),
+    };
+    assert_eq!(rt;
+        write_report(&mut book, Report::Issues, &mut once),
+        Ok(Status::Failed)
+    );
+    assert_eq!(rt; once.bytes.as_slice(), b"output\n".as_slice());
+    assert_eq!(rt;
+        write_report(&mut book, Report::Issues, &mut Refusing),
+        Err(WriteFault)
+    );
+    Ok(())
+}

@@ -1,0 +1,106 @@
+//! The lines of a server's turns, and of ledgers and links that failed.
+
+use crate::refusing::Refusing;
+use s10_book::BookFault;
+use s10_ends::Served;
+use s10_jobs::{write_ledger_fault, write_link_fault, write_turn};
+use s10_ledger::OpenFault;
+use s10_link::{LinkFault, Peer};
+use s10_wire::{Frame, WireFault, WriteFault, decode_reply, encode_reply};
+use std::test::Fail;
+
+const PEER: Peer = Peer {
+    ip: [10, 0, 0, 1],
+    port: 4711,
+};
+
+const REPLY: [u8; 34] = *b"S1\x01\x82\0\0\0\x07\0\0\0\x01RAGB\0\0\0\x4e\x20RA000000005GB";
+
+fn drawn() -> Result<Frame, WireFault> {
+    match decode_reply(&REPLY) {
+        Ok(reply) => Ok(encode_reply(&reply)),
+        Err(fault) => Err(fault),
+    }
+}
+
+#[test]
+fn turns_have_their_lines(rt: HostRuntime) -> Result<(), Fail> {
+    let frame = drawn()?;
+    let turns = [
+        (Ok(Served::Quiet), "quiet\n"),
+        (
+            Ok(Served::Dropped(PEER, WireFault::Short)),
+            "dropped short\n",
+        ),
+        (
+            Ok(Served::Dropped(PEER, WireFault::Field(12))),
+            "dropped field 12\n",
+        ),
+        (Ok(Served::Faulted(PEER, BookFault::Full)), "faulted full\n"),
+        (
+            Ok(Served::Faulted(PEER, BookFault::Memory)),
+            "faulted memory\n",
+        ),
+        (
+            Ok(Served::Replied(PEER, frame)),
+            "replied 533101820000000700000001524147420000004e2052413030303030303030354742\n",
+        ),
+        (Err(LinkFault::Receive), "link receive\n"),
+        (Err(LinkFault::Spent), "link spent\n"),
+    ];
+    for (turn, line) in turns {
+        let mut out = Vec::new(rt.alloc());
+        assert_eq!(rt; write_turn(&turn, &mut out), Ok(()));
+        assert_eq!(rt; out.as_slice(), line.as_bytes());
+        assert_eq!(rt; write_turn(&turn, &mut Refusing), Err(WriteFault));
+    }
+    Ok(())
+}
+
+#[test]
+fn ledger_faults_have_their_lines(rt: HostRuntime) {
+    let faults = [
+        (OpenFault::NotALedger, "ledger not-a-ledger\n"),
+        (OpenFault::Schema(0), "ledger schema 0\n"),
+        (OpenFault::Schema(2), "ledger schema 2\n"),
+        (OpenFault::Schema(-1), "ledger schema -1\n"),
+        (
+            OpenFault::Schema(i64::MAX),
+            "ledger schema 9223372036854775807\n",
+        ),
+        (
+            OpenFault::Schema(i64::MIN),
+            "ledger schema -9223372036854775808\n",
+        ),
+        (OpenFault::Damaged(0), "ledger damaged 0\n"),
+        (
+            OpenFault::Damaged(1_000_000_000),
+            "ledger damaged 1000000000\n",
+        ),
+        (OpenFault::NotEmpty, "ledger not-empty\n"),
+        (OpenFault::Memory, "ledger memory\n"),
+        (OpenFault::Store, "ledger store\n"),
+    ];
+    for (fault, line) in faults {
+        let mut out = Vec::new(rt.alloc());
+        assert_eq!(rt; write_ledger_fault(fault, &mut out), Ok(()));
+        assert_eq!(rt; out.as_slice(), line.as_bytes());
+        assert_eq!(rt; write_ledger_fault(fault, &mut Refusing), Err(WriteFault));
+    }
+}
+
+#[test]
+fn link_faults_have_their_lines(rt: HostRuntime) {
+    let faults = [
+        (LinkFault::Bind, "link bind\n"),
+        (LinkFault::Receive, "link receive\n"),
+        (LinkFault::Send, "link send\n"),
+        (LinkFault::Spent, "link spent\n"),
+    ];
+    for (fault, line) in faults {
+        let mut out = Vec::new(rt.alloc());
+        assert_eq!(rt; write_link_fault(fault, &mut out), Ok(()));
+        assert_eq!(rt; out.as_slice(), line.as_bytes());
+        assert_eq!(rt; write_link_fault(fault, &mut Refusing), Err(WriteFault));
+    }
+}
