@@ -1,32 +1,31 @@
-mod asked;
-mod jobs;
-mod ledgers;
-mod questions;
-mod replays;
-mod reporting;
-mod serving;
-mod turn_lines;
-
-use super::run_line;
+use crate::refusing::Refusing;
+use s10_cli::run_line;
 use std::io;
-use std::io::{Read, Write};
+use std::io::Read;
 use std::process::Abort;
 use std::test::Fail;
 
 /// Words, the exit status, and what is printed.
 type Case<'a> = (&'a [&'a str], u8, &'a str);
 
-fn run_case<R: Eprint + AllocGlobal + Abort>(rt: &R, words: &[&str], status: u8, text: &str) {
-    let mut input: &[u8] = b"";
+/// Whether a command line over this input has this status and prints this text.
+fn prints<R: Eprint + AllocGlobal, I: Read>(
+    rt: &R,
+    words: &[&str],
+    input: &mut I,
+    status: u8,
+    text: &str,
+) -> bool {
     let mut output = Vec::new(rt.alloc());
-    let answer = run_line(rt, words, &mut input, &mut output);
-    assert_eq!(rt; answer, Some(status), "{words:?}");
-    assert_eq!(rt; output.as_slice(), text.as_bytes(), "{words:?}");
+    let answer = run_line(rt, words, input, &mut output);
+    answer == Some(status) && output.as_slice() == text.as_bytes()
 }
 
+/// Command lines that read no input.
 fn run_cases<R: Eprint + AllocGlobal + Abort>(rt: &R, cases: &[Case<'_>]) {
     for (words, status, text) in cases {
-        run_case(rt, words, *status, text);
+        let mut input: &[u8] = b"";
+        assert!(rt; prints(rt, words, &mut input, *status, text), "{words:?}");
     }
 }
 
@@ -388,9 +387,15 @@ fn show_reads_at_most_512_bytes_of_two_digits_each(rt: HostRuntime) -> Result<()
     for _ in 0..512 {
         zeros.push_str("00")?;
     }
-    run_case(&rt, &["s10", "show", zeros.as_str()], 1, "refused magic\n");
+    run_cases(
+        &rt,
+        &[(&["s10", "show", zeros.as_str()], 1, "refused magic\n")],
+    );
     zeros.push_str("00")?;
-    run_case(&rt, &["s10", "show", zeros.as_str()], 1, "refused hex\n");
+    run_cases(
+        &rt,
+        &[(&["s10", "show", zeros.as_str()], 1, "refused hex\n")],
+    );
     Ok(())
 }
 
@@ -400,17 +405,15 @@ const TWO_DRAWS: &[u8] = b"20000 53310101000000000000000100000007524147420000000
 20029 53310102000000070000000252414742
 ";
 
-fn run_replay_case<R: Eprint + AllocGlobal + Abort>(
+/// Whether a replay of these bytes has this status and prints this text.
+fn is_replayed<R: Eprint + AllocGlobal>(
     rt: &R,
     words: &[&str],
-    mut input: &[u8],
+    mut bytes: &[u8],
     status: u8,
     text: &str,
-) {
-    let mut output = Vec::new(rt.alloc());
-    let answer = run_line(rt, words, &mut input, &mut output);
-    assert_eq!(rt; answer, Some(status), "{words:?}");
-    assert_eq!(rt; output.as_slice(), text.as_bytes(), "{words:?}");
+) -> bool {
+    prints(rt, words, &mut bytes, status, text)
 }
 
 #[test]
@@ -437,22 +440,26 @@ faulted full
         (&["s10", "replay", "--limit=2"], full),
     ];
     for (words, text) in cases {
-        run_replay_case(&rt, words, TWO_DRAWS, 0, text);
+        assert!(rt; is_replayed(&rt, words, TWO_DRAWS, 0, text), "{words:?}");
     }
-    run_replay_case(&rt, &["s10", "replay"], b"", 0, "");
+    assert!(rt; is_replayed(&rt, &["s10", "replay"], b"", 0, ""));
 }
 
 #[test]
 fn replay_names_the_first_refused_line(rt: HostRuntime) {
-    let words = ["s10", "replay"];
-    run_replay_case(&rt, &words, b"20000 5", 1, "refused line 1\n");
-    run_replay_case(
-        &rt,
-        &words,
-        b"1 53310102000000070000000152414742\n\n1 53\n4294967296 53\n1 53\n",
-        1,
-        "5331018200000007000000015241474204\ndropped short\nrefused line 4\n",
-    );
+    let cases: [(&[u8], &str); 2] = [
+        (b"20000 5", "refused line 1\n"),
+        (
+            b"1 53310102000000070000000152414742\n\n1 53\n4294967296 53\n1 53\n",
+            "5331018200000007000000015241474204\ndropped short\nrefused line 4\n",
+        ),
+    ];
+    for (bytes, text) in cases {
+        assert!(rt;
+            is_replayed(&rt, &["s10", "replay"], bytes, 1, text),
+            "{text}"
+        );
+    }
 }
 
 #[test]
@@ -475,6 +482,14 @@ fn a_fault_of_the_command_line_prints_nothing_to_the_output(rt: HostRuntime) {
     );
 }
 
+/// Whether what a command line prints, with status 0, begins like this.
+fn prints_at_first<R: Eprint + AllocGlobal>(rt: &R, words: &[&str], start: &str) -> bool {
+    let mut input: &[u8] = b"";
+    let mut output = Vec::new(rt.alloc());
+    run_line(rt, words, &mut input, &mut output) == Some(0)
+        && output.as_slice().starts_with(start.as_bytes())
+}
+
 #[test]
 fn help_and_the_version_are_printed_where_they_are_asked_for(rt: HostRuntime) {
     let asked: [(&[&str], &str); 9] = [
@@ -489,32 +504,13 @@ fn help_and_the_version_are_printed_where_they_are_asked_for(rt: HostRuntime) {
         (&["s10", "help", "replay"], "Answer the datagrams"),
     ];
     for (words, start) in asked {
-        let mut input: &[u8] = b"";
-        let mut output = Vec::new(rt.alloc());
-        assert_eq!(rt;
-            run_line(&rt, words, &mut input, &mut output),
-            Some(0),
-            "{words:?}"
-        );
-        assert!(rt;
-            output.as_slice().starts_with(start.as_bytes()),
-            "{words:?}"
-        );
+        assert!(rt; prints_at_first(&rt, words, start), "{words:?}");
     }
 }
 
-/// A writer that refuses every byte.
-#[derive(Drop)]
-struct Refusing;
-
-impl Write for Refusing {
-    fn write(&mut self, _buf: &[u8]) -> io::Result<usize> {
-        Err(io::Error::from(io::ErrorKind::Other))
-    }
-
-    fn flush(&mut self) -> io::Result<()> {
-        Ok(())
-    }
+/// Whether a command line fails where nothing can be written.
+fn fails_unwritten<R: Eprint + AllocGlobal>(rt: &R, words: &[&str], mut input: &[u8]) -> bool {
+    run_line(rt, words, &mut input, &mut Refusing) == Some(3)
 }
 
 #[test]
@@ -527,22 +523,13 @@ fn a_writer_that_fails_ends_the_line(rt: HostRuntime) {
         &["s10", "help"],
     ];
     for words in lines {
-        let mut input: &[u8] = b"";
-        assert_eq!(rt;
-            run_line(&rt, words, &mut input, &mut Refusing),
-            Some(3),
-            "{words:?}"
-        );
+        assert!(rt; fails_unwritten(&rt, words, b""), "{words:?}");
     }
 }
 
 #[test]
 fn a_writer_that_fails_ends_a_replay(rt: HostRuntime) {
-    let mut input: &[u8] = b"1 53\n";
-    assert_eq!(rt;
-        run_line(&rt, &["s10", "replay"], &mut input, &mut Refusing),
-        Some(3)
-    );
+    assert!(rt; fails_unwritten(&rt, &["s10", "replay"], b"1 53\n"));
 }
 
 /// A reader that gives its bytes and then fails.
@@ -560,13 +547,14 @@ impl Read for Broken<'_> {
 
 #[test]
 fn a_reader_that_fails_ends_a_replay_after_the_lines_before(rt: HostRuntime) {
-    let mut output = Vec::new(rt.alloc());
-    let answer = run_line(
-        &rt,
-        &["s10", "replay"],
-        &mut Broken(b"1 53\n1 53"),
-        &mut output,
+    let mut input = Broken(b"1 53\n1 53");
+    assert!(rt;
+        prints(
+            &rt,
+            &["s10", "replay"],
+            &mut input,
+            3,
+            "dropped short\ninput\n"
+        )
     );
-    assert_eq!(rt; answer, Some(3));
-    assert_eq!(rt; output.as_slice(), b"dropped short\ninput\n".as_slice());
 }

@@ -1,8 +1,7 @@
 //! What command lines ask of the program itself.
 
-use crate::{Tries, parse_job, run_line};
+use s10_cli::{parse_job, run_line};
 use std::alloc::Global;
-use std::process::Abort;
 use std::test::Fail;
 
 const DRAW: [&'static str; 12] = [
@@ -103,28 +102,24 @@ const JOBS: [&'static str; 9] = [
     "Some(Loop { day: None })",
 ];
 
-fn parse<R: AllocGlobal + Abort>(rt: &R, words: &[&str], job: &str) -> Result<(), Fail> {
-    let text = format!(in rt.alloc(); "{:?}", parse_job(rt.alloc(), words))?;
-    assert_eq!(rt; text.as_str(), job, "{words:?}");
-    Ok(())
+/// Whether this is what the words ask of the program.
+fn asks(alloc: Global, words: &[&str], job: &str) -> Result<bool, Fail> {
+    let text = format!(in alloc; "{:?}", parse_job(alloc, words))?;
+    Ok(text.as_str() == job)
 }
 
-fn run<R: Eprint + AllocGlobal + Abort>(rt: &R, words: &[&str], status: Option<u8>) {
+/// Whether a command line has this status, or is left to the program, and prints nothing.
+fn is_silent<R: Eprint + AllocGlobal>(rt: &R, words: &[&str], status: Option<u8>) -> bool {
     let mut input: &[u8] = b"";
     let mut output = Vec::new(rt.alloc());
-    assert_eq!(rt;
-        run_line(rt, words, &mut input, &mut output),
-        status,
-        "{words:?}"
-    );
-    assert!(rt; output.is_empty(), "{words:?}");
+    run_line(rt, words, &mut input, &mut output) == status && output.is_empty()
 }
 
 #[test]
 fn what_needs_files_or_sockets_is_left_to_the_program(rt: HostRuntime) -> Result<(), Fail> {
     for (words, job) in LINES.iter().zip(JOBS.iter()) {
-        run(&rt, words, None);
-        parse(&rt, words, job)?;
+        assert!(rt; is_silent(&rt, words, None), "{words:?}");
+        assert!(rt; asks(rt.alloc(), words, job)?, "{words:?}");
     }
     Ok(())
 }
@@ -159,7 +154,7 @@ fn options_that_may_be_left_out_are_read(rt: HostRuntime) -> Result<(), Fail> {
         (&["s10", "check", "RA473124829US"], "None"),
     ];
     for (words, job) in cases {
-        parse(&rt, words, job)?;
+        assert!(rt; asks(rt.alloc(), words, job)?, "{words:?}");
     }
     Ok(())
 }
@@ -205,7 +200,7 @@ fn numbers_are_read_up_to_their_limits(rt: HostRuntime) -> Result<(), Fail> {
         ),
     ];
     for (words, job) in cases {
-        parse(&rt, words, job)?;
+        assert!(rt; asks(rt.alloc(), words, job)?, "{words:?}");
     }
     Ok(())
 }
@@ -221,15 +216,24 @@ fn without<'a>(alloc: Global, words: &[&'a str], at: usize) -> Result<Vec<&'a st
     Ok(left)
 }
 
+/// Whether a command line without the option at this place is none, where there is an option.
+fn is_required_at<R: Eprint + AllocGlobal>(
+    rt: &R,
+    words: &[&str],
+    at: usize,
+) -> Result<bool, Fail> {
+    if !words.get(at).is_some_and(|word| word.starts_with("--")) {
+        return Ok(true);
+    }
+    let left = without(rt.alloc(), words, at)?;
+    Ok(is_silent(rt, &left, Some(2)) && asks(rt.alloc(), &left, "None")?)
+}
+
 #[test]
 fn each_option_but_the_day_and_the_tries_is_required(rt: HostRuntime) -> Result<(), Fail> {
     for words in LINES {
         for at in 2..words.len() {
-            if words[at].starts_with("--") {
-                let left = without(rt.alloc(), words, at)?;
-                run(&rt, left.as_slice(), Some(2));
-                parse(&rt, left.as_slice(), "None")?;
-            }
+            assert!(rt; is_required_at(&rt, words, at)?, "{words:?} {at}");
         }
     }
     Ok(())
@@ -251,6 +255,28 @@ fn with_value<'a>(
     Ok(changed)
 }
 
+/// Whether a command line with another value of an option is none.
+fn is_refused_with<R: Eprint + AllocGlobal>(
+    rt: &R,
+    words: &[&str],
+    option: &str,
+    value: &str,
+) -> Result<bool, Fail> {
+    let changed = with_value(rt.alloc(), words, option, value)?;
+    Ok(is_silent(rt, &changed, Some(2)))
+}
+
+/// Whether a command line with one more word is none.
+fn is_refused_before<R: Eprint + AllocGlobal>(
+    rt: &R,
+    words: &[&str],
+    more: &str,
+) -> Result<bool, Fail> {
+    let mut longer = words.to_vec(rt.alloc())?;
+    longer.push(more)?;
+    Ok(is_silent(rt, &longer, Some(2)))
+}
+
 #[test]
 fn numbers_out_of_their_ranges_are_no_command_line(rt: HostRuntime) -> Result<(), Fail> {
     let cases: [(&[&str], &str, &[&str]); 10] = [
@@ -267,53 +293,40 @@ fn numbers_out_of_their_ranges_are_no_command_line(rt: HostRuntime) -> Result<()
     ];
     for (words, option, values) in cases {
         for value in values {
-            let changed = with_value(rt.alloc(), words, option, value)?;
-            run(&rt, changed.as_slice(), Some(2));
+            let is_refused = is_refused_with(&rt, words, option, value)?;
+            assert!(rt; is_refused, "{words:?} {option} {value}");
         }
     }
     for line in [LINES[2], LINES[3], LINES[4], LINES[5]] {
         for tries in ["--tries=0", "--tries=101"] {
-            let mut words = line.to_vec(rt.alloc())?;
-            words.push(tries)?;
-            run(&rt, words.as_slice(), Some(2));
+            assert!(rt; is_refused_before(&rt, line, tries)?, "{line:?} {tries}");
         }
     }
     for line in [LINES[1], LINES[6], LINES[8]] {
-        let mut words = line.to_vec(rt.alloc())?;
-        words.push("--day=4294967296")?;
-        run(&rt, words.as_slice(), Some(2));
+        assert!(rt;
+            is_refused_before(&rt, line, "--day=4294967296")?,
+            "{line:?}"
+        );
     }
     Ok(())
+}
+
+/// Whether the help of a command line's subcommand has an example, and names its options.
+fn is_explained<R: Eprint + AllocGlobal>(rt: &R, words: &[&str], name: &str) -> bool {
+    let mut input: &[u8] = b"";
+    let mut output = Vec::new(rt.alloc());
+    let status = run_line(rt, &["s10", "help", name], &mut input, &mut output);
+    let text = std::str::from_utf8(output.as_slice()).unwrap_or("");
+    status == Some(0)
+        && text.contains("Example:\n  s10 ")
+        && words
+            .iter()
+            .all(|word| !word.starts_with("--") || text.contains(*word))
 }
 
 #[test]
 fn help_names_the_options(rt: HostRuntime) {
     for words in LINES {
-        let mut input: &[u8] = b"";
-        let mut output = Vec::new(rt.alloc());
-        let help = ["s10", "help", words[1]];
-        assert_eq!(rt;
-            run_line(&rt, &help, &mut input, &mut output),
-            Some(0),
-            "{help:?}"
-        );
-        let text = std::str::from_utf8(output.as_slice()).unwrap_or("");
-        assert!(rt; text.contains("Example:\n  s10 "), "{help:?}");
-        for word in words.iter().skip(2) {
-            if word.starts_with("--") {
-                assert!(rt; text.contains(*word), "{help:?} {word}");
-            }
-        }
-    }
-}
-
-#[test]
-fn tries_are_1_to_100(rt: HostRuntime) {
-    for (count, is_some) in [(0, false), (1, true), (100, true), (101, false)] {
-        let tries = Tries::new(count);
-        assert_eq!(rt; tries.is_some(), is_some, "{count}");
-        if let Some(tries) = tries {
-            assert_eq!(rt; tries.count(), count);
-        }
+        assert!(rt; is_explained(&rt, words, words[1]), "{words:?}");
     }
 }

@@ -59,8 +59,10 @@ fn is_asked_once(
 ) -> Result<bool, Fail> {
     let mut link = script(alloc, receipts, sends)?;
     let mut client = Client::new(7, 1, 1)?;
-    Ok(is_told(alloc, &mut client, &mut link, status, line)?
-        && is_told(alloc, &mut client, &mut link, Status::CommandLine, "")?)
+    Ok(
+        is_told(alloc, &mut client, &mut link, status, line)?
+            && is_told(alloc, &mut client, &mut link, Status::CommandLine, "")?,
+    )
 }
 
 #[test]

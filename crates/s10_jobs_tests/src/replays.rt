@@ -1,8 +1,8 @@
 use s10_book::Settings;
 use s10_jobs::{ReplayFault, replay};
+use std::alloc::{AllocError, Global};
 use std::io;
 use std::io::{ErrorKind, Read, Write};
-use std::process::Abort;
 use std::test::Fail;
 
 /// The post grants range 1 to customer 7: RA GB 0 to 2.
@@ -20,25 +20,33 @@ fn settings(limit: u32) -> Result<Settings, Fail> {
     Ok(Settings::new(30, limit).ok_or("settings")?)
 }
 
-/// Replays an input, and compares the answer and what was written.
-fn compare<R: AllocGlobal + Abort>(
-    rt: &R,
-    bytes: &[u8],
+/// Whether a replay over a ledger of this limit has this answer and writes this text.
+fn gives<R: Read>(
+    alloc: Global,
+    limit: u32,
+    input: &mut R,
     want: Result<u32, ReplayFault>,
     text: &str,
-) -> Result<(), Fail> {
-    let mut input: &[u8] = bytes;
-    let mut output = Vec::new(rt.alloc());
-    let answer = replay(rt.alloc(), settings(100)?, &mut input, &mut output);
-    assert_eq!(rt; answer, want);
-    assert_eq!(rt; output.as_slice(), text.as_bytes());
-    Ok(())
+) -> Result<bool, Fail> {
+    let mut output = Vec::new(alloc);
+    let answer = replay(alloc, settings(limit)?, input, &mut output);
+    Ok(answer == want && output.as_slice() == text.as_bytes())
+}
+
+/// Whether a replay of these bytes has this answer and writes this text.
+fn is_replayed(
+    alloc: Global,
+    mut bytes: &[u8],
+    want: Result<u32, ReplayFault>,
+    text: &str,
+) -> Result<bool, Fail> {
+    gives(alloc, 100, &mut bytes, want, text)
 }
 
 #[test]
 fn nine_lines_get_their_nine_lines(rt: HostRuntime) -> Result<(), Fail> {
-    compare(
-        &rt,
+    let is_replayed = is_replayed(
+        rt.alloc(),
         b"20000 53310101000000000000000100000007524147420000000000000002
 20000 53310102000000070000000152414742
 20400 53310102000000070000000152414742
@@ -60,7 +68,9 @@ fn nine_lines_get_their_nine_lines(rt: HostRuntime) -> Result<(), Fail> {
 533101820000000700000005524147420000004e3e52413030303030303030354742
 dropped length
 ",
-    )
+    )?;
+    assert!(rt; is_replayed);
+    Ok(())
 }
 
 #[test]
@@ -100,34 +110,44 @@ fn small_inputs_are_read_as_lines(rt: HostRuntime) -> Result<(), Fail> {
         ),
     ];
     for (bytes, want, text) in cases {
-        compare(&rt, bytes, want, text)?;
+        let is_replayed = is_replayed(rt.alloc(), bytes, want, text)?;
+        assert!(rt; is_replayed, "{bytes:?}");
     }
     Ok(())
 }
 
 #[test]
 fn digits_of_both_cases_are_read_and_small_ones_written(rt: HostRuntime) -> Result<(), Fail> {
-    compare(
-        &rt,
+    let is_replayed = is_replayed(
+        rt.alloc(),
         b"20000 53310101000000000000000100000007524147420000000A0000000c",
         Ok(1),
         "5331018100000000000000010000000752414742\
 0000000a0000000c0000000001\n",
-    )
+    )?;
+    assert!(rt; is_replayed);
+    Ok(())
 }
 
-#[test]
-fn longest_line_is_read_whole(rt: HostRuntime) -> Result<(), Fail> {
-    let mut line = Vec::new(rt.alloc());
+/// The longest line: a day of ten digits, 512 bytes and a carriage return.
+fn longest_line(alloc: Global) -> Result<Vec<u8>, AllocError> {
+    let mut line = Vec::new(alloc);
     line.extend_from_slice(b"0000020000 ")?;
     for _ in 0..1024u32 {
         line.push(b'0')?;
     }
     line.push(b'\r')?;
+    Ok(line)
+}
+
+#[test]
+fn longest_line_is_read_whole(rt: HostRuntime) -> Result<(), Fail> {
+    let mut line = longest_line(rt.alloc())?;
     assert_eq!(rt; line.len(), 1036);
-    compare(&rt, &line, Ok(1), "dropped magic\n")?;
+    assert!(rt; is_replayed(rt.alloc(), &line, Ok(1), "dropped magic\n")?);
     line.push(b'\n')?;
-    compare(&rt, &line, Ok(1), "dropped magic\n")
+    assert!(rt; is_replayed(rt.alloc(), &line, Ok(1), "dropped magic\n")?);
+    Ok(())
 }
 
 #[test]
@@ -138,34 +158,19 @@ fn longer_line_is_refused_without_reading_more(rt: HostRuntime) -> Result<(), Fa
     }
     for (more, want) in [("", ReplayFault::Read), ("0", ReplayFault::Line(1))] {
         line.extend_from_slice(more.as_bytes())?;
-        let mut input = Failing {
-            bytes: &line,
-            is_interrupted: false,
-        };
-        let mut output = Vec::new(rt.alloc());
-        let answer = replay(rt.alloc(), settings(100)?, &mut input, &mut output);
-        assert_eq!(rt; answer, Err(want));
+        assert!(rt; is_read_until(rt.alloc(), &line, want, "")?, "{more}");
     }
-    compare(&rt, &line, Err(ReplayFault::Line(1)), "")
+    assert!(rt; is_replayed(rt.alloc(), &line, Err(ReplayFault::Line(1)), "")?);
+    Ok(())
 }
 
 #[test]
 fn full_ledger_is_told(rt: HostRuntime) -> Result<(), Fail> {
-    let mut text = String::from_str(rt.alloc(), GRANT)?;
-    text.push_str(DRAW)?;
-    text.push_str("20000 53310102000000070000000252414742\n")?;
-    text.push_str(DRAW)?;
-    let mut wanted = String::from_str(rt.alloc(), GRANTED)?;
-    wanted.push_str(DRAWN)?;
-    wanted.push_str("faulted full\n")?;
-    wanted.push_str(DRAWN)?;
+    let other = "20000 53310102000000070000000252414742\n";
+    let text = format!(in rt.alloc(); "{GRANT}{DRAW}{other}{DRAW}")?;
+    let wanted = format!(in rt.alloc(); "{GRANTED}{DRAWN}faulted full\n{DRAWN}")?;
     let mut input: &[u8] = text.as_bytes();
-    let mut output = Vec::new(rt.alloc());
-    assert_eq!(rt;
-        replay(rt.alloc(), settings(2)?, &mut input, &mut output),
-        Ok(4)
-    );
-    assert_eq!(rt; output.as_slice(), wanted.as_bytes());
+    assert!(rt; gives(rt.alloc(), 2, &mut input, Ok(4), &wanted)?);
     Ok(())
 }
 
@@ -209,34 +214,35 @@ impl Write for Narrow {
     }
 }
 
-#[test]
-fn reader_that_fails_ends_the_replay(rt: HostRuntime) -> Result<(), Fail> {
+/// Whether a replay of a reader that fails after these bytes ends with this fault, and writes this
+/// text.
+fn is_read_until(alloc: Global, bytes: &[u8], want: ReplayFault, text: &str) -> Result<bool, Fail> {
     let mut input = Failing {
-        bytes: b"20000 \n20000 5",
+        bytes,
         is_interrupted: false,
     };
-    let mut output = Vec::new(rt.alloc());
-    let answer = replay(rt.alloc(), settings(100)?, &mut input, &mut output);
-    assert_eq!(rt; answer, Err(ReplayFault::Read));
-    assert_eq!(rt; output.as_slice(), b"dropped short\n".as_slice());
+    gives(alloc, 100, &mut input, Err(want), text)
+}
+
+#[test]
+fn reader_that_fails_ends_the_replay(rt: HostRuntime) -> Result<(), Fail> {
+    let bytes = b"20000 \n20000 5";
+    assert!(rt; is_read_until(rt.alloc(), bytes, ReplayFault::Read, "dropped short\n")?);
     Ok(())
+}
+
+/// What a replay of two lines answers where the writer has so much room.
+fn replayed_into(alloc: Global, room: usize) -> Result<Result<u32, ReplayFault>, Fail> {
+    let mut input: &[u8] = b"20000 \n20000 \n";
+    Ok(replay(alloc, settings(100)?, &mut input, &mut Narrow { room }))
 }
 
 #[test]
 fn writer_that_fails_ends_the_replay(rt: HostRuntime) -> Result<(), Fail> {
-    let text: &[u8] = b"20000 \n20000 \n";
     for room in [0, 13, 14, 27] {
-        let mut input = text;
-        let answer = replay(rt.alloc(), settings(100)?, &mut input, &mut Narrow { room });
+        let answer = replayed_into(rt.alloc(), room)?;
         assert_eq!(rt; answer, Err(ReplayFault::Write), "{room}");
     }
-    let mut input = text;
-    let answer = replay(
-        rt.alloc(),
-        settings(100)?,
-        &mut input,
-        &mut Narrow { room: 28 },
-    );
-    assert_eq!(rt; answer, Ok(2));
+    assert_eq!(rt; replayed_into(rt.alloc(), 28)?, Ok(2));
     Ok(())
 }

@@ -7,6 +7,7 @@ use s10_jobs::{write_ledger_fault, write_link_fault, write_turn};
 use s10_ledger::OpenFault;
 use s10_link::{LinkFault, Peer};
 use s10_wire::{Frame, WireFault, WriteFault, decode_reply, encode_reply};
+use std::alloc::Global;
 use std::test::Fail;
 
 const PEER: Peer = Peer {
@@ -21,6 +22,28 @@ fn drawn() -> Result<Frame, WireFault> {
         Ok(reply) => Ok(encode_reply(&reply)),
         Err(fault) => Err(fault),
     }
+}
+
+/// Whether this is the line of the turn, on a writer that takes it alone.
+fn is_line_of_turn(alloc: Global, turn: &Result<Served, LinkFault>, line: &str) -> bool {
+    let mut out = Vec::new(alloc);
+    write_turn(turn, &mut out) == Ok(())
+        && out.as_slice() == line.as_bytes()
+        && write_turn(turn, &mut Refusing) == Err(WriteFault)
+}
+
+fn is_line_of_ledger_fault(alloc: Global, fault: OpenFault, line: &str) -> bool {
+    let mut out = Vec::new(alloc);
+    write_ledger_fault(fault, &mut out) == Ok(())
+        && out.as_slice() == line.as_bytes()
+        && write_ledger_fault(fault, &mut Refusing) == Err(WriteFault)
+}
+
+fn is_line_of_link_fault(alloc: Global, fault: LinkFault, line: &str) -> bool {
+    let mut out = Vec::new(alloc);
+    write_link_fault(fault, &mut out) == Ok(())
+        && out.as_slice() == line.as_bytes()
+        && write_link_fault(fault, &mut Refusing) == Err(WriteFault)
 }
 
 #[test]
@@ -49,10 +72,7 @@ fn turns_have_their_lines(rt: HostRuntime) -> Result<(), Fail> {
         (Err(LinkFault::Spent), "link spent\n"),
     ];
     for (turn, line) in turns {
-        let mut out = Vec::new(rt.alloc());
-        assert_eq!(rt; write_turn(&turn, &mut out), Ok(()));
-        assert_eq!(rt; out.as_slice(), line.as_bytes());
-        assert_eq!(rt; write_turn(&turn, &mut Refusing), Err(WriteFault));
+        assert!(rt; is_line_of_turn(rt.alloc(), &turn, line), "{line}");
     }
     Ok(())
 }
@@ -82,10 +102,7 @@ fn ledger_faults_have_their_lines(rt: HostRuntime) {
         (OpenFault::Store, "ledger store\n"),
     ];
     for (fault, line) in faults {
-        let mut out = Vec::new(rt.alloc());
-        assert_eq!(rt; write_ledger_fault(fault, &mut out), Ok(()));
-        assert_eq!(rt; out.as_slice(), line.as_bytes());
-        assert_eq!(rt; write_ledger_fault(fault, &mut Refusing), Err(WriteFault));
+        assert!(rt; is_line_of_ledger_fault(rt.alloc(), fault, line), "{line}");
     }
 }
 
@@ -98,9 +115,6 @@ fn link_faults_have_their_lines(rt: HostRuntime) {
         (LinkFault::Spent, "link spent\n"),
     ];
     for (fault, line) in faults {
-        let mut out = Vec::new(rt.alloc());
-        assert_eq!(rt; write_link_fault(fault, &mut out), Ok(()));
-        assert_eq!(rt; out.as_slice(), line.as_bytes());
-        assert_eq!(rt; write_link_fault(fault, &mut Refusing), Err(WriteFault));
+        assert!(rt; is_line_of_link_fault(rt.alloc(), fault, line), "{line}");
     }
 }

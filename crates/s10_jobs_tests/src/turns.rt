@@ -6,7 +6,7 @@ use s10_ends::Server;
 use s10_jobs::{Status, day_or_today, serve_turns, today};
 use s10_link::{Packet, Peer, Receipt, ScriptLink};
 use s10_wire::WriteFault;
-use std::alloc::Global;
+use std::alloc::{AllocError, Global};
 use std::io;
 use std::io::Write;
 use std::test::Fail;
@@ -91,26 +91,94 @@ impl Write for Flushed {
     }
 }
 
+/// What turns on a link come to.
+#[derive(Clone, Copy)]
+struct Expected<'a> {
+    status: Result<Status, WriteFault>,
+    lines: &'a str,
+    /// How many whole lines were flushed.
+    flushed: u32,
+}
+
+/// Whether so many turns of a server on the link come to this.
+fn come_to<C: Clock>(
+    clock: &C,
+    server: &mut Server<PlainBook>,
+    link: &mut ScriptLink,
+    count: u32,
+    day: Option<u32>,
+    out: &mut Flushed,
+    expected: Expected<'_>,
+) -> bool {
+    let served = serve_turns(clock, server, link, count, day, out);
+    served == expected.status
+        && out.bytes.as_slice() == expected.lines.as_bytes()
+        && out.lines == expected.flushed
+}
+
+/// Whether the turns of a new server on a link of these receipts and sends come to this, after
+/// which its book has so many calls.
+fn are_served<C: Clock>(
+    alloc: Global,
+    clock: &C,
+    script: (Vec<Receipt>, &[bool]),
+    count: u32,
+    day: Option<u32>,
+    expected: Expected<'_>,
+    calls: u32,
+) -> Result<bool, Fail> {
+    let mut server = new_server(alloc)?;
+    let (receipts, sends) = script;
+    let mut link = ScriptLink::new(alloc, receipts, sends.to_vec(alloc)?)?;
+    let mut out = Flushed {
+        bytes: Vec::new(alloc),
+        lines: 0,
+    };
+    let are_as_expected = come_to(
+        clock,
+        &mut server,
+        &mut link,
+        count,
+        day,
+        &mut out,
+        expected,
+    );
+    Ok(are_as_expected && server.book().len() == calls)
+}
+
+/// The first lines of the seven.
+fn first_lines(alloc: Global, count: u32) -> Result<String, AllocError> {
+    let mut lines = String::new(alloc);
+    for line in SEVEN_LINES.iter().take(count as usize) {
+        lines.push_str(line)?;
+    }
+    Ok(lines)
+}
+
 #[test]
 fn each_turn_has_its_line(rt: HostRuntime) -> Result<(), Fail> {
-    for count in 0..8u32 {
-        let mut server = new_server(rt.alloc())?;
-        let sends = vec![in rt.alloc(); true, false, true]?;
-        let mut link = ScriptLink::new(rt.alloc(), seven_receipts(rt.alloc())?, sends)?;
-        let mut out = Flushed {
-            bytes: Vec::new(rt.alloc()),
-            lines: 0,
+    // The calls of the book after so many turns: a grant, and a draw whose reply is not sent.
+    let calls = [0, 1, 1, 1, 1, 2, 2, 2];
+    for (count, calls) in (0..8u32).zip(calls) {
+        let lines = first_lines(rt.alloc(), count)?;
+        let expected = Expected {
+            status: Ok(Status::Done),
+            lines: &lines,
+            flushed: count,
         };
-        assert_eq!(rt;
-            serve_turns(&rt, &mut server, &mut link, count, Some(20_000), &mut out),
-            Ok(Status::Done)
+        let script = (seven_receipts(rt.alloc())?, &[true, false, true]);
+        assert!(rt;
+            are_served(
+                rt.alloc(),
+                &rt,
+                script,
+                count,
+                Some(20_000),
+                expected,
+                calls
+            )?,
+            "{count}"
         );
-        let mut lines = String::new(rt.alloc());
-        for line in SEVEN_LINES.iter().take(count as usize) {
-            lines.push_str(line)?;
-        }
-        assert_eq!(rt; out.bytes.as_slice(), lines.as_bytes(), "{count}");
-        assert_eq!(rt; out.lines, count);
     }
     Ok(())
 }
@@ -119,41 +187,40 @@ fn each_turn_has_its_line(rt: HostRuntime) -> Result<(), Fail> {
 fn the_clock_gives_the_day_where_none_is_given(rt: HostRuntime) -> Result<(), Fail> {
     // The last second of day 20000.
     let clock = Standing(Some(Duration::from_secs(20_001 * 86_400 - 1)));
-    let mut server = new_server(rt.alloc())?;
     let receipts = vec![in rt.alloc();
         Receipt::Deliver(PEER, Packet::new(GRANT)),
         Receipt::Deliver(PEER, Packet::new(DRAW)),
     ]?;
-    let sends = vec![in rt.alloc(); true, true]?;
-    let mut link = ScriptLink::new(rt.alloc(), receipts, sends)?;
-    let mut out = Vec::new(rt.alloc());
-    assert_eq!(rt;
-        serve_turns(&clock, &mut server, &mut link, 2, None, &mut out),
-        Ok(Status::Done)
-    );
-    let mut lines = String::new(rt.alloc());
-    lines.push_str(GRANTED)?;
-    lines.push_str(DRAWN)?;
-    assert_eq!(rt; out.as_slice(), lines.as_bytes());
+    let lines = format!(in rt.alloc(); "{GRANTED}{DRAWN}")?;
+    let expected = Expected {
+        status: Ok(Status::Done),
+        lines: &lines,
+        flushed: 2,
+    };
+    let script = (receipts, &[true, true]);
+    assert!(rt; are_served(rt.alloc(), &clock, script, 2, None, expected, 2)?);
     Ok(())
 }
 
 #[test]
 fn a_clock_that_gives_no_day_ends_the_turns(rt: HostRuntime) -> Result<(), Fail> {
-    let mut server = new_server(rt.alloc())?;
-    let mut link = ScriptLink::new(
-        rt.alloc(),
-        seven_receipts(rt.alloc())?,
-        Vec::new(rt.alloc()),
-    )?;
-    let mut out = Vec::new(rt.alloc());
-    assert_eq!(rt;
-        serve_turns(&Standing(None), &mut server, &mut link, 3, None, &mut out),
-        Ok(Status::Failed)
-    );
-    assert_eq!(rt; out.as_slice(), b"clock\n".as_slice());
-    assert_eq!(rt; server.book().len(), 0);
+    let expected = Expected {
+        status: Ok(Status::Failed),
+        lines: "clock\n",
+        flushed: 0,
+    };
+    let script = (seven_receipts(rt.alloc())?, &[]);
+    assert!(rt; are_served(rt.alloc(), &Standing(None), script, 3, None, expected, 0)?);
     Ok(())
+}
+
+/// Whether this is the day of a clock that has stood still for so many seconds since 1970, where
+/// none is given.
+fn is_day_after(seconds: u64, day: Option<u32>) -> bool {
+    let clock = Standing(Some(Duration::from_secs(seconds)));
+    today(&clock) == day
+        && day_or_today(&clock, None) == day
+        && day_or_today(&clock, Some(7)) == Some(7)
 }
 
 #[test]
@@ -167,23 +234,23 @@ fn days_are_whole_days_since_1970(rt: HostRuntime) {
         (4_294_967_296 * 86_400, None),
     ];
     for (seconds, day) in cases {
-        let clock = Standing(Some(Duration::from_secs(seconds)));
-        assert_eq!(rt; today(&clock), day, "{seconds}");
-        assert_eq!(rt; day_or_today(&clock, None), day, "{seconds}");
-        assert_eq!(rt; day_or_today(&clock, Some(7)), Some(7));
+        assert!(rt; is_day_after(seconds, day), "{seconds}");
     }
     assert_eq!(rt; today(&Standing(None)), None);
     assert_eq!(rt; day_or_today(&Standing(None), Some(7)), Some(7));
     assert!(rt; today(&rt).is_some());
 }
 
+/// Whether a turn whose line cannot be written ends the turns.
+fn ends_unwritten<C: Clock>(alloc: Global, clock: &C) -> Result<bool, Fail> {
+    let mut server = new_server(alloc)?;
+    let mut link = ScriptLink::new(alloc, Vec::new(alloc), Vec::new(alloc))?;
+    let served = serve_turns(clock, &mut server, &mut link, 1, Some(0), &mut Refusing);
+    Ok(served == Err(WriteFault))
+}
+
 #[test]
 fn a_writer_that_fails_ends_the_turns(rt: HostRuntime) -> Result<(), Fail> {
-    let mut server = new_server(rt.alloc())?;
-    let mut link = ScriptLink::new(rt.alloc(), Vec::new(rt.alloc()), Vec::new(rt.alloc()))?;
-    assert_eq!(rt;
-        serve_turns(&rt, &mut server, &mut link, 1, Some(0), &mut Refusing),
-        Err(WriteFault)
-    );
+    assert!(rt; ends_unwritten(rt.alloc(), &rt)?);
     Ok(())
 }

@@ -1,0 +1,49 @@
+//! Buffers of a command line.
+
+use crate::refusing::Refusing;
+use s10_cli::run_buffered;
+use std::io;
+use std::io::Write;
+
+const CHECK: [&'static str; 3] = ["s10", "check", "RA473124829US"];
+
+/// The status of a check over buffers.
+fn checked<R: Eprint + AllocGlobal, W: Write + Drop>(rt: &R, output: W) -> io::Result<Option<u8>> {
+    let mut input: &[u8] = b"";
+    run_buffered(rt, &CHECK, &mut input, output)
+}
+
+#[test]
+fn the_buffer_is_written_out(rt: HostRuntime) -> io::Result<()> {
+    let mut output = Vec::new(rt.alloc());
+    assert_eq!(rt; checked(&rt, &mut output)?, Some(0));
+    assert_eq!(rt;
+        output.as_slice(),
+        b"RA473124829US valid registered\n".as_slice()
+    );
+    Ok(())
+}
+
+#[test]
+fn a_buffer_that_cannot_be_written_out_is_an_error(rt: HostRuntime) {
+    assert!(rt; checked(&rt, Refusing).is_err());
+}
+
+/// A writer that takes every byte, and fails to pass them on.
+#[derive(Drop)]
+struct Stuck;
+
+impl Write for Stuck {
+    fn write(&mut self, buf: &[u8]) -> io::Result<usize> {
+        Ok(buf.len())
+    }
+
+    fn flush(&mut self) -> io::Result<()> {
+        Err(io::Error::from(io::ErrorKind::Other))
+    }
+}
+
+#[test]
+fn an_output_that_cannot_be_flushed_is_an_error(rt: HostRuntime) {
+    assert!(rt; checked(&rt, Stuck).is_err());
+}

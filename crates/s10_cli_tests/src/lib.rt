@@ -1,0 +1,11 @@
+//! Tests of the command line.
+#![tactic(auto)]
+
+#[cfg(test)]
+mod buffers;
+#[cfg(test)]
+mod command_lines;
+#[cfg(test)]
+mod job_words;
+#[cfg(test)]
+mod refusing;

@@ -1,0 +1,26 @@
+//! Calls between two sockets of this machine.
+
+use crate::refusing::Refusing;
+use s10_host::run_loop;
+use std::net::Net;
+
+const LINES: &str = "\
+reply grant customer 0 number 1 holder 7 RA GB 00000000 00000002 done range 1
+reply draw customer 7 number 1 RA GB done day 20000 RA000000005GB
+reply draw customer 7 number 2 RA GB done day 20000 RA000000014GB
+reply void customer 7 number 3 RA000000005GB done
+reply query customer 7 number 4 RA000000005GB done voided 20000
+";
+
+/// Whether a loop prints the five replies, on a writer that takes them alone.
+fn prints_five_replies<N: Net + AllocGlobal>(net: &N) -> bool {
+    let mut out = Vec::new(net.alloc());
+    run_loop(net, 20_000, &mut out) == 0
+        && out.as_slice() == LINES.as_bytes()
+        && run_loop(net, 20_000, &mut Refusing) == 3
+}
+
+#[test]
+fn loop_prints_five_replies(rt: HostRuntime) {
+    assert!(rt; prints_five_replies(&rt));
+}

@@ -1,0 +1,41 @@
+//! Servers at addresses of this machine.
+
+use s10_book::{PlainBook, Settings};
+use s10_ends::{Server, UdpLink};
+use s10_host::serve_at;
+use s10_jobs::Status;
+use s10_link::Peer;
+use std::alloc::Global;
+use std::net::Net;
+use std::test::Fail;
+use std::time::Clock;
+
+const ANY: Peer = Peer {
+    ip: [127, 0, 0, 1],
+    port: 0,
+};
+
+/// Whether so many turns of a new server at the address have this status and print this text.
+fn is_served_at<R: Net + Clock + Eprint + AllocGlobal>(
+    rt: &R,
+    at: Peer,
+    count: u32,
+    status: Status,
+    text: &str,
+) -> Result<bool, Fail> {
+    let settings = Settings::new(30, 2).ok_or("settings")?;
+    let mut server = Server::new(PlainBook::new(rt.alloc(), settings));
+    let mut out = Vec::new(rt.alloc());
+    let served = serve_at(rt, at, &mut server, count, Some(20_000), &mut out);
+    Ok(served == Ok(status) && out.as_slice() == text.as_bytes())
+}
+
+#[test]
+fn a_server_is_bound_before_its_turns(rt: HostRuntime) -> Result<(), Fail> {
+    assert!(rt; is_served_at(&rt, ANY, 0, Status::Done, "")?);
+    let Ok(taken) = UdpLink::bind(&rt, ANY, 1) else {
+        panic!(rt; "no socket");
+    };
+    assert!(rt; is_served_at(&rt, taken.local(), 1, Status::Failed, "link bind\n")?);
+    Ok(())
+}
