@@ -43,8 +43,12 @@ pub fn command<'a>(alloc: Global) -> Result<Command<'a>, AllocError> {
 
 fn program<'a>(alloc: Global) -> Command<'a> {
     let about = "Issue S10 identifiers of postal items, as RA473124829US, and check them";
-    named(alloc, "s10", about, STATUSES)
-        .version(VERSION)
+    with_subcommands(named(alloc, "s10", about, STATUSES)).version(VERSION)
+}
+
+// A command that asks for a subcommand, and explains itself where nothing is said.
+fn with_subcommands<'a>(command: Command<'a>) -> Command<'a> {
+    command
         .subcommand_required(true)
         .arg_required_else_help(true)
 }

@@ -1,10 +1,10 @@
 //! The subcommand `draw`.
 use crate::builders::{named, with};
 use crate::options::{
-    asked, country_option, customer_option, request_option, service_option, to_option, tries_option,
+    country_option, customer_option, request_option, service_option, to_option, tries_option,
 };
 use clap::{ArgMatches, Command};
-use s10_jobs::{BodyWords, Job};
+use s10_jobs::{BodyWords, Job, Question, Tries};
 use std::alloc::{AllocError, Global};
 
 /// What `draw` may say.
@@ -41,5 +41,11 @@ pub fn draw_job<'a>(found: &ArgMatches<'a>) -> Option<Job<'a>> {
         service: found.get_str("service")?,
         country: found.get_str("country")?,
     };
-    asked(found, found.get_one::<u32>("customer")?, body)
+    Some(Job::Ask(Question {
+        to: found.get_str("to")?,
+        customer: found.get_one::<u32>("customer")?,
+        number: found.get_one::<u32>("number")?,
+        body,
+        tries: Tries::new(found.get_one::<u32>("tries")?)?,
+    }))
 }

@@ -1,11 +1,9 @@
 //! The subcommand `grant`.
 use crate::builders::{named, number_option, serial_option, with};
-use crate::options::{
-    asked, country_option, request_option, service_option, to_option, tries_option,
-};
+use crate::options::{country_option, request_option, service_option, to_option, tries_option};
 use clap::{ArgMatches, Command};
 use s10_core::Serial;
-use s10_jobs::{BodyWords, Job};
+use s10_jobs::{BodyWords, Job, Question, Tries};
 use std::alloc::{AllocError, Global};
 
 /// The customer number of the post, which alone can grant.
@@ -59,5 +57,11 @@ pub fn grant_job<'a>(found: &ArgMatches<'a>) -> Option<Job<'a>> {
         first: Serial::new(found.get_one::<u32>("first")?)?,
         last: Serial::new(found.get_one::<u32>("last")?)?,
     };
-    asked(found, POST, body)
+    Some(Job::Ask(Question {
+        to: found.get_str("to")?,
+        customer: POST,
+        number: found.get_one::<u32>("number")?,
+        body,
+        tries: Tries::new(found.get_one::<u32>("tries")?)?,
+    }))
 }

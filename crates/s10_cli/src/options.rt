@@ -2,7 +2,6 @@
 use crate::builders::{number_option, option, text_option};
 use clap::{Arg, ArgMatches, value_parser};
 use s10_book::Settings;
-use s10_jobs::{BodyWords, Job, Question, Tries};
 use std::alloc::Global;
 
 /// The file of a ledger.
@@ -113,17 +112,6 @@ pub fn tries_option<'a>(alloc: Global) -> Arg<'a> {
     )
     .value_parser(value_parser!(u32).range(1..=100))
     .default_value("5")
-}
-
-/// The request of a customer, with the server, the number and the tries that the words name.
-pub fn asked<'a>(found: &ArgMatches<'a>, customer: u32, body: BodyWords<'a>) -> Option<Job<'a>> {
-    Some(Job::Ask(Question {
-        to: found.get_str("to")?,
-        customer,
-        number: found.get_one::<u32>("number")?,
-        body,
-        tries: Tries::new(found.get_one::<u32>("tries")?)?,
-    }))
 }
 
 /// A day, which the clock gives where it is left out.

@@ -1,8 +1,8 @@
 //! The subcommand `void`.
 use crate::builders::{named, with};
-use crate::options::{asked, customer_option, id_option, request_option, to_option, tries_option};
+use crate::options::{customer_option, id_option, request_option, to_option, tries_option};
 use clap::{ArgMatches, Command};
-use s10_jobs::{BodyWords, Job};
+use s10_jobs::{BodyWords, Job, Question, Tries};
 use std::alloc::{AllocError, Global};
 
 /// What `void` may say.
@@ -37,5 +37,11 @@ pub fn void_job<'a>(found: &ArgMatches<'a>) -> Option<Job<'a>> {
     let body = BodyWords::Void {
         id: found.get_str("id")?,
     };
-    asked(found, found.get_one::<u32>("customer")?, body)
+    Some(Job::Ask(Question {
+        to: found.get_str("to")?,
+        customer: found.get_one::<u32>("customer")?,
+        number: found.get_one::<u32>("number")?,
+        body,
+        tries: Tries::new(found.get_one::<u32>("tries")?)?,
+    }))
 }
