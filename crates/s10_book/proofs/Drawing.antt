@@ -62,17 +62,17 @@ free_last day interval None f same = refl
 free_last day interval (Some i) f same = ap (λ d. leb interval (day - d)) (same i)
 
 -- the test of the candidate's issue is the test of its range
-pub passes_is : (h : List Entry) (r : Range) (day interval : ℕ) (found : Candidate) (b : Bool) → found ≡ candidate_of h r → b ≡ is_free_since day interval (option_map (λ (i : Issue). i.day) found.issue) → has_free_pick h day interval r ≡ b
+pub passes_is : (h : List Entry) (r : Range) (day interval : ℕ) (found : Candidate) (b : Bool) → found ≡ candidate_of h r → b ≡ is_free_since day interval (option_map (λ (i : Issue). i.day) found.issue) → has_free_pick (issues_of h) day interval r ≡ b
 passes_is h r day interval found b e t =
     sym (t ∙ ap (λ (c : Candidate). is_free_since day interval (option_map (λ (i : Issue). i.day) c.issue)) e ∙ free_last day interval (last_issuance_of (issues_of h) (id_at r (pick_of (issues_of h) r))) _ (λ _. refl))
 
-pub drawn_found : (h : List Entry) (day : ℕ) (rs : List Range) (o : Option Range) (r : Range) → o ≡ Some r → outcome_of_pick h day rs o ≡ Drawn day (id_at r (pick_of (issues_of h) r))
-drawn_found h day [] o r e = ap (outcome_of_pick h day []) e
-drawn_found h day (x ∷ xs) o r e = ap (outcome_of_pick h day (x ∷ xs)) e
+pub drawn_found : (is : List Issuance) (day : ℕ) (rs : List Range) (o : Option Range) (r : Range) → o ≡ Some r → outcome_of_pick is day rs o ≡ Drawn day (id_at r (pick_of is r))
+drawn_found is day [] o r e = ap (outcome_of_pick is day []) e
+drawn_found is day (x ∷ xs) o r e = ap (outcome_of_pick is day (x ∷ xs)) e
 
-pub drawn_none : (h : List Entry) (day : ℕ) (rs : List Range) (o : Option Range) → 0 < length rs → o ≡ None → outcome_of_pick h day rs o ≡ NoneFree
-drawn_none h day [] o some e = absurd (omega arith)
-drawn_none h day (x ∷ xs) o some e = ap (outcome_of_pick h day (x ∷ xs)) e
+pub drawn_none : (is : List Issuance) (day : ℕ) (rs : List Range) (o : Option Range) → 0 < length rs → o ≡ None → outcome_of_pick is day rs o ≡ NoneFree
+drawn_none is day [] o some e = absurd (omega arith)
+drawn_none is day (x ∷ xs) o some e = ap (outcome_of_pick is day (x ∷ xs)) e
 
-pub drawn_empty : (h : List Entry) (day : ℕ) (passes : Range → Bool) (rs : List Range) → rs ≡ [] → outcome_of_pick h day rs (find passes rs) ≡ NoRange
-drawn_empty h day passes rs e = ap (λ l. outcome_of_pick h day l (find passes l)) e
+pub drawn_empty : (is : List Issuance) (day : ℕ) (passes : Range → Bool) (rs : List Range) → rs ≡ [] → outcome_of_pick is day rs (find passes rs) ≡ NoRange
+drawn_empty is day passes rs e = ap (λ l. outcome_of_pick is day l (find passes l)) e

@@ -11,9 +11,10 @@ use Rattle.s10_wire.specs.declared.outcome.Outcome.TheVariants.{Granted, Voided,
 use Rattle.s10_book.specs.declared.entry.Entry.{Entry}
 use Rattle.s10_book.specs.declared.range.Range.{Range}
 use Rattle.s10_book.specs.declared.issue.Issue.{Issue}
+use Rattle.s10_book.specs.declared.issuance.Issuance.{Issuance}
 use Rattle.s10_book.specs.Settings.{Terms}
 use Rattle.s10_book.specs.History.{has_key, entry_with_key, ranges_of, is_own, overlaps}
-use Rattle.s10_book.specs.Issues.{last_issue_of}
+use Rattle.s10_book.specs.Issues.{issues_of, last_issue_of}
 use Rattle.s10_book.specs.Rules.{IsLegal, body_answer, outcome_of_pick, void_issue, status_of}
 use Rattle.s10_book.proofs.Ranges.{find_cases}
 use Rattle.std.proofs.lemmas.Option.{none-some}
@@ -22,11 +23,11 @@ either : (b : Body) (test : Bool) (x y : Outcome) → IsTrue (fits b x) → IsTr
 either b true x y p q = p
 either b false x y p q = q
 
-drawn_fits : (service country : ℕ × ℕ) (h : List Entry) (day : ℕ) (rs : List Range) (o : Option Range) → IsTrue (fits (Draw service country) (outcome_of_pick h day rs o))
-drawn_fits service country h day [] None = refl
-drawn_fits service country h day [] (Some r) = refl
-drawn_fits service country h day (x ∷ xs) None = refl
-drawn_fits service country h day (x ∷ xs) (Some r) = refl
+drawn_fits : (service country : ℕ × ℕ) (is : List Issuance) (day : ℕ) (rs : List Range) (o : Option Range) → IsTrue (fits (Draw service country) (outcome_of_pick is day rs o))
+drawn_fits service country is day [] None = refl
+drawn_fits service country is day [] (Some r) = refl
+drawn_fits service country is day (x ∷ xs) None = refl
+drawn_fits service country is day (x ∷ xs) (Some r) = refl
 
 void_fits : (x : Id) (o : Option Issue) → IsTrue (fits (Void x) (void_issue o))
 void_fits x None = refl
@@ -40,7 +41,7 @@ answer_fits h customer (Grant holder service country first last) day interval =
     either body (not (eqb customer 0)) NotThePost named refl
     (either body (eqb holder 0 || ltb last first) BadGrant granted refl
     (either body (list_any (overlaps service country first last) (ranges_of h)) Overlap (Granted (length (ranges_of h) + 1)) refl refl))
-answer_fits h customer (Draw service country) day interval = drawn_fits service country h day _ _
+answer_fits h customer (Draw service country) day interval = drawn_fits service country (issues_of h) day _ _
 answer_fits h customer (Void x) day interval = either (Void x) (list_any (is_own customer x) (ranges_of h)) (void_issue (last_issue_of h x)) NotYours (void_fits x (last_issue_of h x)) refl
 answer_fits h customer (Query x) day interval = either (Query x) (eqb customer 0 || list_any (is_own customer x) (ranges_of h)) (Told (status_of h x)) NotYours refl refl
 

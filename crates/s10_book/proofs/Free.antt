@@ -173,7 +173,7 @@ pick_free is r x day n days lies free = at (find (λ serial. not (is_issued is (
         subst Q (sym old.found) (free_some _ old.i day n old.last (omega (arith, le, old.before)))
 
 -- where any serial of a range is free on a day, so is its pick
-pub free_pick : (h : List Entry) (t : Terms) → IsLegal h t → (r : Range) (x : Id) (day : ℕ) → day_of h ≤ day → IsTrue (lies_in r x) → IsTrue (is_free (issues_of h) x day t.interval) → IsTrue (has_free_pick h day t.interval r)
+pub free_pick : (h : List Entry) (t : Terms) → IsLegal h t → (r : Range) (x : Id) (day : ℕ) → day_of h ≤ day → IsTrue (lies_in r x) → IsTrue (is_free (issues_of h) x day t.interval) → IsTrue (has_free_pick (issues_of h) day t.interval r)
 free_pick h t legal r x day le lies free = pick_free (issues_of h) r x day t.interval (sound h t legal).days lies free
 
 none_all : {A : Type 0} (p : A → Bool) (xs : List A) → find p xs ≡ None → All (λ x. p x ≡ false) xs
@@ -184,20 +184,20 @@ none_all p (x ∷ xs) e =
       | inr f ↦ All-cons (λ y. p y ≡ false) x xs f (none_all p xs (rw f at e))
     ]
 
-none_drawn : (h : List Entry) (day : ℕ) (rs : List Range) (o : Option Range) → outcome_of_pick h day rs o ≡ NoneFree → o ≡ None
-none_drawn h day [] None e = refl
-none_drawn h day (x ∷ xs) None e = refl
-none_drawn h day [] (Some r) e = cc
-none_drawn h day (x ∷ xs) (Some r) e = cc
+none_drawn : (is : List Issuance) (day : ℕ) (rs : List Range) (o : Option Range) → outcome_of_pick is day rs o ≡ NoneFree → o ≡ None
+none_drawn is day [] None e = refl
+none_drawn is day (x ∷ xs) None e = refl
+none_drawn is day [] (Some r) e = cc
+none_drawn is day (x ∷ xs) (Some r) e = cc
 
 -- NoneFree is answered only where no serial of the customer's ranges of that service and country is free
 pub none_free : (h : List Entry) (t : Terms) → IsLegal h t → (customer : ℕ) (service country : ℕ × ℕ) (day : ℕ) → day_of h ≤ day → draw_answer h customer service country day t.interval ≡ NoneFree
     → All (λ r. (x : Id) → IsTrue (lies_in r x) → ¬ (IsTrue (is_free (issues_of h) x day t.interval))) (ranges_held h customer service country)
 none_free h t legal customer service country day le is =
-    let P : Range → Type 0 = λ r. has_free_pick h day t.interval r ≡ false in
+    let P : Range → Type 0 = λ r. has_free_pick (issues_of h) day t.interval r ≡ false in
     let Q : Range → Type 0 = λ r. (x : Id) → IsTrue (lies_in r x) → ¬ (IsTrue (is_free (issues_of h) x day t.interval)) in
-    All-weaker P Q (λ r f x lies free. both_ways (has_free_pick h day t.interval r) f (free_pick h t legal r x day le lies free)) (ranges_held h customer service country)
-    (none_all (has_free_pick h day t.interval) (ranges_held h customer service country) (none_drawn h day (ranges_held h customer service country) _ is))
+    All-weaker P Q (λ r f x lies free. both_ways (has_free_pick (issues_of h) day t.interval r) f (free_pick h t legal r x day le lies free)) (ranges_held h customer service country)
+    (none_all (has_free_pick (issues_of h) day t.interval) (ranges_held h customer service country) (none_drawn (issues_of h) day (ranges_held h customer service country) _ is))
 
 -- the same of an answer that was given
 pub nothing_free : (h : List Entry) (t : Terms) → IsLegal h t → (customer : ℕ) (service country : ℕ × ℕ) (day : ℕ) → day_of h ≤ day → (result : Result Outcome BookFault) (s c : ℕ × ℕ)

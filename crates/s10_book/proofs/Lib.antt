@@ -8,10 +8,14 @@ pub mod Serials
 pub mod Fitting
 pub mod Legal
 pub mod Apart
+pub mod Carried
 pub mod Spaced
 pub mod Own
 pub mod Free
 pub mod Marks
+pub mod Rows
+pub mod Taking
+pub mod Alike
 pub mod Owning
 pub mod Numbers
 pub mod Granting

@@ -1,11 +1,11 @@
 -- A range gives its serials in turn, from its first to its last and then from its first again.
 use Rattle.std.proofs.Common.{◌≡◌, ℕ, zero, suc, ◌+◌, ◌-◌, ◌<◌, ◌≤◌, Bool, true, false, cond, not, eqb, ◌&&◌, ◌||◌, List, [], ◌∷◌, ◌++◌, map, Option, Some, None, refl, sym, ap, ◌∙◌, ◌⊎◌, inl, inr, arith, subst, length, get_or, append-nil, append_assoc}
-use Rattle.std.specs.Prelude.{find, filter, All, AllPairs, IsTrue, Contains, option_to_list, slice_get}
+use Rattle.std.specs.Prelude.{find, filter, fold, All, AllPairs, IsTrue, Contains, option_to_list, slice_get}
 use Rattle.std.specs.List.{list_any, range_with_len}
 use Rattle.std.proofs.lemmas.Bool.{both_ways, true≢false, false≢true, cases_Bool, cases_eq, cases_order, eq-eqb, ne_eqb, not-false, not_from_true, and_parts, and_cases, and_left, and_right, or_left, or_right, or_from}
 use Rattle.std.proofs.lemmas.Option.{none-some, same_Some, slice_get-get_or}
 use Rattle.std.proofs.lemmas.List.Folds.{list_any-append, list_any_none, list_any_at}
-use Rattle.std.proofs.lemmas.List.Elements.{All-nil, All-append, All-head, All-tail, All-weaker, filter-append, Contains-push_cases}
+use Rattle.std.proofs.lemmas.List.Elements.{All-nil, All-push, All-head, All-tail, All-weaker, filter-append, Contains-push_cases}
 use Rattle.std.specs.Option.{option_or, unwrap_or}
 use Rattle.s10_core.specs.declared.id.Id.{Id}
 use Rattle.s10_book.proofs.Earliest.{earliest_cons}
@@ -18,13 +18,14 @@ use Rattle.s10_book.specs.declared.range.Range.{Range}
 use Rattle.s10_book.specs.declared.issuance.Issuance.{Issuance}
 use Rattle.s10_book.specs.Settings.{Terms}
 use Rattle.s10_book.specs.History.{ranges_of, range_of_grant, lies_in}
-use Rattle.s10_book.specs.Issues.{issues_of, issues_at, carried_by, is_of, is_issued, serial_issued_earliest, serials, pick_of, id_at}
+use Rattle.s10_book.specs.Issues.{issues_of, carried_by, is_of, is_issued, serial_issued_earliest, serials, pick_of, id_at, serial_behind, pick_behind}
 use Rattle.s10_book.specs.Rules.{IsLegal, MayFollow}
 use Rattle.s10_book.proofs.Push.{ranges_from-push, issues_from-push}
 use Rattle.s10_book.proofs.Legal.{legal_induction}
 use Rattle.s10_book.proofs.Apart.{Apart, apart, new_apart}
 use Rattle.s10_book.proofs.Spaced.{id_same}
-use Rattle.s10_book.proofs.Own.{lies_at, new_ordered, DrawnFrom, drawn_from, lies_drawn, issued_at}
+use Rattle.s10_book.proofs.Own.{lies_at, new_ordered, lies_picked}
+use Rattle.s10_book.proofs.Carried.{made_by, InTurn, IsPicked, carried_call, after_call}
 use Rattle.s10_book.proofs.Free.{id_equal, id_within}
 
 -- the serials of a range that were issued, in the order of their last issues
@@ -255,11 +256,7 @@ pick_turns r is m turns =
     head_of low zero l lt = absurd (omega arith)
     head_of low (suc n) l lt = refl
 
--- the mark after a serial was drawn
-abbrev pub next_mark : Range → ℕ → ℕ
-next_mark r m = cond (eqb m r.last) r.first (m + 1)
-
-turns_outside : (r : Range) (is : List Issuance) (y : Issuance) (m : ℕ) → lies_in r y.id ≡ false → Turns r is m → Turns r (is ++ y ∷ []) m
+pub turns_outside : (r : Range) (is : List Issuance) (y : Issuance) (m : ℕ) → lies_in r y.id ≡ false → Turns r is m → Turns r (is ++ y ∷ []) m
 turns_outside r is y m ly turns =
     let P : List ℕ → Type 0 = λ l. (l ≡ range_with_len r.first (m - r.first)) ⊎ (l ≡ range_with_len m (r.last + 1 - m) ++ range_with_len r.first (m - r.first)) in
     record { low = turns.low; high = turns.high; shape = subst P (sym (lasts_outside r is y ly)) turns.shape }
@@ -319,7 +316,7 @@ before_last r m l (inr is) =
     inr (is ∙ ap (λ (k : ℕ). range_with_len (m + 1) k ++ range_with_len r.first (m + 1 - r.first)) n)
 
 -- an issue of the serial at the mark
-turns_inside : (r : Range) (is : List Issuance) (y : Issuance) (m : ℕ) → lies_in r y.id ≡ true → y.id.serial ≡ m → Turns r is m → Turns r (is ++ y ∷ []) (next_mark r m)
+pub turns_inside : (r : Range) (is : List Issuance) (y : Issuance) (m : ℕ) → lies_in r y.id ≡ true → y.id.serial ≡ m → Turns r is m → Turns r (is ++ y ∷ []) (serial_behind r m)
 turns_inside r is y m ly e turns =
     let l : List ℕ = lasts r (is ++ y ∷ []) in
     let f : ℕ → List ℕ = λ k. without k (lasts r is) ++ k ∷ [] in
@@ -348,7 +345,7 @@ turns_new r is order none =
     record { low = omega arith; high = order; shape = inl (lasts_none r is none ∙ e) }
 
 -- a range in two places of a list is the same range, and two ranges of one identifier are one
-one_range : (rs : List Range) (r s : Range) (x : Id) → AllPairs Apart rs → Contains rs r → Contains rs s → lies_in r x ≡ true → lies_in s x ≡ true → r ≡ s
+pub one_range : (rs : List Range) (r s : Range) (x : Id) → AllPairs Apart rs → Contains rs r → Contains rs s → lies_in r x ≡ true → lies_in s x ≡ true → r ≡ s
 one_range rs r s x pairs cr cs lr ls =
     let P : Range → Type 0 = λ y. lies_in y x ≡ true in
     let get : (k : ℕ) (d : Range) → k < length rs → slice_get rs k ≡ Some (get_or rs k d) = λ k d lt. slice_get-get_or rs k d lt in
@@ -376,21 +373,18 @@ covered_more g e i h =
     subst P (sym (ranges_from-push 1 g e))
     (list_any-append (λ r. lies_in r i.id) (ranges_of g) _ ∙ or_left (list_any (λ r. lies_in r i.id) (ranges_of g)) _ h)
 
-covered_drawn : (g : List Entry) (t : Terms) (customer : ℕ) (x : Id) → IsLegal g t → DrawnFrom g customer x → list_any (λ r. lies_in r x) (ranges_of g) ≡ true
-covered_drawn g t customer x legal from =
-    let P : Range → Type 0 = λ r. lies_in r x ≡ true in
-    list_any_at (λ r. lies_in r x) (ranges_of g) from.there.0 from.range from.there.1 (subst P (sym from.there.2) (lies_drawn g t customer x legal from))
+covered_picked : (g : List Entry) (t : Terms) (customer day n : ℕ) (is : List Issuance) (c : ℕ × Id) → IsLegal g t → IsPicked (ranges_of g) customer day n is c → list_any (λ r. lies_in r c.1) (ranges_of g) ≡ true
+covered_picked g t customer day n is c legal from =
+    let P : Range → Type 0 = λ r. lies_in r c.1 ≡ true in
+    list_any_at (λ r. lies_in r c.1) (ranges_of g) from.there.0 from.range from.there.1 (subst P (sym from.there.2) (lies_picked g t customer day n is c legal from))
 
 covered : (h : List Entry) (t : Terms) → IsLegal h t → All (IsCovered h) (issues_of h)
 covered h t legal = legal_induction (λ g. All (IsCovered g) (issues_of g)) h t legal (All-nil (IsCovered []))
     (λ g e legal_g before may.
     let P : Issuance → Type 0 = IsCovered (g ++ e ∷ []) in
-    let Q : List Issuance → Type 0 = All P in
-    subst Q (sym (issues_from-push 1 g e))
-    (All-append P (issues_of g) _ (All-weaker (IsCovered g) P (covered_more g e) (issues_of g) before)
-    (issued_at P e.request.customer e.request.number (1 + length g) e.outcome (λ d x is.
-    covered_more g e (record { id = x; day = d; customer = e.request.customer; number = e.request.number; arrival = 1 + length g })
-    (covered_drawn g t e.request.customer x legal_g (drawn_from g e.request.customer e.day t.interval d e.request.body x (sym may.right ∙ is)))))))
+    after_call (All P) g t e may (All-weaker (IsCovered g) P (covered_more g e) (issues_of g) before)
+    (λ is c picked all.
+    All-push P is (made_by e (1 + length g) c) all (covered_more g e (made_by e (1 + length g) c) (covered_picked g t e.request.customer e.day t.interval is c legal_g picked))))
 
 -- a new range has no issue
 none_issued : (h : List Entry) (t : Terms) (e : Entry) (r : Range) (num : ℕ) → IsLegal h t → MayFollow h t e → range_of_grant num e.request.body e.outcome ≡ Some r → All (λ i. lies_in r i.id ≡ false) (issues_of h)
@@ -411,38 +405,55 @@ carries_none : (num : ℕ) (b : Body) (o : Outcome) (r : Range) → range_of_gra
 carries_none num (Grant holder s c first last) (Granted n) r made = refl
 carries_none num b o r made = absurd (none-some r made)
 
-abbrev made_by : Entry → ℕ → ℕ × Id → Issuance
-made_by e arrival c = record { id = c.1; day = c.0; customer = e.request.customer; number = e.request.number; arrival = arrival }
+-- the serial that is picked in a range is its mark
+picked_mark : (g : List Entry) (t : Terms) (customer day n : ℕ) (is : List Issuance) (c : ℕ × Id) (r : Range) → IsLegal g t → IsPicked (ranges_of g) customer day n is c → Contains (ranges_of g) r → lies_in r c.1 ≡ true → c.1.serial ≡ pick_of is r
+picked_mark g t customer day n is c r legal from there lies =
+    let same : from.range ≡ r = one_range (ranges_of g) from.range r c.1 (apart g t legal) from.there there (lies_picked g t customer day n is c legal from) lies in
+    sym (ap (λ (y : Id). y.serial) from.picked) ∙ ap (λ (s : Range). pick_of is s) same
 
--- the serial that is drawn from a range is its pick
-drawn_pick : (h : List Entry) (t : Terms) (e : Entry) (r : Range) (d : ℕ) (x : Id) → IsLegal h t → MayFollow h t e → Contains (ranges_of h) r → e.outcome ≡ Drawn d x → lies_in r x ≡ true → x.serial ≡ pick_of (issues_of h) r
-drawn_pick h t e r d x legal may there is lies =
-    let from = drawn_from h e.request.customer e.day t.interval d e.request.body x (sym may.right ∙ is) in
-    let same : from.range ≡ r = one_range (ranges_of h) from.range r x (apart h t legal) from.there there (lies_drawn h t e.request.customer x legal from) lies in
-    sym (ap (λ (y : Id). y.serial) from.picked) ∙ ap (λ (s : Range). pick_of (issues_of h) s) same
+-- the mark of a range behind what is carried
+abbrev pub marks : Range → ℕ → List (ℕ × Id) → ℕ
+marks r m cs = fold (λ pick c. pick_behind r pick c.1) m cs
 
--- how a call moves the mark of a range that was there
-turns_old : (h : List Entry) (e : Entry) (r : Range) (m arrival : ℕ) (o : Outcome) → Turns r (issues_of h) m → ((d : ℕ) (x : Id) → o ≡ Drawn d x → lies_in r x ≡ true → x.serial ≡ m)
-    → (m' : ℕ) × Turns r (issues_of h ++ map (made_by e arrival) (carried_by o)) m'
-turns_old h e r m arrival (Drawn d x) turns drawn =
-    elim (cases_Bool (lies_in r x)) [
-      | inl in' ↦ (next_mark r m, turns_inside r (issues_of h) (made_by e arrival (d, x)) m in' (drawn d x refl in') turns)
-      | inr out ↦ (m, turns_outside r (issues_of h) (made_by e arrival (d, x)) m out turns)
+pub mark_step : (r : Range) (is : List Issuance) (y : Issuance) (m : ℕ) → (lies_in r y.id ≡ true → y.id.serial ≡ m) → Turns r is m → Turns r (is ++ y ∷ []) (pick_behind r m y.id)
+mark_step r is y m at turns =
+    elim (cases_Bool (lies_in r y.id)) [
+      | inl in' ↦
+          let P : ℕ → Type 0 = λ k. Turns r (is ++ y ∷ []) (serial_behind r k) in
+          rw in' (subst P (sym (at in')) (turns_inside r is y m in' (at in') turns))
+      | inr out ↦ rw out (turns_outside r is y m out turns)
     ]
-turns_old h e r m arrival o turns drawn = (m, rw append-nil turns)
+
+-- how the mark of a range moves by what is carried
+turns_carried : (g : List Entry) (t : Terms) (customer day n : ℕ) (made : ℕ × Id → Issuance) (r : Range) → IsLegal g t → Contains (ranges_of g) r → ((c : ℕ × Id) → (made c).id ≡ c.1)
+    → (is : List Issuance) (m : ℕ) (cs : List (ℕ × Id)) → InTurn (IsPicked (ranges_of g) customer day n) made is cs → Turns r is m → Turns r (is ++ map made cs) (marks r m cs)
+turns_carried g t customer day n made r legal there same is m [] turn turns = rw append-nil turns
+turns_carried g t customer day n made r legal there same is m (c ∷ cs) turn turns =
+    let at : lies_in r c.1 ≡ true → c.1.serial ≡ m = λ lies. picked_mark g t customer day n is c r legal turn.0 there lies ∙ pick_turns r is m turns in
+    let next : Turns r (is ++ made c ∷ []) (pick_behind r m c.1) =
+    (let P : Id → Type 0 = λ x. (lies_in r x ≡ true → x.serial ≡ m) → Turns r (is ++ made c ∷ []) (pick_behind r m x) in subst P (same c) (λ e. mark_step r is (made c) m e turns)) at in
+    let Q : List Issuance → Type 0 = λ l. Turns r l (marks r (pick_behind r m c.1) cs) in
+    subst Q (append_assoc is (made c ∷ []) (map made cs)) (turns_carried g t customer day n made r legal there same (is ++ made c ∷ []) (pick_behind r m c.1) cs turn.1 next)
 
 -- the mark of each range is its pick
-turns_pick : (r : Range) (is : List Issuance) → (m : ℕ) × Turns r is m → Turns r is (pick_of is r)
+pub turns_pick : (r : Range) (is : List Issuance) → (m : ℕ) × Turns r is m → Turns r is (pick_of is r)
 turns_pick r is found = let P : ℕ → Type 0 = Turns r is in subst P (sym (pick_turns r is found.0 found.1)) found.1
+
+-- how a call moves the mark of a range that was there
+turns_call : (h : List Entry) (t : Terms) (e : Entry) (r : Range) (m : ℕ) → IsLegal h t → MayFollow h t e → Contains (ranges_of h) r → Turns r (issues_of h) m → Turns r (issues_of (h ++ e ∷ [])) (marks r m (carried_by e.outcome))
+turns_call h t e r m legal may there turns =
+    let Q : List Issuance → Type 0 = λ l. Turns r l (marks r m (carried_by e.outcome)) in
+    subst Q (sym (issues_from-push 1 h e))
+    (turns_carried h t e.request.customer e.day t.interval (made_by e (1 + length h)) r legal there (λ c. refl) (issues_of h) m (carried_by e.outcome) (carried_call h t e may) turns)
 
 abbrev AllTurn : List Entry → Type 0
 AllTurn h = (r : Range) → Contains (ranges_of h) r → (m : ℕ) × Turns r (issues_of h) m
 
-turns_made : (h : List Entry) (t : Terms) (e : Entry) (r : Range) (num arrival : ℕ) → IsLegal h t → MayFollow h t e → range_of_grant num e.request.body e.outcome ≡ Some r
-    → Turns r (issues_of h ++ map (made_by e arrival) (carried_by e.outcome)) r.first
-turns_made h t e r num arrival legal may made =
+turns_made : (h : List Entry) (t : Terms) (e : Entry) (r : Range) (num : ℕ) → IsLegal h t → MayFollow h t e → range_of_grant num e.request.body e.outcome ≡ Some r → Turns r (issues_of (h ++ e ∷ [])) r.first
+turns_made h t e r num legal may made =
     let order : r.first ≤ r.last = new_ordered h e.request.customer e.day t.interval num e.request.body e.outcome r may.right made in
-    let none : issues_of h ++ map (made_by e arrival) (carried_by e.outcome) ≡ issues_of h = ap (λ (l : List (ℕ × Id)). issues_of h ++ map (made_by e arrival) l) (carries_none num e.request.body e.outcome r made) ∙ append-nil (issues_of h) in
+    let none : issues_of (h ++ e ∷ []) ≡ issues_of h =
+    issues_from-push 1 h e ∙ ap (λ (l : List (ℕ × Id)). issues_of h ++ map (made_by e (1 + length h)) l) (carries_none num e.request.body e.outcome r made) ∙ append-nil (issues_of h) in
     let P : List Issuance → Type 0 = λ l. Turns r l r.first in
     subst P (sym none) (turns_new r (issues_of h) order (none_issued h t e r num legal may made))
 
@@ -454,46 +465,43 @@ all_turn : (h : List Entry) (t : Terms) → IsLegal h t → AllTurn h
 all_turn h t legal = legal_induction AllTurn h t legal (λ r c. absurd (omega (arith, c.1)))
     (λ g e legal_g before may r c.
     let P : List Range → Type 0 = λ l. Contains l r in
-    let Q : List Issuance → Type 0 = λ l. (m : ℕ) × Turns r l m in
     let c' : Contains (ranges_of g ++ option_to_list (range_of_grant (1 + length (ranges_of g)) e.request.body e.outcome)) r = subst P (ranges_from-push 1 g e) c in
-    subst Q (sym (issues_from-push 1 g e))
-    (elim (in_more (ranges_of g) (range_of_grant (1 + length (ranges_of g)) e.request.body e.outcome) r c') [
-      | inl old ↦ turns_old g e r (pick_of (issues_of g) r) (1 + length g) e.outcome (turns_pick r (issues_of g) (before r old)) (λ d x is lies. drawn_pick g t e r d x legal_g may old is lies)
-      | inr new ↦ (r.first, turns_made g t e r (1 + length (ranges_of g)) (1 + length g) legal_g may new)
-    ]))
+    elim (in_more (ranges_of g) (range_of_grant (1 + length (ranges_of g)) e.request.body e.outcome) r c') [
+      | inl old ↦ let was = before r old in (marks r was.0 (carried_by e.outcome), turns_call g t e r was.0 legal_g may old was.1)
+      | inr new ↦ (r.first, turns_made g t e r (1 + length (ranges_of g)) legal_g may new)
+    ])
+
+-- the pick of each range of a legal history is its mark
+pub all_at_pick : (h : List Entry) (t : Terms) → IsLegal h t → (r : Range) → Contains (ranges_of h) r → Turns r (issues_of h) (pick_of (issues_of h) r)
+all_at_pick h t legal r there = turns_pick r (issues_of h) (all_turn h t legal r there)
 
 -- the pick of a new range is its first serial
 pub pick_new : (h : List Entry) (t : Terms) (e : Entry) → IsLegal h t → MayFollow h t e → (r : Range) → range_of_grant (length (ranges_of h) + 1) e.request.body e.outcome ≡ Some r → pick_of (issues_of (h ++ e ∷ [])) r ≡ r.first
-pick_new h t e legal may r made =
-    let P : List Issuance → Type 0 = λ l. pick_of l r ≡ r.first in
-    subst P (sym (issues_from-push 1 h e)) (pick_turns r _ r.first (turns_made h t e r (length (ranges_of h) + 1) (1 + length h) legal may made))
+pick_new h t e legal may r made = pick_turns r _ r.first (turns_made h t e r (length (ranges_of h) + 1) legal may made)
+
+-- a call moves the pick of a range by each identifier that it carries
+pub pick_turned : (h : List Entry) (t : Terms) (e : Entry) → IsLegal h t → MayFollow h t e → (r : Range) → Contains (ranges_of h) r
+    → pick_of (issues_of (h ++ e ∷ [])) r ≡ fold (λ pick c. pick_behind r pick c.1) (pick_of (issues_of h) r) (carried_by e.outcome)
+pick_turned h t e legal may r there =
+    let m : ℕ = pick_of (issues_of h) r in
+    pick_turns r (issues_of (h ++ e ∷ [])) (marks r (pick_of (issues_of h) r) (carried_by e.outcome)) (turns_call h t e r (pick_of (issues_of h) r) legal may there (all_at_pick h t legal r there))
 
 -- after a Draw that is Done it is the next serial, or the first one behind the last
 pub pick_drawn : (h : List Entry) (t : Terms) (e : Entry) → IsLegal h t → MayFollow h t e → (r : Range) → Contains (ranges_of h) r → (day : ℕ) (x : Id) → e.outcome ≡ Drawn day x → IsTrue (lies_in r x)
-    → pick_of (issues_of (h ++ e ∷ [])) r ≡ cond (eqb x.serial r.last) r.first (x.serial + 1)
+    → pick_of (issues_of (h ++ e ∷ [])) r ≡ serial_behind r x.serial
 pick_drawn h t e legal may r there day x is lies =
-    let y : Issuance = made_by e (1 + length h) (day, x) in
-    let P : List Issuance → Type 0 = λ l. pick_of l r ≡ next_mark r x.serial in
-    let Q : ℕ → Type 0 = Turns r (issues_of h) in
-    let at : x.serial ≡ pick_of (issues_of h) r = drawn_pick h t e r day x legal may there is lies in
-    let one : issues_at (1 + length h) e ≡ made_by e (1 + length h) (day, x) ∷ [] = ap (λ (o : Outcome). map (made_by e (1 + length h)) (carried_by o)) is in
-    subst P (sym (issues_from-push 1 h e ∙ ap (λ (l : List Issuance). issues_of h ++ l) one))
-    (pick_turns r (issues_of h ++ made_by e (1 + length h) (day, x) ∷ []) (next_mark r x.serial)
-    (turns_inside r (issues_of h) (made_by e (1 + length h) (day, x)) x.serial lies refl (subst Q (sym at) (turns_pick r (issues_of h) (all_turn h t legal r there)))))
+    pick_turned h t e legal may r there ∙ ap (λ (o : Outcome). marks r (pick_of (issues_of h) r) (carried_by o)) is
+    ∙ ap (λ (b : Bool). cond b (serial_behind r x.serial) (pick_of (issues_of h) r)) lies
 
-same_turns : (h : List Entry) (e : Entry) (r : Range) (m arrival : ℕ) (o : Outcome) → Turns r (issues_of h) m → ((d : ℕ) (x : Id) → o ≡ Drawn d x → ¬ (IsTrue (lies_in r x)))
-    → Turns r (issues_of h ++ map (made_by e arrival) (carried_by o)) m
-same_turns h e r m arrival (Drawn d x) turns other =
+left_at : (r : Range) (m : ℕ) (o : Outcome) → ((d : ℕ) (x : Id) → o ≡ Drawn d x → ¬ (IsTrue (lies_in r x))) → marks r m (carried_by o) ≡ m
+left_at r m (Drawn d x) other =
     elim (cases_Bool (lies_in r x)) [
       | inl in' ↦ absurd (other d x refl in')
-      | inr out ↦ turns_outside r (issues_of h) (made_by e arrival (d, x)) m out turns
+      | inr out ↦ rw out refl
     ]
-same_turns h e r m arrival o turns other = rw append-nil turns
+left_at r m o other = refl
 
 -- every other call leaves it
 pub pick_left : (h : List Entry) (t : Terms) (e : Entry) → IsLegal h t → MayFollow h t e → (r : Range) → Contains (ranges_of h) r → ((day : ℕ) (x : Id) → e.outcome ≡ Drawn day x → ¬ (IsTrue (lies_in r x)))
     → pick_of (issues_of (h ++ e ∷ [])) r ≡ pick_of (issues_of h) r
-pick_left h t e legal may r there other =
-    let P : List Issuance → Type 0 = λ l. pick_of l r ≡ pick_of (issues_of h) r in
-    subst P (sym (issues_from-push 1 h e))
-    (pick_turns r _ (pick_of (issues_of h) r) (same_turns h e r (pick_of (issues_of h) r) (1 + length h) e.outcome (turns_pick r (issues_of h) (all_turn h t legal r there)) other))
+pick_left h t e legal may r there other = pick_turned h t e legal may r there ∙ left_at r (pick_of (issues_of h) r) e.outcome other

@@ -27,7 +27,8 @@ use Rattle.std.specs.Option.{option_or, unwrap_or}
 use Rattle.s10_book.proofs.Earliest.{earliest_cons}
 use Rattle.s10_book.proofs.Legal.{legal_induction}
 use Rattle.s10_book.proofs.Apart.{within}
-use Rattle.s10_book.proofs.Spaced.{letters_itself, drawn_parts, other_kind}
+use Rattle.s10_book.proofs.Spaced.{letters_itself}
+use Rattle.s10_book.proofs.Carried.{made_by, InTurn, IsPicked, carried, after_call}
 
 -- a serial of a range
 pub record IsSerialOf (r : Range) (s : ℕ) : Type 0 where
@@ -90,51 +91,25 @@ ordered h t legal = legal_induction (λ g. All (λ r. r.first ≤ r.last) (range
     subst P (sym (ranges_from-push 1 g e))
     (all_more (λ r. r.first ≤ r.last) (ranges_of g) _ before (λ r made. new_ordered g e.request.customer e.day t.interval _ e.request.body e.outcome r may.right made)))
 
--- the range that an identifier is drawn from
-pub record DrawnFrom (g : List Entry) (customer : ℕ) (x : Id) : Type 0 where
-  pub range : Range
-  pub there : Contains (ranges_of g) range
-  pub holder : range.holder ≡ customer
-  pub picked : id_at range (pick_of (issues_of g) range) ≡ x
-
-Contains-filter : {A : Type 0} (p : A → Bool) (xs : List A) (x : A) → Contains (filter p xs) x → Contains xs x
-Contains-filter {A} p xs x in' = let P : A → Type 0 = Contains xs in All-contains P (filter p xs) x (All-filter p P xs (All-contains_itself xs)) in'
-
-from_range : (g : List Entry) (customer day interval d : ℕ) (s c : ℕ × ℕ) (x : Id) (r : Range) → find (has_free_pick g day interval) (ranges_held g customer s c) ≡ Some r → Drawn day (id_at r (pick_of (issues_of g) r)) ≡ Drawn d x → DrawnFrom g customer x
-from_range g customer day interval d s c x r found is =
-    let at : Contains (ranges_held g customer s c) r = Contains-find (has_free_pick g day interval) (ranges_held g customer s c) r found in
-    let passes : is_held customer s c r ≡ true = All-contains (λ y. is_held customer s c y ≡ true) (ranges_held g customer s c) r (filter_passes (is_held customer s c) (ranges_of g)) at in
-    record {
-      range = r;
-      there = Contains-filter (is_held customer s c) (ranges_of g) r at;
-      holder = eqb-true r.holder customer (and_parts _ _ (and_parts _ _ passes).0).0;
-      picked = (drawn_parts day d (id_at r (pick_of (issues_of g) r)) x is).1;
-    }
-
-from_at : (g : List Entry) (customer day interval d : ℕ) (s c : ℕ × ℕ) (x : Id) (rs : List Range) (o : Option Range) → find (has_free_pick g day interval) (ranges_held g customer s c) ≡ o → outcome_of_pick g day rs o ≡ Drawn d x → DrawnFrom g customer x
-from_at g customer day interval d s c x [] None found is = cc
-from_at g customer day interval d s c x (y ∷ ys) None found is = cc
-from_at g customer day interval d s c x [] (Some r) found is = from_range g customer day interval d s c x r found is
-from_at g customer day interval d s c x (y ∷ ys) (Some r) found is = from_range g customer day interval d s c x r found is
-
-pub drawn_from : (g : List Entry) (customer day interval d : ℕ) (b : Body) (x : Id) → body_answer g customer b day interval ≡ Drawn d x → DrawnFrom g customer x
-drawn_from g customer day interval d (Draw s c) x is = from_at g customer day interval d s c x (ranges_held g customer s c) _ refl is
-drawn_from g customer day interval d (Grant holder service country first last) x is = absurd (other_kind (Grant holder service country first last) _ d x refl (answer_fits g customer (Grant holder service country first last) day interval) is)
-drawn_from g customer day interval d (Void y) x is = absurd (other_kind (Void y) _ d x refl (answer_fits g customer (Void y) day interval) is)
-drawn_from g customer day interval d (Query y) x is = absurd (other_kind (Query y) _ d x refl (answer_fits g customer (Query y) day interval) is)
-
--- what is drawn from a range lies in it
-pub lies_drawn : (g : List Entry) (t : Terms) (customer : ℕ) (x : Id) → IsLegal g t → (from : DrawnFrom g customer x) → lies_in from.range x ≡ true
-lies_drawn g t customer x legal from =
+-- what is picked from a range lies in it
+pub lies_picked : (g : List Entry) (t : Terms) (customer day n : ℕ) (is : List Issuance) (c : ℕ × Id) → IsLegal g t → (from : IsPicked (ranges_of g) customer day n is c) → lies_in from.range c.1 ≡ true
+lies_picked g t customer day n is c legal from =
     let order : from.range.first ≤ from.range.last = All-contains (λ r. r.first ≤ r.last) (ranges_of g) from.range (ordered g t legal) from.there in
     let P : Id → Type 0 = λ y. lies_in from.range y ≡ true in
-    subst P from.picked (lies_at from.range (pick_of (issues_of g) from.range) (pick_within (issues_of g) from.range order))
+    subst P from.picked (lies_at from.range (pick_of is from.range) (pick_within is from.range order))
 
-pub own_drawn : (g : List Entry) (t : Terms) (customer : ℕ) (x : Id) → IsLegal g t → DrawnFrom g customer x → list_any (is_own customer x) (ranges_of g) ≡ true
-own_drawn g t customer x legal from =
-    let P : Range → Type 0 = λ r. is_own customer x r ≡ true in
-    list_any_at (is_own customer x) (ranges_of g) from.there.0 from.range from.there.1
-    (subst P (sym from.there.2) (and_from (eqb from.range.holder customer) (lies_in from.range x) (eq-eqb _ _ from.holder) (lies_drawn g t customer x legal from)))
+pub own_picked : (g : List Entry) (t : Terms) (customer day n : ℕ) (is : List Issuance) (c : ℕ × Id) → IsLegal g t → IsPicked (ranges_of g) customer day n is c → list_any (is_own customer c.1) (ranges_of g) ≡ true
+own_picked g t customer day n is c legal from =
+    let P : Range → Type 0 = λ r. is_own customer c.1 r ≡ true in
+    list_any_at (is_own customer c.1) (ranges_of g) from.there.0 from.range from.there.1
+    (subst P (sym from.there.2) (and_from (eqb from.range.holder customer) (lies_in from.range c.1) (eq-eqb _ _ from.holder) (lies_picked g t customer day n is c legal from)))
+
+-- what a Draw that is Done issues was picked
+pub drawn_from : (g : List Entry) (customer day n d : ℕ) (b : Body) (x : Id) → body_answer g customer b day n ≡ Drawn d x → IsPicked (ranges_of g) customer day n (issues_of g) (d, x)
+drawn_from g customer day n d b x is =
+    let made : ℕ × Id → Issuance = λ c. record { id = c.1; day = c.0; customer = customer; number = 0; arrival = 0 } in
+    let P : Outcome → Type 0 = λ o. InTurn (IsPicked (ranges_of g) customer day n) made (issues_of g) (carried_by o) in
+    (subst P is (carried g customer day n b made)).0
 
 -- what each legal history has: an issue is made by one of its calls, from a range of those before
 abbrev pub IsOwned : List Entry → Issuance → Type 0
@@ -148,25 +123,16 @@ owned_more g e i h =
 take_front : (g ys : List Entry) (n : ℕ) → n ≡ length g → take n (g ++ ys) ≡ g
 take_front g ys n e = take-append-le n g ys (omega arith) ∙ take_all n g (omega arith)
 
-pub issued_at : (P : Issuance → Type 0) (customer number arrival : ℕ) (o : Outcome) → ((d : ℕ) (x : Id) → o ≡ Drawn d x → P (record { id = x; day = d; customer = customer; number = number; arrival = arrival }))
-    → All P (map (λ (c : ℕ × Id). record { id = c.1; day = c.0; customer = customer; number = number; arrival = arrival }) (carried_by o))
-issued_at P customer number arrival (Drawn d x) new = All-cons P _ [] (new d x refl) (All-nil P)
-issued_at P customer number arrival o new = All-nil P
-
 pub owned : (h : List Entry) (t : Terms) → IsLegal h t → All (IsOwned h) (issues_of h)
 owned h t legal = legal_induction (λ g. All (IsOwned g) (issues_of g)) h t legal (All-nil (IsOwned []))
     (λ g e legal_g before may.
     let P : Issuance → Type 0 = IsOwned (g ++ e ∷ []) in
-    let Q : List Issuance → Type 0 = All P in
-    let R : List Entry → ℕ → Id → Type 0 = λ l customer x. list_any (is_own customer x) (ranges_of l) ≡ true in
-    subst Q (sym (issues_from-push 1 g e))
-    (All-append P (issues_of g) _ (All-weaker (IsOwned g) P (owned_more g e) (issues_of g) before)
-    (issued_at P e.request.customer e.request.number (1 + length g) e.outcome (λ d x is. (
+    after_call (All P) g t e may (All-weaker (IsOwned g) P (owned_more g e) (issues_of g) before)
+    (λ is c picked all. All-push P is (made_by e (1 + length g) c) all (
       omega arith,
       omega (arith, length-append g (e ∷ [])),
-      rw (take_front g (e ∷ []) (1 + length g - 1) (omega arith))
-          (own_drawn g t e.request.customer x legal_g (drawn_from g e.request.customer e.day t.interval d e.request.body x (sym may.right ∙ is))),
-    )))))
+      rw (take_front g (e ∷ []) (1 + length g - 1) (omega arith)) (own_picked g t e.request.customer e.day t.interval is c legal_g picked),
+    )))
 
 pub own : (h : List Entry) (t : Terms) → IsLegal h t → IsOwn h
 own h t legal = All-weaker (IsOwned h) (λ i. IsTrue (list_any (is_own i.customer i.id) (ranges_of (take (i.arrival - 1) h)))) (λ i o. o.2) (issues_of h) (owned h t legal)

@@ -24,8 +24,7 @@ use Rattle.s10_book.specs.Issues.{issues_of, is_of, last_issuance_of, is_free, i
 use Rattle.s10_book.specs.Rules.{IsLegal, body_answer, outcome_of_pick, has_free_pick}
 use Rattle.s10_book.specs.Promises.{IsSpaced}
 use Rattle.s10_book.proofs.Ranges.{found_passes}
-use Rattle.s10_book.proofs.Push.{issues_from-push}
-use Rattle.s10_book.proofs.Fitting.{answer_fits}
+use Rattle.s10_book.proofs.Carried.{made_by, after_call}
 use Rattle.s10_book.proofs.Legal.{legal_induction}
 
 abbrev pub InDays : List Issuance → Type 0
@@ -100,36 +99,12 @@ id_itself x = and_from _ _ (and_from _ _ (letters_itself x.service) (eq-eqb x.se
 pub id_same : (x y : Id) → x ≡ y → same_id x y ≡ true
 id_same x y e = let P : Id → Type 0 = λ z. same_id x z ≡ true in subst P e (id_itself x)
 
--- what a Draw that is Done says
-record IsDrawn (g : List Entry) (customer day interval d : ℕ) (x : Id) : Type 0 where
-  same_day : d ≡ day
-  free : is_free (issues_of g) x day interval ≡ true
-
 pub drawn_parts : (d d' : ℕ) (x x' : Id) → Drawn d x ≡ Drawn d' x' → (d ≡ d') × (x ≡ x')
 drawn_parts d d' x x' e = let a : d ≡ d' = cc in let b : x ≡ x' = cc in (a, b)
-
-drawn_free : (g : List Entry) (customer day interval d : ℕ) (x : Id) (r : Range) → has_free_pick g day interval r ≡ true → Drawn day (id_at r (pick_of (issues_of g) r)) ≡ Drawn d x → IsDrawn g customer day interval d x
-drawn_free g customer day interval d x r passes is =
-    let parts = drawn_parts day d (id_at r (pick_of (issues_of g) r)) x is in
-    let P : Id → Type 0 = λ y. is_free (issues_of g) y day interval ≡ true in
-    record { same_day = sym parts.0; free = subst P parts.1 passes }
-
-drawn_at : (g : List Entry) (customer day interval d : ℕ) (x : Id) (rs : List Range) (o : Option Range) → ((r : Range) → o ≡ Some r → has_free_pick g day interval r ≡ true) → outcome_of_pick g day rs o ≡ Drawn d x → IsDrawn g customer day interval d x
-drawn_at g customer day interval d x [] None passes is = cc
-drawn_at g customer day interval d x (y ∷ ys) None passes is = cc
-drawn_at g customer day interval d x [] (Some r) passes is = drawn_free g customer day interval d x r (passes r refl) is
-drawn_at g customer day interval d x (y ∷ ys) (Some r) passes is = drawn_free g customer day interval d x r (passes r refl) is
 
 -- no other request is answered so
 pub other_kind : (b : Body) (o : Outcome) (d : ℕ) (x : Id) → fits b (Drawn d x) ≡ false → IsTrue (fits b o) → o ≡ Drawn d x → ⊥
 other_kind b o d x no' yes' is = both_ways (fits b (Drawn d x)) no' (let P : Outcome → Type 0 = λ y. IsTrue (fits b y) in subst P is yes')
-
-is_drawn : (g : List Entry) (customer day interval d : ℕ) (b : Body) (x : Id) → body_answer g customer b day interval ≡ Drawn d x → IsDrawn g customer day interval d x
-is_drawn g customer day interval d (Draw service country) x is =
-    drawn_at g customer day interval d x (ranges_held g customer service country) _ (found_passes (has_free_pick g day interval) (ranges_held g customer service country)) is
-is_drawn g customer day interval d (Grant holder service country first last) x is = absurd (other_kind (Grant holder service country first last) _ d x refl (answer_fits g customer (Grant holder service country first last) day interval) is)
-is_drawn g customer day interval d (Void y) x is = absurd (other_kind (Void y) _ d x refl (answer_fits g customer (Void y) day interval) is)
-is_drawn g customer day interval d (Query y) x is = absurd (other_kind (Query y) _ d x refl (answer_fits g customer (Query y) day interval) is)
 
 -- what each legal history has
 pub record IsSound (is : List Issuance) (day n : ℕ) : Type 0 where
@@ -137,26 +112,23 @@ pub record IsSound (is : List Issuance) (day n : ℕ) : Type 0 where
   pub upto : All (λ i. i.day ≤ day) is
   pub spaced : AllPairs (λ i j. i.id ≡ j.id → i.day + n ≤ j.day) is
 
-step_at : (g : List Entry) (customer number arrival before day n : ℕ) (o : Outcome) → IsSound (issues_of g) before n → before ≤ day
-    → ((d : ℕ) (x : Id) → o ≡ Drawn d x → IsDrawn g customer day n d x)
-    → IsSound (issues_of g ++ map (λ (c : ℕ × Id). record { id = c.1; day = c.0; customer = customer; number = number; arrival = arrival }) (carried_by o)) day n
-step_at g customer number arrival before day n (Drawn d x) sound le drawn =
-    let is = issues_of g in
-    let y : Issuance = record { id = x; day = d; customer = customer; number = number; arrival = arrival } in
-    let said = drawn d x refl in
-    let later : All (λ i. i.day ≤ day) is = All-weaker (λ i. i.day ≤ before) (λ i. i.day ≤ day) (λ i h. omega arith) is sound.upto in
-    let since : All (λ i. is_of x i ≡ true → i.day + n ≤ day) is =
+-- one more issue of an identifier that is free
+sound_more : (is : List Issuance) (y : Issuance) (day n : ℕ) → y.day ≡ day → is_free is y.id day n ≡ true → IsSound is day n → IsSound (is ++ y ∷ []) day n
+sound_more is y day n same free sound =
+    let since : All (λ i. is_of y.id i ≡ true → i.day + n ≤ day) is =
     elim (cases_lt 0 n) [
-      | inl pos ↦ free_since is x day n sound.days said.free pos
-      | inr zero' ↦ All-weaker (λ i. i.day ≤ day) (λ i. is_of x i ≡ true → i.day + n ≤ day) (λ i up t. omega arith) is later
+      | inl pos ↦ free_since is y.id day n sound.days free pos
+      | inr zero' ↦ All-weaker (λ i. i.day ≤ day) (λ i. is_of y.id i ≡ true → i.day + n ≤ day) (λ i up t. omega arith) is sound.upto
     ] in
     record {
-      days = all_pairs_push (λ i j. i.day ≤ j.day) is y sound.days (λ k e lt. omega (arith, later k e lt, said.same_day));
-      upto = All-push (λ i. i.day ≤ day) is y later (omega (arith, said.same_day));
-      spaced = all_pairs_push (λ i j. i.id ≡ j.id → i.day + n ≤ j.day) is y sound.spaced (λ k e lt same. omega (arith, since k e lt (id_same (get_or is k e).id x same), said.same_day));
+      days = all_pairs_push (λ i j. i.day ≤ j.day) is y sound.days (λ k e lt. omega (arith, sound.upto k e lt, same));
+      upto = All-push (λ i. i.day ≤ day) is y sound.upto (omega (arith, same));
+      spaced = all_pairs_push (λ i j. i.id ≡ j.id → i.day + n ≤ j.day) is y sound.spaced (λ k e lt alike. omega (arith, since k e lt (id_same (get_or is k e).id y.id alike), same));
     }
-step_at g customer number arrival before day n o sound le drawn =
-    rw append-nil record { days = sound.days; upto = All-weaker (λ i. i.day ≤ before) (λ i. i.day ≤ day) (λ i h. omega arith) (issues_of g) sound.upto; spaced = sound.spaced }
+
+-- the same on a later day
+sound_later : (is : List Issuance) (before day n : ℕ) → before ≤ day → IsSound is before n → IsSound is day n
+sound_later is before day n le sound = record { days = sound.days; upto = All-weaker (λ i. i.day ≤ before) (λ i. i.day ≤ day) (λ i h. omega arith) is sound.upto; spaced = sound.spaced }
 
 day_push : (a : ℕ) (g : List Entry) (e : Entry) → fold (λ d x. x.day) a (g ++ e ∷ []) ≡ e.day
 day_push a [] e = refl
@@ -166,9 +138,9 @@ pub sound : (h : List Entry) (t : Terms) → IsLegal h t → IsSound (issues_of 
 sound h t legal = legal_induction (λ g. IsSound (issues_of g) (day_of g) t.interval) h t legal
     (record { days = λ i j d lt lt'. absurd (omega arith); upto = All-nil (λ i. i.day ≤ 0); spaced = λ i j d lt lt'. absurd (omega arith) })
     (λ g e legal_g before may.
-    rw (issues_from-push 1 g e, day_push 0 g e)
-    (step_at g e.request.customer e.request.number (1 + length g) (day_of g) e.day t.interval e.outcome before may.in_order
-    (λ d x is. is_drawn g e.request.customer e.day t.interval d e.request.body x (sym may.right ∙ is))))
+    rw (day_push 0 g e)
+    (after_call (λ is. IsSound is e.day t.interval) g t e may (sound_later (issues_of g) (day_of g) e.day t.interval may.in_order before)
+    (λ is c picked. sound_more is (made_by e (1 + length g) c) e.day t.interval picked.same_day picked.free)))
 
 pub spaced : (h : List Entry) (t : Terms) → IsLegal h t → IsSpaced h t.interval
 spaced h t legal = (sound h t legal).spaced

@@ -1,5 +1,5 @@
 -- The issues of identifiers: when each was issued last, whether it is voided, and which serial a range gives next.
-use Rattle.std.specs.Prelude.{ℕ, ◌+◌, ◌-◌, nat_le, Bool, true, false, not, if◌then◌else◌, List, [], ◌∷◌, ◌++◌, map, drop, Option, Some, None, find, filter}
+use Rattle.std.specs.Prelude.{ℕ, zero, suc, ◌+◌, ◌-◌, ◌==◌, nat_le, Bool, true, false, not, if◌then◌else◌, List, [], ◌∷◌, ◌++◌, map, drop, Option, Some, None, find, filter}
 use Rattle.std.specs.List.{list_any, last_or, range_with_len}
 use Rattle.std.specs.Option.{option_map, option_or, unwrap_or}
 use Rattle.s10_core.specs.declared.id.Id.{Id}
@@ -94,6 +94,14 @@ serial_issued_earliest r is = option_map (λ i. i.id.serial) (find (λ i. lies_i
 abbrev pub pick_of : List Issuance → Range → ℕ
 pick_of is r = unwrap_or (option_or (least_serial_unissued r is) (serial_issued_earliest r is)) r.first
 
+-- the serial that the range gives behind that one: the next, or its first behind its last
+abbrev pub serial_behind : Range → ℕ → ℕ
+serial_behind r serial = if serial == r.last then r.first else serial + 1
+
+-- the pick of a range behind an issue of the identifier: where it lies in the range, the serial behind its own
+abbrev pub pick_behind : Range → ℕ → Id → ℕ
+pick_behind r pick x = if lies_in r x then serial_behind r x.serial else pick
+
 -- whether an identifier that was issued last on that day, or never, may be issued on the day
 abbrev pub is_free_since : ℕ → ℕ → Option ℕ → Bool
 is_free_since day interval None = true
@@ -102,6 +110,29 @@ is_free_since day interval (Some last) = nat_le interval (day - last)
 -- whether an identifier is free on the day; no Void changes it
 abbrev pub is_free : List Issuance → Id → ℕ → ℕ → Bool
 is_free is x day interval = is_free_since day interval (option_map (λ i. i.day) (last_issuance_of is x))
+
+-- an issue of the identifier; which customer drew it, and when, no pick looks at
+abbrev pub issue_of : Id → Issuance
+issue_of x = record { id = x; day = 0; customer = 0; number = 0; arrival = 0 }
+
+-- the issues, and behind them so many of the range's own successive picks
+abbrev pub with_picks : Range → List Issuance → ℕ → List Issuance
+with_picks r is zero = is
+with_picks r is (suc count) = with_picks r (is ++ issue_of (id_at r (pick_of is r)) ∷ []) count
+
+-- the pick of the range behind so many issues of its own successive picks, with its last issue in the history
+abbrev pub candidate_after_of : List Entry → Range → ℕ → Candidate
+candidate_after_of h r issued =
+    let serial = pick_of (with_picks r (issues_of h) issued) r in record { serial = serial; issue = last_issue_of h (id_at r serial) }
+
+-- the serial so many behind that one
+abbrev pub serials_behind : Range → ℕ → ℕ → ℕ
+serials_behind r serial zero = serial
+serials_behind r serial (suc count) = serial_behind r (serials_behind r serial count)
+
+-- how many serials the range has
+abbrev pub size_of : Range → ℕ
+size_of r = r.last + 1 - r.first
 
 -- the pick of the range and its last issue
 abbrev pub candidate_of : List Entry → Range → Candidate

@@ -1,6 +1,7 @@
 -- The rules: the outcome of each request, and the histories that keep them.
-use Rattle.std.specs.Prelude.{◌≡◌, ℕ, ◌+◌, ◌==◌, nat_lt, ◌<◌, ◌≤◌, Bool, not, ◌||◌, if◌then◌else◌, List, [], ◌∷◌, length, Option, Some, None, find, slice_get, take, All, AllPairs, IsTrue}
+use Rattle.std.specs.Prelude.{◌≡◌, ℕ, zero, suc, ◌+◌, ◌==◌, nat_lt, ◌<◌, ◌≤◌, Bool, not, ◌||◌, if◌then◌else◌, List, [], ◌∷◌, ◌++◌, length, Option, Some, None, find, slice_get, take, All, AllPairs, IsTrue}
 use Rattle.std.specs.List.{list_any}
+use Rattle.std.specs.Option.{option_map}
 use Rattle.s10_core.specs.declared.id.Id.{Id}
 use Rattle.s10_wire.specs.declared.body.Body.{Body}
 use Rattle.s10_wire.specs.declared.body.Body.TheVariants.{Grant, Draw, Void, Query}
@@ -12,6 +13,7 @@ use Rattle.s10_wire.specs.declared.outcome.Outcome.TheVariants.{Granted, Drawn, 
 use Rattle.s10_book.specs.declared.entry.Entry.{Entry}
 use Rattle.s10_book.specs.declared.range.Range.{Range}
 use Rattle.s10_book.specs.declared.issue.Issue.{Issue}
+use Rattle.s10_book.specs.declared.issuance.Issuance.{Issuance}
 use Rattle.s10_book.specs.Settings.{Terms}
 use Rattle.s10_book.specs.History.{has_key, entry_with_key, day_of, ranges_of, lies_in, is_own, overlaps, ranges_held}
 use Rattle.s10_book.specs.Issues.{issues_of, last_issue_of, pick_of, id_at, is_free}
@@ -25,19 +27,36 @@ grant_answer h customer holder service country first last =
     else Granted (length (ranges_of h) + 1)
 
 -- whether the pick of the range is free on the day
-abbrev pub has_free_pick : List Entry → ℕ → ℕ → Range → Bool
-has_free_pick h day interval r = is_free (issues_of h) (id_at r (pick_of (issues_of h) r)) day interval
+abbrev pub has_free_pick : List Issuance → ℕ → ℕ → Range → Bool
+has_free_pick is day interval r = is_free is (id_at r (pick_of is r)) day interval
 
 -- the pick of the range that was found, or why none was found among the ranges
-abbrev pub outcome_of_pick : List Entry → ℕ → List Range → Option Range → Outcome
-outcome_of_pick h day rs (Some r) = Drawn day (id_at r (pick_of (issues_of h) r))
-outcome_of_pick h day [] None = NoRange
-outcome_of_pick h day (r ∷ rs) None = NoneFree
+abbrev pub outcome_of_pick : List Issuance → ℕ → List Range → Option Range → Outcome
+outcome_of_pick is day rs (Some r) = Drawn day (id_at r (pick_of is r))
+outcome_of_pick is day [] None = NoRange
+outcome_of_pick is day (r ∷ rs) None = NoneFree
 
 -- the outcome of a Draw: the pick of the first of the customer's ranges whose pick is free
 abbrev pub draw_answer : List Entry → ℕ → ℕ × ℕ → ℕ × ℕ → ℕ → ℕ → Outcome
 draw_answer h customer service country day interval =
-    let rs = ranges_held h customer service country in outcome_of_pick h day rs (find (has_free_pick h day interval) rs)
+    let rs = ranges_held h customer service country in outcome_of_pick (issues_of h) day rs (find (has_free_pick (issues_of h) day interval) rs)
+
+-- the call of a Draw that issued the identifier on the day; no rule looks at its number
+abbrev pub draw_done : ℕ → ℕ × ℕ → ℕ × ℕ → ℕ → Id → Entry
+draw_done customer service country day x =
+    record { request = record { customer = customer; number = 0; body = Draw service country }; day = day; outcome = Drawn day x }
+
+-- the identifier of a Draw that was Done with those that follow it; None where it was not Done
+abbrev pub then_drawn : Outcome → (Id → Option (List Id)) → Option (List Id)
+then_drawn (Drawn day x) next = option_map (λ xs. x ∷ xs) (next x)
+then_drawn outcome next = None
+
+-- the identifiers of so many single Draws in a row, each behind those before it; None where one of them is not Done
+abbrev pub draws_in_a_row : List Entry → ℕ → ℕ × ℕ → ℕ × ℕ → ℕ → ℕ → ℕ → Option (List Id)
+draws_in_a_row h customer service country day interval zero = Some []
+draws_in_a_row h customer service country day interval (suc count) =
+    then_drawn (draw_answer h customer service country day interval)
+    (λ x. draws_in_a_row (h ++ draw_done customer service country day x ∷ []) customer service country day interval count)
 
 -- no serial of the customer's ranges of that service and country is free on the day
 abbrev pub NothingFree : List Entry → ℕ → ℕ × ℕ → ℕ × ℕ → ℕ → ℕ → Type 0

@@ -1,12 +1,13 @@
 //! What every legal history keeps.
 
-ghost use Rattle.std.specs.Prelude.{◌≡◌, ℕ, ◌+◌, ◌≤◌, ◌==◌, if◌then◌else◌, List, [], ◌∷◌, ◌++◌, length, map, Some, Contains, IsTrue};
+ghost use Rattle.std.specs.Prelude.{◌≡◌, ℕ, ◌+◌, ◌≤◌, List, [], ◌∷◌, ◌++◌, length, map, fold, Some, Contains, IsTrue};
 ghost use Rattle.s10_book.specs.declared.entry.Entry.{Entry};
 ghost use Rattle.s10_book.specs.Settings.{Terms};
 ghost use Rattle.s10_core.specs.declared.id.Id.{Id};
 ghost use Rattle.s10_book.specs.declared.range.Range.{Range};
+ghost use Rattle.s10_book.specs.declared.candidate.Candidate.{Candidate};
 ghost use Rattle.s10_book.specs.History.{day_of, lies_in, ranges_of, range_of_grant, overlaps};
-ghost use Rattle.s10_book.specs.Issues.{issues_of, is_free, pick_of};
+ghost use Rattle.s10_book.specs.Issues.{issues_of, carried_by, is_free, pick_of, serial_behind, serials_behind, pick_behind, id_at, last_issue_of, candidate_after_of};
 ghost use Rattle.s10_book.specs.Rules.{IsLegal, MayFollow, has_free_pick, draw_answer, NothingFree};
 ghost use Rattle.s10_book.specs.Promises.{IsSpaced, IsOwn, IsApart, IsInCommon, request_on_day};
 
@@ -34,7 +35,7 @@ pub fn overlaps_are_common_serials()
 /// no serial of the sender's ranges of that service and country is free.
 pub fn free_picks()
     ensures pick { (h : List Entry) (t : Terms) → IsLegal h t → (r : Range) (x : Id) (day : ℕ) → day_of h ≤ day
-        → IsTrue (lies_in r x) → IsTrue (is_free (issues_of h) x day t.interval) → IsTrue (has_free_pick h day t.interval r) }
+        → IsTrue (lies_in r x) → IsTrue (is_free (issues_of h) x day t.interval) → IsTrue (has_free_pick (issues_of h) day t.interval r) }
     ensures none_free { (h : List Entry) (t : Terms) → IsLegal h t → (customer : ℕ) (service country : ℕ × ℕ) (day : ℕ) → day_of h ≤ day
         → draw_answer h customer service country day t.interval ≡ Outcome.NoneFree → NothingFree h customer service country day t.interval }
 {}
@@ -44,10 +45,18 @@ pub fn free_picks()
 pub fn picks_in_turn()
     ensures made { (h : List Entry) (t : Terms) (e : Entry) → IsLegal h t → MayFollow h t e → (r : Range)
         → range_of_grant (length (ranges_of h) + 1) e.request.body e.outcome ≡ Some r → pick_of (issues_of (h ++ e ∷ [])) r ≡ r.first }
+    ensures turned { (h : List Entry) (t : Terms) (e : Entry) → IsLegal h t → MayFollow h t e → (r : Range) → Contains (ranges_of h) r
+        → pick_of (issues_of (h ++ e ∷ [])) r ≡ fold (λ pick c. pick_behind r pick c.1) (pick_of (issues_of h) r) (carried_by e.outcome) }
     ensures drawn { (h : List Entry) (t : Terms) (e : Entry) → IsLegal h t → MayFollow h t e → (r : Range) → Contains (ranges_of h) r
         → (day : ℕ) (x : Id) → e.outcome ≡ Outcome.Drawn day x → IsTrue (lies_in r x)
-        → pick_of (issues_of (h ++ e ∷ [])) r ≡ (if x.serial == r.last then r.first else x.serial + 1) }
+        → pick_of (issues_of (h ++ e ∷ [])) r ≡ serial_behind r x.serial }
     ensures left { (h : List Entry) (t : Terms) (e : Entry) → IsLegal h t → MayFollow h t e → (r : Range) → Contains (ranges_of h) r
         → ((day : ℕ) (x : Id) → e.outcome ≡ Outcome.Drawn day x → ¬ (IsTrue (lies_in r x)))
         → pick_of (issues_of (h ++ e ∷ [])) r ≡ pick_of (issues_of h) r }
+{}
+
+/// In a legal history the candidate of a range behind so many of its own picks is the serial so many behind its pick.
+pub fn candidates_in_turn()
+    ensures { (h : List Entry) (t : Terms) (r : Range) (issued : ℕ) → IsLegal h t → Contains (ranges_of h) r
+        → let serial = serials_behind r (pick_of (issues_of h) r) issued in let behind : Candidate = record { serial = serial; issue = last_issue_of h (id_at r serial) } in candidate_after_of h r issued ≡ behind }
 {}

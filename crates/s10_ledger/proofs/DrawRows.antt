@@ -18,18 +18,15 @@ use Rattle.s10_book.specs.declared.entry.Entry.{Entry}
 use Rattle.s10_book.specs.declared.range.Range.{Range}
 use Rattle.s10_book.specs.declared.issuance.Issuance.{Issuance}
 use Rattle.s10_book.specs.Settings.{Terms}
-use Rattle.s10_book.specs.History.{ranges_of, ranges_held, lies_in, overlaps}
+use Rattle.s10_book.specs.History.{ranges_of, lies_in, overlaps}
 use Rattle.s10_book.specs.Issues.{issues_of, is_of, is_issued, carried_by, voids, voided_after, last_issues, pick_of}
-use Rattle.s10_wire.specs.declared.body.Body.{Body}
-use Rattle.s10_wire.specs.declared.body.Body.TheVariants.{Grant, Draw, Void, Query}
-use Rattle.s10_book.proofs.Fitting.{answer_fits}
-use Rattle.s10_book.specs.Rules.{IsLegal, MayFollow, body_answer, outcome_of_pick, has_free_pick}
+use Rattle.s10_book.specs.Rules.{IsLegal, MayFollow}
 use Rattle.s10_book.proofs.Ranges.{Numbered, numbered, Contains-find, found_passes}
 use Rattle.s10_book.proofs.Push.{issues_from-push}
 use Rattle.s10_book.proofs.Apart.{Apart, apart}
-use Rattle.s10_book.proofs.Own.{drawn_from, lies_drawn}
+use Rattle.s10_book.proofs.Own.{drawn_from, lies_picked}
 use Rattle.s10_book.proofs.Marks.{pick_drawn, pick_left}
-use Rattle.s10_book.proofs.Spaced.{drawn_parts, id_same, other_kind}
+use Rattle.s10_book.proofs.Spaced.{drawn_parts, id_same}
 use Rattle.s10_book.proofs.Free.{id_equal}
 use Rattle.s10_ledger.specs.declared.range_row.RangeRow.{RangeRow}
 use Rattle.s10_ledger.specs.declared.serial_row.SerialRow.{SerialRow}
@@ -209,7 +206,7 @@ pub covered : (h : List Entry) (t : Terms) (e : Entry) (day : ℕ) (x : Id) → 
 covered h t e day x legal may done none =
     let from = drawn_from h e.request.customer e.day t.interval day e.request.body x (sym may.right ∙ done) in
     never_missed (covers x) (ranges_of h) from.range from.there
-    (and_from (lies_in from.range x) (leb x.serial x.serial) (lies_drawn h t e.request.customer x legal from) (le-leb x.serial x.serial (omega arith))) none
+    (and_from (lies_in from.range x) (leb x.serial x.serial) (lies_picked h t e.request.customer e.day t.interval (issues_of h) (day, x) legal from) (le-leb x.serial x.serial (omega arith))) none
 
 pub never_none : (h : List Entry) (t : Terms) (e : Entry) (day : ℕ) (x : Id) (result : Result (Option Range) BookFault) (o : Option Range) → IsLegal h t → MayFollow h t e → e.outcome ≡ Drawn day x
     → result ≡ Ok (find (covers x) (ranges_of h)) → result ≡ Ok o → o ≡ None → ⊥
@@ -217,18 +214,6 @@ never_none h t e day x result o legal may done answer is none =
     let same : find (covers x) (ranges_of h) ≡ o = cc in
     covered h t e day x legal may done (same ∙ none)
 
-drawn_day : (h : List Entry) (day d : ℕ) (x : Id) (rs : List Range) (o : Option Range) → outcome_of_pick h day rs o ≡ Drawn d x → d ≡ day
-drawn_day h day d x [] None is = cc
-drawn_day h day d x (y ∷ ys) None is = cc
-drawn_day h day d x [] (Some r) is = cc
-drawn_day h day d x (y ∷ ys) (Some r) is = cc
-
-body_day : (h : List Entry) (customer day interval d : ℕ) (b : Body) (x : Id) → body_answer h customer b day interval ≡ Drawn d x → d ≡ day
-body_day h customer day interval d (Draw s c) x is = drawn_day h day d x (ranges_held h customer s c) (find (has_free_pick h day interval) (ranges_held h customer s c)) is
-body_day h customer day interval d (Grant holder s c first last) x is = absurd (other_kind (Grant holder s c first last) _ d x refl (answer_fits h customer (Grant holder s c first last) day interval) is)
-body_day h customer day interval d (Void y) x is = absurd (other_kind (Void y) _ d x refl (answer_fits h customer (Void y) day interval) is)
-body_day h customer day interval d (Query y) x is = absurd (other_kind (Query y) _ d x refl (answer_fits h customer (Query y) day interval) is)
-
 -- a Done Draw issues on its own day
 pub same_day : (h : List Entry) (t : Terms) (e : Entry) (day : ℕ) (x : Id) → MayFollow h t e → e.outcome ≡ Drawn day x → day ≡ e.day
-same_day h t e day x may done = body_day h e.request.customer e.day t.interval day e.request.body x (sym may.right ∙ done)
+same_day h t e day x may done = (drawn_from h e.request.customer e.day t.interval day e.request.body x (sym may.right ∙ done)).same_day

@@ -16,7 +16,7 @@ use Rattle.s10_book.specs.declared.issuance.Issuance.{Issuance}
 use Rattle.s10_book.specs.Issues.{issues_at, issues_from, issues_of, is_of, last_issuance_of, last_issues, voided_after, is_voided, last_issue_of}
 use Rattle.s10_book.proofs.Free.{id_equal}
 use Rattle.s10_book.proofs.Spaced.{id_same}
-use Rattle.s10_book.proofs.Own.{issued_at}
+use Rattle.s10_book.proofs.Carried.{issued_at}
 use Rattle.s10_ledger.specs.declared.serial_row.SerialRow.{SerialRow}
 use Rattle.s10_ledger.specs.Tables.{HaveSameRows, pair_of, serial_row, serial_rows}
 use Rattle.s10_ledger.specs.Selected.{IsCall, IsIssuance, is_within, issue_told}

@@ -13,6 +13,7 @@ use Rattle.s10_wire.specs.declared.status.Status.{Status}
 use Rattle.s10_book.specs.declared.entry.Entry.{Entry}
 use Rattle.s10_book.specs.declared.range.Range.{Range}
 use Rattle.s10_book.specs.declared.issue.Issue.{Issue}
+use Rattle.s10_book.specs.declared.issuance.Issuance.{Issuance}
 use Rattle.s10_book.specs.Settings.{Terms}
 use Rattle.s10_book.specs.History.{has_key, entry_with_key}
 use Rattle.s10_book.specs.Rules.{IsLegal, answer_of, outcome_of_pick, void_issue}
@@ -96,10 +97,10 @@ cond_not : (b : Bool) (x y : Outcome) → x ≢ NumberReused → y ≢ NumberReu
 cond_not true x y first second = first
 cond_not false x y first second = second
 
-pick_not : (h : List Entry) (day : ℕ) (rs : List Range) (r : Option Range) → outcome_of_pick h day rs r ≢ NumberReused
-pick_not h day rs (Some r) = λ e. cc
-pick_not h day [] None = λ e. cc
-pick_not h day (r ∷ rs) None = λ e. cc
+pick_not : (is : List Issuance) (day : ℕ) (rs : List Range) (r : Option Range) → outcome_of_pick is day rs r ≢ NumberReused
+pick_not is day rs (Some r) = λ e. cc
+pick_not is day [] None = λ e. cc
+pick_not is day (r ∷ rs) None = λ e. cc
 
 void_not : (issue : Option Issue) → void_issue issue ≢ NumberReused
 void_not None = λ e. cc
@@ -114,7 +115,7 @@ told_not status = λ e. cc
 answer_not : (h : List Entry) (q : Request) (body : Body) (day interval : ℕ) → answer_of h (record { customer = q.customer; number = q.number; body = body }) day interval ≢ NumberReused
 answer_not h q (Grant holder service country first lst) day interval =
     cond_not _ NotThePost _ (λ e. cc) (cond_not _ BadGrant _ (λ e. cc) (cond_not _ Overlap _ (λ e. cc) (granted_not _)))
-answer_not h q (Draw service country) day interval = pick_not h day _ _
+answer_not h q (Draw service country) day interval = pick_not _ day _ _
 answer_not h q (Void x) day interval = cond_not _ _ NotYours (void_not _) (λ e. cc)
 answer_not h q (Query x) day interval = cond_not _ _ NotYours (told_not _) (λ e. cc)
 

@@ -2,7 +2,7 @@ use Rattle.std.proofs.Common.{arith, ◌≡◌, ◌<◌, true, false, sym, ap, �
 use Rattle.std.specs.Prelude.{find}
 use Rattle.s10_wire.specs.declared.outcome.Outcome.TheVariants.{Drawn}
 use Rattle.s10_book.specs.declared.candidate.Candidate.{Candidate}
-use Rattle.s10_book.specs.Issues.{candidate_of, id_at}
+use Rattle.s10_book.specs.Issues.{issues_of, candidate_of, id_at}
 use Rattle.s10_book.specs.History.{ranges_of, is_held, ranges_held}
 use Rattle.s10_book.specs.Rules.{draw_answer, has_free_pick}
 use Rattle.s10_book.specs.Settings.{Terms}
@@ -53,10 +53,10 @@ returns-then-is_free-clause-answer g c = λ h.
     sym (ap (λ l. find (above (is_held c.args.customer c.args.service c.args.country) c.loop-range.after) (ranges_of l)) same) ∙ sym e ∙ c.in-Some.is in
     let chosen : c.in_ok-candidate.candidate ≡ candidate_of first c.in-Some.range =
     c.in_ok-candidate.ensures.answer h ∙ ap (λ l. candidate_of l c.in-Some.range) (c.next_range.ensures.keeps.same_history h1 ∙ same) in
-    let is : find (has_free_pick first c.args.day c.interval-interval.result) (ranges_held first c.args.customer c.args.service c.args.country) ≡ Some c.in-Some.range =
+    let is : find (has_free_pick (issues_of first) c.args.day c.interval-interval.result) (ranges_held first c.args.customer c.args.service c.args.country) ≡ Some c.in-Some.range =
     Remaining-found _ _ _ _ _ (numbered 1 first) found (passes_is first c.in-Some.range _ _ _ true chosen c.if-is_free.ensures) (c.loop-range.invariant.remaining h0) in
     ap (λ (found : Candidate). Drawn c.args.day (id_at c.in-Some.range found.serial)) chosen
-    ∙ sym (drawn_found first c.args.day _ _ _ is)
+    ∙ sym (drawn_found (issues_of first) c.args.day _ _ _ is)
     ∙ ap (λ n. draw_answer first c.args.customer c.args.service c.args.country c.args.day n) (c.loop-range.invariant.interval h0)
 
 pub returns-then-after-eq0-clause-answer : goal.returns-then-after-eq0-clause-answer
@@ -67,7 +67,7 @@ returns-then-after-eq0-clause-answer g c = λ h.
     let e : c.in_ok-range.field-0 ≡ find (above (is_held c.args.customer c.args.service c.args.country) c.loop-range.after) (ranges_of (g.B.Book.history c.loop-range.book)) = c.in_ok-range.ensures.answer h in
     let none : find (above (is_held c.args.customer c.args.service c.args.country) 0) (ranges_of first) ≡ None =
     rw (← c.if-after-eq0.true, ← same) (sym e ∙ c.in_default.is) in
-    sym (drawn_empty first c.args.day _ _ (Remaining-empty _ _ (numbered 1 first) none))
+    sym (drawn_empty (issues_of first) c.args.day _ _ (Remaining-empty _ _ (numbered 1 first) none))
 
 pub returns-else-after-eq0-clause-answer : goal.returns-else-after-eq0-clause-answer
 returns-else-after-eq0-clause-answer g c = λ h.
@@ -80,5 +80,5 @@ returns-else-after-eq0-clause-answer g c = λ h.
     let left = c.loop-range.invariant.remaining h0 in
     let positive : 0 < c.loop-range.after = omega arith in
     let held = ranges_held first c.args.customer c.args.service c.args.country in
-    sym (drawn_none first c.args.day held (find (has_free_pick first c.args.day c.interval-interval.result) held) (left.some positive) (Remaining-none _ _ _ _ none left))
+    sym (drawn_none (issues_of first) c.args.day held (find (has_free_pick (issues_of first) c.args.day c.interval-interval.result) held) (left.some positive) (Remaining-none _ _ _ _ none left))
     ∙ ap (λ n. draw_answer first c.args.customer c.args.service c.args.country c.args.day n) (c.loop-range.invariant.interval h0)

@@ -1,0 +1,258 @@
+-- A walk over ranges that takes picks from each in turn, until there are enough or no range is left.
+use Rattle.std.proofs.Common.{◌≡◌, ℕ, zero, suc, ◌+◌, ◌-◌, ◌<◌, ◌≤◌, Bool, true, false, cond, eqb, leb, ltb, List, [], ◌∷◌, ◌++◌, map, Option, Some, None, refl, sym, ap, ◌∙◌, inl, inr, arith, subst, length, append-nil, append_assoc, length-append}
+use Rattle.std.specs.Prelude.{find, filter, All, AllPairs, IsTrue, Contains}
+use Rattle.std.specs.Option.{option_map}
+use Rattle.std.proofs.lemmas.Bool.{cases_Bool, cases_lt, leb-true, ltb-true, and_parts}
+use Rattle.std.proofs.lemmas.List.{map-append}
+use Rattle.std.proofs.lemmas.List.Elements.{All-contains, filter_passes}
+use Rattle.s10_core.specs.declared.id.Id.{Id}
+use Rattle.s10_book.specs.declared.entry.Entry.{Entry}
+use Rattle.s10_book.specs.declared.range.Range.{Range}
+use Rattle.s10_book.specs.declared.issuance.Issuance.{Issuance}
+use Rattle.s10_book.specs.declared.issue.Issue.{Issue}
+use Rattle.s10_book.specs.declared.candidate.Candidate.{Candidate}
+use Rattle.s10_book.specs.Settings.{Terms}
+use Rattle.s10_book.specs.History.{ranges_of, lies_in}
+use Rattle.s10_book.specs.Issues.{issues_of, is_of, last_issuance_of, is_free_since, pick_of, id_at, serial_behind, serials_behind, size_of, candidate_after_of, last_issue_of}
+use Rattle.s10_book.specs.Rules.{IsLegal, has_free_pick}
+use Rattle.s10_book.proofs.Ranges.{above, Numbered, numbered, filter_above, next_above, filter_none, Contains-find, found_passes}
+use Rattle.s10_book.proofs.Apart.{Apart, apart}
+use Rattle.s10_book.proofs.Carried.{Contains-filter}
+use Rattle.s10_book.proofs.Own.{lies_at}
+use Rattle.s10_book.proofs.Issued.{last_issuance_of-push}
+use Rattle.s10_book.proofs.Spaced.{id_itself}
+use Rattle.s10_book.proofs.Drawing.{free_last}
+use Rattle.s10_book.proofs.Marks.{Turns, pick_turns, turns_inside, all_at_pick}
+use Rattle.s10_book.proofs.Rows.{IsBehind, behind, behind_within, behind_apart, behind_round, candidate_after_is, Ready, outside_other, ready_next, pick_outside, last_other, last_outside, free_outside, picks, picks_here, picks_past}
+
+-- a range from which nothing was taken
+pub record Untouched (s : Range) (old is : List Issuance) : Type 0 where
+  pub pick : pick_of is s ≡ pick_of old s
+  pub last : (x : Id) → lies_in s x ≡ true → last_issuance_of is x ≡ last_issuance_of old x
+
+-- a range from which so many picks were taken on the day
+pub record Taken (r : Range) (day : ℕ) (old is : List Issuance) (k : ℕ) : Type 0 where
+  pub few : k ≤ size_of r
+  pub pick : pick_of is r ≡ serials_behind r (pick_of old r) k
+  pub left : (j : ℕ) → k ≤ j → j < size_of r → last_issuance_of is (id_at r (serials_behind r (pick_of old r) j)) ≡ last_issuance_of old (id_at r (serials_behind r (pick_of old r) j))
+  pub first : 0 < k → (i : Issuance) × (last_issuance_of is (id_at r (pick_of old r)) ≡ Some i) × (i.day ≡ day)
+
+-- how far the walk is: the picks so far, and those that are still to come from this range and those above it
+pub record IsAt (rs : List Range) (p : Range → Bool) (made : Id → Issuance) (day n : ℕ) (old : List Issuance) (count : ℕ) (r : Range) (k : ℕ) (taken : List Id) : Type 0 where
+  pub there : Contains rs r
+  pub passes : p r ≡ true
+  pub ready : Ready rs (old ++ map made taken)
+  pub own : Taken r day old (old ++ map made taken) k
+  pub others : (s : Range) → Contains rs s → r.num < s.num → Untouched s old (old ++ map made taken)
+  pub few : length taken ≤ count
+  pub some : 0 < length (filter p rs)
+  pub whole : picks made day n (filter p rs) old count ≡ option_map (λ xs. taken ++ xs) (picks made day n (r ∷ filter (above p r.num) rs) (old ++ map made taken) (count - length taken))
+
+-- what is asked of the ranges and of the issues
+pub record Given (rs : List Range) (made : Id → Issuance) (day n : ℕ) (old : List Issuance) : Type 0 where
+  pub numbers : Numbered 1 rs
+  pub pairs : AllPairs Apart rs
+  pub ready : Ready rs old
+  pub same : (x : Id) → (made x).id ≡ x
+  pub same_day : (x : Id) → (made x).day ≡ day
+  pub interval : 1 ≤ n
+
+taken_none : (r : Range) (day : ℕ) (old is : List Issuance) → (r.first ≤ pick_of old r) × (pick_of old r ≤ r.last) → Untouched r old is → Taken r day old is 0
+taken_none r day old is in' un = record {
+  few = omega arith;
+  pick = un.pick;
+  left = λ j le lt. un.last (id_at r (serials_behind r (pick_of old r) j))
+      (let w = behind_within r (pick_of old r) j (serials_behind r (pick_of old r) j) in'.0 in'.1 (omega arith) (behind r (pick_of old r) j in'.0 in'.1 (omega arith)) in
+      lies_at r (serials_behind r (pick_of old r) j) (record { low = w.0; high = w.1 }));
+  first = λ lt. absurd (omega (arith, lt));
+}
+
+no_more : (o : Option (List Id)) → o ≡ option_map (λ xs. [] ++ xs) o
+no_more None = refl
+no_more (Some xs) = refl
+
+not_itself : (r s : Range) → r.num < s.num → s ≡ r → ⊥
+not_itself r s lt e = omega (arith, lt, ap (λ (x : Range). x.num) e)
+
+-- the walk begins at the first range
+pub at_first : (rs : List Range) (p : Range → Bool) (made : Id → Issuance) (day n : ℕ) (old : List Issuance) (count : ℕ) (r : Range) → Given rs made day n old → find (above p 0) rs ≡ Some r → IsAt rs p made day n old count r 0 []
+at_first rs p made day n old count r given found =
+    let there : Contains rs r = Contains-find (above p 0) rs r found in
+    let same : filter p rs ≡ r ∷ filter (above p r.num) rs = sym (filter_above p 0 1 rs (omega arith) given.numbers) ∙ next_above p 0 1 rs r given.numbers found in
+    let nil : old ≡ old ++ map made [] = sym (append-nil old) in
+    let all : count ≡ count - 0 = omega arith in
+    let R : List Issuance → Type 0 = Ready rs in
+    let T : List Issuance → Type 0 = λ l. Taken r day old l 0 in
+    let un : (s : Range) → Untouched s old old = λ s. record { pick = refl; last = λ x _. refl } in
+    record {
+      there = there;
+      passes = (and_parts _ _ (found_passes (above p 0) rs r found)).1;
+      ready = subst R nil given.ready;
+      own = subst T nil (taken_none r day old old ((given.ready r there).low, (given.ready r there).high) (un r));
+      others = λ s _ _. let U : List Issuance → Type 0 = Untouched s old in subst U nil (un s);
+      few = omega arith;
+      some = rw same (omega arith);
+      whole = ap (λ l. picks made day n l old count) same ∙ ap (λ is. picks made day n (r ∷ filter (above p r.num) rs) is count) nil ∙ ap (picks made day n (r ∷ filter (above p r.num) rs) (old ++ map made [])) all
+          ∙ no_more (picks made day n (r ∷ filter (above p r.num) rs) (old ++ map made []) (count - 0));
+    }
+
+-- the issues with one more pick
+one_more : (made : Id → Issuance) (old : List Issuance) (taken : List Id) (x : Id) → old ++ map made taken ++ made x ∷ [] ≡ old ++ map made (taken ++ x ∷ [])
+one_more made old taken x = append_assoc old (map made taken) (made x ∷ []) ∙ ap (λ (l : List Issuance). old ++ l) (sym (map-append made taken (x ∷ [])))
+
+behind_one : (taken : List Id) (x : Id) (o : Option (List Id)) → option_map (λ xs. taken ++ xs) (option_map (λ xs. x ∷ xs) o) ≡ option_map (λ xs. (taken ++ x ∷ []) ++ xs) o
+behind_one taken x None = refl
+behind_one taken x (Some xs) = ap Some (sym (append_assoc taken (x ∷ []) xs))
+
+last_here : (is : List Issuance) (y : Issuance) (x : Id) → y.id ≡ x → last_issuance_of (is ++ y ∷ []) x ≡ Some y
+last_here is y x e =
+    let P : Id → Type 0 = λ z. last_issuance_of (is ++ y ∷ []) z ≡ Some y in
+    subst P e (last_issuance_of-push is y y.id ∙ rw (id_itself y.id) refl)
+
+taken_more : (r : Range) (day : ℕ) (old is : List Issuance) (k : ℕ) (y : Issuance) → Turns r old (pick_of old r) → Turns r is (pick_of is r) → k < size_of r → y.id ≡ id_at r (pick_of is r) → y.day ≡ day → Taken r day old is k → Taken r day old (is ++ y ∷ []) (suc k)
+taken_more r day old is k y before now lt e on own =
+    let m : ℕ = pick_of old r in
+    let at : (j : ℕ) → j ≤ size_of r → IsBehind r (pick_of old r) j (serials_behind r (pick_of old r) j) = λ j le. behind r (pick_of old r) j before.low before.high le in
+    let serial : y.id.serial ≡ serials_behind r (pick_of old r) k = ap (λ (x : Id). x.serial) e ∙ own.pick in
+    let lies : lies_in r y.id ≡ true = (let P : Id → Type 0 = λ x. lies_in r x ≡ true in subst P (sym e) (lies_at r (pick_of is r) (record { low = now.low; high = now.high }))) in
+    record {
+      few = omega (arith, lt);
+      pick = pick_turns r (is ++ y ∷ []) (serial_behind r (pick_of is r)) (turns_inside r is y (pick_of is r) lies (ap (λ (x : Id). x.serial) e) now) ∙ ap (serial_behind r) own.pick;
+      left = λ j le few.
+          last_other is y (id_at r (serials_behind r (pick_of old r) j))
+          (λ same. behind_apart r (pick_of old r) k j _ _ before.low before.high (omega (arith, le)) few (at k (omega (arith, lt))) (at j (omega (arith, few))) (sym serial ∙ ap (λ (x : Id). x.serial) same))
+          ∙ own.left j (omega (arith, le)) few;
+      first = λ _. elim (cases_lt 0 k) [
+        | inl pos ↦
+            let old_first = own.first pos in
+            (old_first.0,
+            last_other is y (id_at r (pick_of old r))
+            (λ same. behind_apart r (pick_of old r) 0 k _ _ before.low before.high pos lt (at 0 (omega arith)) (at k (omega (arith, lt))) (sym (ap (λ (x : Id). x.serial) same) ∙ serial))
+            ∙ old_first.1,
+            old_first.2)
+        | inr none ↦
+            let z : k ≡ 0 = omega (arith, none) in
+            let same : y.id ≡ id_at r (pick_of old r) = e ∙ ap (id_at r) (own.pick ∙ ap (serials_behind r (pick_of old r)) z) in
+            (y, last_here is y (id_at r (pick_of old r)) same, on)
+      ];
+    }
+
+untouched_still : (rs : List Range) (r s : Range) (old is : List Issuance) (y : Issuance) → AllPairs Apart rs → Ready rs is → Contains rs r → Contains rs s → r.num < s.num → y.id ≡ id_at r (pick_of is r) → Untouched s old is → Untouched s old (is ++ y ∷ [])
+untouched_still rs r s old is y pairs ready in_r in_s lt e un =
+    let out : lies_in s y.id ≡ false = outside_other rs is s r y.id pairs ready in_s in_r (λ same. omega (arith, lt, ap (λ (x : Range). x.num) same)) e in
+    record {
+      pick = pick_outside s is y (ready s in_s) out ∙ un.pick;
+      last = λ x lies. last_outside s is y x out lies ∙ un.last x lies;
+    }
+
+-- the pick of the range is taken, where it is free
+pub at_pick : (rs : List Range) (p : Range → Bool) (made : Id → Issuance) (day n : ℕ) (old : List Issuance) (count : ℕ) (r : Range) (k : ℕ) (taken : List Id) (x : Id) → Given rs made day n old
+    → k < size_of r → length taken < count → x ≡ id_at r (pick_of (old ++ map made taken) r) → has_free_pick (old ++ map made taken) day n r ≡ true
+    → IsAt rs p made day n old count r k taken → IsAt rs p made day n old count r (suc k) (taken ++ x ∷ [])
+at_pick rs p made day n old count r k taken x given lt few e free at =
+    let is : List Issuance = old ++ map made taken in
+    let y : Id = id_at r (pick_of (old ++ map made taken) r) in
+    let id : (made x).id ≡ id_at r (pick_of (old ++ map made taken) r) = given.same x ∙ e in
+    let grown : old ++ map made taken ++ made x ∷ [] ≡ old ++ map made (taken ++ x ∷ []) = one_more made old taken x in
+    let rest : List Range = filter (above p r.num) rs in
+    let num : count - length taken ≡ suc (count - length (taken ++ x ∷ [])) = omega (arith, few, length-append taken (x ∷ [])) in
+    let here : picks made day n (r ∷ filter (above p r.num) rs) (old ++ map made taken) (count - length taken)
+        ≡ option_map (λ xs. x ∷ xs) (picks made day n (r ∷ filter (above p r.num) rs) (old ++ map made (taken ++ x ∷ [])) (count - length (taken ++ x ∷ []))) =
+    ap (picks made day n (r ∷ filter (above p r.num) rs) (old ++ map made taken)) num
+    ∙ picks_here made day n r (filter (above p r.num) rs) (old ++ map made taken) (count - length (taken ++ x ∷ [])) free
+    ∙ ap (λ z. option_map (λ xs. z ∷ xs) (picks made day n (r ∷ filter (above p r.num) rs) (old ++ map made taken ++ made z ∷ []) (count - length (taken ++ x ∷ [])))) (sym e)
+    ∙ ap (λ l. option_map (λ xs. x ∷ xs) (picks made day n (r ∷ filter (above p r.num) rs) l (count - length (taken ++ x ∷ [])))) grown in
+    let R : List Issuance → Type 0 = Ready rs in
+    let T : List Issuance → Type 0 = λ l. Taken r day old l (suc k) in
+    record {
+      there = at.there;
+      passes = at.passes;
+      ready = subst R grown (ready_next rs (old ++ map made taken) r (made x) given.pairs at.ready at.there id);
+      own = subst T grown (taken_more r day old (old ++ map made taken) k (made x) (given.ready r at.there) (at.ready r at.there) lt id (given.same_day x) at.own);
+      others = λ s in_s up.
+          let U : List Issuance → Type 0 = Untouched s old in
+          subst U grown (untouched_still rs r s old (old ++ map made taken) (made x) given.pairs at.ready at.there in_s up id (at.others s in_s up));
+      few = omega (arith, few, length-append taken (x ∷ []));
+      some = at.some;
+      whole = at.whole ∙ ap (option_map (λ xs. taken ++ xs)) here ∙ behind_one taken x _;
+    }
+
+-- what stands above a range in the list is not that range
+apart_above : (rs : List Range) (p : Range → Bool) (r s : Range) → Contains (filter (above p r.num) rs) s → Contains rs s × (s ≡ r → ⊥)
+apart_above rs p r s in' =
+    let passes : above p r.num s ≡ true = All-contains (λ y. above p r.num y ≡ true) (filter (above p r.num) rs) s (filter_passes (above p r.num) rs) in' in
+    (Contains-filter (above p r.num) rs s in', not_itself r s (ltb-true r.num s.num (and_parts _ _ passes).0))
+
+past : (rs : List Range) (p : Range → Bool) (made : Id → Issuance) (day n : ℕ) (old : List Issuance) (count : ℕ) (r : Range) (k : ℕ) (taken : List Id) → Given rs made day n old → has_free_pick (old ++ map made taken) day n r ≡ false
+    → IsAt rs p made day n old count r k taken
+    → picks made day n (filter p rs) old count ≡ option_map (λ xs. taken ++ xs) (picks made day n (filter (above p r.num) rs) (old ++ map made taken) (count - length taken))
+past rs p made day n old count r k taken given spent at =
+    at.whole ∙ ap (option_map (λ xs. taken ++ xs)) (picks_past made day n rs r (filter (above p r.num) rs) given.same given.pairs at.there (apart_above rs p r) (old ++ map made taken) (count - length taken) at.ready spent)
+
+-- the walk goes on to the next range
+pub at_next : (rs : List Range) (p : Range → Bool) (made : Id → Issuance) (day n : ℕ) (old : List Issuance) (count : ℕ) (r : Range) (k : ℕ) (taken : List Id) (s : Range) → Given rs made day n old
+    → has_free_pick (old ++ map made taken) day n r ≡ false → find (above p r.num) rs ≡ Some s → IsAt rs p made day n old count r k taken → IsAt rs p made day n old count s 0 taken
+at_next rs p made day n old count r k taken s given spent found at =
+    let there : Contains rs s = Contains-find (above p r.num) rs s found in
+    let passes = and_parts (ltb r.num s.num) (p s) (found_passes (above p r.num) rs s found) in
+    let up : r.num < s.num = ltb-true r.num s.num passes.0 in
+    record {
+      there = there;
+      passes = passes.1;
+      ready = at.ready;
+      own = taken_none s day old (old ++ map made taken) ((given.ready s there).low, (given.ready s there).high) (at.others s there up);
+      others = λ u in_u higher. at.others u in_u (omega (arith, up, higher));
+      few = at.few;
+      some = at.some;
+      whole = past rs p made day n old count r k taken given spent at
+          ∙ ap (λ l. option_map (λ xs. taken ++ xs) (picks made day n l (old ++ map made taken) (count - length taken))) (next_above p r.num 1 rs s given.numbers found);
+    }
+
+-- no range is left
+pub at_last : (rs : List Range) (p : Range → Bool) (made : Id → Issuance) (day n : ℕ) (old : List Issuance) (count : ℕ) (r : Range) (k : ℕ) (taken : List Id) → Given rs made day n old
+    → has_free_pick (old ++ map made taken) day n r ≡ false → find (above p r.num) rs ≡ None → length taken < count → IsAt rs p made day n old count r k taken → picks made day n (filter p rs) old count ≡ None
+at_last rs p made day n old count r k taken given spent none few at =
+    let num : count - length taken ≡ suc (count - length taken - 1) = omega (arith, few) in
+    past rs p made day n old count r k taken given spent at
+    ∙ ap (λ l. option_map (λ xs. taken ++ xs) (picks made day n l (old ++ map made taken) (count - length taken))) (filter_none (above p r.num) rs none)
+    ∙ ap (λ c. option_map (λ xs. taken ++ xs) (picks made day n [] (old ++ map made taken) c)) num
+
+-- there are enough
+pub at_end : (rs : List Range) (p : Range → Bool) (made : Id → Issuance) (day n : ℕ) (old : List Issuance) (count : ℕ) (r : Range) (k : ℕ) (taken : List Id) → count ≤ length taken → IsAt rs p made day n old count r k taken → picks made day n (filter p rs) old count ≡ Some taken
+at_end rs p made day n old count r k taken enough at =
+    let num : count - length taken ≡ 0 = omega (arith, enough) in
+    at.whole ∙ ap (λ c. option_map (λ xs. taken ++ xs) (picks made day n (r ∷ filter (above p r.num) rs) (old ++ map made taken) c)) num ∙ ap Some (append-nil taken)
+
+-- the test of the candidate's issue is the test of its range
+pub at_candidate : (h : List Entry) (t : Terms) (p : Range → Bool) (made : Id → Issuance) (day n count : ℕ) (r : Range) (k : ℕ) (taken : List Id) (found : Candidate) (b : Bool) → IsLegal h t → k < size_of r
+    → found ≡ candidate_after_of h r k → b ≡ is_free_since day n (option_map (λ (i : Issue). i.day) found.issue) → IsAt (ranges_of h) p made day n (issues_of h) count r k taken
+    → (has_free_pick (issues_of h ++ map made taken) day n r ≡ b) × (found.serial ≡ pick_of (issues_of h ++ map made taken) r)
+at_candidate h t p made day n count r k taken found b legal lt e test at =
+    let old : List Issuance = issues_of h in
+    let s : ℕ = serials_behind r (pick_of (issues_of h) r) k in
+    let is = e ∙ candidate_after_is h t r k legal at.there in
+    let last : Issuance → Issue = λ i. record { day = i.day; voided = false; customer = i.customer; number = i.number } in
+    (ap (λ v. is_free_since day n (option_map (λ (i : Issuance). i.day) (last_issuance_of (issues_of h ++ map made taken) (id_at r v)))) at.own.pick
+    ∙ ap (λ o. is_free_since day n (option_map (λ (i : Issuance). i.day) o)) (at.own.left k (omega arith) lt)
+    ∙ sym (test ∙ ap (λ (c : Candidate). is_free_since day n (option_map (λ (i : Issue). i.day) c.issue)) is
+    ∙ free_last day n (last_issuance_of (issues_of h) (id_at r (serials_behind r (pick_of (issues_of h) r) k))) _ (λ _. refl)),
+    ap (λ (c : Candidate). c.serial) is ∙ sym at.own.pick)
+
+-- a range of which all serials were taken gives none
+pub at_round : (rs : List Range) (p : Range → Bool) (made : Id → Issuance) (day n : ℕ) (old : List Issuance) (count : ℕ) (r : Range) (k : ℕ) (taken : List Id) → Given rs made day n old → size_of r ≤ k
+    → IsAt rs p made day n old count r k taken → has_free_pick (old ++ map made taken) day n r ≡ false
+at_round rs p made day n old count r k taken given all at =
+    let turns = given.ready r at.there in
+    let whole : k ≡ size_of r = omega (arith, all, at.own.few) in
+    let first = at.own.first (omega (arith, all, turns.low, turns.high)) in
+    let round : serials_behind r (pick_of old r) k ≡ pick_of old r = behind_round r (pick_of old r) k _ turns.low turns.high whole (behind r (pick_of old r) k turns.low turns.high at.own.few) in
+    ap (λ v. is_free_since day n (option_map (λ (i : Issuance). i.day) (last_issuance_of (old ++ map made taken) (id_at r v)))) (at.own.pick ∙ round)
+    ∙ ap (λ o. is_free_since day n (option_map (λ (i : Issuance). i.day) o)) first.1
+    ∙ not_free first.0.day first.2
+  where
+    not_free : (d : ℕ) → d ≡ day → leb n (day - d) ≡ false
+    not_free d same =
+        elim (cases_Bool (leb n (day - d))) [
+          | inl yes' ↦ absurd (omega (arith, leb-true n (day - d) yes', same, given.interval))
+          | inr no' ↦ no'
+        ]
