@@ -14,13 +14,14 @@ use Rattle.sqlite_sql.specs.Ops.{binary, is_true}
 use Rattle.sqlite_sql.specs.Query.{IsAnswer, output_cmp}
 use Rattle.sqlite_sql.specs.Program.{overlay}
 use Rattle.sqlite_typed.proofs.TestLemmas.{at_ints, then_term, last_term}
+use Rattle.sqlite_schema.specs.declared.schema.Schema.{Schema}
 use Rattle.sqlite.specs.State.{State, Shown}
 use Rattle.sqlite.proofs.Callers.{reads_as}
 use Rattle.s10_ledger.specs.declared.head_row.HeadRow.{HeadRow}
 use Rattle.s10_ledger.specs.declared.range_row.RangeRow.{RangeRow}
 use Rattle.s10_ledger.specs.declared.serial_row.SerialRow.{SerialRow}
 use Rattle.s10_ledger.specs.CallRow.{StoredCall}
-use Rattle.s10_ledger.specs.Schema.{ledger_schema}
+use Rattle.s10_ledger.specs.Schema.{IsLedgerSchema, with_others, others_in}
 use Rattle.s10_ledger.specs.Shown.{shown_head, shown_call, shown_range, shown_serial, head_columns, call_columns, range_columns, serial_columns}
 use Rattle.s10_ledger.specs.Selected.{has_key_columns, arrives_between, is_within}
 use Rattle.s10_ledger.specs.Statements.{head_text, key_text, arrivals_text, calls_text, ranges_text, within_text, serials_text}
@@ -83,9 +84,12 @@ all_pass : (vs : List Row) → filter always vs ≡ vs
 all_pass [] = refl
 all_pass (v ∷ vs) = ap (λ l. v ∷ l) (all_pass vs)
 
-module _ (params : Row) (old new : State) (rows : List Row) (has : old.now.schema ≡ ledger_schema) where
+module _ (params : Row) (old new : State) (rows : List Row) (has : IsLedgerSchema old.now.schema) where
+  abbrev o : Schema
+  o = others_in old.now.schema
+
   head_answers : Shown head_text params old new rows → IsAnswer head_query (overlay old.now.trees []) params rows
-  head_answers h = (reads_as head_text params old new ledger_schema has _ head_is head_plain head_unlisted rows h).answer Null
+  head_answers h = (reads_as head_text params old new (with_others o) has.is _ (head_is o) (head_plain o) (head_unlisted o) rows h).answer Null
 
   pub head_shows : Shown head_text params old new rows → IsPermutation (map head_columns (old.now.trees 0)) rows
   head_shows h =
@@ -94,7 +98,7 @@ module _ (params : Row) (old new : State) (rows : List Row) (has : old.now.schem
       (kept_are params head_query (old.now.trees 0) head_columns first_key always (λ r. refl) (λ r. refl) a.staged a.kept a.grouped a.distinct) a.same a.shown)
 
   key_answers : Shown key_text params old new rows → IsAnswer key_query (overlay old.now.trees []) params rows
-  key_answers h = (reads_as key_text params old new ledger_schema has _ key_is key_plain key_unlisted rows h).answer Null
+  key_answers h = (reads_as key_text params old new (with_others o) has.is _ (key_is o) (key_plain o) (key_unlisted o) rows h).answer Null
 
   pub key_shows : Shown key_text params old new rows → IsPermutation (filter (key_test params) (map call_columns (old.now.trees 1))) rows
   key_shows h =
@@ -103,7 +107,7 @@ module _ (params : Row) (old new : State) (rows : List Row) (has : old.now.schem
       (kept_are params key_query (old.now.trees 1) call_columns first_key (key_test params) (λ r. refl) (λ r. refl) a.staged a.kept a.grouped a.distinct) a.same a.shown
 
   arrivals_answers : Shown arrivals_text params old new rows → IsAnswer arrivals_query (overlay old.now.trees []) params rows
-  arrivals_answers h = (reads_as arrivals_text params old new ledger_schema has _ arrivals_is arrivals_plain arrivals_unlisted rows h).answer Null
+  arrivals_answers h = (reads_as arrivals_text params old new (with_others o) has.is _ (arrivals_is o) (arrivals_plain o) (arrivals_unlisted o) rows h).answer Null
 
   pub arrivals_shows : Shown arrivals_text params old new rows → IsPermutation (filter (arrivals_test params) (map call_columns (old.now.trees 1))) rows
   arrivals_shows h =
@@ -112,7 +116,7 @@ module _ (params : Row) (old new : State) (rows : List Row) (has : old.now.schem
       (kept_are params arrivals_query (old.now.trees 1) call_columns first_key (arrivals_test params) (λ r. refl) (λ r. refl) a.staged a.kept a.grouped a.distinct) a.same a.shown
 
   pub calls_answers : Shown calls_text params old new rows → IsAnswer calls_query (overlay old.now.trees []) params rows
-  calls_answers h = (reads_as calls_text params old new ledger_schema has _ calls_is calls_plain calls_unlisted rows h).answer Null
+  calls_answers h = (reads_as calls_text params old new (with_others o) has.is _ (calls_is o) (calls_plain o) (calls_unlisted o) rows h).answer Null
 
   pub calls_shows : Shown calls_text params old new rows → IsPermutation (map call_columns (old.now.trees 1)) rows
   calls_shows h =
@@ -121,7 +125,7 @@ module _ (params : Row) (old new : State) (rows : List Row) (has : old.now.schem
       (kept_are params calls_query (old.now.trees 1) call_columns first_key always (λ r. refl) (λ r. refl) a.staged a.kept a.grouped a.distinct) a.same a.shown)
 
   ranges_answers : Shown ranges_text params old new rows → IsAnswer ranges_query (overlay old.now.trees []) params rows
-  ranges_answers h = (reads_as ranges_text params old new ledger_schema has _ ranges_is ranges_plain ranges_unlisted rows h).answer Null
+  ranges_answers h = (reads_as ranges_text params old new (with_others o) has.is _ (ranges_is o) (ranges_plain o) (ranges_unlisted o) rows h).answer Null
 
   pub ranges_shows : Shown ranges_text params old new rows → IsPermutation (map range_columns (old.now.trees 3)) rows
   ranges_shows h =
@@ -130,7 +134,7 @@ module _ (params : Row) (old new : State) (rows : List Row) (has : old.now.schem
       (kept_are params ranges_query (old.now.trees 3) range_columns first_key always (λ r. refl) (λ r. refl) a.staged a.kept a.grouped a.distinct) a.same a.shown)
 
   within_answers : Shown within_text params old new rows → IsAnswer within_query (overlay old.now.trees []) params rows
-  within_answers h = (reads_as within_text params old new ledger_schema has _ within_is within_plain within_unlisted rows h).answer Null
+  within_answers h = (reads_as within_text params old new (with_others o) has.is _ (within_is o) (within_plain o) (within_unlisted o) rows h).answer Null
 
   pub within_shows : Shown within_text params old new rows → IsPermutation (filter (within_test params) (map serial_columns (old.now.trees 4))) rows
   within_shows h =
@@ -139,7 +143,7 @@ module _ (params : Row) (old new : State) (rows : List Row) (has : old.now.schem
       (kept_are params within_query (old.now.trees 4) serial_columns pair_key (within_test params) (λ r. refl) (λ r. refl) a.staged a.kept a.grouped a.distinct) a.same a.shown
 
   serials_answers : Shown serials_text params old new rows → IsAnswer serials_query (overlay old.now.trees []) params rows
-  serials_answers h = (reads_as serials_text params old new ledger_schema has _ serials_is serials_plain serials_unlisted rows h).answer Null
+  serials_answers h = (reads_as serials_text params old new (with_others o) has.is _ (serials_is o) (serials_plain o) (serials_unlisted o) rows h).answer Null
 
   pub serials_shows : Shown serials_text params old new rows → IsPermutation (map wide_columns (old.now.trees 4)) rows
   serials_shows h =

@@ -13,7 +13,7 @@ use Rattle.sqlite_sql.specs.Query.{Output, output_cmp}
 use Rattle.sqlite_sql.proofs.QueryLemmas.{output_cmp_total}
 use Rattle.sqlite.specs.State.{State, Shown}
 use Rattle.s10_ledger.specs.CallRow.{StoredCall}
-use Rattle.s10_ledger.specs.Schema.{ledger_schema}
+use Rattle.s10_ledger.specs.Schema.{IsLedgerSchema}
 use Rattle.s10_ledger.specs.Shown.{shown_call, call_columns}
 use Rattle.s10_ledger.specs.Statements.{calls_text}
 use Rattle.s10_ledger.proofs.Texts.{calls_query}
@@ -60,7 +60,7 @@ not_above a b h above =
     let e : value_cmp (Int a.arrival) (Int b.arrival) ≡ Greater = value_cmp-Int a.arrival b.arrival ∙ above in
     true≢false (rw e at h)
 
-module _ (params : Row) (old new : State) (rows : List Row) (has : old.now.schema ≡ ledger_schema) where
+module _ (params : Row) (old new : State) (rows : List Row) (has : IsLedgerSchema old.now.schema) where
   pub calls_sorted : (found : List StoredCall) → Shown calls_text params old new rows → map shown_call found ≡ rows → IsAscending NotAbove found
   calls_sorted found h typed =
       let a = calls_answers params old new rows has h in

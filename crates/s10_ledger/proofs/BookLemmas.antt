@@ -17,19 +17,20 @@ use Rattle.s10_book.specs.Rules.{MayFollow}
 use Rattle.s10_book.proofs.Push.{IsLegal-push}
 use Rattle.s10_book.specs.Book.{Keeps}
 use Rattle.s10_book.specs.Settings.{Terms}
-use Rattle.s10_ledger.specs.Schema.{ledger_schema}
+use Rattle.s10_ledger.specs.Schema.{IsLedgerSchema}
 use Rattle.s10_ledger.specs.Statements.{Leaves}
 use Rattle.s10_ledger.specs.Ledger.{Ledger, IsLedger, Holds, IsHonest, history_in}
 use Rattle.s10_ledger.specs.Selected.{IsCall}
 use Rattle.s10_ledger.specs.Shown.{StandsFor}
 use Rattle.s10_ledger.proofs.HistoryLemmas.{history_is}
+use Rattle.s10_ledger.proofs.Apart.{is_ledger-prop}
 
 -- what is kept true of a ledger's connection
 abbrev pub IsKept : {S : Type 0} → Ghosts S → Held S → Terms → ℕ → ℕ → Type 0
 IsKept g conn t len day = HasCleanDisk (state g conn) → IsTrue (state g conn).is_open → IsLedger (state g conn).now t len day
 
-pub schema_is : (db : Database) (t : Terms) (len day : ℕ) → IsLedger db t len day → db.schema ≡ ledger_schema
-schema_is db t len day it = ∥∥₁_elim it.held (Coded-set schema.the_row.coded _ _) (λ h. h.tables.schema)
+pub schema_is : (db : Database) (t : Terms) (len day : ℕ) → IsLedger db t len day → IsLedgerSchema db.schema
+schema_is db t len day it = ∥∥₁_elim it.held (is_ledger-prop db.schema) (λ h. h.tables.schema)
 
 module _ {S : Type 0} (g : Ghosts S) (old new : Held S) (t : Terms) (len day : ℕ) (leaves : Leaves g old new) (kept : IsKept g old t len day) where
   -- the tables are as they were

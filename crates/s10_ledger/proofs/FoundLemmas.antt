@@ -15,7 +15,7 @@ use Rattle.s10_ledger.specs.declared.head_row.HeadRow.{HeadRow}
 use Rattle.s10_ledger.specs.declared.range_row.RangeRow.{RangeRow}
 use Rattle.s10_ledger.specs.declared.serial_row.SerialRow.{SerialRow}
 use Rattle.s10_ledger.specs.CallRow.{StoredCall}
-use Rattle.s10_ledger.specs.Schema.{ledger_schema}
+use Rattle.s10_ledger.specs.Schema.{IsLedgerSchema}
 use Rattle.s10_ledger.specs.Tables.{Tables, HaveSameRows}
 use Rattle.s10_ledger.specs.Shown.{HasTables, shown_head, shown_call, shown_range, shown_serial, head_columns, call_columns, range_columns, serial_columns, serial_front, IsNumbered}
 use Rattle.s10_ledger.specs.Selected.{has_key_columns, arrives_between, is_within}
@@ -31,7 +31,7 @@ all_in_turn P (x ∷ xs) each = (each 0 x (omega arith), all_in_turn P xs (All-t
 whole : {X : Type 0} (shown : X → Row) (vs rows : List Row) (found : List X) → IsPermutation vs rows → map shown found ≡ rows → HaveSameRows (map shown found) vs
 whole shown vs rows found p e = ∣ IsPermutation-sym vs (map shown found) (subst (IsPermutation vs) (sym e) p) ∣₁
 
-module _ (params : Row) (old new : State) (rows : List Row) (has : old.now.schema ≡ ledger_schema) where
+module _ (params : Row) (old new : State) (rows : List Row) (has : IsLedgerSchema old.now.schema) where
   pub head_found : (found : List HeadRow) → Shown head_text params old new rows → map shown_head found ≡ rows → HaveSameRows (map shown_head found) (map head_columns (old.now.trees 0))
   head_found found h typed = whole shown_head (map head_columns (old.now.trees 0)) rows found (head_shows params old new rows has h) typed
 

@@ -19,6 +19,7 @@ use Rattle.sqlite_sql.specs.Ops.{binary, is_true}
 use Rattle.sqlite_sql.specs.Query.{Query, IsAnswer, output}
 use Rattle.sqlite_sql.specs.Program.{overlay}
 use Rattle.sqlite_schema.specs.declared.schema.Keys.TheVariants.{Enforced}
+use Rattle.sqlite_schema.specs.declared.schema.Schema.{Schema}
 use Rattle.sqlite_schema.specs.declared.command.Source.TheVariants.{Values}
 use Rattle.sqlite_schema.specs.declared.command.Conflict.TheVariants.{Abort}
 use Rattle.sqlite_schema.specs.declared.command.Command.TheVariants.{InsertOr}
@@ -28,7 +29,7 @@ use Rattle.sqlite_rules.specs.Cast.{cast_row}
 use Rattle.sqlite_rules.specs.Calls.{ids_of}
 use Rattle.sqlite_rules.specs.Keys.{AreConflicts, conflicts}
 use Rattle.sqlite_rules.specs.Lists.{Has}
-use Rattle.sqlite_rules.specs.Edit.{Edit, edit_of, edited, left_by, are_fresh, id_in, next_rowid, numbered, with_rowid, without_all, Applies}
+use Rattle.sqlite_rules.specs.Edit.{taken_by, Edit, edit_of, edited, left_by, are_fresh, id_in, next_rowid, numbered, with_rowid, without_all, Applies}
 use Rattle.sqlite_rules.specs.Action.{Writes as sqlWrites}
 use Rattle.std.proofs.lemmas.Int.{ints}
 use Rattle.sqlite_rules.proofs.ListLemmas.{has_filtered, has_kept}
@@ -42,12 +43,13 @@ use Rattle.sqlite.specs.Listing.{understood}
 use Rattle.sqlite.specs.State.{State, mode_of, Executes}
 use Rattle.sqlite.proofs.Callers.{statement_of, runs_as, one_step, one_permutation}
 use Rattle.s10_ledger.specs.declared.serial_row.SerialRow.{SerialRow}
-use Rattle.s10_ledger.specs.Schema.{ledger_schema, serials_table}
+use Rattle.s10_ledger.specs.Schema.{with_others, others_in, are_apart, index_apart, serials_table}
 use Rattle.s10_ledger.specs.Tables.{Tables, HaveSameRows}
 use Rattle.s10_ledger.specs.Kept.{is_at, with_serial}
 use Rattle.s10_ledger.specs.Shown.{HasTables, shown_serial, serial_columns, IsNumbered}
 use Rattle.s10_ledger.specs.Statements.{issue_text}
 use Rattle.s10_ledger.proofs.WriteTexts.{issue_terms, issue_is, issue_plain, issue_upsert, update_query}
+use Rattle.s10_ledger.proofs.Apart.{no_works, none_shares, not_serials, is_as_it_was}
 use Rattle.s10_ledger.proofs.ReadLemmas.{filter_each, kept_are, rows_are}
 use Rattle.s10_ledger.proofs.PutLemmas.{cast_int, cast_null, went, same_value, put_fresh, one_fresh}
 use Rattle.s10_ledger.proofs.KeepLemmas.{one_more}
@@ -82,8 +84,8 @@ pub record Upserted (old new : Trees) (r : SerialRow) : Type 0 where
 abbrev pub new_row : ℤ → SerialRow → Row
 new_row id r = Int id ∷ shown_serial r
 
-abbrev pub task_of : Option ℕ → Row → Task
-task_of limit params = record { limit = limit; keys = Enforced; schema = ledger_schema; table = serials_table; params = params }
+abbrev pub task_of : Schema → Option ℕ → Row → Task
+task_of o limit params = record { limit = limit; keys = Enforced; schema = with_others o; table = serials_table; params = params }
 
 cast_same : (id : ℤ) (r : SerialRow) → cast_row serials_table (new_row id r) ≡ new_row id r
 cast_same id r = rw (cast_int, cast_int, cast_int, cast_int, cast_int, cast_int, cast_int, cast_int)
@@ -121,12 +123,12 @@ by_case false false f g = refl
 
 -- ---- a new identifier
 
-module _ (limit : Option ℕ) (params : Row) (id : ℤ) (r : SerialRow) where
-  puts : (db : Trees) (one : Written) → ((x : Row) → Has (db 4) x → at_key r (serial_columns x) ≡ false) → Puts (task_of limit params) (new_row id r) db (Ok one) → Upserted db one.trees r
+module _ (o : Schema) (apart : are_apart o.tables ≡ true) (limit : Option ℕ) (params : Row) (id : ℤ) (r : SerialRow) where
+  puts : (db : Trees) (one : Written) → ((x : Row) → Has (db 4) x → at_key r (serial_columns x) ≡ false) → Puts (task_of o limit params) (new_row id r) db (Ok one) → Upserted db one.trees r
   puts db one none h =
       let w = went h in
       let edit = edit_of db serials_table [] Given 0 (new_row id r ∷ []) in
-      let a = one_step ledger_schema Enforced db w.0 edit refl w.1 in
+      let a = one_step (with_others o) Enforced db w.0 edit (no_works 4 not_serials o apart Enforced 0 (taken_by db edit) edit.news) w.1 in
       let news : edit.news ≡ new_row id r ∷ [] = rw (cast_same id r) in
       let fresh : are_fresh (db 4) (new_row id r ∷ []) ≡ true = subst (λ n. are_fresh (db 4) n ≡ true) news a.fresh in
       let rows : w.0 4 ≡ put_row (new_row id r) (db 4) = a.rows ∙ rw (cast_same id r) in
@@ -176,7 +178,7 @@ length_mapped f (x ∷ xs) = ap suc (length_mapped f xs)
 abbrev pub key_of : SerialRow → Row → Bool
 key_of r x = at_key r (serial_columns x)
 
-module _ (limit : Option ℕ) (params : Row) (id k : ℤ) (r : SerialRow) (there r0 : Row) (is_there : rowid there ≡ Int k) (e0 : column r0 0 ≡ Int k) (e1 : column r0 1 ≡ Int r.pair)
+module _ (o : Schema) (apart : are_apart o.tables ≡ true) (limit : Option ℕ) (params : Row) (id k : ℤ) (r : SerialRow) (there r0 : Row) (is_there : rowid there ≡ Int k) (e0 : column r0 0 ≡ Int k) (e1 : column r0 1 ≡ Int r.pair)
     (e2 : column r0 2 ≡ Int r.serial) where
   abbrev pub full : Row
   full = Int k ∷ Int k ∷ Int r.pair ∷ Int r.serial ∷ Int r.arrival ∷ Int r.day ∷ Int r.customer ∷ Int r.number ∷ Int r.voided ∷ []
@@ -213,7 +215,7 @@ module _ (limit : Option ℕ) (params : Row) (id k : ℤ) (r : SerialRow) (there
         (λ h. rw (only r0 x (subst (λ l. Has l x) keyed (has_kept (key_of r) rows x hx h))) r0_has)))
 
   updated : (db : Trees) (one : Written) → AllByRecursion HasId (db 4) → Has (db 4) r0 → key_of r r0 ≡ true → length (filter (key_of r) (db 4)) ≤ 1
-      → Updates (task_of limit params) (record { lets = []; body = update_query }) (given limit params id r there) db (Ok one) → length one.rows ≡ 1 → Upserted db one.trees r
+      → Updates (task_of o limit params) (record { lets = []; body = update_query }) (given limit params id r there) db (Ok one) → length one.rows ≡ 1 → Upserted db one.trees r
   updated db one numbers has key len h count =
       let w = went h in
       let v = went w.2 in
@@ -222,9 +224,9 @@ module _ (limit : Option ℕ) (params : Row) (id k : ℤ) (r : SerialRow) (there
       sym (length_mapped (λ s. cast_row serials_table (drop 1 s)) w.0) ∙ sym (length_numbered (without_all (db 4) (ids_of w.0)) (map (λ s. cast_row serials_table (drop 1 s)) w.0))
       ∙ ap (λ (it : Written). length it.rows) (sym same_one) ∙ count in
       let f = found_one (db 4) numbers has w.0 (answer_rows limit params id r there db w.0 (w.1.answer Null)) counted in
-      let wrote = subst (λ rows. sqlWrites ledger_schema Enforced db (edit_of db serials_table (ids_of rows) Given 1 rows) (Ok v.0)) f.1 v.1 in
+      let wrote = subst (λ rows. sqlWrites (with_others o) Enforced db (edit_of db serials_table (ids_of rows) Given 1 rows) (Ok v.0)) f.1 v.1 in
       let edit = edit_of db serials_table (ids_of (full ∷ [])) Given 1 (full ∷ []) in
-      let a = one_step ledger_schema Enforced db v.0 edit refl wrote in
+      let a = one_step (with_others o) Enforced db v.0 edit (no_works 4 not_serials o apart Enforced 0 (taken_by db edit) edit.news) wrote in
       let stay : filter (stays k) (db 4) ≡ others r (db 4) = stay_others (db 4) numbers has key len f.0 in
       let news : edit.news ≡ new_row k r ∷ [] = rw (cast_same k r) in
       let fresh : are_fresh (filter (stays k) (db 4)) (new_row k r ∷ []) ≡ true = subst (λ n. are_fresh (filter (stays k) (db 4)) n ≡ true) news a.fresh in
@@ -241,9 +243,9 @@ module _ (limit : Option ℕ) (params : Row) (id k : ℤ) (r : SerialRow) (there
 
 -- ---- the rows that conflict are those of the identifier
 
-conflict_is : (id : ℤ) (r : SerialRow) (x : Row) → conflicts (Some (1 ∷ 2 ∷ [])) ledger_schema.indexes serials_table (new_row id r) x ≡ at_key r (serial_columns x)
+conflict_is : (o : Schema) → index_apart o.indexes ≡ true → (id : ℤ) (r : SerialRow) (x : Row) → conflicts (Some (1 ∷ 2 ∷ [])) (with_others o).indexes serials_table (new_row id r) x ≡ at_key r (serial_columns x)
 unfolding first_key
-conflict_is id r x = or_false (at_key r (serial_columns x))
+conflict_is o apart id r x = rw (none_shares 4 not_serials (Some (1 ∷ 2 ∷ [])) serials_table refl (new_row id r) x o.indexes apart) (or_false (at_key r (serial_columns x)))
 
 abbrev pub IsShown : Row → Type 0
 IsShown v = (s : SerialRow) × (v ≡ shown_serial s)
@@ -256,24 +258,24 @@ both_true true true h = (refl, refl)
 both_true true false h = absurd (let e = h in cc)
 both_true false b h = absurd (let e = h in cc)
 
-module _ (limit : Option ℕ) (id : ℤ) (r : SerialRow) (db : Trees) (one : Written) (numbers : AllByRecursion HasId (db 4)) (typed : AllByRecursion (λ x. IsShown (serial_columns x)) (db 4))
+module _ (o : Schema) (apart : are_apart o.tables ≡ true) (behind : index_apart o.indexes ≡ true) (limit : Option ℕ) (id : ℤ) (r : SerialRow) (db : Trees) (one : Written) (numbers : AllByRecursion HasId (db 4)) (typed : AllByRecursion (λ x. IsShown (serial_columns x)) (db 4))
     (len : length (filter (key_of r) (db 4)) ≤ 1) (count : length one.rows ≡ 1) where
   abbrev task : Task
-  task = task_of limit (shown_serial r)
+  task = task_of o limit (shown_serial r)
 
   abbrev AreFound : List Row → Type 0
-  AreFound found = AreConflicts (Some (1 ∷ 2 ∷ [])) ledger_schema.indexes serials_table (db 4) (new_row id r) found
+  AreFound found = AreConflicts (Some (1 ∷ 2 ∷ [])) (with_others o).indexes serials_table (db 4) (new_row id r) found
 
   none_there : AreFound [] → (x : Row) → Has (db 4) x → at_key r (serial_columns x) ≡ false
-  none_there hit x has = go (at_key r (serial_columns x)) (λ is. hit.complete x has (conflict_is id r x ∙ is))
+  none_there hit x has = go (at_key r (serial_columns x)) (λ is. hit.complete x has (conflict_is o behind id r x ∙ is))
     where
       go : (b : Bool) → (b ≡ true → ⊥) → b ≡ false
       go true never = absurd (never refl)
       go false never = refl
 
   cleared : AreFound [] → (found : List Row) → Clears task Abort (new_row id r) db found (Ok one) → Upserted db one.trees r
-  cleared hit [] h = puts limit (shown_serial r) id r db one (none_there hit) h
-  cleared hit (x ∷ more) h = puts limit (shown_serial r) id r db one (none_there hit) h
+  cleared hit [] h = puts o apart limit (shown_serial r) id r db one (none_there hit) h
+  cleared hit (x ∷ more) h = puts o apart limit (shown_serial r) id r db one (none_there hit) h
 
   met : (found : List Row) → AreFound found → Meets task (Upserts task Abort (new_row id r) db []) (new_row id r) db issue_upsert found (Ok one) → Upserted db one.trees r
   met [] hit h = cleared hit h.0 h.2
@@ -281,11 +283,11 @@ module _ (limit : Option ℕ) (id : ℤ) (r : SerialRow) (db : Trees) (one : Wri
       let s = hit.sound there (inl refl) in
       let n = all_has HasId (db 4) s.0 numbers s.1 in
       let t = all_has (λ x. IsShown (serial_columns x)) (db 4) s.0 typed s.1 in
-      let key : key_of r s.0 ≡ true = sym (conflict_is id r s.0) ∙ s.2 in
+      let key : key_of r s.0 ≡ true = sym (conflict_is o behind id r s.0) ∙ s.2 in
       let same = both_true (int_eq t.0.pair r.pair) (int_eq t.0.serial r.serial) (sym (key_typed r t.0) ∙ sym (ap (at_key r) t.1) ∙ key) in
       let e1 : column s.0 1 ≡ Int r.pair = ap (λ v. column v 0) t.1 ∙ ap Int (same_int t.0.pair r.pair same.0) in
       let e2 : column s.0 2 ≡ Int r.serial = ap (λ v. column v 1) t.1 ∙ ap Int (same_int t.0.serial r.serial same.1) in
-      updated limit (shown_serial r) id n.0 r there s.0 (ap rowid s.3 ∙ n.1) n.1 e1 e2 db one numbers s.1 key len h count
+      updated o apart limit (shown_serial r) id n.0 r there s.0 (ap rowid s.3 ∙ n.1) n.1 e1 e2 db one numbers s.1 key len h count
 
   judged : (verdict : Option Refusal) → Judged task Abort (issue_upsert ∷ []) (new_row id r) db verdict (Ok one) → Upserted db one.trees r
   judged None h = met h.0 h.1 h.2
@@ -298,19 +300,19 @@ module _ (limit : Option ℕ) (id : ℤ) (r : SerialRow) (db : Trees) (one : Wri
 new_is : (top : ℤ) (rows : List Row) (r : SerialRow) → with_rowid (rowids_for serials_table top) rows (cast_row serials_table (mended Abort serials_table (Null ∷ shown_serial r))) ≡ new_row (next_rowid rows) r
 new_is top rows r = rw (cast_null, cast_int, cast_int, cast_int, cast_int, cast_int, cast_int, cast_int)
 
-does_issue : (limit : Option ℕ) (mode : Mode) (db : Trees) (r : SerialRow) (text : List ℕ) (tally : Tally) (new : Database) → mode.keys ≡ Enforced → tally.rows ≡ Some 1
+does_issue : (o : Schema) → are_apart o.tables ≡ true → index_apart o.indexes ≡ true → (limit : Option ℕ) (mode : Mode) (db : Trees) (r : SerialRow) (text : List ℕ) (tally : Tally) (new : Database) → mode.keys ≡ Enforced → tally.rows ≡ Some 1
     → AllByRecursion HasId (db 4) → AllByRecursion (λ x. IsShown (serial_columns x)) (db 4) → length (filter (key_of r) (db 4)) ≤ 1
-    → Does limit mode (shown_serial r) (record { schema = ledger_schema; trees = db }) text None (InsertOr 3 Abort (Values issue_terms 8) (issue_upsert ∷ [])) (Ok (tally, new))
-    → (new.schema ≡ ledger_schema) × Upserted db new.trees r
-does_issue limit mode db r text tally new keys changed numbers typed len h =
+    → Does limit mode (shown_serial r) (record { schema = with_others o; trees = db }) text None (InsertOr 3 Abort (Values issue_terms 8) (issue_upsert ∷ [])) (Ok (tally, new))
+    → (new.schema ≡ with_others o) × Upserted db new.trees r
+does_issue o apart behind limit mode db r text tally new keys changed numbers typed len h =
     let done = went h in
     let out = same_value (went (went done.2).2).2 in
-    let now : new ≡ record { schema = ledger_schema; trees = done.0.trees } = ap (λ (p : Tally × Database). p.1) out in
+    let now : new ≡ record { schema = with_others o; trees = done.0.trees } = ap (λ (p : Tally × Database). p.1) out in
     let given = went done.1 in
     let counter = went given.2 in
     let tried = went counter.2 in
     let counted = went tried.2 in
-    let t : Task = record { limit = limit; keys = mode.keys; schema = ledger_schema; table = serials_table; params = shown_serial r } in
+    let t : Task = record { limit = limit; keys = mode.keys; schema = with_others o; table = serials_table; params = shown_serial r } in
     let each = subst (λ k. TriesEach (record t { keys = k }) Abort (issue_upsert ∷ []) ((Null ∷ shown_serial r) ∷ []) (count_of counter.0) (nothing db) (Ok tried.0)) keys
     (subst (λ rows. TriesEach t Abort (issue_upsert ∷ []) rows (count_of counter.0) (nothing db) (Ok tried.0)) given.1.1 tried.1) in
     let one = went each in
@@ -319,14 +321,14 @@ does_issue limit mode db r text tally new keys changed numbers typed len h =
     let rows : Some (length done.0.rows) ≡ Some 1 = sym (ap (λ (p : Tally × Database). p.0.rows) out) ∙ changed in
     let same : length done.0.rows ≡ 1 = cc in
     sym (ap (λ (it : Written). length it.rows) (same_value counted.2) ∙ ap (λ (p : Written × ℤ). length p.0.rows) last) ∙ same in
-    let met = tries limit (next_rowid (db 4)) r db one.0 numbers typed len one_row (subst (λ n. Tries (task_of limit (shown_serial r)) Abort (issue_upsert ∷ []) n db (Ok one.0)) (new_is (count_of counter.0) (db 4) r) one.1) in
+    let met = tries o apart behind limit (next_rowid (db 4)) r db one.0 numbers typed len one_row (subst (λ n. Tries (task_of o limit (shown_serial r)) Abort (issue_upsert ∷ []) n db (Ok one.0)) (new_is (count_of counter.0) (db 4) r) one.1) in
     let whole : new.trees ≡ one.0.trees =
     ap (λ (d : Database). d.trees) now ∙ ap (λ (it : Written). it.trees) (same_value counted.2) ∙ same_value counted.1 ∙ ap (λ (p : Written × ℤ). p.0.trees) last in
     (ap (λ (d : Database). d.schema) now, subst (λ n. Upserted db n r) (sym whole) met)
 
-issue_schema : (limit : Option ℕ) (mode : Mode) (db : Trees) (r : SerialRow) (text : List ℕ) (tally : Tally) (new : Database)
-    → Does limit mode (shown_serial r) (record { schema = ledger_schema; trees = db }) text None (InsertOr 3 Abort (Values issue_terms 8) (issue_upsert ∷ [])) (Ok (tally, new)) → new.schema ≡ ledger_schema
-issue_schema limit mode db r text tally new h = let done = went h in ap (λ (p : Tally × Database). p.1.schema) (same_value (went (went done.2).2).2)
+issue_schema : (o : Schema) (limit : Option ℕ) (mode : Mode) (db : Trees) (r : SerialRow) (text : List ℕ) (tally : Tally) (new : Database)
+    → Does limit mode (shown_serial r) (record { schema = with_others o; trees = db }) text None (InsertOr 3 Abort (Values issue_terms 8) (issue_upsert ∷ [])) (Ok (tally, new)) → new.schema ≡ with_others o
+issue_schema o limit mode db r text tally new h = let done = went h in ap (λ (p : Tally × Database). p.1.schema) (same_value (went (went done.2).2).2)
 
 one_changed : (o : Option ℕ) → 1 ≡ unwrap_or o 0 → o ≡ Some 1
 one_changed None h = absurd (omega (arith, h))
@@ -366,16 +368,17 @@ pub issues : (old new : State) (r : SerialRow) (tables : Tables) → HasTables o
     → Executes issue_text (shown_serial r) old new (Ok 1) → HasTables new.now (record tables { serials = with_serial (Some r) tables.serials })
 issues old new r tables held few h =
     let params = shown_serial r in
-    let has = held.schema in
+    let has = held.schema.is in
+    let o = others_in old.now.schema in
     let command = InsertOr 3 Abort (Values issue_terms 8) (issue_upsert ∷ []) in
-    let w = runs_as issue_text params old new ledger_schema has command issue_is issue_plain 1 h in
-    let text = statement_of issue_text (understood ledger_schema issue_text) in
+    let w = runs_as issue_text params old new (with_others o) has command (issue_is o) (issue_plain o) 1 h in
+    let text = statement_of issue_text (understood (with_others o) issue_text) in
     let does = subst (λ s. Does old.step_limit (mode_of old) params (record old.now { schema = s }) text None command (Ok (w.tally, new.now))) has w.changed in
     let it : IsPermutation (map shown_serial tables.serials) (map serial_columns (old.now.trees 4)) → Upserted old.now.trees new.now.trees r =
-    λ p. (does_issue old.step_limit (mode_of old) old.now.trees r text w.tally new.now refl (one_changed w.tally.rows w.counted) (all_ids (old.now.trees 4) held.numbered)
+    λ p. (does_issue o held.schema.tables held.schema.indexes old.step_limit (mode_of old) old.now.trees r text w.tally new.now refl (one_changed w.tally.rows w.counted) (all_ids (old.now.trees 4) held.numbered)
     (shown_rows tables.serials (old.now.trees 4) p) (few_keyed tables.serials r (old.now.trees 4) p few) does).1 in
     record {
-      schema = issue_schema old.step_limit (mode_of old) old.now.trees r text w.tally new.now does;
+      schema = is_as_it_was old.now.schema new.now.schema held.schema (issue_schema o old.step_limit (mode_of old) old.now.trees r text w.tally new.now does);
       heads = ∥∥₁_elim held.serials ∥∥₁_prop (λ p. rw (it p).head held.heads);
       calls = ∥∥₁_elim held.serials ∥∥₁_prop (λ p. rw (it p).calls held.calls);
       ranges = ∥∥₁_elim held.serials ∥∥₁_prop (λ p. rw (it p).ranges held.ranges);

@@ -17,11 +17,12 @@ use Rattle.sqlite.specs.Listing.{understood}
 use Rattle.sqlite.specs.State.{State, mode_of, Executes}
 use Rattle.sqlite.proofs.Callers.{statement_of, runs_as, one_step}
 use Rattle.s10_ledger.specs.CallRow.{StoredCall}
-use Rattle.s10_ledger.specs.Schema.{ledger_schema, calls_table}
+use Rattle.s10_ledger.specs.Schema.{with_others, others_in, calls_table}
 use Rattle.s10_ledger.specs.Tables.{Tables, HaveSameRows}
 use Rattle.s10_ledger.specs.Shown.{HasTables, shown_call, call_columns}
 use Rattle.s10_ledger.specs.Statements.{keep_text}
 use Rattle.s10_ledger.proofs.WriteTexts.{keep_terms, keep_is, keep_plain}
+use Rattle.s10_ledger.proofs.Apart.{no_works, not_calls, is_as_it_was}
 use Rattle.s10_ledger.proofs.PutLemmas.{cast_int, cast_null, went, same_value, put_fresh, one_fresh}
 
 -- a call as its row is stored
@@ -50,24 +51,25 @@ pub keeps : (old new : State) (call : StoredCall) (count : ℕ) (tables : Tables
 keeps old new call count tables held h =
     let params = shown_call call in
     let db = old.now.trees in
-    let has = held.schema in
+    let has = held.schema.is in
+    let o = others_in old.now.schema in
     let command = Insert 1 (Values keep_terms 6) in
-    let w = runs_as keep_text params old new ledger_schema has command keep_is keep_plain count h in
-    let text = statement_of keep_text (understood ledger_schema keep_text) in
+    let w = runs_as keep_text params old new (with_others o) has command (keep_is o) (keep_plain o) count h in
+    let text = statement_of keep_text (understood (with_others o) keep_text) in
     let done = went (subst (λ s. Does old.step_limit (mode_of old) params (record old.now { schema = s }) text None command (Ok (w.tally, new.now))) has w.changed) in
     let now = ap (λ (p : Tally × Database). p.1) (same_value (went (went done.2).2).2) in
     let given = went done.1 in
     let written = went (went given.2).2 in
     let counted = went written.2 in
     let trees : done.0.trees ≡ written.0 = ap (λ (it : Written). it.trees) (same_value counted.2) ∙ same_value counted.1 in
-    let applied = one_step ledger_schema _ db written.0 (edit_of db calls_table [] Chosen 0 given.0) refl written.1 in
+    let applied = one_step (with_others o) _ db written.0 (edit_of db calls_table [] Chosen 0 given.0) (no_works 1 not_calls o held.schema.tables (mode_of old).keys 0 [] (edit_of db calls_table [] Chosen 0 given.0).news) written.1 in
     let news : (edit_of db calls_table [] Chosen 0 given.0).news ≡ stored call ∷ [] = ap (λ all. (edit_of db calls_table [] Chosen 0 all).news) given.1.1 ∙ rw (cast_int, cast_null, cast_int, cast_int, cast_int) in
     let fresh : are_fresh (db 1) (stored call ∷ []) ≡ true = subst (λ n. are_fresh (db 1) n ≡ true) news applied.fresh in
     let edit : edited db (edit_of db calls_table [] Chosen 0 given.0) ≡ put_row (stored call) (db 1) = ap (λ all. edited db (edit_of db calls_table [] Chosen 0 all)) given.1.1 ∙ rw (cast_int, cast_null, cast_int, cast_int, cast_int) in
     let at = λ (t : ℕ). ap (λ (d : Database). d.trees t) now ∙ ap (λ (s : Trees). s t) trees in
     let put : IsPermutation (stored call ∷ db 1) (new.now.trees 1) = subst (IsPermutation (stored call ∷ db 1)) (sym (at 1 ∙ applied.rows ∙ edit)) (put_fresh (stored call) (db 1) (one_fresh (db 1) (stored call) fresh)) in
     record {
-      schema = ap (λ (d : Database). d.schema) now;
+      schema = is_as_it_was old.now.schema new.now.schema held.schema (ap (λ (d : Database). d.schema) now);
       heads = rw (at 0 ∙ applied.tables.0 zero_one) held.heads;
       calls = ∥∥₁_map held.calls (λ p. one_more shown_call call_columns tables.calls call (db 1) (new.now.trees 1) (stored call) refl put p);
       ranges = rw (at 3 ∙ applied.tables.1.1.0 three_one) held.ranges;

@@ -13,7 +13,7 @@ use Rattle.sqlite.specs.Given.{IsPlain}
 use Rattle.sqlite.specs.Listing.{understood}
 use Rattle.sqlite.specs.State.{State, Writes, Executes}
 use Rattle.sqlite.proofs.Callers.{command_of, statement_of, runs_as}
-use Rattle.s10_ledger.specs.Schema.{ledger_schema, no_schema, head_table, calls_table, ranges_table, serials_table, calls_index}
+use Rattle.s10_ledger.specs.Schema.{IsLedgerSchema, with_others, no_schema, head_table, calls_table, ranges_table, serials_table, calls_index}
 use Rattle.s10_ledger.specs.Statements.{head_made, calls_made, ranges_made, serials_made}
 use Rattle.s10_ledger.specs.Tables.{no_rows}
 use Rattle.s10_ledger.specs.Shown.{HasTables}
@@ -29,13 +29,13 @@ abbrev three_tables : Schema
 three_tables = record { tables = head_table ∷ calls_table ∷ ranges_table ∷ []; indexes = calls_index ∷ []; views = [] }
 
 -- under the schema the text makes the table, which gives the next schema
-record Defines (schema : Schema) (text : List ℕ) (table : Table) (next : Schema) : Type 0 where
-  command : command_of (understood schema text) ≡ CreateTable
-  plain : IsPlain (understood schema text)
-  whole : statement_of text (understood schema text) ≡ text
-  defined : table_defined_by text ≡ Ok table
-  is : created schema table ≡ next
-  uncounted : lacks_sequence next ≡ false
+pub record Defines (schema : Schema) (text : List ℕ) (table : Table) (next : Schema) : Type 0 where
+  pub command : command_of (understood schema text) ≡ CreateTable
+  pub plain : IsPlain (understood schema text)
+  pub whole : statement_of text (understood schema text) ≡ text
+  pub defined : table_defined_by text ≡ Ok table
+  pub is : created schema table ≡ next
+  pub uncounted : lacks_sequence next ≡ false
 
 head_defined : Defines no_schema head_made (record head_table { tree = 0 }) one_table
 unfolding understood everything
@@ -49,17 +49,17 @@ ranges_defined : Defines two_tables ranges_made (record ranges_table { tree = 0 
 unfolding understood everything
 ranges_defined = record { command = refl; plain = (refl, refl); whole = refl; defined = refl; is = refl; uncounted = refl }
 
-serials_defined : Defines three_tables serials_made (record serials_table { tree = 0 }) ledger_schema
+serials_defined : Defines three_tables serials_made (record serials_table { tree = 0 }) (with_others no_schema)
 unfolding understood everything
 serials_defined = record { command = refl; plain = (refl, refl); whole = refl; defined = refl; is = refl; uncounted = refl }
 
 -- the next schema is there; the new table is empty, and the others are as they were
-record IsNext (schema next : Schema) (old new : Database) : Type 0 where
-  schema_is : new.schema ≡ next
-  empty : new.trees (next_tree schema) ≡ []
-  others : KeepsRows schema.tables old.trees new.trees
+pub record IsNext (schema next : Schema) (old new : Database) : Type 0 where
+  pub schema_is : new.schema ≡ next
+  pub empty : new.trees (next_tree schema) ≡ []
+  pub others : KeepsRows schema.tables old.trees new.trees
 
-makes : (schema : Schema) (text : List ℕ) (table : Table) (next : Schema) → Defines schema text table next → (old new : State) (count : ℕ) → old.now.schema ≡ schema → Executes text [] old new (Ok count)
+pub makes : (schema : Schema) (text : List ℕ) (table : Table) (next : Schema) → Defines schema text table next → (old new : State) (count : ℕ) → old.now.schema ≡ schema → Executes text [] old new (Ok count)
     → IsNext schema next old.now new.now
 makes schema text table next d old new count has h =
     let w = subst (λ t. Writes old new None CreateTable t [] count) d.whole (runs_as text [] old new schema has CreateTable d.command d.plain count h) in
@@ -84,13 +84,13 @@ all_made s0 s1 s2 s3 s4 m n p q has h1 h2 h3 h4 =
     let a = makes no_schema head_made (record head_table { tree = 0 }) one_table head_defined s0 s1 m has h1 in
     let b = makes one_table calls_made (record calls_table { tree = 0 }) two_tables calls_defined s1 s2 n a.schema_is h2 in
     let c = makes two_tables ranges_made (record ranges_table { tree = 0 }) three_tables ranges_defined s2 s3 p b.schema_is h3 in
-    let d = makes three_tables serials_made (record serials_table { tree = 0 }) ledger_schema serials_defined s3 s4 q c.schema_is h4 in
+    let d = makes three_tables serials_made (record serials_table { tree = 0 }) (with_others no_schema) serials_defined s3 s4 q c.schema_is h4 in
     let heads : s4.now.trees 0 ≡ [] = d.others.0 ∙ c.others.0 ∙ b.others.0 ∙ a.empty in
     let calls : s4.now.trees 1 ≡ [] = d.others.1.0 ∙ c.others.1.0 ∙ b.empty in
     let ranges : s4.now.trees 3 ≡ [] = d.others.1.1.0 ∙ c.empty in
     let serials : s4.now.trees 4 ≡ [] = d.empty in
     record {
-      schema = d.schema_is;
+      schema = subst IsLedgerSchema (sym d.schema_is) (record { is = refl; tables = refl; indexes = refl });
       heads = rw heads (∣ IsPermutation-refl [] ∣₁);
       calls = rw calls (∣ IsPermutation-refl [] ∣₁);
       ranges = rw ranges (∣ IsPermutation-refl [] ∣₁);

@@ -11,6 +11,7 @@ use Rattle.sqlite_value.proofs.OrderLemmas.{value_cmp-Int}
 use Rattle.sqlite_trees.specs.Tree.{Trees, rowid, put_row, has_rowid}
 use Rattle.sqlite_sql.specs.declared.ops.CompareOp.TheVariants.{Eq}
 use Rattle.sqlite_schema.specs.declared.schema.Keys.TheVariants.{Enforced}
+use Rattle.sqlite_schema.specs.declared.schema.Schema.{Schema}
 use Rattle.sqlite_schema.specs.declared.command.Source.TheVariants.{Values}
 use Rattle.sqlite_schema.specs.declared.command.Conflict.TheVariants.{Replace}
 use Rattle.sqlite_schema.specs.declared.command.Command.TheVariants.{InsertOr}
@@ -20,7 +21,7 @@ use Rattle.sqlite_rules.specs.Cast.{cast_row}
 use Rattle.sqlite_rules.specs.Calls.{ids_of}
 use Rattle.sqlite_rules.specs.Keys.{AreConflicts, conflicts}
 use Rattle.sqlite_rules.specs.Lists.{Has}
-use Rattle.sqlite_rules.specs.Edit.{Edit, edit_of, edited, left_by, are_fresh, id_in, with_rowid, without_all, Applies}
+use Rattle.sqlite_rules.specs.Edit.{taken_by, Edit, edit_of, edited, left_by, are_fresh, id_in, with_rowid, without_all, Applies}
 use Rattle.sqlite_keyed.proofs.ListLemmas.{filter-map, IsPermutation-filter}
 use Rattle.sqlite_typed.proofs.TestLemmas.{at_ints, last_term}
 use Rattle.sqlite.specs.declared.run.Mode.{Mode}
@@ -31,12 +32,13 @@ use Rattle.sqlite.specs.Listing.{understood}
 use Rattle.sqlite.specs.State.{State, mode_of, Executes}
 use Rattle.sqlite.proofs.Callers.{statement_of, runs_as, one_step}
 use Rattle.s10_ledger.specs.declared.range_row.RangeRow.{RangeRow}
-use Rattle.s10_ledger.specs.Schema.{ledger_schema, ranges_table}
+use Rattle.s10_ledger.specs.Schema.{with_others, others_in, are_apart, index_apart, ranges_table}
 use Rattle.s10_ledger.specs.Tables.{Tables, HaveSameRows}
 use Rattle.s10_ledger.specs.Kept.{has_num, with_range}
 use Rattle.s10_ledger.specs.Shown.{HasTables, shown_range, range_columns}
 use Rattle.s10_ledger.specs.Statements.{mark_text}
 use Rattle.s10_ledger.proofs.WriteTexts.{mark_terms, mark_is, mark_plain}
+use Rattle.s10_ledger.proofs.Apart.{no_works, none_shares, not_ranges, is_as_it_was}
 use Rattle.s10_ledger.proofs.ReadLemmas.{filter_each}
 use Rattle.s10_ledger.proofs.PutLemmas.{cast_int, cast_null, went, same_value, put_fresh, one_fresh}
 use Rattle.s10_ledger.proofs.KeepLemmas.{one_more}
@@ -61,9 +63,9 @@ record Replaced (old new : Trees) (row : Row) (found : List Row) : Type 0 where
 abbrev stored : RangeRow → Row
 stored r = Int r.num ∷ Null ∷ Int r.holder ∷ Int r.pair ∷ Int r.low ∷ Int r.high ∷ Int r.mark ∷ []
 
-module _ (limit : Option ℕ) (params : Row) (r : RangeRow) where
+module _ (o : Schema) (apart : are_apart o.tables ≡ true) (limit : Option ℕ) (params : Row) (r : RangeRow) where
   abbrev task : Task
-  task = record { limit = limit; keys = Enforced; schema = ledger_schema; table = ranges_table; params = params }
+  task = record { limit = limit; keys = Enforced; schema = with_others o; table = ranges_table; params = params }
 
   cast_same : cast_row ranges_table (stored r) ≡ stored r
   cast_same = rw (cast_int, cast_null, cast_int, cast_int, cast_int, cast_int, cast_int)
@@ -72,7 +74,7 @@ module _ (limit : Option ℕ) (params : Row) (r : RangeRow) where
   puts db one h =
       let w = went h in
       let edit = edit_of db ranges_table [] Given 0 (stored r ∷ []) in
-      let a = one_step ledger_schema Enforced db w.0 edit refl w.1 in
+      let a = one_step (with_others o) Enforced db w.0 edit (no_works 3 not_ranges o apart Enforced 0 (taken_by db edit) edit.news) w.1 in
       let news : edit.news ≡ stored r ∷ [] = rw cast_same in
       let fresh : are_fresh (db 3) (stored r ∷ []) ≡ true = subst (λ n. are_fresh (db 3) n ≡ true) news a.fresh in
       let rows : w.0 3 ≡ put_row (stored r) (db 3) = a.rows ∙ rw cast_same in
@@ -89,7 +91,7 @@ module _ (limit : Option ℕ) (params : Row) (r : RangeRow) where
   clears db (x ∷ more) one h =
       let w = went h in
       let edit = edit_of db ranges_table (ids_of (x ∷ more)) Given 0 [] in
-      let a = one_step ledger_schema Enforced db w.0 edit refl w.1 in
+      let a = one_step (with_others o) Enforced db w.0 edit (no_works 3 not_ranges o apart Enforced 0 (taken_by db edit) edit.news) w.1 in
       let it = puts w.0 one w.2 in
       record {
         put = subst (λ l. IsPermutation (stored r ∷ l) (one.trees 3)) a.rows it.put;
@@ -99,7 +101,7 @@ module _ (limit : Option ℕ) (params : Row) (r : RangeRow) where
       }
 
   abbrev conflicting : Trees → List Row → Type 0
-  conflicting db found = AreConflicts None ledger_schema.indexes ranges_table (db 3) (stored r) found
+  conflicting db found = AreConflicts None (with_others o).indexes ranges_table (db 3) (stored r) found
 
   judged : (db : Trees) (one : Written) (verdict : Option Refusal) → Judged task Replace [] (stored r) db verdict (Ok one) → (found : List Row) × conflicting db found × Replaced db one.trees (stored r) found
   judged db one None h = (h.0, h.1, clears db h.0 one h.2)
@@ -112,29 +114,29 @@ module _ (limit : Option ℕ) (params : Row) (r : RangeRow) where
 new_is : (top : ℤ) (rows : List Row) (r : RangeRow) → with_rowid (rowids_for ranges_table top) rows (cast_row ranges_table (mended Replace ranges_table (stored r))) ≡ stored r
 new_is top rows r = rw (cast_int, cast_null, cast_int, cast_int, cast_int, cast_int, cast_int)
 
-met_by : (limit : Option ℕ) (top : ℤ) (db : Trees) (r : RangeRow) (x : Written × ℤ) → TriesEach (task limit (shown_range r) r) Replace [] (stored r ∷ []) top (nothing db) (Ok x)
-    → (found : List Row) × conflicting limit (shown_range r) r db found × Replaced db x.0.trees (stored r) found
-met_by limit top db r x h =
-    let t = task limit (shown_range r) r in
+met_by : (o : Schema) (apart : are_apart o.tables ≡ true) (limit : Option ℕ) (top : ℤ) (db : Trees) (r : RangeRow) (x : Written × ℤ) → TriesEach (task o apart limit (shown_range r) r) Replace [] (stored r ∷ []) top (nothing db) (Ok x)
+    → (found : List Row) × conflicting o apart limit (shown_range r) r db found × Replaced db x.0.trees (stored r) found
+met_by o apart limit top db r x h =
+    let t = task o apart limit (shown_range r) r in
     let one = went h in
-    let met = tries limit (shown_range r) r db one.0 (subst (λ n. Tries t Replace [] n db (Ok one.0)) (new_is top (db 3) r) one.1) in
+    let met = tries o apart limit (shown_range r) r db one.0 (subst (λ n. Tries t Replace [] n db (Ok one.0)) (new_is top (db 3) r) one.1) in
     let same : x.0.trees ≡ one.0.trees = ap (λ (p : Written × ℤ). p.0.trees) (same_value one.2) in
     (met.0, met.1, subst (λ n. Replaced db n (stored r) met.0) (sym same) met.2)
 
-does_mark : (limit : Option ℕ) (mode : Mode) (db : Trees) (r : RangeRow) (text : List ℕ) (tally : Tally) (new : Database) → mode.keys ≡ Enforced
-    → Does limit mode (shown_range r) (record { schema = ledger_schema; trees = db }) text None (InsertOr 2 Replace (Values mark_terms 7) []) (Ok (tally, new))
-    → (new.schema ≡ ledger_schema) × ((found : List Row) × conflicting limit (shown_range r) r db found × Replaced db new.trees (stored r) found)
-does_mark limit mode db r text tally new keys h =
+does_mark : (o : Schema) (apart : are_apart o.tables ≡ true) (limit : Option ℕ) (mode : Mode) (db : Trees) (r : RangeRow) (text : List ℕ) (tally : Tally) (new : Database) → mode.keys ≡ Enforced
+    → Does limit mode (shown_range r) (record { schema = with_others o; trees = db }) text None (InsertOr 2 Replace (Values mark_terms 7) []) (Ok (tally, new))
+    → (new.schema ≡ with_others o) × ((found : List Row) × conflicting o apart limit (shown_range r) r db found × Replaced db new.trees (stored r) found)
+does_mark o apart limit mode db r text tally new keys h =
     let done = went h in
-    let now : new ≡ record { schema = ledger_schema; trees = done.0.trees } = ap (λ (p : Tally × Database). p.1) (same_value (went (went done.2).2).2) in
+    let now : new ≡ record { schema = with_others o; trees = done.0.trees } = ap (λ (p : Tally × Database). p.1) (same_value (went (went done.2).2).2) in
     let given = went done.1 in
     let counter = went given.2 in
     let tried = went counter.2 in
     let counted = went tried.2 in
-    let t : Task = record { limit = limit; keys = mode.keys; schema = ledger_schema; table = ranges_table; params = shown_range r } in
+    let t : Task = record { limit = limit; keys = mode.keys; schema = with_others o; table = ranges_table; params = shown_range r } in
     let each = subst (λ k. TriesEach (record t { keys = k }) Replace [] (stored r ∷ []) (count_of counter.0) (nothing db) (Ok tried.0)) keys
     (subst (λ rows. TriesEach t Replace [] rows (count_of counter.0) (nothing db) (Ok tried.0)) given.1.1 tried.1) in
-    let met = met_by limit (count_of counter.0) db r tried.0 each in
+    let met = met_by o apart limit (count_of counter.0) db r tried.0 each in
     let whole : new.trees ≡ tried.0.0.trees = ap (λ (d : Database). d.trees) now ∙ ap (λ (it : Written). it.trees) (same_value counted.2) ∙ same_value counted.1 in
     (ap (λ (d : Database). d.schema) now, (met.0, met.1, subst (λ n. Replaced db n (stored r) met.0) (sym whole) met.2))
 
@@ -144,22 +146,22 @@ or_false : (b : Bool) → (b || false) ≡ b
 or_false true = refl
 or_false false = refl
 
-conflict_is : (r : RangeRow) (row : Row) (n : ℤ) → rowid row ≡ Int n → conflicts None ledger_schema.indexes ranges_table (stored r) row ≡ int_eq n r.num
+conflict_is : (o : Schema) (apart : index_apart o.indexes ≡ true) (r : RangeRow) (row : Row) (n : ℤ) → rowid row ≡ Int n → conflicts None (with_others o).indexes ranges_table (stored r) row ≡ int_eq n r.num
 unfolding first_key
-conflict_is r row n e = rw (e, or_false) (last_term (at_ints false Eq n r.num))
+conflict_is o apart r row n e = rw (e, none_shares 3 not_ranges None ranges_table refl (stored r) row o.indexes apart, or_false) (last_term (at_ints false Eq n r.num))
 
-module _ (r : RangeRow) (rows found : List Row) (numbered : AllByRecursion HasId rows) (hit : AreConflicts None ledger_schema.indexes ranges_table rows (stored r) found) where
+module _ (o : Schema) (apart : index_apart o.indexes ≡ true) (r : RangeRow) (rows found : List Row) (numbered : AllByRecursion HasId rows) (hit : AreConflicts None (with_others o).indexes ranges_table rows (stored r) found) where
   found_id : (x : Row) → Has found x → id_in (rowid x) ≡ r.num
   found_id x has =
       let s = hit.sound x has in
       let n = all_has HasId rows s.0 numbered s.1 in
-      let same : n.0 ≡ r.num = same_int n.0 r.num (sym (conflict_is r s.0 n.0 n.1) ∙ s.2) in
+      let same : n.0 ≡ r.num = same_int n.0 r.num (sym (conflict_is o apart r s.0 n.0 n.1) ∙ s.2) in
       ap (λ (y : Row). id_in (rowid y)) s.3 ∙ ap id_in n.1 ∙ same
 
   not_found : found ≡ [] → (row : Row) → Has rows row → has_rowid r.num row ≡ false
   not_found none row has =
       let n = all_has HasId rows row numbered has in
-      go (int_eq n.0 r.num) (has_id r.num n.0 row n.1) (λ is. subst (λ l. Has l (rowid row ∷ [])) none (hit.complete row has (conflict_is r row n.0 n.1 ∙ is)))
+      go (int_eq n.0 r.num) (has_id r.num n.0 row n.1) (λ is. subst (λ l. Has l (rowid row ∷ [])) none (hit.complete row has (conflict_is o apart r row n.0 n.1 ∙ is)))
     where
       go : (b : Bool) → has_rowid r.num row ≡ b → (int_eq (all_has HasId rows row numbered has).0 r.num ≡ true → ⊥) → has_rowid r.num row ≡ false
       go true is never = absurd (never (sym (has_id r.num (all_has HasId rows row numbered has).0 row (all_has HasId rows row numbered has).1) ∙ is))
@@ -182,10 +184,10 @@ stay_typed num ranges rows p =
     let right : filter test (map range_columns rows) ≡ map range_columns (filter (stays num) rows) = filter-map test range_columns rows in
     rw (← left, ← right) (IsPermutation-filter test _ _ p)
 
-typed_after : (ranges : List RangeRow) (r : RangeRow) (old new : Trees) (found : List Row) → Replaced old new (stored r) found → AreConflicts None ledger_schema.indexes ranges_table (old 3) (stored r) found
+typed_after : (o : Schema) (apart : index_apart o.indexes ≡ true) (ranges : List RangeRow) (r : RangeRow) (old new : Trees) (found : List Row) → Replaced old new (stored r) found → AreConflicts None (with_others o).indexes ranges_table (old 3) (stored r) found
     → IsPermutation (map shown_range ranges) (map range_columns (old 3)) → IsPermutation (map shown_range (with_range (Some r) ranges)) (map range_columns (new 3))
-typed_after ranges r old new found it hit p =
-    let left = left_are r (old 3) found (numbered_rows ranges (old 3) p) hit in
+typed_after o apart ranges r old new found it hit p =
+    let left = left_are o apart r (old 3) found (numbered_rows ranges (old 3) p) hit in
     one_more shown_range range_columns (filter (λ x. not (has_num r.num x)) ranges) r (filter (stays r.num) (old 3)) (new 3) (stored r) refl
     (subst (λ l. IsPermutation (stored r ∷ l) (new 3)) left it.put) (stay_typed r.num ranges (old 3) p)
 
@@ -193,18 +195,19 @@ pub marks : (old new : State) (r : RangeRow) (count : ℕ) (tables : Tables) →
     → HasTables new.now (record tables { ranges = with_range (Some r) tables.ranges })
 marks old new r count tables held h =
     let params = shown_range r in
-    let has = held.schema in
+    let has = held.schema.is in
+    let o = others_in old.now.schema in
     let command = InsertOr 2 Replace (Values mark_terms 7) [] in
-    let w = runs_as mark_text params old new ledger_schema has command mark_is mark_plain count h in
-    let text = statement_of mark_text (understood ledger_schema mark_text) in
-    let done = does_mark old.step_limit (mode_of old) old.now.trees r text w.tally new.now refl
+    let w = runs_as mark_text params old new (with_others o) has command (mark_is o) (mark_plain o) count h in
+    let text = statement_of mark_text (understood (with_others o) mark_text) in
+    let done = does_mark o held.schema.tables old.step_limit (mode_of old) old.now.trees r text w.tally new.now refl
     (subst (λ s. Does old.step_limit (mode_of old) params (record old.now { schema = s }) text None command (Ok (w.tally, new.now))) has w.changed) in
     let it = done.1.2 in
     record {
-      schema = done.0;
+      schema = is_as_it_was old.now.schema new.now.schema held.schema done.0;
       heads = rw it.head held.heads;
       calls = rw it.calls held.calls;
-      ranges = ∥∥₁_map held.ranges (λ p. typed_after tables.ranges r old.now.trees new.now.trees done.1.0 it done.1.1 p);
+      ranges = ∥∥₁_map held.ranges (λ p. typed_after o held.schema.indexes tables.ranges r old.now.trees new.now.trees done.1.0 it done.1.1 p);
       serials = rw it.serials held.serials;
       numbered = rw it.serials held.numbered;
     }

@@ -11,7 +11,7 @@ use Rattle.sqlite.specs.Listing.{understood}
 use Rattle.sqlite_trees.specs.declared.store.Store.{Ghosts}
 use Rattle.sqlite.specs.Effect.{Database}
 use Rattle.sqlite.specs.Held.{Held, state}
-use Rattle.s10_ledger.specs.Schema.{ledger_schema}
+use Rattle.s10_ledger.specs.Schema.{IsLedgerSchema}
 use Rattle.s10_ledger.specs.Statements.{Leaves}
 use Rattle.sqlite.specs.State.{State, HasCleanDisk, Shown, ShowsRows, IsUnchanged, FailsToQuery, FailsToShow, IsNotRun}
 
@@ -75,8 +75,8 @@ module _ {V : Type 0} (items : V → List Row) (sql : List ℕ) (params : Row) (
 pub leaves_then : {S : Type 0} (g : Ghosts S) (a b c : Held S) → Leaves g a b → Leaves g b c → Leaves g a c
 leaves_then g a b c p q =
     let mid : HasCleanDisk (state g c) → HasCleanDisk (state g b) = λ clean. omega (arith, q.clean) in
-    let schema : HasCleanDisk (state g c) → IsTrue (state g c).is_open → (state g a).now.schema ≡ ledger_schema → (state g b).now.schema ≡ ledger_schema =
-    λ clean opened has. ap (λ (d : Database). d.schema) (p.now (mid clean) (q.was_open clean opened) has) ∙ has in
+    let schema : HasCleanDisk (state g c) → IsTrue (state g c).is_open → IsLedgerSchema (state g a).now.schema → IsLedgerSchema (state g b).now.schema =
+    λ clean opened has. subst (λ (d : Database). IsLedgerSchema d.schema) (sym (p.now (mid clean) (q.was_open clean opened) has)) has in
     record {
       clean = omega (arith, p.clean, q.clean);
       was_open = λ clean opened. p.was_open (mid clean) (q.was_open clean opened);

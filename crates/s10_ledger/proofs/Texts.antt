@@ -10,10 +10,11 @@ use Rattle.sqlite_sql.specs.Term.{Term, lit, col, op2}
 use Rattle.sqlite_sql.specs.Query.{Query, inner, end}
 use Rattle.sqlite_schema.specs.declared.command.Command.TheVariants.{Select}
 use Rattle.sqlite_tied.specs.Compute.{everything}
+use Rattle.sqlite_schema.specs.declared.schema.Schema.{Schema}
 use Rattle.sqlite.specs.Listing.{understood, reads_listing}
 use Rattle.sqlite.specs.Given.{IsPlain}
 use Rattle.sqlite.proofs.Callers.{command_of}
-use Rattle.s10_ledger.specs.Schema.{ledger_schema}
+use Rattle.s10_ledger.specs.Schema.{with_others}
 use Rattle.s10_ledger.specs.Statements.{head_text, key_text, arrivals_text, calls_text, ranges_text, within_text, serials_text}
 
 -- a read of one table
@@ -54,104 +55,104 @@ serial_names = codes "pair" ∷ codes "serial" ∷ codes "arrival" ∷ codes "da
 abbrev pub head_query : Query
 head_query = read_of 0 [] (col 1 0 ∷ col 1 2 ∷ col 1 3 ∷ col 1 4 ∷ []) by_one
 
-pub head_is : command_of (understood ledger_schema head_text) ≡ Select (record { lets = []; body = head_query }) (codes "one" ∷ codes "schema" ∷ codes "interval" ∷ codes "cap" ∷ [])
+pub head_is : (o : Schema) → command_of (understood (with_others o) head_text) ≡ Select (record { lets = []; body = head_query }) (codes "one" ∷ codes "schema" ∷ codes "interval" ∷ codes "cap" ∷ [])
 unfolding understood everything
-head_is = refl
+head_is o = refl
 
-pub head_plain : IsPlain (understood ledger_schema head_text)
+pub head_plain : (o : Schema) → IsPlain (understood (with_others o) head_text)
 unfolding understood everything
-head_plain = (refl, refl)
+head_plain o = (refl, refl)
 
-pub head_unlisted : reads_listing ledger_schema head_text ≡ false
+pub head_unlisted : (o : Schema) → reads_listing (with_others o) head_text ≡ false
 unfolding understood everything
-head_unlisted = refl
+head_unlisted o = refl
 
 abbrev pub key_query : Query
 key_query = read_of 1 (equals 2 0 ∷ equals 3 1 ∷ []) call_terms by_one
 
-pub key_is : command_of (understood ledger_schema key_text) ≡ Select (record { lets = []; body = key_query }) (call_names)
+pub key_is : (o : Schema) → command_of (understood (with_others o) key_text) ≡ Select (record { lets = []; body = key_query }) (call_names)
 unfolding understood everything
-key_is = refl
+key_is o = refl
 
-pub key_plain : IsPlain (understood ledger_schema key_text)
+pub key_plain : (o : Schema) → IsPlain (understood (with_others o) key_text)
 unfolding understood everything
-key_plain = (refl, refl)
+key_plain o = (refl, refl)
 
-pub key_unlisted : reads_listing ledger_schema key_text ≡ false
+pub key_unlisted : (o : Schema) → reads_listing (with_others o) key_text ≡ false
 unfolding understood everything
-key_unlisted = refl
+key_unlisted o = refl
 
 abbrev pub arrivals_query : Query
 arrivals_query = read_of 1 (from_to 0 0 1) call_terms by_one
 
-pub arrivals_is : command_of (understood ledger_schema arrivals_text) ≡ Select (record { lets = []; body = arrivals_query }) (call_names)
+pub arrivals_is : (o : Schema) → command_of (understood (with_others o) arrivals_text) ≡ Select (record { lets = []; body = arrivals_query }) (call_names)
 unfolding understood everything
-arrivals_is = refl
+arrivals_is o = refl
 
-pub arrivals_plain : IsPlain (understood ledger_schema arrivals_text)
+pub arrivals_plain : (o : Schema) → IsPlain (understood (with_others o) arrivals_text)
 unfolding understood everything
-arrivals_plain = (refl, refl)
+arrivals_plain o = (refl, refl)
 
-pub arrivals_unlisted : reads_listing ledger_schema arrivals_text ≡ false
+pub arrivals_unlisted : (o : Schema) → reads_listing (with_others o) arrivals_text ≡ false
 unfolding understood everything
-arrivals_unlisted = refl
+arrivals_unlisted o = refl
 
 abbrev pub calls_query : Query
 calls_query = read_of 1 [] call_terms by_one
 
-pub calls_is : command_of (understood ledger_schema calls_text) ≡ Select (record { lets = []; body = calls_query }) (call_names)
+pub calls_is : (o : Schema) → command_of (understood (with_others o) calls_text) ≡ Select (record { lets = []; body = calls_query }) (call_names)
 unfolding understood everything
-calls_is = refl
+calls_is o = refl
 
-pub calls_plain : IsPlain (understood ledger_schema calls_text)
+pub calls_plain : (o : Schema) → IsPlain (understood (with_others o) calls_text)
 unfolding understood everything
-calls_plain = (refl, refl)
+calls_plain o = (refl, refl)
 
-pub calls_unlisted : reads_listing ledger_schema calls_text ≡ false
+pub calls_unlisted : (o : Schema) → reads_listing (with_others o) calls_text ≡ false
 unfolding understood everything
-calls_unlisted = refl
+calls_unlisted o = refl
 
 abbrev pub ranges_query : Query
 ranges_query = read_of 3 [] (col 1 0 ∷ col 1 2 ∷ col 1 3 ∷ col 1 4 ∷ col 1 5 ∷ col 1 6 ∷ []) by_one
 
-pub ranges_is : command_of (understood ledger_schema ranges_text) ≡ Select (record { lets = []; body = ranges_query }) (codes "num" ∷ codes "holder" ∷ codes "pair" ∷ codes "low" ∷ codes "high" ∷ codes "mark" ∷ [])
+pub ranges_is : (o : Schema) → command_of (understood (with_others o) ranges_text) ≡ Select (record { lets = []; body = ranges_query }) (codes "num" ∷ codes "holder" ∷ codes "pair" ∷ codes "low" ∷ codes "high" ∷ codes "mark" ∷ [])
 unfolding understood everything
-ranges_is = refl
+ranges_is o = refl
 
-pub ranges_plain : IsPlain (understood ledger_schema ranges_text)
+pub ranges_plain : (o : Schema) → IsPlain (understood (with_others o) ranges_text)
 unfolding understood everything
-ranges_plain = (refl, refl)
+ranges_plain o = (refl, refl)
 
-pub ranges_unlisted : reads_listing ledger_schema ranges_text ≡ false
+pub ranges_unlisted : (o : Schema) → reads_listing (with_others o) ranges_text ≡ false
 unfolding understood everything
-ranges_unlisted = refl
+ranges_unlisted o = refl
 
 abbrev pub within_query : Query
 within_query = read_of 4 (equals 1 0 ∷ from_to 2 1 2) serial_terms (col 1 1 ∷ col 1 2 ∷ [])
 
-pub within_is : command_of (understood ledger_schema within_text) ≡ Select (record { lets = []; body = within_query }) (serial_names)
+pub within_is : (o : Schema) → command_of (understood (with_others o) within_text) ≡ Select (record { lets = []; body = within_query }) (serial_names)
 unfolding understood everything
-within_is = refl
+within_is o = refl
 
-pub within_plain : IsPlain (understood ledger_schema within_text)
+pub within_plain : (o : Schema) → IsPlain (understood (with_others o) within_text)
 unfolding understood everything
-within_plain = (refl, refl)
+within_plain o = (refl, refl)
 
-pub within_unlisted : reads_listing ledger_schema within_text ≡ false
+pub within_unlisted : (o : Schema) → reads_listing (with_others o) within_text ≡ false
 unfolding understood everything
-within_unlisted = refl
+within_unlisted o = refl
 
 abbrev pub serials_query : Query
 serials_query = read_of 4 [] (col 1 1 ∷ col 1 2 ∷ col 1 3 ∷ col 1 4 ∷ col 1 5 ∷ col 1 6 ∷ col 1 7 ∷ col 1 0 ∷ []) (col 1 1 ∷ col 1 2 ∷ [])
 
-pub serials_is : command_of (understood ledger_schema serials_text) ≡ Select (record { lets = []; body = serials_query }) (codes "pair" ∷ codes "serial" ∷ codes "arrival" ∷ codes "day" ∷ codes "customer" ∷ codes "number" ∷ codes "voided" ∷ codes "rowid" ∷ [])
+pub serials_is : (o : Schema) → command_of (understood (with_others o) serials_text) ≡ Select (record { lets = []; body = serials_query }) (codes "pair" ∷ codes "serial" ∷ codes "arrival" ∷ codes "day" ∷ codes "customer" ∷ codes "number" ∷ codes "voided" ∷ codes "rowid" ∷ [])
 unfolding understood everything
-serials_is = refl
+serials_is o = refl
 
-pub serials_plain : IsPlain (understood ledger_schema serials_text)
+pub serials_plain : (o : Schema) → IsPlain (understood (with_others o) serials_text)
 unfolding understood everything
-serials_plain = (refl, refl)
+serials_plain o = (refl, refl)
 
-pub serials_unlisted : reads_listing ledger_schema serials_text ≡ false
+pub serials_unlisted : (o : Schema) → reads_listing (with_others o) serials_text ≡ false
 unfolding understood everything
-serials_unlisted = refl
+serials_unlisted o = refl

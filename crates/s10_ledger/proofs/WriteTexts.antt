@@ -11,33 +11,34 @@ use Rattle.sqlite_schema.specs.declared.command.Conflict.TheVariants.{Abort, Rep
 use Rattle.sqlite_schema.specs.declared.command.Upsert.{Upsert}
 use Rattle.sqlite_schema.specs.declared.command.Command.TheVariants.{Insert, InsertOr}
 use Rattle.sqlite_tied.specs.Compute.{everything}
+use Rattle.sqlite_schema.specs.declared.schema.Schema.{Schema}
 use Rattle.sqlite.specs.Listing.{understood}
 use Rattle.sqlite.specs.Given.{IsPlain}
 use Rattle.sqlite.proofs.Callers.{command_of}
-use Rattle.s10_ledger.specs.Schema.{ledger_schema}
+use Rattle.s10_ledger.specs.Schema.{with_others}
 use Rattle.s10_ledger.specs.Statements.{keep_text, mark_text, issue_text}
 
 abbrev pub keep_terms : List Term
 keep_terms = col 0 0 ∷ lit Null ∷ col 0 1 ∷ col 0 2 ∷ col 0 3 ∷ col 0 4 ∷ []
 
-pub keep_is : command_of (understood ledger_schema keep_text) ≡ Insert 1 (Values keep_terms 6)
+pub keep_is : (o : Schema) → command_of (understood (with_others o) keep_text) ≡ Insert 1 (Values keep_terms 6)
 unfolding understood everything
-keep_is = refl
+keep_is o = refl
 
-pub keep_plain : IsPlain (understood ledger_schema keep_text)
+pub keep_plain : (o : Schema) → IsPlain (understood (with_others o) keep_text)
 unfolding understood everything
-keep_plain = (refl, refl)
+keep_plain o = (refl, refl)
 
 abbrev pub mark_terms : List Term
 mark_terms = col 0 0 ∷ lit Null ∷ col 0 1 ∷ col 0 2 ∷ col 0 3 ∷ col 0 4 ∷ col 0 5 ∷ []
 
-pub mark_is : command_of (understood ledger_schema mark_text) ≡ InsertOr 2 Replace (Values mark_terms 7) []
+pub mark_is : (o : Schema) → command_of (understood (with_others o) mark_text) ≡ InsertOr 2 Replace (Values mark_terms 7) []
 unfolding understood everything
-mark_is = refl
+mark_is o = refl
 
-pub mark_plain : IsPlain (understood ledger_schema mark_text)
+pub mark_plain : (o : Schema) → IsPlain (understood (with_others o) mark_text)
 unfolding understood everything
-mark_plain = (refl, refl)
+mark_plain o = (refl, refl)
 
 abbrev pub issue_terms : List Term
 issue_terms = lit Null ∷ col 0 0 ∷ col 0 1 ∷ col 0 2 ∷ col 0 3 ∷ col 0 4 ∷ col 0 5 ∷ col 0 6 ∷ []
@@ -47,7 +48,7 @@ update_query = record {
   from = inner 4 end;
   filter = op2 (Compare Eq Binary) (col 1 0) (col 0 7) ∷ [];
   group = None;
-  project = col 1 0 ∷ col 1 0 ∷ col 1 1 ∷ col 1 2 ∷ col 0 11 ∷ col 0 12 ∷ col 0 13 ∷ col 0 14 ∷ col 0 15 ∷ [];
+  project = col 1 0 ∷ col 1 0 ∷ col 1 1 ∷ col 1 2 ∷ col 0 2 ∷ col 0 3 ∷ col 0 4 ∷ col 0 5 ∷ col 0 6 ∷ [];
   distinct = false;
   collations = [];
   order = [];
@@ -58,10 +59,10 @@ update_query = record {
 abbrev pub issue_upsert : Upsert
 issue_upsert = record { target = Some (1 ∷ 2 ∷ []); update = Some (record { lets = []; body = update_query }) }
 
-pub issue_is : command_of (understood ledger_schema issue_text) ≡ InsertOr 3 Abort (Values issue_terms 8) (issue_upsert ∷ [])
+pub issue_is : (o : Schema) → command_of (understood (with_others o) issue_text) ≡ InsertOr 3 Abort (Values issue_terms 8) (issue_upsert ∷ [])
 unfolding understood everything
-issue_is = refl
+issue_is o = refl
 
-pub issue_plain : IsPlain (understood ledger_schema issue_text)
+pub issue_plain : (o : Schema) → IsPlain (understood (with_others o) issue_text)
 unfolding understood everything
-issue_plain = (refl, refl)
+issue_plain o = (refl, refl)

@@ -11,7 +11,7 @@ use Rattle.s10_ledger.specs.declared.open_fault.OpenFault.TheVariants.{NotALedge
 use Rattle.s10_ledger.specs.CallRow.{StoredCall}
 use Rattle.s10_ledger.specs.Tables.{Tables}
 use Rattle.s10_ledger.specs.Verdict.{IsRefusal}
-use Rattle.s10_ledger.specs.Schema.{ledger_schema}
+use Rattle.s10_ledger.specs.Schema.{IsLedgerSchema}
 use Rattle.s10_ledger.specs.Shown.{HasTables}
 
 -- a table of one of the four names is there
@@ -40,7 +40,7 @@ pub record IsRefusedFor (db : Database) (fault : OpenFault) : Type 0 where
 
 -- what the opening of a database is refused for
 abbrev pub IsOpeningRefusal : Database → OpenFault → Type 0
-IsOpeningRefusal db NotALedger = (db.schema ≢ ledger_schema) ⊎ IsRefusedFor db NotALedger
+IsOpeningRefusal db NotALedger = (¬ IsLedgerSchema db.schema) ⊎ IsRefusedFor db NotALedger
 IsOpeningRefusal db (OtherSchema n) = IsRefusedFor db (OtherSchema n)
 IsOpeningRefusal db (Damaged k) = IsRefusedFor db (Damaged k)
 IsOpeningRefusal db NotEmpty = ⊥

@@ -1,5 +1,6 @@
--- The four tables of a ledger, as CREATE TABLE makes them in an empty database, each with its tree.
-use Rattle.std.specs.Prelude.{◌≡◌, true, false, [], ◌∷◌, Some, None, codes, List, ℕ, Bool, slice_index_or}
+-- The four tables of a ledger, as CREATE TABLE makes them in an empty database, each with its tree, and what may stand behind them.
+use Rattle.std.specs.Prelude.{◌≡◌, true, false, [], ◌∷◌, Some, None, codes, List, ℕ, Bool, not, ◌&&◌, ◌||◌, ◌==◌, drop, slice_index_or}
+use Rattle.std.specs.List.{list_all}
 use Rattle.sqlite_value.specs.declared.keys.Collation.TheVariants.{Binary}
 use Rattle.sqlite_value.specs.declared.value.Value.TheVariants.{Null, Int}
 use Rattle.sqlite_value.specs.Keys.{plain}
@@ -12,6 +13,8 @@ use Rattle.sqlite_schema.specs.declared.code.Op.TheVariants.{Literal}
 use Rattle.sqlite_schema.specs.declared.schema.Column.{Column}
 use Rattle.sqlite_schema.specs.declared.schema.Table.{Table}
 use Rattle.sqlite_schema.specs.declared.schema.Index.{Index}
+use Rattle.sqlite_schema.specs.declared.schema.Reference.{Reference}
+use Rattle.sqlite_schema.specs.Names.{same_name}
 use Rattle.sqlite_schema.specs.declared.schema.Schema.{Schema}
 use Rattle.sqlite_schema.specs.declared.schema.Kind.{Kind}
 use Rattle.sqlite_schema.specs.declared.schema.Kind.TheVariants.{Integer, Blob}
@@ -108,9 +111,35 @@ calls_index = record { name = codes "sqlite_autoindex_calls_1"; tree = 2; table 
 abbrev pub serials_index : Index
 serials_index = record { name = codes "sqlite_autoindex_serials_1"; tree = 5; table = 4; columns = 1 ∷ 2 ∷ []; order = plain; is_unique = true }
 
-abbrev pub ledger_schema : Schema
-ledger_schema = record { tables = head_table ∷ calls_table ∷ ranges_table ∷ serials_table ∷ []; indexes = calls_index ∷ serials_index ∷ []; views = [] }
-
 -- the schema of an empty database
 abbrev pub no_schema : Schema
 no_schema = record { tables = []; indexes = []; views = [] }
+
+-- the tables of a ledger, and others behind them
+abbrev pub with_others : Schema → Schema
+with_others o = record { tables = head_table ∷ calls_table ∷ ranges_table ∷ serials_table ∷ o.tables; indexes = calls_index ∷ serials_index ∷ o.indexes; views = o.views }
+
+-- what stands behind the first four tables and their two indexes
+abbrev pub others_in : Schema → Schema
+others_in s = record { tables = drop 4 s.tables; indexes = drop 2 s.indexes; views = s.views }
+
+abbrev pub is_own_tree : ℕ → Bool
+is_own_tree t = (t == 0) || ((t == 1) || ((t == 3) || (t == 4)))
+
+abbrev pub is_own_name : List ℕ → Bool
+is_own_name name = same_name (codes "head") name || (same_name (codes "calls") name || (same_name (codes "ranges") name || same_name (codes "serials") name))
+
+abbrev pub refer_apart : List Reference → Bool
+refer_apart refs = list_all (λ r. not (is_own_name r.parent)) refs
+
+abbrev pub are_apart : List Table → Bool
+are_apart tables = list_all (λ t. not (is_own_tree t.tree) && refer_apart t.references) tables
+
+abbrev pub index_apart : List Index → Bool
+index_apart indexes = list_all (λ i. not (is_own_tree i.table)) indexes
+
+-- The schema begins with the tables of a ledger and their indexes. No other table has a foreign key on them, and no other index is of them.
+pub record IsLedgerSchema (s : Schema) : Type 0 where
+  pub is : s ≡ with_others (others_in s)
+  pub tables : are_apart (drop 4 s.tables) ≡ true
+  pub indexes : index_apart (drop 2 s.indexes) ≡ true

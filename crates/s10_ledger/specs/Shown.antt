@@ -13,7 +13,7 @@ use Rattle.s10_ledger.specs.declared.range_row.RangeRow.{RangeRow}
 use Rattle.s10_ledger.specs.declared.serial_row.SerialRow.{SerialRow}
 use Rattle.s10_ledger.specs.CallRow.{StoredCall}
 use Rattle.s10_ledger.specs.Tables.{Tables, HaveSameRows, tables_of}
-use Rattle.s10_ledger.specs.Schema.{ledger_schema}
+use Rattle.s10_ledger.specs.Schema.{IsLedgerSchema}
 
 abbrev pub shown_head : HeadRow → Row
 shown_head r = Int r.one ∷ Int r.schema ∷ Int r.interval ∷ Int r.cap ∷ []
@@ -51,7 +51,7 @@ IsNumbered r = IsTrue (is_int (rowid r))
 
 -- the database has the four tables, with these rows; those of serials have rowids, which nothing shows
 pub record HasTables (db : Database) (tables : Tables) : Type 0 where
-  pub schema : db.schema ≡ ledger_schema
+  pub schema : IsLedgerSchema db.schema
   pub heads : HaveSameRows (map shown_head tables.heads) (map head_columns (db.trees 0))
   pub calls : HaveSameRows (map shown_call tables.calls) (map call_columns (db.trees 1))
   pub ranges : HaveSameRows (map shown_range tables.ranges) (map range_columns (db.trees 3))

@@ -4,7 +4,7 @@ use Rattle.sqlite_trees.specs.View.{doubt}
 use Rattle.sqlite_trees.specs.declared.store.Store.{Ghosts}
 use Rattle.sqlite.specs.State.{HasCleanDisk}
 use Rattle.sqlite.specs.Held.{Held, state}
-use Rattle.s10_ledger.specs.Schema.{ledger_schema}
+use Rattle.s10_ledger.specs.Schema.{IsLedgerSchema}
 
 abbrev pub head_text : List ℕ
 head_text = codes "SELECT one, schema, interval, cap FROM head ORDER BY one"
@@ -49,14 +49,14 @@ abbrev pub mark_text : List ℕ
 mark_text = codes "INSERT OR REPLACE INTO ranges (num, holder, pair, low, high, mark) VALUES (?1, ?2, ?3, ?4, ?5, ?6)"
 
 abbrev pub issue_text : List ℕ
-issue_text = codes "INSERT INTO serials (pair, serial, arrival, day, customer, number, voided) VALUES (?1, ?2, ?3, ?4, ?5, ?6, ?7) ON CONFLICT (pair, serial) DO UPDATE SET arrival = excluded.arrival, day = excluded.day, customer = excluded.customer, number = excluded.number, voided = excluded.voided"
+issue_text = codes "INSERT INTO serials (pair, serial, arrival, day, customer, number, voided) VALUES (?1, ?2, ?3, ?4, ?5, ?6, ?7) ON CONFLICT (pair, serial) DO UPDATE SET arrival = ?3, day = ?4, customer = ?5, number = ?6, voided = ?7"
 
 -- A read leaves the tables as they were. What is said of them holds where the store is clean and the connection open as the
 -- read ends; the disk does not come clean again.
 pub record Leaves {S : Type 0} (g : Ghosts S) (old new : Held S) : Type 0 where
   pub clean : doubt (state g old).is_clean ≤ doubt (state g new).is_clean
   pub was_open : HasCleanDisk (state g new) → IsTrue (state g new).is_open → IsTrue (state g old).is_open
-  pub now : HasCleanDisk (state g new) → IsTrue (state g new).is_open → (state g old).now.schema ≡ ledger_schema → (state g new).now ≡ (state g old).now
-  pub committed : HasCleanDisk (state g new) → IsTrue (state g new).is_open → (state g old).now.schema ≡ ledger_schema
+  pub now : HasCleanDisk (state g new) → IsTrue (state g new).is_open → IsLedgerSchema (state g old).now.schema → (state g new).now ≡ (state g old).now
+  pub committed : HasCleanDisk (state g new) → IsTrue (state g new).is_open → IsLedgerSchema (state g old).now.schema
       → (state g new).committed ≡ (state g old).committed
   pub mode : old.in_transaction ≡ false → new.in_transaction ≡ false

@@ -3,7 +3,7 @@
 ghost use Rattle.std.specs.Prelude.{◌≡◌, IfOk, IsTrue};
 ghost use Rattle.sqlite.specs.Held.{state};
 ghost use Rattle.sqlite.specs.State.{HasCleanDisk};
-ghost use Rattle.s10_ledger.specs.Schema.{ledger_schema};
+ghost use Rattle.s10_ledger.specs.Schema.{IsLedgerSchema};
 ghost use Rattle.s10_ledger.specs.Statements.{Leaves};
 ghost use Rattle.s10_ledger.specs.Refusals.{HasRows};
 
@@ -36,7 +36,7 @@ impl Model for AllRows {
 impl AllRows {
     pub(crate) fn read<S: Alter>(alloc: Global, conn: &mut Connection<S>) -> Result<AllRows, Error>
         ensures leaves { Leaves S.Store conn.old conn.new }
-        ensures rows { HasCleanDisk (state S.Store conn.new) → IsTrue (state S.Store conn.new).is_open → (state S.Store conn.old).now.schema ≡ ledger_schema
+        ensures rows { HasCleanDisk (state S.Store conn.new) → IsTrue (state S.Store conn.new).is_open → IsLedgerSchema (state S.Store conn.old).now.schema
             → IfOk result (HasRows (state S.Store conn.old).now) }
     {
         let heads = all_heads(alloc, conn)?;

@@ -9,7 +9,7 @@ ghost use Rattle.s10_book.specs.declared.entry.Entry.{Entry};
 ghost use Rattle.s10_book.specs.declared.book_fault.BookFault.TheVariants.{Full};
 ghost use Rattle.s10_book.specs.Settings.{Terms};
 ghost use Rattle.s10_book.specs.Rules.{IsLegal, MayFollow};
-ghost use Rattle.s10_ledger.specs.Schema.{ledger_schema};
+ghost use Rattle.s10_ledger.specs.Schema.{IsLedgerSchema};
 ghost use Rattle.s10_ledger.specs.Shown.{StandsFor};
 ghost use Rattle.s10_ledger.specs.Selected.{IsCall};
 ghost use Rattle.s10_ledger.specs.Tables.{serial_rows};
@@ -106,7 +106,7 @@ pub(crate) fn keep_call<S: Alter>(
     ensures was_open { HasCleanDisk (state S.Store conn.new) → IsTrue (state S.Store conn.new).is_open → IsTrue (state S.Store conn.old).is_open }
     ensures ok { HasCleanDisk (state S.Store conn.new) → IsTrue (state S.Store conn.new).is_open → (h : List Entry) (t : Terms) → IsLegal h t → MayFollow h t entry.now → All IsCall h → StandsFor (state S.Store conn.old).now h t
         → arrival ≡ length h + 1 → OnOk result (IsCall entry.now × StandsFor (state S.Store conn.new).now (h ++ entry.now ∷ []) t) }
-    ensures err { HasCleanDisk (state S.Store conn.new) → IsTrue (state S.Store conn.new).is_open → (state S.Store conn.old).now.schema ≡ ledger_schema
+    ensures err { HasCleanDisk (state S.Store conn.new) → IsTrue (state S.Store conn.new).is_open → IsLedgerSchema (state S.Store conn.old).now.schema
         → OnErr result ((state S.Store conn.new).now ≡ (state S.Store conn.old).now) }
 {
     let _day = entry.day;
@@ -146,7 +146,7 @@ pub(crate) fn keep_next<S: Alter>(
     ensures same_counts { OnErr result ((len.new ≡ len.old) × (day.new ≡ day.old)) }
     ensures ok { HasCleanDisk (state S.Store conn.new) → IsTrue (state S.Store conn.new).is_open → (h : List Entry) (t : Terms) → IsLegal h t → MayFollow h t entry.now → All IsCall h → StandsFor (state S.Store conn.old).now h t
         → len.old ≡ length h → OnOk result (IsCall entry.now × StandsFor (state S.Store conn.new).now (h ++ entry.now ∷ []) t) }
-    ensures err { HasCleanDisk (state S.Store conn.new) → IsTrue (state S.Store conn.new).is_open → (state S.Store conn.old).now.schema ≡ ledger_schema
+    ensures err { HasCleanDisk (state S.Store conn.new) → IsTrue (state S.Store conn.new).is_open → IsLedgerSchema (state S.Store conn.old).now.schema
         → OnErr result ((state S.Store conn.new).now ≡ (state S.Store conn.old).now) }
 {
     if *len >= limit {

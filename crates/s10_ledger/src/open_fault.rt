@@ -6,7 +6,8 @@ use thiserror::Error;
 /// Why a ledger could not be made or opened.
 #[derive(Clone, Copy, Debug, PartialEq, Eq, Error)]
 pub enum OpenFault {
-    /// The tables are not declared as a ledger's, another one is there, or `head` is not one row with settings in their limits.
+    /// The first tables are not declared as a ledger's, another one refers to them or an index is on them, or `head` is not one
+    /// row with settings in their limits.
     #[error("not-a-ledger")]
     NotALedger,
     /// The number of the schema is not 1.

@@ -119,7 +119,7 @@ fn schema_of_a_ledger_is_known(rt: HostRuntime) -> Result<(), Fail> {
 
 #[test]
 fn other_databases_are_no_ledgers(rt: HostRuntime) -> Result<(), Fail> {
-    let cases: [(&str, Result<(u32, u32), OpenFault>); 6] = [
+    let cases: [(&str, Result<(u32, u32), OpenFault>); 8] = [
         (HEAD, Ok((0, 0))),
         ("", Err(OpenFault::NotALedger)),
         (
@@ -131,7 +131,15 @@ fn other_databases_are_no_ledgers(rt: HostRuntime) -> Result<(), Fail> {
             Err(OpenFault::NotALedger),
         ),
         (
-            "INSERT INTO head (one, schema, interval, cap) VALUES (1, 1, 30, 100); CREATE TABLE other (n INTEGER NOT NULL) STRICT",
+            "INSERT INTO head (one, schema, interval, cap) VALUES (1, 1, 30, 100); CREATE TABLE other (n INTEGER NOT NULL) STRICT; CREATE INDEX by_n ON other (n); CREATE VIEW late AS SELECT arrival FROM calls WHERE day > 20000",
+            Ok((0, 0)),
+        ),
+        (
+            "INSERT INTO head (one, schema, interval, cap) VALUES (1, 1, 30, 100); CREATE TABLE other (n INTEGER NOT NULL REFERENCES CALLS) STRICT",
+            Err(OpenFault::NotALedger),
+        ),
+        (
+            "INSERT INTO head (one, schema, interval, cap) VALUES (1, 1, 30, 100); CREATE INDEX by_day ON calls (day)",
             Err(OpenFault::NotALedger),
         ),
         (

@@ -6,12 +6,13 @@ ghost use Rattle.std.specs.Ordering.{int_cmp};
 ghost use Rattle.std.specs.declared.cmp.Ordering.TheVariants as Ordering;
 ghost use Rattle.sqlite_trees.specs.Tree.{IsAscending};
 ghost use Rattle.sqlite.specs.Held.{state};
+ghost use Rattle.sqlite_schema.specs.declared.schema.Schema.{Schema};
 ghost use Rattle.sqlite.specs.State.{HasCleanDisk, Shown};
 ghost use Rattle.sqlite.specs.Given.{IsPlain};
 ghost use Rattle.sqlite.specs.Listing.{understood};
 ghost use Rattle.sqlite.specs.Values.{bound};
 ghost use Rattle.s10_ledger.specs.Tables.{Tables, HaveSameRows};
-ghost use Rattle.s10_ledger.specs.Schema.{ledger_schema};
+ghost use Rattle.s10_ledger.specs.Schema.{IsLedgerSchema, with_others};
 ghost use Rattle.s10_ledger.specs.Shown.{HasTables, shown_head, shown_call, shown_range, shown_serial, head_columns, call_columns, range_columns, serial_columns, IsNumbered};
 ghost use Rattle.s10_ledger.specs.Selected.{has_key_columns, arrives_between, is_within};
 ghost use Rattle.s10_ledger.specs.Statements.{Leaves};
@@ -31,7 +32,7 @@ fn read<S: Alter>(
     sql: &str,
     params: &[ValueRef<'_>],
 ) -> Result<Vec<Row>, Error>
-    ensures leaves { IsPlain (understood ledger_schema sql.now) → Leaves S.Store conn.old conn.new }
+    ensures leaves { ((o : Schema) → IsPlain (understood (with_others o) sql.now)) → Leaves S.Store conn.old conn.new }
     ensures rows { HasCleanDisk (state S.Store conn.new) → IfOk result (λ rows. Shown sql.now (bound params.now) (state S.Store conn.old) (state S.Store conn.new) rows.items) }
 {
     if !conn.is_autocommit() {
@@ -46,7 +47,7 @@ pub(crate) fn all_heads<S: Alter>(
     conn: &mut Connection<S>,
 ) -> Result<Vec<HeadRow>, Error>
     ensures leaves { Leaves S.Store conn.old conn.new }
-    ensures rows { HasCleanDisk (state S.Store conn.new) → IfOk result (λ rows. (state S.Store conn.old).now.schema ≡ ledger_schema
+    ensures rows { HasCleanDisk (state S.Store conn.new) → IfOk result (λ rows. IsLedgerSchema (state S.Store conn.old).now.schema
         → HaveSameRows (map shown_head rows.items) (map head_columns ((state S.Store conn.old).now.trees 0))) }
 {
     let rows = read(
@@ -101,11 +102,11 @@ pub(crate) fn all_calls<S: Alter>(
     conn: &mut Connection<S>,
 ) -> Result<Vec<CallRow>, Error>
     ensures leaves { Leaves S.Store conn.old conn.new }
-    ensures rows { HasCleanDisk (state S.Store conn.new) → IfOk result (λ rows. (state S.Store conn.old).now.schema ≡ ledger_schema
+    ensures rows { HasCleanDisk (state S.Store conn.new) → IfOk result (λ rows. IsLedgerSchema (state S.Store conn.old).now.schema
         → HaveSameRows (map shown_call rows.items) (map call_columns ((state S.Store conn.old).now.trees 1))) }
     ensures in_order { HasCleanDisk (state S.Store conn.new) → IfOk result (λ rows. (tables : Tables) → HasTables (state S.Store conn.old).now tables
         → IsAscending (λ a b. int_cmp a.arrival b.arrival ≡ Ordering.Less) tables.calls → rows.items ≡ tables.calls) }
-    ensures sorted { HasCleanDisk (state S.Store conn.new) → IfOk result (λ rows. (state S.Store conn.old).now.schema ≡ ledger_schema
+    ensures sorted { HasCleanDisk (state S.Store conn.new) → IfOk result (λ rows. IsLedgerSchema (state S.Store conn.old).now.schema
         → IsAscending (λ a b. int_cmp a.arrival b.arrival ≢ Ordering.Greater) rows.items) }
 {
     let rows = read(
@@ -122,7 +123,7 @@ pub(crate) fn all_ranges<S: Alter>(
     conn: &mut Connection<S>,
 ) -> Result<Vec<RangeRow>, Error>
     ensures leaves { Leaves S.Store conn.old conn.new }
-    ensures rows { HasCleanDisk (state S.Store conn.new) → IfOk result (λ rows. (state S.Store conn.old).now.schema ≡ ledger_schema
+    ensures rows { HasCleanDisk (state S.Store conn.new) → IfOk result (λ rows. IsLedgerSchema (state S.Store conn.old).now.schema
         → HaveSameRows (map shown_range rows.items) (map range_columns ((state S.Store conn.old).now.trees 3))) }
     ensures in_order { HasCleanDisk (state S.Store conn.new) → IfOk result (λ rows. (tables : Tables) → HasTables (state S.Store conn.old).now tables
         → IsAscending (λ a b. int_cmp a.num b.num ≡ Ordering.Less) tables.ranges → rows.items ≡ tables.ranges) }
@@ -161,9 +162,9 @@ pub(crate) fn all_serials<S: Alter>(
     conn: &mut Connection<S>,
 ) -> Result<Vec<SerialRow>, Error>
     ensures leaves { Leaves S.Store conn.old conn.new }
-    ensures rows { HasCleanDisk (state S.Store conn.new) → IfOk result (λ rows. (state S.Store conn.old).now.schema ≡ ledger_schema
+    ensures rows { HasCleanDisk (state S.Store conn.new) → IfOk result (λ rows. IsLedgerSchema (state S.Store conn.old).now.schema
         → HaveSameRows (map shown_serial rows.items) (map serial_columns ((state S.Store conn.old).now.trees 4))) }
-    ensures numbered { HasCleanDisk (state S.Store conn.new) → OnOk result ((state S.Store conn.old).now.schema ≡ ledger_schema → AllByRecursion IsNumbered ((state S.Store conn.old).now.trees 4)) }
+    ensures numbered { HasCleanDisk (state S.Store conn.new) → OnOk result (IsLedgerSchema (state S.Store conn.old).now.schema → AllByRecursion IsNumbered ((state S.Store conn.old).now.trees 4)) }
 {
     let rows = read(
         conn,

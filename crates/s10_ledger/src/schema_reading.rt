@@ -1,17 +1,19 @@
 //! The declared tables are compared with a ledger's.
 
-ghost use Rattle.std.specs.Prelude.{◌≡◌, ◌↔◌, ℕ, pos, true, [], ◌∷◌, drop, IsTrue, IfSome, IfNone};
+ghost use Rattle.std.specs.Prelude.{◌≡◌, not, ◌&&◌, ◌↔◌, ℕ, pos, true, [], ◌∷◌, drop, IsTrue, IfSome, IfNone};
 ghost use Rattle.sqlite_value.specs.declared.keys.Collation.TheVariants.{Binary};
 ghost use Rattle.sqlite_value.specs.declared.value.Value.TheVariants.{Int};
 ghost use Rattle.sqlite_sql.specs.declared.ops.BinaryOp.TheVariants.{Compare};
 ghost use Rattle.sqlite_sql.specs.declared.ops.CompareOp.TheVariants.{Eq};
 ghost use Rattle.sqlite_schema.specs.Code.{term_in};
 ghost use Rattle.sqlite_value.specs.Keys.{plain};
-ghost use Rattle.s10_ledger.specs.Schema.{column_of, integer, one_is_one, head_table, calls_table, ranges_table, serials_table, ledger_schema, IsBare, node_at};
+ghost use Rattle.s10_ledger.specs.Schema.{column_of, integer, one_is_one, head_table, calls_table, ranges_table, serials_table, calls_index, serials_index, IsLedgerSchema, IsBare, node_at};
+ghost use Rattle.s10_ledger.specs.Schema as spec;
 
 use sqlite_items::{Items, at};
 use sqlite_schema::code::{Op, Terms};
-use sqlite_schema::schema::{Column, Index, Kind, Schema, Stamps, Table};
+use sqlite_schema::names::same_name;
+use sqlite_schema::schema::{Column, Index, Kind, Reference, Schema, Stamps, Table};
 use sqlite_sql::ops::{BinaryOp, CompareOp};
 use sqlite_value::keys::{Collation, Order};
 use sqlite_value::value::Value;
@@ -294,30 +296,77 @@ fn is_index(index: &Index, name: &[u8], tree: u32, table: u32, places: &[usize])
         && index.is_unique
 }
 
-fn are_tables(tables: &[Table]) -> bool
-    ensures { IsTrue result ↔ (tables.now ≡ ledger_schema.tables) }
+// Whether a ledger has a table of that tree.
+fn is_own_tree(tree: u32) -> bool
+    ensures { result ≡ spec.is_own_tree tree }
 {
-    let [head, calls, ranges, serials] = tables else {
+    tree == 0 || tree == 1 || tree == 3 || tree == 4
+}
+
+// Whether a ledger has a table of that name, without regard to case.
+fn is_own_name(name: &[u8]) -> bool
+    ensures { result ≡ spec.is_own_name name.now }
+{
+    same_name(b"head", name)
+        || same_name(b"calls", name)
+        || same_name(b"ranges", name)
+        || same_name(b"serials", name)
+}
+
+// Whether none of the foreign keys is on a table of a ledger.
+fn refer_apart(references: &[Reference]) -> bool
+    ensures { result ≡ spec.refer_apart references.now }
+{
+    references.iter().all(|r| !is_own_name(r.parent.as_slice()))
+}
+
+fn is_apart(table: &Table) -> bool
+    ensures { result ≡ (not (spec.is_own_tree table.now.tree) && spec.refer_apart table.now.references) }
+{
+    !is_own_tree(table.tree) && refer_apart(table.references.as_slice())
+}
+
+// Whether the tables are no part of a ledger and refer to none of its tables.
+fn are_apart(tables: &[Table]) -> bool
+    ensures { result ≡ spec.are_apart tables.now }
+{
+    tables.iter().all(|t| is_apart(t))
+}
+
+// Whether the indexes are of other tables.
+fn index_apart(indexes: &[Index]) -> bool
+    ensures { result ≡ spec.index_apart indexes.now }
+{
+    indexes.iter().all(|i| !is_own_tree(i.table))
+}
+
+fn are_tables(tables: &[Table]) -> bool
+    ensures { IsTrue result ↔ ((tables.now ≡ head_table ∷ calls_table ∷ ranges_table ∷ serials_table ∷ drop 4 tables.now) × (spec.are_apart (drop 4 tables.now) ≡ true)) }
+{
+    let [head, calls, ranges, serials, others @ ..] = tables else {
         return false;
     };
-    is_head(head) && is_calls(calls) && is_ranges(ranges) && is_serials(serials)
+    is_head(head)
+        && is_calls(calls)
+        && is_ranges(ranges)
+        && is_serials(serials)
+        && are_apart(others)
 }
 
 fn are_indexes(indexes: &[Index]) -> bool
-    ensures { IsTrue result ↔ (indexes.now ≡ ledger_schema.indexes) }
+    ensures { IsTrue result ↔ ((indexes.now ≡ calls_index ∷ serials_index ∷ drop 2 indexes.now) × (spec.index_apart (drop 2 indexes.now) ≡ true)) }
 {
-    let [calls, serials] = indexes else {
+    let [calls, serials, others @ ..] = indexes else {
         return false;
     };
     is_index(calls, b"sqlite_autoindex_calls_1", 2, 1, &[2, 3])
         && is_index(serials, b"sqlite_autoindex_serials_1", 5, 4, &[1, 2])
+        && index_apart(others)
 }
 
-// Whether the tables are declared as those of a ledger are, and nothing else is declared.
+// Whether the first tables are declared as those of a ledger are, and no other has a part in them.
 pub(crate) fn is_ledger_schema(schema: &Schema) -> bool
-    ensures { IsTrue result ↔ (schema.now ≡ ledger_schema) }
+    ensures { IsTrue result ↔ IsLedgerSchema schema.now }
 {
-    are_tables(schema.tables.as_slice())
-        && are_indexes(schema.indexes.as_slice())
-        && schema.views.is_empty()
+    are_tables(schema.tables.as_slice()) && are_indexes(schema.indexes.as_slice())
 }

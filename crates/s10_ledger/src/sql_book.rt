@@ -89,10 +89,11 @@ impl<S: Alter> SqlBook<S> {
     }
 
     /// Opens a ledger: all its calls are done again, and every table is compared with what they
-    /// make. A ledger has its database for itself. Refused with NotALedger where the tables are not
-    /// declared as a ledger's, another table, index or view is there, or `head` is not its one row,
-    /// with Schema, with Damaged and the first call that is wrong, or 0 where another row is, with
-    /// Memory, and with Store where a statement failed; a refusal leaves the tables as they are.
+    /// make. Other tables may stand behind its four. Refused with NotALedger where the first tables
+    /// are not declared as a ledger's, another one refers to them or an index is on them, or `head`
+    /// is not its one row, with Schema, with Damaged and the first call that is wrong, or 0 where
+    /// another row is, with Memory, and with Store where a statement failed; a refusal leaves the
+    /// tables as they are.
     pub fn open(alloc: Global, mut conn: Connection<S>) -> Result<SqlBook<S>, Refused<S>>
         requires idle { conn.in_transaction ≡ false }
         ensures new { IfOk result (λ b. b.faults ≡ 0) }

@@ -95,7 +95,7 @@ pub(crate) fn put_serial<S: Alter>(
         voided,
     } = *serial;
     let changed = tx.execute(
-        "INSERT INTO serials (pair, serial, arrival, day, customer, number, voided) VALUES (?1, ?2, ?3, ?4, ?5, ?6, ?7) ON CONFLICT (pair, serial) DO UPDATE SET arrival = excluded.arrival, day = excluded.day, customer = excluded.customer, number = excluded.number, voided = excluded.voided",
+        "INSERT INTO serials (pair, serial, arrival, day, customer, number, voided) VALUES (?1, ?2, ?3, ?4, ?5, ?6, ?7) ON CONFLICT (pair, serial) DO UPDATE SET arrival = ?3, day = ?4, customer = ?5, number = ?6, voided = ?7",
         params![pair, serial, arrival, day, customer, number, voided],
     )?;
     if changed == 1 {

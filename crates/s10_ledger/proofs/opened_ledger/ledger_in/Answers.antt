@@ -3,7 +3,7 @@ use Rattle.std.proofs.lemmas.Result.{IfOk-weaker, IfErr-weaker}
 use Rattle.sqlite.specs.Effect.{Database}
 use Rattle.sqlite.specs.Held.{state}
 use Rattle.s10_ledger.specs.Refusals.{HasRows}
-use Rattle.s10_ledger.specs.Schema.{ledger_schema}
+use Rattle.s10_ledger.specs.Schema.{IsLedgerSchema}
 use Rattle.s10_ledger.specs.Tables.{Tables}
 use Rattle.s10_ledger.specs.Verdict.{IsWhole, IsRefusal}
 use Rattle.s10_ledger.proofs.WholeLemmas.{whole_few, whole_ledger, refused_for, these_tables}
@@ -20,7 +20,7 @@ returns-clause-ledger g c clean opened =
     let tables : Tables = record { heads = c.deref.result.now; calls = c.deref-2.result.now; ranges = c.deref-3.result.now; serials = c.deref-4.result.now } in
     let inside : Tables = record { heads = c.rows.inside.heads.items; calls = c.rows.inside.calls.items; ranges = c.rows.inside.ranges.items; serials = c.rows.inside.serials.items } in
     let is : c.in-Ok.rows ≡ tables = sym c.rows.view_is ∙ these_tables _ _ _ _ inside c.deref.ensures.value c.deref-2.ensures.value c.deref-3.ensures.value c.deref-4.ensures.value in
-    let declared : db.schema ≡ ledger_schema = sym c.schema.ensures.value ∙ c.is_ledger_schema.ensures.0 (search rules) in
+    let declared : IsLedgerSchema db.schema = subst IsLedgerSchema c.schema.ensures.value (c.is_ledger_schema.ensures.0 (search rules)) in
     let rows : HasRows db tables = subst (HasRows db) is (c.in-Ok.ensures.rows clean opened declared) in
     IfOk-weaker c.verdict.result (IsWhole tables) _ (λ found whole. whole_ledger db tables found rows.has whole) c.verdict.ensures.ok
 
@@ -30,6 +30,6 @@ returns-clause-refused g c clean opened =
     let tables : Tables = record { heads = c.deref.result.now; calls = c.deref-2.result.now; ranges = c.deref-3.result.now; serials = c.deref-4.result.now } in
     let inside : Tables = record { heads = c.rows.inside.heads.items; calls = c.rows.inside.calls.items; ranges = c.rows.inside.ranges.items; serials = c.rows.inside.serials.items } in
     let is : c.in-Ok.rows ≡ tables = sym c.rows.view_is ∙ these_tables _ _ _ _ inside c.deref.ensures.value c.deref-2.ensures.value c.deref-3.ensures.value c.deref-4.ensures.value in
-    let declared : db.schema ≡ ledger_schema = sym c.schema.ensures.value ∙ c.is_ledger_schema.ensures.0 (search rules) in
+    let declared : IsLedgerSchema db.schema = subst IsLedgerSchema c.schema.ensures.value (c.is_ledger_schema.ensures.0 (search rules)) in
     let rows : HasRows db tables = subst (HasRows db) is (c.in-Ok.ensures.rows clean opened declared) in
     IfErr-weaker c.verdict.result (IsRefusal tables) _ (refused_for db tables rows) c.verdict.ensures.err
