@@ -20,7 +20,7 @@ use Rattle.s10_book.specs.Settings.{Terms}
 use Rattle.s10_ledger.specs.Schema.{IsLedgerSchema}
 use Rattle.s10_ledger.specs.Statements.{Leaves}
 use Rattle.s10_ledger.specs.Ledger.{Ledger, IsLedger, Holds, IsHonest, history_in}
-use Rattle.s10_ledger.specs.Selected.{IsCall}
+use Rattle.s10_rows.specs.Selected.{IsCall}
 use Rattle.s10_ledger.specs.Shown.{StandsFor}
 use Rattle.s10_ledger.proofs.HistoryLemmas.{history_is}
 use Rattle.s10_ledger.proofs.Apart.{is_ledger-prop}

@@ -11,14 +11,14 @@ use Rattle.sqlite_value.specs.Order.{Row, column}
 use Rattle.sqlite_trees.specs.Tree.{IsAscending}
 use Rattle.sqlite_trees.specs.Props.{rows_set}
 use Rattle.sqlite.specs.State.{State, Shown}
-use Rattle.s10_ledger.specs.declared.head_row.HeadRow.{HeadRow}
-use Rattle.s10_ledger.specs.declared.range_row.RangeRow.{RangeRow}
-use Rattle.s10_ledger.specs.declared.serial_row.SerialRow.{SerialRow}
-use Rattle.s10_ledger.specs.CallRow.{StoredCall}
+use Rattle.s10_rows.specs.declared.head_row.HeadRow.{HeadRow}
+use Rattle.s10_rows.specs.declared.range_row.RangeRow.{RangeRow}
+use Rattle.s10_rows.specs.declared.serial_row.SerialRow.{SerialRow}
+use Rattle.s10_rows.specs.CallRow.{StoredCall}
 use Rattle.s10_ledger.specs.Schema.{IsLedgerSchema}
-use Rattle.s10_ledger.specs.Tables.{Tables, HaveSameRows}
+use Rattle.s10_rows.specs.Tables.{Tables, HaveSameRows}
 use Rattle.s10_ledger.specs.Shown.{HasTables, shown_head, shown_call, shown_range, shown_serial, head_columns, call_columns, range_columns, serial_columns, serial_front, IsNumbered}
-use Rattle.s10_ledger.specs.Selected.{has_key_columns, arrives_between, is_within}
+use Rattle.s10_rows.specs.Selected.{has_key_columns, arrives_between, is_within}
 use Rattle.s10_ledger.specs.Statements.{head_text, key_text, arrivals_text, calls_text, ranges_text, within_text, serials_text}
 use Rattle.s10_ledger.proofs.ReadLemmas.{read_back}
 use Rattle.s10_ledger.proofs.GoneLemmas.{all_moved, all_of_map}

@@ -13,17 +13,17 @@ use Rattle.s10_book.specs.declared.entry.Entry.{Entry}
 use Rattle.s10_book.specs.declared.issuance.Issuance.{Issuance}
 use Rattle.s10_book.specs.Settings.{Terms}
 use Rattle.s10_book.specs.Issues.{issues_of, is_of, last_issues, last_issuance_of, voided_after}
-use Rattle.s10_ledger.specs.declared.range_row.RangeRow.{RangeRow}
-use Rattle.s10_ledger.specs.declared.serial_row.SerialRow.{SerialRow}
-use Rattle.s10_ledger.specs.CallRow.{StoredCall}
-use Rattle.s10_ledger.specs.Replies.{reply_bytes}
-use Rattle.s10_ledger.specs.Tables.{Tables, HaveSameRows, tables_of, pair_of, call_row, call_rows_from, call_rows, range_rows, serial_row, serial_rows}
-use Rattle.s10_ledger.specs.Kept.{is_at, with_range, with_serial, Makes}
-use Rattle.s10_ledger.specs.Selected.{IsCall, IsIssuance, is_within}
+use Rattle.s10_rows.specs.declared.range_row.RangeRow.{RangeRow}
+use Rattle.s10_rows.specs.declared.serial_row.SerialRow.{SerialRow}
+use Rattle.s10_rows.specs.CallRow.{StoredCall}
+use Rattle.s10_rows.specs.Replies.{reply_bytes}
+use Rattle.s10_rows.specs.Tables.{Tables, HaveSameRows, tables_of, pair_of, call_row, call_rows_from, call_rows, range_rows, serial_row, serial_rows}
+use Rattle.s10_rows.specs.Kept.{is_at, with_range, with_serial, Makes}
+use Rattle.s10_rows.specs.Selected.{IsCall, IsIssuance, is_within}
 use Rattle.s10_ledger.specs.Shown.{HasTables, StandsFor, shown_call, shown_range, shown_serial}
 use Rattle.s10_ledger.proofs.GoneLemmas.{same_int}
-use Rattle.s10_ledger.proofs.LastIssues.{last_of, All-last_issues}
-use Rattle.s10_ledger.proofs.SerialRows.{issues_of_fit, row_of_is, filter_image}
+use Rattle.s10_rows.proofs.LastIssues.{last_of, All-last_issues}
+use Rattle.s10_rows.proofs.SerialRows.{issues_of_fit, row_of_is, filter_image}
 
 none_or_one : {X : Type 0} (p : X → Bool) (xs : List X) → (filter p xs ≡ []) ⊎ ((x : X) × Has xs x × (p x ≡ true))
 none_or_one p [] = inl refl

@@ -31,10 +31,10 @@ use Rattle.sqlite.specs.Rows.{Written, Task, Tries, Judged, Clears, Puts, TriesE
 use Rattle.sqlite.specs.Listing.{understood}
 use Rattle.sqlite.specs.State.{State, mode_of, Executes}
 use Rattle.sqlite.proofs.Callers.{statement_of, runs_as, one_step}
-use Rattle.s10_ledger.specs.declared.range_row.RangeRow.{RangeRow}
+use Rattle.s10_rows.specs.declared.range_row.RangeRow.{RangeRow}
 use Rattle.s10_ledger.specs.Schema.{with_others, others_in, are_apart, index_apart, ranges_table}
-use Rattle.s10_ledger.specs.Tables.{Tables, HaveSameRows}
-use Rattle.s10_ledger.specs.Kept.{has_num, with_range}
+use Rattle.s10_rows.specs.Tables.{Tables, HaveSameRows}
+use Rattle.s10_rows.specs.Kept.{has_num, with_range}
 use Rattle.s10_ledger.specs.Shown.{HasTables, shown_range, range_columns}
 use Rattle.s10_ledger.specs.Statements.{mark_text}
 use Rattle.s10_ledger.proofs.WriteTexts.{mark_terms, mark_is, mark_plain}

@@ -20,23 +20,23 @@ use Rattle.s10_book.specs.declared.entry.Entry.{Entry}
 use Rattle.s10_book.specs.Settings.{Terms, AreTerms}
 use Rattle.s10_book.specs.Rules.{IsLegal, MayFollow}
 use Rattle.s10_book.proofs.Legal.{MayFollow-at}
-use Rattle.s10_ledger.specs.declared.head_row.HeadRow.{HeadRow}
-use Rattle.s10_ledger.specs.declared.open_fault.OpenFault.{OpenFault}
-use Rattle.s10_ledger.specs.declared.open_fault.OpenFault.TheVariants.{NotALedger, Schema as OtherSchema, Damaged, NotEmpty, Memory, Store}
-use Rattle.s10_ledger.specs.contracts.head_row.HeadRow as head
-use Rattle.s10_ledger.specs.contracts.call_row.CallRow as call
-use Rattle.s10_ledger.specs.CallRow.{StoredCall}
-use Rattle.s10_ledger.specs.Tables.{Tables, HaveSameRows, head_row, call_row, call_rows_from, call_rows, range_rows, serial_rows}
-use Rattle.s10_ledger.specs.RightRows.{IsRightRow, AreRight, kept_of, entry_of}
-use Rattle.s10_ledger.specs.Selected.{IsCall}
+use Rattle.s10_rows.specs.declared.head_row.HeadRow.{HeadRow}
+use Rattle.s10_rows.specs.declared.open_fault.OpenFault.{OpenFault}
+use Rattle.s10_rows.specs.declared.open_fault.OpenFault.TheVariants.{NotALedger, Schema as OtherSchema, Damaged, NotEmpty, Memory, Store}
+use Rattle.s10_rows.specs.contracts.head_row.HeadRow as head
+use Rattle.s10_rows.specs.contracts.call_row.CallRow as call
+use Rattle.s10_rows.specs.CallRow.{StoredCall}
+use Rattle.s10_rows.specs.Tables.{Tables, HaveSameRows, head_row, call_row, call_rows_from, call_rows, range_rows, serial_rows}
+use Rattle.s10_rows.specs.RightRows.{IsRightRow, AreRight, kept_of, entry_of}
+use Rattle.s10_rows.specs.Selected.{IsCall}
 use Rattle.s10_ledger.specs.Shown.{StandsFor, shown_head, shown_call, shown_range, shown_serial}
-use Rattle.s10_ledger.specs.Verdict.{IsHead, IsFirstWrong, AreMade, IsRefusal}
+use Rattle.s10_rows.specs.Verdict.{IsHead, IsFirstWrong, AreMade, IsRefusal}
 use Rattle.s10_ledger.specs.Refusals.{HasRows, IsRefusedFor, IsOpeningRefusal}
 use Rattle.s10_ledger.specs.Ledger.{IsLedger, history_in}
 use Rattle.s10_ledger.proofs.AnswerLemmas.{int_in, call_from, range_from, serial_from}
 use Rattle.s10_ledger.proofs.ReadLemmas.{again}
-use Rattle.s10_ledger.proofs.SameRows.{one_row}
-use Rattle.s10_ledger.proofs.Calls.{entry_of-call_row, row_replies}
+use Rattle.s10_rows.proofs.SameRows.{one_row}
+use Rattle.s10_rows.proofs.Calls.{entry_of-call_row, row_replies}
 use Rattle.s10_ledger.proofs.Rising.{call_rows_rise}
 
 abbrev head_from : Row → HeadRow

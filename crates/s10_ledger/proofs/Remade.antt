@@ -14,14 +14,14 @@ use Rattle.sqlite.proofs.Callers.{memory_is_clean}
 use Rattle.s10_book.specs.declared.entry.Entry.{Entry}
 use Rattle.s10_book.specs.Settings.{Terms}
 use Rattle.s10_book.specs.History.{day_of}
-use Rattle.s10_ledger.specs.declared.open_fault.OpenFault.{OpenFault}
-use Rattle.s10_ledger.specs.declared.open_fault.OpenFault.TheVariants.{Memory, Store}
-use Rattle.s10_ledger.specs.declared.opened.Opened.{Opened}
-use Rattle.s10_ledger.specs.CallRow.{StoredCall}
-use Rattle.s10_ledger.specs.Tables.{Tables, HaveSameRows}
-use Rattle.s10_ledger.specs.RightRows.{AreRight, kept_of, entry_of}
-use Rattle.s10_ledger.specs.Verdict.{IsHead, AreMade, IsWhole, IsRefusal}
-use Rattle.s10_ledger.specs.Selected.{IsCall}
+use Rattle.s10_rows.specs.declared.open_fault.OpenFault.{OpenFault}
+use Rattle.s10_rows.specs.declared.open_fault.OpenFault.TheVariants.{Memory, Store}
+use Rattle.s10_rows.specs.declared.opened.Opened.{Opened}
+use Rattle.s10_rows.specs.CallRow.{StoredCall}
+use Rattle.s10_rows.specs.Tables.{Tables, HaveSameRows}
+use Rattle.s10_rows.specs.RightRows.{AreRight, kept_of, entry_of}
+use Rattle.s10_rows.specs.Verdict.{IsHead, AreMade, IsWhole, IsRefusal}
+use Rattle.s10_rows.specs.Selected.{IsCall}
 use Rattle.s10_ledger.specs.Shown.{StandsFor}
 use Rattle.s10_ledger.specs.Statements.{Leaves}
 use Rattle.s10_ledger.specs.Ledger.{Ledger, IsLedger, Holds, IsHonest, history_in}

@@ -12,9 +12,9 @@ use Rattle.s10_book.specs.declared.entry.Entry.{Entry}
 use Rattle.s10_book.specs.Settings.{Terms}
 use Rattle.s10_book.specs.History.{day_of}
 use Rattle.s10_book.specs.Rules.{IsLegal}
-use Rattle.s10_ledger.specs.CallRow.{StoredCall}
-use Rattle.s10_ledger.specs.RightRows.{entry_of}
-use Rattle.s10_ledger.specs.Selected.{IsCall, arrives_between}
+use Rattle.s10_rows.specs.CallRow.{StoredCall}
+use Rattle.s10_rows.specs.RightRows.{entry_of}
+use Rattle.s10_rows.specs.Selected.{IsCall, arrives_between}
 use Rattle.s10_ledger.specs.Shown.{StandsFor, call_columns}
 
 abbrev pub int_in : Value → ℤ

@@ -1,13 +1,5 @@
-pub mod CallRow
-pub mod Replies
-pub mod Tables
-pub mod RightRows
-pub mod Verdict
-pub mod Kept
-pub mod Selected
 pub mod Schema
 pub mod Shown
 pub mod Statements
 pub mod Ledger
-pub mod ReadRows
 pub mod Refusals

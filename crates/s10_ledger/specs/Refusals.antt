@@ -6,11 +6,11 @@ use Rattle.sqlite_trees.specs.Tree.{IsAscending}
 use Rattle.sqlite_schema.specs.declared.schema.Schema.{Schema}
 use Rattle.sqlite_schema.specs.Names.{table_named}
 use Rattle.sqlite.specs.Effect.{Database}
-use Rattle.s10_ledger.specs.declared.open_fault.OpenFault.{OpenFault}
-use Rattle.s10_ledger.specs.declared.open_fault.OpenFault.TheVariants.{NotALedger, Schema as OtherSchema, Damaged, NotEmpty, Memory, Store}
-use Rattle.s10_ledger.specs.CallRow.{StoredCall}
-use Rattle.s10_ledger.specs.Tables.{Tables}
-use Rattle.s10_ledger.specs.Verdict.{IsRefusal}
+use Rattle.s10_rows.specs.declared.open_fault.OpenFault.{OpenFault}
+use Rattle.s10_rows.specs.declared.open_fault.OpenFault.TheVariants.{NotALedger, Schema as OtherSchema, Damaged, NotEmpty, Memory, Store}
+use Rattle.s10_rows.specs.CallRow.{StoredCall}
+use Rattle.s10_rows.specs.Tables.{Tables}
+use Rattle.s10_rows.specs.Verdict.{IsRefusal}
 use Rattle.s10_ledger.specs.Schema.{IsLedgerSchema}
 use Rattle.s10_ledger.specs.Shown.{HasTables}
 

@@ -8,11 +8,11 @@ use Rattle.sqlite_trees.specs.View.{is_int}
 use Rattle.sqlite.specs.Effect.{Database}
 use Rattle.s10_book.specs.declared.entry.Entry.{Entry}
 use Rattle.s10_book.specs.Settings.{Terms}
-use Rattle.s10_ledger.specs.declared.head_row.HeadRow.{HeadRow}
-use Rattle.s10_ledger.specs.declared.range_row.RangeRow.{RangeRow}
-use Rattle.s10_ledger.specs.declared.serial_row.SerialRow.{SerialRow}
-use Rattle.s10_ledger.specs.CallRow.{StoredCall}
-use Rattle.s10_ledger.specs.Tables.{Tables, HaveSameRows, tables_of}
+use Rattle.s10_rows.specs.declared.head_row.HeadRow.{HeadRow}
+use Rattle.s10_rows.specs.declared.range_row.RangeRow.{RangeRow}
+use Rattle.s10_rows.specs.declared.serial_row.SerialRow.{SerialRow}
+use Rattle.s10_rows.specs.CallRow.{StoredCall}
+use Rattle.s10_rows.specs.Tables.{Tables, HaveSameRows, tables_of}
 use Rattle.s10_ledger.specs.Schema.{IsLedgerSchema}
 
 abbrev pub shown_head : HeadRow → Row

@@ -7,11 +7,8 @@ ghost use Rattle.s10_ledger.specs.Schema.{IsLedgerSchema};
 ghost use Rattle.s10_ledger.specs.Statements.{Leaves};
 ghost use Rattle.s10_ledger.specs.Refusals.{HasRows};
 
-use crate::call_row::CallRow;
-use crate::head_row::HeadRow;
-use crate::range_row::RangeRow;
 use crate::reads::{all_calls, all_heads, all_ranges, all_serials};
-use crate::serial_row::SerialRow;
+use s10_rows::{CallRow, HeadRow, RangeRow, SerialRow};
 use sqlite::{Alter, Connection, Error};
 use std::alloc::Global;
 use std::marker::Model;
@@ -26,7 +23,7 @@ pub(crate) struct AllRows {
 }
 
 impl Model for AllRows {
-    ghost use Rattle.s10_ledger.specs.Tables.{Tables};
+    ghost use Rattle.s10_rows.specs.Tables.{Tables};
 
     ghost Value = { Tables };
 

@@ -1,6 +1,6 @@
 //! What a book is asked, by the rows of the tables.
 
-ghost use Rattle.std.specs.Prelude.{◌≡◌, ◌≢◌, ◌↔◌, ℕ, ◌<◌, ◌^◌, ◌==◌, max, List, length, find, All, Contains, Err, IfOk, IfSome, IsTrue};
+ghost use Rattle.std.specs.Prelude.{◌≡◌, ◌≢◌, ℕ, ◌<◌, ◌^◌, ◌==◌, max, List, length, find, All, Contains, Err, IfOk, IfSome, IsTrue};
 ghost use Rattle.sqlite.specs.Held.{state};
 ghost use Rattle.sqlite.specs.State.{HasCleanDisk};
 ghost use Rattle.s10_wire.specs.Kind.{fits};
@@ -12,32 +12,21 @@ ghost use Rattle.s10_book.specs.Issues.{issues_of, last_issue_of, candidate_of, 
 ghost use Rattle.s10_book.specs.Usage.{usage_of};
 ghost use Rattle.s10_book.specs.Rules.{IsLegal};
 ghost use Rattle.s10_core.specs.Id.{IsId};
-ghost use Rattle.s10_ledger.specs.Tables.{pair_of};
+ghost use Rattle.s10_rows.specs.Tables.{pair_of};
 ghost use Rattle.s10_ledger.specs.Shown.{StandsFor};
-ghost use Rattle.s10_ledger.specs.Selected.{IsCall};
+ghost use Rattle.s10_rows.specs.Selected.{IsCall};
 ghost use Rattle.s10_ledger.specs.Statements.{Leaves};
 
-use crate::call_reading::only_call;
-use crate::column::pair_number;
-use crate::range_reading::{mark_of, range_after, range_numbered, range_over};
+use crate::faults::fault_of;
 use crate::reads::{all_ranges, calls_between, calls_with_key, serials_within};
-use crate::serial_reading::only_issue;
-use crate::usage_reading::usage_among;
 use s10_book::{BookFault, Candidate, Entry, Issue, Range, Usage};
 use s10_core::{Country, Id, Serial, Service};
-use sqlite::{Alter, Connection, Error, ErrorCode};
+use s10_rows::{
+    mark_of, only_call, only_issue, pair_number, range_after, range_numbered, range_over,
+    usage_among,
+};
+use sqlite::{Alter, Connection};
 use std::alloc::Global;
-
-// Want of memory, or a fault of the store.
-pub(crate) fn fault_of(error: Error) -> BookFault
-    ensures not_full { result ≢ Full }
-    ensures memory { (result ≡ BookFault.Memory) ↔ (error ≡ Error.SqliteFailure ErrorCode.OutOfMemory) }
-{
-    match error {
-        Error::SqliteFailure(ErrorCode::OutOfMemory) => BookFault::Memory,
-        _ => BookFault::Store,
-    }
-}
 
 // The columns of an identifier.
 fn columns_of(id: &Id) -> (u32, u32)

@@ -7,11 +7,11 @@ ghost use Rattle.sqlite.specs.State.{HasCleanDisk, KeepsCommit, Executes};
 ghost use Rattle.sqlite_schema.specs.Names.{table_named};
 ghost use Rattle.s10_ledger.specs.Refusals.{IsMakingRefusal};
 ghost use Rattle.s10_ledger.specs.Schema.{no_schema};
-ghost use Rattle.s10_ledger.specs.Tables.{Tables, no_rows, head_row};
+ghost use Rattle.s10_rows.specs.Tables.{Tables, no_rows, head_row};
 ghost use Rattle.s10_ledger.specs.Shown.{HasTables, StandsFor};
 
-use crate::open_fault::OpenFault;
 use s10_book::Settings;
+use s10_rows::OpenFault;
 use sqlite::{Alter, Connection, Error, ErrorCode, Transaction, params};
 
 const HEAD: &str =

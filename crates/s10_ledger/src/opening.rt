@@ -1,118 +1,72 @@
-//! The rows of a ledger are checked.
+//! The ledger that a connection holds is opened.
 
-ghost use Rattle.std.specs.Prelude.{◌≡◌, ◌↔◌, List, All, pos, IfOk, IfErr, IsTrue};
+ghost use Rattle.std.specs.Prelude.{◌≡◌, ◌≤◌, IfOk, IfErr, IsTrue};
 ghost use Rattle.sqlite.specs.Held.{state};
 ghost use Rattle.sqlite.specs.State.{HasCleanDisk};
-ghost use Rattle.sqlite.specs.Steps.{over_memory};
-ghost use Rattle.s10_book.specs.declared.entry.Entry.{Entry};
-ghost use Rattle.s10_book.specs.Settings.{Terms};
-ghost use Rattle.s10_ledger.specs.Tables.{Tables, HaveSameRows, range_rows, serial_rows};
-ghost use Rattle.s10_ledger.specs.RightRows.{AreRight, kept_of};
-ghost use Rattle.s10_ledger.specs.Verdict.{IsHead, IsWhole, IsRefusal};
-ghost use Rattle.s10_ledger.specs.Selected.{IsCall};
-ghost use Rattle.s10_ledger.specs.Shown.{StandsFor};
-ghost use Rattle.s10_ledger.specs.Statements.{Leaves};
-ghost use Rattle.s10_ledger.specs.Ledger.{IsLedger, history_in};
+ghost use Rattle.s10_ledger.specs.Ledger.{IsLedger};
+ghost use Rattle.s10_ledger.specs.Refusals.{IsOpeningRefusal};
 
-use crate::call_row::CallRow;
-use crate::head_reading::settings_in;
-use crate::head_row::HeadRow;
-use crate::open_fault::OpenFault;
-use crate::opened::Opened;
-use crate::range_row::RangeRow;
-use crate::reads::{all_ranges, all_serials};
-use crate::replay::replay;
-use crate::same_rows::{same_ranges, same_serials};
-use crate::serial_row::SerialRow;
+use crate::all_rows::AllRows;
+use crate::faults::opening_fault;
+use crate::ledger_schema::is_ledger_schema;
+use crate::refused::Refused;
 use crate::sql_book::SqlBook;
-use s10_book::{Book, Settings};
-use sqlite::{Alter, Connection, MemStore};
+use crate::verdict::verdict;
+use s10_rows::{OpenFault, Opened};
+use sqlite::{Alter, Connection};
 use std::alloc::Global;
 
-// A ledger in memory that keeps the calls of the rows, each of them right behind those before it.
-fn replayed(
-    alloc: Global,
-    settings: Settings,
-    calls: &[CallRow],
-) -> Result<(Connection<MemStore>, Opened), OpenFault>
-    ensures right { IfOk result (λ found. AreRight settings calls.now) }
-    ensures history { IfOk result (λ found. history_in (state over_memory found.0).now ≡ kept_of calls.now) }
-    ensures ledger { IfOk result (λ found. IsLedger (state over_memory found.0).now settings found.1.len found.1.day) }
-    ensures settings { IfOk result (λ found. found.1.settings ≡ settings) }
-    ensures err { (tables : Tables) → tables.calls ≡ calls.now → IsHead tables.heads (pos 1) settings → IfErr result (IsRefusal tables) }
-{
-    let mut book = SqlBook::in_memory(alloc, settings)?;
-    let replayed = replay(&mut book, calls);
-    let opened = Opened {
-        settings,
-        len: book.len(),
-        day: book.day(),
-    };
-    let conn = book.close();
-    replayed?;
-    Ok((conn, opened))
-}
-
-// Whether these are the ranges of the ledger.
-fn has_ranges<S: Alter>(
+// What is found of the ledger in the tables.
+pub(crate) fn ledger_in<S: Alter>(
     alloc: Global,
     conn: &mut Connection<S>,
-    rows: &[RangeRow],
-) -> Result<bool, OpenFault>
-    ensures leaves { Leaves S.Store conn.old conn.new }
-    ensures err { (tables : Tables) → IfErr result (IsRefusal tables) }
-    ensures answer { HasCleanDisk (state S.Store conn.new) → (h : List Entry) (t : Terms) → StandsFor (state S.Store conn.old).now h t
-        → IfOk result (λ b. IsTrue b ↔ HaveSameRows (range_rows h) rows.now) }
-{
-    let made = match all_ranges(alloc, conn) {
-        Ok(made) => made,
-        Err(error) => return Err(OpenFault::of_error(error)),
-    };
-    match same_ranges(alloc, &made, rows) {
-        Ok(same) => Ok(same),
-        Err(_) => Err(OpenFault::Memory),
-    }
-}
-
-// Whether these are the serials of the ledger.
-fn has_serials<S: Alter>(
-    alloc: Global,
-    conn: &mut Connection<S>,
-    rows: &[SerialRow],
-) -> Result<bool, OpenFault>
-    ensures leaves { Leaves S.Store conn.old conn.new }
-    ensures err { (tables : Tables) → IfErr result (IsRefusal tables) }
-    ensures answer { HasCleanDisk (state S.Store conn.new) → (h : List Entry) (t : Terms) → All IsCall h → StandsFor (state S.Store conn.old).now h t
-        → IfOk result (λ b. IsTrue b ↔ HaveSameRows (serial_rows h) rows.now) }
-{
-    let made = match all_serials(alloc, conn) {
-        Ok(made) => made,
-        Err(error) => return Err(OpenFault::of_error(error)),
-    };
-    match same_serials(alloc, &made, rows) {
-        Ok(same) => Ok(same),
-        Err(_) => Err(OpenFault::Memory),
-    }
-}
-
-// What is found of the rows of the four tables, those of calls in order of arrival.
-pub(crate) fn verdict(
-    alloc: Global,
-    heads: &[HeadRow],
-    calls: &[CallRow],
-    ranges: &[RangeRow],
-    serials: &[SerialRow],
 ) -> Result<Opened, OpenFault>
-    ensures ok { let tables : Tables = record { heads = heads.now; calls = calls.now; ranges = ranges.now; serials = serials.now } in IfOk result (IsWhole tables) }
-    ensures err { let tables : Tables = record { heads = heads.now; calls = calls.now; ranges = ranges.now; serials = serials.now } in IfErr result (IsRefusal tables) }
+    ensures few { IfOk result (λ found. found.len ≤ 1000000000) }
+    ensures same { HasCleanDisk (state S.Store conn.new) → IsTrue (state S.Store conn.new).is_open → (state S.Store conn.new).now ≡ (state S.Store conn.old).now }
+    ensures ledger { HasCleanDisk (state S.Store conn.new) → IsTrue (state S.Store conn.new).is_open
+        → IfOk result (λ found. IsLedger (state S.Store conn.old).now found.settings found.len found.day) }
+    ensures refused { HasCleanDisk (state S.Store conn.new) → IsTrue (state S.Store conn.new).is_open → IfErr result (IsOpeningRefusal (state S.Store conn.old).now) }
 {
-    let settings = settings_in(heads)?;
-    let (mut made, opened) = replayed(alloc, settings, calls)?;
-    if !has_ranges(alloc, &mut made, ranges)? {
-        return Err(OpenFault::Damaged(0));
+    if !is_ledger_schema(conn.schema()) {
+        return Err(OpenFault::NotALedger);
     }
-    if !has_serials(alloc, &mut made, serials)? {
-        return Err(OpenFault::Damaged(0));
+    let rows = match AllRows::read(alloc, conn) {
+        Ok(rows) => rows,
+        Err(error) => return Err(opening_fault(error)),
+    };
+    verdict(alloc, &rows.heads, &rows.calls, &rows.ranges, &rows.serials)
+}
+
+impl<S: Alter> SqlBook<S> {
+    ghost use Rattle.std.specs.Prelude.{◌≡◌, ◌⊎◌, ℕ, IfOk, IfErr, IsTrue, false};
+    ghost use Rattle.sqlite.specs.Held.{state};
+    ghost use Rattle.sqlite.specs.State.{HasCleanDisk};
+    ghost use Rattle.s10_book.specs.Settings.{Terms, AreTerms};
+    ghost use Rattle.s10_ledger.specs.Ledger.{IsLedger, IsHonest};
+    ghost use Rattle.s10_ledger.specs.Refusals.{IsOpeningRefusal};
+
+    /// Opens a ledger: all its calls are done again, and every table is compared with what they
+    /// make. Other tables may stand behind its four. Refused with NotALedger where the first tables
+    /// are not declared as a ledger's, another one refers to them or an index is on them, or `head`
+    /// is not its one row, with Schema, with Damaged and the first call that is wrong, or 0 where
+    /// another row is, with Memory, and with Store where a statement failed; a refusal leaves the
+    /// tables as they are.
+    pub fn open(alloc: Global, mut conn: Connection<S>) -> Result<SqlBook<S>, Refused<S>>
+        requires idle { conn.in_transaction ≡ false }
+        ensures new { IfOk result (λ b. b.faults ≡ 0) }
+        ensures honest { IfOk result (λ b. HasCleanDisk (state S.Store b.conn) → IsTrue (state S.Store b.conn).is_open → IsHonest S.Store b) }
+        ensures same { IfOk result (λ b. IsHonest S.Store b → (state S.Store b.conn).now ≡ (state S.Store conn).now) }
+        ensures refused { IfErr result (λ r. HasCleanDisk (state S.Store r.connection) → IsTrue (state S.Store r.connection).is_open → IsOpeningRefusal (state S.Store conn).now r.fault) }
+        ensures kept { IfErr result (λ r. HasCleanDisk (state S.Store r.connection) → IsTrue (state S.Store r.connection).is_open → (state S.Store r.connection).now ≡ (state S.Store conn).now) }
+        ensures whole { IfErr result (λ r. HasCleanDisk (state S.Store r.connection) → IsTrue (state S.Store r.connection).is_open
+            → (t : Terms) (len day : ℕ) → AreTerms t → IsLedger (state S.Store conn).now t len day → (r.fault ≡ OpenFault.Memory) ⊎ (r.fault ≡ OpenFault.Store)) }
+    {
+        match ledger_in(alloc, &mut conn) {
+            Ok(Opened { settings, len, day }) => Ok(SqlBook::over(alloc, conn, settings, len, day)),
+            Err(fault) => Err(Refused {
+                fault,
+                connection: conn,
+            }),
+        }
     }
-    Ok(opened)
 }

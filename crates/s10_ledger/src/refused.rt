@@ -1,4 +1,4 @@
-use crate::open_fault::OpenFault;
+use s10_rows::OpenFault;
 use sqlite::{Alter, Connection};
 
 /// Why a ledger could not be made or opened, and the connection, handed back.

@@ -5,10 +5,7 @@ ghost use Rattle.sqlite_value.specs.Order.{column};
 ghost use Rattle.sqlite_trees.specs.View.{is_int};
 ghost use Rattle.s10_ledger.specs.Shown.{shown_head, shown_call, shown_range, shown_serial, serial_front};
 
-use crate::call_row::CallRow;
-use crate::head_row::HeadRow;
-use crate::range_row::RangeRow;
-use crate::serial_row::SerialRow;
+use s10_rows::{CallRow, HeadRow, RangeRow, SerialRow};
 use sqlite::{Error, Row};
 use std::alloc::Global;
 

@@ -6,18 +6,17 @@ ghost use Rattle.s10_book.specs.BookFault.{Counts};
 ghost use Rattle.sqlite.specs.Held.{state};
 ghost use Rattle.s10_ledger.specs.Ledger.{history_in, IsHonest};
 
+use crate::faults::opening_fault;
 use crate::keeping::keep_next;
 use crate::lookups::{
     call_at, call_with_key, candidate_in, issue_of, range_covering, range_held, range_with_number,
     usage_in,
 };
 use crate::making::{make_ledger, refusal_of};
-use crate::open_fault::OpenFault;
-use crate::opened::Opened;
-use crate::opened_ledger::ledger_in;
 use crate::refused::Refused;
 use s10_book::{Book, BookFault, Candidate, Entry, Issue, Range, Settings, Usage};
 use s10_core::{Country, Id, Serial, Service};
+use s10_rows::OpenFault;
 use sqlite::{Alter, Connection, MemStore};
 use std::alloc::Global;
 use std::marker::Model;
@@ -48,12 +47,11 @@ impl<S: Alter> Model for SqlBook<S> {
 }
 
 impl<S: Alter> SqlBook<S> {
-    ghost use Rattle.std.specs.Prelude.{◌≡◌, ◌⊎◌, ℕ, IfOk, IfErr, IsTrue, [], false};
+    ghost use Rattle.std.specs.Prelude.{◌≡◌, ◌≤◌, IfOk, IfErr, IsTrue, [], false};
     ghost use Rattle.sqlite.specs.Held.{state};
     ghost use Rattle.sqlite.specs.State.{HasCleanDisk};
-    ghost use Rattle.s10_book.specs.Settings.{Terms, AreTerms};
-    ghost use Rattle.s10_ledger.specs.Ledger.{IsLedger, IsHonest, history_in};
-    ghost use Rattle.s10_ledger.specs.Refusals.{IsMakingRefusal, IsOpeningRefusal};
+    ghost use Rattle.s10_ledger.specs.Ledger.{Ledger, IsLedger, IsHonest, history_in};
+    ghost use Rattle.s10_ledger.specs.Refusals.{IsMakingRefusal};
 
     /// Makes an empty ledger with these settings in an empty database, in one transaction. Refused
     /// with NotEmpty where a table of one of the four names is there, with Memory, and with Store
@@ -75,7 +73,7 @@ impl<S: Alter> SqlBook<S> {
             return Err(Refused { fault, connection });
         }
         if let Err(error) = make_ledger(&mut connection, settings) {
-            let fault = OpenFault::of_error(error);
+            let fault = opening_fault(error);
             return Err(Refused { fault, connection });
         }
         Ok(SqlBook {
@@ -88,35 +86,25 @@ impl<S: Alter> SqlBook<S> {
         })
     }
 
-    /// Opens a ledger: all its calls are done again, and every table is compared with what they
-    /// make. Other tables may stand behind its four. Refused with NotALedger where the first tables
-    /// are not declared as a ledger's, another one refers to them or an index is on them, or `head`
-    /// is not its one row, with Schema, with Damaged and the first call that is wrong, or 0 where
-    /// another row is, with Memory, and with Store where a statement failed; a refusal leaves the
-    /// tables as they are.
-    pub fn open(alloc: Global, mut conn: Connection<S>) -> Result<SqlBook<S>, Refused<S>>
-        requires idle { conn.in_transaction ≡ false }
-        ensures new { IfOk result (λ b. b.faults ≡ 0) }
-        ensures honest { IfOk result (λ b. HasCleanDisk (state S.Store b.conn) → IsTrue (state S.Store b.conn).is_open → IsHonest S.Store b) }
-        ensures same { IfOk result (λ b. IsHonest S.Store b → (state S.Store b.conn).now ≡ (state S.Store conn).now) }
-        ensures refused { IfErr result (λ r. HasCleanDisk (state S.Store r.connection) → IsTrue (state S.Store r.connection).is_open → IsOpeningRefusal (state S.Store conn).now r.fault) }
-        ensures kept { IfErr result (λ r. HasCleanDisk (state S.Store r.connection) → IsTrue (state S.Store r.connection).is_open → (state S.Store r.connection).now ≡ (state S.Store conn).now) }
-        ensures whole { IfErr result (λ r. HasCleanDisk (state S.Store r.connection) → IsTrue (state S.Store r.connection).is_open
-            → (t : Terms) (len day : ℕ) → AreTerms t → IsLedger (state S.Store conn).now t len day → (r.fault ≡ OpenFault.Memory) ⊎ (r.fault ≡ OpenFault.Store)) }
+    // The book over a connection whose tables stand for so many calls, the last of them on that day.
+    pub(crate) fn over(
+        alloc: Global,
+        conn: Connection<S>,
+        settings: Settings,
+        len: u32,
+        day: u32,
+    ) -> SqlBook<S>
+        requires few { len ≤ 1000000000 }
+        requires ledger { HasCleanDisk (state S.Store conn) → IsTrue (state S.Store conn).is_open → IsLedger (state S.Store conn).now settings len day }
+        ensures { let book : Ledger S = record { conn = conn; terms = settings; len = len; day = day; faults = 0 } in result ≡ book }
     {
-        match ledger_in(alloc, &mut conn) {
-            Ok(Opened { settings, len, day }) => Ok(SqlBook {
-                alloc,
-                conn,
-                settings,
-                len,
-                day,
-                faults: 0,
-            }),
-            Err(fault) => Err(Refused {
-                fault,
-                connection: conn,
-            }),
+        SqlBook {
+            alloc,
+            conn,
+            settings,
+            len,
+            day,
+            faults: 0,
         }
     }
 

@@ -4,15 +4,14 @@ ghost use Rattle.std.specs.Prelude.{◌≡◌, ◌≤◌, ◌++◌, ◌∷◌, [
 ghost use Rattle.sqlite_trees.specs.View.{doubt};
 ghost use Rattle.sqlite.specs.Held.{state};
 ghost use Rattle.sqlite.specs.State.{HasCleanDisk, Shows, KeepsCommit, Survives};
-ghost use Rattle.s10_ledger.specs.CallRow.{StoredCall};
-ghost use Rattle.s10_ledger.specs.Tables.{Tables};
+ghost use Rattle.s10_rows.specs.CallRow.{StoredCall};
+ghost use Rattle.s10_rows.specs.Tables.{Tables};
 ghost use Rattle.s10_ledger.specs.Shown.{HasTables};
-ghost use Rattle.s10_ledger.specs.Kept.{is_at, with_range, with_serial};
+ghost use Rattle.s10_rows.specs.Kept.{is_at, with_range, with_serial};
 ghost use Rattle.std.specs.Prelude.{Some};
 
-use crate::range_row::RangeRow;
-use crate::serial_row::SerialRow;
 use s10_book::Entry;
+use s10_rows::{RangeRow, SerialRow};
 use sqlite::{Alter, Connection, Error, ErrorCode, Transaction, params};
 
 /// Adds the row of a call.

@@ -1,5 +1,5 @@
 use Rattle.std.proofs.Common.{rules, ◌≡◌, ◌∙◌}
-use Rattle.s10_ledger.specs.Tables.{tables_of}
+use Rattle.s10_rows.specs.Tables.{tables_of}
 use Rattle.s10_ledger.proofs.Rising.{range_rows_rise}
 use Rattle.s10_ledger.proofs.keeping.drawn_made.Goals as goal
 

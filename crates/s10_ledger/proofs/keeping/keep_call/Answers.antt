@@ -4,11 +4,11 @@ use Rattle.sqlite.specs.State.{HasCleanDisk}
 use Rattle.sqlite.specs.Held.{state}
 use Rattle.s10_wire.specs.Frame.{frame_bytes}
 use Rattle.s10_wire.specs.Datagrams.{Replies}
-use Rattle.s10_ledger.specs.CallRow.{StoredCall}
-use Rattle.s10_ledger.specs.Tables.{tables_of, call_row}
-use Rattle.s10_ledger.specs.Selected.{IsCall}
+use Rattle.s10_rows.specs.CallRow.{StoredCall}
+use Rattle.s10_rows.specs.Tables.{tables_of, call_row}
+use Rattle.s10_rows.specs.Selected.{IsCall}
 use Rattle.s10_ledger.specs.Shown.{StandsFor}
-use Rattle.s10_ledger.proofs.Replies.{reply_replies}
+use Rattle.s10_rows.proofs.Replies.{reply_replies}
 use Rattle.s10_ledger.proofs.KeyLemmas.{few_of, stands_after, row_is}
 use Rattle.s10_ledger.proofs.keeping.keep_call.Goals as goal
 

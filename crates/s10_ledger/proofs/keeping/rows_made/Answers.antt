@@ -1,6 +1,6 @@
 use Rattle.std.proofs.Common.{rules, ◌≡◌, ◌∙◌}
 use Rattle.s10_ledger.proofs.StateLemmas.{leaves_same}
-use Rattle.s10_ledger.proofs.MadeRows.{others_make_none}
+use Rattle.s10_rows.proofs.MadeRows.{others_make_none}
 use Rattle.s10_ledger.proofs.keeping.rows_made.Goals as goal
 
 pub returns-in-Granted-clause-answer : goal.returns-in-Granted-clause-answer

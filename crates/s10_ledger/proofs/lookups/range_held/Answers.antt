@@ -1,6 +1,6 @@
 use Rattle.std.proofs.Common.{rules, ◌≡◌, refl, subst, List, ◌∙◌}
-use Rattle.s10_ledger.specs.Tables.{HaveSameRows, tables_of}
-use Rattle.s10_ledger.proofs.Parts.{ranges_of_fit}
+use Rattle.s10_rows.specs.Tables.{HaveSameRows, tables_of}
+use Rattle.s10_rows.proofs.Parts.{ranges_of_fit}
 use Rattle.s10_ledger.proofs.Rising.{range_rows_rise}
 use Rattle.s10_ledger.proofs.lookups.range_held.Goals as goal
 

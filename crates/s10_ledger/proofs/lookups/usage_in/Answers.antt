@@ -1,8 +1,8 @@
 use Rattle.std.proofs.Common.{rules, ◌≡◌, refl, subst, List, ◌∙◌}
 use Rattle.s10_book.specs.History.{ranges_of}
-use Rattle.s10_ledger.specs.Tables.{HaveSameRows, tables_of}
-use Rattle.s10_ledger.specs.Selected.{IsRange}
-use Rattle.s10_ledger.proofs.Parts.{ranges_of_fit}
+use Rattle.s10_rows.specs.Tables.{HaveSameRows, tables_of}
+use Rattle.s10_rows.specs.Selected.{IsRange}
+use Rattle.s10_rows.proofs.Parts.{ranges_of_fit}
 use Rattle.std.proofs.lemmas.List.Elements.{All-contains}
 use Rattle.s10_ledger.proofs.lookups.usage_in.Goals as goal
 

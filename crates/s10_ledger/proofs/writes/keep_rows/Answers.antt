@@ -3,8 +3,8 @@ use Rattle.std.proofs.lemmas.Result.{IfOk-weaker}
 use Rattle.sqlite.specs.Effect.{Database}
 use Rattle.sqlite.specs.State.{HasCleanDisk}
 use Rattle.sqlite.specs.Held.{state}
-use Rattle.s10_ledger.specs.CallRow.{StoredCall}
-use Rattle.s10_ledger.specs.Kept.{with_range, with_serial}
+use Rattle.s10_rows.specs.CallRow.{StoredCall}
+use Rattle.s10_rows.specs.Kept.{with_range, with_serial}
 use Rattle.s10_ledger.specs.Shown.{HasTables}
 use Rattle.s10_ledger.proofs.writes.keep_rows.Goals as goal
 

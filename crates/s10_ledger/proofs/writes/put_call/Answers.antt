@@ -1,6 +1,6 @@
 use Rattle.std.proofs.Common.{rules, ◌≡◌, pos}
 use Rattle.sqlite.specs.Held.{state}
-use Rattle.s10_ledger.specs.CallRow.{StoredCall}
+use Rattle.s10_rows.specs.CallRow.{StoredCall}
 use Rattle.s10_ledger.proofs.KeepLemmas.{keeps}
 use Rattle.s10_ledger.proofs.writes.put_call.Goals as goal
 

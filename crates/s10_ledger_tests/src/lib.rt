@@ -1,0 +1,25 @@
+//! Tests of ledgers in tables, and of their rows.
+#![tactic(auto)]
+
+#[cfg(test)]
+mod books;
+#[cfg(test)]
+mod calls;
+#[cfg(test)]
+mod creating;
+#[cfg(test)]
+mod made_rows;
+#[cfg(test)]
+mod many_draws;
+#[cfg(test)]
+mod openings;
+#[cfg(test)]
+mod readings;
+#[cfg(test)]
+mod rows;
+#[cfg(test)]
+mod tables;
+#[cfg(test)]
+mod verdicts;
+#[cfg(test)]
+mod world;

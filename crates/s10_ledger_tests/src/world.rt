@@ -1,0 +1,203 @@
+//! A ledger in tables, in a world of its clients and the network between them.
+
+ghost use Rattle.std.specs.Prelude.{◌≡◌, IfOk, All, length};
+ghost use Rattle.s10_ends.specs.Client.{IsNew};
+
+use s10_book::{Book, BookFault, Entry, Settings};
+use s10_core::{Country, Id, Serial, Service};
+use s10_ends::{Client, Server};
+use s10_ledger::SqlBook;
+use s10_wire::{Body, Frame, Outcome, Reply, Request};
+use s10_world::{Event, World};
+use std::alloc::{AllocError, Global};
+use std::test::Fail;
+
+const EVENTS: usize = 18;
+
+// the replies of the story
+const GRANTED: &[u8] = b"S1\x01\x81\0\0\0\0\0\0\0\x01\0\0\0\x07RAGB\0\0\0\0\0\0\0\x02\0\0\0\0\x01";
+
+const DRAWN_1: &[u8] = b"S1\x01\x82\0\0\0\x07\0\0\0\x01RAGB\0\0\0\x4e\x20RA000000014GB";
+
+const DRAWN_10: &[u8] = b"S1\x01\x82\0\0\0\x07\0\0\0\x0aRAGB\0\0\0\x4e\x20RA000000005GB";
+
+fn draw() -> Option<Body> {
+    Some(Body::Draw {
+        service: Service::new(*b"RA")?,
+        country: Country::new(*b"GB")?,
+    })
+}
+
+fn grant() -> Option<Body> {
+    Some(Body::Grant {
+        holder: 7,
+        service: Service::new(*b"RA")?,
+        country: Country::new(*b"GB")?,
+        first: Serial::new(0)?,
+        last: Serial::new(2)?,
+    })
+}
+
+fn submit(client: u32, body: &Body) -> Event {
+    Event::Submit {
+        client,
+        body: *body,
+    }
+}
+
+fn resend(client: u32) -> Event {
+    Event::Resend { client }
+}
+
+fn to_server(index: usize, day: u32) -> Event {
+    Event::ToServer { index, day }
+}
+
+fn to_client(client: u32, index: usize) -> Event {
+    Event::ToClient { client, index }
+}
+
+// The post grants three serials. Two clients of customer 7 draw: the second's request comes first,
+// both come twice, and the second client gives up before its reply comes.
+fn story() -> Option<[Event; EVENTS]> {
+    let grant = grant()?;
+    let draw = draw()?;
+    Some([
+        submit(0, &grant),
+        resend(0),
+        to_server(0, 20_000),
+        to_client(0, 0),
+        submit(1, &draw),
+        resend(1),
+        submit(2, &draw),
+        resend(2),
+        to_server(2, 20_000),
+        to_server(1, 20_000),
+        to_server(2, 20_001),
+        to_server(1, 20_001),
+        to_client(1, 1),
+        Event::GiveUp { client: 2 },
+        to_client(2, 1),
+        to_client(1, 2),
+        to_client(1, 4),
+        to_server(9, 20_000),
+    ])
+}
+
+fn three_clients(alloc: Global) -> Result<Vec<Client>, AllocError>
+    ensures new { IfOk result (λ clients. All IsNew clients.items) }
+    ensures three { IfOk result (λ clients. length clients.items ≡ 3) }
+{
+    let (Ok(post), Ok(first), Ok(second)) = (
+        Client::new(0, 1, 9),
+        Client::new(7, 1, 9),
+        Client::new(7, 10, 19),
+    ) else {
+        unreachable!();
+    };
+    let mut clients = Vec::new(alloc);
+    clients.push(post)?;
+    clients.push(first)?;
+    clients.push(second)?;
+    Ok(clients)
+}
+
+// What the clients and the network saw.
+#[derive(Drop)]
+struct Seen {
+    submitted: Vec<(u32, Request)>,
+    accepted: Vec<(u32, Reply)>,
+    replied: Vec<Frame>,
+}
+
+// The story over a book, which is handed back.
+fn run_story<B: Book>(alloc: Global, book: B) -> (Result<Seen, Fail>, B) {
+    let clients = match three_clients(alloc) {
+        Ok(clients) => clients,
+        Err(error) => return (Err(Fail::from(error)), book),
+    };
+    let mut world = World::new(alloc, Server::new(book), clients);
+    let seen = see_story(alloc, &mut world);
+    (seen, world.into_server().into_book())
+}
+
+fn see_story<B: Book>(alloc: Global, world: &mut World<B>) -> Result<Seen, Fail> {
+    let events = story().ok_or("events")?;
+    world.run(&events)?;
+    Ok(Seen {
+        submitted: world.submitted().to_vec(alloc)?,
+        accepted: world.accepted().to_vec(alloc)?,
+        replied: world.replied().to_vec(alloc)?,
+    })
+}
+
+// The first four calls that a book keeps.
+fn kept_calls<B: Book>(book: &mut B) -> Result<[Option<Entry>; 4], BookFault> {
+    Ok([
+        book.entry(1)?,
+        book.entry(2)?,
+        book.entry(3)?,
+        book.entry(4)?,
+    ])
+}
+
+fn request(customer: u32, number: u32, body: Body) -> Request {
+    Request {
+        customer,
+        number,
+        body,
+    }
+}
+
+fn drawn(text: &[u8; 13]) -> Result<Outcome, Fail> {
+    Ok(Outcome::Drawn {
+        day: 20_000,
+        id: Id::read(text)?,
+    })
+}
+
+fn kept(request: Request, outcome: Outcome) -> Option<Entry> {
+    Some(Entry {
+        request,
+        day: 20_000,
+        outcome,
+    })
+}
+
+#[test]
+fn a_ledger_in_tables_executes_each_call_of_a_world_once(rt: HostRuntime) -> Result<(), Fail> {
+    let settings = Settings::new(30, 100).ok_or("settings")?;
+    let ledger = SqlBook::in_memory(rt.alloc(), settings)?;
+    let (seen, mut ledger) = run_story(rt.alloc(), ledger);
+    let calls = kept_calls(&mut ledger);
+    let _ = ledger.close();
+    let seen = seen?;
+    let calls = calls?;
+
+    let granted = request(0, 1, grant().ok_or("grant")?);
+    let first = request(7, 1, draw().ok_or("draw")?);
+    let second = request(7, 10, draw().ok_or("draw")?);
+    let range = Outcome::Granted { range: 1 };
+    let zero = drawn(b"RA000000005GB")?;
+    let one = drawn(b"RA000000014GB")?;
+    let submitted = [(0, granted), (1, first), (2, second)];
+    assert_eq!(rt; seen.submitted.as_slice(), submitted.as_slice());
+    let accepted = [
+        (0, Reply::new(granted, range).ok_or("reply")?),
+        (1, Reply::new(first, one).ok_or("reply")?),
+    ];
+    assert_eq!(rt; seen.accepted.as_slice(), accepted.as_slice());
+    let replied: [&[u8]; 5] = [GRANTED, DRAWN_10, DRAWN_1, DRAWN_10, DRAWN_1];
+    assert_eq!(rt; seen.replied.len(), 5);
+    for (frame, bytes) in seen.replied.iter().zip(replied) {
+        assert_eq!(rt; frame.bytes(), bytes);
+    }
+    let all = [
+        kept(granted, range),
+        kept(second, zero),
+        kept(first, one),
+        None,
+    ];
+    assert_eq!(rt; calls, all);
+    Ok(())
+}

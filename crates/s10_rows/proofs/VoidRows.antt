@@ -1,0 +1,105 @@
+-- The row that a Done Void makes.
+use Rattle.std.proofs.Common.{◌≡◌, ℕ, ◌+◌, Bool, true, false, not, cond, pos, List, [], ◌∷◌, ◌++◌, map, length, get_or, Option, Some, None, refl, sym, ap, ap₂, ◌∙◌, subst}
+use Rattle.std.specs.Prelude.{filter, All, option_to_list}
+use Rattle.std.specs.Option.{option_map}
+use Rattle.std.specs.List.{list_any}
+use Rattle.std.proofs.lemmas.Bool.Decides.{same_from_decides}
+use Rattle.s10_core.specs.declared.id.Id.{Id}
+use Rattle.s10_core.specs.Id.{IsId, same_id}
+use Rattle.s10_wire.specs.declared.body.Body.{Body}
+use Rattle.s10_wire.specs.declared.body.Body.TheVariants.{Void}
+use Rattle.s10_wire.specs.declared.outcome.Outcome.{Outcome}
+use Rattle.s10_wire.specs.declared.outcome.Outcome.TheVariants.{Granted, Voided, NotYours}
+use Rattle.s10_wire.specs.Datagrams.{IsBody}
+use Rattle.s10_book.specs.declared.entry.Entry.{Entry}
+use Rattle.s10_book.specs.declared.issue.Issue.{Issue}
+use Rattle.s10_book.specs.declared.issuance.Issuance.{Issuance}
+use Rattle.s10_book.specs.Settings.{Terms}
+use Rattle.s10_book.specs.History.{ranges_of, is_own}
+use Rattle.s10_book.specs.Issues.{issues_of, is_of, carried_by, voids, voids_by, voided_after, is_voided, last_issues, last_issuance_of}
+use Rattle.s10_book.specs.Rules.{IsLegal, MayFollow, body_answer, void_issue}
+use Rattle.s10_book.proofs.Own.{IsOwned, owned}
+use Rattle.s10_book.proofs.Spaced.{id_same}
+use Rattle.s10_book.proofs.Free.{id_equal}
+use Rattle.s10_rows.specs.declared.serial_row.SerialRow.{SerialRow}
+use Rattle.s10_rows.specs.contracts.serial_row.SerialRow.{the_row}
+use Rattle.s10_rows.specs.Tables.{HaveSameRows, pair_of, range_rows, serial_row, serial_rows}
+use Rattle.s10_rows.specs.Selected.{IsCall, IsIssuance, is_within}
+use Rattle.s10_rows.specs.Kept.{Makes, is_at}
+use Rattle.s10_rows.proofs.SameRows.{one_row}
+use Rattle.s10_rows.proofs.LastIssues.{last_of, All-last_issues}
+use Rattle.s10_rows.proofs.SerialRows.{issues_of_fit, row_of_is, filter_image, last_passes}
+use Rattle.s10_rows.proofs.Replaced.{replaced, same_rows}
+use Rattle.s10_rows.proofs.MadeRows.{row_in, same_issues, same_range_rows, same_voided, now_voided, none_made}
+use Rattle.s10_rows.proofs.DrawRows.{rows_but_at}
+
+-- a Done Void has an issue behind it
+issued_at : (f : Issuance → Issue) (own : Bool) (o : Option Issuance) → cond own (void_issue (option_map f o)) NotYours ≡ Voided → (i : Issuance) × (o ≡ Some i)
+issued_at f false o is = absurd cc
+issued_at f true None is = absurd cc
+issued_at f true (Some i) is = (i, refl)
+
+void_issued : (h : List Entry) (t : Terms) (e : Entry) (x : Id) → MayFollow h t e → e.request.body ≡ Void x → e.outcome ≡ Voided → (i : Issuance) × (last_issuance_of (issues_of h) x ≡ Some i)
+void_issued h t e x may asks done =
+    issued_at (λ i. record { day = i.day; voided = is_voided h x; customer = i.customer; number = i.number }) (list_any (is_own e.request.customer x) (ranges_of h)) (last_issuance_of (issues_of h) x)
+    (sym (may.right ∙ ap (λ (b : Body). body_answer h e.request.customer b e.day t.interval) asks) ∙ done)
+
+one_selected : (rows : List SerialRow) (h : List Entry) (x : Id) (i : Issuance) → All IsCall h → IsId x → last_issuance_of (issues_of h) x ≡ Some i
+    → HaveSameRows (filter (is_within (pos (pair_of x.service x.country)) (pos x.serial) (pos x.serial)) (serial_rows h)) rows → rows ≡ row_in h i ∷ []
+one_selected rows h x i calls right last same =
+    let p : SerialRow → Bool = is_within (pos (pair_of x.service x.country)) (pos x.serial) (pos x.serial) in
+    let lasts : All IsIssuance (last_issues (issues_of h)) = All-last_issues IsIssuance (issues_of h) (issues_of_fit h calls) in
+    let chosen : filter p (serial_rows h) ≡ row_in h i ∷ [] =
+    filter_image p (is_of x) (row_in h) IsIssuance (λ j fit. row_of_is (voided_after j.arrival h j.id) j x fit.id right) (last_issues (issues_of h)) lasts
+    ∙ ap (map (row_in h)) (last_of (issues_of h) x ∙ ap option_to_list last) in
+    let P : List SerialRow → Type 0 = λ l. HaveSameRows l rows in
+    one_row the_row.coded (row_in h i) rows (subst P chosen same)
+
+other_id : (x y : Id) → same_id x y ≡ same_id y x
+other_id x y = same_from_decides (same_id x y) (same_id y x) (id_equal x y, id_same x y) (λ e. sym (id_equal y x e), λ e. id_same y x (sym e))
+
+voids_is : (e : Entry) (x y : Id) → e.request.body ≡ Void x → e.outcome ≡ Voided → voids y e ≡ same_id x y
+voids_is e x y asks done = ap₂ (λ (b : Body) (o : Outcome). voids_by y b o) asks done
+
+void_makes : (h : List Entry) (t : Terms) (e : Entry) (x : Id) (i : Issuance) → IsLegal h t → All IsCall h → IsCall e → e.request.body ≡ Void x → e.outcome ≡ Voided → last_issuance_of (issues_of h) x ≡ Some i
+    → Makes h e None (Some (serial_row true i))
+void_makes h t e x i legal calls call asks done last =
+    let body : IsBody (Void x) = subst IsBody asks call.request.2 in
+    let carried : carried_by e.outcome ≡ [] = ap carried_by done in
+    let other : (n : ℕ) → ¬ (e.outcome ≡ Granted n) = λ n is. not_both n (sym done ∙ is) in
+    let new : Issuance → SerialRow = row_in (h ++ e ∷ []) in
+    let lasts : List Issuance = last_issues (issues_of h) in
+    let here = last_passes (IsOwned h) x (issues_of h) i (owned h t legal) last in
+    let voided : new i ≡ serial_row true i =
+    ap (λ (b : Bool). serial_row b i) (now_voided i.arrival h e i.id here.0.1 (voids_is e x i.id asks done ∙ id_same x i.id (sym here.1))) in
+    let left : (j : Issuance) → is_of x j ≡ false → row_in h j ≡ new j =
+    λ j fails. ap (λ (b : Bool). serial_row b j) (sym (same_voided j.arrival h e j.id (voids_is e x j.id asks done ∙ other_id x j.id ∙ fails))) in
+    let moved : HaveSameRows (map (row_in h) (filter (λ j. not (is_of x j)) lasts) ++ new i ∷ []) (map new lasts) =
+    replaced (is_of x) (row_in h) new lasts i (last_of (issues_of h) x ∙ ap option_to_list last) (λ k d lt. left (get_or lasts k d)) in
+    let front : map (row_in h) (filter (λ j. not (is_of x j)) lasts) ++ new i ∷ [] ≡ filter (λ row. not (is_at (pos (pair_of x.service x.country)) (pos x.serial) row)) (serial_rows h) ++ serial_row true i ∷ [] =
+    ap₂ (λ (l : List SerialRow) (row : SerialRow). l ++ row ∷ []) (sym (rows_but_at h x calls body)) voided in
+    let P : List SerialRow → Type 0 = λ l. HaveSameRows l (map new lasts) in
+    let Q : List Issuance → Type 0 = λ is. HaveSameRows (filter (λ row. not (is_at (pos (pair_of x.service x.country)) (pos x.serial) row)) (serial_rows h) ++ serial_row true i ∷ []) (map new (last_issues is)) in
+    let R : Id → Type 0 = λ y. HaveSameRows (filter (λ row. not (is_at (pos (pair_of y.service y.country)) (pos y.serial) row)) (serial_rows h) ++ serial_row true i ∷ []) (serial_rows (h ++ e ∷ [])) in
+    record {
+      ranges = same_rows (range_rows h) (range_rows (h ++ e ∷ [])) (same_range_rows h e carried (none_made (1 + length (ranges_of h)) e.request.body e.outcome other));
+      serials = subst R (sym here.1) (subst Q (sym (same_issues h e carried)) (subst P front moved));
+    }
+  where
+    not_both : (n : ℕ) → Voided ≡ Granted n → ⊥
+    not_both n e = cc
+
+-- the one row is that of the last issue, and it is made anew as voided
+pub voided_one : (rows : List SerialRow) (h : List Entry) (t : Terms) (e : Entry) (x : Id) → IsLegal h t → MayFollow h t e → All IsCall h → IsCall e → e.request.body ≡ Void x → e.outcome ≡ Voided
+    → HaveSameRows (filter (is_within (pos (pair_of x.service x.country)) (pos x.serial) (pos x.serial)) (serial_rows h)) rows
+    → (i : Issuance) × (rows ≡ row_in h i ∷ []) × Makes h e None (Some (serial_row true i))
+voided_one rows h t e x legal may calls call asks done same =
+    let last = void_issued h t e x may asks done in
+    let body : IsBody (Void x) = subst IsBody asks call.request.2 in
+    (last.0, one_selected rows h x last.0 calls body last.1 same, void_makes h t e x last.0 legal calls call asks done last.1)
+
+abbrev pub with_void : SerialRow → SerialRow
+with_void row = record row { voided = pos 1 }
+
+pub row_voided : (rows : List SerialRow) (h : List Entry) (i : Issuance) (d row : SerialRow) → rows ≡ row_in h i ∷ [] → row ≡ with_void (get_or rows 0 d) → serial_row true i ≡ row
+row_voided rows h i d row is read = sym (read ∙ ap (λ (l : List SerialRow). with_void (get_or l 0 d)) is)

@@ -1,0 +1,53 @@
+-- Which rows the statements select, and what they are of a history.
+use Rattle.std.specs.Prelude.{ℕ, ◌^◌, ◌<◌, ℤ, pos, Bool, ◌&&◌, IsTrue, int_le}
+use Rattle.std.specs.Ordering.{int_eq}
+use Rattle.s10_core.specs.Letters.{AreCapitals}
+use Rattle.s10_core.specs.Serial.{IsSerial}
+use Rattle.s10_core.specs.Id.{IsId}
+use Rattle.s10_wire.specs.Kind.{fits}
+use Rattle.s10_wire.specs.Datagrams.{IsRequest, IsOutcome}
+use Rattle.s10_book.specs.declared.entry.Entry.{Entry}
+use Rattle.s10_book.specs.declared.range.Range.{Range}
+use Rattle.s10_book.specs.declared.issue.Issue.{Issue}
+use Rattle.s10_book.specs.declared.issuance.Issuance.{Issuance}
+use Rattle.s10_rows.specs.declared.serial_row.SerialRow.{SerialRow}
+use Rattle.s10_rows.specs.CallRow.{StoredCall}
+
+-- the parts of a call are in their ranges, so that it has a row
+pub record IsCall (e : Entry) : Type 0 where
+  pub request : IsRequest e.request
+  pub outcome : IsOutcome e.outcome
+  pub fitting : IsTrue (fits e.request.body e.outcome)
+  pub day : e.day < 2 ^ 32
+
+-- the parts of a range are in theirs
+pub record IsRange (r : Range) : Type 0 where
+  pub num : r.num < 2 ^ 32
+  pub holder : r.holder < 2 ^ 32
+  pub service : AreCapitals r.service
+  pub country : AreCapitals r.country
+  pub first : IsSerial r.first
+  pub last : IsSerial r.last
+
+-- the parts of an issue are in theirs
+pub record IsIssuance (i : Issuance) : Type 0 where
+  pub id : IsId i.id
+  pub day : i.day < 2 ^ 32
+  pub customer : i.customer < 2 ^ 32
+  pub number : i.number < 2 ^ 32
+
+-- the issue that its row tells
+abbrev pub issue_told : Bool → Issuance → Issue
+issue_told voided i = record { day = i.day; voided = voided; customer = i.customer; number = i.number }
+
+-- whether the row has that key
+abbrev pub has_key_columns : ℕ → ℕ → StoredCall → Bool
+has_key_columns customer number c = int_eq c.customer (pos customer) && int_eq c.number (pos number)
+
+-- whether the arrival is one of these
+abbrev pub arrives_between : ℤ → ℤ → StoredCall → Bool
+arrives_between low high c = int_le low c.arrival && int_le c.arrival high
+
+-- whether the row is one of the pair, with a serial from low to high
+abbrev pub is_within : ℤ → ℤ → ℤ → SerialRow → Bool
+is_within pair low high r = int_eq r.pair pair && int_le low r.serial && int_le r.serial high

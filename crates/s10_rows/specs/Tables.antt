@@ -1,0 +1,93 @@
+-- What the rows of the four tables are for a history.
+use Rattle.std.specs.Prelude.{ℕ, ◌+◌, pos, Bool, if◌then◌else◌, List, [], ◌∷◌, ◌++◌, map, IsPermutation}
+use Rattle.std.specs.Int.{w32, from_be_bytes}
+use Rattle.s10_core.specs.Letters.{letters_of}
+use Rattle.s10_book.specs.declared.entry.Entry.{Entry}
+use Rattle.s10_book.specs.declared.range.Range.{Range}
+use Rattle.s10_book.specs.declared.issuance.Issuance.{Issuance}
+use Rattle.s10_book.specs.Settings.{Terms}
+use Rattle.s10_book.specs.History.{ranges_of}
+use Rattle.s10_book.specs.Issues.{issues_of, last_issues, voided_after, pick_of}
+use Rattle.s10_rows.specs.declared.head_row.HeadRow.{HeadRow}
+use Rattle.s10_rows.specs.declared.range_row.RangeRow.{RangeRow}
+use Rattle.s10_rows.specs.declared.serial_row.SerialRow.{SerialRow}
+use Rattle.s10_rows.specs.CallRow.{StoredCall}
+use Rattle.s10_rows.specs.Replies.{reply_bytes}
+
+-- the rows of the four tables
+pub record Tables : Type 0 where
+  pub heads : List HeadRow
+  pub calls : List StoredCall
+  pub ranges : List RangeRow
+  pub serials : List SerialRow
+
+-- the same rows, in whatever order
+abbrev pub HaveSameRows : {R : Type 0} → List R → List R → Type 0
+HaveSameRows rows others = ∥ IsPermutation rows others ∥₁
+
+-- the four bytes of service and country as a big-endian number
+unfoldable pub pair_of : ℕ × ℕ → ℕ × ℕ → ℕ
+pair_of service country = from_be_bytes w32 (letters_of service ++ letters_of country)
+
+-- the one row of head: schema 1, and the settings
+abbrev pub head_row : Terms → HeadRow
+head_row t = record { one = pos 1; schema = pos 1; interval = pos t.interval; cap = pos t.limit }
+
+-- the row of call number arrival
+abbrev pub call_row : ℕ → Entry → StoredCall
+call_row arrival e = record {
+  arrival = pos arrival;
+  customer = pos e.request.customer;
+  number = pos e.request.number;
+  day = pos e.day;
+  reply = reply_bytes e.request e.outcome;
+}
+
+-- the rows of the calls, the first of them being call number arrival
+abbrev pub call_rows_from : ℕ → List Entry → List StoredCall
+call_rows_from arrival [] = []
+call_rows_from arrival (e ∷ es) = call_row arrival e ∷ call_rows_from (arrival + 1) es
+
+abbrev pub call_rows : List Entry → List StoredCall
+call_rows h = call_rows_from 1 h
+
+-- the row of a range whose next serial is the mark
+abbrev pub range_row : ℕ → Range → RangeRow
+range_row mark r = record {
+  num = pos r.num;
+  holder = pos r.holder;
+  pair = pos (pair_of r.service r.country);
+  low = pos r.first;
+  high = pos r.last;
+  mark = pos mark;
+}
+
+-- the ranges, in order of their numbers, each with its pick as the mark
+abbrev pub range_rows : List Entry → List RangeRow
+range_rows h = map (λ r. range_row (pick_of (issues_of h) r) r) (ranges_of h)
+
+abbrev pub flag : Bool → ℕ
+flag voided = if voided then 1 else 0
+
+-- the row of an identifier at its last issue
+abbrev pub serial_row : Bool → Issuance → SerialRow
+serial_row voided i = record {
+  pair = pos (pair_of i.id.service i.id.country);
+  serial = pos i.id.serial;
+  arrival = pos i.arrival;
+  day = pos i.day;
+  customer = pos i.customer;
+  number = pos i.number;
+  voided = pos (flag voided);
+}
+
+-- one row for each identifier ever issued
+abbrev pub serial_rows : List Entry → List SerialRow
+serial_rows h = map (λ i. serial_row (voided_after i.arrival h i.id) i) (last_issues (issues_of h))
+
+-- the tables that a history makes
+abbrev pub tables_of : List Entry → Terms → Tables
+tables_of h t = record { heads = head_row t ∷ []; calls = call_rows h; ranges = range_rows h; serials = serial_rows h }
+
+abbrev pub no_rows : Tables
+no_rows = record { heads = []; calls = []; ranges = []; serials = [] }

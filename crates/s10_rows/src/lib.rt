@@ -1,0 +1,34 @@
+//! The typed rows of a ledger's tables: what they are for a history, how calls are read off them, and which rows a call makes.
+#![tactic(auto)]
+
+mod call_reading;
+mod call_row;
+mod column;
+mod head_reading;
+mod head_row;
+mod made_rows;
+mod open_fault;
+mod opened;
+mod range_reading;
+mod range_row;
+mod replaying;
+mod same_rows;
+mod serial_reading;
+mod serial_row;
+mod usage_reading;
+
+pub use call_reading::only_call;
+pub use call_row::CallRow;
+pub use column::{letters_in, pair_number};
+pub use head_reading::settings_in;
+pub use head_row::HeadRow;
+pub use made_rows::{Made, drawn_rows, granted_row, other_calls_make_no_row, voided_row};
+pub use open_fault::OpenFault;
+pub use opened::Opened;
+pub use range_reading::{mark_of, range_after, range_numbered, range_over};
+pub use range_row::RangeRow;
+pub use replaying::replay_rows;
+pub use same_rows::{same_ranges, same_serials};
+pub use serial_reading::only_issue;
+pub use serial_row::SerialRow;
+pub use usage_reading::usage_among;

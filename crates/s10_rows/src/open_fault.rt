@@ -1,0 +1,45 @@
+use s10_book::BookFault;
+use thiserror::Error;
+
+/// Why a ledger could not be made or opened.
+#[derive(Clone, Copy, Debug, PartialEq, Eq, Error)]
+pub enum OpenFault {
+    /// The first tables are not declared as a ledger's, another one refers to them or an index is on them, or `head` is not one
+    /// row with settings in their limits.
+    #[error("not-a-ledger")]
+    NotALedger,
+    /// The number of the schema is not 1.
+    #[error("schema {0}")]
+    Schema(i64),
+    /// The kept call, from 1, that is the first wrong one; 0 where all calls are right and a row of another table is not
+    /// what they make.
+    #[error("damaged {0}")]
+    Damaged(u32),
+    /// A table of one of the names is there.
+    #[error("not-empty")]
+    NotEmpty,
+    /// Want of memory.
+    #[error("memory")]
+    Memory,
+    /// A statement failed that should pass.
+    #[error("store")]
+    Store,
+}
+
+impl OpenFault {
+    ghost use Rattle.std.specs.Prelude.{◌≡◌, ◌≢◌};
+    ghost use Rattle.s10_rows.specs.Tables.{Tables};
+    ghost use Rattle.s10_rows.specs.Verdict.{IsRefusal};
+
+    /// What a fault of a book is for the opening.
+    pub fn of_book(fault: BookFault) -> OpenFault
+        ensures memory { fault ≡ BookFault.Memory → result ≡ OpenFault.Memory }
+        ensures store { fault ≢ BookFault.Memory → result ≡ OpenFault.Store }
+        ensures refusal { (tables : Tables) → IsRefusal tables result }
+    {
+        match fault {
+            BookFault::Memory => OpenFault::Memory,
+            _ => OpenFault::Store,
+        }
+    }
+}
