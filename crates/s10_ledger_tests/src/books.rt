@@ -1,8 +1,8 @@
 //! The same calls over a book in memory and over one in tables.
 
 use crate::calls::{
-    Step, draw, drawn, gb, grant, granted, id, ledger, nine_calls, opening, query, ra, rb, run, serial,
-    settings, six_calls, told, us, void,
+    Step, draw, drawn, gb, grant, granted, id, ledger, nine_calls, opening, query, ra, rb, run,
+    serial, settings, six_calls, told, us, void,
 };
 use s10_book::{Book, BookFault, Candidate, Entry, Issue, PlainBook, Range, Usage};
 use s10_core::Id;

@@ -122,7 +122,11 @@ pub(crate) fn ledger<R: Abort + AllocGlobal>(rt: &R, settings: Settings) -> SqlB
 }
 
 // What a server does with a request: a kept one is answered from the book, a new one is decided and kept.
-pub(crate) fn answer<B: Book>(book: &mut B, request: &Request, day: u32) -> Result<Outcome, BookFault> {
+pub(crate) fn answer<B: Book>(
+    book: &mut B,
+    request: &Request,
+    day: u32,
+) -> Result<Outcome, BookFault> {
     if let Some(entry) = book.find(request.customer, request.number)? {
         return Ok(if entry.request == *request {
             entry.outcome

@@ -29,7 +29,12 @@ fn holds(
             return Ok(false);
         }
     }
-    let row = numbers(alloc, conn, "SELECT one, schema, interval, cap FROM head", 4)?;
+    let row = numbers(
+        alloc,
+        conn,
+        "SELECT one, schema, interval, cap FROM head",
+        4,
+    )?;
     Ok(row.as_slice() == head)
 }
 

@@ -145,10 +145,10 @@ fn other_databases_are_no_ledgers(rt: HostRuntime) -> Result<(), Fail> {
 // Whether the nine calls are found twice, one opening behind the other.
 fn is_found_twice(alloc: Global, whole: Opened) -> Result<bool, Error> {
     let conn = nine_calls(alloc)?;
-    Ok(match found(alloc, conn) {
-        Some((answer, conn)) => answer == Ok(whole) && opens(alloc, conn, &Ok(whole)),
-        None => false,
-    })
+    let Some((answer, conn)) = found(alloc, conn) else {
+        return Ok(false);
+    };
+    Ok(opens(alloc, conn, &Ok(whole)) && answer == Ok(whole))
 }
 
 #[test]
@@ -172,7 +172,7 @@ fn is_told_and_mended(
         return Ok(false);
     };
     conn.execute_batch(mend)?;
-    Ok(answer == Err(OpenFault::Damaged(call)) && opens(alloc, conn, &Ok(whole)))
+    Ok(opens(alloc, conn, &Ok(whole)) && answer == Err(OpenFault::Damaged(call)))
 }
 
 #[test]
@@ -202,7 +202,10 @@ fn damage_is_told_and_leaves_the_rows(rt: HostRuntime) -> Result<(), Fail> {
         ),
     ];
     for (damage, call, mend) in cases {
-        assert!(rt; is_told_and_mended(rt.alloc(), whole, damage, call, mend)?, "{damage}");
+        assert!(rt;
+            is_told_and_mended(rt.alloc(), whole, damage, call, mend)?,
+            "{damage}"
+        );
     }
     Ok(())
 }

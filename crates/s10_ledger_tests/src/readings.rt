@@ -3,8 +3,8 @@
 use s10_book::{BookFault, Entry, Issue, Range, Usage};
 use s10_core::{Country, Id, Serial, Service};
 use s10_rows::{
-    CallRow, RangeRow, SerialRow, letters_in, mark_of, only_call, only_issue, pair_number, range_after,
-    range_numbered, range_over, usage_among,
+    CallRow, RangeRow, SerialRow, letters_in, mark_of, only_call, only_issue, pair_number,
+    range_after, range_numbered, range_over, usage_among,
 };
 use s10_wire::{Body, Outcome, Request};
 use std::alloc::Global;

@@ -18,11 +18,13 @@ const RANGES_TABLE: &str =
 const SERIALS_TABLE: &str =
     "CREATE TABLE serials (pair INTEGER NOT NULL, serial INTEGER NOT NULL, arrival INTEGER NOT NULL, day INTEGER NOT NULL, customer INTEGER NOT NULL, number INTEGER NOT NULL, voided INTEGER NOT NULL, PRIMARY KEY (pair, serial)) STRICT;";
 
-pub(crate) const HEAD: &str = "INSERT INTO head (one, schema, interval, cap) VALUES (1, 1, 30, 100);";
+pub(crate) const HEAD: &str =
+    "INSERT INTO head (one, schema, interval, cap) VALUES (1, 1, 30, 100);";
 
 /// The post grants RA GB 0 to 2 to customer 7, which draws serials 0 and 1, voids 1 twice, draws serial 2, is told that none is
 /// free, and 30 days after it draws 0 and 1 again.
-pub(crate) const NINE_REPLIES: &str = "INSERT INTO calls (arrival, customer, number, day, reply) VALUES
+pub(crate) const NINE_REPLIES: &str =
+    "INSERT INTO calls (arrival, customer, number, day, reply) VALUES
 (1, 0, 1, 20000, x'533101810000000000000001000000075241474200000000000000020000000001'),
 (2, 7, 1, 20000, x'533101820000000700000001524147420000004e2052413030303030303030354742'),
 (3, 7, 2, 20000, x'533101820000000700000002524147420000004e2052413030303030303031344742'),
@@ -38,7 +40,8 @@ pub(crate) const ONE_RANGE: &str =
     "INSERT INTO ranges (num, holder, pair, low, high, mark) VALUES (1, 7, 1380009794, 0, 2, 2);";
 
 /// The last issues of its serials.
-const THREE_SERIALS: &str = "INSERT INTO serials (pair, serial, arrival, day, customer, number, voided) VALUES
+const THREE_SERIALS: &str =
+    "INSERT INTO serials (pair, serial, arrival, day, customer, number, voided) VALUES
 (1380009794, 0, 8, 20030, 7, 7, 0),
 (1380009794, 1, 9, 20030, 7, 8, 0),
 (1380009794, 2, 6, 20000, 7, 5, 0);";
@@ -96,10 +99,10 @@ pub(crate) fn opens(
     conn: Connection<MemStore>,
     expected: &Result<Opened, OpenFault>,
 ) -> bool {
-    match found(alloc, conn) {
-        Some((answer, _)) => answer == *expected,
-        None => false,
-    }
+    let Some((answer, _conn)) = found(alloc, conn) else {
+        return false;
+    };
+    answer == *expected
 }
 
 // The numbers that a query shows, row after row.

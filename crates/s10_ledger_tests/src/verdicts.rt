@@ -1,6 +1,8 @@
 //! What is found of the rows of a ledger's tables.
 
-use crate::tables::{HEAD, ONE_RANGE, NINE_REPLIES, TABLES, database, ledger_of, nine_calls, opens};
+use crate::tables::{
+    HEAD, NINE_REPLIES, ONE_RANGE, TABLES, database, ledger_of, nine_calls, opens,
+};
 use s10_ledger::OpenFault;
 use s10_rows::Opened;
 use sqlite::Error;
