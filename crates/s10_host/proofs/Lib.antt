@@ -1,3 +1,5 @@
+mod Auditing
+mod MemoryLedger
 mod Answering
 mod Looping
 mod Opening

@@ -14,7 +14,7 @@ use Rattle.sqlite_wal.specs.Files.{image_at}
 use Rattle.sqlite.specs.Files.{file_state, over_files}
 use Rattle.s10_book.specs.Settings.{Terms}
 use Rattle.s10_ledger.specs.Ledger.{Ledger, IsHonest, history_in}
-use Rattle.s10_ledger.specs.declared.open_fault.OpenFault.{OpenFault}
+use Rattle.s10_rows.specs.declared.open_fault.OpenFault.{OpenFault}
 use Rattle.s10_ledger.specs.Refusals.{IsMakingRefusal, IsOpeningRefusal}
 use Rattle.s10_host.specs.Files.{FileConnection, IsFoundIn, IsHonestWhereClean, IsEmptyBook, IsOpenedFrom, IsNotMade, IsNotOpened}
 

@@ -21,8 +21,8 @@ use Rattle.sqlite.specs.Start.{FindsIn}
 use Rattle.sqlite.specs.Closing.{IsCopied}
 use Rattle.s10_book.specs.Settings.{Terms}
 use Rattle.s10_ledger.specs.Ledger.{Ledger, IsHonest, history_in}
-use Rattle.s10_ledger.specs.declared.open_fault.OpenFault.{OpenFault}
-use Rattle.s10_ledger.specs.declared.open_fault.OpenFault.TheVariants.{NotALedger, Memory, Store}
+use Rattle.s10_rows.specs.declared.open_fault.OpenFault.{OpenFault}
+use Rattle.s10_rows.specs.declared.open_fault.OpenFault.TheVariants.{NotALedger, Memory, Store}
 use Rattle.s10_ledger.specs.Refusals.{IsMakingRefusal, IsOpeningRefusal}
 
 module _ {D : Type 0} {g : Ghosts D} where

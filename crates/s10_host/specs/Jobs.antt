@@ -15,7 +15,7 @@ use Rattle.s10_jobs.specs.declared.job.Job.{Job}
 use Rattle.s10_jobs.specs.declared.job.Job.TheVariants as job
 use Rattle.s10_jobs.specs.declared.reporting.Report.{Report}
 use Rattle.s10_jobs.specs.declared.reporting.Report.TheVariants.{Ranges, Issues}
-use Rattle.s10_jobs.specs.Audited.{IsFound, audit_line}
+use Rattle.s10_host.specs.Audited.{IsFound, audit_line}
 use Rattle.s10_jobs.specs.Reporting.{report_lines}
 use Rattle.s10_jobs.specs.Serving.{IsTurn, Serves}
 use Rattle.s10_host.specs.Questioning.{IsAnswer}

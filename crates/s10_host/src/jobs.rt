@@ -6,6 +6,7 @@ ghost use Rattle.s10_host.specs.Looped.{loop_requests, AreDone};
 ghost use Rattle.s10_jobs.specs.Shown.{Prints};
 ghost use Rattle.s10_host.specs.Jobs.{HasMade, HasServed, HasReported, HasAudited, HasDone};
 
+use crate::audit::run_audit;
 use crate::files::{close_book, connect_to_ledger, create_book, open_book};
 use crate::loopback::run_loop;
 use crate::questioning::run_question;
@@ -13,8 +14,7 @@ use crate::serving::serve_at;
 use s10_book::Settings;
 use s10_ends::Server;
 use s10_jobs::{
-    Job, Report, Status, day_or_today, fail_by_clock, fail_by_ledger, refuse, run_audit,
-    write_report,
+    Job, Report, Status, day_or_today, fail_by_clock, fail_by_ledger, refuse, write_report,
 };
 use s10_ledger::OpenFault;
 use s10_link::Peer;

@@ -1,14 +1,18 @@
-//! The jobs over the host's files, sockets and clock.
+//! The jobs over ledgers in tables, and over the host's files, sockets and clock.
 #![tactic(auto)]
 
+mod audit;
 mod files;
 mod jobs;
 mod loopback;
 mod questioning;
+mod replays;
 mod serving;
 mod waiting;
 
+pub use audit::run_audit;
 pub use jobs::run_job;
 pub use loopback::run_loop;
 pub use questioning::run_question;
+pub use replays::{replay, run_replay};
 pub use serving::serve_at;

@@ -1,6 +1,4 @@
 mod LineReading
 mod HexReading
 mod ReplayedLines
-mod Auditing
-mod MemoryLedger
 mod Turning

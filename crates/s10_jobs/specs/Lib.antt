@@ -7,7 +7,6 @@ pub mod AnswerLines
 pub mod Replay
 pub mod TurnLines
 pub mod Asked
-pub mod Audited
 pub mod Questions
 pub mod Reporting
 pub mod Serving

@@ -8,8 +8,8 @@ ghost use Rattle.s10_jobs.specs.Words.{open_fault_words, link_fault_words};
 use crate::ledger_fault::write_ledger_fault;
 use crate::link_fault::write_link_fault;
 use crate::status::Status;
-use s10_ledger::OpenFault;
 use s10_link::LinkFault;
+use s10_rows::OpenFault;
 use s10_wire::{WriteFault, write_text};
 use std::io::Write;
 

@@ -6,7 +6,7 @@ ghost use Rattle.s10_wire.specs.Lines.{line_of};
 ghost use Rattle.s10_jobs.specs.Words.{open_fault_words};
 
 use crate::words::write_open_fault;
-use s10_ledger::OpenFault;
+use s10_rows::OpenFault;
 use s10_wire::{WriteFault, write_text};
 use std::io::Write;
 

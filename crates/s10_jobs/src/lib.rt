@@ -1,10 +1,8 @@
-//! What each subcommand reads, does and writes, over readers, writers, links, connections and books
-//! that are handed in.
+//! What the subcommands read, do and write, over readers, writers, links and books that are handed in.
 #![tactic(auto)]
 
 mod answer_line;
 mod asking;
-mod audit;
 mod body_words;
 mod checking;
 mod day;
@@ -31,7 +29,6 @@ mod words;
 
 pub use answer_line::write_answer;
 pub use asking::ask;
-pub use audit::run_audit;
 pub use body_words::BodyWords;
 pub use checking::check;
 pub use day::{day_or_today, today};
@@ -43,8 +40,8 @@ pub use making::make;
 pub use question::Question;
 pub use refusal::{Refusal, write_refusal};
 pub use refusals::refuse;
-pub use replay_fault::ReplayFault;
-pub use replaying::{replay, run_replay};
+pub use replay_fault::{ReplayFault, write_replay_fault};
+pub use replaying::replay_on;
 pub use reporting::{Report, write_report};
 pub use showing::show;
 pub use status::Status;

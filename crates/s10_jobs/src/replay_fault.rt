@@ -1,3 +1,10 @@
+ghost use Rattle.std.specs.Prelude.{◌≡◌, IfOk};
+ghost use Rattle.std.specs.Io.KnownBytes.{Appends};
+ghost use Rattle.s10_jobs.specs.Words.{replay_fault_line, replay_fault_status};
+
+use crate::status::Status;
+use s10_wire::{WriteFault, write_decimal, write_text, write_word};
+use std::io::Write;
 use thiserror::Error;
 
 /// Why a replay ended early.
@@ -18,4 +25,26 @@ pub enum ReplayFault {
     /// The ledger cannot be made in its store. Nothing was written.
     #[error("the ledger cannot be stored")]
     Store,
+}
+
+/// Writes the line of a replay that ended early, and answers its status: Refused for a line that is refused, else
+/// Failed.
+pub fn write_replay_fault<W: Write>(fault: ReplayFault, out: &mut W) -> Result<Status, WriteFault>
+    ensures { IfOk result (λ status. (status ≡ replay_fault_status fault)
+        × Appends (W.contents out.old) (W.contents out.new) (replay_fault_line fault)) }
+{
+    match fault {
+        ReplayFault::Line(number) => {
+            write_text(b"refused", out)?;
+            write_word(b"line", out)?;
+            write_decimal(number, out)?;
+            write_text(b"\n", out)?;
+            return Ok(Status::Refused);
+        }
+        ReplayFault::Read => write_text(b"input\n", out)?,
+        ReplayFault::Write => write_text(b"output\n", out)?,
+        ReplayFault::Memory => write_text(b"memory\n", out)?,
+        ReplayFault::Store => write_text(b"store\n", out)?,
+    }
+    Ok(Status::Failed)
 }

@@ -1,55 +1,26 @@
 //! A replay: datagrams from the lines of an input, answers as lines of output.
-ghost use Rattle.std.specs.Prelude.{◌≡◌, [], List, IfOk, IfSome};
-ghost use Rattle.std.specs.Io.KnownBytes.{Appends};
-ghost use Rattle.s10_book.specs.declared.entry.Entry.{Entry};
+ghost use Rattle.std.specs.Prelude.{IfSome};
 ghost use Rattle.s10_ends.specs.Server.{book_of};
 ghost use Rattle.s10_jobs.specs.Replay.{Replayed};
-ghost use Rattle.s10_jobs.specs.Words.{replay_fault_line, replay_fault_status};
 
 use crate::answer_line::write_answer;
 use crate::delivery_line::{read_delivery, without_return};
 use crate::line_reader::{LINE_ROOM, NextLine, next_byte, read_line};
 use crate::replay_fault::ReplayFault;
-use crate::status::Status;
-use s10_book::{Book, Settings};
+use s10_book::Book;
 use s10_ends::Server;
-use s10_ledger::{OpenFault, SqlBook};
-use s10_wire::{WriteFault, write_decimal, write_text, write_word};
-use std::alloc::Global;
 use std::io::{Read, Write};
 
 /// How many lines an input may have, empty ones too.
 const MOST_LINES: u32 = 1_000_000;
 
-/// Hands the datagrams of an input to the server of an empty ledger, writes a line for each answer, and answers how many
-/// there were.
+/// Hands the datagrams of an input to a server, writes a line for each answer, and answers how many there were.
 ///
 /// An input line is DAY, one space, HEX: one to ten digits, at most 4294967295, and an even number of hexadecimal digits,
 /// at most 1024, also none. A carriage return at the end of a line is dropped, and an empty line is passed over. A line
 /// of more than 1036 bytes, or past the millionth, is refused without reading more of it, so a replay ends on any reader.
 /// An interrupted read is tried again.
-pub fn replay<R: Read, W: Write>(
-    alloc: Global,
-    settings: Settings,
-    input: &mut R,
-    output: &mut W,
-) -> Result<u32, ReplayFault>
-    ensures { IfSome (R.remaining input.old) (λ bytes. IfSome (W.contents output.old) (λ held.
-        (after : List Entry) × Replayed [] settings bytes held (W.contents output.new) result after)) }
-{
-    let book = match SqlBook::in_memory(alloc, settings) {
-        Ok(book) => book,
-        Err(OpenFault::Memory) => return Err(ReplayFault::Memory),
-        Err(_) => return Err(ReplayFault::Store),
-    };
-    let mut server = Server::new(book);
-    let replayed = replay_on(&mut server, input, output);
-    let _ = server.into_book().close();
-    replayed
-}
-
-// Goes on with the ledger of a server.
-fn replay_on<B: Book, R: Read, W: Write>(
+pub fn replay_on<B: Book, R: Read, W: Write>(
     server: &mut Server<B>,
     input: &mut R,
     output: &mut W,
@@ -90,37 +61,4 @@ fn replay_on<B: Book, R: Read, W: Write>(
         Ok(Some(_byte)) => Err(ReplayFault::Line(MOST_LINES + 1)),
         Err(_) => Err(ReplayFault::Read),
     }
-}
-
-/// Runs a replay. A fault of it is written as the last line.
-pub fn run_replay<R: Read, W: Write>(
-    alloc: Global,
-    settings: Settings,
-    input: &mut R,
-    output: &mut W,
-) -> Result<Status, WriteFault> {
-    match replay(alloc, settings, input, output) {
-        Ok(_) => Ok(Status::Done),
-        Err(fault) => write_fault(fault, output),
-    }
-}
-
-fn write_fault<W: Write>(fault: ReplayFault, out: &mut W) -> Result<Status, WriteFault>
-    ensures { IfOk result (λ status. (status ≡ replay_fault_status fault)
-        × Appends (W.contents out.old) (W.contents out.new) (replay_fault_line fault)) }
-{
-    match fault {
-        ReplayFault::Line(number) => {
-            write_text(b"refused", out)?;
-            write_word(b"line", out)?;
-            write_decimal(number, out)?;
-            write_text(b"\n", out)?;
-            return Ok(Status::Refused);
-        }
-        ReplayFault::Read => write_text(b"input\n", out)?,
-        ReplayFault::Write => write_text(b"output\n", out)?,
-        ReplayFault::Memory => write_text(b"memory\n", out)?,
-        ReplayFault::Store => write_text(b"store\n", out)?,
-    }
-    Ok(Status::Failed)
 }

@@ -8,8 +8,8 @@ ghost use Rattle.s10_jobs.specs.Words.{group_words, text_fault_words, wire_fault
 use itoa::Buffer;
 use s10_book::BookFault;
 use s10_core::{Group, TextFault};
-use s10_ledger::OpenFault;
 use s10_link::LinkFault;
+use s10_rows::OpenFault;
 use s10_wire::{WireFault, WriteFault, write_decimal, write_word};
 use std::io::Write;
 

@@ -5,10 +5,10 @@ use Rattle.std.specs.Io.KnownBytes.{Appends}
 use Rattle.sqlite_trees.specs.declared.store.Store.{Ghosts}
 use Rattle.sqlite.specs.Held.{Held}
 use Rattle.s10_wire.specs.declared.write_fault.WriteFault.{WriteFault}
-use Rattle.s10_ledger.specs.declared.open_fault.OpenFault.{OpenFault}
+use Rattle.s10_rows.specs.declared.open_fault.OpenFault.{OpenFault}
 use Rattle.s10_jobs.specs.declared.status.Status.{Status}
 use Rattle.s10_jobs.specs.declared.status.Status.TheVariants.{Done}
-use Rattle.s10_jobs.specs.Audited.{IsFound, audit_line, audit_status}
+use Rattle.s10_host.specs.Audited.{IsFound, audit_line, audit_status}
 
 pub done_counts : {S : Type 0} (g : Ghosts S) (before left : Held S) (found : Result ℕ OpenFault) (old new : Option (List ℕ))
     → IsFound g before left found → Done ≡ audit_status found → Appends old new (audit_line found)

@@ -1,5 +1,5 @@
-use Rattle.s10_jobs.proofs.Auditing.{done_says}
-use Rattle.s10_jobs.proofs.audit.run_audit.Goals as goal
+use Rattle.s10_host.proofs.Auditing.{done_says}
+use Rattle.s10_host.proofs.audit.run_audit.Goals as goal
 
 pub returns-in-Ok-Done-clause-ok : goal.returns-in-Ok-Done-clause-ok
 returns-in-Ok-Done-clause-ok g c = λ _.

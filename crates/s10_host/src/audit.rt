@@ -4,12 +4,11 @@ ghost use Rattle.std.specs.Prelude.{◌≡◌, ◌⊎◌, ◌∷◌, [], ℕ, fa
 ghost use Rattle.std.specs.Io.KnownBytes.{Appends};
 ghost use Rattle.sqlite.specs.Held.{Held};
 ghost use Rattle.s10_wire.specs.Lines.{line_of};
-ghost use Rattle.s10_ledger.specs.declared.open_fault.OpenFault.{OpenFault};
-ghost use Rattle.s10_jobs.specs.Audited.{IsFound, audit_line, audit_status};
+ghost use Rattle.s10_rows.specs.declared.open_fault.OpenFault.{OpenFault};
+ghost use Rattle.s10_host.specs.Audited.{IsFound, audit_line, audit_status};
 
-use crate::ledger_fault::write_ledger_fault;
-use crate::status::Status;
 use s10_book::Book;
+use s10_jobs::{Status, write_ledger_fault};
 use s10_ledger::{OpenFault, Refused, SqlBook};
 use s10_wire::{WriteFault, write_decimal, write_text, write_word};
 use sqlite::{Alter, Connection};

@@ -1,7 +1,7 @@
 use Rattle.std.proofs.Common.{[], ◌∷◌}
 use Rattle.std.specs.Prelude.{codes, decimal}
 use Rattle.s10_wire.proofs.Writing.{words_then, line_follows}
-use Rattle.s10_jobs.proofs.audit.write_count.Goals as goal
+use Rattle.s10_host.proofs.audit.write_count.Goals as goal
 
 pub returns : goal.returns
 returns g c =

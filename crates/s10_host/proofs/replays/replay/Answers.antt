@@ -1,8 +1,8 @@
 use Rattle.std.proofs.Common.{subst}
 use Rattle.sqlite.specs.Steps.{over_memory}
 use Rattle.s10_ledger.specs.Ledger.{IsHonest}
-use Rattle.s10_jobs.proofs.MemoryLedger.{is_honest, from_nothing}
-use Rattle.s10_jobs.proofs.replaying.replay.Goals as goal
+use Rattle.s10_host.proofs.MemoryLedger.{is_honest, from_nothing}
+use Rattle.s10_host.proofs.replays.replay.Goals as goal
 
 pub returns : goal.returns
 returns g c =
