@@ -21,7 +21,7 @@ use Rattle.s10_rows.specs.declared.head_row.HeadRow.{HeadRow}
 use Rattle.s10_rows.specs.declared.range_row.RangeRow.{RangeRow}
 use Rattle.s10_rows.specs.declared.serial_row.SerialRow.{SerialRow}
 use Rattle.s10_rows.specs.CallRow.{StoredCall}
-use Rattle.s10_ledger.specs.Schema.{IsLedgerSchema, with_others, others_in}
+use Rattle.s10_schema.specs.Schema.{IsLedgerSchema, with_others, others_in}
 use Rattle.s10_ledger.specs.Shown.{shown_head, shown_call, shown_range, shown_serial, head_columns, call_columns, range_columns, serial_columns}
 use Rattle.s10_rows.specs.Selected.{has_key_columns, arrives_between, is_within}
 use Rattle.s10_ledger.specs.Statements.{head_text, key_text, arrivals_text, calls_text, ranges_text, within_text, serials_text}

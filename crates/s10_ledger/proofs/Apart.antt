@@ -18,7 +18,7 @@ use Rattle.sqlite_schema.specs.Rules.{ParentKey, parent_key, key_in, key_places,
 use Rattle.sqlite_rules.specs.declared.action.Deed.{Deed}
 use Rattle.sqlite_rules.specs.Action.{Work, work_by, work_for, works, pairs, deed_for}
 use Rattle.sqlite_rules.specs.Keys.{shares}
-use Rattle.s10_ledger.specs.Schema.{IsLedgerSchema, with_others, others_in, is_own_tree, is_own_name, refer_apart, are_apart, index_apart, head_table, calls_table, ranges_table, serials_table}
+use Rattle.s10_schema.specs.Schema.{IsLedgerSchema, with_others, others_in, is_own_tree, is_own_name, refer_apart, are_apart, index_apart, head_table, calls_table, ranges_table, serials_table}
 
 pub is_ledger-prop : (s : Schema) (a b : IsLedgerSchema s) → a ≡ b
 is_ledger-prop s a b =

@@ -13,7 +13,7 @@ use Rattle.sqlite_sql.specs.Query.{Output, output_cmp}
 use Rattle.sqlite_sql.proofs.QueryLemmas.{output_cmp_total}
 use Rattle.sqlite.specs.State.{State, Shown}
 use Rattle.s10_rows.specs.CallRow.{StoredCall}
-use Rattle.s10_ledger.specs.Schema.{IsLedgerSchema}
+use Rattle.s10_schema.specs.Schema.{IsLedgerSchema}
 use Rattle.s10_ledger.specs.Shown.{shown_call, call_columns}
 use Rattle.s10_ledger.specs.Statements.{calls_text}
 use Rattle.s10_ledger.proofs.Texts.{calls_query}

@@ -17,7 +17,7 @@ use Rattle.s10_book.specs.Rules.{MayFollow}
 use Rattle.s10_book.proofs.Push.{IsLegal-push}
 use Rattle.s10_book.specs.Book.{Keeps}
 use Rattle.s10_book.specs.Settings.{Terms}
-use Rattle.s10_ledger.specs.Schema.{IsLedgerSchema}
+use Rattle.s10_schema.specs.Schema.{IsLedgerSchema}
 use Rattle.s10_ledger.specs.Statements.{Leaves}
 use Rattle.s10_ledger.specs.Ledger.{Ledger, IsLedger, Holds, IsHonest, history_in}
 use Rattle.s10_rows.specs.Selected.{IsCall}

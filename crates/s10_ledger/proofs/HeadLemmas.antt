@@ -20,7 +20,7 @@ use Rattle.sqlite.specs.Listing.{understood}
 use Rattle.sqlite.specs.State.{State, mode_of, Executes}
 use Rattle.sqlite.proofs.Callers.{command_of, statement_of, runs_as, one_step}
 use Rattle.s10_book.specs.Settings.{Terms}
-use Rattle.s10_ledger.specs.Schema.{with_others, others_in, head_table}
+use Rattle.s10_schema.specs.Schema.{with_others, others_in, head_table}
 use Rattle.s10_rows.specs.Tables.{Tables, head_row}
 use Rattle.s10_ledger.specs.Shown.{HasTables, shown_head, head_columns}
 use Rattle.s10_ledger.specs.Statements.{settings_text}

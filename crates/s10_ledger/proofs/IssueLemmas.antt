@@ -43,7 +43,7 @@ use Rattle.sqlite.specs.Listing.{understood}
 use Rattle.sqlite.specs.State.{State, mode_of, Executes}
 use Rattle.sqlite.proofs.Callers.{statement_of, runs_as, one_step, one_permutation}
 use Rattle.s10_rows.specs.declared.serial_row.SerialRow.{SerialRow}
-use Rattle.s10_ledger.specs.Schema.{with_others, others_in, are_apart, index_apart, serials_table}
+use Rattle.s10_schema.specs.Schema.{with_others, others_in, are_apart, index_apart, serials_table}
 use Rattle.s10_rows.specs.Tables.{Tables, HaveSameRows}
 use Rattle.s10_rows.specs.Kept.{is_at, with_serial}
 use Rattle.s10_ledger.specs.Shown.{HasTables, shown_serial, serial_columns, IsNumbered}

@@ -17,7 +17,7 @@ use Rattle.sqlite.specs.Listing.{understood}
 use Rattle.sqlite.specs.State.{State, mode_of, Executes}
 use Rattle.sqlite.proofs.Callers.{statement_of, runs_as, one_step}
 use Rattle.s10_rows.specs.CallRow.{StoredCall}
-use Rattle.s10_ledger.specs.Schema.{with_others, others_in, calls_table}
+use Rattle.s10_schema.specs.Schema.{with_others, others_in, calls_table}
 use Rattle.s10_rows.specs.Tables.{Tables, HaveSameRows}
 use Rattle.s10_ledger.specs.Shown.{HasTables, shown_call, call_columns}
 use Rattle.s10_ledger.specs.Statements.{keep_text}

@@ -20,7 +20,6 @@ pub mod HistoryLemmas
 pub mod BookLemmas
 pub mod NewLedger
 pub mod KeyLemmas
-pub mod SchemaLemmas
 pub mod Apart
 pub mod WholeLemmas
 pub mod RefusalLemmas

@@ -13,7 +13,7 @@ use Rattle.sqlite.specs.Given.{IsPlain}
 use Rattle.sqlite.specs.Listing.{understood}
 use Rattle.sqlite.specs.State.{State, Writes, Executes}
 use Rattle.sqlite.proofs.Callers.{command_of, statement_of, runs_as}
-use Rattle.s10_ledger.specs.Schema.{IsLedgerSchema, with_others, no_schema, head_table, calls_table, ranges_table, serials_table, calls_index}
+use Rattle.s10_schema.specs.Schema.{IsLedgerSchema, with_others, no_schema, head_table, calls_table, ranges_table, serials_table, calls_index}
 use Rattle.s10_ledger.specs.Statements.{head_made, calls_made, ranges_made, serials_made}
 use Rattle.s10_rows.specs.Tables.{no_rows}
 use Rattle.s10_ledger.specs.Shown.{HasTables}

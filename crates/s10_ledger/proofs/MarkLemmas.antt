@@ -32,7 +32,7 @@ use Rattle.sqlite.specs.Listing.{understood}
 use Rattle.sqlite.specs.State.{State, mode_of, Executes}
 use Rattle.sqlite.proofs.Callers.{statement_of, runs_as, one_step}
 use Rattle.s10_rows.specs.declared.range_row.RangeRow.{RangeRow}
-use Rattle.s10_ledger.specs.Schema.{with_others, others_in, are_apart, index_apart, ranges_table}
+use Rattle.s10_schema.specs.Schema.{with_others, others_in, are_apart, index_apart, ranges_table}
 use Rattle.s10_rows.specs.Tables.{Tables, HaveSameRows}
 use Rattle.s10_rows.specs.Kept.{has_num, with_range}
 use Rattle.s10_ledger.specs.Shown.{HasTables, shown_range, range_columns}

@@ -11,7 +11,7 @@ use Rattle.sqlite.specs.Listing.{understood}
 use Rattle.sqlite_trees.specs.declared.store.Store.{Ghosts}
 use Rattle.sqlite.specs.Effect.{Database}
 use Rattle.sqlite.specs.Held.{Held, state}
-use Rattle.s10_ledger.specs.Schema.{IsLedgerSchema}
+use Rattle.s10_schema.specs.Schema.{IsLedgerSchema}
 use Rattle.s10_ledger.specs.Statements.{Leaves}
 use Rattle.sqlite.specs.State.{State, HasCleanDisk, Shown, ShowsRows, IsUnchanged, FailsToQuery, FailsToShow, IsNotRun}
 

@@ -15,7 +15,7 @@ use Rattle.sqlite_schema.specs.declared.schema.Schema.{Schema}
 use Rattle.sqlite.specs.Listing.{understood}
 use Rattle.sqlite.specs.Given.{IsPlain}
 use Rattle.sqlite.proofs.Callers.{command_of}
-use Rattle.s10_ledger.specs.Schema.{with_others}
+use Rattle.s10_schema.specs.Schema.{with_others}
 use Rattle.s10_ledger.specs.Statements.{keep_text, mark_text, issue_text}
 
 abbrev pub keep_terms : List Term

@@ -1,4 +1,3 @@
-pub mod Schema
 pub mod Shown
 pub mod Statements
 pub mod Ledger

@@ -11,7 +11,7 @@ use Rattle.s10_rows.specs.declared.open_fault.OpenFault.TheVariants.{NotALedger,
 use Rattle.s10_rows.specs.CallRow.{StoredCall}
 use Rattle.s10_rows.specs.Tables.{Tables}
 use Rattle.s10_rows.specs.Verdict.{IsRefusal}
-use Rattle.s10_ledger.specs.Schema.{IsLedgerSchema}
+use Rattle.s10_schema.specs.Schema.{IsLedgerSchema}
 use Rattle.s10_ledger.specs.Shown.{HasTables}
 
 -- a table of one of the four names is there

@@ -13,7 +13,7 @@ use Rattle.s10_rows.specs.declared.range_row.RangeRow.{RangeRow}
 use Rattle.s10_rows.specs.declared.serial_row.SerialRow.{SerialRow}
 use Rattle.s10_rows.specs.CallRow.{StoredCall}
 use Rattle.s10_rows.specs.Tables.{Tables, HaveSameRows, tables_of}
-use Rattle.s10_ledger.specs.Schema.{IsLedgerSchema}
+use Rattle.s10_schema.specs.Schema.{IsLedgerSchema}
 
 abbrev pub shown_head : HeadRow → Row
 shown_head r = Int r.one ∷ Int r.schema ∷ Int r.interval ∷ Int r.cap ∷ []

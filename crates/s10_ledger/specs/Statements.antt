@@ -4,7 +4,7 @@ use Rattle.sqlite_trees.specs.View.{doubt}
 use Rattle.sqlite_trees.specs.declared.store.Store.{Ghosts}
 use Rattle.sqlite.specs.State.{HasCleanDisk}
 use Rattle.sqlite.specs.Held.{Held, state}
-use Rattle.s10_ledger.specs.Schema.{IsLedgerSchema}
+use Rattle.s10_schema.specs.Schema.{IsLedgerSchema}
 
 abbrev pub head_text : List ℕ
 head_text = codes "SELECT one, schema, interval, cap FROM head ORDER BY one"

@@ -3,7 +3,7 @@
 ghost use Rattle.std.specs.Prelude.{◌≡◌, IfOk, IsTrue};
 ghost use Rattle.sqlite.specs.Held.{state};
 ghost use Rattle.sqlite.specs.State.{HasCleanDisk};
-ghost use Rattle.s10_ledger.specs.Schema.{IsLedgerSchema};
+ghost use Rattle.s10_schema.specs.Schema.{IsLedgerSchema};
 ghost use Rattle.s10_ledger.specs.Statements.{Leaves};
 ghost use Rattle.s10_ledger.specs.Refusals.{HasRows};
 

@@ -9,7 +9,7 @@ ghost use Rattle.s10_book.specs.declared.entry.Entry.{Entry};
 ghost use Rattle.s10_book.specs.declared.book_fault.BookFault.TheVariants.{Full};
 ghost use Rattle.s10_book.specs.Settings.{Terms};
 ghost use Rattle.s10_book.specs.Rules.{IsLegal, MayFollow};
-ghost use Rattle.s10_ledger.specs.Schema.{IsLedgerSchema};
+ghost use Rattle.s10_schema.specs.Schema.{IsLedgerSchema};
 ghost use Rattle.s10_ledger.specs.Shown.{StandsFor};
 ghost use Rattle.s10_rows.specs.Selected.{IsCall};
 ghost use Rattle.s10_rows.specs.Tables.{serial_rows};

@@ -4,7 +4,6 @@
 mod all_rows;
 mod faults;
 mod keeping;
-mod ledger_schema;
 mod lookups;
 mod making;
 mod opening;

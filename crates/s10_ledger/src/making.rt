@@ -6,7 +6,7 @@ ghost use Rattle.sqlite.specs.Held.{state};
 ghost use Rattle.sqlite.specs.State.{HasCleanDisk, KeepsCommit, Executes};
 ghost use Rattle.sqlite_schema.specs.Names.{table_named};
 ghost use Rattle.s10_ledger.specs.Refusals.{IsMakingRefusal};
-ghost use Rattle.s10_ledger.specs.Schema.{no_schema};
+ghost use Rattle.s10_schema.specs.Schema.{no_schema};
 ghost use Rattle.s10_rows.specs.Tables.{Tables, no_rows, head_row};
 ghost use Rattle.s10_ledger.specs.Shown.{HasTables, StandsFor};
 

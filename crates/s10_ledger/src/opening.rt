@@ -8,11 +8,11 @@ ghost use Rattle.s10_ledger.specs.Refusals.{IsOpeningRefusal};
 
 use crate::all_rows::AllRows;
 use crate::faults::opening_fault;
-use crate::ledger_schema::is_ledger_schema;
 use crate::refused::Refused;
 use crate::sql_book::SqlBook;
 use crate::verdict::verdict;
 use s10_rows::{OpenFault, Opened};
+use s10_schema::is_ledger_schema;
 use sqlite::{Alter, Connection};
 use std::alloc::Global;
 

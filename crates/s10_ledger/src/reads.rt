@@ -12,7 +12,7 @@ ghost use Rattle.sqlite.specs.Given.{IsPlain};
 ghost use Rattle.sqlite.specs.Listing.{understood};
 ghost use Rattle.sqlite.specs.Values.{bound};
 ghost use Rattle.s10_rows.specs.Tables.{Tables, HaveSameRows};
-ghost use Rattle.s10_ledger.specs.Schema.{IsLedgerSchema, with_others};
+ghost use Rattle.s10_schema.specs.Schema.{IsLedgerSchema, with_others};
 ghost use Rattle.s10_ledger.specs.Shown.{HasTables, shown_head, shown_call, shown_range, shown_serial, head_columns, call_columns, range_columns, serial_columns, IsNumbered};
 ghost use Rattle.s10_rows.specs.Selected.{has_key_columns, arrives_between, is_within};
 ghost use Rattle.s10_ledger.specs.Statements.{Leaves};

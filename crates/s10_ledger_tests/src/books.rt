@@ -5,7 +5,7 @@ use crate::calls::{
     serial, settings, six_calls, told, us, void,
 };
 use s10_book::{Book, BookFault, Candidate, Entry, Issue, PlainBook, Range, Usage};
-use s10_core::Id;
+use s10_core::{Id, Serial};
 use s10_ledger::SqlBook;
 use s10_wire::{Body, Outcome, Request, Status};
 use sqlite::MemStore;
@@ -29,9 +29,66 @@ pub(crate) fn both_after<R: Abort + AllocGlobal>(
 // Both books answer the steps as expected.
 fn both_answer<R: Abort + AllocGlobal>(rt: &R, name: &str, limit: u32, steps: &[Step]) {
     let (plain, tables) = both_after(rt, name, limit, steps);
-    assert_eq!(rt; plain.len(), tables.len(), "{name}");
-    assert_eq!(rt; plain.day(), tables.day(), "{name}");
+    assert!(rt; are_alike(&plain, &tables), "{name}");
     let _ = tables.close();
+}
+
+// Whether the books have as many calls, and the same settings and day.
+fn are_alike<A: Book, B: Book>(one: &A, other: &B) -> bool {
+    one.len() == other.len() && one.day() == other.day() && one.settings() == other.settings()
+}
+
+fn interval_ends() -> [Step; 9] {
+    [
+        opening(),
+        (draw(7, 1), 20000, drawn(20000, 0)),
+        (draw(7, 2), 20000, drawn(20000, 1)),
+        (draw(7, 3), 20000, drawn(20000, 2)),
+        (draw(7, 4), 20029, Ok(Outcome::NoneFree)),
+        (draw(7, 4), 20030, Ok(Outcome::NoneFree)),
+        (draw(7, 5), 20030, drawn(20030, 0)),
+        (query(7, 1, 0), 20030, Ok(Outcome::NumberReused)),
+        (draw(7, 1), 20400, drawn(20000, 0)),
+    ]
+}
+
+fn void_is_repeated() -> [Step; 12] {
+    [
+        opening(),
+        (draw(7, 1), 20000, drawn(20000, 0)),
+        (draw(7, 2), 20000, drawn(20000, 1)),
+        (void(7, 3, 1), 20000, Ok(Outcome::Voided)),
+        (void(7, 3, 1), 20000, Ok(Outcome::Voided)),
+        (void(7, 4, 1), 20000, Ok(Outcome::AlreadyVoid)),
+        (query(7, 9, 1), 20000, told(Status::Voided { day: 20000 })),
+        (draw(7, 5), 20000, drawn(20000, 2)),
+        (draw(7, 6), 20000, Ok(Outcome::NoneFree)),
+        (draw(7, 7), 20030, drawn(20030, 0)),
+        (draw(7, 8), 20030, drawn(20030, 1)),
+        (query(7, 10, 1), 20030, told(Status::Issued { day: 20030 })),
+    ]
+}
+
+fn last_serials() -> [Step; 6] {
+    [
+        (grant(0, 1, 7, 99_999_998, 99_999_999), 20000, granted(1)),
+        (draw(7, 1), 20000, drawn(20000, 99_999_998)),
+        (draw(7, 2), 20000, drawn(20000, 99_999_999)),
+        (draw(7, 3), 20000, Ok(Outcome::NoneFree)),
+        (void(7, 4, 99_999_998), 20000, Ok(Outcome::Voided)),
+        (draw(7, 5), 20000, Ok(Outcome::NoneFree)),
+    ]
+}
+
+fn full_ledger() -> [Step; 6] {
+    [
+        opening(),
+        (draw(7, 1), 20000, drawn(20000, 0)),
+        (draw(7, 2), 20000, drawn(20000, 1)),
+        (draw(7, 3), 20000, Err(BookFault::Full)),
+        (draw(7, 1), 20000, drawn(20000, 0)),
+        (query(7, 1, 0), 20000, Ok(Outcome::NumberReused)),
+    ]
 }
 
 #[test]
@@ -40,62 +97,25 @@ fn draws_and_voids_are_answered_alike(rt: HostRuntime) {
         &rt,
         "the interval ends on its thirtieth day; a repeat is not executed and moves no day",
         100,
-        &[
-            opening(),
-            (draw(7, 1), 20000, drawn(20000, 0)),
-            (draw(7, 2), 20000, drawn(20000, 1)),
-            (draw(7, 3), 20000, drawn(20000, 2)),
-            (draw(7, 4), 20029, Ok(Outcome::NoneFree)),
-            (draw(7, 4), 20030, Ok(Outcome::NoneFree)),
-            (draw(7, 5), 20030, drawn(20030, 0)),
-            (query(7, 1, 0), 20030, Ok(Outcome::NumberReused)),
-            (draw(7, 1), 20400, drawn(20000, 0)),
-        ],
+        &interval_ends(),
     );
     both_answer(
         &rt,
         "a void is repeated, and voided again",
         100,
-        &[
-            opening(),
-            (draw(7, 1), 20000, drawn(20000, 0)),
-            (draw(7, 2), 20000, drawn(20000, 1)),
-            (void(7, 3, 1), 20000, Ok(Outcome::Voided)),
-            (void(7, 3, 1), 20000, Ok(Outcome::Voided)),
-            (void(7, 4, 1), 20000, Ok(Outcome::AlreadyVoid)),
-            (query(7, 9, 1), 20000, told(Status::Voided { day: 20000 })),
-            (draw(7, 5), 20000, drawn(20000, 2)),
-            (draw(7, 6), 20000, Ok(Outcome::NoneFree)),
-            (draw(7, 7), 20030, drawn(20030, 0)),
-            (draw(7, 8), 20030, drawn(20030, 1)),
-            (query(7, 10, 1), 20030, told(Status::Issued { day: 20030 })),
-        ],
+        &void_is_repeated(),
     );
     both_answer(
         &rt,
         "the last serials, and a void that frees nothing",
         100,
-        &[
-            (grant(0, 1, 7, 99_999_998, 99_999_999), 20000, granted(1)),
-            (draw(7, 1), 20000, drawn(20000, 99_999_998)),
-            (draw(7, 2), 20000, drawn(20000, 99_999_999)),
-            (draw(7, 3), 20000, Ok(Outcome::NoneFree)),
-            (void(7, 4, 99_999_998), 20000, Ok(Outcome::Voided)),
-            (draw(7, 5), 20000, Ok(Outcome::NoneFree)),
-        ],
+        &last_serials(),
     );
     both_answer(
         &rt,
         "a full ledger answers what it kept",
         3,
-        &[
-            opening(),
-            (draw(7, 1), 20000, drawn(20000, 0)),
-            (draw(7, 2), 20000, drawn(20000, 1)),
-            (draw(7, 3), 20000, Err(BookFault::Full)),
-            (draw(7, 1), 20000, drawn(20000, 0)),
-            (query(7, 1, 0), 20000, Ok(Outcome::NumberReused)),
-        ],
+        &full_ledger(),
     );
 }
 
@@ -240,49 +260,78 @@ fn candidate_of_first<B: Book>(book: &mut B) -> Result<Option<Candidate>, BookFa
     Ok(Some(candidate))
 }
 
+fn finds<B: Book>(book: &mut B, customer: u32, number: u32, call: &Option<Entry>) -> bool {
+    book.find(customer, number) == Ok(*call)
+}
+
+fn has_entry<B: Book>(book: &mut B, at: u32, call: &Option<Entry>) -> bool {
+    book.entry(at) == Ok(*call)
+}
+
+fn has_issue<B: Book>(book: &mut B, id: &Id, last: &Option<Issue>) -> bool {
+    book.last_issue(id) == Ok(*last)
+}
+
+fn has_usage<B: Book>(book: &mut B, day: u32, usage: Usage) -> bool {
+    usage_of_first(book, day) == Ok(Some(usage))
+}
+
+fn gives_next<B: Book>(book: &mut B, next: Candidate) -> bool {
+    candidate_of_first(book) == Ok(Some(next))
+}
+
 fn six_calls_are_read<R: Abort, B: Book>(rt: &R, book: &mut B) {
-    assert_eq!(rt; book.last_issue(&id(1)), Ok(Some(issue(20000, true, 2))));
-    assert_eq!(rt; usage_of_first(book, 20000), Ok(Some(usage(3, 1, 0))));
+    assert!(rt; has_issue(book, &id(1), &Some(issue(20000, true, 2))));
+    assert!(rt; has_usage(book, 20000, usage(3, 1, 0)));
     let next = Candidate {
         serial: serial(0),
         issue: Some(issue(20000, false, 1)),
     };
-    assert_eq!(rt; candidate_of_first(book), Ok(Some(next)));
+    assert!(rt; gives_next(book, next));
 }
 
 fn nine_calls_are_read<R: Abort, B: Book>(rt: &R, book: &mut B) {
-    assert_eq!(rt; book.find(7, 5), Ok(Some(sixth())));
-    assert_eq!(rt; book.find(5, 7), Ok(None));
-    assert_eq!(rt; book.entry(6), Ok(Some(sixth())));
-    assert_eq!(rt; book.entry(0), Ok(None));
-    assert_eq!(rt; book.entry(10), Ok(None));
-    assert_eq!(rt; book.last_issue(&id(1)), Ok(Some(issue(20030, false, 8))));
-    assert_eq!(rt; book.last_issue(&id(3)), Ok(None));
+    for (customer, number, call) in [(7, 5, Some(sixth())), (5, 7, None)] {
+        assert!(rt; finds(book, customer, number, &call), "{customer} {number}");
+    }
+    for (at, call) in [(6, Some(sixth())), (0, None), (10, None)] {
+        assert!(rt; has_entry(book, at, &call), "{at}");
+    }
+    for (value, last) in [(1, Some(issue(20030, false, 8))), (3, None)] {
+        assert!(rt; has_issue(book, &id(value), &last), "{value}");
+    }
     let next = Candidate {
         serial: serial(2),
         issue: Some(issue(20000, false, 5)),
     };
-    assert_eq!(rt; candidate_of_first(book), Ok(Some(next)));
+    assert!(rt; gives_next(book, next));
     for (day, free) in [(0, 1), (20030, 1), (20059, 1), (20060, 3)] {
-        assert_eq!(rt;
-            usage_of_first(book, day),
-            Ok(Some(usage(3, 0, free))),
-            "on {day}"
-        );
+        assert!(rt; has_usage(book, day, usage(3, 0, free)), "on {day}");
     }
 }
 
+fn has_range<B: Book>(book: &mut B, num: u32, range: &Option<Range>) -> bool {
+    book.range(num) == Ok(*range)
+}
+
+fn has_next<B: Book>(book: &mut B, customer: u32, after: u32, range: &Option<Range>) -> bool {
+    book.next_range(customer, ra(), gb(), after) == Ok(*range)
+}
+
+fn has_over<B: Book>(book: &mut B, first: Serial, last: Serial, range: &Option<Range>) -> bool {
+    book.covering(ra(), gb(), first, last) == Ok(*range)
+}
+
 fn first_range_is_read<R: Abort, B: Book>(rt: &R, book: &mut B) {
-    assert_eq!(rt; book.range(1), Ok(Some(first_range())));
-    assert_eq!(rt; book.range(2), Ok(None));
-    assert_eq!(rt; book.next_range(7, ra(), gb(), 0), Ok(Some(first_range())));
-    assert_eq!(rt; book.next_range(7, ra(), gb(), 1), Ok(None));
-    assert_eq!(rt; book.next_range(8, ra(), gb(), 0), Ok(None));
-    for (first, last, found) in [(2, 5, Some(first_range())), (3, 5, None), (2, 1, None)] {
-        assert_eq!(rt;
-            book.covering(ra(), gb(), serial(first), serial(last)),
-            Ok(found)
-        );
+    let first = Some(first_range());
+    for (num, range) in [(1, first), (2, None)] {
+        assert!(rt; has_range(book, num, &range), "{num}");
+    }
+    for (customer, after, range) in [(7, 0, first), (7, 1, None), (8, 0, None)] {
+        assert!(rt; has_next(book, customer, after, &range), "{customer} {after}");
+    }
+    for (first, last, range) in [(2, 5, first), (3, 5, None), (2, 1, None)] {
+        assert!(rt; has_over(book, serial(first), serial(last), &range), "{first} {last}");
     }
 }
 
@@ -298,8 +347,7 @@ fn reads_of_both_books_are_alike(rt: HostRuntime) {
     nine_calls_are_read(&rt, &mut tables);
     first_range_is_read(&rt, &mut plain);
     first_range_is_read(&rt, &mut tables);
-    assert_eq!(rt; tables.len(), 9);
-    assert_eq!(rt; tables.day(), 20030);
-    assert_eq!(rt; tables.settings(), plain.settings());
+    assert!(rt; tables.len() == 9 && tables.day() == 20030);
+    assert!(rt; are_alike(&plain, &tables));
     let _ = tables.close();
 }

@@ -147,13 +147,15 @@ pub(crate) fn answer<B: Book>(
     Ok(outcome)
 }
 
+fn answers<B: Book>(book: &mut B, step: &Step) -> bool {
+    let (request, day, expected) = step;
+    answer(book, request, *day) == *expected
+}
+
+// The book answers each step as expected.
 pub(crate) fn run<R: Abort, B: Book>(rt: &R, name: &str, book: &mut B, steps: &[Step]) {
-    for (place, (request, day, expected)) in steps.iter().enumerate() {
-        assert_eq!(rt;
-            answer(book, request, *day),
-            *expected,
-            "{name}, step {place}"
-        );
+    for (place, step) in steps.iter().enumerate() {
+        assert!(rt; answers(book, step), "{name}, step {place}");
     }
 }
 

@@ -164,6 +164,59 @@ fn kept(request: Request, outcome: Outcome) -> Option<Entry> {
     })
 }
 
+// The requests of the story: the Grant, and the Draws of both clients.
+struct Asked {
+    granted: Request,
+    first: Request,
+    second: Request,
+}
+
+fn asked() -> Option<Asked> {
+    Some(Asked {
+        granted: request(0, 1, grant()?),
+        first: request(7, 1, draw()?),
+        second: request(7, 10, draw()?),
+    })
+}
+
+const GRANT: Outcome = Outcome::Granted { range: 1 };
+
+// Whether each client's request was handed in, and the replies to the post and to the first client were accepted.
+fn clients_saw(seen: &Seen, asked: &Asked) -> Result<bool, Fail> {
+    let submitted = [(0, asked.granted), (1, asked.first), (2, asked.second)];
+    let one = drawn(b"RA000000014GB")?;
+    let accepted = [
+        (0, Reply::new(asked.granted, GRANT).ok_or("reply")?),
+        (1, Reply::new(asked.first, one).ok_or("reply")?),
+    ];
+    Ok(seen.submitted.as_slice() == submitted.as_slice()
+        && seen.accepted.as_slice() == accepted.as_slice())
+}
+
+// Whether the server replied so.
+fn server_replied(seen: &Seen) -> bool {
+    let replied: [&[u8]; 5] = [GRANTED, DRAWN_10, DRAWN_1, DRAWN_10, DRAWN_1];
+    seen.replied.len() == 5
+        && seen
+            .replied
+            .iter()
+            .zip(replied)
+            .all(|(frame, bytes)| frame.bytes() == bytes)
+}
+
+// Whether each call was executed once, in order of arrival.
+fn are_kept_once(calls: &[Option<Entry>; 4], asked: &Asked) -> Result<bool, Fail> {
+    let zero = drawn(b"RA000000005GB")?;
+    let one = drawn(b"RA000000014GB")?;
+    let all = [
+        kept(asked.granted, GRANT),
+        kept(asked.second, zero),
+        kept(asked.first, one),
+        None,
+    ];
+    Ok(*calls == all)
+}
+
 #[test]
 fn a_ledger_in_tables_executes_each_call_of_a_world_once(rt: HostRuntime) -> Result<(), Fail> {
     let settings = Settings::new(30, 100).ok_or("settings")?;
@@ -173,31 +226,9 @@ fn a_ledger_in_tables_executes_each_call_of_a_world_once(rt: HostRuntime) -> Res
     let _ = ledger.close();
     let seen = seen?;
     let calls = calls?;
-
-    let granted = request(0, 1, grant().ok_or("grant")?);
-    let first = request(7, 1, draw().ok_or("draw")?);
-    let second = request(7, 10, draw().ok_or("draw")?);
-    let range = Outcome::Granted { range: 1 };
-    let zero = drawn(b"RA000000005GB")?;
-    let one = drawn(b"RA000000014GB")?;
-    let submitted = [(0, granted), (1, first), (2, second)];
-    assert_eq!(rt; seen.submitted.as_slice(), submitted.as_slice());
-    let accepted = [
-        (0, Reply::new(granted, range).ok_or("reply")?),
-        (1, Reply::new(first, one).ok_or("reply")?),
-    ];
-    assert_eq!(rt; seen.accepted.as_slice(), accepted.as_slice());
-    let replied: [&[u8]; 5] = [GRANTED, DRAWN_10, DRAWN_1, DRAWN_10, DRAWN_1];
-    assert_eq!(rt; seen.replied.len(), 5);
-    for (frame, bytes) in seen.replied.iter().zip(replied) {
-        assert_eq!(rt; frame.bytes(), bytes);
-    }
-    let all = [
-        kept(granted, range),
-        kept(second, zero),
-        kept(first, one),
-        None,
-    ];
-    assert_eq!(rt; calls, all);
+    let asked = asked().ok_or("requests")?;
+    assert!(rt; clients_saw(&seen, &asked)?);
+    assert!(rt; server_replied(&seen));
+    assert!(rt; are_kept_once(&calls, &asked)?);
     Ok(())
 }

@@ -2,7 +2,7 @@ use Rattle.std.proofs.Common.{rules, ◌≡◌, IsTrue}
 use Rattle.sqlite.specs.Held.{state}
 use Rattle.sqlite.specs.State.{HasCleanDisk}
 use Rattle.sqlite.specs.Values.{bound}
-use Rattle.s10_ledger.specs.Schema.{IsLedgerSchema, with_others, others_in}
+use Rattle.s10_schema.specs.Schema.{IsLedgerSchema, with_others, others_in}
 use Rattle.s10_ledger.proofs.StateLemmas.{read_open, read_same}
 use Rattle.s10_ledger.proofs.reads.read.Goals as goal
 

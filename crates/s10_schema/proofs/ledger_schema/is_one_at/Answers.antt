@@ -1,8 +1,8 @@
 use Rattle.std.proofs.Common.{◌≡◌, pos}
 use Rattle.sqlite_schema.specs.declared.code.Op.TheVariants as node
 use Rattle.sqlite_value.specs.declared.value.Value.TheVariants.{Null, Int}
-use Rattle.s10_ledger.proofs.SchemaLemmas.{not_there, there}
-use Rattle.s10_ledger.proofs.ledger_schema.is_one_at.Goals as goal
+use Rattle.s10_schema.proofs.SchemaLemmas.{not_there, there}
+use Rattle.s10_schema.proofs.ledger_schema.is_one_at.Goals as goal
 
 pub returns-in_default : goal.returns-in_default
 returns-in_default c = not_there c.args.nodes.now c.args.place (node.Literal (Int (pos 1))) c.in_default.ensures (λ (e : node.Literal (Int (pos 1)) ≡ node.Literal Null). cc)

@@ -10,7 +10,7 @@ use Rattle.sqlite_sql.specs.Term.{Term, lit, col}
 use Rattle.sqlite_schema.specs.declared.code.Op.{Op}
 use Rattle.sqlite_schema.specs.declared.code.Op.TheVariants as node
 use Rattle.sqlite_schema.specs.Code.{op_term, term_to, term_in}
-use Rattle.s10_ledger.specs.Schema.{one_is_one, node_at}
+use Rattle.s10_schema.specs.Schema.{one_is_one, node_at}
 
 abbrev equality : ℕ → ℕ → Op
 equality a b = node.Binary (Compare Eq Binary) a b

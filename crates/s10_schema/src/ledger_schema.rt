@@ -7,8 +7,8 @@ ghost use Rattle.sqlite_sql.specs.declared.ops.BinaryOp.TheVariants.{Compare};
 ghost use Rattle.sqlite_sql.specs.declared.ops.CompareOp.TheVariants.{Eq};
 ghost use Rattle.sqlite_schema.specs.Code.{term_in};
 ghost use Rattle.sqlite_value.specs.Keys.{plain};
-ghost use Rattle.s10_ledger.specs.Schema.{column_of, integer, one_is_one, head_table, calls_table, ranges_table, serials_table, calls_index, serials_index, IsLedgerSchema, IsBare, node_at};
-ghost use Rattle.s10_ledger.specs.Schema as spec;
+ghost use Rattle.s10_schema.specs.Schema.{column_of, integer, one_is_one, head_table, calls_table, ranges_table, serials_table, calls_index, serials_index, IsLedgerSchema, IsBare, node_at};
+ghost use Rattle.s10_schema.specs.Schema as spec;
 
 use sqlite_items::{Items, at};
 use sqlite_schema::code::{Op, Terms};
@@ -364,8 +364,8 @@ fn are_indexes(indexes: &[Index]) -> bool
         && index_apart(others)
 }
 
-// Whether the first tables are declared as those of a ledger are, and no other has a part in them.
-pub(crate) fn is_ledger_schema(schema: &Schema) -> bool
+/// Whether the first tables are declared as those of a ledger are, and no other has a part in them.
+pub fn is_ledger_schema(schema: &Schema) -> bool
     ensures { IsTrue result ↔ IsLedgerSchema schema.now }
 {
     are_tables(schema.tables.as_slice()) && are_indexes(schema.indexes.as_slice())

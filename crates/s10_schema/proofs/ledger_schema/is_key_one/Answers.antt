@@ -1,6 +1,6 @@
 use Rattle.std.proofs.Common.{rules}
-use Rattle.s10_ledger.proofs.SchemaLemmas.{no_root, no_equality, by_one, by_key}
-use Rattle.s10_ledger.proofs.ledger_schema.is_key_one.Goals as goal
+use Rattle.s10_schema.proofs.SchemaLemmas.{no_root, no_equality, by_one, by_key}
+use Rattle.s10_schema.proofs.ledger_schema.is_key_one.Goals as goal
 
 pub returns-in_default : goal.returns-in_default
 returns-in_default c = no_root c.args.nodes.now c.args.root c.in_default.ensures
