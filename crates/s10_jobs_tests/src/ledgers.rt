@@ -9,7 +9,7 @@ use s10_ledger::{OpenFault, SqlBook};
 use s10_link::Packet;
 use s10_wire::{Body, Request, encode_request};
 use sqlite::{Connection, MemStore};
-use std::alloc::AllocError;
+use std::alloc::{AllocError, Global};
 use std::io::Write;
 use std::process::Abort;
 use std::test::Fail;
@@ -41,6 +41,8 @@ const ISSUES: &str = "arrival day customer number identifier state
 8 20030 7 7 RA000000005GB issued
 9 20030 7 8 RA000000014GB issued
 ";
+
+type TableBook = SqlBook<MemStore>;
 
 fn delivery(customer: u32, number: u32, day: u32, body: Body) -> Delivery {
     let frame = encode_request(&Request {
@@ -117,11 +119,26 @@ fn hand_in<R: Abort + AllocGlobal, B: Book>(rt: &R, server: &mut Server<B>) {
     }
 }
 
+/// The server of a new ledger in tables.
+fn new_server(alloc: Global, settings: Settings) -> Result<Server<TableBook>, OpenFault> {
+    Ok(Server::new(SqlBook::in_memory(alloc, settings)?))
+}
+
+/// The tables of a server.
+fn tables(server: Server<TableBook>) -> Connection<MemStore> {
+    server.into_book().close()
+}
+
+/// The server of the nine calls in tables.
+fn worked_server<R: Abort + AllocGlobal>(rt: &R) -> Result<Server<TableBook>, OpenFault> {
+    let mut server = new_server(rt.alloc(), settings(rt))?;
+    hand_in(rt, &mut server);
+    Ok(server)
+}
+
 /// The tables of the nine calls.
 fn worked_ledger<R: Abort + AllocGlobal>(rt: &R) -> Result<Connection<MemStore>, OpenFault> {
-    let mut server = Server::new(SqlBook::in_memory(rt.alloc(), settings(rt))?);
-    hand_in(rt, &mut server);
-    Ok(server.into_book().close())
+    Ok(tables(worked_server(rt)?))
 }
 
 #[test]
@@ -134,17 +151,20 @@ fn both_books_give_the_same_replies(rt: HostRuntime) -> Result<(), Fail> {
     Ok(())
 }
 
+/// Whether the two reports of a book are as worked by hand.
+fn are_as_worked<B: Book>(alloc: Global, book: &mut B) -> bool {
+    let mut ranges = Vec::new(alloc);
+    let mut issues = Vec::new(alloc);
+    write_ranges(book, 20_030, &mut ranges) == Ok(())
+        && write_issues(book, &mut issues) == Ok(())
+        && ranges.as_slice() == RANGES.as_bytes()
+        && issues.as_slice() == ISSUES.as_bytes()
+}
+
 #[test]
 fn reports_of_tables_are_as_worked_by_hand(rt: HostRuntime) -> Result<(), Fail> {
-    let mut server = Server::new(SqlBook::in_memory(rt.alloc(), settings(&rt))?);
-    hand_in(&rt, &mut server);
-    let mut book = server.into_book();
-    let mut out = Vec::new(rt.alloc());
-    assert_eq!(rt; write_ranges(&mut book, 20_030, &mut out), Ok(()));
-    assert_eq!(rt; out.as_slice(), RANGES.as_bytes());
-    let mut out = Vec::new(rt.alloc());
-    assert_eq!(rt; write_issues(&mut book, &mut out), Ok(()));
-    assert_eq!(rt; out.as_slice(), ISSUES.as_bytes());
+    let mut book = worked_server(&rt)?.into_book();
+    assert!(rt; are_as_worked(rt.alloc(), &mut book));
     let _ = book.close();
     Ok(())
 }
@@ -175,7 +195,7 @@ fn audit<R: Abort + AllocGlobal>(
 #[test]
 fn ledger_as_it_was_kept_is_sound(rt: HostRuntime) -> Result<(), Fail> {
     audit(&rt, worked_ledger(&rt)?, 0, "ledger ok 9\n", "none");
-    let empty = SqlBook::in_memory(rt.alloc(), settings(&rt))?.close();
+    let empty = tables(new_server(rt.alloc(), settings(&rt))?);
     audit(&rt, empty, 0, "ledger ok 0\n", "none");
     assert_eq!(rt; audited(&rt, worked_ledger(&rt)?, &mut Refusing), 3);
     Ok(())

@@ -114,7 +114,7 @@ fn is_told_to_have_ended(alloc: Global) -> Result<bool, Fail> {
         bytes: Vec::new(alloc),
     };
     let written = write_report(&mut book, Report::Issues, &mut once);
-    Ok(written == Ok(Status::Failed) && once.bytes.as_slice() == b"output\n")
+    Ok(written == Ok(Status::Failed) && once.bytes.as_slice() == b"output\n".as_slice())
 }
 
 #[test]

@@ -98,6 +98,8 @@ struct Expected<'a> {
     lines: &'a str,
     /// How many whole lines were flushed.
     flushed: u32,
+    /// How many calls the book has then.
+    calls: u32,
 }
 
 /// Whether so many turns of a server on the link come to this.
@@ -116,25 +118,23 @@ fn come_to<C: Clock>(
         && out.lines == expected.flushed
 }
 
-/// Whether the turns of a new server on a link of these receipts and sends come to this, after
-/// which its book has so many calls.
+/// Whether the turns of a new server on a link of these receipts and sends come to this.
 fn are_served<C: Clock>(
     alloc: Global,
     clock: &C,
-    script: (Vec<Receipt>, &[bool]),
+    receipts: Vec<Receipt>,
+    sends: &[bool],
     count: u32,
     day: Option<u32>,
     expected: Expected<'_>,
-    calls: u32,
 ) -> Result<bool, Fail> {
     let mut server = new_server(alloc)?;
-    let (receipts, sends) = script;
     let mut link = ScriptLink::new(alloc, receipts, sends.to_vec(alloc)?)?;
     let mut out = Flushed {
         bytes: Vec::new(alloc),
         lines: 0,
     };
-    let are_as_expected = come_to(
+    let come_to_lines = come_to(
         clock,
         &mut server,
         &mut link,
@@ -143,7 +143,7 @@ fn are_served<C: Clock>(
         &mut out,
         expected,
     );
-    Ok(are_as_expected && server.book().len() == calls)
+    Ok(come_to_lines && server.book().len() == expected.calls)
 }
 
 /// The first lines of the seven.
@@ -157,28 +157,36 @@ fn first_lines(alloc: Global, count: u32) -> Result<String, AllocError> {
 
 #[test]
 fn each_turn_has_its_line(rt: HostRuntime) -> Result<(), Fail> {
-    // The calls of the book after so many turns: a grant, and a draw whose reply is not sent.
-    let calls = [0, 1, 1, 1, 1, 2, 2, 2];
-    for (count, calls) in (0..8u32).zip(calls) {
+    // A grant is the first turn, and a draw whose reply is not sent the fifth.
+    for (count, calls) in [
+        (0, 0),
+        (1, 1),
+        (2, 1),
+        (3, 1),
+        (4, 1),
+        (5, 2),
+        (6, 2),
+        (7, 2),
+    ] {
         let lines = first_lines(rt.alloc(), count)?;
         let expected = Expected {
             status: Ok(Status::Done),
             lines: &lines,
             flushed: count,
+            calls,
         };
-        let script = (seven_receipts(rt.alloc())?, &[true, false, true]);
-        assert!(rt;
-            are_served(
-                rt.alloc(),
-                &rt,
-                script,
-                count,
-                Some(20_000),
-                expected,
-                calls
-            )?,
-            "{count}"
-        );
+        let receipts = seven_receipts(rt.alloc())?;
+        let sends = [true, false, true];
+        let is_served = are_served(
+            rt.alloc(),
+            &rt,
+            receipts,
+            &sends,
+            count,
+            Some(20_000),
+            expected,
+        )?;
+        assert!(rt; is_served, "{count}");
     }
     Ok(())
 }
@@ -196,9 +204,10 @@ fn the_clock_gives_the_day_where_none_is_given(rt: HostRuntime) -> Result<(), Fa
         status: Ok(Status::Done),
         lines: &lines,
         flushed: 2,
+        calls: 2,
     };
-    let script = (receipts, &[true, true]);
-    assert!(rt; are_served(rt.alloc(), &clock, script, 2, None, expected, 2)?);
+    let sends = [true, true];
+    assert!(rt; are_served(rt.alloc(), &clock, receipts, &sends, 2, None, expected)?);
     Ok(())
 }
 
@@ -208,9 +217,20 @@ fn a_clock_that_gives_no_day_ends_the_turns(rt: HostRuntime) -> Result<(), Fail>
         status: Ok(Status::Failed),
         lines: "clock\n",
         flushed: 0,
+        calls: 0,
     };
-    let script = (seven_receipts(rt.alloc())?, &[]);
-    assert!(rt; are_served(rt.alloc(), &Standing(None), script, 3, None, expected, 0)?);
+    let receipts = seven_receipts(rt.alloc())?;
+    assert!(rt;
+        are_served(
+            rt.alloc(),
+            &Standing(None),
+            receipts,
+            &[],
+            3,
+            None,
+            expected
+        )?
+    );
     Ok(())
 }
 
