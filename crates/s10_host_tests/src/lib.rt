@@ -1,13 +1,17 @@
-//! Tests of jobs over files and sockets of this machine.
+//! Tests of jobs over ledgers in tables, and over files and sockets of this machine.
 #![tactic(auto)]
 
 #[cfg(test)]
 mod jobs;
+#[cfg(test)]
+mod ledgers;
 #[cfg(test)]
 mod loopback;
 #[cfg(test)]
 mod questions;
 #[cfg(test)]
 mod refusing;
+#[cfg(test)]
+mod replays;
 #[cfg(test)]
 mod serving;

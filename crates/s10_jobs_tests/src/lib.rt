@@ -1,14 +1,10 @@
-//! Tests of the jobs: calls, ledgers, replays, reports, turns and their lines.
+//! Tests of jobs: calls, reports, turns and their lines.
 #![tactic(auto)]
 
 #[cfg(test)]
 mod asked;
 #[cfg(test)]
-mod ledgers;
-#[cfg(test)]
 mod refusing;
-#[cfg(test)]
-mod replays;
 #[cfg(test)]
 mod reports;
 #[cfg(test)]

@@ -1,5 +1,6 @@
 use s10_book::Settings;
-use s10_jobs::{ReplayFault, replay};
+use s10_host::replay;
+use s10_jobs::ReplayFault;
 use std::alloc::{AllocError, Global};
 use std::io;
 use std::io::{ErrorKind, Read, Write};
