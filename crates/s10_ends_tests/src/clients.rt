@@ -64,32 +64,38 @@ fn accepts(client: &mut Client, datagram: &[u8], request: Request) -> bool {
     }
 }
 
+/// Whether a client that waits for its reply takes no other datagram for it.
+fn keeps_waiting(client: &mut Client) -> bool {
+    passes_over(client, &OTHER, Received::NotMine)
+        && passes_over(client, b"S1", Received::Malformed(WireFault::Short))
+        && passes_over(client, &REQUEST, Received::Malformed(WireFault::Kind))
+}
+
+/// Whether a client that waits for nothing passes over a reply, and takes this number for its one request.
+fn starts(client: &mut Client, number: u32) -> Result<bool, &'static str> {
+    Ok(
+        passes_over(client, &REPLY, Received::Idle)
+            && takes(client, number)?
+            && refuses(client, SubmitFault::Busy)?,
+    )
+}
+
+/// Whether a client passes over a reply that it took already, and has no number left.
+fn is_done(client: &mut Client) -> Result<bool, &'static str> {
+    Ok(passes_over(client, &REPLY, Received::Idle) && refuses(client, SubmitFault::NumbersSpent)?)
+}
+
 #[test]
 fn a_reply_is_accepted_by_its_own_call_alone(rt: HostRuntime) -> Result<(), Fail> {
+    let asked = request(5)?;
     let mut client = Client::new(7, 5, 5)?;
     assert!(rt; is_unused(&client));
-    assert!(rt; passes_over(&mut client, &REPLY, Received::Idle));
-
-    let request = request(5)?;
-    assert!(rt; takes(&mut client, 5)?);
-    assert!(rt; refuses(&mut client, SubmitFault::Busy)?);
-    assert!(rt; is_sending(&client, request, &REQUEST));
-
-    let passed_over: [(&[u8], Received); 3] = [
-        (&OTHER, Received::NotMine),
-        (b"S1", Received::Malformed(WireFault::Short)),
-        (&REQUEST, Received::Malformed(WireFault::Kind)),
-    ];
-    for (datagram, received) in passed_over {
-        assert!(rt;
-            passes_over(&mut client, datagram, received),
-            "{received:?}"
-        );
-    }
-    assert_eq!(rt; client.pending(), Some(request));
-    assert!(rt; accepts(&mut client, &REPLY, request));
-    assert!(rt; passes_over(&mut client, &REPLY, Received::Idle));
-    assert!(rt; refuses(&mut client, SubmitFault::NumbersSpent)?);
+    assert!(rt; starts(&mut client, 5)?);
+    assert!(rt; is_sending(&client, asked, &REQUEST));
+    assert!(rt; keeps_waiting(&mut client));
+    assert!(rt; is_sending(&client, asked, &REQUEST));
+    assert!(rt; accepts(&mut client, &REPLY, asked));
+    assert!(rt; is_done(&mut client)?);
     Ok(())
 }
 

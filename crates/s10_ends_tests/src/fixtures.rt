@@ -3,7 +3,7 @@
 use s10_book::{PlainBook, Settings};
 use s10_core::{Country, Service};
 use s10_ends::Server;
-use s10_link::{Peer, Receipt, ScriptLink};
+use s10_link::{Packet, Peer, Receipt, ScriptLink};
 use s10_wire::Body;
 use std::alloc::{AllocError, Global};
 use std::test::Fail;
@@ -38,6 +38,11 @@ pub fn draw() -> Result<Body, &'static str> {
 pub fn new_server(alloc: Global, limit: u32) -> Result<Server<PlainBook>, Fail> {
     let settings = Settings::new(30, limit).ok_or("settings")?;
     Ok(Server::new(PlainBook::new(alloc, settings)))
+}
+
+/// This datagram comes from a peer.
+pub fn deliver(from: Peer, datagram: &[u8]) -> Receipt {
+    Receipt::Deliver(from, Packet::new(datagram))
 }
 
 /// A link that follows these lists.

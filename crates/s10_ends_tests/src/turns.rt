@@ -1,7 +1,7 @@
-use crate::fixtures::{FIRST_DRAW, FIRST_GRANT, new_server, script};
+use crate::fixtures::{FIRST_DRAW, FIRST_GRANT, deliver, new_server, script};
 use s10_book::{Book, BookFault, PlainBook};
 use s10_ends::{Served, Server, serve_one};
-use s10_link::{LinkFault, Packet, Peer, Receipt, ScriptLink};
+use s10_link::{LinkFault, Peer, Receipt, ScriptLink};
 use s10_wire::WireFault;
 use std::alloc::{AllocError, Global};
 use std::test::Fail;
@@ -69,7 +69,7 @@ fn has_sent(link: &ScriptLink, reply: &[u8]) -> bool {
 #[test]
 fn reply_that_was_not_sent_is_kept(rt: HostRuntime) -> Result<(), Fail> {
     let mut server = granted_server(rt.alloc(), 100)?;
-    let draw = Receipt::Deliver(PEER, Packet::new(FIRST_DRAW.0));
+    let draw = deliver(PEER, FIRST_DRAW.0);
     let mut link = script(rt.alloc(), &[draw, draw], &[false, true])?;
     assert!(rt; serves(&mut server, &mut link, Err(LinkFault::Send)));
     assert!(rt; replies(&mut server, &mut link, FIRST_DRAW.1));
@@ -83,10 +83,10 @@ fn turns_without_a_reply(rt: HostRuntime) -> Result<(), Fail> {
     let mut server = granted_server(rt.alloc(), 1)?;
     let receipts = [
         Receipt::Nothing,
-        Receipt::Deliver(PEER, Packet::new(b"S1")),
-        Receipt::Deliver(OTHER, Packet::new(FIRST_DRAW.1)),
-        Receipt::Deliver(PEER, Packet::new(FIRST_DRAW.0)),
-        Receipt::Deliver(OTHER, Packet::new(FIRST_GRANT.0)),
+        deliver(PEER, b"S1"),
+        deliver(OTHER, FIRST_DRAW.1),
+        deliver(PEER, FIRST_DRAW.0),
+        deliver(OTHER, FIRST_GRANT.0),
     ];
     let mut link = script(rt.alloc(), &receipts, &[])?;
     let turns = [
@@ -113,7 +113,7 @@ fn each_call_twice(alloc: Global, failing: Option<usize>) -> Result<Vec<Receipt>
             if failing == Some(2 * at + again) {
                 receipts.push(Receipt::Fail)?;
             }
-            receipts.push(Receipt::Deliver(PEER, Packet::new(datagram)))?;
+            receipts.push(deliver(PEER, datagram))?;
         }
     }
     Ok(receipts)
