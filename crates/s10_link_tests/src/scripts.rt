@@ -1,6 +1,7 @@
 use s10_core::{Country, Service};
 use s10_link::{Link, LinkFault, Packet, Peer, Receipt, ScriptLink, Trace};
 use s10_wire::{Body, Frame, Request, encode_request};
+use std::alloc::{AllocError, Global};
 use std::test::Fail;
 
 const NEAR: Peer = Peer {
@@ -25,29 +26,46 @@ fn draw(number: u32) -> Result<Frame, &'static str> {
     }
 }
 
-#[test]
-fn calls_follow_the_script(rt: HostRuntime) -> Result<(), Fail> {
-    let packet = Packet::new(b"a datagram");
-    let receipts = vec![in rt.alloc();
+/// A link that gives this packet, nothing and a failure, and sends once.
+fn new_script(alloc: Global, packet: Packet) -> Result<ScriptLink, AllocError> {
+    let receipts = vec![in alloc;
         Receipt::Deliver(FAR, packet),
         Receipt::Nothing,
         Receipt::Fail,
     ]?;
-    let sends = vec![in rt.alloc(); true, false]?;
-    let mut link = ScriptLink::new(rt.alloc(), receipts, sends)?;
-    assert_eq!(rt; link.trace(), Trace::new());
-    assert_eq!(rt; link.log(), [].as_slice());
+    let sends = vec![in alloc; true, false]?;
+    ScriptLink::new(alloc, receipts, sends)
+}
 
-    assert_eq!(rt; link.receive(), Ok(Some((FAR, packet))));
-    assert_eq!(rt; link.receive(), Ok(None));
-    assert_eq!(rt; link.receive(), Err(LinkFault::Receive));
-    assert_eq!(rt; link.receive(), Ok(None));
+/// Whether the link's trace and log are these.
+fn has_met(link: &ScriptLink, trace: Trace, log: &[(Peer, Frame)]) -> bool {
+    link.trace() == trace && link.log() == log
+}
+
+/// Whether four receives give the packet, nothing, a failure, and nothing.
+fn receives_in_turn(link: &mut ScriptLink, packet: Packet) -> bool {
+    link.receive() == Ok(Some((FAR, packet)))
+        && link.receive() == Ok(None)
+        && link.receive() == Err(LinkFault::Receive)
+        && link.receive() == Ok(None)
+}
+
+/// Whether the send of the frame to the far peer ends so.
+fn sends(link: &mut ScriptLink, frame: &Frame, sent: Result<(), LinkFault>) -> bool {
+    link.send(FAR, frame) == sent
+}
+
+#[test]
+fn calls_follow_the_script(rt: HostRuntime) -> Result<(), Fail> {
+    let packet = Packet::new(b"a datagram");
+    let mut link = new_script(rt.alloc(), packet)?;
+    assert!(rt; has_met(&link, Trace::new(), &[]));
+    assert!(rt; receives_in_turn(&mut link, packet));
     let first = draw(1)?;
     let other = draw(2)?;
-    assert_eq!(rt; link.send(FAR, &first), Ok(()));
-    assert_eq!(rt; link.send(FAR, &other), Err(LinkFault::Send));
-    assert_eq!(rt; link.send(FAR, &other), Err(LinkFault::Spent));
-
+    assert!(rt; sends(&mut link, &first, Ok(())));
+    assert!(rt; sends(&mut link, &other, Err(LinkFault::Send)));
+    assert!(rt; sends(&mut link, &other, Err(LinkFault::Spent)));
     let trace = Trace {
         calls: 6,
         failures: 2,
@@ -57,8 +75,7 @@ fn calls_follow_the_script(rt: HostRuntime) -> Result<(), Fail> {
         taken: Some((FAR, packet)),
         given: Some((FAR, first)),
     };
-    assert_eq!(rt; link.trace(), trace);
-    assert_eq!(rt; link.log(), [(FAR, first)].as_slice());
+    assert!(rt; has_met(&link, trace, &[(FAR, first)]));
     Ok(())
 }
 
