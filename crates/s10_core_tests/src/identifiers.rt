@@ -24,6 +24,11 @@ fn check_digits_are_those_worked_by_hand(rt: HostRuntime) {
     }
 }
 
+/// Whether the text is that of the identifier, both ways.
+fn is_spelled(id: &Id, text: &[u8; 13]) -> bool {
+    id.write() == *text && Id::read(text) == Ok(*id)
+}
+
 #[test]
 fn identifiers_are_spelled_from_their_parts(rt: HostRuntime) {
     let spelled: [(&[u8], &[u8; 13]); 9] = [
@@ -50,25 +55,27 @@ fn identifiers_are_spelled_from_their_parts(rt: HostRuntime) {
                     serial,
                     country,
                 };
-                assert_eq!(rt; id.write(), *text);
-                assert_eq!(rt; Id::read(text), Ok(id));
+                assert!(rt; is_spelled(&id, text), "at {digits:?}");
             }
             _ => panic!(rt),
         }
     }
 }
 
+/// Whether the identifier has these parts.
+fn has_parts(id: &Id, letters: [u8; 2], group: Group, serial: u32, country: [u8; 2]) -> bool {
+    id.service.bytes() == letters
+        && id.service.group() == group
+        && id.serial.value() == serial
+        && id.country.bytes() == country
+}
+
 #[test]
 fn a_label_is_read_without_its_spaces_and_in_capitals(rt: HostRuntime) {
-    let text = b"RA473124829US";
     match Id::read_label(b"ra 473 124 829 us") {
         Ok(id) => {
-            assert_eq!(rt; id.write(), *text);
-            assert_eq!(rt; Id::read(text), Ok(id));
-            assert_eq!(rt; id.service.bytes(), *b"RA");
-            assert_eq!(rt; id.service.group(), Group::Registered);
-            assert_eq!(rt; id.serial.value(), 47_312_482);
-            assert_eq!(rt; id.country.bytes(), *b"US");
+            assert!(rt; is_spelled(&id, b"RA473124829US"));
+            assert!(rt; has_parts(&id, *b"RA", Group::Registered, 47_312_482, *b"US"));
         }
         Err(fault) => panic!(rt; "{fault:?}"),
     }
