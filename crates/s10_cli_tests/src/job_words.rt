@@ -267,10 +267,10 @@ fn is_refused_with<R: Eprint + AllocGlobal>(
 }
 
 /// Whether a command line with one more word is none.
-fn is_refused_before<R: Eprint + AllocGlobal>(
+fn is_refused_before<'a, R: Eprint + AllocGlobal>(
     rt: &R,
-    words: &[&str],
-    more: &str,
+    words: &[&'a str],
+    more: &'a str,
 ) -> Result<bool, Fail> {
     let mut longer = words.to_vec(rt.alloc())?;
     longer.push(more)?;
