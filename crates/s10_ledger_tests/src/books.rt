@@ -111,12 +111,7 @@ fn draws_and_voids_are_answered_alike(rt: HostRuntime) {
         100,
         &last_serials(),
     );
-    both_answer(
-        &rt,
-        "a full ledger answers what it kept",
-        3,
-        &full_ledger(),
-    );
+    both_answer(&rt, "a full ledger answers what it kept", 3, &full_ledger());
 }
 
 #[test]
@@ -260,16 +255,16 @@ fn candidate_of_first<B: Book>(book: &mut B) -> Result<Option<Candidate>, BookFa
     Ok(Some(candidate))
 }
 
-fn finds<B: Book>(book: &mut B, customer: u32, number: u32, call: &Option<Entry>) -> bool {
-    book.find(customer, number) == Ok(*call)
+fn finds<B: Book>(book: &mut B, customer: u32, number: u32, call: Option<Entry>) -> bool {
+    book.find(customer, number) == Ok(call)
 }
 
-fn has_entry<B: Book>(book: &mut B, at: u32, call: &Option<Entry>) -> bool {
-    book.entry(at) == Ok(*call)
+fn has_entry<B: Book>(book: &mut B, at: u32, call: Option<Entry>) -> bool {
+    book.entry(at) == Ok(call)
 }
 
-fn has_issue<B: Book>(book: &mut B, id: &Id, last: &Option<Issue>) -> bool {
-    book.last_issue(id) == Ok(*last)
+fn has_issue<B: Book>(book: &mut B, id: &Id, last: Option<Issue>) -> bool {
+    book.last_issue(id) == Ok(last)
 }
 
 fn has_usage<B: Book>(book: &mut B, day: u32, usage: Usage) -> bool {
@@ -281,7 +276,7 @@ fn gives_next<B: Book>(book: &mut B, next: Candidate) -> bool {
 }
 
 fn six_calls_are_read<R: Abort, B: Book>(rt: &R, book: &mut B) {
-    assert!(rt; has_issue(book, &id(1), &Some(issue(20000, true, 2))));
+    assert!(rt; has_issue(book, &id(1), Some(issue(20000, true, 2))));
     assert!(rt; has_usage(book, 20000, usage(3, 1, 0)));
     let next = Candidate {
         serial: serial(0),
@@ -292,13 +287,13 @@ fn six_calls_are_read<R: Abort, B: Book>(rt: &R, book: &mut B) {
 
 fn nine_calls_are_read<R: Abort, B: Book>(rt: &R, book: &mut B) {
     for (customer, number, call) in [(7, 5, Some(sixth())), (5, 7, None)] {
-        assert!(rt; finds(book, customer, number, &call), "{customer} {number}");
+        assert!(rt; finds(book, customer, number, call), "{customer} {number}");
     }
     for (at, call) in [(6, Some(sixth())), (0, None), (10, None)] {
-        assert!(rt; has_entry(book, at, &call), "{at}");
+        assert!(rt; has_entry(book, at, call), "{at}");
     }
     for (value, last) in [(1, Some(issue(20030, false, 8))), (3, None)] {
-        assert!(rt; has_issue(book, &id(value), &last), "{value}");
+        assert!(rt; has_issue(book, &id(value), last), "{value}");
     }
     let next = Candidate {
         serial: serial(2),
@@ -310,28 +305,33 @@ fn nine_calls_are_read<R: Abort, B: Book>(rt: &R, book: &mut B) {
     }
 }
 
-fn has_range<B: Book>(book: &mut B, num: u32, range: &Option<Range>) -> bool {
-    book.range(num) == Ok(*range)
+fn has_range<B: Book>(book: &mut B, num: u32, range: Option<Range>) -> bool {
+    book.range(num) == Ok(range)
 }
 
-fn has_next<B: Book>(book: &mut B, customer: u32, after: u32, range: &Option<Range>) -> bool {
-    book.next_range(customer, ra(), gb(), after) == Ok(*range)
+fn has_next<B: Book>(book: &mut B, customer: u32, after: u32, range: Option<Range>) -> bool {
+    book.next_range(customer, ra(), gb(), after) == Ok(range)
 }
 
-fn has_over<B: Book>(book: &mut B, first: Serial, last: Serial, range: &Option<Range>) -> bool {
-    book.covering(ra(), gb(), first, last) == Ok(*range)
+fn has_over<B: Book>(book: &mut B, first: Serial, last: Serial, range: Option<Range>) -> bool {
+    book.covering(ra(), gb(), first, last) == Ok(range)
 }
 
 fn first_range_is_read<R: Abort, B: Book>(rt: &R, book: &mut B) {
-    let first = Some(first_range());
-    for (num, range) in [(1, first), (2, None)] {
-        assert!(rt; has_range(book, num, &range), "{num}");
+    for (num, range) in [(1, Some(first_range())), (2, None)] {
+        assert!(rt; has_range(book, num, range), "{num}");
     }
-    for (customer, after, range) in [(7, 0, first), (7, 1, None), (8, 0, None)] {
-        assert!(rt; has_next(book, customer, after, &range), "{customer} {after}");
+    for (customer, after, range) in [(7, 0, Some(first_range())), (7, 1, None), (8, 0, None)] {
+        assert!(rt;
+            has_next(book, customer, after, range),
+            "{customer} {after}"
+        );
     }
-    for (first, last, range) in [(2, 5, first), (3, 5, None), (2, 1, None)] {
-        assert!(rt; has_over(book, serial(first), serial(last), &range), "{first} {last}");
+    for (first, last, range) in [(2, 5, Some(first_range())), (3, 5, None), (2, 1, None)] {
+        assert!(rt;
+            has_over(book, serial(first), serial(last), range),
+            "{first} {last}"
+        );
     }
 }
 

@@ -165,14 +165,15 @@ fn kept(request: Request, outcome: Outcome) -> Option<Entry> {
 }
 
 // The requests of the story: the Grant, and the Draws of both clients.
-struct Asked {
+#[derive(Clone, Copy)]
+struct Requests {
     granted: Request,
     first: Request,
     second: Request,
 }
 
-fn asked() -> Option<Asked> {
-    Some(Asked {
+fn story_requests() -> Option<Requests> {
+    Some(Requests {
         granted: request(0, 1, grant()?),
         first: request(7, 1, draw()?),
         second: request(7, 10, draw()?),
@@ -182,15 +183,17 @@ fn asked() -> Option<Asked> {
 const GRANT: Outcome = Outcome::Granted { range: 1 };
 
 // Whether each client's request was handed in, and the replies to the post and to the first client were accepted.
-fn clients_saw(seen: &Seen, asked: &Asked) -> Result<bool, Fail> {
+fn clients_saw(seen: &Seen, asked: &Requests) -> Result<bool, Fail> {
     let submitted = [(0, asked.granted), (1, asked.first), (2, asked.second)];
     let one = drawn(b"RA000000014GB")?;
     let accepted = [
         (0, Reply::new(asked.granted, GRANT).ok_or("reply")?),
         (1, Reply::new(asked.first, one).ok_or("reply")?),
     ];
-    Ok(seen.submitted.as_slice() == submitted.as_slice()
-        && seen.accepted.as_slice() == accepted.as_slice())
+    Ok(
+        seen.submitted.as_slice() == submitted.as_slice()
+            && seen.accepted.as_slice() == accepted.as_slice(),
+    )
 }
 
 // Whether the server replied so.
@@ -205,7 +208,7 @@ fn server_replied(seen: &Seen) -> bool {
 }
 
 // Whether each call was executed once, in order of arrival.
-fn are_kept_once(calls: &[Option<Entry>; 4], asked: &Asked) -> Result<bool, Fail> {
+fn are_kept_once(calls: &[Option<Entry>; 4], asked: &Requests) -> Result<bool, Fail> {
     let zero = drawn(b"RA000000005GB")?;
     let one = drawn(b"RA000000014GB")?;
     let all = [
@@ -226,7 +229,7 @@ fn a_ledger_in_tables_executes_each_call_of_a_world_once(rt: HostRuntime) -> Res
     let _ = ledger.close();
     let seen = seen?;
     let calls = calls?;
-    let asked = asked().ok_or("requests")?;
+    let asked = story_requests().ok_or("requests")?;
     assert!(rt; clients_saw(&seen, &asked)?);
     assert!(rt; server_replied(&seen));
     assert!(rt; are_kept_once(&calls, &asked)?);
