@@ -124,12 +124,13 @@ taken_more r day old is k y before now lt e on own =
           ∙ own.left j (omega (arith, le)) few;
       first = λ _. elim (cases_lt 0 k) [
         | inl pos ↦
-            let old_first = own.first pos in
-            (old_first.0,
-            last_other is y (id_at r (pick_of old r))
-            (λ same. behind_apart r (pick_of old r) 0 k _ _ before.low before.high pos lt (at 0 (omega arith)) (at k (omega (arith, lt))) (sym (ap (λ (x : Id). x.serial) same) ∙ serial))
-            ∙ old_first.1,
-            old_first.2)
+            let old_first = own.first pos in (
+              old_first.0,
+              last_other is y (id_at r (pick_of old r))
+                  (λ same. behind_apart r (pick_of old r) 0 k _ _ before.low before.high pos lt (at 0 (omega arith)) (at k (omega (arith, lt))) (sym (ap (λ (x : Id). x.serial) same) ∙ serial))
+                  ∙ old_first.1,
+              old_first.2,
+            )
         | inr none ↦
             let z : k ≡ 0 = omega (arith, none) in
             let same : y.id ≡ id_at r (pick_of old r) = e ∙ ap (id_at r) (own.pick ∙ ap (serials_behind r (pick_of old r)) z) in
@@ -157,7 +158,7 @@ at_pick rs p made day n old count r k taken x given lt few e free at =
     let rest : List Range = filter (above p r.num) rs in
     let num : count - length taken ≡ suc (count - length (taken ++ x ∷ [])) = omega (arith, few, length-append taken (x ∷ [])) in
     let here : picks made day n (r ∷ filter (above p r.num) rs) (old ++ map made taken) (count - length taken)
-        ≡ option_map (λ xs. x ∷ xs) (picks made day n (r ∷ filter (above p r.num) rs) (old ++ map made (taken ++ x ∷ [])) (count - length (taken ++ x ∷ []))) =
+    ≡ option_map (λ xs. x ∷ xs) (picks made day n (r ∷ filter (above p r.num) rs) (old ++ map made (taken ++ x ∷ [])) (count - length (taken ++ x ∷ []))) =
     ap (picks made day n (r ∷ filter (above p r.num) rs) (old ++ map made taken)) num
     ∙ picks_here made day n r (filter (above p r.num) rs) (old ++ map made taken) (count - length (taken ++ x ∷ [])) free
     ∙ ap (λ z. option_map (λ xs. z ∷ xs) (picks made day n (r ∷ filter (above p r.num) rs) (old ++ map made taken ++ made z ∷ []) (count - length (taken ++ x ∷ [])))) (sym e)
@@ -231,12 +232,13 @@ at_candidate h t p made day n count r k taken found b legal lt e test at =
     let old : List Issuance = issues_of h in
     let s : ℕ = serials_behind r (pick_of (issues_of h) r) k in
     let is = e ∙ candidate_after_is h t r k legal at.there in
-    let last : Issuance → Issue = λ i. record { day = i.day; voided = false; customer = i.customer; number = i.number } in
-    (ap (λ v. is_free_since day n (option_map (λ (i : Issuance). i.day) (last_issuance_of (issues_of h ++ map made taken) (id_at r v)))) at.own.pick
-    ∙ ap (λ o. is_free_since day n (option_map (λ (i : Issuance). i.day) o)) (at.own.left k (omega arith) lt)
-    ∙ sym (test ∙ ap (λ (c : Candidate). is_free_since day n (option_map (λ (i : Issue). i.day) c.issue)) is
-    ∙ free_last day n (last_issuance_of (issues_of h) (id_at r (serials_behind r (pick_of (issues_of h) r) k))) _ (λ _. refl)),
-    ap (λ (c : Candidate). c.serial) is ∙ sym at.own.pick)
+    let last : Issuance → Issue = λ i. record { day = i.day; voided = false; customer = i.customer; number = i.number } in (
+      ap (λ v. is_free_since day n (option_map (λ (i : Issuance). i.day) (last_issuance_of (issues_of h ++ map made taken) (id_at r v)))) at.own.pick
+          ∙ ap (λ o. is_free_since day n (option_map (λ (i : Issuance). i.day) o)) (at.own.left k (omega arith) lt)
+          ∙ sym (test ∙ ap (λ (c : Candidate). is_free_since day n (option_map (λ (i : Issue). i.day) c.issue)) is
+          ∙ free_last day n (last_issuance_of (issues_of h) (id_at r (serials_behind r (pick_of (issues_of h) r) k))) _ (λ _. refl)),
+      ap (λ (c : Candidate). c.serial) is ∙ sym at.own.pick,
+    )
 
 -- a range of which all serials were taken gives none
 pub at_round : (rs : List Range) (p : Range → Bool) (made : Id → Issuance) (day n : ℕ) (old : List Issuance) (count : ℕ) (r : Range) (k : ℕ) (taken : List Id) → Given rs made day n old → size_of r ≤ k

@@ -26,7 +26,9 @@ pub use entry::Entry;
 pub use issuance::Issuance;
 pub use issue::Issue;
 pub use issues_report::write_issues;
-pub use laws::{candidates_in_turn, free_picks, legal_histories, overlaps_are_common_serials, picks_in_turn};
+pub use laws::{
+    candidates_in_turn, free_picks, legal_histories, overlaps_are_common_serials, picks_in_turn,
+};
 pub use plain_book::PlainBook;
 pub use range::Range;
 pub use ranges_report::write_ranges;
