@@ -67,7 +67,7 @@ pub const NINE_CALLS: [Step; 9] = [
     (7, 8, Asked::Draw, 20030, Answered::Drawn(20030, 1)),
 ];
 
-pub fn ra() -> Result<Service, &'static str> {
+pub(crate) fn ra() -> Result<Service, &'static str> {
     Service::new(*b"RA").ok_or("letters")
 }
 
@@ -75,7 +75,7 @@ fn rb() -> Result<Service, &'static str> {
     Service::new(*b"RB").ok_or("letters")
 }
 
-pub fn gb() -> Result<Country, &'static str> {
+pub(crate) fn gb() -> Result<Country, &'static str> {
     Country::new(*b"GB").ok_or("letters")
 }
 
@@ -83,7 +83,7 @@ fn us() -> Result<Country, &'static str> {
     Country::new(*b"US").ok_or("letters")
 }
 
-pub fn serial(value: u32) -> Result<Serial, &'static str> {
+pub(crate) fn serial(value: u32) -> Result<Serial, &'static str> {
     Serial::new(value).ok_or("serial")
 }
 
@@ -97,7 +97,7 @@ fn id_of(value: u32, country: Country) -> Result<Id, &'static str> {
 }
 
 /// The identifier of RA GB.
-pub fn id(value: u32) -> Result<Id, &'static str> {
+pub(crate) fn id(value: u32) -> Result<Id, &'static str> {
     id_of(value, gb()?)
 }
 
@@ -133,7 +133,7 @@ fn body(asked: Asked) -> Result<Body, &'static str> {
 }
 
 /// A customer's request with this number.
-pub fn request(customer: u32, number: u32, asked: Asked) -> Result<Request, &'static str> {
+pub(crate) fn request(customer: u32, number: u32, asked: Asked) -> Result<Request, &'static str> {
     Ok(Request {
         customer,
         number,
@@ -142,7 +142,11 @@ pub fn request(customer: u32, number: u32, asked: Asked) -> Result<Request, &'st
 }
 
 /// What a server does with a request: a kept one is answered from the book, a new one is decided and kept.
-pub fn answer<B: Book>(book: &mut B, request: &Request, day: u32) -> Result<Outcome, BookFault> {
+pub(crate) fn answer<B: Book>(
+    book: &mut B,
+    request: &Request,
+    day: u32,
+) -> Result<Outcome, BookFault> {
     if let Some(entry) = book.find(request.customer, request.number)? {
         return Ok(if entry.request == *request {
             entry.outcome
@@ -164,7 +168,7 @@ pub fn answer<B: Book>(book: &mut B, request: &Request, day: u32) -> Result<Outc
 }
 
 /// Whether the answer is as the row says.
-pub fn is_as_answered(
+pub(crate) fn is_as_answered(
     answer: Result<Outcome, BookFault>,
     answered: Answered,
 ) -> Result<bool, &'static str> {
@@ -183,13 +187,16 @@ pub fn is_as_answered(
 }
 
 /// An empty book whose interval is 30 days.
-pub fn empty_book(alloc: Global, limit: u32) -> Result<PlainBook, Fail> {
+pub(crate) fn empty_book(alloc: Global, limit: u32) -> Result<PlainBook, Fail> {
     let settings = Settings::new(30, limit).ok_or("settings")?;
     Ok(PlainBook::new(alloc, settings))
 }
 
 /// Whether a book answers each step as its row says; otherwise the place of the first that it doesn't.
-pub fn first_unlike<B: Book>(book: &mut B, steps: &[Step]) -> Result<Option<usize>, &'static str> {
+pub(crate) fn first_unlike<B: Book>(
+    book: &mut B,
+    steps: &[Step],
+) -> Result<Option<usize>, &'static str> {
     for (place, (customer, number, asked, day, answered)) in steps.iter().enumerate() {
         let request = request(*customer, *number, *asked)?;
         if !is_as_answered(answer(book, &request, *day), *answered)? {
@@ -200,7 +207,7 @@ pub fn first_unlike<B: Book>(book: &mut B, steps: &[Step]) -> Result<Option<usiz
 }
 
 /// A book whose interval is 30 days, after these steps.
-pub fn book_after<R: Abort + AllocGlobal>(
+pub(crate) fn book_after<R: Abort + AllocGlobal>(
     rt: &R,
     name: &str,
     limit: u32,

@@ -27,7 +27,7 @@ pub const FIRST_DRAW: (&'static [u8], &'static [u8]) = (
 );
 
 /// A Draw of RA GB.
-pub fn draw() -> Result<Body, &'static str> {
+pub(crate) fn draw() -> Result<Body, &'static str> {
     match (Service::new(*b"RA"), Country::new(*b"GB")) {
         (Some(service), Some(country)) => Ok(Body::Draw { service, country }),
         _ => Err("letters"),
@@ -35,18 +35,18 @@ pub fn draw() -> Result<Body, &'static str> {
 }
 
 /// A server over an empty book.
-pub fn new_server(alloc: Global, limit: u32) -> Result<Server<PlainBook>, Fail> {
+pub(crate) fn new_server(alloc: Global, limit: u32) -> Result<Server<PlainBook>, Fail> {
     let settings = Settings::new(30, limit).ok_or("settings")?;
     Ok(Server::new(PlainBook::new(alloc, settings)))
 }
 
 /// This datagram comes from a peer.
-pub fn deliver(from: Peer, datagram: &[u8]) -> Receipt {
+pub(crate) fn deliver(from: Peer, datagram: &[u8]) -> Receipt {
     Receipt::Deliver(from, Packet::new(datagram))
 }
 
 /// A link that follows these lists.
-pub fn script(
+pub(crate) fn script(
     alloc: Global,
     receipts: &[Receipt],
     sends: &[bool],

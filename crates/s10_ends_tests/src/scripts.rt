@@ -34,7 +34,7 @@ pub const DRAW: Step = (
 );
 
 /// The bytes of hex digits, whatever stands between them.
-pub fn bytes_of(alloc: Global, text: &str) -> Result<Vec<u8>, AllocError> {
+pub(crate) fn bytes_of(alloc: Global, text: &str) -> Result<Vec<u8>, AllocError> {
     let mut bytes = Vec::new(alloc);
     let mut high = None;
     for character in text.bytes() {
@@ -55,7 +55,7 @@ pub fn bytes_of(alloc: Global, text: &str) -> Result<Vec<u8>, AllocError> {
 }
 
 /// Whether the answer is as wanted.
-pub fn is_as_wanted(alloc: Global, answer: &Answer, want: Want) -> Result<bool, AllocError> {
+pub(crate) fn is_as_wanted(alloc: Global, answer: &Answer, want: Want) -> Result<bool, AllocError> {
     Ok(match (answer, want) {
         (Answer::Reply(frame), Want::Reply(text)) => {
             frame.bytes() == bytes_of(alloc, text)?.as_slice()
@@ -67,7 +67,7 @@ pub fn is_as_wanted(alloc: Global, answer: &Answer, want: Want) -> Result<bool, 
 }
 
 /// Hands all datagrams to the server at once, and compares each answer.
-pub fn play<B: Book>(
+pub(crate) fn play<B: Book>(
     rt: &impl Abort,
     alloc: Global,
     server: &mut Server<B>,

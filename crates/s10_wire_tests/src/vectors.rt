@@ -32,7 +32,7 @@ pub const REPLIES: [&[u8]; 12] = [
     b"S1\x01\x81\x00\x00\x00\x00\x00\x00\x00\x02\x00\x00\x00\x08RAGB\x00\x00\x00\x02\x00\x00\x00\x05\x03",
 ];
 
-pub fn requests(rt: &impl Abort) -> [Request; 8] {
+pub(crate) fn requests(rt: &impl Abort) -> [Request; 8] {
     [
         request(0, 1, grant(rt, 7, 0, 2)),
         request(7, 1, draw(rt)),
@@ -45,7 +45,7 @@ pub fn requests(rt: &impl Abort) -> [Request; 8] {
     ]
 }
 
-pub fn replies(rt: &impl Abort) -> [(Request, Outcome); 12] {
+pub(crate) fn replies(rt: &impl Abort) -> [(Request, Outcome); 12] {
     [
         (
             request(0, 1, grant(rt, 7, 0, 2)),
@@ -77,7 +77,7 @@ pub fn replies(rt: &impl Abort) -> [(Request, Outcome); 12] {
     ]
 }
 
-pub fn request(customer: u32, number: u32, body: Body) -> Request {
+pub(crate) fn request(customer: u32, number: u32, body: Body) -> Request {
     Request {
         customer,
         number,
@@ -85,7 +85,7 @@ pub fn request(customer: u32, number: u32, body: Body) -> Request {
     }
 }
 
-pub fn grant(rt: &impl Abort, holder: u32, first: u32, last: u32) -> Body {
+pub(crate) fn grant(rt: &impl Abort, holder: u32, first: u32, last: u32) -> Body {
     Body::Grant {
         holder,
         service: service(rt),
@@ -95,29 +95,29 @@ pub fn grant(rt: &impl Abort, holder: u32, first: u32, last: u32) -> Body {
     }
 }
 
-pub fn draw(rt: &impl Abort) -> Body {
+pub(crate) fn draw(rt: &impl Abort) -> Body {
     Body::Draw {
         service: service(rt),
         country: country(rt),
     }
 }
 
-pub fn void(rt: &impl Abort, text: &[u8]) -> Body {
+pub(crate) fn void(rt: &impl Abort, text: &[u8]) -> Body {
     Body::Void { id: id(rt, text) }
 }
 
-pub fn query(rt: &impl Abort, text: &[u8]) -> Body {
+pub(crate) fn query(rt: &impl Abort, text: &[u8]) -> Body {
     Body::Query { id: id(rt, text) }
 }
 
-pub fn drawn(rt: &impl Abort, day: u32, text: &[u8]) -> Outcome {
+pub(crate) fn drawn(rt: &impl Abort, day: u32, text: &[u8]) -> Outcome {
     Outcome::Drawn {
         day,
         id: id(rt, text),
     }
 }
 
-pub fn reply(rt: &impl Abort, request: Request, outcome: Outcome) -> Reply {
+pub(crate) fn reply(rt: &impl Abort, request: Request, outcome: Outcome) -> Reply {
     match Reply::new(request, outcome) {
         Some(reply) => reply,
         None => panic!(rt; "{request:?} {outcome:?}"),

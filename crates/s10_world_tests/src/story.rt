@@ -14,7 +14,7 @@ use std::alloc::{AllocError, Global};
 pub const EVENTS: usize = 18;
 
 /// A Draw of RA GB.
-pub fn draw() -> Option<Body> {
+pub(crate) fn draw() -> Option<Body> {
     Some(Body::Draw {
         service: Service::new(*b"RA")?,
         country: Country::new(*b"GB")?,
@@ -22,7 +22,7 @@ pub fn draw() -> Option<Body> {
 }
 
 /// A Grant of RA GB 0 to 2 to customer 7.
-pub fn grant() -> Option<Body> {
+pub(crate) fn grant() -> Option<Body> {
     Some(Body::Grant {
         holder: 7,
         service: Service::new(*b"RA")?,
@@ -53,7 +53,7 @@ fn to_client(client: u32, index: usize) -> Event {
 
 /// The post grants three serials. Two clients of customer 7 draw: the second's request comes first,
 /// both come twice, and the second client gives up before its reply comes.
-pub fn story() -> Option<[Event; EVENTS]> {
+pub(crate) fn story() -> Option<[Event; EVENTS]> {
     let grant = grant()?;
     let draw = draw()?;
     Some([
@@ -97,7 +97,7 @@ fn three_clients(alloc: Global) -> Result<Vec<Client>, AllocError>
 }
 
 /// An empty book of an interval of 30 days.
-pub fn empty_book(alloc: Global) -> PlainBook {
+pub(crate) fn empty_book(alloc: Global) -> PlainBook {
     let Some(settings) = Settings::new(30, 100) else {
         unreachable!();
     };
@@ -105,7 +105,7 @@ pub fn empty_book(alloc: Global) -> PlainBook {
 }
 
 /// The three clients and a server over this book, before any event.
-pub fn new_world<B: Book + Drop>(alloc: Global, book: B) -> Result<World<B>, AllocError> {
+pub(crate) fn new_world<B: Book + Drop>(alloc: Global, book: B) -> Result<World<B>, AllocError> {
     let clients = three_clients(alloc)?;
     Ok(World::new(alloc, Server::new(book), clients))
 }
