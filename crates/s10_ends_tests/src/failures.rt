@@ -1,33 +1,60 @@
 use crate::scripts::Want::Faulted;
-use crate::scripts::{DRAW, GRANT, bytes_of, is_as_wanted};
+use crate::scripts::{DRAW, GRANT, Step, bytes_of, is_as_wanted};
 use s10_book::{Book, BookFault, PlainBook, Settings, TripBook};
 use s10_ends::Server;
+use std::alloc::{AllocError, Global};
 use std::test::Fail;
 
+/// Whether a step is answered as wanted, handed in again where the store failed, and whether it failed.
+fn is_answered_at_last<B: Book>(
+    alloc: Global,
+    server: &mut Server<B>,
+    step: &Step,
+) -> Result<(bool, bool), AllocError> {
+    let (day, datagram, want) = *step;
+    let bytes = bytes_of(alloc, datagram)?;
+    let answer = server.handle(&bytes, day);
+    if is_as_wanted(alloc, &answer, Faulted(BookFault::Store))? {
+        let again = server.handle(&bytes, day);
+        Ok((is_as_wanted(alloc, &again, want)?, true))
+    } else {
+        Ok((is_as_wanted(alloc, &answer, want)?, false))
+    }
+}
+
+/// How often a book that fails at one of its calls faults a Grant and a Draw, which are handed in
+/// again; none where an answer or the ledger is wrong.
+fn faults_made_good(alloc: Global, at: u64) -> Result<Option<u32>, Fail> {
+    let settings = Settings::new(30, 100).ok_or("settings")?;
+    let mut server = Server::new(TripBook::new(PlainBook::new(alloc, settings), at));
+    let mut faults: u32 = 0;
+    for step in [GRANT, DRAW] {
+        let (right, faulted) = is_answered_at_last(alloc, &mut server, &step)?;
+        if !right {
+            return Ok(None);
+        }
+        if faulted {
+            faults = faults.saturating_add(1);
+        }
+    }
+    Ok(if server.into_book().len() == 2 {
+        Some(faults)
+    } else {
+        None
+    })
+}
+
+// Each call of the book fails in turn, until a run meets no fault.
 #[test]
 fn faulted_request_is_handed_in_again(rt: HostRuntime) -> Result<(), Fail> {
-    let settings = Settings::new(30, 100).ok_or("settings")?;
     let mut last = None;
     for at in 0..100u64 {
-        let mut server = Server::new(TripBook::new(PlainBook::new(rt.alloc(), settings), at));
-        let mut tripped = false;
-        for (day, datagram, want) in [GRANT, DRAW] {
-            let bytes = bytes_of(rt.alloc(), datagram)?;
-            let mut answer = server.handle(&bytes, day);
-            if is_as_wanted(rt.alloc(), &answer, Faulted(BookFault::Store))? {
-                assert!(rt; !tripped, "twice at call {at} of the book");
-                tripped = true;
-                answer = server.handle(&bytes, day);
+        match faults_made_good(rt.alloc(), at)? {
+            Some(0) => {
+                last = Some(at);
+                break;
             }
-            assert!(rt;
-                is_as_wanted(rt.alloc(), &answer, want)?,
-                "call {at} of the book"
-            );
-        }
-        assert_eq!(rt; server.into_book().len(), 2);
-        if !tripped {
-            last = Some(at);
-            break;
+            faults => assert_eq!(rt; faults, Some(1), "call {at} of the book"),
         }
     }
     assert!(rt; last.is_some_and(|at| at > 0));

@@ -1,9 +1,11 @@
 use crate::fixtures::{ANY_PORT, FIRST_DRAW, FIRST_GRANT, draw, new_server};
-use s10_book::Book;
+use s10_book::{Book, PlainBook};
 use s10_core::{Country, Serial, Service};
 use s10_ends::{Client, NearLink, UdpLink, call};
 use s10_link::{Link, Peer};
 use s10_wire::{Body, encode_reply};
+use std::alloc::Global;
+use std::net::Net;
 use std::test::Fail;
 
 /// A Grant of RA GB 0 to 2 to customer 7.
@@ -30,16 +32,27 @@ fn is_answered<L: Link>(
     Ok(encode_reply(&reply).bytes() == datagram)
 }
 
-#[test]
-fn calls_are_served_over_loopback(rt: HostRuntime) -> Result<(), Fail> {
-    let far = UdpLink::bind(&rt, ANY_PORT, 1_000)?;
-    let server = far.local();
-    let mut link = NearLink {
-        server: new_server(rt.alloc(), 100)?,
+/// A link to a server over an empty book, and where that server is.
+fn new_link<N: Net>(
+    net: &N,
+    alloc: Global,
+) -> Result<(NearLink<PlainBook, UdpLink, UdpLink>, Peer), Fail> {
+    let far = UdpLink::bind(net, ANY_PORT, 1_000)?;
+    let near = UdpLink::bind(net, ANY_PORT, 1_000)?;
+    let server = new_server(alloc, 100)?;
+    let at = far.local();
+    let link = NearLink {
+        server,
         far,
-        near: UdpLink::bind(&rt, ANY_PORT, 1_000)?,
+        near,
         day: 20_000,
     };
+    Ok((link, at))
+}
+
+#[test]
+fn calls_are_served_over_loopback(rt: HostRuntime) -> Result<(), Fail> {
+    let (mut link, server) = new_link(&rt, rt.alloc())?;
     let granting = grant().ok_or("grant")?;
     assert!(rt; is_answered(&mut link, server, 0, granting, FIRST_GRANT.1)?);
     assert!(rt; is_answered(&mut link, server, 7, draw()?, FIRST_DRAW.1)?);
