@@ -85,3 +85,17 @@ begins old new t count tables held h =
       serials = rw (at 4 ∙ applied.tables.1.1.1.0 four_zero) held.serials;
       numbered = rw (at 4 ∙ applied.tables.1.1.1.0 four_zero) held.numbered;
     }
+
+-- and nothing else is declared than before
+pub as_declared : (old new : State) (t : Terms) (count : ℕ) (tables : Tables) → HasTables old.now tables → Executes settings_text (given_settings t) old new (Ok count)
+    → new.now.schema ≡ old.now.schema
+as_declared old new t count tables held h =
+    let params = given_settings t in
+    let has = held.schema.is in
+    let o = others_in old.now.schema in
+    let command = Insert 0 (Values settings_terms 5) in
+    let w = runs_as settings_text params old new (with_others o) has command (settings_is o) (settings_plain o) count h in
+    let text = statement_of settings_text (understood (with_others o) settings_text) in
+    let done = went (subst (λ s. Does old.step_limit (mode_of old) params (record old.now { schema = s }) text None command (Ok (w.tally, new.now))) has w.changed) in
+    let now = ap (λ (p : Tally × Database). p.1) (same_value (went (went done.2).2).2) in
+    ap (λ (d : Database). d.schema) now ∙ sym has

@@ -13,7 +13,7 @@ use Rattle.sqlite.specs.Given.{IsPlain}
 use Rattle.sqlite.specs.Listing.{understood}
 use Rattle.sqlite.specs.State.{State, Writes, Executes}
 use Rattle.sqlite.proofs.Callers.{command_of, statement_of, runs_as}
-use Rattle.s10_schema.specs.Schema.{IsLedgerSchema, with_others, no_schema, head_table, calls_table, ranges_table, serials_table, calls_index}
+use Rattle.s10_schema.specs.Schema.{IsLedgerSchema, ledger_schema, with_others, no_schema, head_table, calls_table, ranges_table, serials_table, calls_index}
 use Rattle.s10_ledger.specs.Statements.{head_made, calls_made, ranges_made, serials_made}
 use Rattle.s10_rows.specs.Tables.{no_rows}
 use Rattle.s10_ledger.specs.Shown.{HasTables}
@@ -97,3 +97,12 @@ all_made s0 s1 s2 s3 s4 m n p q has h1 h2 h3 h4 =
       serials = rw serials (∣ IsPermutation-refl [] ∣₁);
       numbered = rw serials tt;
     }
+
+-- and nothing else is declared
+pub all_declared : (s0 s1 s2 s3 s4 : State) (m n p q : ℕ) → s0.now.schema ≡ no_schema → Executes head_made [] s0 s1 (Ok m) → Executes calls_made [] s1 s2 (Ok n) → Executes ranges_made [] s2 s3 (Ok p)
+    → Executes serials_made [] s3 s4 (Ok q) → s4.now.schema ≡ ledger_schema
+all_declared s0 s1 s2 s3 s4 m n p q has h1 h2 h3 h4 =
+    let a = makes no_schema head_made (record head_table { tree = 0 }) one_table head_defined s0 s1 m has h1 in
+    let b = makes one_table calls_made (record calls_table { tree = 0 }) two_tables calls_defined s1 s2 n a.schema_is h2 in
+    let c = makes two_tables ranges_made (record ranges_table { tree = 0 }) three_tables ranges_defined s2 s3 p b.schema_is h3 in
+    (makes three_tables serials_made (record serials_table { tree = 0 }) (with_others no_schema) serials_defined s3 s4 q c.schema_is h4).schema_is

@@ -52,6 +52,7 @@ impl<S: Alter> SqlBook<S> {
     ghost use Rattle.sqlite.specs.State.{HasCleanDisk};
     ghost use Rattle.s10_ledger.specs.Ledger.{Ledger, IsLedger, IsHonest, history_in};
     ghost use Rattle.s10_ledger.specs.Refusals.{IsMakingRefusal};
+    ghost use Rattle.s10_schema.specs.Schema.{ledger_schema};
 
     /// Makes an empty ledger with these settings in an empty database, in one transaction. Refused
     /// with NotEmpty where a table of one of the four names is there, with Memory, and with Store
@@ -64,6 +65,7 @@ impl<S: Alter> SqlBook<S> {
         requires idle { conn.in_transaction ≡ false }
         ensures new { IfOk result (λ b. (b.terms ≡ settings) × (b.faults ≡ 0)) }
         ensures empty { IfOk result (λ b. IsHonest S.Store b → history_in (state S.Store b.conn).now ≡ []) }
+        ensures alone { IfOk result (λ b. IsHonest S.Store b → (state S.Store b.conn).now.schema ≡ ledger_schema) }
         ensures honest { IfOk result (λ b. HasCleanDisk (state S.Store b.conn) → IsTrue (state S.Store b.conn).is_open → IsHonest S.Store b) }
         ensures refused { IfErr result (λ r. IsMakingRefusal (state S.Store conn).now.schema r.fault) }
         ensures kept { IfErr result (λ r. HasCleanDisk (state S.Store r.connection) → IsTrue (state S.Store r.connection).is_open → (state S.Store r.connection).now ≡ (state S.Store conn).now) }

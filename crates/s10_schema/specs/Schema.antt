@@ -119,6 +119,10 @@ no_schema = record { tables = []; indexes = []; views = [] }
 abbrev pub with_others : Schema → Schema
 with_others o = record { tables = head_table ∷ calls_table ∷ ranges_table ∷ serials_table ∷ o.tables; indexes = calls_index ∷ serials_index ∷ o.indexes; views = o.views }
 
+-- the schema of a ledger that has its database for itself
+abbrev pub ledger_schema : Schema
+ledger_schema = with_others no_schema
+
 -- what stands behind the first four tables and their two indexes
 abbrev pub others_in : Schema → Schema
 others_in s = record { tables = drop 4 s.tables; indexes = drop 2 s.indexes; views = s.views }

@@ -11,3 +11,6 @@ returns-clause-empty g c honest = no_history (state g.S.Store c.make_ledger.new.
 
 pub returns-clause-honest : goal.returns-clause-honest
 returns-clause-honest g c clean opened = record { clean = clean; is_open = opened; ledger = new_ledger (state g.S.Store c.make_ledger.new.conn).now c.args.settings (c.in_default-make_ledger.ensures.all clean (c.refusal_of.ensures.none c.in_default.is)) }
+
+pub returns-clause-alone : goal.returns-clause-alone
+returns-clause-alone g c honest = c.in_default-make_ledger.ensures.alone honest.clean (c.refusal_of.ensures.none c.in_default.is)
