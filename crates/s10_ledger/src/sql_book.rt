@@ -132,6 +132,7 @@ impl SqlBook<MemStore> {
     ghost use Rattle.sqlite.specs.Held.{state};
     ghost use Rattle.sqlite.specs.Steps.{over_memory};
     ghost use Rattle.s10_ledger.specs.Ledger.{IsHonest, history_in};
+    ghost use Rattle.s10_schema.specs.Schema.{ledger_schema};
 
     /// Makes an empty ledger with these settings in memory. Refused with Memory, and with Store
     /// where a statement failed.
@@ -139,6 +140,7 @@ impl SqlBook<MemStore> {
         ensures new { IfOk result (λ b. (b.terms ≡ settings) × (b.faults ≡ 0)) }
         ensures honest { IfOk result (IsHonest over_memory) }
         ensures empty { IfOk result (λ b. history_in (state over_memory b.conn).now ≡ []) }
+        ensures alone { IfOk result (λ b. (state over_memory b.conn).now.schema ≡ ledger_schema) }
         ensures refused { IfErr result (λ f. (f ≡ OpenFault.Memory) ⊎ (f ≡ OpenFault.Store)) }
     {
         let Ok(conn) = Connection::open_in_memory(alloc) else {

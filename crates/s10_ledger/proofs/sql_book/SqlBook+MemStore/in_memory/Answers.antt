@@ -7,3 +7,6 @@ returns-in-Ok-create-clause-honest c = c.in-Ok-create.ensures.honest (memory_is_
 
 pub returns-in-Ok-create-clause-empty : goal.returns-in-Ok-create-clause-empty
 returns-in-Ok-create-clause-empty c = c.in-Ok-create.ensures.empty (c.in-Ok-create.ensures.honest (memory_is_clean c.in-Ok-create.book.conn) refl)
+
+pub returns-in-Ok-create-clause-alone : goal.returns-in-Ok-create-clause-alone
+returns-in-Ok-create-clause-alone c = c.in-Ok-create.ensures.alone (c.in-Ok-create.ensures.honest (memory_is_clean c.in-Ok-create.book.conn) refl)
