@@ -255,15 +255,20 @@ fn with_value<'a>(
     Ok(changed)
 }
 
-/// Whether a command line with another value of an option is none.
-fn is_refused_with<R: Eprint + AllocGlobal>(
+/// Whether a command line with any other of these values of an option is none.
+fn are_refused<'a, R: Eprint + AllocGlobal>(
     rt: &R,
-    words: &[&str],
+    words: &[&'a str],
     option: &str,
-    value: &str,
+    values: &[&'a str],
 ) -> Result<bool, Fail> {
-    let changed = with_value(rt.alloc(), words, option, value)?;
-    Ok(is_silent(rt, &changed, Some(2)))
+    for value in values {
+        let changed = with_value(rt.alloc(), words, option, value)?;
+        if !is_silent(rt, &changed, Some(2)) {
+            return Ok(false);
+        }
+    }
+    Ok(true)
 }
 
 /// Whether a command line with one more word is none.
@@ -292,21 +297,32 @@ fn numbers_out_of_their_ranges_are_no_command_line(rt: HostRuntime) -> Result<()
         (LINES[5], "--customer", &[""]),
     ];
     for (words, option, values) in cases {
-        for value in values {
-            let is_refused = is_refused_with(&rt, words, option, value)?;
-            assert!(rt; is_refused, "{words:?} {option} {value}");
-        }
-    }
-    for line in [LINES[2], LINES[3], LINES[4], LINES[5]] {
-        for tries in ["--tries=0", "--tries=101"] {
-            assert!(rt; is_refused_before(&rt, line, tries)?, "{line:?} {tries}");
-        }
-    }
-    for line in [LINES[1], LINES[6], LINES[8]] {
         assert!(rt;
-            is_refused_before(&rt, line, "--day=4294967296")?,
-            "{line:?}"
+            are_refused(&rt, words, option, values)?,
+            "{words:?} {option}"
         );
+    }
+    Ok(())
+}
+
+#[test]
+fn tries_and_days_out_of_their_ranges_are_no_command_line(rt: HostRuntime) -> Result<(), Fail> {
+    let cases: [(&[&str], &[&str]); 7] = [
+        (LINES[2], &["--tries=0", "--tries=101"]),
+        (LINES[3], &["--tries=0", "--tries=101"]),
+        (LINES[4], &["--tries=0", "--tries=101"]),
+        (LINES[5], &["--tries=0", "--tries=101"]),
+        (LINES[1], &["--day=4294967296"]),
+        (LINES[6], &["--day=4294967296"]),
+        (LINES[8], &["--day=4294967296"]),
+    ];
+    for (words, options) in cases {
+        for option in options {
+            assert!(rt;
+                is_refused_before(&rt, words, option)?,
+                "{words:?} {option}"
+            );
+        }
     }
     Ok(())
 }
