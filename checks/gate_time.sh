@@ -86,7 +86,7 @@ table() {
         END {
             for (name in names)
                 printf form, name, minutes(seconds[name, "proof"]), minutes(seconds[name, "tests"]), \
-                    minutes(seconds[name, "edits"]), seconds[name, "tried"], sprintf("%.1f", room[name] / 1048576)
+                    minutes(seconds[name, "edits"]), seconds[name, "tried"] + 0, sprintf("%.1f", room[name] / 1048576)
             printf form, "~all", minutes(whole["proof"]), minutes(whole["tests"]), \
                 minutes(whole["edits"]), whole["tried"], ""
         }' | sort | tr -d '~'
