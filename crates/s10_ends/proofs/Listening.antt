@@ -20,36 +20,32 @@ use Rattle.s10_ends.specs.declared.received.Received.{Received}
 use Rattle.s10_ends.specs.declared.received.Received.TheVariants.{Malformed, Idle, NotMine, Accepted}
 use Rattle.s10_wire.specs.Reply.{request_of, outcome_of}
 use Rattle.s10_ends.specs.Client.{ClientState, Receives, settled}
-use Rattle.s10_ends.specs.Calls.{Heard, IsUnanswered, IsTakenReply, failures_of}
+use Rattle.s10_ends.specs.Calls.{Heard, TookAllBut, IsUnanswered, IsTakenReply, failures_of}
 
--- k receives, none of which failed
+-- k receives, each of which took a datagram
 pub record Hearing (old new : Trace) (k : ℕ) : Type 0 where
   pub calls : new.calls ≡ old.calls + k
+  pub received : new.received ≡ old.received + k
   pub failures : new.failures ≡ old.failures
   pub sends : new.sends ≡ old.sends
   pub given : new.given ≡ old.given
   pub alike : new.alike ≡ old.alike
 
 pub hearing_none : (t : Trace) → Hearing t t 0
-hearing_none t = record { calls = omega arith; failures = refl; sends = refl; given = refl; alike = refl }
-
-hearing_on : (t m m' : Trace) (k : ℕ) → Hearing t m k → m'.calls ≡ m.calls + 1 → m'.failures ≡ m.failures → m'.sends ≡ m.sends → m'.given ≡ m.given → m'.alike ≡ m.alike
-    → Hearing t m' (k + 1)
-hearing_on t m m' k h calls failures sends given alike = record {
-  calls = omega (arith, h.calls, calls);
-  failures = failures ∙ h.failures;
-  sends = sends ∙ h.sends;
-  given = given ∙ h.given;
-  alike = alike ∙ h.alike;
-}
-
-pub hearing_call : (t m m' : Trace) (k : ℕ) → Hearing t m k → m' ≡ after_call m → Hearing t m' (k + 1)
-hearing_call t m m' k h is =
-    hearing_on t m m' k h (ap (λ (x : Trace). x.calls) is) (ap (λ (x : Trace). x.failures) is) (ap (λ (x : Trace). x.sends) is) (ap (λ (x : Trace). x.given) is) (ap (λ (x : Trace). x.alike) is)
+hearing_none t = record { calls = omega arith; received = omega arith; failures = refl; sends = refl; given = refl; alike = refl }
 
 pub hearing_datagram : (t m m' : Trace) (k : ℕ) (p : Peer × Packet) → Hearing t m k → m' ≡ after_datagram m p → Hearing t m' (k + 1)
 hearing_datagram t m m' k p h is =
-    hearing_on t m m' k h (ap (λ (x : Trace). x.calls) is) (ap (λ (x : Trace). x.failures) is) (ap (λ (x : Trace). x.sends) is) (ap (λ (x : Trace). x.given) is) (ap (λ (x : Trace). x.alike) is)
+    let calls : m'.calls ≡ m.calls + 1 = ap (λ (x : Trace). x.calls) is in
+    let received : m'.received ≡ m.received + 1 = ap (λ (x : Trace). x.received) is in
+    record {
+      calls = omega (arith, h.calls, calls);
+      received = omega (arith, h.received, received);
+      failures = ap (λ (x : Trace). x.failures) is ∙ h.failures;
+      sends = ap (λ (x : Trace). x.sends) is ∙ h.sends;
+      given = ap (λ (x : Trace). x.given) is ∙ h.given;
+      alike = ap (λ (x : Trace). x.alike) is ∙ h.alike;
+    }
 
 pub heard : (t m : Trace) (k : ℕ) → Hearing t m k → k ≤ 8 → Heard t m 0
 heard t m k h few = record {
@@ -58,23 +54,64 @@ heard t m k h few = record {
   sends = h.sends;
   given = h.given;
   alike = h.alike;
+  received = omega (arith, h.received);
 }
+
+pub took_all : (t m : Trace) (k : ℕ) → Hearing t m k → TookAllBut t m 0
+took_all t m k h = omega (arith, h.calls, h.received)
+
+-- nothing came after k datagrams
+pub heard_quiet : (t m m' : Trace) (k : ℕ) → Hearing t m k → k < 8 → m' ≡ after_call m → Heard t m' 0 × (t.calls < m'.calls) × TookAllBut t m' 1
+heard_quiet t m m' k h few is =
+    let calls : m'.calls ≡ m.calls + 1 = ap (λ (x : Trace). x.calls) is in
+    let received : m'.received ≡ m.received = ap (λ (x : Trace). x.received) is in
+    let failures : m'.failures ≡ m.failures = ap (λ (x : Trace). x.failures) is in
+    (
+      record {
+        most = omega (arith, h.calls, calls);
+        failures = omega (arith, h.failures, failures);
+        sends = ap (λ (x : Trace). x.sends) is ∙ h.sends;
+        given = ap (λ (x : Trace). x.given) is ∙ h.given;
+        alike = ap (λ (x : Trace). x.alike) is ∙ h.alike;
+        received = omega (arith, h.received, received);
+      },
+      omega (arith, h.calls, calls),
+      omega (arith, h.calls, h.received, calls, received),
+    )
 
 -- a receive that was refused after k others
 pub heard_refused : (t m m' : Trace) (k : ℕ) (fault : LinkFault) → Hearing t m k → k < 8 → LinkReceives m m' (Err fault) → Heard t m' (failures_of fault)
 heard_refused t m m' k Receive h few refused =
     let calls : m'.calls ≡ m.calls + 1 = ap (λ (x : Trace). x.calls) refused in
     let failures : m'.failures ≡ m.failures + 1 = ap (λ (x : Trace). x.failures) refused in
+    let received : m'.received ≡ m.received = ap (λ (x : Trace). x.received) refused in
     record {
       most = omega (arith, h.calls, calls);
       failures = omega (arith, h.failures, failures);
       sends = ap (λ (x : Trace). x.sends) refused ∙ h.sends;
       given = ap (λ (x : Trace). x.given) refused ∙ h.given;
       alike = ap (λ (x : Trace). x.alike) refused ∙ h.alike;
+      received = omega (arith, h.received, received);
     }
 heard_refused t m m' k Spent h few refused = let P : Trace → Type 0 = λ x. Heard t x 0 in subst P (sym refused.0) (heard t m k h (omega arith))
 heard_refused t m m' k Send h few refused = absurd refused
 heard_refused t m m' k Bind h few refused = absurd refused
+
+pub took_all_refused : (t m m' : Trace) (k : ℕ) (fault : LinkFault) → Hearing t m k → LinkReceives m m' (Err fault) → TookAllBut t m' (failures_of fault)
+took_all_refused t m m' k Receive h refused =
+    let calls : m'.calls ≡ m.calls + 1 = ap (λ (x : Trace). x.calls) refused in
+    let received : m'.received ≡ m.received = ap (λ (x : Trace). x.received) refused in
+    omega (arith, h.calls, h.received, calls, received)
+took_all_refused t m m' k Spent h refused = let P : Trace → Type 0 = λ x. TookAllBut t x 0 in subst P (sym refused.0) (took_all t m k h)
+took_all_refused t m m' k Send h refused = absurd refused
+took_all_refused t m m' k Bind h refused = absurd refused
+
+-- a receive is not refused with Send
+pub receive_not_send : (m m' : Trace) (fault : LinkFault) → LinkReceives m m' (Err fault) → fault ≢ Send
+receive_not_send m m' Receive refused = λ wrong. cc
+receive_not_send m m' Spent refused = λ wrong. cc
+receive_not_send m m' Send refused = absurd refused
+receive_not_send m m' Bind refused = absurd refused
 
 -- a receive is not refused with Bind
 pub receive_not_bind : (m m' : Trace) (fault : LinkFault) → LinkReceives m m' (Err fault) → fault ≢ Bind

@@ -16,10 +16,11 @@ use Rattle.s10_wire.specs.Frame.{frame_bytes}
 use Rattle.s10_wire.specs.Reply.{request_of}
 use Rattle.s10_ends.specs.declared.call_fault.CallFault.TheVariants.{GaveUp, Link}
 use Rattle.s10_ends.specs.Client.{ClientState, next_request, after_submit, submit_fault, settled}
-use Rattle.s10_ends.specs.Calls.{SentOnly, Tried, Stopped, Heard, IsUnanswered, IsNoReply, Attempts, Calls, failures_of}
+use Rattle.s10_ends.specs.Calls.{SentOnly, Tried, TookAllBut, Ended, EndsTry, IsCut, Stopped, Heard, IsUnanswered, IsNoReply, Attempts, Calls, failures_of}
 
-pub tried_none : (t : Trace) (p : Peer × Frame) → Tried t t p 0
+pub tried_none : (t : Trace) (p : Peer × Frame) → Tried t t p 0 0
 tried_none t p = record {
+  ended = record { quiet = 0; full = 0; all = refl; took = omega arith; eight = omega arith };
   sent = record { sends = omega arith; given = λ wrong. absurd (omega arith); alike = λ wrong. absurd (omega arith) };
   least = omega arith;
   most = omega arith;
@@ -48,57 +49,117 @@ sent_heard t s t' p k failed sent h = record {
   alike = λ some. let low : k ≤ s.alike = sent.alike some in omega (arith, low, h.alike);
 }
 
+-- one more try, which was not cut short
+ended_again : (t m s t' : Trace) (p : Peer × Frame) (k : ℕ) → Ended t m k 0 0 → Gives m s p → s.received ≤ t'.received → EndsTry s t' → Ended t t' (k + 1) 0 0
+ended_again t m s t' p k e g more (inl took) =
+    let calls : s.calls ≡ m.calls + 1 = ap (λ (x : Trace). x.calls) g.after in
+    let received : s.received ≡ m.received = ap (λ (x : Trace). x.received) g.after in
+    record {
+      quiet = e.quiet + 1;
+      full = e.full;
+      all = omega (arith, e.all);
+      took = omega (arith, e.took, calls, received, took);
+      eight = omega (arith, e.eight, received, more);
+    }
+ended_again t m s t' p k e g more (inr whole) =
+    let calls : s.calls ≡ m.calls + 1 = ap (λ (x : Trace). x.calls) g.after in
+    let received : s.received ≡ m.received = ap (λ (x : Trace). x.received) g.after in
+    record {
+      quiet = e.quiet;
+      full = e.full + 1;
+      all = omega (arith, e.all);
+      took = omega (arith, e.took, calls, received, whole.0);
+      eight = omega (arith, e.eight, received, whole.1);
+    }
+
+-- one more try, which was cut short
+ended_cut : (t m s t' : Trace) (p : Peer × Frame) (k failed : ℕ) → Ended t m k 0 0 → Gives m s p → s.received ≤ t'.received → TookAllBut s t' failed
+    → Ended t t' (k + 1) 1 failed
+ended_cut t m s t' p k failed e g more took =
+    let calls : s.calls ≡ m.calls + 1 = ap (λ (x : Trace). x.calls) g.after in
+    let received : s.received ≡ m.received = ap (λ (x : Trace). x.received) g.after in
+    record {
+      quiet = e.quiet;
+      full = e.full;
+      all = omega (arith, e.all);
+      took = omega (arith, e.took, calls, received, took);
+      eight = omega (arith, e.eight, received, more);
+    }
+
 -- one more try
-pub tried_again : (t m s t' : Trace) (p : Peer × Frame) (k : ℕ) → Tried t m p k → Gives m s p → Heard s t' 0 → s.calls < t'.calls → Tried t t' p (k + 1)
-tried_again t m s t' p k tried g h more =
+tried_again : (t m s t' : Trace) (p : Peer × Frame) (k cut : ℕ) → Tried t m p k 0 → Gives m s p → Heard s t' 0 → s.calls < t'.calls → Ended t t' (k + 1) cut 0 → Tried t t' p (k + 1) cut
+tried_again t m s t' p k cut tried g h more ended =
     let calls : s.calls ≡ m.calls + 1 = ap (λ (x : Trace). x.calls) g.after in
     let failures : s.failures ≡ m.failures = ap (λ (x : Trace). x.failures) g.after in
     record {
       sent = sent_heard t s t' p (k + 1) 0 (sent_again t m s p k tried.sent g) h;
+      ended = ended;
       least = omega (arith, tried.least, calls, more);
       most = omega (arith, tried.most, calls, h.most);
       failures = omega (arith, h.failures, failures, tried.failures);
     }
 
 -- a try whose send was refused
-pub stopped_unsent : (t m t' : Trace) (p : Peer × Frame) (k tries : ℕ) (fault : LinkFault) → Tried t m p k → k < tries → Sends m t' p (Err fault) → Stopped t t' p tries fault
+pub stopped_unsent : (t m t' : Trace) (p : Peer × Frame) (k tries : ℕ) (fault : LinkFault) → Tried t m p k 0 → k < tries → Sends m t' p (Err fault) → Stopped t t' p tries fault
 stopped_unsent t m t' p k tries Send tried few refused =
     let calls : t'.calls ≡ m.calls + 1 = ap (λ (x : Trace). x.calls) refused in
     let failures : t'.failures ≡ m.failures + 1 = ap (λ (x : Trace). x.failures) refused in
     let sends : t'.sends ≡ m.sends = ap (λ (x : Trace). x.sends) refused in
     let alike : t'.alike ≡ m.alike = ap (λ (x : Trace). x.alike) refused in
+    let received : t'.received ≡ m.received = ap (λ (x : Trace). x.received) refused in
+    let ended : Ended t m k 0 0 = tried.ended in
     record {
       sent = (
         k,
+        0,
         omega arith,
+        refl,
         record {
           sends = sends ∙ tried.sent.sends;
           given = λ some. ap (λ (x : Trace). x.given) refused ∙ tried.sent.given some;
           alike = λ some. let low : k ≤ m.alike = tried.sent.alike some in omega (arith, low, alike);
         },
+        record {
+          quiet = ended.quiet;
+          full = ended.full;
+          all = ended.all;
+          took = omega (arith, ended.took, calls, received);
+          eight = omega (arith, ended.eight, received);
+        },
       );
       most = omega (arith, tried.most, calls);
       failures = omega (arith, failures, tried.failures);
-      not_bind = λ wrong. cc;
     }
 stopped_unsent t m t' p k tries Spent tried few refused =
     let P : Trace → Type 0 = λ x. Stopped t x p tries Spent in
-    let here : Stopped t m p tries Spent = record { sent = (k, omega arith, tried.sent); most = omega (arith, tried.most); failures = omega (arith, tried.failures); not_bind = λ wrong. cc } in
+    let here : Stopped t m p tries Spent = record { sent = (k, 0, omega arith, omega arith, tried.sent, tried.ended); most = omega (arith, tried.most); failures = omega (arith, tried.failures) } in
     subst P (sym refused) here
 stopped_unsent t m t' p k tries Receive tried few refused = absurd refused
 stopped_unsent t m t' p k tries Bind tried few refused = absurd refused
 
+is_cut : (fault : LinkFault) → fault ≢ Bind → fault ≢ Send → IsCut fault 1
+is_cut Receive other another = refl
+is_cut Spent other another = omega arith
+is_cut Send other another = absurd (another refl)
+is_cut Bind other another = absurd (other refl)
+
 -- a try in which a receive was refused
-pub stopped_sent : (t m s t' : Trace) (p : Peer × Frame) (k tries : ℕ) (fault : LinkFault) → Tried t m p k → k < tries → Gives m s p → Heard s t' (failures_of fault) → fault ≢ Bind
-    → Stopped t t' p tries fault
-stopped_sent t m s t' p k tries fault tried few g h other =
+stopped_sent : (t m s t' : Trace) (p : Peer × Frame) (k tries : ℕ) (fault : LinkFault) → Tried t m p k 0 → k < tries → Gives m s p → Heard s t' (failures_of fault) → fault ≢ Bind → fault ≢ Send
+    → TookAllBut s t' (failures_of fault) → Stopped t t' p tries fault
+stopped_sent t m s t' p k tries fault tried few g h other another took =
     let calls : s.calls ≡ m.calls + 1 = ap (λ (x : Trace). x.calls) g.after in
     let failures : s.failures ≡ m.failures = ap (λ (x : Trace). x.failures) g.after in
     record {
-      sent = (k + 1, omega arith, sent_heard t s t' p (k + 1) (failures_of fault) (sent_again t m s p k tried.sent g) h);
+      sent = (
+        k + 1,
+        1,
+        omega arith,
+        is_cut fault other another,
+        sent_heard t s t' p (k + 1) (failures_of fault) (sent_again t m s p k tried.sent g) h,
+        ended_cut t m s t' p k (failures_of fault) tried.ended g h.received took,
+      );
       most = omega (arith, tried.most, calls, h.most);
       failures = omega (arith, h.failures, failures, tried.failures);
-      not_bind = other;
     }
 
 -- another try without a reply
@@ -122,7 +183,7 @@ unanswered_again t m s t' p pending before g after =
 
 -- the reply to what is pending was accepted
 pub accepted_call : (c c1 c' : ClientState) (t m t' : Trace) (to : Peer) (body : Body) (tries k : ℕ) (frame : Frame) (q : Request) (reply : Reply)
-    → None ≡ submit_fault c → q ≡ next_request c body → Asks (frame_bytes frame) q → c1 ≡ after_submit c body → Tried t m (to, frame) k → k < tries
+    → None ≡ submit_fault c → q ≡ next_request c body → Asks (frame_bytes frame) q → c1 ≡ after_submit c body → Tried t m (to, frame) k 0 → k < tries
     → Attempts c1 c' m t' (to, frame) (Ok (Some reply)) → Calls c c' t t' to body tries (Ok reply)
 accepted_call c c1 c' t m t' to body tries k frame q reply free own asks client tried few found =
     let heard : Heard found.0 t' 0 = found.2.0 in
@@ -136,12 +197,14 @@ accepted_call c c1 c' t m t' to body tries k frame q reply free own asks client 
       k + 1,
       omega arith,
       omega arith,
-      tried_again t m found.0 t' (to, frame) k tried found.1 heard found.2.1,
+      tried_again t m found.0 t' (to, frame) k 1 tried found.1 heard found.2.1 (ended_cut t m found.0 t' (to, frame) k 0 tried.ended found.1 heard.received found.2.5),
     )
 
 -- a try found no reply
-pub still_tried : (c1 c' : ClientState) (t m t' : Trace) (p : Peer × Frame) (k : ℕ) → Tried t m p k → Attempts c1 c' m t' p (Ok None) → Tried t t' p (k + 1)
-still_tried c1 c' t m t' p k tried found = tried_again t m found.0 t' p k tried found.1 found.2.0 found.2.1
+pub still_tried : (c1 c' : ClientState) (t m t' : Trace) (p : Peer × Frame) (k : ℕ) → Tried t m p k 0 → Attempts c1 c' m t' p (Ok None) → Tried t t' p (k + 1) 0
+still_tried c1 c' t m t' p k tried found =
+    let heard : Heard found.0 t' 0 = found.2.0 in
+    tried_again t m found.0 t' p k 0 tried found.1 heard found.2.1 (ended_again t m found.0 t' p k tried.ended found.1 heard.received found.2.4)
 
 pub still_unanswered : (c1 c' : ClientState) (t m t' : Trace) (p : Peer × Frame) (q : Request) → c1.pending ≡ Some q → IsUnanswered t m (Some q) → Attempts c1 c' m t' p (Ok None)
     → IsUnanswered t t' (Some q)
@@ -151,7 +214,7 @@ still_unanswered c1 c' t m t' p q pends before found =
 
 -- the link refused a call
 pub stopped_call : (c c1 c2 c' : ClientState) (t m t' : Trace) (to : Peer) (body : Body) (tries k : ℕ) (frame : Frame) (q : Request) (fault : LinkFault)
-    → None ≡ submit_fault c → q ≡ next_request c body → Asks (frame_bytes frame) q → c1 ≡ after_submit c body → Tried t m (to, frame) k → k < tries
+    → None ≡ submit_fault c → q ≡ next_request c body → Asks (frame_bytes frame) q → c1 ≡ after_submit c body → Tried t m (to, frame) k 0 → k < tries
     → Attempts c1 c2 m t' (to, frame) (Err fault) → c' ≡ settled c2 → Calls c c' t t' to body tries (Err (Link q fault))
 stopped_call c c1 c2 c' t m t' to body tries k frame q fault free own asks client tried few (inl unsent) given_up = (
   record { submitted = sym free; client = given_up ∙ ap settled (unsent.1 ∙ client) },
@@ -165,15 +228,15 @@ stopped_call c c1 c2 c' t m t' to body tries k frame q fault free own asks clien
   own,
   frame,
   asks,
-  stopped_sent t m sent.0 t' (to, frame) k tries fault tried few sent.1 sent.2.0 sent.2.2,
+  stopped_sent t m sent.0 t' (to, frame) k tries fault tried few sent.1 sent.2.0 sent.2.2 sent.2.3 sent.2.4,
 )
 
 -- no try found a reply
 pub gave_up_call : (c c1 c' : ClientState) (t t' : Trace) (to : Peer) (body : Body) (tries k : ℕ) (frame : Frame) (q : Request)
-    → None ≡ submit_fault c → q ≡ next_request c body → Asks (frame_bytes frame) q → c1 ≡ after_submit c body → Tried t t' (to, frame) k → k ≡ tries
+    → None ≡ submit_fault c → q ≡ next_request c body → Asks (frame_bytes frame) q → c1 ≡ after_submit c body → Tried t t' (to, frame) k 0 → k ≡ tries
     → IsUnanswered t t' (Some (next_request c body)) → c' ≡ settled c1 → Calls c c' t t' to body tries (Err (GaveUp q))
 gave_up_call c c1 c' t t' to body tries k frame q free own asks client tried all unanswered given_up =
-    let P : ℕ → Type 0 = λ n. Tried t t' (to, frame) n in (
+    let P : ℕ → Type 0 = λ n. Tried t t' (to, frame) n 0 in (
       record { submitted = sym free; client = given_up ∙ ap settled client },
       own,
       last_is unanswered,

@@ -36,25 +36,45 @@ failures_of Send = 1
 failures_of Spent = 0
 failures_of Bind = 0
 
+-- each call of the link took a datagram, but for so many
+abbrev pub TookAllBut : Trace → Trace → ℕ → Type 0
+TookAllBut old new n = new.calls + old.received ≡ old.calls + n + new.received
+
+-- how the tries ended whose frame was sent: quiet ones when nothing came, full ones after eight datagrams, and so many were cut
+-- short, by their reply or by a fault; so many calls of the link failed
+pub record Ended (old new : Trace) (sends cut failed : ℕ) : Type 0 where
+  pub quiet : ℕ
+  pub full : ℕ
+  pub all : quiet + full + cut ≡ sends
+  pub took : TookAllBut old new (sends + quiet + failed)
+  pub eight : old.received + 8 * full ≤ new.received
+
+-- how many tries whose frame was sent the fault of a link cuts short
+abbrev pub IsCut : LinkFault → ℕ → Type 0
+IsCut Receive cut = cut ≡ 1
+IsCut Send cut = cut ≡ 0
+IsCut Spent cut = cut ≤ 1
+IsCut Bind cut = ⊥
+
 -- n frames were sent, each of them this one to this peer
 pub record SentOnly (old new : Trace) (p : Peer × Frame) (n : ℕ) : Type 0 where
   pub sends : new.sends ≡ old.sends + n
   pub given : 0 < n → new.given ≡ Some p
   pub alike : 0 < n → n ≤ new.alike
 
--- n tries were made, each a send and one to eight receives, of which none failed
-pub record Tried (old new : Trace) (p : Peer × Frame) (n : ℕ) : Type 0 where
+-- n tries were made, each a send and one to eight receives, of which none failed; so many of them were cut short
+pub record Tried (old new : Trace) (p : Peer × Frame) (n cut : ℕ) : Type 0 where
   pub sent : SentOnly old new p n
+  pub ended : Ended old new n cut 0
   pub least : old.calls + 2 * n ≤ new.calls
   pub most : new.calls ≤ old.calls + 9 * n
   pub failures : new.failures ≡ old.failures
 
 -- a call of the link was refused with the fault, in one of so many tries
 pub record Stopped (old new : Trace) (p : Peer × Frame) (tries : ℕ) (fault : LinkFault) : Type 0 where
-  pub sent : (n : ℕ) × (n ≤ tries) × SentOnly old new p n
+  pub sent : (n cut : ℕ) × (n < tries + cut) × IsCut fault cut × SentOnly old new p n × Ended old new n cut (failures_of fault)
   pub most : new.calls ≤ old.calls + 9 * tries
   pub failures : new.failures ≡ old.failures + failures_of fault
-  pub not_bind : fault ≢ Bind
 
 -- the request was submitted and is not pending any more; its number stays spent
 pub record IsOver (c c' : ClientState) (body : Body) : Type 0 where
@@ -66,11 +86,11 @@ abbrev pub Calls : ClientState → ClientState → Trace → Trace → Peer → 
 Calls c c' t t' to body tries (Ok reply) =
     IsOver c c' body × (request_of reply ≡ next_request c body) × IsTakenReply t' reply
     × (frame : Frame) × Asks (frame_bytes frame) (next_request c body)
-    × (n : ℕ) × (1 ≤ n) × (n ≤ tries) × Tried t t' (to, frame) n
+    × (n : ℕ) × (1 ≤ n) × (n ≤ tries) × Tried t t' (to, frame) n 1
 Calls c c' t t' to body tries (Err (Submit fault)) = (submit_fault c ≡ Some fault) × (c' ≡ c) × (t' ≡ t)
 Calls c c' t t' to body tries (Err (GaveUp q)) =
     IsOver c c' body × (q ≡ next_request c body) × (t.received < t'.received → IsNoReply t' q)
-    × (frame : Frame) × Asks (frame_bytes frame) q × Tried t t' (to, frame) tries
+    × (frame : Frame) × Asks (frame_bytes frame) q × Tried t t' (to, frame) tries 0
 Calls c c' t t' to body tries (Err (Link q fault)) =
     IsOver c c' body × (q ≡ next_request c body)
     × (frame : Frame) × Asks (frame_bytes frame) q × Stopped t t' (to, frame) tries fault
@@ -82,6 +102,11 @@ pub record Heard (old new : Trace) (failed : ℕ) : Type 0 where
   pub sends : new.sends ≡ old.sends
   pub given : new.given ≡ old.given
   pub alike : new.alike ≡ old.alike
+  pub received : old.received ≤ new.received
+
+-- a try ended when nothing came, or after eight datagrams
+abbrev pub EndsTry : Trace → Trace → Type 0
+EndsTry old new = TookAllBut old new 1 ⊎ (TookAllBut old new 0 × (old.received + 8 ≤ new.received))
 
 -- either no datagram was taken, or the last one is no reply to what is pending
 abbrev pub IsUnanswered : Trace → Trace → Option Request → Type 0
@@ -92,9 +117,9 @@ IsUnanswered old new pending =
 -- what the receives of one try do
 abbrev pub Listens : ClientState → ClientState → Trace → Trace → Result (Option Reply) LinkFault → Type 0
 Listens c c' t t' (Ok (Some reply)) =
-    Heard t t' 0 × (t.calls < t'.calls) × (c.pending ≡ Some (request_of reply)) × (c' ≡ settled c) × IsTakenReply t' reply
-Listens c c' t t' (Ok None) = Heard t t' 0 × (t.calls < t'.calls) × (c' ≡ c) × IsUnanswered t t' c.pending
-Listens c c' t t' (Err fault) = Heard t t' (failures_of fault) × (c' ≡ c) × (fault ≢ Bind)
+    Heard t t' 0 × (t.calls < t'.calls) × (c.pending ≡ Some (request_of reply)) × (c' ≡ settled c) × IsTakenReply t' reply × TookAllBut t t' 0
+Listens c c' t t' (Ok None) = Heard t t' 0 × (t.calls < t'.calls) × (c' ≡ c) × IsUnanswered t t' c.pending × EndsTry t t'
+Listens c c' t t' (Err fault) = Heard t t' (failures_of fault) × (c' ≡ c) × (fault ≢ Bind) × (fault ≢ Send) × TookAllBut t t' (failures_of fault)
 
 -- what one try does: the frame is sent, and then its reply is listened for
 abbrev pub Attempts : ClientState → ClientState → Trace → Trace → Peer × Frame → Result (Option Reply) LinkFault → Type 0

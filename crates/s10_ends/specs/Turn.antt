@@ -1,5 +1,5 @@
 -- What one turn of a server on a link does.
-use Rattle.std.specs.Prelude.{◌≡◌, ◌⊎◌, ◌↔◌, ℕ, List, [], ◌∷◌, Result, Ok, Err}
+use Rattle.std.specs.Prelude.{◌≡◌, ◌⊎◌, ◌↔◌, ℕ, ◌-◌, ◌^◌, List, [], ◌∷◌, Result, Ok, Err}
 use Rattle.s10_link.specs.declared.trace.Trace.{Trace}
 use Rattle.s10_link.specs.declared.peer.Peer.{Peer}
 use Rattle.s10_link.specs.declared.packet.Packet.{Packet}
@@ -57,5 +57,5 @@ ServesOne old new same handles (Ok (Faulted from fault)) = Takes old new handles
 ServesOne old new same handles (Ok (Replied from frame)) = TakesAndGives old new handles from frame
 ServesOne old new same handles (Err Receive) = (new ≡ after_failure old) × same
 ServesOne old new same handles (Err Send) = TakesAndFails old new handles after_failure
-ServesOne old new same handles (Err Spent) = ((new ≡ old) × same) ⊎ TakesAndFails old new handles (λ t. t)
+ServesOne old new same handles (Err Spent) = ((new ≡ old) × (old.calls ≡ 2 ^ 64 - 1) × same) ⊎ TakesAndFails old new handles (λ t. t)
 ServesOne old new same handles (Err Bind) = ⊥

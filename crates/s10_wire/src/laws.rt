@@ -8,7 +8,8 @@ ghost use Rattle.s10_wire.specs.declared.outcome.Outcome.{Outcome};
 ghost use Rattle.s10_wire.specs.Datagrams.{Asks, Replies};
 ghost use Rattle.s10_wire.specs.Frame.{frame_bytes};
 ghost use Rattle.s10_wire.specs.Reply.{request_of, outcome_of};
-ghost use Rattle.s10_wire.specs.WireFault.{is_spelling};
+ghost use Rattle.s10_wire.specs.declared.wire_fault.WireFault.{WireFault};
+ghost use Rattle.s10_wire.specs.WireFault.{is_spelling, IsFirstRefusalOfRequest, IsFirstRefusalOfReply};
 
 use crate::encoders::{encode_reply, encode_request};
 use crate::frame::Frame;
@@ -19,7 +20,7 @@ use crate::request_decoder::decode_request;
 use crate::wire_fault::WireFault;
 
 /// Bytes ask one request at most, and are one reply at most; a request has one datagram, and so
-/// has a reply.
+/// has a reply. What asks a request is refused for nothing, and so is what replies.
 pub fn one_datagram_each()
     ensures one_request { (b : List ℕ) (p q : Request) → Asks b p → Asks b q → p ≡ q }
     ensures one_datagram { (a b : List ℕ) (q : Request) → Asks a q → Asks b q → a ≡ b }
@@ -27,6 +28,10 @@ pub fn one_datagram_each()
         → (p ≡ q) × (u ≡ o) }
     ensures one_reply_datagram { (a b : List ℕ) (q : Request) (o : Outcome)
         → Replies a q o → Replies b q o → a ≡ b }
+    ensures asked_unrefused { (b : List ℕ) (q : Request) (fault : WireFault)
+        → Asks b q → ¬ (IsFirstRefusalOfRequest b fault) }
+    ensures replied_unrefused { (b : List ℕ) (q : Request) (o : Outcome) (fault : WireFault)
+        → Replies b q o → ¬ (IsFirstRefusalOfReply b fault) }
 {}
 
 /// A request has 28 bytes at most, and a reply 34.

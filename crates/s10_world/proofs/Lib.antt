@@ -6,4 +6,5 @@ pub mod Kept
 pub mod Equal
 pub mod Told
 pub mod Unshared
+pub mod Clients
 pub mod Reached

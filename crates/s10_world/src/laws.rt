@@ -18,8 +18,8 @@ pub fn reachable_worlds()
     ensures agree { (t : Terms) (w w' : WorldState) (events : List Event) → IsStart w → Steps t w events w' → Agrees w' }
     // Each submitted request was executed at most once, and its reply tells whether it was.
     ensures once { (t : Terms) (w w' : WorldState) (events : List Event) → IsStart w → IsLegal w.history t → Steps t w events w' → IsAtMostOnce w' }
-    // Where no two clients of one customer have a number in common, no two calls share a request, and no identifier is
+    // Where no two clients of one customer had a number in common, no two calls share a request, and no identifier is
     // accepted twice within the interval.
     ensures unshared { (t : Terms) (w w' : WorldState) (events : List Event) → IsStart w → IsLegal w.history t → Steps t w events w'
-        → HaveOwnNumbers w'.clients → IsUnshared t.interval w' }
+        → HaveOwnNumbers w.clients → IsUnshared t.interval w' }
 {}

@@ -123,9 +123,9 @@ impl<B: Book> World<B> {
         // where that is NumberReused.
         ensures once { B.honest (book_in self.new) → IsAtMostOnce (state_of B.history B.faults self.new) }
 
-        // Where no two clients of one customer have a number in common, each request is that of one call, and no
+        // Where no two clients of one customer had a number in common, each request is that of one call, and no
         // identifier is accepted twice within the interval.
-        ensures unshared { B.honest (book_in self.new) → HaveOwnNumbers (clients_of self.new)
+        ensures unshared { B.honest (book_in self.new) → HaveOwnNumbers (clients_of self.old)
             → IsUnshared (B.terms (book_in self.new)).interval (state_of B.history B.faults self.new) }
     {
         self.network.run(events)

@@ -6,7 +6,7 @@ use Rattle.s10_ends.proofs.calls.call.Given as goal
 -- so many tries, and no reply yet
 abbrev pub invariant-loop-done : goal.invariant-loop-done
 invariant-loop-done g l = record {
-  tried : Tried (g.L.Link.trace_of l.fn.link) (g.L.Link.trace_of l.link) (l.fn.to, l.frame) l._done;
+  tried : Tried (g.L.Link.trace_of l.fn.link) (g.L.Link.trace_of l.link) (l.fn.to, l.frame) l._done 0;
   client : l.client ≡ after_submit l.fn.client l.fn.body;
   unanswered : IsUnanswered (g.L.Link.trace_of l.fn.link) (g.L.Link.trace_of l.link) (Some (next_request l.fn.client l.fn.body));
 }

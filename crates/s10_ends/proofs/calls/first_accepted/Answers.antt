@@ -1,4 +1,4 @@
-use Rattle.std.proofs.Common.{◌≡◌, Some, refl, ap, ◌∙◌, inl, arith}
+use Rattle.std.proofs.Common.{◌≡◌, Some, refl, ap, ◌∙◌, inl, inr, arith}
 use Rattle.std.specs.Prelude.{IsSome}
 use Rattle.s10_link.specs.declared.trace.Trace.{Trace}
 use Rattle.s10_wire.specs.declared.request.Request.{Request}
@@ -6,7 +6,7 @@ use Rattle.s10_wire.specs.declared.outcome.Outcome.{Outcome}
 use Rattle.s10_wire.specs.Datagrams.{Replies}
 use Rattle.s10_link.specs.Packet.{packet_bytes}
 use Rattle.s10_ends.proofs.Turns.{same_error, taken_is}
-use Rattle.s10_ends.proofs.Listening.{hearing_none, hearing_call, hearing_datagram, heard, heard_refused, unanswered_call, unanswered_datagram, unaccepted, quiet_is, accepted_reply, receive_not_bind}
+use Rattle.s10_ends.proofs.Listening.{hearing_none, hearing_datagram, heard, heard_quiet, heard_refused, took_all, took_all_refused, unanswered_call, unanswered_datagram, unaccepted, quiet_is, accepted_reply, receive_not_bind, receive_not_send}
 use Rattle.s10_ends.proofs.calls.first_accepted.Goals as goal
 
 pub loop-read-init : goal.loop-read-init
@@ -19,13 +19,13 @@ loop-read-init g c = record {
 pub returns-in_err-packet : goal.returns-in_err-packet
 returns-in_err-packet g c =
     rw (same_error c.from_residual.result c.in_err-packet.field-0.0 c.from_residual.ensures.1)
-    (heard_refused (g.L.Link.trace_of c.args.link.now) (g.L.Link.trace_of c.loop-read.link) (g.L.Link.trace_of c.receive.new.self) c.loop-read._read c.in_err-packet.field-0.0 c.loop-read.invariant.hearing (omega arith) c.in_err-packet.ensures, c.loop-read.invariant.client, receive_not_bind (g.L.Link.trace_of c.loop-read.link) (g.L.Link.trace_of c.receive.new.self) c.in_err-packet.field-0.0 c.in_err-packet.ensures)
+    (heard_refused (g.L.Link.trace_of c.args.link.now) (g.L.Link.trace_of c.loop-read.link) (g.L.Link.trace_of c.receive.new.self) c.loop-read._read c.in_err-packet.field-0.0 c.loop-read.invariant.hearing (omega arith) c.in_err-packet.ensures, c.loop-read.invariant.client, receive_not_bind (g.L.Link.trace_of c.loop-read.link) (g.L.Link.trace_of c.receive.new.self) c.in_err-packet.field-0.0 c.in_err-packet.ensures, receive_not_send (g.L.Link.trace_of c.loop-read.link) (g.L.Link.trace_of c.receive.new.self) c.in_err-packet.field-0.0 c.in_err-packet.ensures, took_all_refused (g.L.Link.trace_of c.args.link.now) (g.L.Link.trace_of c.loop-read.link) (g.L.Link.trace_of c.receive.new.self) c.loop-read._read c.in_err-packet.field-0.0 c.loop-read.invariant.hearing c.in_err-packet.ensures)
 
 pub returns-in_default : goal.returns-in_default
 returns-in_default g c =
     let quiet = quiet_is (g.L.Link.trace_of c.loop-read.link) (g.L.Link.trace_of c.receive.new.self) c.in_ok-packet.field-0 c.in_ok-packet.ensures c.in_default.is in
-    let h = hearing_call (g.L.Link.trace_of c.args.link.now) (g.L.Link.trace_of c.loop-read.link) (g.L.Link.trace_of c.receive.new.self) c.loop-read._read c.loop-read.invariant.hearing quiet in
-    (heard (g.L.Link.trace_of c.args.link.now) (g.L.Link.trace_of c.receive.new.self) _ h (omega arith), omega (arith, h.calls), c.loop-read.invariant.client, unanswered_call (g.L.Link.trace_of c.args.link.now) (g.L.Link.trace_of c.loop-read.link) (g.L.Link.trace_of c.receive.new.self) _ c.loop-read.invariant.unanswered quiet)
+    let h = heard_quiet (g.L.Link.trace_of c.args.link.now) (g.L.Link.trace_of c.loop-read.link) (g.L.Link.trace_of c.receive.new.self) c.loop-read._read c.loop-read.invariant.hearing (omega arith) quiet in
+    (h.0, h.1, c.loop-read.invariant.client, unanswered_call (g.L.Link.trace_of c.args.link.now) (g.L.Link.trace_of c.loop-read.link) (g.L.Link.trace_of c.receive.new.self) _ c.loop-read.invariant.unanswered quiet, inl h.2)
 
 pub returns-in-Accepted : goal.returns-in-Accepted
 returns-in-Accepted g c =
@@ -33,7 +33,7 @@ returns-in-Accepted g c =
     let h = hearing_datagram (g.L.Link.trace_of c.args.link.now) (g.L.Link.trace_of c.loop-read.link) (g.L.Link.trace_of c.receive.new.self) c.loop-read._read _ c.loop-read.invariant.hearing taken in
     let own = accepted_reply c.args.client.now c.loop-read.client c.receive-in-loop-read.new.self c.bytes.result.now (g.L.Link.trace_of c.receive.new.self) c.in-Some.field-0-0 c.in-Some.packet c.in-Accepted.reply
     c.loop-read.invariant.client c.bytes.ensures c.in-Accepted.ensures (ap (λ (x : Trace). x.taken) taken) in
-    (heard (g.L.Link.trace_of c.args.link.now) (g.L.Link.trace_of c.receive.new.self) _ h (omega arith), omega (arith, h.calls), own.0, own.1, own.2)
+    (heard (g.L.Link.trace_of c.args.link.now) (g.L.Link.trace_of c.receive.new.self) _ h (omega arith), omega (arith, h.calls), own.0, own.1, own.2, took_all (g.L.Link.trace_of c.args.link.now) (g.L.Link.trace_of c.receive.new.self) _ h)
 
 pub loop-read-preserved : goal.loop-read-preserved
 loop-read-preserved g c =
@@ -51,4 +51,4 @@ loop-read-preserved g c =
 pub returns : goal.returns
 returns g c =
     let h = c.loop-read.invariant.hearing in
-    (heard (g.L.Link.trace_of c.args.link.now) (g.L.Link.trace_of c.loop-read.link) _ h (omega arith), omega (arith, h.calls), c.loop-read.invariant.client, c.loop-read.invariant.unanswered)
+    (heard (g.L.Link.trace_of c.args.link.now) (g.L.Link.trace_of c.loop-read.link) _ h (omega arith), omega (arith, h.calls), c.loop-read.invariant.client, c.loop-read.invariant.unanswered, inr (took_all (g.L.Link.trace_of c.args.link.now) (g.L.Link.trace_of c.loop-read.link) _ h, omega (arith, h.received)))

@@ -2,6 +2,7 @@ use Rattle.s10_book.proofs.Spaced.{spaced}
 use Rattle.s10_world.proofs.Kept.{steps_sound}
 use Rattle.s10_world.proofs.Told.{agrees, once}
 use Rattle.s10_world.proofs.Unshared.{unshared}
+use Rattle.s10_world.proofs.Clients.{steps_own}
 use Rattle.s10_world.proofs.Reached.{start_sound, steps_legal, kept_of}
 use Rattle.s10_world.proofs.laws.reachable_worlds.Goals as goal
 
@@ -10,5 +11,5 @@ returns c = record {
   kept = λ t w w' es start legal steps. kept_of w'.history t (steps_legal t w w' es steps legal);
   agree = λ t w w' es start steps. agrees w' (steps_sound t w w' es steps (start_sound w start));
   once = λ t w w' es start legal steps. once w' t (steps_legal t w w' es steps legal) (steps_sound t w w' es steps (start_sound w start));
-  unshared = λ t w w' es start legal steps own. unshared w' t.interval (spaced w'.history t (steps_legal t w w' es steps legal)) (steps_sound t w w' es steps (start_sound w start)) own;
+  unshared = λ t w w' es start legal steps own. unshared w' t.interval (spaced w'.history t (steps_legal t w w' es steps legal)) (steps_sound t w w' es steps (start_sound w start)) (steps_own t w w' es steps own);
 }
