@@ -103,6 +103,9 @@ fn a_book_that_fails_leaves_whole_lines(rt: HostRuntime) -> Result<(), Fail> {
         let book = book_of_nine_calls(&rt)?;
         assert!(rt; stops_in_ranges(rt.alloc(), book, at), "at {at}");
     }
+    // So many calls of the book the reports make, and no more.
+    assert!(rt; !stops_in_issues(rt.alloc(), book_of_nine_calls(&rt)?, 14));
+    assert!(rt; !stops_in_ranges(rt.alloc(), book_of_nine_calls(&rt)?, 3));
     Ok(())
 }
 
