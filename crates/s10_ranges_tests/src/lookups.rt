@@ -1,7 +1,6 @@
 //! The look-ups of ranges.
 
 use crate::calls::{all_granted, country, grant, numbered, range, serial, service};
-use s10_core::{Country, Service};
 use s10_ranges::Ranges;
 use std::process::Abort;
 
@@ -16,18 +15,21 @@ fn has_next(rt: &impl Abort, ranges: &Ranges, customer: u32, after: u32, want: u
     ranges.held_after(customer, ra, gb, after) == numbered(rt, want)
 }
 
-// Whether the range found over those serials is the one of the wanted number, 0 for none.
+// Whether the range found over those serials of a service and a country is the one of the wanted number, 0 for none.
 fn has_over(
     rt: &impl Abort,
     ranges: &Ranges,
-    pair: (Service, Country),
+    letters: [u8; 2],
+    code: [u8; 2],
     first: u32,
     last: u32,
     want: u32,
 ) -> bool {
+    let service = service(rt, letters);
+    let country = country(rt, code);
     let first = serial(rt, first);
     let last = serial(rt, last);
-    ranges.over(pair.0, pair.1, first, last) == numbered(rt, want)
+    ranges.over(service, country, first, last) == numbered(rt, want)
 }
 
 #[test]
@@ -85,10 +87,9 @@ const OVER: [(u32, u32, u32); 16] = [
 #[test]
 fn of_ranges_over_the_same_serials_the_one_of_least_number_is_found(rt: HostRuntime) {
     let ranges = all_granted(&rt);
-    let pair = (service(&rt, *b"RA"), country(&rt, *b"GB"));
     for (first, last, want) in OVER {
         assert!(rt;
-            has_over(&rt, &ranges, pair, first, last, want),
+            has_over(&rt, &ranges, *b"RA", *b"GB", first, last, want),
             "{first} to {last}"
         );
     }
@@ -102,18 +103,19 @@ fn ranges_of_another_service_or_country_are_not_found(rt: HostRuntime) {
         (*b"RC", *b"GB", 0),
         (*b"RA", *b"US", 0),
     ] {
-        let pair = (service(&rt, letters), country(&rt, code));
-        assert!(rt; has_over(&rt, &ranges, pair, 0, 99, want), "{want}");
+        assert!(rt;
+            has_over(&rt, &ranges, letters, code, 0, 99, want),
+            "{want}"
+        );
     }
 }
 
 #[test]
 fn in_no_ranges_none_is_found(rt: HostRuntime) {
     let ranges = Ranges::new(rt.alloc());
-    let pair = (service(&rt, *b"RA"), country(&rt, *b"GB"));
     assert!(rt; ranges.numbered(1).is_none());
     assert!(rt; has_next(&rt, &ranges, 7, 0, 0));
-    assert!(rt; has_over(&rt, &ranges, pair, 0, 99_999_999, 0));
+    assert!(rt; has_over(&rt, &ranges, *b"RA", *b"GB", 0, 99_999_999, 0));
 }
 
 // A Grant that overlaps, one whose number is not the next, and one that ends before it begins.
