@@ -18,6 +18,7 @@ use Rattle.s10_book.proofs.Push.{IsLegal-push}
 use Rattle.s10_book.specs.Book.{Keeps}
 use Rattle.s10_book.specs.Settings.{Terms}
 use Rattle.s10_schema.specs.Schema.{IsLedgerSchema}
+use Rattle.s10_ledger.specs.Settled.{IsSettled}
 use Rattle.s10_ledger.specs.Statements.{Leaves}
 use Rattle.s10_ledger.specs.Ledger.{Ledger, IsLedger, Holds, IsHonest, history_in}
 use Rattle.s10_rows.specs.Selected.{IsCall}
@@ -32,10 +33,10 @@ IsKept g conn t len day = HasCleanDisk (state g conn) → IsTrue (state g conn).
 pub schema_is : (db : Database) (t : Terms) (len day : ℕ) → IsLedger db t len day → IsLedgerSchema db.schema
 schema_is db t len day it = ∥∥₁_elim it.held (is_ledger-prop db.schema) (λ h. h.tables.schema)
 
-module _ {S : Type 0} (g : Ghosts S) (old new : Held S) (t : Terms) (len day : ℕ) (leaves : Leaves g old new) (kept : IsKept g old t len day) where
+module _ {S : Type 0} (g : Ghosts S) (old new : Held S) (t : Terms) (len day : ℕ) (leaves : Leaves g old new) (settled : IsSettled g old) (kept : IsKept g old t len day) where
   -- the tables are as they were
   pub same_tables : HasCleanDisk (state g new) → IsTrue (state g new).is_open → (state g new).now ≡ (state g old).now
-  same_tables clean opened = leaves.now clean opened (schema_is (state g old).now t len day (kept (omega (arith, leaves.clean)) (leaves.was_open clean opened)))
+  same_tables clean opened = leaves.now clean opened settled (schema_is (state g old).now t len day (kept (omega (arith, leaves.clean)) (leaves.was_open clean opened)))
 
   pub was_ledger : HasCleanDisk (state g new) → IsTrue (state g new).is_open → IsLedger (state g old).now t len day
   was_ledger clean opened = kept (omega (arith, leaves.clean)) (leaves.was_open clean opened)
@@ -46,15 +47,15 @@ module _ {S : Type 0} (g : Ghosts S) (old new : Held S) (t : Terms) (len day : �
 abbrev pub history_of : {S : Type 0} → Ghosts S → Ledger S → List Entry
 history_of g l = history_in (state g l.conn).now
 
-pub read_keeps : {S : Type 0} (g : Ghosts S) (old : Ledger S) (conn : Held S) (faults : ℕ) → Leaves g old.conn conn → IsKept g old.conn old.terms old.len old.day
+pub read_keeps : {S : Type 0} (g : Ghosts S) (old : Ledger S) (conn : Held S) (faults : ℕ) → Leaves g old.conn conn → IsSettled g old.conn → IsKept g old.conn old.terms old.len old.day
     → Keeps (history_of g) (λ (l : Ledger S). l.terms) (IsHonest g) old (record old { conn = conn; faults = faults })
-read_keeps g old conn faults leaves kept = record {
+read_keeps g old conn faults leaves settled kept = record {
   was_honest = λ h. record {
     clean = omega (arith, leaves.clean, h.clean);
     is_open = leaves.was_open h.clean h.is_open;
-    ledger = was_ledger g old.conn conn old.terms old.len old.day leaves kept h.clean h.is_open;
+    ledger = was_ledger g old.conn conn old.terms old.len old.day leaves settled kept h.clean h.is_open;
   };
-  same_history = λ h. ap history_in (same_tables g old.conn conn old.terms old.len old.day leaves kept h.clean h.is_open);
+  same_history = λ h. ap history_in (same_tables g old.conn conn old.terms old.len old.day leaves settled kept h.clean h.is_open);
   same_terms = λ h. refl;
 }
 

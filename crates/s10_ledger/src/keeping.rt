@@ -14,6 +14,7 @@ ghost use Rattle.s10_ledger.specs.Shown.{StandsFor};
 ghost use Rattle.s10_rows.specs.Selected.{IsCall};
 ghost use Rattle.s10_rows.specs.Tables.{serial_rows};
 ghost use Rattle.s10_rows.specs.Kept.{Makes, is_at};
+ghost use Rattle.s10_ledger.specs.Settled.{IsSettled};
 ghost use Rattle.s10_ledger.specs.Statements.{Leaves};
 
 use crate::faults::fault_of;
@@ -100,6 +101,8 @@ pub(crate) fn keep_call<S: Alter>(
     arrival: u32,
     entry: &Entry,
 ) -> Result<(), BookFault>
+    requires settled { IsSettled S.Store conn.old }
+    ensures settled { IsSettled S.Store conn.new }
     ensures fault { result ≢ Err Full }
     ensures clean { doubt (state S.Store conn.old).is_clean ≤ doubt (state S.Store conn.new).is_clean }
     ensures was_open { HasCleanDisk (state S.Store conn.new) → IsTrue (state S.Store conn.new).is_open → IsTrue (state S.Store conn.old).is_open }
@@ -136,7 +139,9 @@ pub(crate) fn keep_next<S: Alter>(
     limit: u32,
     entry: &Entry,
 ) -> Result<(), BookFault>
-    requires { limit ≤ 1000000000 }
+    requires limit { limit ≤ 1000000000 }
+    requires settled { IsSettled S.Store conn.old }
+    ensures settled { IsSettled S.Store conn.new }
     ensures fault { result ≢ Err Full }
     ensures clean { doubt (state S.Store conn.old).is_clean ≤ doubt (state S.Store conn.new).is_clean }
     ensures was_open { HasCleanDisk (state S.Store conn.new) → IsTrue (state S.Store conn.new).is_open → IsTrue (state S.Store conn.old).is_open }

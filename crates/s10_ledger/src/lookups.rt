@@ -15,6 +15,7 @@ ghost use Rattle.s10_core.specs.Id.{IsId};
 ghost use Rattle.s10_rows.specs.Tables.{pair_of};
 ghost use Rattle.s10_ledger.specs.Shown.{StandsFor};
 ghost use Rattle.s10_rows.specs.Selected.{IsCall};
+ghost use Rattle.s10_ledger.specs.Settled.{IsSettled};
 ghost use Rattle.s10_ledger.specs.Statements.{Leaves};
 
 use crate::faults::fault_of;
@@ -175,7 +176,7 @@ pub(crate) fn candidate_in<S: Alter>(
 ) -> Result<Candidate, BookFault>
     ensures leaves { Leaves S.Store conn.old conn.new }
     ensures fault { result ≢ Err Full }
-    ensures answer { HasCleanDisk (state S.Store conn.new) → IsTrue (state S.Store conn.new).is_open → (h : List Entry) (t : Terms) → IsLegal h t → All IsCall h → StandsFor (state S.Store conn.old).now h t
+    ensures answer { HasCleanDisk (state S.Store conn.new) → IsTrue (state S.Store conn.new).is_open → IsSettled S.Store conn.old → (h : List Entry) (t : Terms) → IsLegal h t → All IsCall h → StandsFor (state S.Store conn.old).now h t
         → length h < 2 ^ 32 → Contains (ranges_of h) range.now → IfOk result (λ answer. answer ≡ candidate_of h range.now) }
 {
     let serial = mark_in(alloc, conn, range)?;

@@ -35,6 +35,7 @@ impl<S: Alter> Model for SqlBook<S> {
     ghost use Rattle.std.specs.Prelude.{IsTrue, ◌≤◌};
     ghost use Rattle.sqlite.specs.Held.{state};
     ghost use Rattle.sqlite.specs.State.{HasCleanDisk};
+    ghost use Rattle.s10_ledger.specs.Settled.{IsSettled};
     ghost use Rattle.s10_ledger.specs.Ledger.{Ledger, ledger_code, IsLedger};
 
     ghost Value = { Ledger S };
@@ -43,7 +44,7 @@ impl<S: Alter> Model for SqlBook<S> {
 
     ghost view = { λ b. record { conn = b.conn; terms = b.settings; len = b.len; day = b.day; faults = b.faults } };
 
-    ghost invariant = { λ b. (b.len ≤ 1000000000) × (HasCleanDisk (state S.Store b.conn) → IsTrue (state S.Store b.conn).is_open → IsLedger (state S.Store b.conn).now b.settings b.len b.day) };
+    ghost invariant = { λ b. (b.len ≤ 1000000000) × (HasCleanDisk (state S.Store b.conn) → IsTrue (state S.Store b.conn).is_open → IsLedger (state S.Store b.conn).now b.settings b.len b.day) × IsSettled S.Store b.conn };
 }
 
 impl<S: Alter> SqlBook<S> {
@@ -51,7 +52,8 @@ impl<S: Alter> SqlBook<S> {
     ghost use Rattle.sqlite.specs.Held.{state};
     ghost use Rattle.sqlite.specs.State.{HasCleanDisk};
     ghost use Rattle.s10_ledger.specs.Ledger.{Ledger, IsLedger, IsHonest, history_in};
-    ghost use Rattle.s10_ledger.specs.Refusals.{IsMakingRefusal};
+    ghost use Rattle.s10_ledger.specs.Settled.{IsSettled, WasSound};
+    ghost use Rattle.s10_ledger.specs.Refusals.{HasOneOfTheNames, IsMakingRefusal};
     ghost use Rattle.s10_schema.specs.Schema.{ledger_schema};
 
     /// Makes an empty ledger with these settings in an empty database, in one transaction. Refused
@@ -64,9 +66,16 @@ impl<S: Alter> SqlBook<S> {
     ) -> Result<SqlBook<S>, Refused<S>>
         requires idle { conn.in_transaction ≡ false }
         ensures new { IfOk result (λ b. (b.terms ≡ settings) × (b.faults ≡ 0)) }
+        ensures fresh { IfOk result (λ _. ¬ HasOneOfTheNames (state S.Store conn).now.schema) }
+        ensures idle { IfOk result (λ b. b.conn.in_transaction ≡ false) }
+        ensures opened { IfOk result (λ b. HasCleanDisk (state S.Store b.conn) → IsTrue (state S.Store b.conn).is_open) }
+        ensures was { IfOk result (λ b. WasSound S.Store conn b.conn) }
         ensures empty { IfOk result (λ b. IsHonest S.Store b → history_in (state S.Store b.conn).now ≡ []) }
         ensures alone { IfOk result (λ b. IsHonest S.Store b → (state S.Store b.conn).now.schema ≡ ledger_schema) }
+        ensures committed { IfOk result (λ b. IsHonest S.Store b → (state S.Store b.conn).committed ≡ (state S.Store b.conn).now) }
         ensures honest { IfOk result (λ b. HasCleanDisk (state S.Store b.conn) → IsTrue (state S.Store b.conn).is_open → IsHonest S.Store b) }
+        ensures left_idle { IfErr result (λ r. r.connection.in_transaction ≡ false) }
+        ensures was_refused { IfErr result (λ r. WasSound S.Store conn r.connection) }
         ensures refused { IfErr result (λ r. IsMakingRefusal (state S.Store conn).now.schema r.fault) }
         ensures kept { IfErr result (λ r. HasCleanDisk (state S.Store r.connection) → IsTrue (state S.Store r.connection).is_open → (state S.Store r.connection).now ≡ (state S.Store conn).now) }
     {
@@ -97,6 +106,7 @@ impl<S: Alter> SqlBook<S> {
         day: u32,
     ) -> SqlBook<S>
         requires few { len ≤ 1000000000 }
+        requires settled { IsSettled S.Store conn }
         requires ledger { HasCleanDisk (state S.Store conn) → IsTrue (state S.Store conn).is_open → IsLedger (state S.Store conn).now settings len day }
         ensures { let book : Ledger S = record { conn = conn; terms = settings; len = len; day = day; faults = 0 } in result ≡ book }
     {
@@ -113,6 +123,8 @@ impl<S: Alter> SqlBook<S> {
     /// The connection, whose tables stand for the book's history.
     pub fn close(self) -> Connection<S>
         ensures same { result ≡ self.conn }
+        ensures idle { result.in_transaction ≡ false }
+        ensures committed { HasCleanDisk (state S.Store result) → IsTrue (state S.Store result).is_open → (state S.Store result).committed ≡ (state S.Store result).now }
         ensures ledger { HasCleanDisk (state S.Store result) → IsTrue (state S.Store result).is_open → IsLedger (state S.Store result).now self.terms self.len self.day }
     {
         let SqlBook {
@@ -128,7 +140,7 @@ impl<S: Alter> SqlBook<S> {
 }
 
 impl SqlBook<MemStore> {
-    ghost use Rattle.std.specs.Prelude.{◌≡◌, ◌⊎◌, IfOk, IfErr, []};
+    ghost use Rattle.std.specs.Prelude.{◌≡◌, ◌⊎◌, IfOk, IfErr, [], false};
     ghost use Rattle.sqlite.specs.Held.{state};
     ghost use Rattle.sqlite.specs.Steps.{over_memory};
     ghost use Rattle.s10_ledger.specs.Ledger.{IsHonest, history_in};
@@ -138,6 +150,8 @@ impl SqlBook<MemStore> {
     /// where a statement failed.
     pub fn in_memory(alloc: Global, settings: Settings) -> Result<SqlBook<MemStore>, OpenFault>
         ensures new { IfOk result (λ b. (b.terms ≡ settings) × (b.faults ≡ 0)) }
+        ensures idle { IfOk result (λ b. b.conn.in_transaction ≡ false) }
+        ensures committed { IfOk result (λ b. (state over_memory b.conn).committed ≡ (state over_memory b.conn).now) }
         ensures honest { IfOk result (IsHonest over_memory) }
         ensures empty { IfOk result (λ b. history_in (state over_memory b.conn).now ≡ []) }
         ensures alone { IfOk result (λ b. (state over_memory b.conn).now.schema ≡ ledger_schema) }

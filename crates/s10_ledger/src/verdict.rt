@@ -11,6 +11,7 @@ ghost use Rattle.s10_rows.specs.RightRows.{AreRight, kept_of};
 ghost use Rattle.s10_rows.specs.Verdict.{IsHead, IsWhole, IsRefusal};
 ghost use Rattle.s10_rows.specs.Selected.{IsCall};
 ghost use Rattle.s10_ledger.specs.Shown.{StandsFor};
+ghost use Rattle.s10_ledger.specs.Settled.{IsSettled};
 ghost use Rattle.s10_ledger.specs.Statements.{Leaves};
 ghost use Rattle.s10_ledger.specs.Ledger.{IsLedger, history_in};
 
@@ -34,6 +35,7 @@ fn replayed(
     ensures right { IfOk result (λ found. AreRight settings calls.now) }
     ensures history { IfOk result (λ found. history_in (state over_memory found.0).now ≡ kept_of calls.now) }
     ensures ledger { IfOk result (λ found. IsLedger (state over_memory found.0).now settings found.1.len found.1.day) }
+    ensures settled { IfOk result (λ found. IsSettled over_memory found.0) }
     ensures settings { IfOk result (λ found. found.1.settings ≡ settings) }
     ensures err { (tables : Tables) → tables.calls ≡ calls.now → IsHead tables.heads (pos 1) settings → IfErr result (IsRefusal tables) }
 {

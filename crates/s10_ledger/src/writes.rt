@@ -7,12 +7,13 @@ ghost use Rattle.sqlite.specs.State.{HasCleanDisk, Shows, KeepsCommit, Survives}
 ghost use Rattle.s10_rows.specs.CallRow.{StoredCall};
 ghost use Rattle.s10_rows.specs.Tables.{Tables};
 ghost use Rattle.s10_ledger.specs.Shown.{HasTables};
+ghost use Rattle.s10_ledger.specs.Settled.{IsSettled};
 ghost use Rattle.s10_rows.specs.Kept.{is_at, with_range, with_serial};
 ghost use Rattle.std.specs.Prelude.{Some};
 
 use s10_book::Entry;
 use s10_rows::{RangeRow, SerialRow};
-use sqlite::{Alter, Connection, Error, ErrorCode, Transaction, params};
+use sqlite::{Alter, Connection, Error, Transaction, params};
 
 /// Adds the row of a call.
 pub(crate) fn put_call<S: Alter>(
@@ -149,6 +150,8 @@ pub(crate) fn keep_rows<S: Alter>(
     range: &Option<RangeRow>,
     serial: &Option<SerialRow>,
 ) -> Result<(), Error>
+    requires settled { IsSettled S.Store conn.old }
+    ensures settled { IsSettled S.Store conn.new }
     ensures all { let row : StoredCall = record { arrival = pos arrival; customer = pos entry.now.request.customer; number = pos entry.now.request.number; day = pos entry.now.day; reply = reply.now } in
         HasCleanDisk (state S.Store conn.new) → OnOk result ((tables : Tables) → HasTables (state S.Store conn.old).now tables
         → IfSome serial.now (λ s. length (filter (is_at s.pair s.serial) tables.serials) ≤ 1)
@@ -157,9 +160,6 @@ pub(crate) fn keep_rows<S: Alter>(
     ensures was_open { HasCleanDisk (state S.Store conn.new) → IsTrue (state S.Store conn.new).is_open → IsTrue (state S.Store conn.old).is_open }
     ensures clean { doubt (state S.Store conn.old).is_clean ≤ doubt (state S.Store conn.new).is_clean }
 {
-    if !conn.is_autocommit() {
-        return Err(Error::SqliteFailure(ErrorCode::TransactionState));
-    }
     let mut tx = conn.transaction();
     put_call(&mut tx, arrival, entry, reply)?;
     put_range_made(&mut tx, range)?;

@@ -19,7 +19,7 @@ returns-in-Ok-clause-ok g c clean opened h t legal follows calls stands arrival 
     let call : IsCall e = record { request = replies.0; outcome = replies.1; fitting = replies.2; day = search rules } in
     let mid : HasCleanDisk (state g.S.Store c.rows_made.new.conn) = omega (arith, c.keep_rows.ensures.clean) in
     let still : StandsFor (state g.S.Store c.rows_made.new.conn).now h t =
-    subst (λ (d : Database). StandsFor d h t) (sym (c.rows_made.ensures.leaves.now mid (c.keep_rows.ensures.was_open clean opened) stands.schema)) stands in
+    subst (λ (d : Database). StandsFor d h t) (sym (c.rows_made.ensures.leaves.now mid (c.keep_rows.ensures.was_open clean opened) c.requires.settled stands.schema)) stands in
     let makes = c.in_ok-made.ensures.answer mid h t legal follows calls call stands arrival in
     let row : StoredCall = record { arrival = pos c.args.arrival; customer = pos e.request.customer; number = pos e.request.number; day = pos e.day; reply = c.bytes.result.now } in
     let is : row ≡ call_row (length h + 1) e = row_is c.args.arrival (length h + 1) e c.bytes.result.now arrival (c.bytes.ensures ∙ reply_replies e.request e.outcome (frame_bytes c.encode_reply-frame.result) replies) in

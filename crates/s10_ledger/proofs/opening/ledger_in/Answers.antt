@@ -21,7 +21,7 @@ returns-clause-ledger g c clean opened =
     let inside : Tables = record { heads = c.rows.inside.heads.items; calls = c.rows.inside.calls.items; ranges = c.rows.inside.ranges.items; serials = c.rows.inside.serials.items } in
     let is : c.in-Ok.rows ≡ tables = sym c.rows.view_is ∙ these_tables _ _ _ _ inside c.deref.ensures.value c.deref-2.ensures.value c.deref-3.ensures.value c.deref-4.ensures.value in
     let declared : IsLedgerSchema db.schema = subst IsLedgerSchema c.schema.ensures.value (c.is_ledger_schema.ensures.0 (search rules)) in
-    let rows : HasRows db tables = subst (HasRows db) is (c.in-Ok.ensures.rows clean opened declared) in
+    let rows : HasRows db tables = subst (HasRows db) is (c.in-Ok.ensures.rows clean opened c.requires.settled declared) in
     IfOk-weaker c.verdict.result (IsWhole tables) _ (λ found whole. whole_ledger db tables found rows.has whole) c.verdict.ensures.ok
 
 pub returns-clause-refused : goal.returns-clause-refused
@@ -31,5 +31,5 @@ returns-clause-refused g c clean opened =
     let inside : Tables = record { heads = c.rows.inside.heads.items; calls = c.rows.inside.calls.items; ranges = c.rows.inside.ranges.items; serials = c.rows.inside.serials.items } in
     let is : c.in-Ok.rows ≡ tables = sym c.rows.view_is ∙ these_tables _ _ _ _ inside c.deref.ensures.value c.deref-2.ensures.value c.deref-3.ensures.value c.deref-4.ensures.value in
     let declared : IsLedgerSchema db.schema = subst IsLedgerSchema c.schema.ensures.value (c.is_ledger_schema.ensures.0 (search rules)) in
-    let rows : HasRows db tables = subst (HasRows db) is (c.in-Ok.ensures.rows clean opened declared) in
+    let rows : HasRows db tables = subst (HasRows db) is (c.in-Ok.ensures.rows clean opened c.requires.settled declared) in
     IfErr-weaker c.verdict.result (IsRefusal tables) _ (refused_for db tables rows) c.verdict.ensures.err

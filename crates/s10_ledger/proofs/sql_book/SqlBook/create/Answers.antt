@@ -4,7 +4,7 @@ use Rattle.s10_ledger.proofs.NewLedger.{no_history, new_ledger}
 use Rattle.s10_ledger.proofs.sql_book.SqlBook.create.Goals as goal
 
 pub invariant_of-result : goal.invariant_of-result
-invariant_of-result g c = (omega arith, λ clean opened. new_ledger (state g.S.Store c.make_ledger.new.conn).now c.args.settings (c.in_default-make_ledger.ensures.all clean (c.refusal_of.ensures.none c.in_default.is)))
+invariant_of-result g c = (omega arith, λ clean opened. new_ledger (state g.S.Store c.make_ledger.new.conn).now c.args.settings (c.in_default-make_ledger.ensures.all clean (c.refusal_of.ensures.none c.in_default.is)), c.in_default-make_ledger.ensures.settled)
 
 pub returns-clause-empty : goal.returns-clause-empty
 returns-clause-empty g c honest = no_history (state g.S.Store c.make_ledger.new.conn).now c.args.settings (c.in_default-make_ledger.ensures.all honest.clean (c.refusal_of.ensures.none c.in_default.is))

@@ -17,7 +17,7 @@ invariant_of-self g c =
     let honest_old : IsHonest g.S.Store old = record { clean = was_clean; is_open = k.was_open clean opened; ledger = was } in
     let follows = (rw (← c.self.view_is) at c.requires) honest_old in
     kept_ledger (state g.S.Store conn).now (state g.S.Store c.keep_next-kept.new.conn).now t c.self.inside.len c.self.inside.day c.keep_next-kept.new.len c.keep_next-kept.new.day c.args.entry was follows c.keep_next-kept.result (λ h. k.ok clean opened (history_in (state g.S.Store conn).now) t was.legal follows h.calls h.tables h.len_is) k.counts (k.err clean opened (schema_is (state g.S.Store conn).now t c.self.inside.len c.self.inside.day was)) k.same_counts in
-    (c.keep_next-kept.ensures.few c.self.invariant.0, still)
+    (c.keep_next-kept.ensures.few c.self.invariant.0, still, c.keep_next-kept.ensures.settled)
 
 pub returns-clause-ok : goal.returns-clause-ok
 returns-clause-ok g c honest =

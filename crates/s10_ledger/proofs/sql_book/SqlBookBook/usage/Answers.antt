@@ -12,17 +12,17 @@ use Rattle.s10_ledger.proofs.sql_book.SqlBookBook.usage.Goals as goal
 
 pub invariant_of-self : goal.invariant_of-self
 invariant_of-self g c =
-    (c.self.invariant.0, still_kept g.S.Store c.self.inside.conn c.usage_in-found.new.conn c.self.inside.settings c.self.inside.len c.self.inside.day c.usage_in-found.ensures.leaves c.self.invariant.1)
+    (c.self.invariant.0, still_kept g.S.Store c.self.inside.conn c.usage_in-found.new.conn c.self.inside.settings c.self.inside.len c.self.inside.day c.usage_in-found.ensures.leaves c.self.invariant.2 c.self.invariant.1, c.usage_in-found.ensures.leaves.settled c.self.invariant.2)
 
 pub returns-clause-keeps : goal.returns-clause-keeps
 returns-clause-keeps g c =
     let old : Ledger g.row.S.Denot = record { conn = c.self.inside.conn; terms = c.self.inside.settings; len = c.self.inside.len; day = c.self.inside.day; faults = c.self.inside.faults } in
-    rw (← c.self.view_is) (read_keeps g.S.Store old c.usage_in-found.new.conn c.counted.new.faults c.usage_in-found.ensures.leaves c.self.invariant.1)
+    rw (← c.self.view_is) (read_keeps g.S.Store old c.usage_in-found.new.conn c.counted.new.faults c.usage_in-found.ensures.leaves c.self.invariant.2 c.self.invariant.1)
 
 pub returns-clause-answer : goal.returns-clause-answer
 returns-clause-answer g c honest =
     let old : Ledger g.row.S.Denot = record { conn = c.self.inside.conn; terms = c.self.inside.settings; len = c.self.inside.len; day = c.self.inside.day; faults = c.self.inside.faults } in
-    let was = was_ledger g.S.Store c.self.inside.conn c.usage_in-found.new.conn c.self.inside.settings c.self.inside.len c.self.inside.day c.usage_in-found.ensures.leaves c.self.invariant.1 honest.clean honest.is_open in
-    let has = (rw (← c.self.view_is) at c.requires) ((read_keeps g.S.Store old c.usage_in-found.new.conn c.counted.new.faults c.usage_in-found.ensures.leaves c.self.invariant.1).was_honest honest) in
+    let was = was_ledger g.S.Store c.self.inside.conn c.usage_in-found.new.conn c.self.inside.settings c.self.inside.len c.self.inside.day c.usage_in-found.ensures.leaves c.self.invariant.2 c.self.invariant.1 honest.clean honest.is_open in
+    let has = (rw (← c.self.view_is) at c.requires) ((read_keeps g.S.Store old c.usage_in-found.new.conn c.counted.new.faults c.usage_in-found.ensures.leaves c.self.invariant.2 c.self.invariant.1).was_honest honest) in
     rw (c.counted.ensures.same, ← c.self.view_is) (answered (Coded-set the_row.coded) c.usage_in-found.result (usage_of (history_in (state g.S.Store c.self.inside.conn).now) c.args.range.now c.args.day c.self.inside.settings.interval) was.held
     (λ h. rw c.interval-interval.ensures.value at (c.usage_in-found.ensures.answer honest.clean (history_in (state g.S.Store c.self.inside.conn).now) c.self.inside.settings was.legal h.calls h.tables (omega (arith, h.len_is, c.self.invariant.0)) has c.args.day (rw (← h.day_is) c.max-day.ensures))))
