@@ -17,10 +17,12 @@ use Rattle.s10_book.specs.Rules.{MayFollow}
 use Rattle.s10_book.proofs.Push.{IsLegal-push}
 use Rattle.s10_book.specs.Book.{Keeps}
 use Rattle.s10_book.specs.Settings.{Terms}
+use Rattle.s10_ranges.specs.declared.ranges.Ranges.{Ranges}
+use Rattle.s10_ranges.specs.Mirror.{Mirrors}
 use Rattle.s10_schema.specs.Schema.{IsLedgerSchema}
 use Rattle.s10_ledger.specs.Settled.{IsSettled}
 use Rattle.s10_ledger.specs.Statements.{Leaves}
-use Rattle.s10_ledger.specs.Ledger.{Ledger, IsLedger, Holds, IsHonest, history_in}
+use Rattle.s10_ledger.specs.Ledger.{Ledger, IsLedger, IsMirrored, Holds, IsHonest, history_in}
 use Rattle.s10_rows.specs.Selected.{IsCall}
 use Rattle.s10_ledger.specs.Shown.{StandsFor}
 use Rattle.s10_ledger.proofs.HistoryLemmas.{history_is}
@@ -43,6 +45,11 @@ module _ {S : Type 0} (g : Ghosts S) (old new : Held S) (t : Terms) (len day : �
 
   pub still_kept : IsKept g new t len day
   still_kept clean opened = subst (λ (d : Database). IsLedger d t len day) (sym (same_tables clean opened)) (was_ledger clean opened)
+
+  -- and the ranges that are held are still those of the history
+  pub still_mirrored : (ranges : Ranges) → IsMirrored g old ranges → IsMirrored g new ranges
+  still_mirrored ranges mirrored clean opened =
+      subst (λ (d : Database). Mirrors ranges (history_in d)) (sym (same_tables clean opened)) (mirrored (omega (arith, leaves.clean)) (leaves.was_open clean opened))
 
 abbrev pub history_of : {S : Type 0} → Ghosts S → Ledger S → List Entry
 history_of g l = history_in (state g l.conn).now
@@ -100,3 +107,9 @@ module _ {T E : Type 0} (old new : Database) (t : Terms) (len day len' day' : �
   pub kept_same : (r : Result T E) → OnErr r (new ≡ old) → OnErr r (history_in new ≡ history_in old)
   kept_same (Ok x) same = tt
   kept_same (Err x) same = ap history_in same
+
+-- the ranges that are held follow the history
+pub followed_mirrors : {T E : Type 0} (old new : Database) (e : Entry) (ranges : Ranges) (r : Result T E) → OnOk r (history_in new ≡ history_in old ++ e ∷ []) → OnErr r (history_in new ≡ history_in old)
+    → OnOk r (Mirrors ranges (history_in old ++ e ∷ [])) → OnErr r (Mirrors ranges (history_in old)) → Mirrors ranges (history_in new)
+followed_mirrors old new e ranges (Ok x) longer same ok err = subst (λ (h : List Entry). Mirrors ranges h) (sym longer) ok
+followed_mirrors old new e ranges (Err x) longer same ok err = subst (λ (h : List Entry). Mirrors ranges h) (sym same) err

@@ -4,7 +4,7 @@ ghost use Rattle.std.specs.Prelude.{◌≡◌, ◌≤◌, IfOk, IfErr, OnOk, IsT
 ghost use Rattle.sqlite.specs.Held.{state};
 ghost use Rattle.sqlite.specs.State.{HasCleanDisk};
 ghost use Rattle.s10_ledger.specs.Settled.{IsSettled, WasSound};
-ghost use Rattle.s10_ledger.specs.Ledger.{IsLedger};
+ghost use Rattle.s10_ledger.specs.Ledger.{IsLedger, IsMirrored};
 ghost use Rattle.s10_ledger.specs.Refusals.{IsOpeningRefusal};
 
 use crate::all_rows::AllRows;
@@ -12,24 +12,26 @@ use crate::faults::opening_fault;
 use crate::refused::Refused;
 use crate::sql_book::SqlBook;
 use crate::verdict::verdict;
+use s10_ranges::Ranges;
 use s10_rows::{OpenFault, Opened};
 use s10_schema::is_ledger_schema;
 use sqlite::{Alter, Connection};
 use std::alloc::Global;
 
-// What is found of the ledger in the tables.
+// What is found of the ledger in the tables, and its ranges.
 pub(crate) fn ledger_in<S: Alter>(
     alloc: Global,
     conn: &mut Connection<S>,
-) -> Result<Opened, OpenFault>
+) -> Result<(Opened, Ranges), OpenFault>
     requires settled { IsSettled S.Store conn.old }
     ensures settled { IsSettled S.Store conn.new }
     ensures was { WasSound S.Store conn.old conn.new }
     ensures opened { HasCleanDisk (state S.Store conn.new) → OnOk result (IsTrue (state S.Store conn.new).is_open) }
-    ensures few { IfOk result (λ found. found.len ≤ 1000000000) }
+    ensures few { IfOk result (λ found. found.0.len ≤ 1000000000) }
     ensures same { HasCleanDisk (state S.Store conn.new) → IsTrue (state S.Store conn.new).is_open → (state S.Store conn.new).now ≡ (state S.Store conn.old).now }
     ensures ledger { HasCleanDisk (state S.Store conn.new) → IsTrue (state S.Store conn.new).is_open
-        → IfOk result (λ found. IsLedger (state S.Store conn.old).now found.settings found.len found.day) }
+        → IfOk result (λ found. IsLedger (state S.Store conn.old).now found.0.settings found.0.len found.0.day) }
+    ensures mirrored { IfOk result (λ found. IsMirrored S.Store conn.new found.1) }
     ensures refused { HasCleanDisk (state S.Store conn.new) → IsTrue (state S.Store conn.new).is_open → IfErr result (IsOpeningRefusal (state S.Store conn.old).now) }
 {
     if !is_ledger_schema(conn.schema()) {
@@ -76,7 +78,9 @@ impl<S: Alter> SqlBook<S> {
         // A connection that is in no transaction has nothing to commit.
         prove!(conn.is_autocommit());
         match ledger_in(alloc, &mut conn) {
-            Ok(Opened { settings, len, day }) => Ok(SqlBook::over(alloc, conn, settings, len, day)),
+            Ok((Opened { settings, len, day }, ranges)) => {
+                Ok(SqlBook::over(alloc, conn, settings, len, day, ranges))
+            }
             Err(fault) => Err(Refused {
                 fault,
                 connection: conn,

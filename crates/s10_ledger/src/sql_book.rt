@@ -7,15 +7,13 @@ ghost use Rattle.sqlite.specs.Held.{state};
 ghost use Rattle.s10_ledger.specs.Ledger.{history_in, IsHonest};
 
 use crate::faults::opening_fault;
-use crate::keeping::keep_next;
-use crate::lookups::{
-    call_at, call_with_key, candidate_in, issue_of, range_covering, range_held, range_with_number,
-    usage_in,
-};
+use crate::keeping::keep_followed;
+use crate::lookups::{call_at, call_with_key, candidate_in, issue_of, usage_in};
 use crate::making::{make_ledger, refusal_of};
 use crate::refused::Refused;
 use s10_book::{Book, BookFault, Candidate, Entry, Issue, Range, Settings, Usage};
 use s10_core::{Country, Id, Serial, Service};
+use s10_ranges::Ranges;
 use s10_rows::OpenFault;
 use sqlite::{Alter, Connection, MemStore};
 use std::alloc::Global;
@@ -29,6 +27,7 @@ pub struct SqlBook<S: Alter> {
     len: u32,
     day: u32,
     faults: u64,
+    ranges: Ranges,
 }
 
 impl<S: Alter> Model for SqlBook<S> {
@@ -36,7 +35,7 @@ impl<S: Alter> Model for SqlBook<S> {
     ghost use Rattle.sqlite.specs.Held.{state};
     ghost use Rattle.sqlite.specs.State.{HasCleanDisk};
     ghost use Rattle.s10_ledger.specs.Settled.{IsSettled};
-    ghost use Rattle.s10_ledger.specs.Ledger.{Ledger, ledger_code, IsLedger};
+    ghost use Rattle.s10_ledger.specs.Ledger.{Ledger, ledger_code, IsLedger, IsMirrored};
 
     ghost Value = { Ledger S };
 
@@ -44,14 +43,14 @@ impl<S: Alter> Model for SqlBook<S> {
 
     ghost view = { λ b. record { conn = b.conn; terms = b.settings; len = b.len; day = b.day; faults = b.faults } };
 
-    ghost invariant = { λ b. (b.len ≤ 1000000000) × (HasCleanDisk (state S.Store b.conn) → IsTrue (state S.Store b.conn).is_open → IsLedger (state S.Store b.conn).now b.settings b.len b.day) × IsSettled S.Store b.conn };
+    ghost invariant = { λ b. (b.len ≤ 1000000000) × (HasCleanDisk (state S.Store b.conn) → IsTrue (state S.Store b.conn).is_open → IsLedger (state S.Store b.conn).now b.settings b.len b.day) × IsSettled S.Store b.conn × IsMirrored S.Store b.conn b.ranges };
 }
 
 impl<S: Alter> SqlBook<S> {
     ghost use Rattle.std.specs.Prelude.{◌≡◌, ◌≤◌, IfOk, IfErr, IsTrue, [], false};
     ghost use Rattle.sqlite.specs.Held.{state};
     ghost use Rattle.sqlite.specs.State.{HasCleanDisk};
-    ghost use Rattle.s10_ledger.specs.Ledger.{Ledger, IsLedger, IsHonest, history_in};
+    ghost use Rattle.s10_ledger.specs.Ledger.{Ledger, IsLedger, IsMirrored, IsHonest, history_in};
     ghost use Rattle.s10_ledger.specs.Settled.{IsSettled, WasSound};
     ghost use Rattle.s10_ledger.specs.Refusals.{HasOneOfTheNames, IsMakingRefusal};
     ghost use Rattle.s10_schema.specs.Schema.{ledger_schema};
@@ -94,20 +93,23 @@ impl<S: Alter> SqlBook<S> {
             len: 0,
             day: 0,
             faults: 0,
+            ranges: Ranges::new(alloc),
         })
     }
 
-    // The book over a connection whose tables stand for so many calls, the last of them on that day.
+    // The book over a connection whose tables stand for so many calls, the last of them on that day, and for these ranges.
     pub(crate) fn over(
         alloc: Global,
         conn: Connection<S>,
         settings: Settings,
         len: u32,
         day: u32,
+        ranges: Ranges,
     ) -> SqlBook<S>
         requires few { len ≤ 1000000000 }
         requires settled { IsSettled S.Store conn }
         requires ledger { HasCleanDisk (state S.Store conn) → IsTrue (state S.Store conn).is_open → IsLedger (state S.Store conn).now settings len day }
+        requires mirrored { IsMirrored S.Store conn ranges }
         ensures { let book : Ledger S = record { conn = conn; terms = settings; len = len; day = day; faults = 0 } in result ≡ book }
     {
         SqlBook {
@@ -117,6 +119,7 @@ impl<S: Alter> SqlBook<S> {
             len,
             day,
             faults: 0,
+            ranges,
         }
     }
 
@@ -127,6 +130,17 @@ impl<S: Alter> SqlBook<S> {
         ensures committed { HasCleanDisk (state S.Store result) → IsTrue (state S.Store result).is_open → (state S.Store result).committed ≡ (state S.Store result).now }
         ensures ledger { HasCleanDisk (state S.Store result) → IsTrue (state S.Store result).is_open → IsLedger (state S.Store result).now self.terms self.len self.day }
     {
+        let (conn, _) = self.into_parts();
+        conn
+    }
+
+    // The connection, as `close` gives it, and the ranges that are held.
+    pub(crate) fn into_parts(self) -> (Connection<S>, Ranges)
+        ensures same { result.0 ≡ self.conn }
+        ensures settled { IsSettled S.Store result.0 }
+        ensures ledger { HasCleanDisk (state S.Store result.0) → IsTrue (state S.Store result.0).is_open → IsLedger (state S.Store result.0).now self.terms self.len self.day }
+        ensures mirrored { IsMirrored S.Store result.0 result.1 }
+    {
         let SqlBook {
             alloc: _,
             conn,
@@ -134,8 +148,9 @@ impl<S: Alter> SqlBook<S> {
             len: _,
             day: _,
             faults: _,
+            ranges,
         } = self;
-        conn
+        (conn, ranges)
     }
 }
 
@@ -218,8 +233,7 @@ impl<S: Alter> Book for SqlBook<S> {
     }
 
     fn range(&mut self, num: u32) -> Result<Option<Range>, BookFault> {
-        let found = range_with_number(self.alloc, &mut self.conn, num);
-        counted(&mut self.faults, found)
+        Ok(self.ranges.numbered(num))
     }
 
     fn next_range(
@@ -229,15 +243,7 @@ impl<S: Alter> Book for SqlBook<S> {
         country: Country,
         after: u32,
     ) -> Result<Option<Range>, BookFault> {
-        let found = range_held(
-            self.alloc,
-            &mut self.conn,
-            customer,
-            service,
-            country,
-            after,
-        );
-        counted(&mut self.faults, found)
+        Ok(self.ranges.held_after(customer, service, country, after))
     }
 
     fn covering(
@@ -247,8 +253,7 @@ impl<S: Alter> Book for SqlBook<S> {
         first: Serial,
         last: Serial,
     ) -> Result<Option<Range>, BookFault> {
-        let found = range_covering(self.alloc, &mut self.conn, service, country, first, last);
-        counted(&mut self.faults, found)
+        Ok(self.ranges.over(service, country, first, last))
     }
 
     fn last_issue(&mut self, id: &Id) -> Result<Option<Issue>, BookFault> {
@@ -257,7 +262,8 @@ impl<S: Alter> Book for SqlBook<S> {
     }
 
     fn candidate(&mut self, range: &Range) -> Result<Candidate, BookFault> {
-        let found = candidate_in(self.alloc, &mut self.conn, range);
+        let mark = self.ranges.mark(range.num);
+        let found = candidate_in(self.alloc, &mut self.conn, range, mark);
         counted(&mut self.faults, found)
     }
 
@@ -270,9 +276,10 @@ impl<S: Alter> Book for SqlBook<S> {
 
     fn keep(&mut self, entry: Entry) -> Result<(), BookFault> {
         let limit = self.settings.limit();
-        let kept = keep_next(
+        let kept = keep_followed(
             self.alloc,
             &mut self.conn,
+            &mut self.ranges,
             &mut self.len,
             &mut self.day,
             limit,

@@ -6,3 +6,4 @@ pub mod Placing
 pub mod Pushing
 pub mod Leasts
 pub mod Following
+pub mod Marked

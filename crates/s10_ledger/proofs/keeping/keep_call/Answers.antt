@@ -13,14 +13,14 @@ use Rattle.s10_ledger.proofs.KeyLemmas.{few_of, stands_after, row_is}
 use Rattle.s10_ledger.proofs.keeping.keep_call.Goals as goal
 
 pub returns-in-Ok-clause-ok : goal.returns-in-Ok-clause-ok
-returns-in-Ok-clause-ok g c clean opened h t legal follows calls stands arrival =
+returns-in-Ok-clause-ok g c clean opened h t legal follows calls stands m arrival =
     let e = c.args.entry.now in
     let replies : Replies (frame_bytes c.encode_reply-frame.result) e.request e.outcome = rw (c.in-Some.ensures.parts.0, c.in-Some.ensures.parts.1) at c.encode_reply-frame.ensures in
     let call : IsCall e = record { request = replies.0; outcome = replies.1; fitting = replies.2; day = search rules } in
     let mid : HasCleanDisk (state g.S.Store c.rows_made.new.conn) = omega (arith, c.keep_rows.ensures.clean) in
     let still : StandsFor (state g.S.Store c.rows_made.new.conn).now h t =
     subst (λ (d : Database). StandsFor d h t) (sym (c.rows_made.ensures.leaves.now mid (c.keep_rows.ensures.was_open clean opened) c.requires.settled stands.schema)) stands in
-    let makes = c.in_ok-made.ensures.answer mid h t legal follows calls call stands arrival in
+    let makes = c.in_ok-made.ensures.answer mid h t legal follows calls call stands m arrival in
     let row : StoredCall = record { arrival = pos c.args.arrival; customer = pos e.request.customer; number = pos e.request.number; day = pos e.day; reply = c.bytes.result.now } in
     let is : row ≡ call_row (length h + 1) e = row_is c.args.arrival (length h + 1) e c.bytes.result.now arrival (c.bytes.ensures ∙ reply_replies e.request e.outcome (frame_bytes c.encode_reply-frame.result) replies) in
     (call, stands_after (state g.S.Store c.keep_rows.new.conn).now h t e row c.in_ok-made.made.range c.in_ok-made.made.serial is makes (c.in-Ok.ensures.all clean (tables_of h t) still (few_of h calls c.in_ok-made.made.serial)))
