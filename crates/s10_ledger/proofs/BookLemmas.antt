@@ -20,7 +20,7 @@ use Rattle.s10_book.specs.Settings.{Terms}
 use Rattle.s10_schema.specs.Schema.{IsLedgerSchema}
 use Rattle.s10_ledger.specs.Settled.{IsSettled}
 use Rattle.s10_ledger.specs.Statements.{Leaves}
-use Rattle.s10_ledger.specs.Ledger.{Ledger, IsLedger, Holds, IsHonest, history_in}
+use Rattle.s10_ledger.specs.Ledger.{Ledger, IsLedger, Holds, IsHonest, history_in, history_of}
 use Rattle.s10_rows.specs.Selected.{IsCall}
 use Rattle.s10_ledger.specs.Shown.{StandsFor}
 use Rattle.s10_ledger.proofs.HistoryLemmas.{history_is}
@@ -43,9 +43,6 @@ module _ {S : Type 0} (g : Ghosts S) (old new : Held S) (t : Terms) (len day : �
 
   pub still_kept : IsKept g new t len day
   still_kept clean opened = subst (λ (d : Database). IsLedger d t len day) (sym (same_tables clean opened)) (was_ledger clean opened)
-
-abbrev pub history_of : {S : Type 0} → Ghosts S → Ledger S → List Entry
-history_of g l = history_in (state g l.conn).now
 
 pub read_keeps : {S : Type 0} (g : Ghosts S) (old : Ledger S) (conn : Held S) (faults : ℕ) → Leaves g old.conn conn → IsSettled g old.conn → IsKept g old.conn old.terms old.len old.day
     → Keeps (history_of g) (λ (l : Ledger S). l.terms) (IsHonest g) old (record old { conn = conn; faults = faults })

@@ -1,6 +1,6 @@
 //! What a book is asked, by the rows of the tables.
 
-ghost use Rattle.std.specs.Prelude.{◌≡◌, ◌≢◌, ℕ, ◌<◌, ◌^◌, ◌==◌, max, List, length, find, All, Contains, Err, IfOk, IfSome, IsTrue};
+ghost use Rattle.std.specs.Prelude.{◌≡◌, ◌≢◌, ℕ, ◌<◌, ◌^◌, ◌==◌, max, List, length, find, All, Contains, Err, IfOk, IfSome, IsTrue, OnOk};
 ghost use Rattle.sqlite.specs.Held.{state};
 ghost use Rattle.sqlite.specs.State.{HasCleanDisk};
 ghost use Rattle.s10_wire.specs.Kind.{fits};
@@ -47,6 +47,7 @@ pub(crate) fn call_with_key<S: Alter>(
     number: u32,
 ) -> Result<Option<Entry>, BookFault>
     ensures leaves { Leaves S.Store conn.old conn.new }
+    ensures opened { HasCleanDisk (state S.Store conn.new) → OnOk result (IsTrue (state S.Store conn.new).is_open) }
     ensures fault { result ≢ Err Full }
     ensures fits { IfOk result (λ o. IfSome o (λ e. IsTrue (fits e.request.body e.outcome))) }
     ensures answer { HasCleanDisk (state S.Store conn.new) → (h : List Entry) (t : Terms) → IsLegal h t → All IsCall h → StandsFor (state S.Store conn.old).now h t
@@ -65,6 +66,7 @@ pub(crate) fn call_at<S: Alter>(
     at: u32,
 ) -> Result<Option<Entry>, BookFault>
     ensures leaves { Leaves S.Store conn.old conn.new }
+    ensures opened { HasCleanDisk (state S.Store conn.new) → OnOk result (IsTrue (state S.Store conn.new).is_open) }
     ensures fault { result ≢ Err Full }
     ensures answer { HasCleanDisk (state S.Store conn.new) → (h : List Entry) (t : Terms) → IsLegal h t → All IsCall h → StandsFor (state S.Store conn.old).now h t
         → IfOk result (λ answer. answer ≡ entry_at h at) }
@@ -82,6 +84,7 @@ pub(crate) fn range_with_number<S: Alter>(
     num: u32,
 ) -> Result<Option<Range>, BookFault>
     ensures leaves { Leaves S.Store conn.old conn.new }
+    ensures opened { HasCleanDisk (state S.Store conn.new) → OnOk result (IsTrue (state S.Store conn.new).is_open) }
     ensures fault { result ≢ Err Full }
     ensures answer { HasCleanDisk (state S.Store conn.new) → (h : List Entry) (t : Terms) → IsLegal h t → All IsCall h → StandsFor (state S.Store conn.old).now h t
         → length h < 2 ^ 32 → IfOk result (λ answer. answer ≡ find (λ r. r.num == num) (ranges_of h)) }
@@ -102,6 +105,7 @@ pub(crate) fn range_held<S: Alter>(
     after: u32,
 ) -> Result<Option<Range>, BookFault>
     ensures leaves { Leaves S.Store conn.old conn.new }
+    ensures opened { HasCleanDisk (state S.Store conn.new) → OnOk result (IsTrue (state S.Store conn.new).is_open) }
     ensures fault { result ≢ Err Full }
     ensures above { IfOk result (λ o. IfSome o (λ r. after < r.num)) }
     ensures answer { HasCleanDisk (state S.Store conn.new) → (h : List Entry) (t : Terms) → IsLegal h t → All IsCall h → StandsFor (state S.Store conn.old).now h t
@@ -123,6 +127,7 @@ pub(crate) fn range_covering<S: Alter>(
     last: Serial,
 ) -> Result<Option<Range>, BookFault>
     ensures leaves { Leaves S.Store conn.old conn.new }
+    ensures opened { HasCleanDisk (state S.Store conn.new) → OnOk result (IsTrue (state S.Store conn.new).is_open) }
     ensures fault { result ≢ Err Full }
     ensures answer { HasCleanDisk (state S.Store conn.new) → (h : List Entry) (t : Terms) → IsLegal h t → All IsCall h → StandsFor (state S.Store conn.old).now h t
         → length h < 2 ^ 32 → IfOk result (λ answer. answer ≡ find (overlaps service country first last) (ranges_of h)) }
@@ -140,6 +145,7 @@ pub(crate) fn issue_of<S: Alter>(
     id: &Id,
 ) -> Result<Option<Issue>, BookFault>
     ensures leaves { Leaves S.Store conn.old conn.new }
+    ensures opened { HasCleanDisk (state S.Store conn.new) → OnOk result (IsTrue (state S.Store conn.new).is_open) }
     ensures fault { result ≢ Err Full }
     ensures answer { HasCleanDisk (state S.Store conn.new) → (h : List Entry) (t : Terms) → IsLegal h t → All IsCall h → StandsFor (state S.Store conn.old).now h t
         → IfOk result (λ answer. answer ≡ last_issue_of h id.now) }
@@ -158,6 +164,7 @@ pub(crate) fn mark_in<S: Alter>(
     range: &Range,
 ) -> Result<Serial, BookFault>
     ensures leaves { Leaves S.Store conn.old conn.new }
+    ensures opened { HasCleanDisk (state S.Store conn.new) → OnOk result (IsTrue (state S.Store conn.new).is_open) }
     ensures fault { result ≢ Err Full }
     ensures answer { HasCleanDisk (state S.Store conn.new) → (h : List Entry) (t : Terms) → IsLegal h t → All IsCall h → StandsFor (state S.Store conn.old).now h t
         → length h < 2 ^ 32 → Contains (ranges_of h) range.now → IfOk result (λ answer. answer ≡ pick_of (issues_of h) range.now) }
@@ -175,6 +182,7 @@ pub(crate) fn candidate_in<S: Alter>(
     range: &Range,
 ) -> Result<Candidate, BookFault>
     ensures leaves { Leaves S.Store conn.old conn.new }
+    ensures opened { HasCleanDisk (state S.Store conn.new) → OnOk result (IsTrue (state S.Store conn.new).is_open) }
     ensures fault { result ≢ Err Full }
     ensures answer { HasCleanDisk (state S.Store conn.new) → IsTrue (state S.Store conn.new).is_open → IsSettled S.Store conn.old → (h : List Entry) (t : Terms) → IsLegal h t → All IsCall h → StandsFor (state S.Store conn.old).now h t
         → length h < 2 ^ 32 → Contains (ranges_of h) range.now → IfOk result (λ answer. answer ≡ candidate_of h range.now) }
@@ -197,6 +205,7 @@ pub(crate) fn usage_in<S: Alter>(
     interval: u32,
 ) -> Result<Usage, BookFault>
     ensures leaves { Leaves S.Store conn.old conn.new }
+    ensures opened { HasCleanDisk (state S.Store conn.new) → OnOk result (IsTrue (state S.Store conn.new).is_open) }
     ensures fault { result ≢ Err Full }
     ensures answer { HasCleanDisk (state S.Store conn.new) → (h : List Entry) (t : Terms) → IsLegal h t → All IsCall h → StandsFor (state S.Store conn.old).now h t
         → length h < 2 ^ 32 → Contains (ranges_of h) range.now → (asked : ℕ) → day ≡ max (day_of h) asked → IfOk result (λ answer. answer ≡ usage_of h range.now asked interval) }
