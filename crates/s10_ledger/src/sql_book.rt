@@ -120,6 +120,17 @@ impl<S: Alter> SqlBook<S> {
         }
     }
 
+    /// The connection, to look at between two calls: where it is open over a clean disk, what the
+    /// book says of its history holds.
+    pub fn connection(&self) -> &Connection<S>
+        ensures same { result.now ≡ self.now.conn }
+        ensures idle { self.now.conn.in_transaction ≡ false }
+        ensures committed { HasCleanDisk (state S.Store self.now.conn) → IsTrue (state S.Store self.now.conn).is_open → (state S.Store self.now.conn).committed ≡ (state S.Store self.now.conn).now }
+        ensures honest { HasCleanDisk (state S.Store self.now.conn) → IsTrue (state S.Store self.now.conn).is_open → IsHonest S.Store self.now }
+    {
+        &self.conn
+    }
+
     /// The connection, whose tables stand for the book's history.
     pub fn close(self) -> Connection<S>
         ensures same { result ≡ self.conn }
