@@ -22,7 +22,7 @@ use Rattle.s10_ranges.specs.Mirror.{Mirrors}
 use Rattle.s10_schema.specs.Schema.{IsLedgerSchema}
 use Rattle.s10_ledger.specs.Settled.{IsSettled}
 use Rattle.s10_ledger.specs.Statements.{Leaves}
-use Rattle.s10_ledger.specs.Ledger.{Ledger, IsLedger, IsMirrored, Holds, IsHonest, history_in}
+use Rattle.s10_ledger.specs.Ledger.{Ledger, IsLedger, IsMirrored, Holds, IsHonest, history_in, history_of}
 use Rattle.s10_rows.specs.Selected.{IsCall}
 use Rattle.s10_ledger.specs.Shown.{StandsFor}
 use Rattle.s10_ledger.proofs.HistoryLemmas.{history_is}
@@ -50,9 +50,6 @@ module _ {S : Type 0} (g : Ghosts S) (old new : Held S) (t : Terms) (len day : �
   pub still_mirrored : (ranges : Ranges) → IsMirrored g old ranges → IsMirrored g new ranges
   still_mirrored ranges mirrored clean opened =
       subst (λ (d : Database). Mirrors ranges (history_in d)) (sym (same_tables clean opened)) (mirrored (omega (arith, leaves.clean)) (leaves.was_open clean opened))
-
-abbrev pub history_of : {S : Type 0} → Ghosts S → Ledger S → List Entry
-history_of g l = history_in (state g l.conn).now
 
 pub read_keeps : {S : Type 0} (g : Ghosts S) (old : Ledger S) (conn : Held S) (faults : ℕ) → Leaves g old.conn conn → IsSettled g old.conn → IsKept g old.conn old.terms old.len old.day
     → Keeps (history_of g) (λ (l : Ledger S). l.terms) (IsHonest g) old (record old { conn = conn; faults = faults })

@@ -83,3 +83,7 @@ pub record IsHonest {S : Type 0} (g : Ghosts S) (l : Ledger S) : Type 0 where
   pub clean : HasCleanDisk (state g l.conn)
   pub is_open : IsTrue (state g l.conn).is_open
   pub ledger : IsLedger (state g l.conn).now l.terms l.len l.day
+
+-- the calls that a ledger keeps
+abbrev pub history_of : {S : Type 0} → Ghosts S → Ledger S → List Entry
+history_of g l = history_in (state g l.conn).now

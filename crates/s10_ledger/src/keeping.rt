@@ -101,6 +101,7 @@ pub(crate) fn keep_call<S: Alter>(
 ) -> Result<(), BookFault>
     requires settled { IsSettled S.Store conn.old }
     ensures settled { IsSettled S.Store conn.new }
+    ensures opened { HasCleanDisk (state S.Store conn.new) → OnOk result (IsTrue (state S.Store conn.new).is_open) }
     ensures fault { result ≢ Err Full }
     ensures clean { doubt (state S.Store conn.old).is_clean ≤ doubt (state S.Store conn.new).is_clean }
     ensures was_open { HasCleanDisk (state S.Store conn.new) → IsTrue (state S.Store conn.new).is_open → IsTrue (state S.Store conn.old).is_open }
@@ -141,6 +142,7 @@ pub(crate) fn keep_next<S: Alter>(
     requires limit { limit ≤ 1000000000 }
     requires settled { IsSettled S.Store conn.old }
     ensures settled { IsSettled S.Store conn.new }
+    ensures opened { HasCleanDisk (state S.Store conn.new) → OnOk result (IsTrue (state S.Store conn.new).is_open) }
     ensures fault { result ≢ Err Full }
     ensures clean { doubt (state S.Store conn.old).is_clean ≤ doubt (state S.Store conn.new).is_clean }
     ensures was_open { HasCleanDisk (state S.Store conn.new) → IsTrue (state S.Store conn.new).is_open → IsTrue (state S.Store conn.old).is_open }
@@ -175,6 +177,7 @@ pub(crate) fn keep_followed<S: Alter>(
     requires limit { limit ≤ 1000000000 }
     requires settled { IsSettled S.Store conn.old }
     ensures settled { IsSettled S.Store conn.new }
+    ensures opened { HasCleanDisk (state S.Store conn.new) → OnOk result (IsTrue (state S.Store conn.new).is_open) }
     ensures fault { result ≢ Err Full }
     ensures clean { doubt (state S.Store conn.old).is_clean ≤ doubt (state S.Store conn.new).is_clean }
     ensures was_open { HasCleanDisk (state S.Store conn.new) → IsTrue (state S.Store conn.new).is_open → IsTrue (state S.Store conn.old).is_open }

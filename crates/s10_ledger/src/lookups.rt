@@ -1,6 +1,6 @@
 //! What a book is asked, by the rows of the tables.
 
-ghost use Rattle.std.specs.Prelude.{◌≡◌, ◌≢◌, ℕ, ◌<◌, ◌^◌, max, List, length, All, Contains, Some, Err, IfOk, IfSome, IsTrue};
+ghost use Rattle.std.specs.Prelude.{◌≡◌, ◌≢◌, ℕ, ◌<◌, ◌^◌, max, List, length, All, Contains, Some, Err, IfOk, IfSome, IsTrue, OnOk};
 ghost use Rattle.sqlite.specs.Held.{state};
 ghost use Rattle.sqlite.specs.State.{HasCleanDisk};
 ghost use Rattle.s10_wire.specs.Kind.{fits};
@@ -43,6 +43,7 @@ pub(crate) fn call_with_key<S: Alter>(
     number: u32,
 ) -> Result<Option<Entry>, BookFault>
     ensures leaves { Leaves S.Store conn.old conn.new }
+    ensures opened { HasCleanDisk (state S.Store conn.new) → OnOk result (IsTrue (state S.Store conn.new).is_open) }
     ensures fault { result ≢ Err Full }
     ensures fits { IfOk result (λ o. IfSome o (λ e. IsTrue (fits e.request.body e.outcome))) }
     ensures answer { HasCleanDisk (state S.Store conn.new) → (h : List Entry) (t : Terms) → IsLegal h t → All IsCall h → StandsFor (state S.Store conn.old).now h t
@@ -61,6 +62,7 @@ pub(crate) fn call_at<S: Alter>(
     at: u32,
 ) -> Result<Option<Entry>, BookFault>
     ensures leaves { Leaves S.Store conn.old conn.new }
+    ensures opened { HasCleanDisk (state S.Store conn.new) → OnOk result (IsTrue (state S.Store conn.new).is_open) }
     ensures fault { result ≢ Err Full }
     ensures answer { HasCleanDisk (state S.Store conn.new) → (h : List Entry) (t : Terms) → IsLegal h t → All IsCall h → StandsFor (state S.Store conn.old).now h t
         → IfOk result (λ answer. answer ≡ entry_at h at) }
@@ -78,6 +80,7 @@ pub(crate) fn issue_of<S: Alter>(
     id: &Id,
 ) -> Result<Option<Issue>, BookFault>
     ensures leaves { Leaves S.Store conn.old conn.new }
+    ensures opened { HasCleanDisk (state S.Store conn.new) → OnOk result (IsTrue (state S.Store conn.new).is_open) }
     ensures fault { result ≢ Err Full }
     ensures answer { HasCleanDisk (state S.Store conn.new) → (h : List Entry) (t : Terms) → IsLegal h t → All IsCall h → StandsFor (state S.Store conn.old).now h t
         → IfOk result (λ answer. answer ≡ last_issue_of h id.now) }
@@ -98,6 +101,7 @@ pub(crate) fn candidate_in<S: Alter>(
     mark: Option<Serial>,
 ) -> Result<Candidate, BookFault>
     ensures leaves { Leaves S.Store conn.old conn.new }
+    ensures opened { HasCleanDisk (state S.Store conn.new) → OnOk result (IsTrue (state S.Store conn.new).is_open) }
     ensures fault { result ≢ Err Full }
     ensures answer { HasCleanDisk (state S.Store conn.new) → (h : List Entry) (t : Terms) → IsLegal h t → All IsCall h → StandsFor (state S.Store conn.old).now h t
         → mark ≡ Some (pick_of (issues_of h) range.now) → IfOk result (λ answer. answer ≡ candidate_of h range.now) }
@@ -122,6 +126,7 @@ pub(crate) fn usage_in<S: Alter>(
     interval: u32,
 ) -> Result<Usage, BookFault>
     ensures leaves { Leaves S.Store conn.old conn.new }
+    ensures opened { HasCleanDisk (state S.Store conn.new) → OnOk result (IsTrue (state S.Store conn.new).is_open) }
     ensures fault { result ≢ Err Full }
     ensures answer { HasCleanDisk (state S.Store conn.new) → (h : List Entry) (t : Terms) → IsLegal h t → All IsCall h → StandsFor (state S.Store conn.old).now h t
         → length h < 2 ^ 32 → Contains (ranges_of h) range.now → (asked : ℕ) → day ≡ max (day_of h) asked → IfOk result (λ answer. answer ≡ usage_of h range.now asked interval) }

@@ -123,6 +123,17 @@ impl<S: Alter> SqlBook<S> {
         }
     }
 
+    /// The connection, to look at between two calls: where it is open over a clean disk, what the
+    /// book says of its history holds.
+    pub fn connection(&self) -> &Connection<S>
+        ensures same { result.now ≡ self.now.conn }
+        ensures idle { self.now.conn.in_transaction ≡ false }
+        ensures committed { HasCleanDisk (state S.Store self.now.conn) → IsTrue (state S.Store self.now.conn).is_open → (state S.Store self.now.conn).committed ≡ (state S.Store self.now.conn).now }
+        ensures honest { HasCleanDisk (state S.Store self.now.conn) → IsTrue (state S.Store self.now.conn).is_open → IsHonest S.Store self.now }
+    {
+        &self.conn
+    }
+
     /// The connection, whose tables stand for the book's history.
     pub fn close(self) -> Connection<S>
         ensures same { result ≡ self.conn }
@@ -200,7 +211,17 @@ fn counted<T>(faults: &mut u64, answer: Result<T, BookFault>) -> Result<T, BookF
 }
 
 impl<S: Alter> Book for SqlBook<S> {
-    ghost history = { λ b. history_in (state S.Store b.conn).now };
+    ghost use Rattle.std.specs.Prelude.{◌++◌, ◌∷◌, [], ◌<◌, ◌==◌, find, IfOk, IfSome, IsOk, IsTrue, OnErr, OnOk, Contains};
+    ghost use Rattle.sqlite.specs.State.{HasCleanDisk};
+    ghost use Rattle.s10_wire.specs.Kind.{fits};
+    ghost use Rattle.s10_book.specs.History.{entry_with_key, entry_at, ranges_of, is_held_above, overlaps};
+    ghost use Rattle.s10_book.specs.Issues.{last_issue_of, candidate_of};
+    ghost use Rattle.s10_book.specs.Usage.{usage_of};
+    ghost use Rattle.s10_book.specs.Rules.{MayFollow};
+    ghost use Rattle.s10_book.specs.Book.{Keeps};
+    ghost use Rattle.s10_ledger.specs.Ledger.{history_of};
+
+    ghost history = { history_of S.Store };
 
     ghost terms = { λ b. b.terms };
 
@@ -222,17 +243,34 @@ impl<S: Alter> Book for SqlBook<S> {
         self.day
     }
 
-    fn find(&mut self, customer: u32, number: u32) -> Result<Option<Entry>, BookFault> {
+    fn find(&mut self, customer: u32, number: u32) -> Result<Option<Entry>, BookFault>
+        ensures faults { Counts result self.old.faults self.new.faults }
+        ensures keeps { Keeps (history_of S.Store) (λ b. b.terms) (IsHonest S.Store) self.old self.new }
+        ensures opened { HasCleanDisk (state S.Store self.new.conn) → OnOk result (IsTrue (state S.Store self.new.conn).is_open) }
+        ensures answer { IsHonest S.Store self.new → IfOk result (λ e. e ≡ entry_with_key (history_of S.Store self.old) customer number) }
+        ensures fits { IfOk result (λ found. IfSome found (λ e. IsTrue (fits e.request.body e.outcome))) }
+    {
         let found = call_with_key(self.alloc, &mut self.conn, customer, number);
         counted(&mut self.faults, found)
     }
 
-    fn entry(&mut self, at: u32) -> Result<Option<Entry>, BookFault> {
+    fn entry(&mut self, at: u32) -> Result<Option<Entry>, BookFault>
+        ensures faults { Counts result self.old.faults self.new.faults }
+        ensures keeps { Keeps (history_of S.Store) (λ b. b.terms) (IsHonest S.Store) self.old self.new }
+        ensures opened { HasCleanDisk (state S.Store self.new.conn) → OnOk result (IsTrue (state S.Store self.new.conn).is_open) }
+        ensures answer { IsHonest S.Store self.new → IfOk result (λ e. e ≡ entry_at (history_of S.Store self.old) at) }
+    {
         let found = call_at(self.alloc, &mut self.conn, at);
         counted(&mut self.faults, found)
     }
 
-    fn range(&mut self, num: u32) -> Result<Option<Range>, BookFault> {
+    fn range(&mut self, num: u32) -> Result<Option<Range>, BookFault>
+        ensures faults { Counts result self.old.faults self.new.faults }
+        ensures keeps { Keeps (history_of S.Store) (λ b. b.terms) (IsHonest S.Store) self.old self.new }
+        ensures same { self.new ≡ self.old }
+        ensures answered { IsOk result }
+        ensures answer { IsHonest S.Store self.new → IfOk result (λ r. r ≡ find (λ x. x.num == num) (ranges_of (history_of S.Store self.old))) }
+    {
         Ok(self.ranges.numbered(num))
     }
 
@@ -242,7 +280,14 @@ impl<S: Alter> Book for SqlBook<S> {
         service: Service,
         country: Country,
         after: u32,
-    ) -> Result<Option<Range>, BookFault> {
+    ) -> Result<Option<Range>, BookFault>
+        ensures faults { Counts result self.old.faults self.new.faults }
+        ensures keeps { Keeps (history_of S.Store) (λ b. b.terms) (IsHonest S.Store) self.old self.new }
+        ensures same { self.new ≡ self.old }
+        ensures answered { IsOk result }
+        ensures above { IfOk result (λ found. IfSome found (λ r. after < r.num)) }
+        ensures answer { IsHonest S.Store self.new → IfOk result (λ found. found ≡ find (is_held_above after customer service country) (ranges_of (history_of S.Store self.old))) }
+    {
         Ok(self.ranges.held_after(customer, service, country, after))
     }
 
@@ -252,29 +297,60 @@ impl<S: Alter> Book for SqlBook<S> {
         country: Country,
         first: Serial,
         last: Serial,
-    ) -> Result<Option<Range>, BookFault> {
+    ) -> Result<Option<Range>, BookFault>
+        ensures faults { Counts result self.old.faults self.new.faults }
+        ensures keeps { Keeps (history_of S.Store) (λ b. b.terms) (IsHonest S.Store) self.old self.new }
+        ensures same { self.new ≡ self.old }
+        ensures answered { IsOk result }
+        ensures answer { IsHonest S.Store self.new → IfOk result (λ found. found ≡ find (overlaps service country first last) (ranges_of (history_of S.Store self.old))) }
+    {
         Ok(self.ranges.over(service, country, first, last))
     }
 
-    fn last_issue(&mut self, id: &Id) -> Result<Option<Issue>, BookFault> {
+    fn last_issue(&mut self, id: &Id) -> Result<Option<Issue>, BookFault>
+        ensures faults { Counts result self.old.faults self.new.faults }
+        ensures keeps { Keeps (history_of S.Store) (λ b. b.terms) (IsHonest S.Store) self.old self.new }
+        ensures opened { HasCleanDisk (state S.Store self.new.conn) → OnOk result (IsTrue (state S.Store self.new.conn).is_open) }
+        ensures answer { IsHonest S.Store self.new → IfOk result (λ i. i ≡ last_issue_of (history_of S.Store self.old) id.now) }
+    {
         let found = issue_of(self.alloc, &mut self.conn, id);
         counted(&mut self.faults, found)
     }
 
-    fn candidate(&mut self, range: &Range) -> Result<Candidate, BookFault> {
+    fn candidate(&mut self, range: &Range) -> Result<Candidate, BookFault>
+        requires { IsHonest S.Store self.old → Contains (ranges_of (history_of S.Store self.old)) range.now }
+        ensures faults { Counts result self.old.faults self.new.faults }
+        ensures keeps { Keeps (history_of S.Store) (λ b. b.terms) (IsHonest S.Store) self.old self.new }
+        ensures opened { HasCleanDisk (state S.Store self.new.conn) → OnOk result (IsTrue (state S.Store self.new.conn).is_open) }
+        ensures answer { IsHonest S.Store self.new → IfOk result (λ c. c ≡ candidate_of (history_of S.Store self.old) range.now) }
+    {
         let mark = self.ranges.mark(range.num);
         let found = candidate_in(self.alloc, &mut self.conn, range, mark);
         counted(&mut self.faults, found)
     }
 
-    fn usage(&mut self, range: &Range, day: u32) -> Result<Usage, BookFault> {
+    fn usage(&mut self, range: &Range, day: u32) -> Result<Usage, BookFault>
+        requires { IsHonest S.Store self.old → Contains (ranges_of (history_of S.Store self.old)) range.now }
+        ensures faults { Counts result self.old.faults self.new.faults }
+        ensures keeps { Keeps (history_of S.Store) (λ b. b.terms) (IsHonest S.Store) self.old self.new }
+        ensures opened { HasCleanDisk (state S.Store self.new.conn) → OnOk result (IsTrue (state S.Store self.new.conn).is_open) }
+        ensures answer { IsHonest S.Store self.new → IfOk result (λ u. u ≡ usage_of (history_of S.Store self.old) range.now day self.old.terms.interval) }
+    {
         let interval = self.settings.interval();
         let day = self.day.max(day);
         let found = usage_in(self.alloc, &mut self.conn, range, day, interval);
         counted(&mut self.faults, found)
     }
 
-    fn keep(&mut self, entry: Entry) -> Result<(), BookFault> {
+    fn keep(&mut self, entry: Entry) -> Result<(), BookFault>
+        requires { IsHonest S.Store self.old → MayFollow (history_of S.Store self.old) self.old.terms entry }
+        ensures faults { Counts result self.old.faults self.new.faults }
+        ensures was_honest { IsHonest S.Store self.new → IsHonest S.Store self.old }
+        ensures same_terms { IsHonest S.Store self.new → self.new.terms ≡ self.old.terms }
+        ensures opened { HasCleanDisk (state S.Store self.new.conn) → OnOk result (IsTrue (state S.Store self.new.conn).is_open) }
+        ensures ok { IsHonest S.Store self.new → OnOk result (history_of S.Store self.new ≡ history_of S.Store self.old ++ entry ∷ []) }
+        ensures err { IsHonest S.Store self.new → OnErr result (history_of S.Store self.new ≡ history_of S.Store self.old) }
+    {
         let limit = self.settings.limit();
         let kept = keep_followed(
             self.alloc,
