@@ -1,6 +1,7 @@
 -- What a read leaves of a ledger, and what it answers.
-use Rattle.std.proofs.Common.{◌≡◌, ℕ, ◌+◌, IsTrue, List, [], ◌∷◌, ◌++◌, length, All, Result, Ok, Err, IfOk, OnOk, OnErr, Option, sym, ap, subst, refl, ◌∙◌, arith, length-append}
+use Rattle.std.proofs.Common.{◌≡◌, ℕ, ◌+◌, Bool, true, false, IsTrue, List, [], ◌∷◌, ◌++◌, length, All, Result, Ok, Err, IfOk, OnOk, OnErr, Option, sym, ap, subst, refl, ◌∙◌, arith, length-append}
 use Rattle.std.specs.Coded.{coded_list}
+use Rattle.std.specs.Result.{is_ok}
 use Rattle.std.proofs.lemmas.List.Sums.{fold-append}
 use Rattle.std.proofs.lemmas.List.Elements.{All-push}
 use Rattle.std.proofs.Math.Logic.{∥∥₁_elim, ∥∥₁_map}
@@ -110,3 +111,8 @@ pub followed_mirrors : {T E : Type 0} (old new : Database) (e : Entry) (ranges :
     → OnOk r (Mirrors ranges (history_in old ++ e ∷ [])) → OnErr r (Mirrors ranges (history_in old)) → Mirrors ranges (history_in new)
 followed_mirrors old new e ranges (Ok x) longer same ok err = subst (λ (h : List Entry). Mirrors ranges h) (sym longer) ok
 followed_mirrors old new e ranges (Err x) longer same ok err = subst (λ (h : List Entry). Mirrors ranges h) (sym same) err
+
+-- what is known of an answer that was given
+pub if_answered : {T E : Type 0} (r : Result T E) (P : Type 0) (answered : Bool) → answered ≡ is_ok r → OnOk r P → answered ≡ true → P
+if_answered (Ok x) P answered is p so = p
+if_answered (Err e) P answered is p so = absurd cc

@@ -1,5 +1,5 @@
 -- What a ledger's connection is between two calls, and what one was by what it is.
-use Rattle.std.specs.Prelude.{◌≡◌, false, IsTrue}
+use Rattle.std.specs.Prelude.{◌≡◌, Bool, false, true, IsTrue}
 use Rattle.sqlite_trees.specs.declared.store.Store.{Ghosts}
 use Rattle.sqlite.specs.State.{HasCleanDisk}
 use Rattle.sqlite.specs.Held.{Held, state}
@@ -12,3 +12,7 @@ pub record IsSettled {S : Type 0} (g : Ghosts S) (conn : Held S) : Type 0 where
 -- a disk that is clean was so before, and a connection that is open over it was so too
 abbrev pub WasSound : {S : Type 0} → Ghosts S → Held S → Held S → Type 0
 WasSound g old new = HasCleanDisk (state g new) → HasCleanDisk (state g old) × (IsTrue (state g new).is_open → IsTrue (state g old).is_open)
+
+-- a connection that answered its last statement is open
+abbrev pub IsOpenIf : {S : Type 0} → Ghosts S → Held S → Bool → Type 0
+IsOpenIf g conn answered = answered ≡ true → HasCleanDisk (state g conn) → IsTrue (state g conn).is_open

@@ -28,13 +28,15 @@ pub struct SqlBook<S: Alter> {
     day: u32,
     faults: u64,
     ranges: Ranges,
+    // Whether the connection answered the last statement.
+    answered: bool,
 }
 
 impl<S: Alter> Model for SqlBook<S> {
     ghost use Rattle.std.specs.Prelude.{IsTrue, ◌≤◌};
     ghost use Rattle.sqlite.specs.Held.{state};
     ghost use Rattle.sqlite.specs.State.{HasCleanDisk};
-    ghost use Rattle.s10_ledger.specs.Settled.{IsSettled};
+    ghost use Rattle.s10_ledger.specs.Settled.{IsSettled, IsOpenIf};
     ghost use Rattle.s10_ledger.specs.Ledger.{Ledger, ledger_code, IsLedger, IsMirrored};
 
     ghost Value = { Ledger S };
@@ -43,7 +45,7 @@ impl<S: Alter> Model for SqlBook<S> {
 
     ghost view = { λ b. record { conn = b.conn; terms = b.settings; len = b.len; day = b.day; faults = b.faults } };
 
-    ghost invariant = { λ b. (b.len ≤ 1000000000) × (HasCleanDisk (state S.Store b.conn) → IsTrue (state S.Store b.conn).is_open → IsLedger (state S.Store b.conn).now b.settings b.len b.day) × IsSettled S.Store b.conn × IsMirrored S.Store b.conn b.ranges };
+    ghost invariant = { λ b. (b.len ≤ 1000000000) × (HasCleanDisk (state S.Store b.conn) → IsTrue (state S.Store b.conn).is_open → IsLedger (state S.Store b.conn).now b.settings b.len b.day) × IsSettled S.Store b.conn × IsMirrored S.Store b.conn b.ranges × IsOpenIf S.Store b.conn b.answered };
 }
 
 impl<S: Alter> SqlBook<S> {
@@ -94,6 +96,7 @@ impl<S: Alter> SqlBook<S> {
             day: 0,
             faults: 0,
             ranges: Ranges::new(alloc),
+            answered: true,
         })
     }
 
@@ -110,6 +113,7 @@ impl<S: Alter> SqlBook<S> {
         requires settled { IsSettled S.Store conn }
         requires ledger { HasCleanDisk (state S.Store conn) → IsTrue (state S.Store conn).is_open → IsLedger (state S.Store conn).now settings len day }
         requires mirrored { IsMirrored S.Store conn ranges }
+        requires opened { HasCleanDisk (state S.Store conn) → IsTrue (state S.Store conn).is_open }
         ensures { let book : Ledger S = record { conn = conn; terms = settings; len = len; day = day; faults = 0 } in result ≡ book }
     {
         SqlBook {
@@ -120,6 +124,7 @@ impl<S: Alter> SqlBook<S> {
             day,
             faults: 0,
             ranges,
+            answered: true,
         }
     }
 
@@ -160,6 +165,7 @@ impl<S: Alter> SqlBook<S> {
             day: _,
             faults: _,
             ranges,
+            answered: _,
         } = self;
         (conn, ranges)
     }
@@ -210,8 +216,34 @@ fn counted<T>(faults: &mut u64, answer: Result<T, BookFault>) -> Result<T, BookF
     answer
 }
 
+impl<S: Alter> SqlBook<S> {
+    ghost use Rattle.std.specs.Prelude.{IsTrue, OnOk};
+    ghost use Rattle.sqlite.specs.State.{HasCleanDisk};
+    ghost use Rattle.s10_book.specs.Book.{Keeps};
+    ghost use Rattle.s10_ledger.specs.Ledger.{history_of};
+
+    // Asks the connection for a call where it did not answer the last statement, so that no range is
+    // told over a connection that is shut.
+    fn ask_again(&mut self) -> Result<(), BookFault>
+        ensures faults { Counts result self.old.faults self.new.faults }
+        ensures keeps { Keeps (history_of S.Store) (λ b. b.terms) (IsHonest S.Store) self.old self.new }
+        ensures opened { HasCleanDisk (state S.Store self.new.conn) → OnOk result (IsTrue (state S.Store self.new.conn).is_open) }
+    {
+        if self.answered {
+            return Ok(());
+        }
+        let found = call_at(self.alloc, &mut self.conn, 0);
+        let answered = found.is_ok();
+        self.answered = answered;
+        match counted(&mut self.faults, found) {
+            Ok(_) => Ok(()),
+            Err(fault) => Err(fault),
+        }
+    }
+}
+
 impl<S: Alter> Book for SqlBook<S> {
-    ghost use Rattle.std.specs.Prelude.{◌++◌, ◌∷◌, [], ◌<◌, ◌==◌, find, IfOk, IfSome, IsOk, IsTrue, OnErr, OnOk, Contains};
+    ghost use Rattle.std.specs.Prelude.{◌++◌, ◌∷◌, [], ◌<◌, ◌==◌, find, IfOk, IfSome, IsTrue, OnErr, OnOk, Contains};
     ghost use Rattle.sqlite.specs.State.{HasCleanDisk};
     ghost use Rattle.s10_wire.specs.Kind.{fits};
     ghost use Rattle.s10_book.specs.History.{entry_with_key, entry_at, ranges_of, is_held_above, overlaps};
@@ -251,6 +283,8 @@ impl<S: Alter> Book for SqlBook<S> {
         ensures fits { IfOk result (λ found. IfSome found (λ e. IsTrue (fits e.request.body e.outcome))) }
     {
         let found = call_with_key(self.alloc, &mut self.conn, customer, number);
+        let answered = found.is_ok();
+        self.answered = answered;
         counted(&mut self.faults, found)
     }
 
@@ -261,16 +295,20 @@ impl<S: Alter> Book for SqlBook<S> {
         ensures answer { IsHonest S.Store self.new → IfOk result (λ e. e ≡ entry_at (history_of S.Store self.old) at) }
     {
         let found = call_at(self.alloc, &mut self.conn, at);
+        let answered = found.is_ok();
+        self.answered = answered;
         counted(&mut self.faults, found)
     }
 
     fn range(&mut self, num: u32) -> Result<Option<Range>, BookFault>
         ensures faults { Counts result self.old.faults self.new.faults }
         ensures keeps { Keeps (history_of S.Store) (λ b. b.terms) (IsHonest S.Store) self.old self.new }
-        ensures same { self.new ≡ self.old }
-        ensures answered { IsOk result }
+        ensures opened { HasCleanDisk (state S.Store self.new.conn) → OnOk result (IsTrue (state S.Store self.new.conn).is_open) }
         ensures answer { IsHonest S.Store self.new → IfOk result (λ r. r ≡ find (λ x. x.num == num) (ranges_of (history_of S.Store self.old))) }
     {
+        if let Err(fault) = self.ask_again() {
+            return Err(fault);
+        }
         Ok(self.ranges.numbered(num))
     }
 
@@ -283,11 +321,13 @@ impl<S: Alter> Book for SqlBook<S> {
     ) -> Result<Option<Range>, BookFault>
         ensures faults { Counts result self.old.faults self.new.faults }
         ensures keeps { Keeps (history_of S.Store) (λ b. b.terms) (IsHonest S.Store) self.old self.new }
-        ensures same { self.new ≡ self.old }
-        ensures answered { IsOk result }
+        ensures opened { HasCleanDisk (state S.Store self.new.conn) → OnOk result (IsTrue (state S.Store self.new.conn).is_open) }
         ensures above { IfOk result (λ found. IfSome found (λ r. after < r.num)) }
         ensures answer { IsHonest S.Store self.new → IfOk result (λ found. found ≡ find (is_held_above after customer service country) (ranges_of (history_of S.Store self.old))) }
     {
+        if let Err(fault) = self.ask_again() {
+            return Err(fault);
+        }
         Ok(self.ranges.held_after(customer, service, country, after))
     }
 
@@ -300,10 +340,12 @@ impl<S: Alter> Book for SqlBook<S> {
     ) -> Result<Option<Range>, BookFault>
         ensures faults { Counts result self.old.faults self.new.faults }
         ensures keeps { Keeps (history_of S.Store) (λ b. b.terms) (IsHonest S.Store) self.old self.new }
-        ensures same { self.new ≡ self.old }
-        ensures answered { IsOk result }
+        ensures opened { HasCleanDisk (state S.Store self.new.conn) → OnOk result (IsTrue (state S.Store self.new.conn).is_open) }
         ensures answer { IsHonest S.Store self.new → IfOk result (λ found. found ≡ find (overlaps service country first last) (ranges_of (history_of S.Store self.old))) }
     {
+        if let Err(fault) = self.ask_again() {
+            return Err(fault);
+        }
         Ok(self.ranges.over(service, country, first, last))
     }
 
@@ -314,6 +356,8 @@ impl<S: Alter> Book for SqlBook<S> {
         ensures answer { IsHonest S.Store self.new → IfOk result (λ i. i ≡ last_issue_of (history_of S.Store self.old) id.now) }
     {
         let found = issue_of(self.alloc, &mut self.conn, id);
+        let answered = found.is_ok();
+        self.answered = answered;
         counted(&mut self.faults, found)
     }
 
@@ -326,6 +370,8 @@ impl<S: Alter> Book for SqlBook<S> {
     {
         let mark = self.ranges.mark(range.num);
         let found = candidate_in(self.alloc, &mut self.conn, range, mark);
+        let answered = found.is_ok();
+        self.answered = answered;
         counted(&mut self.faults, found)
     }
 
@@ -339,6 +385,8 @@ impl<S: Alter> Book for SqlBook<S> {
         let interval = self.settings.interval();
         let day = self.day.max(day);
         let found = usage_in(self.alloc, &mut self.conn, range, day, interval);
+        let answered = found.is_ok();
+        self.answered = answered;
         counted(&mut self.faults, found)
     }
 
@@ -361,6 +409,8 @@ impl<S: Alter> Book for SqlBook<S> {
             limit,
             &entry,
         );
+        let answered = kept.is_ok();
+        self.answered = answered;
         counted(&mut self.faults, kept)
     }
 }

@@ -89,10 +89,7 @@ fn opened_again<R: Abort + AllocGlobal>(rt: &R, book: SqlBook<MemStore>) -> SqlB
     }
 }
 
-fn new_books<R: Abort + AllocGlobal>(
-    rt: &R,
-    settings: Settings,
-) -> (PlainBook, SqlBook<MemStore>) {
+fn new_books<R: Abort + AllocGlobal>(rt: &R, settings: Settings) -> (PlainBook, SqlBook<MemStore>) {
     (PlainBook::new(rt.alloc(), settings), ledger(rt, settings))
 }
 

@@ -17,6 +17,7 @@ invariant_of-result g c = (
         ranges = c.new.ensures.ranges ∙ sym (ap ranges_of none);
         marks = c.new.ensures.marks ∙ sym (ap (λ h. map (pick_of (issues_of h)) (ranges_of h)) none);
       },
+  λ so clean. c.in_default-make_ledger.ensures.opened clean,
 )
 
 pub returns-clause-empty : goal.returns-clause-empty

@@ -2,7 +2,7 @@ use Rattle.std.proofs.Common.{rules, ◌≡◌, IsTrue, arith}
 use Rattle.sqlite.specs.State.{HasCleanDisk}
 use Rattle.sqlite.specs.Held.{state}
 use Rattle.s10_ledger.specs.Ledger.{Ledger, IsLedger, IsHonest, history_in}
-use Rattle.s10_ledger.proofs.BookLemmas.{IsKept, schema_is, kept_ledger, kept_longer, kept_same, followed_mirrors}
+use Rattle.s10_ledger.proofs.BookLemmas.{IsKept, schema_is, kept_ledger, kept_longer, kept_same, followed_mirrors, if_answered}
 use Rattle.s10_ledger.proofs.sql_book.SqlBookBook.keep.Goals as goal
 
 pub invariant_of-self : goal.invariant_of-self
@@ -38,6 +38,7 @@ invariant_of-self g c =
           (kept_same before after t c.self.inside.len c.self.inside.day c.keep_followed-kept.new.len c.keep_followed-kept.new.day c.args.entry was follows c.keep_followed-kept.result (k.err clean opened (schema_is before t c.self.inside.len c.self.inside.day was)))
           (k.followed (history_in before) t was.legal follows (omega (arith, was.legal.few, c.limit-limit.ensures.value, c.limit-limit.ensures.range)) mirrored)
           (k.same_ranges (history_in before) mirrored),
+      λ so clean. if_answered c.keep_followed-kept.result _ c.is_ok-answered.result c.is_ok-answered.ensures.value (c.keep_followed-kept.ensures.opened clean) so,
     )
 
 pub returns-clause-ok : goal.returns-clause-ok

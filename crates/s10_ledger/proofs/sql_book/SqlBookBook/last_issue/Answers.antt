@@ -7,12 +7,12 @@ use Rattle.s10_book.specs.History.{entry_with_key, entry_at, ranges_of, is_held_
 use Rattle.s10_book.specs.Issues.{last_issue_of, candidate_of}
 use Rattle.s10_book.specs.Usage.{usage_of}
 use Rattle.s10_ledger.specs.Ledger.{Ledger, history_in}
-use Rattle.s10_ledger.proofs.BookLemmas.{still_kept, still_mirrored, was_ledger, read_keeps, answered}
+use Rattle.s10_ledger.proofs.BookLemmas.{still_kept, still_mirrored, if_answered, was_ledger, read_keeps, answered}
 use Rattle.s10_ledger.proofs.sql_book.SqlBookBook.last_issue.Goals as goal
 
 pub invariant_of-self : goal.invariant_of-self
 invariant_of-self g c =
-    (c.self.invariant.0, still_kept g.S.Store c.self.inside.conn c.issue_of-found.new.conn c.self.inside.settings c.self.inside.len c.self.inside.day c.issue_of-found.ensures.leaves c.self.invariant.2 c.self.invariant.1, c.issue_of-found.ensures.leaves.settled c.self.invariant.2, still_mirrored g.S.Store c.self.inside.conn c.issue_of-found.new.conn c.self.inside.settings c.self.inside.len c.self.inside.day c.issue_of-found.ensures.leaves c.self.invariant.2 c.self.invariant.1 c.self.inside.ranges c.self.invariant.3)
+    (c.self.invariant.0, still_kept g.S.Store c.self.inside.conn c.issue_of-found.new.conn c.self.inside.settings c.self.inside.len c.self.inside.day c.issue_of-found.ensures.leaves c.self.invariant.2 c.self.invariant.1, c.issue_of-found.ensures.leaves.settled c.self.invariant.2, still_mirrored g.S.Store c.self.inside.conn c.issue_of-found.new.conn c.self.inside.settings c.self.inside.len c.self.inside.day c.issue_of-found.ensures.leaves c.self.invariant.2 c.self.invariant.1 c.self.inside.ranges c.self.invariant.3, λ so clean. if_answered c.issue_of-found.result _ c.is_ok-answered.result c.is_ok-answered.ensures.value (c.issue_of-found.ensures.opened clean) so)
 
 pub returns-clause-keeps : goal.returns-clause-keeps
 returns-clause-keeps g c =
