@@ -1,4 +1,4 @@
-use Rattle.std.proofs.Common.{rules, ◌≡◌, ◌∙◌}
+use Rattle.std.proofs.Common.{◌∙◌}
 use Rattle.s10_rows.specs.Tables.{tables_of}
 use Rattle.s10_ledger.proofs.Rising.{range_rows_rise}
 use Rattle.s10_ledger.proofs.keeping.drawn_made.Goals as goal

@@ -1,4 +1,4 @@
-use Rattle.std.proofs.Common.{rules, ◌≡◌, pos, ◌∷◌, [], ◌++◌, ◌+◌, length, sym, ap, subst, arith, refl, ◌∙◌}
+use Rattle.std.proofs.Common.{rules, ◌≡◌, pos, ◌∷◌, [], ◌++◌, ◌+◌, length, sym, subst, arith, refl, ◌∙◌}
 use Rattle.sqlite.specs.Effect.{Database}
 use Rattle.sqlite.specs.State.{HasCleanDisk}
 use Rattle.sqlite.specs.Held.{state}

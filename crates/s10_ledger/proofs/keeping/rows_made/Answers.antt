@@ -1,4 +1,3 @@
-use Rattle.std.proofs.Common.{rules, ◌≡◌, ◌∙◌}
 use Rattle.s10_ledger.proofs.StateLemmas.{leaves_same}
 use Rattle.s10_rows.proofs.MadeRows.{others_make_none}
 use Rattle.s10_ledger.proofs.keeping.rows_made.Goals as goal

@@ -1,5 +1,5 @@
-use Rattle.std.proofs.Common.{rules, ◌≡◌, refl, subst, List, ◌∙◌}
-use Rattle.s10_rows.specs.Tables.{HaveSameRows, tables_of}
+use Rattle.std.proofs.Common.{refl, ◌∙◌}
+use Rattle.s10_rows.specs.Tables.{tables_of}
 use Rattle.s10_rows.proofs.Parts.{ranges_of_fit}
 use Rattle.s10_ledger.proofs.Rising.{range_rows_rise}
 use Rattle.s10_ledger.proofs.lookups.mark_in.Goals as goal

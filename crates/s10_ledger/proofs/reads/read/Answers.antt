@@ -1,10 +1,9 @@
-use Rattle.std.proofs.Common.{rules, ◌≡◌, IsTrue, sym, arith}
+use Rattle.std.proofs.Common.{sym, arith}
 use Rattle.std.proofs.lemmas.Result.{IfOk-weaker}
 use Rattle.sqlite.specs.Held.{state}
 use Rattle.sqlite.specs.State.{HasCleanDisk}
 use Rattle.sqlite.specs.Values.{bound}
-use Rattle.s10_schema.specs.Schema.{IsLedgerSchema, with_others, others_in}
-use Rattle.s10_ledger.specs.Settled.{IsSettled}
+use Rattle.s10_schema.specs.Schema.{with_others, others_in}
 use Rattle.s10_ledger.proofs.StateLemmas.{read_open, read_same, read_settled, shown_opened}
 use Rattle.s10_ledger.proofs.CrashLemmas.{first, commits_none}
 use Rattle.s10_ledger.proofs.reads.read.Goals as goal

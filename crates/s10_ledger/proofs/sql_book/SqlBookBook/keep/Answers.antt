@@ -1,8 +1,8 @@
-use Rattle.std.proofs.Common.{rules, ◌≡◌, ◌+◌, IsTrue, arith, refl, ap, ◌∙◌}
+use Rattle.std.proofs.Common.{◌+◌, arith, refl, ap, ◌∙◌}
 use Rattle.sqlite.specs.Effect.{Database}
 use Rattle.sqlite.specs.State.{HasCleanDisk}
 use Rattle.sqlite.specs.Held.{state}
-use Rattle.s10_ledger.specs.Ledger.{Ledger, IsLedger, IsHonest, history_in}
+use Rattle.s10_ledger.specs.Ledger.{Ledger, IsHonest, history_in}
 use Rattle.s10_ledger.proofs.BookLemmas.{IsKept, schema_is, kept_ledger, kept_longer, kept_same, longer_history, longer_ledger}
 use Rattle.s10_ledger.proofs.CrashLemmas.{either}
 use Rattle.s10_ledger.proofs.sql_book.SqlBookBook.keep.Goals as goal
