@@ -4,6 +4,7 @@ use Rattle.std.specs.Coded.{Coded, code_by, coded×, coded_ℕ}
 use Rattle.sqlite_value.specs.declared.value.Value.{Value}
 use Rattle.sqlite_value.specs.declared.value.Value.TheVariants.{Null, Int, Real, Text, Blob}
 use Rattle.sqlite_value.specs.Order.{Row, column}
+use Rattle.sqlite_trees.specs.Tree.{Trees}
 use Rattle.sqlite_trees.specs.declared.store.Store.{Ghosts}
 use Rattle.sqlite.specs.Effect.{Database}
 use Rattle.sqlite.specs.State.{HasCleanDisk}
@@ -87,3 +88,8 @@ pub record IsHonest {S : Type 0} (g : Ghosts S) (l : Ledger S) : Type 0 where
 -- the calls that a ledger keeps
 abbrev pub history_of : {S : Type 0} → Ghosts S → Ledger S → List Entry
 history_of g l = history_in (state g l.conn).now
+
+-- these trees hold the ledger with a call behind its others
+pub record IsLonger {S : Type 0} (g : Ghosts S) (l : Ledger S) (e : Entry) (db : Trees) : Type 0 where
+  pub history : history_in (record (state g l.conn).now { trees = db }) ≡ history_of g l ++ e ∷ []
+  pub ledger : IsLedger (record (state g l.conn).now { trees = db }) l.terms (l.len + 1) e.day

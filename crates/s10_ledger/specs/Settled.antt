@@ -1,8 +1,10 @@
--- What a ledger's connection is between two calls, and what one was by what it is.
+-- What a ledger's connection is between two calls, what one was by what it is, and what a crash leaves.
 use Rattle.std.specs.Prelude.{◌≡◌, Bool, false, true, IsTrue}
+use Rattle.sqlite_trees.specs.Tree.{Trees}
 use Rattle.sqlite_trees.specs.declared.store.Store.{Ghosts}
 use Rattle.sqlite.specs.State.{HasCleanDisk}
 use Rattle.sqlite.specs.Held.{Held, state}
+use Rattle.s10_schema.specs.Schema.{IsLedgerSchema}
 
 -- the connection is in no transaction, and what it shows is committed
 pub record IsSettled {S : Type 0} (g : Ghosts S) (conn : Held S) : Type 0 where
@@ -16,3 +18,7 @@ WasSound g old new = HasCleanDisk (state g new) → HasCleanDisk (state g old) �
 -- a connection that answered its last statement is open
 abbrev pub IsOpenIf : {S : Type 0} → Ghosts S → Held S → Bool → Type 0
 IsOpenIf g conn answered = answered ≡ true → HasCleanDisk (state g conn) → IsTrue (state g conn).is_open
+
+-- what an opening after a crash may find, it could find before
+abbrev pub Spares : {S : Type 0} → Ghosts S → Held S → Held S → Type 0
+Spares g old new = HasCleanDisk (state g new) → IsLedgerSchema (state g old).now.schema → (db : Trees) → (state g new).may_leave db → (state g old).may_leave db

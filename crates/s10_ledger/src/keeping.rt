@@ -1,6 +1,7 @@
 //! A call is kept.
 
-ghost use Rattle.std.specs.Prelude.{◌≡◌, ◌≢◌, ℕ, ◌≤◌, ◌<◌, ◌+◌, ◌^◌, ◌++◌, ◌∷◌, [], List, length, filter, All, Err, IfOk, IfSome, IsOk, IsTrue, OnOk, OnErr};
+ghost use Rattle.std.specs.Prelude.{◌≡◌, ◌≢◌, ◌⊎◌, ℕ, ◌≤◌, ◌<◌, ◌+◌, ◌^◌, ◌++◌, ◌∷◌, [], List, length, filter, All, Err, IfOk, IfSome, IsOk, IsTrue, OnOk, OnErr};
+ghost use Rattle.sqlite_trees.specs.Tree.{Trees};
 ghost use Rattle.sqlite_trees.specs.View.{doubt};
 ghost use Rattle.sqlite.specs.Held.{state};
 ghost use Rattle.sqlite.specs.State.{HasCleanDisk};
@@ -15,7 +16,7 @@ ghost use Rattle.s10_ranges.specs.Mirror.{Mirrors};
 ghost use Rattle.s10_rows.specs.Selected.{IsCall};
 ghost use Rattle.s10_rows.specs.Tables.{serial_rows};
 ghost use Rattle.s10_rows.specs.Kept.{Makes, is_at};
-ghost use Rattle.s10_ledger.specs.Settled.{IsSettled};
+ghost use Rattle.s10_ledger.specs.Settled.{IsSettled, Spares};
 ghost use Rattle.s10_ledger.specs.Statements.{Leaves};
 
 use crate::faults::fault_of;
@@ -49,6 +50,7 @@ fn voided_made<S: Alter>(
     conn: &mut Connection<S>,
     entry: &Entry,
 ) -> Result<Made, BookFault>
+    ensures spares { Spares S.Store conn.old conn.new }
     ensures leaves { Leaves S.Store conn.old conn.new }
     ensures fault { result ≢ Err Full }
     ensures answer { HasCleanDisk (state S.Store conn.new) → (h : List Entry) (t : Terms) → IsLegal h t → MayFollow h t entry.now → All IsCall h → IsCall entry.now → StandsFor (state S.Store conn.old).now h t
@@ -75,6 +77,7 @@ fn rows_made<S: Alter>(
     arrival: u32,
     entry: &Entry,
 ) -> Result<Made, BookFault>
+    ensures spares { Spares S.Store conn.old conn.new }
     ensures leaves { Leaves S.Store conn.old conn.new }
     ensures fault { result ≢ Err Full }
     ensures answer { HasCleanDisk (state S.Store conn.new) → (h : List Entry) (t : Terms) → IsLegal h t → MayFollow h t entry.now → All IsCall h → IsCall entry.now → StandsFor (state S.Store conn.old).now h t
@@ -109,6 +112,9 @@ pub(crate) fn keep_call<S: Alter>(
         → Mirrors ranges.now h → arrival ≡ length h + 1 → OnOk result (IsCall entry.now × StandsFor (state S.Store conn.new).now (h ++ entry.now ∷ []) t) }
     ensures err { HasCleanDisk (state S.Store conn.new) → IsTrue (state S.Store conn.new).is_open → IsLedgerSchema (state S.Store conn.old).now.schema
         → OnErr result ((state S.Store conn.new).now ≡ (state S.Store conn.old).now) }
+    ensures crash { HasCleanDisk (state S.Store conn.new) → IsLedgerSchema (state S.Store conn.old).now.schema → (db : Trees) → (state S.Store conn.new).may_leave db
+        → (state S.Store conn.old).may_leave db ⊎ ((h : List Entry) (t : Terms) → IsLegal h t → MayFollow h t entry.now → All IsCall h → StandsFor (state S.Store conn.old).now h t
+        → Mirrors ranges.now h → arrival ≡ length h + 1 → IsCall entry.now × StandsFor (record (state S.Store conn.old).now { trees = db }) (h ++ entry.now ∷ []) t) }
 {
     let _day = entry.day;
     let Some(reply) = Reply::new(entry.request, entry.outcome) else {
@@ -153,6 +159,9 @@ pub(crate) fn keep_next<S: Alter>(
         → Mirrors ranges.now h → len.old ≡ length h → OnOk result (IsCall entry.now × StandsFor (state S.Store conn.new).now (h ++ entry.now ∷ []) t) }
     ensures err { HasCleanDisk (state S.Store conn.new) → IsTrue (state S.Store conn.new).is_open → IsLedgerSchema (state S.Store conn.old).now.schema
         → OnErr result ((state S.Store conn.new).now ≡ (state S.Store conn.old).now) }
+    ensures crash { HasCleanDisk (state S.Store conn.new) → IsLedgerSchema (state S.Store conn.old).now.schema → (db : Trees) → (state S.Store conn.new).may_leave db
+        → (state S.Store conn.old).may_leave db ⊎ ((h : List Entry) (t : Terms) → IsLegal h t → MayFollow h t entry.now → All IsCall h → StandsFor (state S.Store conn.old).now h t
+        → Mirrors ranges.now h → len.old ≡ length h → IsCall entry.now × StandsFor (record (state S.Store conn.old).now { trees = db }) (h ++ entry.now ∷ []) t) }
 {
     if *len >= limit {
         return Err(BookFault::Store);
@@ -188,6 +197,9 @@ pub(crate) fn keep_followed<S: Alter>(
         → Mirrors ranges.old h → len.old ≡ length h → OnOk result (IsCall entry.now × StandsFor (state S.Store conn.new).now (h ++ entry.now ∷ []) t) }
     ensures err { HasCleanDisk (state S.Store conn.new) → IsTrue (state S.Store conn.new).is_open → IsLedgerSchema (state S.Store conn.old).now.schema
         → OnErr result ((state S.Store conn.new).now ≡ (state S.Store conn.old).now) }
+    ensures crash { HasCleanDisk (state S.Store conn.new) → IsLedgerSchema (state S.Store conn.old).now.schema → (db : Trees) → (state S.Store conn.new).may_leave db
+        → (state S.Store conn.old).may_leave db ⊎ ((h : List Entry) (t : Terms) → IsLegal h t → MayFollow h t entry.now → All IsCall h → StandsFor (state S.Store conn.old).now h t
+        → Mirrors ranges.old h → len.old ≡ length h → IsCall entry.now × StandsFor (record (state S.Store conn.old).now { trees = db }) (h ++ entry.now ∷ []) t) }
     ensures followed { (h : List Entry) (t : Terms) → IsLegal h t → MayFollow h t entry.now → length h < 4294967295 → Mirrors ranges.old h → OnOk result (Mirrors ranges.new (h ++ entry.now ∷ [])) }
     ensures same_ranges { (h : List Entry) → Mirrors ranges.old h → OnErr result (Mirrors ranges.new h) }
 {

@@ -15,6 +15,7 @@ ghost use Rattle.s10_rows.specs.Tables.{Tables, HaveSameRows};
 ghost use Rattle.s10_schema.specs.Schema.{IsLedgerSchema, with_others};
 ghost use Rattle.s10_ledger.specs.Shown.{HasTables, shown_head, shown_call, shown_range, shown_serial, head_columns, call_columns, range_columns, serial_columns, IsNumbered};
 ghost use Rattle.s10_rows.specs.Selected.{has_key_columns, arrives_between, is_within};
+ghost use Rattle.s10_ledger.specs.Settled.{Spares};
 ghost use Rattle.s10_ledger.specs.Statements.{Leaves};
 
 use crate::row_reading::{calls_in, heads_in, numbered_serials_in, ranges_in, serials_in};
@@ -30,6 +31,7 @@ fn read<S: Alter>(
     params: &[ValueRef<'_>],
 ) -> Result<Vec<Row>, Error>
     ensures leaves { ((o : Schema) → IsPlain (understood (with_others o) sql.now)) → Leaves S.Store conn.old conn.new }
+    ensures spares { ((o : Schema) → IsPlain (understood (with_others o) sql.now)) → Spares S.Store conn.old conn.new }
     ensures rows { HasCleanDisk (state S.Store conn.new) → IfOk result (λ rows. Shown sql.now (bound params.now) (state S.Store conn.old) (state S.Store conn.new) rows.items) }
     ensures opened { HasCleanDisk (state S.Store conn.new) → OnOk result (IsTrue (state S.Store conn.new).is_open) }
 {
@@ -121,6 +123,7 @@ pub(crate) fn all_ranges<S: Alter>(
     alloc: Global,
     conn: &mut Connection<S>,
 ) -> Result<Vec<RangeRow>, Error>
+    ensures spares { Spares S.Store conn.old conn.new }
     ensures leaves { Leaves S.Store conn.old conn.new }
     ensures opened { HasCleanDisk (state S.Store conn.new) → OnOk result (IsTrue (state S.Store conn.new).is_open) }
     ensures rows { HasCleanDisk (state S.Store conn.new) → IfOk result (λ rows. IsLedgerSchema (state S.Store conn.old).now.schema
@@ -144,6 +147,7 @@ pub(crate) fn serials_within<S: Alter>(
     low: u32,
     high: u32,
 ) -> Result<Vec<SerialRow>, Error>
+    ensures spares { Spares S.Store conn.old conn.new }
     ensures leaves { Leaves S.Store conn.old conn.new }
     ensures opened { HasCleanDisk (state S.Store conn.new) → OnOk result (IsTrue (state S.Store conn.new).is_open) }
     ensures rows { HasCleanDisk (state S.Store conn.new) → IfOk result (λ rows. (tables : Tables) → HasTables (state S.Store conn.old).now tables

@@ -243,7 +243,7 @@ impl<S: Alter> SqlBook<S> {
 }
 
 impl<S: Alter> Book for SqlBook<S> {
-    ghost use Rattle.std.specs.Prelude.{◌++◌, ◌∷◌, [], ◌<◌, ◌==◌, find, IfOk, IfSome, IsTrue, OnErr, OnOk, Contains};
+    ghost use Rattle.std.specs.Prelude.{◌⊎◌, ◌++◌, ◌∷◌, [], ◌<◌, ◌==◌, find, IfOk, IfSome, IsTrue, OnErr, OnOk, Contains};
     ghost use Rattle.sqlite.specs.State.{HasCleanDisk};
     ghost use Rattle.s10_wire.specs.Kind.{fits};
     ghost use Rattle.s10_book.specs.History.{entry_with_key, entry_at, ranges_of, is_held_above, overlaps};
@@ -251,7 +251,8 @@ impl<S: Alter> Book for SqlBook<S> {
     ghost use Rattle.s10_book.specs.Usage.{usage_of};
     ghost use Rattle.s10_book.specs.Rules.{MayFollow};
     ghost use Rattle.s10_book.specs.Book.{Keeps};
-    ghost use Rattle.s10_ledger.specs.Ledger.{history_of};
+    ghost use Rattle.s10_ledger.specs.Ledger.{history_of, IsLonger};
+    ghost use Rattle.sqlite_trees.specs.Tree.{Trees};
 
     ghost history = { history_of S.Store };
 
@@ -396,6 +397,8 @@ impl<S: Alter> Book for SqlBook<S> {
         ensures was_honest { IsHonest S.Store self.new → IsHonest S.Store self.old }
         ensures same_terms { IsHonest S.Store self.new → self.new.terms ≡ self.old.terms }
         ensures opened { HasCleanDisk (state S.Store self.new.conn) → OnOk result (IsTrue (state S.Store self.new.conn).is_open) }
+        ensures crash { IsHonest S.Store self.old → HasCleanDisk (state S.Store self.new.conn) → (db : Trees) → (state S.Store self.new.conn).may_leave db
+            → (db ≡ (state S.Store self.old.conn).now.trees) ⊎ IsLonger S.Store self.old entry db }
         ensures ok { IsHonest S.Store self.new → OnOk result (history_of S.Store self.new ≡ history_of S.Store self.old ++ entry ∷ []) }
         ensures err { IsHonest S.Store self.new → OnErr result (history_of S.Store self.new ≡ history_of S.Store self.old) }
     {

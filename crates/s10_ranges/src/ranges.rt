@@ -135,8 +135,9 @@ impl Ranges {
         self.set_mark(range.num, mark);
     }
 
-    /// Adds what a kept call makes: the range of a Done Grant, the mark behind a Done Draw. What is held
-    /// is asked only where it is the ranges of a legal history that the call may follow.
+    /// Adds what a kept call makes: the range of a Done Grant, the mark behind a Done Draw. Where the
+    /// ranges are not those of a legal history that the call may follow, a range that is not the next
+    /// one, or overlaps another, is left out.
     pub fn follow(&mut self, entry: &Entry)
         requires room { HasRoom self.old }
         ensures { (h : List Entry) (t : Terms) → IsLegal h t → MayFollow h t entry.now → length h < 4294967295 → Mirrors self.old h → Mirrors self.new (h ++ entry.now ∷ []) }

@@ -1,4 +1,3 @@
-use Rattle.std.proofs.Common.{rules, ◌≡◌, ◌∙◌}
 use Rattle.s10_ledger.proofs.StateLemmas.{leaves_same}
 use Rattle.s10_rows.proofs.MadeRows.{others_make_none}
 use Rattle.s10_ledger.proofs.keeping.rows_made.Goals as goal
@@ -11,6 +10,7 @@ returns-in-Drawn-clause-answer g c clean h t legal follows calls call stands m a
 
 pub returns-in_default : goal.returns-in_default
 returns-in_default g c = record {
+  spares = λ clean has db left. left;
   leaves = leaves_same g.S.Store c.args.conn.now;
   fault = λ e. cc;
   answer = λ clean h t legal follows calls call stands m arrival. others_make_none h c.args.entry.now c.in_default.not-Granted c.in_default.not-Drawn c.in_default.not-Voided;

@@ -1,11 +1,11 @@
-use Rattle.std.proofs.Common.{rules, ◌≡◌, IsTrue, sym, arith}
+use Rattle.std.proofs.Common.{sym, arith}
 use Rattle.std.proofs.lemmas.Result.{IfOk-weaker}
 use Rattle.sqlite.specs.Held.{state}
 use Rattle.sqlite.specs.State.{HasCleanDisk}
 use Rattle.sqlite.specs.Values.{bound}
-use Rattle.s10_schema.specs.Schema.{IsLedgerSchema, with_others, others_in}
-use Rattle.s10_ledger.specs.Settled.{IsSettled}
+use Rattle.s10_schema.specs.Schema.{with_others, others_in}
 use Rattle.s10_ledger.proofs.StateLemmas.{read_open, read_same, read_settled, shown_opened}
+use Rattle.s10_ledger.proofs.CrashLemmas.{first, commits_none}
 use Rattle.s10_ledger.proofs.reads.read.Goals as goal
 
 pub returns-clause-leaves : goal.returns-clause-leaves
@@ -28,3 +28,8 @@ returns-clause-leaves g c plain =
 pub returns-clause-opened : goal.returns-clause-opened
 returns-clause-opened g c clean =
     IfOk-weaker c.query_all.result _ _ (λ rows shown. shown_opened c.args.sql.now (bound c.args.params.now) (state g.S.Store c.args.conn.now) (state g.S.Store c.query_all.new.self) rows.items shown) (c.query_all.ensures.ok clean)
+
+pub returns-clause-spares : goal.returns-clause-spares
+returns-clause-spares g c plain clean has db left =
+    let old = state g.S.Store c.args.conn.now in
+    first (commits_none c.args.sql.now (bound c.args.params.now) old (with_others (others_in old.now.schema)) has.is (plain (others_in old.now.schema)) db) (c.query_all.ensures.survives.crash clean db left)
