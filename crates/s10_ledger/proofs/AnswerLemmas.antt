@@ -1,5 +1,5 @@
 -- What the reads show of a ledger's tables.
-use Rattle.std.proofs.Common.{◌≡◌, ℕ, ℤ, pos, negsuc, List, [], ◌∷◌, ◌&&◌, Bool, true, false, map, filter, refl, sym, ap, subst, ◌∙◌, int_cmp, int_eq, int_le, Ordering, Less}
+use Rattle.std.proofs.Common.{◌≡◌, ℕ, ℤ, pos, List, [], ◌∷◌, ◌&&◌, Bool, true, false, map, filter, refl, sym, ap, subst, ◌∙◌, int_cmp, int_eq, int_le, Less}
 use Rattle.std.specs.List.Sorted.{IsPermutation}
 use Rattle.sqlite_value.specs.declared.keys.Collation.TheVariants.{Binary}
 use Rattle.sqlite_value.specs.declared.value.Value.{Value}
@@ -17,12 +17,11 @@ use Rattle.sqlite_typed.proofs.TestLemmas.{at_ints, then_term, last_term}
 use Rattle.sqlite_schema.specs.declared.schema.Schema.{Schema}
 use Rattle.sqlite.specs.State.{State, Shown}
 use Rattle.sqlite.proofs.Callers.{reads_as}
-use Rattle.s10_rows.specs.declared.head_row.HeadRow.{HeadRow}
 use Rattle.s10_rows.specs.declared.range_row.RangeRow.{RangeRow}
 use Rattle.s10_rows.specs.declared.serial_row.SerialRow.{SerialRow}
 use Rattle.s10_rows.specs.CallRow.{StoredCall}
 use Rattle.s10_schema.specs.Schema.{IsLedgerSchema, with_others, others_in}
-use Rattle.s10_ledger.specs.Shown.{shown_head, shown_call, shown_range, shown_serial, head_columns, call_columns, range_columns, serial_columns}
+use Rattle.s10_ledger.specs.Shown.{shown_call, shown_range, shown_serial, head_columns, call_columns, range_columns, serial_columns}
 use Rattle.s10_rows.specs.Selected.{has_key_columns, arrives_between, is_within}
 use Rattle.s10_ledger.specs.Statements.{head_text, key_text, arrivals_text, calls_text, ranges_text, within_text, serials_text}
 use Rattle.s10_ledger.proofs.Texts.{head_query, head_is, head_plain, head_unlisted, key_query, key_is, key_plain, key_unlisted, arrivals_query, arrivals_is, arrivals_plain, arrivals_unlisted, calls_query, calls_is, calls_plain, calls_unlisted, ranges_query, ranges_is, ranges_plain, ranges_unlisted, within_query, within_is, within_plain, within_unlisted, serials_query, serials_is, serials_plain, serials_unlisted}

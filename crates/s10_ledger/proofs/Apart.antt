@@ -1,10 +1,9 @@
 -- What stands behind the tables of a ledger has no part in its writes.
-use Rattle.std.proofs.Common.{◌≡◌, ℕ, ◌==◌, Bool, true, false, not, ◌&&◌, ◌||◌, cond, List, [], ◌∷◌, ◌++◌, length, Option, Some, None, refl, sym, ap, subst, ◌∙◌}
+use Rattle.std.proofs.Common.{◌≡◌, ℕ, ◌==◌, Bool, true, false, not, ◌&&◌, ◌||◌, cond, List, [], ◌∷◌, length, Option, Some, None, refl, sym, subst, ◌∙◌}
 use Rattle.std.specs.Prelude.{IfSome, find, filter_map, flat_map, option_map, option_and_then, codes}
-use Rattle.std.specs.List.{list_all, list_any}
+use Rattle.std.specs.List.{list_any}
 use base.Stored.{Coded-set}
 use mathlib.Core.Bool.{Bool-set}
-use Rattle.std.proofs.lemmas.Bool.{and_parts}
 use Rattle.sqlite_value.specs.Order.{Row}
 use Rattle.sqlite_value.specs.declared.keys.Order.{Order}
 use Rattle.sqlite_schema.specs.declared.schema.Keys.{Keys}
@@ -16,9 +15,9 @@ use Rattle.sqlite_schema.specs.contracts.schema.Schema as schema
 use Rattle.sqlite_schema.specs.Names.{same_name}
 use Rattle.sqlite_schema.specs.Rules.{ParentKey, parent_key, key_in, key_places, declared_order, guards}
 use Rattle.sqlite_rules.specs.declared.action.Deed.{Deed}
-use Rattle.sqlite_rules.specs.Action.{Work, work_by, work_for, works, pairs, deed_for}
+use Rattle.sqlite_rules.specs.Action.{work_by, work_for, works, pairs, deed_for}
 use Rattle.sqlite_rules.specs.Keys.{shares}
-use Rattle.s10_schema.specs.Schema.{IsLedgerSchema, with_others, others_in, is_own_tree, is_own_name, refer_apart, are_apart, index_apart, head_table, calls_table, ranges_table, serials_table}
+use Rattle.s10_schema.specs.Schema.{IsLedgerSchema, with_others, others_in, is_own_tree, is_own_name, refer_apart, are_apart, index_apart}
 
 pub is_ledger-prop : (s : Schema) (a b : IsLedgerSchema s) → a ≡ b
 is_ledger-prop s a b =

@@ -1,12 +1,12 @@
 -- What a read leaves of a ledger, and what it answers.
-use Rattle.std.proofs.Common.{◌≡◌, ℕ, ◌+◌, IsTrue, List, [], ◌∷◌, ◌++◌, length, All, Result, Ok, Err, IfOk, OnOk, OnErr, Option, sym, ap, subst, refl, ◌∙◌, arith, length-append}
+use Rattle.std.proofs.Common.{◌≡◌, ℕ, ◌+◌, Bool, true, IsTrue, List, [], ◌∷◌, ◌++◌, Result, Ok, Err, IfOk, OnOk, OnErr, sym, ap, subst, refl, ◌∙◌, arith, length-append}
 use Rattle.std.specs.Coded.{coded_list}
+use Rattle.std.specs.Result.{is_ok}
 use Rattle.std.proofs.lemmas.List.Sums.{fold-append}
 use Rattle.std.proofs.lemmas.List.Elements.{All-push}
 use Rattle.std.proofs.Math.Logic.{∥∥₁_elim, ∥∥₁_map}
 use base.Stored.{Coded-set}
 use Rattle.sqlite_trees.specs.declared.store.Store.{Ghosts}
-use Rattle.sqlite_schema.specs.contracts.schema.Schema as schema
 use Rattle.sqlite.specs.Effect.{Database}
 use Rattle.sqlite.specs.State.{HasCleanDisk}
 use Rattle.sqlite.specs.Held.{Held, state}
@@ -17,9 +17,12 @@ use Rattle.s10_book.specs.Rules.{MayFollow}
 use Rattle.s10_book.proofs.Push.{IsLegal-push}
 use Rattle.s10_book.specs.Book.{Keeps}
 use Rattle.s10_book.specs.Settings.{Terms}
+use Rattle.s10_ranges.specs.declared.ranges.Ranges.{Ranges}
+use Rattle.s10_ranges.specs.Mirror.{Mirrors}
 use Rattle.s10_schema.specs.Schema.{IsLedgerSchema}
+use Rattle.s10_ledger.specs.Settled.{IsSettled}
 use Rattle.s10_ledger.specs.Statements.{Leaves}
-use Rattle.s10_ledger.specs.Ledger.{Ledger, IsLedger, Holds, IsHonest, history_in}
+use Rattle.s10_ledger.specs.Ledger.{Ledger, IsLedger, IsMirrored, Holds, IsHonest, history_in, history_of}
 use Rattle.s10_rows.specs.Selected.{IsCall}
 use Rattle.s10_ledger.specs.Shown.{StandsFor}
 use Rattle.s10_ledger.proofs.HistoryLemmas.{history_is}
@@ -32,10 +35,10 @@ IsKept g conn t len day = HasCleanDisk (state g conn) → IsTrue (state g conn).
 pub schema_is : (db : Database) (t : Terms) (len day : ℕ) → IsLedger db t len day → IsLedgerSchema db.schema
 schema_is db t len day it = ∥∥₁_elim it.held (is_ledger-prop db.schema) (λ h. h.tables.schema)
 
-module _ {S : Type 0} (g : Ghosts S) (old new : Held S) (t : Terms) (len day : ℕ) (leaves : Leaves g old new) (kept : IsKept g old t len day) where
+module _ {S : Type 0} (g : Ghosts S) (old new : Held S) (t : Terms) (len day : ℕ) (leaves : Leaves g old new) (settled : IsSettled g old) (kept : IsKept g old t len day) where
   -- the tables are as they were
   pub same_tables : HasCleanDisk (state g new) → IsTrue (state g new).is_open → (state g new).now ≡ (state g old).now
-  same_tables clean opened = leaves.now clean opened (schema_is (state g old).now t len day (kept (omega (arith, leaves.clean)) (leaves.was_open clean opened)))
+  same_tables clean opened = leaves.now clean opened settled (schema_is (state g old).now t len day (kept (omega (arith, leaves.clean)) (leaves.was_open clean opened)))
 
   pub was_ledger : HasCleanDisk (state g new) → IsTrue (state g new).is_open → IsLedger (state g old).now t len day
   was_ledger clean opened = kept (omega (arith, leaves.clean)) (leaves.was_open clean opened)
@@ -43,18 +46,20 @@ module _ {S : Type 0} (g : Ghosts S) (old new : Held S) (t : Terms) (len day : �
   pub still_kept : IsKept g new t len day
   still_kept clean opened = subst (λ (d : Database). IsLedger d t len day) (sym (same_tables clean opened)) (was_ledger clean opened)
 
-abbrev pub history_of : {S : Type 0} → Ghosts S → Ledger S → List Entry
-history_of g l = history_in (state g l.conn).now
+  -- and the ranges that are held are still those of the history
+  pub still_mirrored : (ranges : Ranges) → IsMirrored g old ranges → IsMirrored g new ranges
+  still_mirrored ranges mirrored clean opened =
+      subst (λ (d : Database). Mirrors ranges (history_in d)) (sym (same_tables clean opened)) (mirrored (omega (arith, leaves.clean)) (leaves.was_open clean opened))
 
-pub read_keeps : {S : Type 0} (g : Ghosts S) (old : Ledger S) (conn : Held S) (faults : ℕ) → Leaves g old.conn conn → IsKept g old.conn old.terms old.len old.day
+pub read_keeps : {S : Type 0} (g : Ghosts S) (old : Ledger S) (conn : Held S) (faults : ℕ) → Leaves g old.conn conn → IsSettled g old.conn → IsKept g old.conn old.terms old.len old.day
     → Keeps (history_of g) (λ (l : Ledger S). l.terms) (IsHonest g) old (record old { conn = conn; faults = faults })
-read_keeps g old conn faults leaves kept = record {
+read_keeps g old conn faults leaves settled kept = record {
   was_honest = λ h. record {
     clean = omega (arith, leaves.clean, h.clean);
     is_open = leaves.was_open h.clean h.is_open;
-    ledger = was_ledger g old.conn conn old.terms old.len old.day leaves kept h.clean h.is_open;
+    ledger = was_ledger g old.conn conn old.terms old.len old.day leaves settled kept h.clean h.is_open;
   };
-  same_history = λ h. ap history_in (same_tables g old.conn conn old.terms old.len old.day leaves kept h.clean h.is_open);
+  same_history = λ h. ap history_in (same_tables g old.conn conn old.terms old.len old.day leaves settled kept h.clean h.is_open);
   same_terms = λ h. refl;
 }
 
@@ -99,3 +104,14 @@ module _ {T E : Type 0} (old new : Database) (t : Terms) (len day len' day' : �
   pub kept_same : (r : Result T E) → OnErr r (new ≡ old) → OnErr r (history_in new ≡ history_in old)
   kept_same (Ok x) same = tt
   kept_same (Err x) same = ap history_in same
+
+-- the ranges that are held follow the history
+pub followed_mirrors : {T E : Type 0} (old new : Database) (e : Entry) (ranges : Ranges) (r : Result T E) → OnOk r (history_in new ≡ history_in old ++ e ∷ []) → OnErr r (history_in new ≡ history_in old)
+    → OnOk r (Mirrors ranges (history_in old ++ e ∷ [])) → OnErr r (Mirrors ranges (history_in old)) → Mirrors ranges (history_in new)
+followed_mirrors old new e ranges (Ok x) longer same ok err = subst (λ (h : List Entry). Mirrors ranges h) (sym longer) ok
+followed_mirrors old new e ranges (Err x) longer same ok err = subst (λ (h : List Entry). Mirrors ranges h) (sym same) err
+
+-- what is known of an answer that was given
+pub if_answered : {T E : Type 0} (r : Result T E) (P : Type 0) (answered : Bool) → answered ≡ is_ok r → OnOk r P → answered ≡ true → P
+if_answered (Ok x) P answered is p so = p
+if_answered (Err e) P answered is p so = absurd cc

@@ -1,5 +1,5 @@
 -- What the reads find, as typed rows.
-use Rattle.std.proofs.Common.{◌≡◌, ℕ, ℤ, pos, List, [], ◌∷◌, Bool, map, filter, refl, sym, ap, subst, ◌∙◌, int_cmp, Ordering, Less, All, IsTrue, arith}
+use Rattle.std.proofs.Common.{◌≡◌, ℕ, ℤ, List, [], ◌∷◌, map, filter, refl, sym, subst, ◌∙◌, int_cmp, Less, All, IsTrue, arith}
 use Rattle.std.proofs.Math.Logic.{∥∥₁_elim, ∥∥₁_map}
 use Rattle.std.specs.List.Sorted.{IsPermutation}
 use Rattle.std.proofs.lemmas.List.Sorted.{IsPermutation-sym, IsPermutation-map}

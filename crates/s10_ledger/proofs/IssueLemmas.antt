@@ -1,22 +1,22 @@
 -- What the write of a serial makes of the tables.
-use Rattle.std.proofs.Common.{◌≡◌, ◌≢◌, ◌⊎◌, inl, inr, arith, ℕ, suc, ℤ, pos, ◌≤◌, drop, List, [], ◌∷◌, ◌++◌, length, map, filter, Bool, true, false, not, ◌&&◌, ◌||◌, cond, Option, Some, None, unwrap_or, Ok, refl, sym, ap, subst, ◌∙◌, int_cmp, int_eq, is_eq}
+use Rattle.std.proofs.Common.{◌≡◌, ◌≢◌, inl, inr, arith, ℕ, suc, ℤ, ◌≤◌, drop, List, [], ◌∷◌, ◌++◌, length, map, filter, Bool, true, false, not, ◌&&◌, ◌||◌, cond, Option, Some, None, unwrap_or, Ok, refl, sym, ap, subst, ◌∙◌, int_eq, is_eq}
 use Rattle.std.proofs.Math.Logic.{∥∥₁_map, ∥∥₁_elim, ∥∥₁_prop}
 use mathlib.Core.Bool.{Bool-set}
 use Rattle.sqlite_trees.specs.Props.{AllByRecursion-prop}
-use Rattle.std.specs.List.{AllByRecursion, list_all}
+use Rattle.std.specs.List.{AllByRecursion}
 use Rattle.std.specs.List.Sorted.{IsPermutation}
-use Rattle.std.proofs.lemmas.List.Sorted.{IsPermutation-map, IsPermutation-sym, length_permutation}
+use Rattle.std.proofs.lemmas.List.Sorted.{length_permutation}
 use Rattle.sqlite_value.specs.declared.keys.Collation.TheVariants.{Binary}
 use Rattle.sqlite_value.specs.declared.value.Value.{Value}
 use Rattle.sqlite_value.specs.declared.value.Value.TheVariants.{Null, Int}
 use Rattle.sqlite_value.specs.Keys.{first_key}
-use Rattle.sqlite_value.specs.Order.{Row, column, value_cmp}
+use Rattle.sqlite_value.specs.Order.{Row, column}
 use Rattle.sqlite_value.proofs.OrderLemmas.{value_cmp-Int}
 use Rattle.sqlite_trees.specs.Tree.{Trees, rowid, put_row, has_rowid}
 use Rattle.sqlite_sql.specs.declared.ops.BinaryOp.TheVariants.{Compare}
 use Rattle.sqlite_sql.specs.declared.ops.CompareOp.TheVariants.{Eq}
 use Rattle.sqlite_sql.specs.Ops.{binary, is_true}
-use Rattle.sqlite_sql.specs.Query.{Query, IsAnswer, output}
+use Rattle.sqlite_sql.specs.Query.{IsAnswer}
 use Rattle.sqlite_sql.specs.Program.{overlay}
 use Rattle.sqlite_schema.specs.declared.schema.Keys.TheVariants.{Enforced}
 use Rattle.sqlite_schema.specs.declared.schema.Schema.{Schema}
@@ -29,10 +29,10 @@ use Rattle.sqlite_rules.specs.Cast.{cast_row}
 use Rattle.sqlite_rules.specs.Calls.{ids_of}
 use Rattle.sqlite_rules.specs.Keys.{AreConflicts, conflicts}
 use Rattle.sqlite_rules.specs.Lists.{Has}
-use Rattle.sqlite_rules.specs.Edit.{taken_by, Edit, edit_of, edited, left_by, are_fresh, id_in, next_rowid, numbered, with_rowid, without_all, Applies}
+use Rattle.sqlite_rules.specs.Edit.{taken_by, edit_of, are_fresh, next_rowid, numbered, with_rowid, without_all}
 use Rattle.sqlite_rules.specs.Action.{Writes as sqlWrites}
 use Rattle.std.proofs.lemmas.Int.{ints}
-use Rattle.sqlite_rules.proofs.ListLemmas.{has_filtered, has_kept}
+use Rattle.sqlite_rules.proofs.ListLemmas.{has_kept}
 use Rattle.sqlite_keyed.proofs.ListLemmas.{filter-map, IsPermutation-filter}
 use Rattle.sqlite_typed.proofs.TestLemmas.{at_ints, then_term, last_term}
 use Rattle.sqlite.specs.declared.run.Mode.{Mode}
@@ -44,7 +44,7 @@ use Rattle.sqlite.specs.State.{State, mode_of, Executes}
 use Rattle.sqlite.proofs.Callers.{statement_of, runs_as, one_step, one_permutation}
 use Rattle.s10_rows.specs.declared.serial_row.SerialRow.{SerialRow}
 use Rattle.s10_schema.specs.Schema.{with_others, others_in, are_apart, index_apart, serials_table}
-use Rattle.s10_rows.specs.Tables.{Tables, HaveSameRows}
+use Rattle.s10_rows.specs.Tables.{Tables}
 use Rattle.s10_rows.specs.Kept.{is_at, with_serial}
 use Rattle.s10_ledger.specs.Shown.{HasTables, shown_serial, serial_columns, IsNumbered}
 use Rattle.s10_ledger.specs.Statements.{issue_text}

@@ -1,5 +1,5 @@
 -- What the INSERT of a call makes of the tables.
-use Rattle.std.proofs.Common.{◌≡◌, ◌≢◌, arith, ℕ, ℤ, pos, List, [], ◌∷◌, ◌++◌, map, true, Some, None, Ok, refl, sym, ap, subst, ◌∙◌}
+use Rattle.std.proofs.Common.{◌≡◌, ◌≢◌, arith, ℕ, List, [], ◌∷◌, ◌++◌, map, true, None, Ok, refl, sym, ap, subst, ◌∙◌}
 use Rattle.std.proofs.Math.Logic.{∥∥₁_map}
 use Rattle.std.specs.List.Sorted.{IsPermutation}
 use Rattle.std.proofs.lemmas.List.Sorted.{IsPermutation-map, IsPermutation-trans, IsPermutation-cons, IsPermutation-to_front}
@@ -9,7 +9,7 @@ use Rattle.sqlite_trees.specs.Tree.{Trees, put_row}
 use Rattle.sqlite_schema.specs.declared.command.Source.TheVariants.{Values}
 use Rattle.sqlite_schema.specs.declared.command.Command.TheVariants.{Insert}
 use Rattle.sqlite_rules.specs.declared.error.Rowids.TheVariants.{Chosen}
-use Rattle.sqlite_rules.specs.Edit.{Edit, edit_of, edited, are_fresh}
+use Rattle.sqlite_rules.specs.Edit.{edit_of, edited, are_fresh}
 use Rattle.sqlite.specs.Effect.{Database}
 use Rattle.sqlite.specs.Does.{Tally, Does}
 use Rattle.sqlite.specs.Rows.{Written}
@@ -18,7 +18,7 @@ use Rattle.sqlite.specs.State.{State, mode_of, Executes}
 use Rattle.sqlite.proofs.Callers.{statement_of, runs_as, one_step}
 use Rattle.s10_rows.specs.CallRow.{StoredCall}
 use Rattle.s10_schema.specs.Schema.{with_others, others_in, calls_table}
-use Rattle.s10_rows.specs.Tables.{Tables, HaveSameRows}
+use Rattle.s10_rows.specs.Tables.{Tables}
 use Rattle.s10_ledger.specs.Shown.{HasTables, shown_call, call_columns}
 use Rattle.s10_ledger.specs.Statements.{keep_text}
 use Rattle.s10_ledger.proofs.WriteTexts.{keep_terms, keep_is, keep_plain}

@@ -1,10 +1,9 @@
 -- The rows after a call is kept are those of the longer history.
-use Rattle.std.proofs.Common.{◌≡◌, ◌⊎◌, inl, inr, ℕ, suc, ◌+◌, ◌≤◌, ℤ, pos, Bool, true, false, ◌&&◌, cond, List, [], ◌∷◌, ◌++◌, map, length, filter, All, Option, Some, None, refl, sym, ap, ap₂, subst, ◌∙◌, arith, int_eq, int_le}
+use Rattle.std.proofs.Common.{◌≡◌, ◌⊎◌, inl, inr, ℕ, suc, ◌+◌, ◌≤◌, ℤ, pos, Bool, true, false, ◌&&◌, cond, List, [], ◌∷◌, ◌++◌, map, length, filter, All, Option, Some, None, refl, sym, ap, subst, ◌∙◌, arith, int_eq, int_le}
 use Rattle.std.specs.Prelude.{IfSome, option_to_list}
 use Rattle.std.proofs.Math.Logic.{∥∥₁_map, ∥∥₁_elim, ∥∥₁_prop}
 use Rattle.std.proofs.lemmas.Int.{ints}
 use Rattle.std.proofs.lemmas.List.Elements.{All-contains}
-use Rattle.std.specs.List.Sorted.{IsPermutation}
 use Rattle.std.proofs.lemmas.List.Sorted.{IsPermutation-map, IsPermutation-trans, IsPermutation-sym}
 use Rattle.sqlite_rules.specs.Lists.{Has}
 use Rattle.sqlite_rules.proofs.ListLemmas.{contains_had}
@@ -17,10 +16,10 @@ use Rattle.s10_rows.specs.declared.range_row.RangeRow.{RangeRow}
 use Rattle.s10_rows.specs.declared.serial_row.SerialRow.{SerialRow}
 use Rattle.s10_rows.specs.CallRow.{StoredCall}
 use Rattle.s10_rows.specs.Replies.{reply_bytes}
-use Rattle.s10_rows.specs.Tables.{Tables, HaveSameRows, tables_of, pair_of, call_row, call_rows_from, call_rows, range_rows, serial_row, serial_rows}
+use Rattle.s10_rows.specs.Tables.{HaveSameRows, tables_of, pair_of, call_row, call_rows_from, call_rows, range_rows, serial_row, serial_rows}
 use Rattle.s10_rows.specs.Kept.{is_at, with_range, with_serial, Makes}
-use Rattle.s10_rows.specs.Selected.{IsCall, IsIssuance, is_within}
-use Rattle.s10_ledger.specs.Shown.{HasTables, StandsFor, shown_call, shown_range, shown_serial}
+use Rattle.s10_rows.specs.Selected.{IsCall, IsIssuance}
+use Rattle.s10_ledger.specs.Shown.{HasTables, StandsFor, shown_range, shown_serial}
 use Rattle.s10_ledger.proofs.GoneLemmas.{same_int}
 use Rattle.s10_rows.proofs.LastIssues.{last_of, All-last_issues}
 use Rattle.s10_rows.proofs.SerialRows.{issues_of_fit, row_of_is, filter_image}

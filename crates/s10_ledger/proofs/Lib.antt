@@ -23,3 +23,4 @@ pub mod KeyLemmas
 pub mod Apart
 pub mod WholeLemmas
 pub mod RefusalLemmas
+pub mod CrashLemmas

@@ -1,17 +1,16 @@
 -- What a read of one table shows.
-use Rattle.std.proofs.Common.{◌≡◌, IsTrue, List, [], ◌∷◌, ◌++◌, map, filter, flat_map, Bool, true, false, cond, refl, sym, ap, subst, ◌∙◌, Ordering, Less}
+use Rattle.std.proofs.Common.{◌≡◌, List, [], ◌∷◌, ◌++◌, map, filter, flat_map, Bool, true, false, cond, refl, sym, ap, subst, ◌∙◌, Less}
 use Rattle.std.specs.List.{list_all}
 use Rattle.std.specs.List.Sorted.{IsPermutation}
 use Rattle.std.specs.Prelude.{IsSorted}
 use Rattle.std.proofs.lemmas.List.Sorted.{IsPermutation-map, IsPermutation-trans}
 use Rattle.sqlite_value.specs.Order.{Row}
-use Rattle.sqlite_trees.specs.Tree.{Trees, IsAscending}
-use Rattle.sqlite_sql.specs.Term.{Term, Env, holds, eval_all}
-use Rattle.sqlite_sql.specs.Query.{Query, IsAnswer, Output, output, output_cmp, page}
+use Rattle.sqlite_trees.specs.Tree.{IsAscending}
+use Rattle.sqlite_sql.specs.Term.{Env, holds}
+use Rattle.sqlite_sql.specs.Query.{Query, Output, output, output_cmp}
 use Rattle.sqlite_sql.proofs.QueryLemmas.{output_cmp_total}
 use Rattle.sqlite_keyed.proofs.SortLemmas.{sorted_unique}
 use Rattle.sqlite_keyed.proofs.ListLemmas.{map-map, filter-map, ascending-map, IsPermutation-filter}
-use Rattle.s10_ledger.proofs.Texts.{read_of}
 
 picked : {A B : Type 0} (p : A → Bool) (f : A → B) (xs : List A) → flat_map (λ x. cond (p x) (f x ∷ []) []) xs ≡ map f (filter p xs)
 picked p f [] = refl

@@ -23,6 +23,7 @@ use Rattle.s10_rows.specs.RightRows.{AreRight, kept_of, entry_of}
 use Rattle.s10_rows.specs.Verdict.{IsHead, AreMade, IsWhole, IsRefusal}
 use Rattle.s10_rows.specs.Selected.{IsCall}
 use Rattle.s10_ledger.specs.Shown.{StandsFor}
+use Rattle.s10_ledger.specs.Settled.{IsSettled}
 use Rattle.s10_ledger.specs.Statements.{Leaves}
 use Rattle.s10_ledger.specs.Ledger.{Ledger, IsLedger, Holds, IsHonest, history_in}
 use Rattle.s10_ledger.proofs.BookLemmas.{same_tables, still_kept}
@@ -63,13 +64,13 @@ module _ (db : Database) (t : Terms) (len day : ℕ) (calls : List StoredCall) (
   told_day = ∥∥₁_elim it.held (Coded-set coded_ℕ _ _) (λ h. h.day_is ∙ ap day_of kept)
 
 -- and so it is of the tables that a read leaves
-pub told_after : {R : Type 0} (old new : Held MemStore) (t : Terms) (len day : ℕ) (calls : List StoredCall) → Leaves over_memory old new → IsLedger (state over_memory old).now t len day
+pub told_after : {R : Type 0} (old new : Held MemStore) (t : Terms) (len day : ℕ) (calls : List StoredCall) → Leaves over_memory old new → IsSettled over_memory old → IsLedger (state over_memory old).now t len day
     → history_in (state over_memory old).now ≡ kept_of calls → (made : List Entry → List R) (rows : List R) (b : Bool)
     → ((h : List Entry) (u : Terms) → All IsCall h → StandsFor (state over_memory new).now h u → IsTrue b ↔ HaveSameRows (made h) rows) → IsTrue b ↔ HaveSameRows (made (kept_of calls)) rows
-told_after old new t len day calls left it kept made rows b each =
+told_after old new t len day calls left settled it kept made rows b each =
     let clean = memory_is_clean new in
-    let same : (state over_memory new).now ≡ (state over_memory old).now = same_tables over_memory old new t len day left (λ _ _. it) clean refl in
-    told (state over_memory new).now t len day calls (still_kept over_memory old new t len day left (λ _ _. it) clean refl) (ap history_in same ∙ kept) made rows b each
+    let same : (state over_memory new).now ≡ (state over_memory old).now = same_tables over_memory old new t len day left settled (λ _ _. it) clean refl in
+    told (state over_memory new).now t len day calls (still_kept over_memory old new t len day left settled (λ _ _. it) clean refl) (ap history_in same ∙ kept) made rows b each
 
 -- with the rows that a ledger of the same calls has, the tables are whole
 pub whole : (tables : Tables) (t : Terms) (found : Opened) (db : Database) → IsHead tables.heads (pos 1) t → found.settings ≡ t → AreRight t tables.calls

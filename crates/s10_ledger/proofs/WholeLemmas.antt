@@ -1,5 +1,5 @@
 -- Rows that are whole stand for the history that they keep.
-use Rattle.std.proofs.Common.{◌≡◌, ℕ, zero, suc, ◌+◌, ◌<◌, ◌≤◌, List, [], ◌∷◌, ◌++◌, length, map, get_or, take, Some, refl, sym, ap, subst, ◌∙◌, inr, arith}
+use Rattle.std.proofs.Common.{◌≡◌, ℕ, zero, suc, ◌+◌, ◌<◌, ◌≤◌, List, [], ◌∷◌, ◌++◌, length, map, get_or, take, Some, Result, Ok, Err, IfOk, refl, sym, ap, subst, ◌∙◌, inr, arith}
 use Rattle.std.specs.Prelude.{slice_get, All}
 use Rattle.std.proofs.Math.Logic.{∥∥₁_elim, ∥∥₁_map, ∥∥₁_prop}
 use Rattle.std.proofs.lemmas.List.{take_more, take_all, map-append, length-map}
@@ -76,7 +76,7 @@ pub shown_again : {X : Type 0} (shown : X → Row) (xs ys : List X) (vs : List R
 shown_again shown xs ys vs same has = ∥∥₁_elim same ∥∥₁_prop (λ p. ∥∥₁_map has (λ q. IsPermutation-trans _ _ _ (IsPermutation-map shown xs ys p) q))
 
 module _ (db : Database) (tables : Tables) (found : Opened) (has : HasTables db tables) (whole : IsWhole tables found) where
-  abbrev kept : List Entry
+  abbrev pub kept : List Entry
   kept = kept_of tables.calls
 
   stands : StandsFor db kept found.settings
@@ -95,7 +95,7 @@ module _ (db : Database) (tables : Tables) (found : Opened) (has : HasTables db 
   legal : IsLegal kept found.settings
   legal = right_legal found.settings tables.calls whole.right
 
-  history : history_in db ≡ kept
+  pub history : history_in db ≡ kept
   history = history_is db kept found.settings are_calls stands
 
   -- a database whose rows are whole is a ledger
@@ -130,3 +130,8 @@ pub these_tables : (heads : List HeadRow) (calls : List StoredCall) (ranges : Li
     → heads ≡ tables.heads → calls ≡ tables.calls → ranges ≡ tables.ranges → serials ≡ tables.serials
     → tables ≡ record { heads = heads; calls = calls; ranges = ranges; serials = serials }
 these_tables heads calls ranges serials tables a b c d = λ i. record { heads = sym a i; calls = sym b i; ranges = sym c i; serials = sym d i }
+
+-- what was found twice of an answer
+pub both_found : {T E : Type 0} (r : Result T E) (P Q : T → Type 0) → IfOk r P → IfOk r Q → IfOk r (λ x. P x × Q x)
+both_found (Ok x) P Q p q = (p, q)
+both_found (Err e) P Q p q = tt

@@ -4,6 +4,7 @@ use Rattle.std.specs.Coded.{Coded, code_by, coded×, coded_ℕ}
 use Rattle.sqlite_value.specs.declared.value.Value.{Value}
 use Rattle.sqlite_value.specs.declared.value.Value.TheVariants.{Null, Int, Real, Text, Blob}
 use Rattle.sqlite_value.specs.Order.{Row, column}
+use Rattle.sqlite_trees.specs.Tree.{Trees}
 use Rattle.sqlite_trees.specs.declared.store.Store.{Ghosts}
 use Rattle.sqlite.specs.Effect.{Database}
 use Rattle.sqlite.specs.State.{HasCleanDisk}
@@ -12,6 +13,8 @@ use Rattle.s10_book.specs.declared.entry.Entry.{Entry}
 use Rattle.s10_book.specs.Settings.{Terms}
 use Rattle.s10_book.specs.History.{day_of}
 use Rattle.s10_book.specs.Rules.{IsLegal}
+use Rattle.s10_ranges.specs.declared.ranges.Ranges.{Ranges}
+use Rattle.s10_ranges.specs.Mirror.{Mirrors}
 use Rattle.s10_rows.specs.CallRow.{StoredCall}
 use Rattle.s10_rows.specs.RightRows.{entry_of}
 use Rattle.s10_rows.specs.Selected.{IsCall, arrives_between}
@@ -43,6 +46,10 @@ in_turn (suc n) arrival calls = map entry_of (filter (arrives_between (pos arriv
 -- the calls that the rows keep, in order of arrival
 unfoldable pub history_in : Database → List Entry
 history_in db = let calls = map call_from (map call_columns (db.trees 1)) in in_turn (length calls) 1 calls
+
+-- the ranges held in the process are those of the history, each with its pick as the mark
+abbrev pub IsMirrored : {S : Type 0} → Ghosts S → Held S → Ranges → Type 0
+IsMirrored g conn ranges = HasCleanDisk (state g conn) → IsTrue (state g conn).is_open → Mirrors ranges (history_in (state g conn).now)
 
 -- what a ledger holds: its connection, its settings, how many calls are kept, the day of the last one, and the faults so far
 pub record Ledger (S : Type 0) : Type 0 where
@@ -77,3 +84,12 @@ pub record IsHonest {S : Type 0} (g : Ghosts S) (l : Ledger S) : Type 0 where
   pub clean : HasCleanDisk (state g l.conn)
   pub is_open : IsTrue (state g l.conn).is_open
   pub ledger : IsLedger (state g l.conn).now l.terms l.len l.day
+
+-- the calls that a ledger keeps
+abbrev pub history_of : {S : Type 0} → Ghosts S → Ledger S → List Entry
+history_of g l = history_in (state g l.conn).now
+
+-- these trees hold the ledger with a call behind its others
+pub record IsLonger {S : Type 0} (g : Ghosts S) (l : Ledger S) (e : Entry) (db : Trees) : Type 0 where
+  pub history : history_in (record (state g l.conn).now { trees = db }) ≡ history_of g l ++ e ∷ []
+  pub ledger : IsLedger (record (state g l.conn).now { trees = db }) l.terms (l.len + 1) e.day

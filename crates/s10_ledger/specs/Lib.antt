@@ -1,4 +1,5 @@
 pub mod Shown
+pub mod Settled
 pub mod Statements
 pub mod Ledger
 pub mod Refusals

@@ -1,5 +1,5 @@
 -- What a ledger that is made or opened is refused for.
-use Rattle.std.specs.Prelude.{◌≡◌, ◌≢◌, ◌⊎◌, ℤ, pos, List, [], ◌∷◌, codes, Some, IsSome, ⊤}
+use Rattle.std.specs.Prelude.{◌≢◌, ◌⊎◌, codes, IsSome, ⊤}
 use Rattle.std.specs.Ordering.{int_cmp}
 use Rattle.std.specs.declared.cmp.Ordering.TheVariants as Ordering
 use Rattle.sqlite_trees.specs.Tree.{IsAscending}
@@ -8,7 +8,6 @@ use Rattle.sqlite_schema.specs.Names.{table_named}
 use Rattle.sqlite.specs.Effect.{Database}
 use Rattle.s10_rows.specs.declared.open_fault.OpenFault.{OpenFault}
 use Rattle.s10_rows.specs.declared.open_fault.OpenFault.TheVariants.{NotALedger, Schema as OtherSchema, Damaged, NotEmpty, Memory, Store}
-use Rattle.s10_rows.specs.CallRow.{StoredCall}
 use Rattle.s10_rows.specs.Tables.{Tables}
 use Rattle.s10_rows.specs.Verdict.{IsRefusal}
 use Rattle.s10_schema.specs.Schema.{IsLedgerSchema}

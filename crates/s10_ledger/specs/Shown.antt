@@ -1,5 +1,5 @@
 -- The rows of the four tables as SQL shows them, and the tables that a database holds.
-use Rattle.std.specs.Prelude.{◌≡◌, IsTrue, List, [], ◌∷◌, map}
+use Rattle.std.specs.Prelude.{IsTrue, List, [], ◌∷◌, map}
 use Rattle.std.specs.List.{AllByRecursion}
 use Rattle.sqlite_value.specs.declared.value.Value.TheVariants.{Int, Blob}
 use Rattle.sqlite_value.specs.Order.{Row, column}

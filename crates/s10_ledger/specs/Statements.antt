@@ -1,10 +1,11 @@
 -- The texts of the statements, and what a read leaves.
-use Rattle.std.specs.Prelude.{◌≡◌, ◌≤◌, ℕ, false, List, codes, IsTrue}
+use Rattle.std.specs.Prelude.{◌≡◌, ◌≤◌, ℕ, List, codes, IsTrue}
 use Rattle.sqlite_trees.specs.View.{doubt}
 use Rattle.sqlite_trees.specs.declared.store.Store.{Ghosts}
 use Rattle.sqlite.specs.State.{HasCleanDisk}
 use Rattle.sqlite.specs.Held.{Held, state}
 use Rattle.s10_schema.specs.Schema.{IsLedgerSchema}
+use Rattle.s10_ledger.specs.Settled.{IsSettled}
 
 abbrev pub head_text : List ℕ
 head_text = codes "SELECT one, schema, interval, cap FROM head ORDER BY one"
@@ -51,12 +52,10 @@ mark_text = codes "INSERT OR REPLACE INTO ranges (num, holder, pair, low, high, 
 abbrev pub issue_text : List ℕ
 issue_text = codes "INSERT INTO serials (pair, serial, arrival, day, customer, number, voided) VALUES (?1, ?2, ?3, ?4, ?5, ?6, ?7) ON CONFLICT (pair, serial) DO UPDATE SET arrival = ?3, day = ?4, customer = ?5, number = ?6, voided = ?7"
 
--- A read leaves the tables as they were. What is said of them holds where the store is clean and the connection open as the
--- read ends; the disk does not come clean again.
+-- A read leaves the tables as they were, and a connection that has nothing to commit. What is said of them holds where the store
+-- is clean and the connection open as the read ends; the disk does not come clean again.
 pub record Leaves {S : Type 0} (g : Ghosts S) (old new : Held S) : Type 0 where
   pub clean : doubt (state g old).is_clean ≤ doubt (state g new).is_clean
   pub was_open : HasCleanDisk (state g new) → IsTrue (state g new).is_open → IsTrue (state g old).is_open
-  pub now : HasCleanDisk (state g new) → IsTrue (state g new).is_open → IsLedgerSchema (state g old).now.schema → (state g new).now ≡ (state g old).now
-  pub committed : HasCleanDisk (state g new) → IsTrue (state g new).is_open → IsLedgerSchema (state g old).now.schema
-      → (state g new).committed ≡ (state g old).committed
-  pub mode : old.in_transaction ≡ false → new.in_transaction ≡ false
+  pub now : HasCleanDisk (state g new) → IsTrue (state g new).is_open → IsSettled g old → IsLedgerSchema (state g old).now.schema → (state g new).now ≡ (state g old).now
+  pub settled : IsSettled g old → IsSettled g new

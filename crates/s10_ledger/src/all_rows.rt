@@ -1,9 +1,10 @@
 //! All rows of the four tables are read.
 
-ghost use Rattle.std.specs.Prelude.{◌≡◌, IfOk, IsTrue};
+ghost use Rattle.std.specs.Prelude.{◌≡◌, IfOk, OnOk, IsTrue};
 ghost use Rattle.sqlite.specs.Held.{state};
 ghost use Rattle.sqlite.specs.State.{HasCleanDisk};
 ghost use Rattle.s10_schema.specs.Schema.{IsLedgerSchema};
+ghost use Rattle.s10_ledger.specs.Settled.{IsSettled};
 ghost use Rattle.s10_ledger.specs.Statements.{Leaves};
 ghost use Rattle.s10_ledger.specs.Refusals.{HasRows};
 
@@ -33,7 +34,8 @@ impl Model for AllRows {
 impl AllRows {
     pub(crate) fn read<S: Alter>(alloc: Global, conn: &mut Connection<S>) -> Result<AllRows, Error>
         ensures leaves { Leaves S.Store conn.old conn.new }
-        ensures rows { HasCleanDisk (state S.Store conn.new) → IsTrue (state S.Store conn.new).is_open → IsLedgerSchema (state S.Store conn.old).now.schema
+        ensures opened { HasCleanDisk (state S.Store conn.new) → OnOk result (IsTrue (state S.Store conn.new).is_open) }
+        ensures rows { HasCleanDisk (state S.Store conn.new) → IsTrue (state S.Store conn.new).is_open → IsSettled S.Store conn.old → IsLedgerSchema (state S.Store conn.old).now.schema
             → IfOk result (HasRows (state S.Store conn.old).now) }
     {
         let heads = all_heads(alloc, conn)?;

@@ -1,6 +1,7 @@
 //! A call is kept.
 
-ghost use Rattle.std.specs.Prelude.{◌≡◌, ◌≢◌, ℕ, ◌≤◌, ◌<◌, ◌+◌, ◌^◌, ◌++◌, ◌∷◌, [], List, length, filter, All, Err, IfOk, IfSome, IsTrue, OnOk, OnErr};
+ghost use Rattle.std.specs.Prelude.{◌≡◌, ◌≢◌, ◌⊎◌, ℕ, ◌≤◌, ◌<◌, ◌+◌, ◌^◌, ◌++◌, ◌∷◌, [], List, length, filter, All, Err, IfOk, IfSome, IsOk, IsTrue, OnOk, OnErr};
+ghost use Rattle.sqlite_trees.specs.Tree.{Trees};
 ghost use Rattle.sqlite_trees.specs.View.{doubt};
 ghost use Rattle.sqlite.specs.Held.{state};
 ghost use Rattle.sqlite.specs.State.{HasCleanDisk};
@@ -11,39 +12,36 @@ ghost use Rattle.s10_book.specs.Settings.{Terms};
 ghost use Rattle.s10_book.specs.Rules.{IsLegal, MayFollow};
 ghost use Rattle.s10_schema.specs.Schema.{IsLedgerSchema};
 ghost use Rattle.s10_ledger.specs.Shown.{StandsFor};
+ghost use Rattle.s10_ranges.specs.Mirror.{Mirrors};
 ghost use Rattle.s10_rows.specs.Selected.{IsCall};
 ghost use Rattle.s10_rows.specs.Tables.{serial_rows};
 ghost use Rattle.s10_rows.specs.Kept.{Makes, is_at};
+ghost use Rattle.s10_ledger.specs.Settled.{IsSettled, Spares};
 ghost use Rattle.s10_ledger.specs.Statements.{Leaves};
 
 use crate::faults::fault_of;
-use crate::reads::{all_ranges, serials_within};
+use crate::reads::serials_within;
 use crate::writes::keep_rows;
 use s10_book::{BookFault, Entry};
 use s10_core::Id;
+use s10_ranges::Ranges;
 use s10_rows::{Made, drawn_rows, granted_row, pair_number, voided_row};
 use s10_wire::{Body, Outcome, Reply, encode_reply};
 use sqlite::{Alter, Connection};
 use std::alloc::Global;
 
-// What a Done Draw makes, by the rows of all ranges.
-fn drawn_made<S: Alter>(
-    alloc: Global,
-    conn: &mut Connection<S>,
-    arrival: u32,
-    entry: &Entry,
-    id: &Id,
-) -> Result<Made, BookFault>
-    ensures leaves { Leaves S.Store conn.old conn.new }
+// What a Done Draw makes, by the range of its identifier. A fault of the store where no range has it.
+fn drawn_made(ranges: &Ranges, arrival: u32, entry: &Entry, id: &Id) -> Result<Made, BookFault>
     ensures fault { result ≢ Err Full }
-    ensures answer { HasCleanDisk (state S.Store conn.new) → (h : List Entry) (t : Terms) (day : ℕ) → IsLegal h t → MayFollow h t entry.now → All IsCall h → IsCall entry.now → StandsFor (state S.Store conn.old).now h t
+    ensures done { (h : List Entry) (t : Terms) (day : ℕ) → IsLegal h t → MayFollow h t entry.now → Mirrors ranges.now h → entry.now.outcome ≡ Drawn day id.now → IsOk result }
+    ensures answer { (h : List Entry) (t : Terms) (day : ℕ) → IsLegal h t → MayFollow h t entry.now → All IsCall h → IsCall entry.now → Mirrors ranges.now h
         → entry.now.outcome ≡ Drawn day id.now → arrival ≡ length h + 1 → IfOk result (λ made. Makes h entry.now made.range made.serial) }
 {
-    let ranges = match all_ranges(alloc, conn) {
-        Ok(ranges) => ranges,
-        Err(error) => return Err(fault_of(error)),
+    let found = ranges.over(id.service, id.country, id.serial, id.serial);
+    let Some(range) = found else {
+        return Err(BookFault::Store);
     };
-    drawn_rows(&ranges, arrival, entry, id)
+    Ok(drawn_rows(&range, arrival, entry, id))
 }
 
 // What a Done Void makes, by the row of its identifier.
@@ -52,6 +50,7 @@ fn voided_made<S: Alter>(
     conn: &mut Connection<S>,
     entry: &Entry,
 ) -> Result<Made, BookFault>
+    ensures spares { Spares S.Store conn.old conn.new }
     ensures leaves { Leaves S.Store conn.old conn.new }
     ensures fault { result ≢ Err Full }
     ensures answer { HasCleanDisk (state S.Store conn.new) → (h : List Entry) (t : Terms) → IsLegal h t → MayFollow h t entry.now → All IsCall h → IsCall entry.now → StandsFor (state S.Store conn.old).now h t
@@ -74,17 +73,19 @@ fn voided_made<S: Alter>(
 fn rows_made<S: Alter>(
     alloc: Global,
     conn: &mut Connection<S>,
+    ranges: &Ranges,
     arrival: u32,
     entry: &Entry,
 ) -> Result<Made, BookFault>
+    ensures spares { Spares S.Store conn.old conn.new }
     ensures leaves { Leaves S.Store conn.old conn.new }
     ensures fault { result ≢ Err Full }
     ensures answer { HasCleanDisk (state S.Store conn.new) → (h : List Entry) (t : Terms) → IsLegal h t → MayFollow h t entry.now → All IsCall h → IsCall entry.now → StandsFor (state S.Store conn.old).now h t
-        → arrival ≡ length h + 1 → IfOk result (λ made. Makes h entry.now made.range made.serial) }
+        → Mirrors ranges.now h → arrival ≡ length h + 1 → IfOk result (λ made. Makes h entry.now made.range made.serial) }
 {
     match entry.outcome {
         Outcome::Granted { .. } => Ok(granted_row(entry)),
-        Outcome::Drawn { id, .. } => drawn_made(alloc, conn, arrival, entry, &id),
+        Outcome::Drawn { id, .. } => drawn_made(ranges, arrival, entry, &id),
         Outcome::Voided => voided_made(alloc, conn, entry),
         _ => Ok(Made {
             range: None,
@@ -97,23 +98,30 @@ fn rows_made<S: Alter>(
 pub(crate) fn keep_call<S: Alter>(
     alloc: Global,
     conn: &mut Connection<S>,
+    ranges: &Ranges,
     arrival: u32,
     entry: &Entry,
 ) -> Result<(), BookFault>
+    requires settled { IsSettled S.Store conn.old }
+    ensures settled { IsSettled S.Store conn.new }
+    ensures opened { HasCleanDisk (state S.Store conn.new) → OnOk result (IsTrue (state S.Store conn.new).is_open) }
     ensures fault { result ≢ Err Full }
     ensures clean { doubt (state S.Store conn.old).is_clean ≤ doubt (state S.Store conn.new).is_clean }
     ensures was_open { HasCleanDisk (state S.Store conn.new) → IsTrue (state S.Store conn.new).is_open → IsTrue (state S.Store conn.old).is_open }
     ensures ok { HasCleanDisk (state S.Store conn.new) → IsTrue (state S.Store conn.new).is_open → (h : List Entry) (t : Terms) → IsLegal h t → MayFollow h t entry.now → All IsCall h → StandsFor (state S.Store conn.old).now h t
-        → arrival ≡ length h + 1 → OnOk result (IsCall entry.now × StandsFor (state S.Store conn.new).now (h ++ entry.now ∷ []) t) }
+        → Mirrors ranges.now h → arrival ≡ length h + 1 → OnOk result (IsCall entry.now × StandsFor (state S.Store conn.new).now (h ++ entry.now ∷ []) t) }
     ensures err { HasCleanDisk (state S.Store conn.new) → IsTrue (state S.Store conn.new).is_open → IsLedgerSchema (state S.Store conn.old).now.schema
         → OnErr result ((state S.Store conn.new).now ≡ (state S.Store conn.old).now) }
+    ensures crash { HasCleanDisk (state S.Store conn.new) → IsLedgerSchema (state S.Store conn.old).now.schema → (db : Trees) → (state S.Store conn.new).may_leave db
+        → (state S.Store conn.old).may_leave db ⊎ ((h : List Entry) (t : Terms) → IsLegal h t → MayFollow h t entry.now → All IsCall h → StandsFor (state S.Store conn.old).now h t
+        → Mirrors ranges.now h → arrival ≡ length h + 1 → IsCall entry.now × StandsFor (record (state S.Store conn.old).now { trees = db }) (h ++ entry.now ∷ []) t) }
 {
     let _day = entry.day;
     let Some(reply) = Reply::new(entry.request, entry.outcome) else {
         return Err(BookFault::Store);
     };
     let frame = encode_reply(&reply);
-    let made = rows_made(alloc, conn, arrival, entry)?;
+    let made = rows_made(alloc, conn, ranges, arrival, entry)?;
     match keep_rows(
         conn,
         arrival,
@@ -131,12 +139,16 @@ pub(crate) fn keep_call<S: Alter>(
 pub(crate) fn keep_next<S: Alter>(
     alloc: Global,
     conn: &mut Connection<S>,
+    ranges: &Ranges,
     len: &mut u32,
     day: &mut u32,
     limit: u32,
     entry: &Entry,
 ) -> Result<(), BookFault>
-    requires { limit ≤ 1000000000 }
+    requires limit { limit ≤ 1000000000 }
+    requires settled { IsSettled S.Store conn.old }
+    ensures settled { IsSettled S.Store conn.new }
+    ensures opened { HasCleanDisk (state S.Store conn.new) → OnOk result (IsTrue (state S.Store conn.new).is_open) }
     ensures fault { result ≢ Err Full }
     ensures clean { doubt (state S.Store conn.old).is_clean ≤ doubt (state S.Store conn.new).is_clean }
     ensures was_open { HasCleanDisk (state S.Store conn.new) → IsTrue (state S.Store conn.new).is_open → IsTrue (state S.Store conn.old).is_open }
@@ -144,16 +156,59 @@ pub(crate) fn keep_next<S: Alter>(
     ensures counts { OnOk result ((len.new ≡ len.old + 1) × (day.new ≡ entry.now.day)) }
     ensures same_counts { OnErr result ((len.new ≡ len.old) × (day.new ≡ day.old)) }
     ensures ok { HasCleanDisk (state S.Store conn.new) → IsTrue (state S.Store conn.new).is_open → (h : List Entry) (t : Terms) → IsLegal h t → MayFollow h t entry.now → All IsCall h → StandsFor (state S.Store conn.old).now h t
-        → len.old ≡ length h → OnOk result (IsCall entry.now × StandsFor (state S.Store conn.new).now (h ++ entry.now ∷ []) t) }
+        → Mirrors ranges.now h → len.old ≡ length h → OnOk result (IsCall entry.now × StandsFor (state S.Store conn.new).now (h ++ entry.now ∷ []) t) }
     ensures err { HasCleanDisk (state S.Store conn.new) → IsTrue (state S.Store conn.new).is_open → IsLedgerSchema (state S.Store conn.old).now.schema
         → OnErr result ((state S.Store conn.new).now ≡ (state S.Store conn.old).now) }
+    ensures crash { HasCleanDisk (state S.Store conn.new) → IsLedgerSchema (state S.Store conn.old).now.schema → (db : Trees) → (state S.Store conn.new).may_leave db
+        → (state S.Store conn.old).may_leave db ⊎ ((h : List Entry) (t : Terms) → IsLegal h t → MayFollow h t entry.now → All IsCall h → StandsFor (state S.Store conn.old).now h t
+        → Mirrors ranges.now h → len.old ≡ length h → IsCall entry.now × StandsFor (record (state S.Store conn.old).now { trees = db }) (h ++ entry.now ∷ []) t) }
 {
     if *len >= limit {
         return Err(BookFault::Store);
     }
     let arrival = *len + 1;
-    keep_call(alloc, conn, arrival, entry)?;
+    keep_call(alloc, conn, ranges, arrival, entry)?;
     *len = arrival;
     *day = entry.day;
     Ok(())
+}
+
+/// Keeps the call as `keep_next` does, once there is room for what it makes of the ranges, and adds that to them.
+pub(crate) fn keep_followed<S: Alter>(
+    alloc: Global,
+    conn: &mut Connection<S>,
+    ranges: &mut Ranges,
+    len: &mut u32,
+    day: &mut u32,
+    limit: u32,
+    entry: &Entry,
+) -> Result<(), BookFault>
+    requires limit { limit ≤ 1000000000 }
+    requires settled { IsSettled S.Store conn.old }
+    ensures settled { IsSettled S.Store conn.new }
+    ensures opened { HasCleanDisk (state S.Store conn.new) → OnOk result (IsTrue (state S.Store conn.new).is_open) }
+    ensures fault { result ≢ Err Full }
+    ensures clean { doubt (state S.Store conn.old).is_clean ≤ doubt (state S.Store conn.new).is_clean }
+    ensures was_open { HasCleanDisk (state S.Store conn.new) → IsTrue (state S.Store conn.new).is_open → IsTrue (state S.Store conn.old).is_open }
+    ensures few { len.old ≤ 1000000000 → len.new ≤ 1000000000 }
+    ensures counts { OnOk result ((len.new ≡ len.old + 1) × (day.new ≡ entry.now.day)) }
+    ensures same_counts { OnErr result ((len.new ≡ len.old) × (day.new ≡ day.old)) }
+    ensures ok { HasCleanDisk (state S.Store conn.new) → IsTrue (state S.Store conn.new).is_open → (h : List Entry) (t : Terms) → IsLegal h t → MayFollow h t entry.now → All IsCall h → StandsFor (state S.Store conn.old).now h t
+        → Mirrors ranges.old h → len.old ≡ length h → OnOk result (IsCall entry.now × StandsFor (state S.Store conn.new).now (h ++ entry.now ∷ []) t) }
+    ensures err { HasCleanDisk (state S.Store conn.new) → IsTrue (state S.Store conn.new).is_open → IsLedgerSchema (state S.Store conn.old).now.schema
+        → OnErr result ((state S.Store conn.new).now ≡ (state S.Store conn.old).now) }
+    ensures crash { HasCleanDisk (state S.Store conn.new) → IsLedgerSchema (state S.Store conn.old).now.schema → (db : Trees) → (state S.Store conn.new).may_leave db
+        → (state S.Store conn.old).may_leave db ⊎ ((h : List Entry) (t : Terms) → IsLegal h t → MayFollow h t entry.now → All IsCall h → StandsFor (state S.Store conn.old).now h t
+        → Mirrors ranges.old h → len.old ≡ length h → IsCall entry.now × StandsFor (record (state S.Store conn.old).now { trees = db }) (h ++ entry.now ∷ []) t) }
+    ensures followed { (h : List Entry) (t : Terms) → IsLegal h t → MayFollow h t entry.now → length h < 4294967295 → Mirrors ranges.old h → OnOk result (Mirrors ranges.new (h ++ entry.now ∷ [])) }
+    ensures same_ranges { (h : List Entry) → Mirrors ranges.old h → OnErr result (Mirrors ranges.new h) }
+{
+    if ranges.reserve().is_err() {
+        return Err(BookFault::Memory);
+    }
+    let kept = keep_next(alloc, conn, ranges, len, day, limit, entry);
+    if kept.is_ok() {
+        ranges.follow(entry);
+    }
+    kept
 }

@@ -1,13 +1,13 @@
 //! What a book is asked, by the rows of the tables.
 
-ghost use Rattle.std.specs.Prelude.{◌≡◌, ◌≢◌, ℕ, ◌<◌, ◌^◌, ◌==◌, max, List, length, find, All, Contains, Err, IfOk, IfSome, IsTrue};
+ghost use Rattle.std.specs.Prelude.{◌≡◌, ◌≢◌, ℕ, ◌<◌, ◌^◌, max, List, length, All, Contains, Some, Err, IfOk, IfSome, IsTrue, OnOk};
 ghost use Rattle.sqlite.specs.Held.{state};
 ghost use Rattle.sqlite.specs.State.{HasCleanDisk};
 ghost use Rattle.s10_wire.specs.Kind.{fits};
 ghost use Rattle.s10_book.specs.declared.entry.Entry.{Entry};
 ghost use Rattle.s10_book.specs.declared.book_fault.BookFault.TheVariants.{Full};
 ghost use Rattle.s10_book.specs.Settings.{Terms};
-ghost use Rattle.s10_book.specs.History.{entry_with_key, entry_at, day_of, ranges_of, is_held_above, overlaps};
+ghost use Rattle.s10_book.specs.History.{entry_with_key, entry_at, day_of, ranges_of};
 ghost use Rattle.s10_book.specs.Issues.{issues_of, last_issue_of, candidate_of, pick_of};
 ghost use Rattle.s10_book.specs.Usage.{usage_of};
 ghost use Rattle.s10_book.specs.Rules.{IsLegal};
@@ -18,13 +18,10 @@ ghost use Rattle.s10_rows.specs.Selected.{IsCall};
 ghost use Rattle.s10_ledger.specs.Statements.{Leaves};
 
 use crate::faults::fault_of;
-use crate::reads::{all_ranges, calls_between, calls_with_key, serials_within};
+use crate::reads::{calls_between, calls_with_key, serials_within};
 use s10_book::{BookFault, Candidate, Entry, Issue, Range, Usage};
-use s10_core::{Country, Id, Serial, Service};
-use s10_rows::{
-    mark_of, only_call, only_issue, pair_number, range_after, range_numbered, range_over,
-    usage_among,
-};
+use s10_core::{Id, Serial};
+use s10_rows::{only_call, only_issue, pair_number, usage_among};
 use sqlite::{Alter, Connection};
 use std::alloc::Global;
 
@@ -46,6 +43,7 @@ pub(crate) fn call_with_key<S: Alter>(
     number: u32,
 ) -> Result<Option<Entry>, BookFault>
     ensures leaves { Leaves S.Store conn.old conn.new }
+    ensures opened { HasCleanDisk (state S.Store conn.new) → OnOk result (IsTrue (state S.Store conn.new).is_open) }
     ensures fault { result ≢ Err Full }
     ensures fits { IfOk result (λ o. IfSome o (λ e. IsTrue (fits e.request.body e.outcome))) }
     ensures answer { HasCleanDisk (state S.Store conn.new) → (h : List Entry) (t : Terms) → IsLegal h t → All IsCall h → StandsFor (state S.Store conn.old).now h t
@@ -64,6 +62,7 @@ pub(crate) fn call_at<S: Alter>(
     at: u32,
 ) -> Result<Option<Entry>, BookFault>
     ensures leaves { Leaves S.Store conn.old conn.new }
+    ensures opened { HasCleanDisk (state S.Store conn.new) → OnOk result (IsTrue (state S.Store conn.new).is_open) }
     ensures fault { result ≢ Err Full }
     ensures answer { HasCleanDisk (state S.Store conn.new) → (h : List Entry) (t : Terms) → IsLegal h t → All IsCall h → StandsFor (state S.Store conn.old).now h t
         → IfOk result (λ answer. answer ≡ entry_at h at) }
@@ -75,70 +74,13 @@ pub(crate) fn call_at<S: Alter>(
     only_call(&rows)
 }
 
-pub(crate) fn range_with_number<S: Alter>(
-    alloc: Global,
-    conn: &mut Connection<S>,
-    num: u32,
-) -> Result<Option<Range>, BookFault>
-    ensures leaves { Leaves S.Store conn.old conn.new }
-    ensures fault { result ≢ Err Full }
-    ensures answer { HasCleanDisk (state S.Store conn.new) → (h : List Entry) (t : Terms) → IsLegal h t → All IsCall h → StandsFor (state S.Store conn.old).now h t
-        → length h < 2 ^ 32 → IfOk result (λ answer. answer ≡ find (λ r. r.num == num) (ranges_of h)) }
-{
-    let rows = match all_ranges(alloc, conn) {
-        Ok(rows) => rows,
-        Err(error) => return Err(fault_of(error)),
-    };
-    range_numbered(&rows, num)
-}
-
-pub(crate) fn range_held<S: Alter>(
-    alloc: Global,
-    conn: &mut Connection<S>,
-    customer: u32,
-    service: Service,
-    country: Country,
-    after: u32,
-) -> Result<Option<Range>, BookFault>
-    ensures leaves { Leaves S.Store conn.old conn.new }
-    ensures fault { result ≢ Err Full }
-    ensures above { IfOk result (λ o. IfSome o (λ r. after < r.num)) }
-    ensures answer { HasCleanDisk (state S.Store conn.new) → (h : List Entry) (t : Terms) → IsLegal h t → All IsCall h → StandsFor (state S.Store conn.old).now h t
-        → length h < 2 ^ 32 → IfOk result (λ answer. answer ≡ find (is_held_above after customer service country) (ranges_of h)) }
-{
-    let rows = match all_ranges(alloc, conn) {
-        Ok(rows) => rows,
-        Err(error) => return Err(fault_of(error)),
-    };
-    range_after(&rows, customer, service, country, after)
-}
-
-pub(crate) fn range_covering<S: Alter>(
-    alloc: Global,
-    conn: &mut Connection<S>,
-    service: Service,
-    country: Country,
-    first: Serial,
-    last: Serial,
-) -> Result<Option<Range>, BookFault>
-    ensures leaves { Leaves S.Store conn.old conn.new }
-    ensures fault { result ≢ Err Full }
-    ensures answer { HasCleanDisk (state S.Store conn.new) → (h : List Entry) (t : Terms) → IsLegal h t → All IsCall h → StandsFor (state S.Store conn.old).now h t
-        → length h < 2 ^ 32 → IfOk result (λ answer. answer ≡ find (overlaps service country first last) (ranges_of h)) }
-{
-    let rows = match all_ranges(alloc, conn) {
-        Ok(rows) => rows,
-        Err(error) => return Err(fault_of(error)),
-    };
-    range_over(&rows, service, country, first, last)
-}
-
 pub(crate) fn issue_of<S: Alter>(
     alloc: Global,
     conn: &mut Connection<S>,
     id: &Id,
 ) -> Result<Option<Issue>, BookFault>
     ensures leaves { Leaves S.Store conn.old conn.new }
+    ensures opened { HasCleanDisk (state S.Store conn.new) → OnOk result (IsTrue (state S.Store conn.new).is_open) }
     ensures fault { result ≢ Err Full }
     ensures answer { HasCleanDisk (state S.Store conn.new) → (h : List Entry) (t : Terms) → IsLegal h t → All IsCall h → StandsFor (state S.Store conn.old).now h t
         → IfOk result (λ answer. answer ≡ last_issue_of h id.now) }
@@ -151,34 +93,22 @@ pub(crate) fn issue_of<S: Alter>(
     only_issue(&rows)
 }
 
-pub(crate) fn mark_in<S: Alter>(
-    alloc: Global,
-    conn: &mut Connection<S>,
-    range: &Range,
-) -> Result<Serial, BookFault>
-    ensures leaves { Leaves S.Store conn.old conn.new }
-    ensures fault { result ≢ Err Full }
-    ensures answer { HasCleanDisk (state S.Store conn.new) → (h : List Entry) (t : Terms) → IsLegal h t → All IsCall h → StandsFor (state S.Store conn.old).now h t
-        → length h < 2 ^ 32 → Contains (ranges_of h) range.now → IfOk result (λ answer. answer ≡ pick_of (issues_of h) range.now) }
-{
-    let rows = match all_ranges(alloc, conn) {
-        Ok(rows) => rows,
-        Err(error) => return Err(fault_of(error)),
-    };
-    mark_of(&rows, range)
-}
-
+// The mark of a range with the last issue of its identifier. A fault of the store where there is no mark.
 pub(crate) fn candidate_in<S: Alter>(
     alloc: Global,
     conn: &mut Connection<S>,
     range: &Range,
+    mark: Option<Serial>,
 ) -> Result<Candidate, BookFault>
     ensures leaves { Leaves S.Store conn.old conn.new }
+    ensures opened { HasCleanDisk (state S.Store conn.new) → OnOk result (IsTrue (state S.Store conn.new).is_open) }
     ensures fault { result ≢ Err Full }
-    ensures answer { HasCleanDisk (state S.Store conn.new) → IsTrue (state S.Store conn.new).is_open → (h : List Entry) (t : Terms) → IsLegal h t → All IsCall h → StandsFor (state S.Store conn.old).now h t
-        → length h < 2 ^ 32 → Contains (ranges_of h) range.now → IfOk result (λ answer. answer ≡ candidate_of h range.now) }
+    ensures answer { HasCleanDisk (state S.Store conn.new) → (h : List Entry) (t : Terms) → IsLegal h t → All IsCall h → StandsFor (state S.Store conn.old).now h t
+        → mark ≡ Some (pick_of (issues_of h) range.now) → IfOk result (λ answer. answer ≡ candidate_of h range.now) }
 {
-    let serial = mark_in(alloc, conn, range)?;
+    let Some(serial) = mark else {
+        return Err(BookFault::Store);
+    };
     let id = Id {
         service: range.service,
         serial,
@@ -196,6 +126,7 @@ pub(crate) fn usage_in<S: Alter>(
     interval: u32,
 ) -> Result<Usage, BookFault>
     ensures leaves { Leaves S.Store conn.old conn.new }
+    ensures opened { HasCleanDisk (state S.Store conn.new) → OnOk result (IsTrue (state S.Store conn.new).is_open) }
     ensures fault { result ≢ Err Full }
     ensures answer { HasCleanDisk (state S.Store conn.new) → (h : List Entry) (t : Terms) → IsLegal h t → All IsCall h → StandsFor (state S.Store conn.old).now h t
         → length h < 2 ^ 32 → Contains (ranges_of h) range.now → (asked : ℕ) → day ≡ max (day_of h) asked → IfOk result (λ answer. answer ≡ usage_of h range.now asked interval) }

@@ -1,18 +1,19 @@
 //! The four tables of a new ledger are made.
 
-ghost use Rattle.std.specs.Prelude.{◌≡◌, ◌≤◌, ℕ, ◌++◌, ◌∷◌, [], codes, IsTrue, IsSome, IfSome, None, Ok, OnOk, OnErr};
+ghost use Rattle.std.specs.Prelude.{◌≡◌, ◌≤◌, ℕ, ◌++◌, ◌∷◌, [], codes, false, IsTrue, IsSome, IfSome, None, Ok, OnOk, OnErr};
 ghost use Rattle.sqlite_trees.specs.View.{doubt};
 ghost use Rattle.sqlite.specs.Held.{state};
 ghost use Rattle.sqlite.specs.State.{HasCleanDisk, KeepsCommit, Executes};
 ghost use Rattle.sqlite_schema.specs.Names.{table_named};
-ghost use Rattle.s10_ledger.specs.Refusals.{IsMakingRefusal};
+ghost use Rattle.s10_ledger.specs.Refusals.{HasOneOfTheNames, IsMakingRefusal};
 ghost use Rattle.s10_schema.specs.Schema.{no_schema, ledger_schema};
 ghost use Rattle.s10_rows.specs.Tables.{Tables, no_rows, head_row};
 ghost use Rattle.s10_ledger.specs.Shown.{HasTables, StandsFor};
+ghost use Rattle.s10_ledger.specs.Settled.{IsSettled, WasSound};
 
 use s10_book::Settings;
 use s10_rows::OpenFault;
-use sqlite::{Alter, Connection, Error, ErrorCode, Transaction, params};
+use sqlite::{Alter, Connection, Error, Transaction, params};
 
 const HEAD: &str =
     "CREATE TABLE head (one INTEGER NOT NULL PRIMARY KEY CHECK (one = 1), schema INTEGER NOT NULL, interval INTEGER NOT NULL, cap INTEGER NOT NULL) STRICT";
@@ -84,13 +85,16 @@ pub(crate) fn make_ledger<S: Alter>(
     conn: &mut Connection<S>,
     settings: Settings,
 ) -> Result<(), Error>
+    requires idle { conn.old.in_transaction ≡ false }
+    ensures settled { IsSettled S.Store conn.new }
+    ensures was { WasSound S.Store conn.old conn.new }
+    ensures opened { HasCleanDisk (state S.Store conn.new) → OnOk result (IsTrue (state S.Store conn.new).is_open) }
     ensures all { HasCleanDisk (state S.Store conn.new) → (state S.Store conn.old).now.schema ≡ no_schema → OnOk result (StandsFor (state S.Store conn.new).now [] settings) }
     ensures alone { HasCleanDisk (state S.Store conn.new) → (state S.Store conn.old).now.schema ≡ no_schema → OnOk result ((state S.Store conn.new).now.schema ≡ ledger_schema) }
     ensures none { HasCleanDisk (state S.Store conn.new) → IsTrue (state S.Store conn.new).is_open → OnErr result ((state S.Store conn.new).now ≡ (state S.Store conn.old).now) }
 {
-    if !conn.is_autocommit() {
-        return Err(Error::SqliteFailure(ErrorCode::TransactionState));
-    }
+    // A connection that is in no transaction has nothing to commit.
+    prove!(conn.is_autocommit());
     let mut tx = conn.transaction();
     make_tables(&mut tx)?;
     put_head(&mut tx, settings)?;
@@ -101,6 +105,7 @@ pub(crate) fn make_ledger<S: Alter>(
 pub(crate) fn refusal_of<S: Alter>(conn: &Connection<S>) -> Option<OpenFault>
     ensures refusal { IfSome result (IsMakingRefusal (state S.Store conn.now).now.schema) }
     ensures none { result ≡ None → (state S.Store conn.now).now.schema ≡ no_schema }
+    ensures fresh { result ≡ None → ¬ HasOneOfTheNames (state S.Store conn.now).now.schema }
 {
     let schema = conn.schema();
     if schema.table_named(b"head").is_some()

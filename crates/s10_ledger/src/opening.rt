@@ -1,9 +1,10 @@
 //! The ledger that a connection holds is opened.
 
-ghost use Rattle.std.specs.Prelude.{◌≡◌, ◌≤◌, IfOk, IfErr, IsTrue};
+ghost use Rattle.std.specs.Prelude.{◌≡◌, ◌≤◌, IfOk, IfErr, OnOk, IsTrue};
 ghost use Rattle.sqlite.specs.Held.{state};
 ghost use Rattle.sqlite.specs.State.{HasCleanDisk};
-ghost use Rattle.s10_ledger.specs.Ledger.{IsLedger};
+ghost use Rattle.s10_ledger.specs.Settled.{IsSettled, WasSound};
+ghost use Rattle.s10_ledger.specs.Ledger.{IsLedger, IsMirrored};
 ghost use Rattle.s10_ledger.specs.Refusals.{IsOpeningRefusal};
 
 use crate::all_rows::AllRows;
@@ -11,20 +12,26 @@ use crate::faults::opening_fault;
 use crate::refused::Refused;
 use crate::sql_book::SqlBook;
 use crate::verdict::verdict;
+use s10_ranges::Ranges;
 use s10_rows::{OpenFault, Opened};
 use s10_schema::is_ledger_schema;
 use sqlite::{Alter, Connection};
 use std::alloc::Global;
 
-// What is found of the ledger in the tables.
+// What is found of the ledger in the tables, and its ranges.
 pub(crate) fn ledger_in<S: Alter>(
     alloc: Global,
     conn: &mut Connection<S>,
-) -> Result<Opened, OpenFault>
-    ensures few { IfOk result (λ found. found.len ≤ 1000000000) }
+) -> Result<(Opened, Ranges), OpenFault>
+    requires settled { IsSettled S.Store conn.old }
+    ensures settled { IsSettled S.Store conn.new }
+    ensures was { WasSound S.Store conn.old conn.new }
+    ensures opened { HasCleanDisk (state S.Store conn.new) → OnOk result (IsTrue (state S.Store conn.new).is_open) }
+    ensures few { IfOk result (λ found. found.0.len ≤ 1000000000) }
     ensures same { HasCleanDisk (state S.Store conn.new) → IsTrue (state S.Store conn.new).is_open → (state S.Store conn.new).now ≡ (state S.Store conn.old).now }
     ensures ledger { HasCleanDisk (state S.Store conn.new) → IsTrue (state S.Store conn.new).is_open
-        → IfOk result (λ found. IsLedger (state S.Store conn.old).now found.settings found.len found.day) }
+        → IfOk result (λ found. IsLedger (state S.Store conn.old).now found.0.settings found.0.len found.0.day) }
+    ensures mirrored { IfOk result (λ found. IsMirrored S.Store conn.new found.1) }
     ensures refused { HasCleanDisk (state S.Store conn.new) → IsTrue (state S.Store conn.new).is_open → IfErr result (IsOpeningRefusal (state S.Store conn.old).now) }
 {
     if !is_ledger_schema(conn.schema()) {
@@ -42,6 +49,7 @@ impl<S: Alter> SqlBook<S> {
     ghost use Rattle.sqlite.specs.Held.{state};
     ghost use Rattle.sqlite.specs.State.{HasCleanDisk};
     ghost use Rattle.s10_book.specs.Settings.{Terms, AreTerms};
+    ghost use Rattle.s10_ledger.specs.Settled.{WasSound};
     ghost use Rattle.s10_ledger.specs.Ledger.{IsLedger, IsHonest};
     ghost use Rattle.s10_ledger.specs.Refusals.{IsOpeningRefusal};
 
@@ -54,15 +62,25 @@ impl<S: Alter> SqlBook<S> {
     pub fn open(alloc: Global, mut conn: Connection<S>) -> Result<SqlBook<S>, Refused<S>>
         requires idle { conn.in_transaction ≡ false }
         ensures new { IfOk result (λ b. b.faults ≡ 0) }
+        ensures idle { IfOk result (λ b. b.conn.in_transaction ≡ false) }
+        ensures opened { IfOk result (λ b. HasCleanDisk (state S.Store b.conn) → IsTrue (state S.Store b.conn).is_open) }
+        ensures was { IfOk result (λ b. WasSound S.Store conn b.conn) }
         ensures honest { IfOk result (λ b. HasCleanDisk (state S.Store b.conn) → IsTrue (state S.Store b.conn).is_open → IsHonest S.Store b) }
         ensures same { IfOk result (λ b. IsHonest S.Store b → (state S.Store b.conn).now ≡ (state S.Store conn).now) }
+        ensures committed { IfOk result (λ b. IsHonest S.Store b → (state S.Store b.conn).committed ≡ (state S.Store b.conn).now) }
+        ensures left_idle { IfErr result (λ r. r.connection.in_transaction ≡ false) }
+        ensures was_refused { IfErr result (λ r. WasSound S.Store conn r.connection) }
         ensures refused { IfErr result (λ r. HasCleanDisk (state S.Store r.connection) → IsTrue (state S.Store r.connection).is_open → IsOpeningRefusal (state S.Store conn).now r.fault) }
         ensures kept { IfErr result (λ r. HasCleanDisk (state S.Store r.connection) → IsTrue (state S.Store r.connection).is_open → (state S.Store r.connection).now ≡ (state S.Store conn).now) }
         ensures whole { IfErr result (λ r. HasCleanDisk (state S.Store r.connection) → IsTrue (state S.Store r.connection).is_open
             → (t : Terms) (len day : ℕ) → AreTerms t → IsLedger (state S.Store conn).now t len day → (r.fault ≡ OpenFault.Memory) ⊎ (r.fault ≡ OpenFault.Store)) }
     {
+        // A connection that is in no transaction has nothing to commit.
+        prove!(conn.is_autocommit());
         match ledger_in(alloc, &mut conn) {
-            Ok(Opened { settings, len, day }) => Ok(SqlBook::over(alloc, conn, settings, len, day)),
+            Ok((Opened { settings, len, day }, ranges)) => {
+                Ok(SqlBook::over(alloc, conn, settings, len, day, ranges))
+            }
             Err(fault) => Err(Refused {
                 fault,
                 connection: conn,

@@ -1,6 +1,6 @@
 //! The reads of the four tables.
 
-ghost use Rattle.std.specs.Prelude.{◌≡◌, ◌≢◌, pos, List, map, filter, IfOk, OnOk};
+ghost use Rattle.std.specs.Prelude.{◌≡◌, ◌≢◌, pos, List, map, filter, IsTrue, IfOk, OnOk};
 ghost use Rattle.std.specs.List.{AllByRecursion};
 ghost use Rattle.std.specs.Ordering.{int_cmp};
 ghost use Rattle.std.specs.declared.cmp.Ordering.TheVariants as Ordering;
@@ -15,26 +15,26 @@ ghost use Rattle.s10_rows.specs.Tables.{Tables, HaveSameRows};
 ghost use Rattle.s10_schema.specs.Schema.{IsLedgerSchema, with_others};
 ghost use Rattle.s10_ledger.specs.Shown.{HasTables, shown_head, shown_call, shown_range, shown_serial, head_columns, call_columns, range_columns, serial_columns, IsNumbered};
 ghost use Rattle.s10_rows.specs.Selected.{has_key_columns, arrives_between, is_within};
+ghost use Rattle.s10_ledger.specs.Settled.{Spares};
 ghost use Rattle.s10_ledger.specs.Statements.{Leaves};
 
 use crate::row_reading::{calls_in, heads_in, numbered_serials_in, ranges_in, serials_in};
 use s10_rows::{CallRow, HeadRow, RangeRow, SerialRow};
 use sqlite::types::ValueRef;
-use sqlite::{Alter, Connection, Error, ErrorCode, Row, params};
+use sqlite::{Alter, Connection, Error, Row, params};
 use std::alloc::Global;
 
-// The rows that a query shows, outside a transaction.
+// The rows that a query shows.
 fn read<S: Alter>(
     conn: &mut Connection<S>,
     sql: &str,
     params: &[ValueRef<'_>],
 ) -> Result<Vec<Row>, Error>
     ensures leaves { ((o : Schema) → IsPlain (understood (with_others o) sql.now)) → Leaves S.Store conn.old conn.new }
+    ensures spares { ((o : Schema) → IsPlain (understood (with_others o) sql.now)) → Spares S.Store conn.old conn.new }
     ensures rows { HasCleanDisk (state S.Store conn.new) → IfOk result (λ rows. Shown sql.now (bound params.now) (state S.Store conn.old) (state S.Store conn.new) rows.items) }
+    ensures opened { HasCleanDisk (state S.Store conn.new) → OnOk result (IsTrue (state S.Store conn.new).is_open) }
 {
-    if !conn.is_autocommit() {
-        return Err(Error::SqliteFailure(ErrorCode::TransactionState));
-    }
     conn.query_all(sql, params)
 }
 
@@ -44,6 +44,7 @@ pub(crate) fn all_heads<S: Alter>(
     conn: &mut Connection<S>,
 ) -> Result<Vec<HeadRow>, Error>
     ensures leaves { Leaves S.Store conn.old conn.new }
+    ensures opened { HasCleanDisk (state S.Store conn.new) → OnOk result (IsTrue (state S.Store conn.new).is_open) }
     ensures rows { HasCleanDisk (state S.Store conn.new) → IfOk result (λ rows. IsLedgerSchema (state S.Store conn.old).now.schema
         → HaveSameRows (map shown_head rows.items) (map head_columns ((state S.Store conn.old).now.trees 0))) }
 {
@@ -63,6 +64,7 @@ pub(crate) fn calls_with_key<S: Alter>(
     number: u32,
 ) -> Result<Vec<CallRow>, Error>
     ensures leaves { Leaves S.Store conn.old conn.new }
+    ensures opened { HasCleanDisk (state S.Store conn.new) → OnOk result (IsTrue (state S.Store conn.new).is_open) }
     ensures rows { HasCleanDisk (state S.Store conn.new) → IfOk result (λ rows. (tables : Tables) → HasTables (state S.Store conn.old).now tables
         → HaveSameRows (filter (has_key_columns customer number) tables.calls) rows.items) }
 {
@@ -82,6 +84,7 @@ pub(crate) fn calls_between<S: Alter>(
     high: u32,
 ) -> Result<Vec<CallRow>, Error>
     ensures leaves { Leaves S.Store conn.old conn.new }
+    ensures opened { HasCleanDisk (state S.Store conn.new) → OnOk result (IsTrue (state S.Store conn.new).is_open) }
     ensures rows { HasCleanDisk (state S.Store conn.new) → IfOk result (λ rows. (tables : Tables) → HasTables (state S.Store conn.old).now tables
         → HaveSameRows (filter (arrives_between (pos low) (pos high)) tables.calls) rows.items) }
 {
@@ -99,6 +102,7 @@ pub(crate) fn all_calls<S: Alter>(
     conn: &mut Connection<S>,
 ) -> Result<Vec<CallRow>, Error>
     ensures leaves { Leaves S.Store conn.old conn.new }
+    ensures opened { HasCleanDisk (state S.Store conn.new) → OnOk result (IsTrue (state S.Store conn.new).is_open) }
     ensures rows { HasCleanDisk (state S.Store conn.new) → IfOk result (λ rows. IsLedgerSchema (state S.Store conn.old).now.schema
         → HaveSameRows (map shown_call rows.items) (map call_columns ((state S.Store conn.old).now.trees 1))) }
     ensures in_order { HasCleanDisk (state S.Store conn.new) → IfOk result (λ rows. (tables : Tables) → HasTables (state S.Store conn.old).now tables
@@ -119,7 +123,9 @@ pub(crate) fn all_ranges<S: Alter>(
     alloc: Global,
     conn: &mut Connection<S>,
 ) -> Result<Vec<RangeRow>, Error>
+    ensures spares { Spares S.Store conn.old conn.new }
     ensures leaves { Leaves S.Store conn.old conn.new }
+    ensures opened { HasCleanDisk (state S.Store conn.new) → OnOk result (IsTrue (state S.Store conn.new).is_open) }
     ensures rows { HasCleanDisk (state S.Store conn.new) → IfOk result (λ rows. IsLedgerSchema (state S.Store conn.old).now.schema
         → HaveSameRows (map shown_range rows.items) (map range_columns ((state S.Store conn.old).now.trees 3))) }
     ensures in_order { HasCleanDisk (state S.Store conn.new) → IfOk result (λ rows. (tables : Tables) → HasTables (state S.Store conn.old).now tables
@@ -141,7 +147,9 @@ pub(crate) fn serials_within<S: Alter>(
     low: u32,
     high: u32,
 ) -> Result<Vec<SerialRow>, Error>
+    ensures spares { Spares S.Store conn.old conn.new }
     ensures leaves { Leaves S.Store conn.old conn.new }
+    ensures opened { HasCleanDisk (state S.Store conn.new) → OnOk result (IsTrue (state S.Store conn.new).is_open) }
     ensures rows { HasCleanDisk (state S.Store conn.new) → IfOk result (λ rows. (tables : Tables) → HasTables (state S.Store conn.old).now tables
         → HaveSameRows (filter (is_within (pos pair) (pos low) (pos high)) tables.serials) rows.items) }
 {
@@ -159,6 +167,7 @@ pub(crate) fn all_serials<S: Alter>(
     conn: &mut Connection<S>,
 ) -> Result<Vec<SerialRow>, Error>
     ensures leaves { Leaves S.Store conn.old conn.new }
+    ensures opened { HasCleanDisk (state S.Store conn.new) → OnOk result (IsTrue (state S.Store conn.new).is_open) }
     ensures rows { HasCleanDisk (state S.Store conn.new) → IfOk result (λ rows. IsLedgerSchema (state S.Store conn.old).now.schema
         → HaveSameRows (map shown_serial rows.items) (map serial_columns ((state S.Store conn.old).now.trees 4))) }
     ensures numbered { HasCleanDisk (state S.Store conn.new) → OnOk result (IsLedgerSchema (state S.Store conn.old).now.schema → AllByRecursion IsNumbered ((state S.Store conn.old).now.trees 4)) }

@@ -7,15 +7,13 @@ ghost use Rattle.sqlite.specs.Held.{state};
 ghost use Rattle.s10_ledger.specs.Ledger.{history_in, IsHonest};
 
 use crate::faults::opening_fault;
-use crate::keeping::keep_next;
-use crate::lookups::{
-    call_at, call_with_key, candidate_in, issue_of, range_covering, range_held, range_with_number,
-    usage_in,
-};
+use crate::keeping::keep_followed;
+use crate::lookups::{call_at, call_with_key, candidate_in, issue_of, usage_in};
 use crate::making::{make_ledger, refusal_of};
 use crate::refused::Refused;
 use s10_book::{Book, BookFault, Candidate, Entry, Issue, Range, Settings, Usage};
 use s10_core::{Country, Id, Serial, Service};
+use s10_ranges::Ranges;
 use s10_rows::OpenFault;
 use sqlite::{Alter, Connection, MemStore};
 use std::alloc::Global;
@@ -29,13 +27,17 @@ pub struct SqlBook<S: Alter> {
     len: u32,
     day: u32,
     faults: u64,
+    ranges: Ranges,
+    // Whether the connection answered the last statement.
+    answered: bool,
 }
 
 impl<S: Alter> Model for SqlBook<S> {
     ghost use Rattle.std.specs.Prelude.{IsTrue, ◌≤◌};
     ghost use Rattle.sqlite.specs.Held.{state};
     ghost use Rattle.sqlite.specs.State.{HasCleanDisk};
-    ghost use Rattle.s10_ledger.specs.Ledger.{Ledger, ledger_code, IsLedger};
+    ghost use Rattle.s10_ledger.specs.Settled.{IsSettled, IsOpenIf};
+    ghost use Rattle.s10_ledger.specs.Ledger.{Ledger, ledger_code, IsLedger, IsMirrored};
 
     ghost Value = { Ledger S };
 
@@ -43,15 +45,16 @@ impl<S: Alter> Model for SqlBook<S> {
 
     ghost view = { λ b. record { conn = b.conn; terms = b.settings; len = b.len; day = b.day; faults = b.faults } };
 
-    ghost invariant = { λ b. (b.len ≤ 1000000000) × (HasCleanDisk (state S.Store b.conn) → IsTrue (state S.Store b.conn).is_open → IsLedger (state S.Store b.conn).now b.settings b.len b.day) };
+    ghost invariant = { λ b. (b.len ≤ 1000000000) × (HasCleanDisk (state S.Store b.conn) → IsTrue (state S.Store b.conn).is_open → IsLedger (state S.Store b.conn).now b.settings b.len b.day) × IsSettled S.Store b.conn × IsMirrored S.Store b.conn b.ranges × IsOpenIf S.Store b.conn b.answered };
 }
 
 impl<S: Alter> SqlBook<S> {
     ghost use Rattle.std.specs.Prelude.{◌≡◌, ◌≤◌, IfOk, IfErr, IsTrue, [], false};
     ghost use Rattle.sqlite.specs.Held.{state};
     ghost use Rattle.sqlite.specs.State.{HasCleanDisk};
-    ghost use Rattle.s10_ledger.specs.Ledger.{Ledger, IsLedger, IsHonest, history_in};
-    ghost use Rattle.s10_ledger.specs.Refusals.{IsMakingRefusal};
+    ghost use Rattle.s10_ledger.specs.Ledger.{Ledger, IsLedger, IsMirrored, IsHonest, history_in};
+    ghost use Rattle.s10_ledger.specs.Settled.{IsSettled, WasSound};
+    ghost use Rattle.s10_ledger.specs.Refusals.{HasOneOfTheNames, IsMakingRefusal};
     ghost use Rattle.s10_schema.specs.Schema.{ledger_schema};
 
     /// Makes an empty ledger with these settings in an empty database, in one transaction. Refused
@@ -64,9 +67,16 @@ impl<S: Alter> SqlBook<S> {
     ) -> Result<SqlBook<S>, Refused<S>>
         requires idle { conn.in_transaction ≡ false }
         ensures new { IfOk result (λ b. (b.terms ≡ settings) × (b.faults ≡ 0)) }
+        ensures fresh { IfOk result (λ _. ¬ HasOneOfTheNames (state S.Store conn).now.schema) }
+        ensures idle { IfOk result (λ b. b.conn.in_transaction ≡ false) }
+        ensures opened { IfOk result (λ b. HasCleanDisk (state S.Store b.conn) → IsTrue (state S.Store b.conn).is_open) }
+        ensures was { IfOk result (λ b. WasSound S.Store conn b.conn) }
         ensures empty { IfOk result (λ b. IsHonest S.Store b → history_in (state S.Store b.conn).now ≡ []) }
         ensures alone { IfOk result (λ b. IsHonest S.Store b → (state S.Store b.conn).now.schema ≡ ledger_schema) }
+        ensures committed { IfOk result (λ b. IsHonest S.Store b → (state S.Store b.conn).committed ≡ (state S.Store b.conn).now) }
         ensures honest { IfOk result (λ b. HasCleanDisk (state S.Store b.conn) → IsTrue (state S.Store b.conn).is_open → IsHonest S.Store b) }
+        ensures left_idle { IfErr result (λ r. r.connection.in_transaction ≡ false) }
+        ensures was_refused { IfErr result (λ r. WasSound S.Store conn r.connection) }
         ensures refused { IfErr result (λ r. IsMakingRefusal (state S.Store conn).now.schema r.fault) }
         ensures kept { IfErr result (λ r. HasCleanDisk (state S.Store r.connection) → IsTrue (state S.Store r.connection).is_open → (state S.Store r.connection).now ≡ (state S.Store conn).now) }
     {
@@ -85,19 +95,25 @@ impl<S: Alter> SqlBook<S> {
             len: 0,
             day: 0,
             faults: 0,
+            ranges: Ranges::new(alloc),
+            answered: true,
         })
     }
 
-    // The book over a connection whose tables stand for so many calls, the last of them on that day.
+    // The book over a connection whose tables stand for so many calls, the last of them on that day, and for these ranges.
     pub(crate) fn over(
         alloc: Global,
         conn: Connection<S>,
         settings: Settings,
         len: u32,
         day: u32,
+        ranges: Ranges,
     ) -> SqlBook<S>
         requires few { len ≤ 1000000000 }
+        requires settled { IsSettled S.Store conn }
         requires ledger { HasCleanDisk (state S.Store conn) → IsTrue (state S.Store conn).is_open → IsLedger (state S.Store conn).now settings len day }
+        requires mirrored { IsMirrored S.Store conn ranges }
+        requires opened { HasCleanDisk (state S.Store conn) → IsTrue (state S.Store conn).is_open }
         ensures { let book : Ledger S = record { conn = conn; terms = settings; len = len; day = day; faults = 0 } in result ≡ book }
     {
         SqlBook {
@@ -107,13 +123,39 @@ impl<S: Alter> SqlBook<S> {
             len,
             day,
             faults: 0,
+            ranges,
+            answered: true,
         }
+    }
+
+    /// The connection, to look at between two calls: where it is open over a clean disk, what the
+    /// book says of its history holds.
+    pub fn connection(&self) -> &Connection<S>
+        ensures same { result.now ≡ self.now.conn }
+        ensures idle { self.now.conn.in_transaction ≡ false }
+        ensures committed { HasCleanDisk (state S.Store self.now.conn) → IsTrue (state S.Store self.now.conn).is_open → (state S.Store self.now.conn).committed ≡ (state S.Store self.now.conn).now }
+        ensures honest { HasCleanDisk (state S.Store self.now.conn) → IsTrue (state S.Store self.now.conn).is_open → IsHonest S.Store self.now }
+    {
+        &self.conn
     }
 
     /// The connection, whose tables stand for the book's history.
     pub fn close(self) -> Connection<S>
         ensures same { result ≡ self.conn }
+        ensures idle { result.in_transaction ≡ false }
+        ensures committed { HasCleanDisk (state S.Store result) → IsTrue (state S.Store result).is_open → (state S.Store result).committed ≡ (state S.Store result).now }
         ensures ledger { HasCleanDisk (state S.Store result) → IsTrue (state S.Store result).is_open → IsLedger (state S.Store result).now self.terms self.len self.day }
+    {
+        let (conn, _) = self.into_parts();
+        conn
+    }
+
+    // The connection, as `close` gives it, and the ranges that are held.
+    pub(crate) fn into_parts(self) -> (Connection<S>, Ranges)
+        ensures same { result.0 ≡ self.conn }
+        ensures settled { IsSettled S.Store result.0 }
+        ensures ledger { HasCleanDisk (state S.Store result.0) → IsTrue (state S.Store result.0).is_open → IsLedger (state S.Store result.0).now self.terms self.len self.day }
+        ensures mirrored { IsMirrored S.Store result.0 result.1 }
     {
         let SqlBook {
             alloc: _,
@@ -122,13 +164,15 @@ impl<S: Alter> SqlBook<S> {
             len: _,
             day: _,
             faults: _,
+            ranges,
+            answered: _,
         } = self;
-        conn
+        (conn, ranges)
     }
 }
 
 impl SqlBook<MemStore> {
-    ghost use Rattle.std.specs.Prelude.{◌≡◌, ◌⊎◌, IfOk, IfErr, []};
+    ghost use Rattle.std.specs.Prelude.{◌≡◌, ◌⊎◌, IfOk, IfErr, [], false};
     ghost use Rattle.sqlite.specs.Held.{state};
     ghost use Rattle.sqlite.specs.Steps.{over_memory};
     ghost use Rattle.s10_ledger.specs.Ledger.{IsHonest, history_in};
@@ -138,6 +182,8 @@ impl SqlBook<MemStore> {
     /// where a statement failed.
     pub fn in_memory(alloc: Global, settings: Settings) -> Result<SqlBook<MemStore>, OpenFault>
         ensures new { IfOk result (λ b. (b.terms ≡ settings) × (b.faults ≡ 0)) }
+        ensures idle { IfOk result (λ b. b.conn.in_transaction ≡ false) }
+        ensures committed { IfOk result (λ b. (state over_memory b.conn).committed ≡ (state over_memory b.conn).now) }
         ensures honest { IfOk result (IsHonest over_memory) }
         ensures empty { IfOk result (λ b. history_in (state over_memory b.conn).now ≡ []) }
         ensures alone { IfOk result (λ b. (state over_memory b.conn).now.schema ≡ ledger_schema) }
@@ -170,8 +216,45 @@ fn counted<T>(faults: &mut u64, answer: Result<T, BookFault>) -> Result<T, BookF
     answer
 }
 
+impl<S: Alter> SqlBook<S> {
+    ghost use Rattle.std.specs.Prelude.{IsTrue, OnOk};
+    ghost use Rattle.sqlite.specs.State.{HasCleanDisk};
+    ghost use Rattle.s10_book.specs.Book.{Keeps};
+    ghost use Rattle.s10_ledger.specs.Ledger.{history_of};
+
+    // Asks the connection for a call where it did not answer the last statement, so that no range is
+    // told over a connection that is shut.
+    fn ask_again(&mut self) -> Result<(), BookFault>
+        ensures faults { Counts result self.old.faults self.new.faults }
+        ensures keeps { Keeps (history_of S.Store) (λ b. b.terms) (IsHonest S.Store) self.old self.new }
+        ensures opened { HasCleanDisk (state S.Store self.new.conn) → OnOk result (IsTrue (state S.Store self.new.conn).is_open) }
+    {
+        if self.answered {
+            return Ok(());
+        }
+        let found = call_at(self.alloc, &mut self.conn, 0);
+        let answered = found.is_ok();
+        self.answered = answered;
+        match counted(&mut self.faults, found) {
+            Ok(_) => Ok(()),
+            Err(fault) => Err(fault),
+        }
+    }
+}
+
 impl<S: Alter> Book for SqlBook<S> {
-    ghost history = { λ b. history_in (state S.Store b.conn).now };
+    ghost use Rattle.std.specs.Prelude.{◌⊎◌, ◌++◌, ◌∷◌, [], ◌<◌, ◌==◌, find, IfOk, IfSome, IsTrue, OnErr, OnOk, Contains};
+    ghost use Rattle.sqlite.specs.State.{HasCleanDisk};
+    ghost use Rattle.s10_wire.specs.Kind.{fits};
+    ghost use Rattle.s10_book.specs.History.{entry_with_key, entry_at, ranges_of, is_held_above, overlaps};
+    ghost use Rattle.s10_book.specs.Issues.{last_issue_of, candidate_of};
+    ghost use Rattle.s10_book.specs.Usage.{usage_of};
+    ghost use Rattle.s10_book.specs.Rules.{MayFollow};
+    ghost use Rattle.s10_book.specs.Book.{Keeps};
+    ghost use Rattle.s10_ledger.specs.Ledger.{history_of, IsLonger};
+    ghost use Rattle.sqlite_trees.specs.Tree.{Trees};
+
+    ghost history = { history_of S.Store };
 
     ghost terms = { λ b. b.terms };
 
@@ -193,19 +276,41 @@ impl<S: Alter> Book for SqlBook<S> {
         self.day
     }
 
-    fn find(&mut self, customer: u32, number: u32) -> Result<Option<Entry>, BookFault> {
+    fn find(&mut self, customer: u32, number: u32) -> Result<Option<Entry>, BookFault>
+        ensures faults { Counts result self.old.faults self.new.faults }
+        ensures keeps { Keeps (history_of S.Store) (λ b. b.terms) (IsHonest S.Store) self.old self.new }
+        ensures opened { HasCleanDisk (state S.Store self.new.conn) → OnOk result (IsTrue (state S.Store self.new.conn).is_open) }
+        ensures answer { IsHonest S.Store self.new → IfOk result (λ e. e ≡ entry_with_key (history_of S.Store self.old) customer number) }
+        ensures fits { IfOk result (λ found. IfSome found (λ e. IsTrue (fits e.request.body e.outcome))) }
+    {
         let found = call_with_key(self.alloc, &mut self.conn, customer, number);
+        let answered = found.is_ok();
+        self.answered = answered;
         counted(&mut self.faults, found)
     }
 
-    fn entry(&mut self, at: u32) -> Result<Option<Entry>, BookFault> {
+    fn entry(&mut self, at: u32) -> Result<Option<Entry>, BookFault>
+        ensures faults { Counts result self.old.faults self.new.faults }
+        ensures keeps { Keeps (history_of S.Store) (λ b. b.terms) (IsHonest S.Store) self.old self.new }
+        ensures opened { HasCleanDisk (state S.Store self.new.conn) → OnOk result (IsTrue (state S.Store self.new.conn).is_open) }
+        ensures answer { IsHonest S.Store self.new → IfOk result (λ e. e ≡ entry_at (history_of S.Store self.old) at) }
+    {
         let found = call_at(self.alloc, &mut self.conn, at);
+        let answered = found.is_ok();
+        self.answered = answered;
         counted(&mut self.faults, found)
     }
 
-    fn range(&mut self, num: u32) -> Result<Option<Range>, BookFault> {
-        let found = range_with_number(self.alloc, &mut self.conn, num);
-        counted(&mut self.faults, found)
+    fn range(&mut self, num: u32) -> Result<Option<Range>, BookFault>
+        ensures faults { Counts result self.old.faults self.new.faults }
+        ensures keeps { Keeps (history_of S.Store) (λ b. b.terms) (IsHonest S.Store) self.old self.new }
+        ensures opened { HasCleanDisk (state S.Store self.new.conn) → OnOk result (IsTrue (state S.Store self.new.conn).is_open) }
+        ensures answer { IsHonest S.Store self.new → IfOk result (λ r. r ≡ find (λ x. x.num == num) (ranges_of (history_of S.Store self.old))) }
+    {
+        if let Err(fault) = self.ask_again() {
+            return Err(fault);
+        }
+        Ok(self.ranges.numbered(num))
     }
 
     fn next_range(
@@ -214,16 +319,17 @@ impl<S: Alter> Book for SqlBook<S> {
         service: Service,
         country: Country,
         after: u32,
-    ) -> Result<Option<Range>, BookFault> {
-        let found = range_held(
-            self.alloc,
-            &mut self.conn,
-            customer,
-            service,
-            country,
-            after,
-        );
-        counted(&mut self.faults, found)
+    ) -> Result<Option<Range>, BookFault>
+        ensures faults { Counts result self.old.faults self.new.faults }
+        ensures keeps { Keeps (history_of S.Store) (λ b. b.terms) (IsHonest S.Store) self.old self.new }
+        ensures opened { HasCleanDisk (state S.Store self.new.conn) → OnOk result (IsTrue (state S.Store self.new.conn).is_open) }
+        ensures above { IfOk result (λ found. IfSome found (λ r. after < r.num)) }
+        ensures answer { IsHonest S.Store self.new → IfOk result (λ found. found ≡ find (is_held_above after customer service country) (ranges_of (history_of S.Store self.old))) }
+    {
+        if let Err(fault) = self.ask_again() {
+            return Err(fault);
+        }
+        Ok(self.ranges.held_after(customer, service, country, after))
     }
 
     fn covering(
@@ -232,38 +338,82 @@ impl<S: Alter> Book for SqlBook<S> {
         country: Country,
         first: Serial,
         last: Serial,
-    ) -> Result<Option<Range>, BookFault> {
-        let found = range_covering(self.alloc, &mut self.conn, service, country, first, last);
-        counted(&mut self.faults, found)
+    ) -> Result<Option<Range>, BookFault>
+        ensures faults { Counts result self.old.faults self.new.faults }
+        ensures keeps { Keeps (history_of S.Store) (λ b. b.terms) (IsHonest S.Store) self.old self.new }
+        ensures opened { HasCleanDisk (state S.Store self.new.conn) → OnOk result (IsTrue (state S.Store self.new.conn).is_open) }
+        ensures answer { IsHonest S.Store self.new → IfOk result (λ found. found ≡ find (overlaps service country first last) (ranges_of (history_of S.Store self.old))) }
+    {
+        if let Err(fault) = self.ask_again() {
+            return Err(fault);
+        }
+        Ok(self.ranges.over(service, country, first, last))
     }
 
-    fn last_issue(&mut self, id: &Id) -> Result<Option<Issue>, BookFault> {
+    fn last_issue(&mut self, id: &Id) -> Result<Option<Issue>, BookFault>
+        ensures faults { Counts result self.old.faults self.new.faults }
+        ensures keeps { Keeps (history_of S.Store) (λ b. b.terms) (IsHonest S.Store) self.old self.new }
+        ensures opened { HasCleanDisk (state S.Store self.new.conn) → OnOk result (IsTrue (state S.Store self.new.conn).is_open) }
+        ensures answer { IsHonest S.Store self.new → IfOk result (λ i. i ≡ last_issue_of (history_of S.Store self.old) id.now) }
+    {
         let found = issue_of(self.alloc, &mut self.conn, id);
+        let answered = found.is_ok();
+        self.answered = answered;
         counted(&mut self.faults, found)
     }
 
-    fn candidate(&mut self, range: &Range) -> Result<Candidate, BookFault> {
-        let found = candidate_in(self.alloc, &mut self.conn, range);
+    fn candidate(&mut self, range: &Range) -> Result<Candidate, BookFault>
+        requires { IsHonest S.Store self.old → Contains (ranges_of (history_of S.Store self.old)) range.now }
+        ensures faults { Counts result self.old.faults self.new.faults }
+        ensures keeps { Keeps (history_of S.Store) (λ b. b.terms) (IsHonest S.Store) self.old self.new }
+        ensures opened { HasCleanDisk (state S.Store self.new.conn) → OnOk result (IsTrue (state S.Store self.new.conn).is_open) }
+        ensures answer { IsHonest S.Store self.new → IfOk result (λ c. c ≡ candidate_of (history_of S.Store self.old) range.now) }
+    {
+        let mark = self.ranges.mark(range.num);
+        let found = candidate_in(self.alloc, &mut self.conn, range, mark);
+        let answered = found.is_ok();
+        self.answered = answered;
         counted(&mut self.faults, found)
     }
 
-    fn usage(&mut self, range: &Range, day: u32) -> Result<Usage, BookFault> {
+    fn usage(&mut self, range: &Range, day: u32) -> Result<Usage, BookFault>
+        requires { IsHonest S.Store self.old → Contains (ranges_of (history_of S.Store self.old)) range.now }
+        ensures faults { Counts result self.old.faults self.new.faults }
+        ensures keeps { Keeps (history_of S.Store) (λ b. b.terms) (IsHonest S.Store) self.old self.new }
+        ensures opened { HasCleanDisk (state S.Store self.new.conn) → OnOk result (IsTrue (state S.Store self.new.conn).is_open) }
+        ensures answer { IsHonest S.Store self.new → IfOk result (λ u. u ≡ usage_of (history_of S.Store self.old) range.now day self.old.terms.interval) }
+    {
         let interval = self.settings.interval();
         let day = self.day.max(day);
         let found = usage_in(self.alloc, &mut self.conn, range, day, interval);
+        let answered = found.is_ok();
+        self.answered = answered;
         counted(&mut self.faults, found)
     }
 
-    fn keep(&mut self, entry: Entry) -> Result<(), BookFault> {
+    fn keep(&mut self, entry: Entry) -> Result<(), BookFault>
+        requires { IsHonest S.Store self.old → MayFollow (history_of S.Store self.old) self.old.terms entry }
+        ensures faults { Counts result self.old.faults self.new.faults }
+        ensures was_honest { IsHonest S.Store self.new → IsHonest S.Store self.old }
+        ensures same_terms { IsHonest S.Store self.new → self.new.terms ≡ self.old.terms }
+        ensures opened { HasCleanDisk (state S.Store self.new.conn) → OnOk result (IsTrue (state S.Store self.new.conn).is_open) }
+        ensures crash { IsHonest S.Store self.old → HasCleanDisk (state S.Store self.new.conn) → (db : Trees) → (state S.Store self.new.conn).may_leave db
+            → (db ≡ (state S.Store self.old.conn).now.trees) ⊎ IsLonger S.Store self.old entry db }
+        ensures ok { IsHonest S.Store self.new → OnOk result (history_of S.Store self.new ≡ history_of S.Store self.old ++ entry ∷ []) }
+        ensures err { IsHonest S.Store self.new → OnErr result (history_of S.Store self.new ≡ history_of S.Store self.old) }
+    {
         let limit = self.settings.limit();
-        let kept = keep_next(
+        let kept = keep_followed(
             self.alloc,
             &mut self.conn,
+            &mut self.ranges,
             &mut self.len,
             &mut self.day,
             limit,
             &entry,
         );
+        let answered = kept.is_ok();
+        self.answered = answered;
         counted(&mut self.faults, kept)
     }
 }

@@ -6,11 +6,13 @@ ghost use Rattle.sqlite.specs.State.{HasCleanDisk};
 ghost use Rattle.sqlite.specs.Steps.{over_memory};
 ghost use Rattle.s10_book.specs.declared.entry.Entry.{Entry};
 ghost use Rattle.s10_book.specs.Settings.{Terms};
+ghost use Rattle.s10_ranges.specs.Mirror.{Mirrors};
 ghost use Rattle.s10_rows.specs.Tables.{Tables, HaveSameRows, range_rows, serial_rows};
 ghost use Rattle.s10_rows.specs.RightRows.{AreRight, kept_of};
 ghost use Rattle.s10_rows.specs.Verdict.{IsHead, IsWhole, IsRefusal};
 ghost use Rattle.s10_rows.specs.Selected.{IsCall};
 ghost use Rattle.s10_ledger.specs.Shown.{StandsFor};
+ghost use Rattle.s10_ledger.specs.Settled.{IsSettled};
 ghost use Rattle.s10_ledger.specs.Statements.{Leaves};
 ghost use Rattle.s10_ledger.specs.Ledger.{IsLedger, history_in};
 
@@ -18,6 +20,7 @@ use crate::faults::opening_fault;
 use crate::reads::{all_ranges, all_serials};
 use crate::sql_book::SqlBook;
 use s10_book::{Book, Settings};
+use s10_ranges::Ranges;
 use s10_rows::{
     CallRow, HeadRow, OpenFault, Opened, RangeRow, SerialRow, replay_rows, same_ranges,
     same_serials, settings_in,
@@ -30,11 +33,13 @@ fn replayed(
     alloc: Global,
     settings: Settings,
     calls: &[CallRow],
-) -> Result<(Connection<MemStore>, Opened), OpenFault>
+) -> Result<(Connection<MemStore>, Ranges, Opened), OpenFault>
     ensures right { IfOk result (λ found. AreRight settings calls.now) }
     ensures history { IfOk result (λ found. history_in (state over_memory found.0).now ≡ kept_of calls.now) }
-    ensures ledger { IfOk result (λ found. IsLedger (state over_memory found.0).now settings found.1.len found.1.day) }
-    ensures settings { IfOk result (λ found. found.1.settings ≡ settings) }
+    ensures ledger { IfOk result (λ found. IsLedger (state over_memory found.0).now settings found.2.len found.2.day) }
+    ensures settled { IfOk result (λ found. IsSettled over_memory found.0) }
+    ensures mirrored { IfOk result (λ found. Mirrors found.1 (kept_of calls.now)) }
+    ensures settings { IfOk result (λ found. found.2.settings ≡ settings) }
     ensures err { (tables : Tables) → tables.calls ≡ calls.now → IsHead tables.heads (pos 1) settings → IfErr result (IsRefusal tables) }
 {
     let mut book = SqlBook::in_memory(alloc, settings)?;
@@ -44,9 +49,9 @@ fn replayed(
         len: book.len(),
         day: book.day(),
     };
-    let conn = book.close();
+    let (conn, ranges) = book.into_parts();
     replayed?;
-    Ok((conn, opened))
+    Ok((conn, ranges, opened))
 }
 
 // Whether these are the ranges of the ledger.
@@ -91,24 +96,25 @@ fn has_serials<S: Alter>(
     }
 }
 
-// What is found of the rows of the four tables, those of calls in order of arrival.
+// What is found of the rows of the four tables, those of calls in order of arrival, and the ranges of these calls.
 pub(crate) fn verdict(
     alloc: Global,
     heads: &[HeadRow],
     calls: &[CallRow],
     ranges: &[RangeRow],
     serials: &[SerialRow],
-) -> Result<Opened, OpenFault>
-    ensures ok { let tables : Tables = record { heads = heads.now; calls = calls.now; ranges = ranges.now; serials = serials.now } in IfOk result (IsWhole tables) }
+) -> Result<(Opened, Ranges), OpenFault>
+    ensures mirrored { IfOk result (λ found. Mirrors found.1 (kept_of calls.now)) }
+    ensures ok { let tables : Tables = record { heads = heads.now; calls = calls.now; ranges = ranges.now; serials = serials.now } in IfOk result (λ found. IsWhole tables found.0) }
     ensures err { let tables : Tables = record { heads = heads.now; calls = calls.now; ranges = ranges.now; serials = serials.now } in IfErr result (IsRefusal tables) }
 {
     let settings = settings_in(heads)?;
-    let (mut made, opened) = replayed(alloc, settings, calls)?;
+    let (mut made, held, opened) = replayed(alloc, settings, calls)?;
     if !has_ranges(alloc, &mut made, ranges)? {
         return Err(OpenFault::Damaged(0));
     }
     if !has_serials(alloc, &mut made, serials)? {
         return Err(OpenFault::Damaged(0));
     }
-    Ok(opened)
+    Ok((opened, held))
 }

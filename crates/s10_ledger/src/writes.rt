@@ -1,18 +1,20 @@
 //! The writes of a kept call.
 
-ghost use Rattle.std.specs.Prelude.{◌≡◌, ◌≤◌, ◌++◌, ◌∷◌, [], pos, true, IsTrue, List, length, filter, IfSome, OnOk, OnErr};
+ghost use Rattle.std.specs.Prelude.{◌≡◌, ◌≤◌, ◌⊎◌, ◌++◌, ◌∷◌, [], pos, true, IsTrue, List, length, filter, IfSome, OnOk, OnErr};
+ghost use Rattle.sqlite_trees.specs.Tree.{Trees};
 ghost use Rattle.sqlite_trees.specs.View.{doubt};
 ghost use Rattle.sqlite.specs.Held.{state};
 ghost use Rattle.sqlite.specs.State.{HasCleanDisk, Shows, KeepsCommit, Survives};
 ghost use Rattle.s10_rows.specs.CallRow.{StoredCall};
 ghost use Rattle.s10_rows.specs.Tables.{Tables};
 ghost use Rattle.s10_ledger.specs.Shown.{HasTables};
+ghost use Rattle.s10_ledger.specs.Settled.{IsSettled};
 ghost use Rattle.s10_rows.specs.Kept.{is_at, with_range, with_serial};
 ghost use Rattle.std.specs.Prelude.{Some};
 
 use s10_book::Entry;
 use s10_rows::{RangeRow, SerialRow};
-use sqlite::{Alter, Connection, Error, ErrorCode, Transaction, params};
+use sqlite::{Alter, Connection, Error, Transaction, params};
 
 /// Adds the row of a call.
 pub(crate) fn put_call<S: Alter>(
@@ -114,6 +116,7 @@ fn put_range_made<S: Alter>(
     ensures inside { HasCleanDisk (state S.Store tx.new.conn.now) → IsTrue (state S.Store tx.old.conn.now).in_transaction
         → OnOk result (IsTrue (state S.Store tx.new.conn.now).in_transaction) }
     ensures kept { HasCleanDisk (state S.Store tx.new.conn.now) → IsTrue (state S.Store tx.old.conn.now).in_transaction → KeepsCommit (state S.Store tx.old.conn.now) (state S.Store tx.new.conn.now) }
+    ensures survives { Survives (state S.Store tx.old.conn.now) (state S.Store tx.new.conn.now) (λ _. ⊥) }
     ensures clean { doubt (state S.Store tx.old.conn.now).is_clean ≤ doubt (state S.Store tx.new.conn.now).is_clean }
 {
     match range {
@@ -132,6 +135,7 @@ fn put_serial_made<S: Alter>(
     ensures inside { HasCleanDisk (state S.Store tx.new.conn.now) → IsTrue (state S.Store tx.old.conn.now).in_transaction
         → OnOk result (IsTrue (state S.Store tx.new.conn.now).in_transaction) }
     ensures kept { HasCleanDisk (state S.Store tx.new.conn.now) → IsTrue (state S.Store tx.old.conn.now).in_transaction → KeepsCommit (state S.Store tx.old.conn.now) (state S.Store tx.new.conn.now) }
+    ensures survives { Survives (state S.Store tx.old.conn.now) (state S.Store tx.new.conn.now) (λ _. ⊥) }
     ensures clean { doubt (state S.Store tx.old.conn.now).is_clean ≤ doubt (state S.Store tx.new.conn.now).is_clean }
 {
     match serial {
@@ -149,6 +153,9 @@ pub(crate) fn keep_rows<S: Alter>(
     range: &Option<RangeRow>,
     serial: &Option<SerialRow>,
 ) -> Result<(), Error>
+    requires settled { IsSettled S.Store conn.old }
+    ensures settled { IsSettled S.Store conn.new }
+    ensures opened { HasCleanDisk (state S.Store conn.new) → OnOk result (IsTrue (state S.Store conn.new).is_open) }
     ensures all { let row : StoredCall = record { arrival = pos arrival; customer = pos entry.now.request.customer; number = pos entry.now.request.number; day = pos entry.now.day; reply = reply.now } in
         HasCleanDisk (state S.Store conn.new) → OnOk result ((tables : Tables) → HasTables (state S.Store conn.old).now tables
         → IfSome serial.now (λ s. length (filter (is_at s.pair s.serial) tables.serials) ≤ 1)
@@ -156,10 +163,12 @@ pub(crate) fn keep_rows<S: Alter>(
     ensures none { HasCleanDisk (state S.Store conn.new) → IsTrue (state S.Store conn.new).is_open → OnErr result ((state S.Store conn.new).now ≡ (state S.Store conn.old).now) }
     ensures was_open { HasCleanDisk (state S.Store conn.new) → IsTrue (state S.Store conn.new).is_open → IsTrue (state S.Store conn.old).is_open }
     ensures clean { doubt (state S.Store conn.old).is_clean ≤ doubt (state S.Store conn.new).is_clean }
+    ensures crash { let row : StoredCall = record { arrival = pos arrival; customer = pos entry.now.request.customer; number = pos entry.now.request.number; day = pos entry.now.day; reply = reply.now } in
+        HasCleanDisk (state S.Store conn.new) → (db : Trees) → (state S.Store conn.new).may_leave db
+        → (state S.Store conn.old).may_leave db ⊎ (IsTrue (state S.Store conn.old).is_open × ((tables : Tables) → HasTables (state S.Store conn.old).now tables
+        → IfSome serial.now (λ s. length (filter (is_at s.pair s.serial) tables.serials) ≤ 1)
+        → HasTables (record (state S.Store conn.old).now { trees = db }) (record tables { calls = tables.calls ++ row ∷ []; ranges = with_range range.now tables.ranges; serials = with_serial serial.now tables.serials }))) }
 {
-    if !conn.is_autocommit() {
-        return Err(Error::SqliteFailure(ErrorCode::TransactionState));
-    }
     let mut tx = conn.transaction();
     put_call(&mut tx, arrival, entry, reply)?;
     put_range_made(&mut tx, range)?;

@@ -47,6 +47,7 @@ fn a_new_ledger_has_its_settings_and_no_call(rt: HostRuntime) -> Result<(), Fail
     assert_eq!(rt; book.settings(), settings);
     assert_eq!(rt; book.entry(1), Ok(None));
     assert_eq!(rt; book.range(1), Ok(None));
+    assert!(rt; book.connection().is_autocommit());
     let mut conn = book.close();
     assert!(rt; holds(rt.alloc(), &mut conn, &HEAD, [1, 0, 0, 0])?);
     Ok(())

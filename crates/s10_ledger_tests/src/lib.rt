@@ -12,6 +12,8 @@ mod made_rows;
 #[cfg(test)]
 mod many_draws;
 #[cfg(test)]
+mod many_ranges;
+#[cfg(test)]
 mod openings;
 #[cfg(test)]
 mod readings;

@@ -1,6 +1,6 @@
 //! The rows that calls make.
 
-use s10_book::{BookFault, Entry};
+use s10_book::{BookFault, Entry, Range};
 use s10_core::{Country, Id, Serial, Service};
 use s10_rows::{Made, RangeRow, SerialRow, drawn_rows, granted_row, voided_row};
 use s10_wire::{Body, Outcome, Request};
@@ -52,6 +52,19 @@ fn draw(rt: &impl Abort, number: u32, day: u32, value: u32) -> Entry {
 }
 
 /// Customer 7's range 1, RA GB 0 to 2.
+fn first_range(rt: &impl Abort) -> Range {
+    let (service, country) = letters(rt);
+    Range {
+        num: 1,
+        holder: 7,
+        service,
+        country,
+        first: serial(rt, 0),
+        last: serial(rt, 2),
+    }
+}
+
+/// Its row.
 fn range_row(mark: i64) -> RangeRow {
     RangeRow {
         num: 1,
@@ -121,22 +134,12 @@ fn mark_goes_on_by_one_and_back_behind_the_last(rt: HostRuntime) {
                 0,
             )),
         };
-        let rows = [range_row(i64::from(value))];
         assert_eq!(rt;
-            drawn_rows(&rows, arrival, &drawn, &id(&rt, value)),
-            Ok(made),
+            drawn_rows(&first_range(&rt), arrival, &drawn, &id(&rt, value)),
+            made,
             "at {arrival}"
         );
     }
-}
-
-#[test]
-fn draw_from_no_range_is_a_fault_of_the_store(rt: HostRuntime) {
-    let drawn = draw(&rt, 1, 20000, 3);
-    assert_eq!(rt;
-        drawn_rows(&[range_row(0)], 2, &drawn, &id(&rt, 3)),
-        Err(BookFault::Store)
-    );
 }
 
 #[test]

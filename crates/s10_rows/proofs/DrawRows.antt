@@ -186,10 +186,9 @@ draw_makes h t e day x r legal may calls call done there lies =
 abbrev pub covers : Id → Range → Bool
 covers x = overlaps x.service x.country x.serial x.serial
 
-pub covering : (h : List Entry) (x : Id) (result : Result (Option Range) BookFault) (o : Option Range) (r : Range) → result ≡ Ok (find (covers x) (ranges_of h)) → result ≡ Ok o → o ≡ Some r → Contains (ranges_of h) r × (lies_in r x ≡ true)
-covering h x result o r answer is some =
-    let same : find (covers x) (ranges_of h) ≡ o = cc in
-    let found : find (covers x) (ranges_of h) ≡ Some r = same ∙ some in
+-- the range that is found has it
+pub covering : (h : List Entry) (x : Id) (r : Range) → find (covers x) (ranges_of h) ≡ Some r → Contains (ranges_of h) r × (lies_in r x ≡ true)
+covering h x r found =
     (Contains-find (covers x) (ranges_of h) r found, (and_parts (lies_in r x) (leb x.serial x.serial) (found_passes (covers x) (ranges_of h) r found)).0)
 
 never_missed : (p : Range → Bool) (rs : List Range) (r : Range) → Contains rs r → p r ≡ true → find p rs ≡ None → ⊥
@@ -207,12 +206,6 @@ covered h t e day x legal may done none =
     let from = drawn_from h e.request.customer e.day t.interval day e.request.body x (sym may.right ∙ done) in
     never_missed (covers x) (ranges_of h) from.range from.there
     (and_from (lies_in from.range x) (leb x.serial x.serial) (lies_picked h t e.request.customer e.day t.interval (issues_of h) (day, x) legal from) (le-leb x.serial x.serial (omega arith))) none
-
-pub never_none : (h : List Entry) (t : Terms) (e : Entry) (day : ℕ) (x : Id) (result : Result (Option Range) BookFault) (o : Option Range) → IsLegal h t → MayFollow h t e → e.outcome ≡ Drawn day x
-    → result ≡ Ok (find (covers x) (ranges_of h)) → result ≡ Ok o → o ≡ None → ⊥
-never_none h t e day x result o legal may done answer is none =
-    let same : find (covers x) (ranges_of h) ≡ o = cc in
-    covered h t e day x legal may done (same ∙ none)
 
 -- a Done Draw issues on its own day
 pub same_day : (h : List Entry) (t : Terms) (e : Entry) (day : ℕ) (x : Id) → MayFollow h t e → e.outcome ≡ Drawn day x → day ≡ e.day

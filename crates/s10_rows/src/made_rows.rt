@@ -1,6 +1,6 @@
 //! The rows that a kept call makes.
 
-ghost use Rattle.std.specs.Prelude.{◌≡◌, ℕ, ◌+◌, ◌==◌, pos, false, if◌then◌else◌, List, length, filter, All, None, IfOk, IfErr, IsOk, IsSome};
+ghost use Rattle.std.specs.Prelude.{◌≡◌, ℕ, ◌+◌, ◌==◌, pos, false, true, if◌then◌else◌, List, length, filter, All, Contains, None, IfOk, IfErr, IsOk, IsSome};
 ghost use Rattle.s10_core.specs.declared.id.Id.{Id};
 ghost use Rattle.s10_wire.specs.declared.body.Body.TheVariants.{Void};
 ghost use Rattle.s10_wire.specs.declared.outcome.Outcome.TheVariants.{Granted, Drawn, Voided};
@@ -8,13 +8,13 @@ ghost use Rattle.s10_book.specs.declared.entry.Entry.{Entry};
 ghost use Rattle.s10_book.specs.declared.issuance.Issuance.{Issuance};
 ghost use Rattle.s10_book.specs.Settings.{Terms};
 ghost use Rattle.s10_book.specs.Rules.{IsLegal, MayFollow};
+ghost use Rattle.s10_book.specs.History.{ranges_of, lies_in};
 ghost use Rattle.s10_rows.specs.declared.serial_row.SerialRow.{SerialRow};
-ghost use Rattle.s10_rows.specs.Tables.{HaveSameRows, pair_of, range_row, range_rows, serial_row, serial_rows};
+ghost use Rattle.s10_rows.specs.Tables.{HaveSameRows, pair_of, range_row, serial_row, serial_rows};
 ghost use Rattle.s10_rows.specs.Selected.{IsCall, is_within};
 ghost use Rattle.s10_rows.specs.Kept.{Makes};
 
 use crate::column::pair_number;
-use crate::range_reading::range_over;
 use crate::range_row::RangeRow;
 use crate::serial_row::SerialRow;
 use s10_book::{BookFault, Entry, Range};
@@ -108,29 +108,18 @@ pub fn granted_row(entry: &Entry) -> Made
     }
 }
 
-/// What a Done Draw makes: the row of the range of its identifier, with the mark behind it, and the row of the issue. A fault
-/// of the store where no row of a range has the identifier.
-pub fn drawn_rows(
-    ranges: &[RangeRow],
-    arrival: u32,
-    entry: &Entry,
-    id: &Id,
-) -> Result<Made, BookFault>
-    ensures store { IfErr result (λ f. f ≡ BookFault.Store) }
-    ensures rows { IfOk result (λ made. IsSome made.range × IsSome made.serial) }
+/// What a Done Draw makes of the range that has its identifier: the range's row, with the mark behind it, and the row of the
+/// issue.
+pub fn drawn_rows(range: &Range, arrival: u32, entry: &Entry, id: &Id) -> Made
+    ensures rows { IsSome result.range × IsSome result.serial }
     ensures makes { (h : List Entry) (t : Terms) (day : ℕ) → IsLegal h t → MayFollow h t entry.now → All IsCall h → IsCall entry.now → entry.now.outcome ≡ Drawn day id.now
-        → arrival ≡ length h + 1 → ranges.now ≡ range_rows h → IfOk result (λ made. Makes h entry.now made.range made.serial) }
-    ensures done { (h : List Entry) (t : Terms) (day : ℕ) → IsLegal h t → MayFollow h t entry.now → All IsCall h → entry.now.outcome ≡ Drawn day id.now
-        → arrival ≡ length h + 1 → ranges.now ≡ range_rows h → IsOk result }
+        → arrival ≡ length h + 1 → Contains (ranges_of h) range.now → lies_in range.now id.now ≡ true → Makes h entry.now result.range result.serial }
 {
-    let Ok(Some(range)) = range_over(ranges, id.service, id.country, id.serial, id.serial) else {
-        return Err(BookFault::Store);
-    };
-    let mark = serial_behind(&range, id.serial);
-    Ok(Made {
-        range: Some(row_of(&range, mark)),
+    let mark = serial_behind(range, id.serial);
+    Made {
+        range: Some(row_of(range, mark)),
         serial: Some(issue_row(arrival, entry, id)),
-    })
+    }
 }
 
 // The row, voided.

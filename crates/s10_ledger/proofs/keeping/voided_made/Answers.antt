@@ -1,5 +1,4 @@
-use Rattle.std.proofs.Common.{rules, ◌≡◌, refl, sym, ◌∙◌}
-use Rattle.s10_rows.specs.Tables.{HaveSameRows, tables_of}
+use Rattle.s10_rows.specs.Tables.{tables_of}
 use Rattle.s10_ledger.proofs.keeping.voided_made.Goals as goal
 
 pub returns-clause-answer : goal.returns-clause-answer

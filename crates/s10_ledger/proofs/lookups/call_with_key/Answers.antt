@@ -1,5 +1,5 @@
-use Rattle.std.proofs.Common.{rules, ◌≡◌, refl, subst, List, ◌∙◌}
-use Rattle.s10_rows.specs.Tables.{HaveSameRows, tables_of}
+use Rattle.std.proofs.Common.{refl}
+use Rattle.s10_rows.specs.Tables.{tables_of}
 use Rattle.s10_ledger.proofs.lookups.call_with_key.Goals as goal
 
 pub returns-clause-answer : goal.returns-clause-answer

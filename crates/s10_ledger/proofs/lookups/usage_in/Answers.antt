@@ -1,6 +1,6 @@
-use Rattle.std.proofs.Common.{rules, ◌≡◌, refl, subst, List, ◌∙◌}
+use Rattle.std.proofs.Common.{refl}
 use Rattle.s10_book.specs.History.{ranges_of}
-use Rattle.s10_rows.specs.Tables.{HaveSameRows, tables_of}
+use Rattle.s10_rows.specs.Tables.{tables_of}
 use Rattle.s10_rows.specs.Selected.{IsRange}
 use Rattle.s10_rows.proofs.Parts.{ranges_of_fit}
 use Rattle.std.proofs.lemmas.List.Elements.{All-contains}

@@ -1,4 +1,4 @@
-use Rattle.std.proofs.Common.{rules, ◌≡◌, pos, [], ◌∙◌, ap, map}
+use Rattle.std.proofs.Common.{[], ◌∙◌, ap, map}
 use Rattle.std.proofs.lemmas.Result.{IfOk-weaker}
 use Rattle.sqlite.specs.Held.{state}
 use Rattle.s10_ledger.specs.Shown.{serial_front}

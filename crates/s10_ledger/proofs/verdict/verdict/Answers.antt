@@ -46,7 +46,7 @@ returns-then-not-branch-2-clause-err c =
     let it = c.in_ok-made.ensures in
     let t = c.in_ok-settings.settings in
     let opened = c.in_ok-made.opened in
-    let serials = told_after c.in_ok-made.made c.has_ranges.new.conn t opened.len opened.day c.args.calls.now c.in_ok-has_ranges.ensures.leaves it.ledger it.history serial_rows c.args.serials.now c.in_ok-has_serials.field-0
+    let serials = told_after c.in_ok-made.made c.has_ranges.new.conn t opened.len opened.day c.args.calls.now c.in_ok-has_ranges.ensures.leaves it.settled it.ledger it.history serial_rows c.args.serials.now c.in_ok-has_serials.field-0
     (c.in_ok-has_serials.ensures.answer (memory_is_clean c.has_serials.new.conn)) in
     (t, c.in_ok-settings.ensures.ok, it.right, λ made. both_ways c.in_ok-has_serials.field-0 c.if-not-branch-2.true (serials.1 made.serials))
 
@@ -59,6 +59,6 @@ returns-clause-ok c =
     let db = (state over_memory c.in_ok-made.made).now in
     let ranges = told db t opened.len opened.day c.args.calls.now it.ledger it.history range_rows c.args.ranges.now c.in_ok-has_ranges.field-0
     (λ h u calls stands. c.in_ok-has_ranges.ensures.answer (memory_is_clean c.has_ranges.new.conn) h u stands) in
-    let serials = told_after c.in_ok-made.made c.has_ranges.new.conn t opened.len opened.day c.args.calls.now c.in_ok-has_ranges.ensures.leaves it.ledger it.history serial_rows c.args.serials.now c.in_ok-has_serials.field-0
+    let serials = told_after c.in_ok-made.made c.has_ranges.new.conn t opened.len opened.day c.args.calls.now c.in_ok-has_ranges.ensures.leaves it.settled it.ledger it.history serial_rows c.args.serials.now c.in_ok-has_serials.field-0
     (c.in_ok-has_serials.ensures.answer (memory_is_clean c.has_serials.new.conn)) in
     whole tables t opened db c.in_ok-settings.ensures.ok it.settings it.right it.ledger it.history (record { ranges = ranges.0 c.if-not-branch.false; serials = serials.0 c.if-not-branch-2.false })

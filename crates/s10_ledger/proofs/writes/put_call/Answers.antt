@@ -1,4 +1,4 @@
-use Rattle.std.proofs.Common.{rules, ◌≡◌, pos}
+use Rattle.std.proofs.Common.{pos}
 use Rattle.sqlite.specs.Held.{state}
 use Rattle.s10_rows.specs.CallRow.{StoredCall}
 use Rattle.s10_ledger.proofs.KeepLemmas.{keeps}

@@ -10,3 +10,6 @@ returns-in-Ok-create-clause-empty c = c.in-Ok-create.ensures.empty (c.in-Ok-crea
 
 pub returns-in-Ok-create-clause-alone : goal.returns-in-Ok-create-clause-alone
 returns-in-Ok-create-clause-alone c = c.in-Ok-create.ensures.alone (c.in-Ok-create.ensures.honest (memory_is_clean c.in-Ok-create.book.conn) refl)
+
+pub returns-in-Ok-create-clause-committed : goal.returns-in-Ok-create-clause-committed
+returns-in-Ok-create-clause-committed c = c.in-Ok-create.ensures.committed (c.in-Ok-create.ensures.honest (memory_is_clean c.in-Ok-create.book.conn) refl)

@@ -1,10 +1,24 @@
-use Rattle.std.proofs.Common.{arith}
+use Rattle.std.proofs.Common.{arith, ◌∙◌, sym, ap}
+use Rattle.std.specs.Prelude.{map}
 use Rattle.sqlite.specs.Held.{state}
+use Rattle.s10_book.specs.History.{ranges_of}
+use Rattle.s10_book.specs.Issues.{issues_of, pick_of}
 use Rattle.s10_ledger.proofs.NewLedger.{no_history, new_ledger}
 use Rattle.s10_ledger.proofs.sql_book.SqlBook.create.Goals as goal
 
 pub invariant_of-result : goal.invariant_of-result
-invariant_of-result g c = (omega arith, λ clean opened. new_ledger (state g.S.Store c.make_ledger.new.conn).now c.args.settings (c.in_default-make_ledger.ensures.all clean (c.refusal_of.ensures.none c.in_default.is)))
+invariant_of-result g c = (
+  omega arith,
+  λ clean opened. new_ledger (state g.S.Store c.make_ledger.new.conn).now c.args.settings (c.in_default-make_ledger.ensures.all clean (c.refusal_of.ensures.none c.in_default.is)),
+  c.in_default-make_ledger.ensures.settled,
+  λ clean opened.
+      let none = no_history (state g.S.Store c.make_ledger.new.conn).now c.args.settings (c.in_default-make_ledger.ensures.all clean (c.refusal_of.ensures.none c.in_default.is)) in
+      record {
+        ranges = c.new.ensures.ranges ∙ sym (ap ranges_of none);
+        marks = c.new.ensures.marks ∙ sym (ap (λ h. map (pick_of (issues_of h)) (ranges_of h)) none);
+      },
+  λ so clean. c.in_default-make_ledger.ensures.opened clean,
+)
 
 pub returns-clause-empty : goal.returns-clause-empty
 returns-clause-empty g c honest = no_history (state g.S.Store c.make_ledger.new.conn).now c.args.settings (c.in_default-make_ledger.ensures.all honest.clean (c.refusal_of.ensures.none c.in_default.is))

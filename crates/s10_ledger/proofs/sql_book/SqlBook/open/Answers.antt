@@ -1,6 +1,10 @@
+use Rattle.std.proofs.Common.{rules, sym}
 use Rattle.sqlite.specs.Held.{state}
 use Rattle.s10_ledger.proofs.RefusalLemmas.{ledger_opens}
 use Rattle.s10_ledger.proofs.sql_book.SqlBook.open.Goals as goal
 
 pub returns-in-Err-clause-whole : goal.returns-in-Err-clause-whole
 returns-in-Err-clause-whole g c clean opened t len day limits it = ledger_opens (state g.S.Store c.args.conn).now t len day limits it c.in-Err.fault (c.in-Err.ensures.refused clean opened)
+
+pub ledger_in-requires : goal.ledger_in-requires
+ledger_in-requires g c = record { settled = record { idle = c.requires.idle; committed = λ clean opened. sym (c.is_autocommit.ensures.settled (search rules) opened) } }

@@ -1,27 +1,11 @@
-use Rattle.std.proofs.Common.{rules, ◌≡◌, ◌==◌, find, arith}
-use base.Stored.{Coded-set}
-use Rattle.std.specs.Coded.{coded_option}
-use Rattle.s10_book.specs.contracts.range.Range.{the_row}
-use Rattle.sqlite.specs.Held.{state}
-use Rattle.s10_book.specs.History.{entry_with_key, entry_at, ranges_of, is_held_above, overlaps}
-use Rattle.s10_book.specs.Issues.{last_issue_of, candidate_of}
-use Rattle.s10_book.specs.Usage.{usage_of}
-use Rattle.s10_ledger.specs.Ledger.{Ledger, history_in}
-use Rattle.s10_ledger.proofs.BookLemmas.{still_kept, was_ledger, read_keeps, answered}
+use Rattle.std.proofs.Common.{◌≡◌, ◌==◌, ◌∙◌, List, ap}
+use Rattle.std.specs.Prelude.{find}
+use Rattle.s10_book.specs.declared.entry.Entry.{Entry}
+use Rattle.s10_book.specs.History.{ranges_of, overlaps}
 use Rattle.s10_ledger.proofs.sql_book.SqlBookBook.covering.Goals as goal
 
-pub invariant_of-self : goal.invariant_of-self
-invariant_of-self g c =
-    (c.self.invariant.0, still_kept g.S.Store c.self.inside.conn c.range_covering-found.new.conn c.self.inside.settings c.self.inside.len c.self.inside.day c.range_covering-found.ensures.leaves c.self.invariant.1)
-
-pub returns-clause-keeps : goal.returns-clause-keeps
-returns-clause-keeps g c =
-    let old : Ledger g.row.S.Denot = record { conn = c.self.inside.conn; terms = c.self.inside.settings; len = c.self.inside.len; day = c.self.inside.day; faults = c.self.inside.faults } in
-    rw (← c.self.view_is) (read_keeps g.S.Store old c.range_covering-found.new.conn c.counted.new.faults c.range_covering-found.ensures.leaves c.self.invariant.1)
-
 pub returns-clause-answer : goal.returns-clause-answer
-returns-clause-answer g c honest =
-    let old : Ledger g.row.S.Denot = record { conn = c.self.inside.conn; terms = c.self.inside.settings; len = c.self.inside.len; day = c.self.inside.day; faults = c.self.inside.faults } in
-    let was = was_ledger g.S.Store c.self.inside.conn c.range_covering-found.new.conn c.self.inside.settings c.self.inside.len c.self.inside.day c.range_covering-found.ensures.leaves c.self.invariant.1 honest.clean honest.is_open in
-    rw (c.counted.ensures.same, ← c.self.view_is) (answered (Coded-set (coded_option the_row.coded)) c.range_covering-found.result (find (overlaps c.args.service c.args.country c.args.first c.args.last) (ranges_of (history_in (state g.S.Store c.self.inside.conn).now))) was.held
-    (λ h. c.range_covering-found.ensures.answer honest.clean (history_in (state g.S.Store c.self.inside.conn).now) c.self.inside.settings was.legal h.calls h.tables (omega (arith, h.len_is, c.self.invariant.0))))
+returns-clause-answer g c =
+    let kept = rw (← c.self.view_is) at c.ask_again.ensures.keeps in
+    rw (← c.self.view_is) (λ honest. c.over.ensures ∙ ap (find (overlaps c.args.service c.args.country c.args.first c.args.last)) (c.self.invariant.3 honest.clean honest.is_open).ranges
+    ∙ ap (λ (h : List Entry). find (overlaps c.args.service c.args.country c.args.first c.args.last) (ranges_of h)) (kept.same_history honest))

@@ -1,0 +1,20 @@
+use Rattle.std.proofs.Common.{rules, ◌≡◌, ◌==◌, find, arith}
+use base.Stored.{Coded-set}
+use Rattle.std.specs.Coded.{coded_option}
+use Rattle.s10_book.specs.contracts.entry.Entry.{the_row}
+use Rattle.sqlite.specs.Held.{state}
+use Rattle.s10_book.specs.History.{entry_with_key, entry_at, ranges_of, is_held_above, overlaps}
+use Rattle.s10_book.specs.Issues.{last_issue_of, candidate_of}
+use Rattle.s10_book.specs.Usage.{usage_of}
+use Rattle.s10_ledger.specs.Ledger.{Ledger, history_in}
+use Rattle.s10_ledger.proofs.BookLemmas.{still_kept, still_mirrored, if_answered, was_ledger, read_keeps, answered}
+use Rattle.s10_ledger.proofs.sql_book.SqlBook.ask_again.Goals as goal
+
+pub invariant_of-self : goal.invariant_of-self
+invariant_of-self g c =
+    (c.self.invariant.0, still_kept g.S.Store c.self.inside.conn c.call_at-found.new.conn c.self.inside.settings c.self.inside.len c.self.inside.day c.call_at-found.ensures.leaves c.self.invariant.2 c.self.invariant.1, c.call_at-found.ensures.leaves.settled c.self.invariant.2, still_mirrored g.S.Store c.self.inside.conn c.call_at-found.new.conn c.self.inside.settings c.self.inside.len c.self.inside.day c.call_at-found.ensures.leaves c.self.invariant.2 c.self.invariant.1 c.self.inside.ranges c.self.invariant.3, λ so clean. if_answered c.call_at-found.result _ c.is_ok-answered.result c.is_ok-answered.ensures.value (c.call_at-found.ensures.opened clean) so)
+
+pub returns-clause-keeps : goal.returns-clause-keeps
+returns-clause-keeps g c =
+    let old : Ledger g.row.S.Denot = record { conn = c.self.inside.conn; terms = c.self.inside.settings; len = c.self.inside.len; day = c.self.inside.day; faults = c.self.inside.faults } in
+    rw (← c.self.view_is) (read_keeps g.S.Store old c.call_at-found.new.conn c.counted.new.faults c.call_at-found.ensures.leaves c.self.invariant.2 c.self.invariant.1)

@@ -1,0 +1,117 @@
+//! Hundreds of ranges of many holders, granted in an order that is not that of their serials, over both books.
+
+ghost use Rattle.std.specs.Prelude.{◌≤◌};
+
+use crate::calls::{answer, draw, gb, grant, ledger, ra, serial, settings};
+use s10_book::{Book, PlainBook, Settings};
+use s10_ledger::SqlBook;
+use s10_wire::Request;
+use sqlite::MemStore;
+use std::process::Abort;
+
+const RANGES: u32 = 300;
+
+const HOLDERS: u32 = 9;
+
+// Whether both books answer the request alike.
+fn answer_alike<A: Book, B: Book>(one: &mut A, other: &mut B, request: &Request) -> bool {
+    answer(one, request, 20000) == answer(other, request, 20000)
+}
+
+// Whether the books answer Grants of one to ten serials alike, which go through the serials in steps of seventy.
+fn grants_are_alike<A: Book, B: Book>(one: &mut A, other: &mut B, grants: u32) -> bool
+    requires { grants ≤ 1000 }
+{
+    for place in 0..grants {
+        let slot = place * 7 % grants;
+        let first = slot * 10;
+        let request = grant(0, place + 1, 1 + place % HOLDERS, first, first + slot % 10);
+        if !answer_alike(one, other, &request) {
+            return false;
+        }
+    }
+    true
+}
+
+// Whether they answer Grants alike that overlap one range, or several, or none.
+fn overlaps_are_alike<A: Book, B: Book>(one: &mut A, other: &mut B, grants: u32) -> bool
+    requires { grants ≤ 1000 }
+{
+    for place in 0..grants {
+        let first = place * 37;
+        let request = grant(0, 2000 + place, 1, first, first + place % 20);
+        if !answer_alike(one, other, &request) {
+            return false;
+        }
+    }
+    true
+}
+
+// Whether they answer as many Draws of the holders in turn alike.
+fn draws_are_alike<A: Book, B: Book>(one: &mut A, other: &mut B, draws: u32) -> bool {
+    for place in 0..draws {
+        let request = draw(1 + place % HOLDERS, 1 + place / HOLDERS);
+        if !answer_alike(one, other, &request) {
+            return false;
+        }
+    }
+    true
+}
+
+// Whether they have the same range of that number, and find the same ones.
+fn range_is_alike<A: Book, B: Book>(one: &mut A, other: &mut B, place: u32) -> bool
+    requires { place ≤ 1000 }
+{
+    let first = serial(place * 10 + 5);
+    let last = serial(place * 10 + 35);
+    let holder = 1 + place % HOLDERS;
+    one.range(place) == other.range(place)
+        && one.covering(ra(), gb(), first, last) == other.covering(ra(), gb(), first, last)
+        && one.next_range(holder, ra(), gb(), place) == other.next_range(holder, ra(), gb(), place)
+}
+
+fn ranges_are_alike<A: Book, B: Book>(one: &mut A, other: &mut B, ranges: u32) -> bool
+    requires { ranges ≤ 1000 }
+{
+    for place in 0..ranges {
+        if !range_is_alike(one, other, place) {
+            return false;
+        }
+    }
+    true
+}
+
+// The ledger, closed and opened again.
+fn opened_again<R: Abort + AllocGlobal>(rt: &R, book: SqlBook<MemStore>) -> SqlBook<MemStore> {
+    match SqlBook::open(rt.alloc(), book.close()) {
+        Ok(book) => book,
+        Err(refused) => panic!(rt; "{}", refused.fault),
+    }
+}
+
+fn new_books<R: Abort + AllocGlobal>(rt: &R, settings: Settings) -> (PlainBook, SqlBook<MemStore>) {
+    (PlainBook::new(rt.alloc(), settings), ledger(rt, settings))
+}
+
+#[test]
+fn ranges_of_many_holders_are_answered_alike(rt: HostRuntime) {
+    let (mut plain, mut tables) = new_books(&rt, settings(&rt, 10_000));
+    assert!(rt; grants_are_alike(&mut plain, &mut tables, RANGES));
+    assert!(rt; overlaps_are_alike(&mut plain, &mut tables, RANGES));
+    assert!(rt; draws_are_alike(&mut plain, &mut tables, 1_000));
+    assert!(rt; ranges_are_alike(&mut plain, &mut tables, RANGES + 10));
+    assert_eq!(rt; tables.len(), plain.len());
+    let _ = tables.close();
+}
+
+#[test]
+fn ranges_are_found_as_before_once_the_ledger_is_opened_again(rt: HostRuntime) {
+    let (mut plain, mut tables) = new_books(&rt, settings(&rt, 10_000));
+    assert!(rt; grants_are_alike(&mut plain, &mut tables, RANGES));
+    assert!(rt; draws_are_alike(&mut plain, &mut tables, 500));
+    let mut opened = opened_again(&rt, tables);
+    assert!(rt; ranges_are_alike(&mut plain, &mut opened, RANGES + 10));
+    assert!(rt; overlaps_are_alike(&mut plain, &mut opened, RANGES));
+    assert_eq!(rt; opened.len(), plain.len());
+    let _ = opened.close();
+}

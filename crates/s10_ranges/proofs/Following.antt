@@ -1,0 +1,206 @@
+-- What a kept call makes of the ranges that are held.
+use Rattle.std.proofs.Common.{append-nil, ◌≡◌, ◌∙◌, ℕ, zero, suc, ◌+◌, ◌-◌, ◌<◌, ◌≤◌, Bool, true, false, cond, List, [], ◌∷◌, ◌++◌, map, set, Option, Some, None, length, get_or, refl, sym, ap, ap₂, subst, arith, inl, inr}
+use Rattle.std.specs.Prelude.{find, option_to_list, if◌then◌else◌, ◌==◌}
+use Rattle.std.proofs.lemmas.Bool.{and_parts, leb-true, and_from, cases_order, false_from_ne_true, le-leb}
+use Rattle.std.proofs.lemmas.Option.{none-some, same_Some}
+use Rattle.std.proofs.lemmas.List.{map-append}
+use Rattle.s10_core.specs.declared.id.Id.{Id}
+use Rattle.s10_wire.specs.declared.body.Body.{Body}
+use Rattle.s10_wire.specs.declared.body.Body.TheVariants.{Grant}
+use Rattle.s10_wire.specs.declared.outcome.Outcome.{Outcome}
+use Rattle.s10_wire.specs.declared.outcome.Outcome.TheVariants.{Granted, Drawn, NotThePost, BadGrant, Overlap}
+use Rattle.s10_book.specs.declared.entry.Entry.{Entry}
+use Rattle.s10_book.specs.declared.range.Range.{Range}
+use Rattle.s10_book.specs.Settings.{Terms}
+use Rattle.s10_book.specs.History.{ranges_of, range_of_grant, overlaps, lies_in}
+use Rattle.s10_book.specs.Issues.{issues_of, pick_of}
+use Rattle.s10_book.specs.Rules.{IsLegal, MayFollow, body_answer}
+use Rattle.s10_book.proofs.Ranges.{Contains-find, found_passes}
+use Rattle.s10_book.proofs.Push.{ranges_from-push, length-ranges_from}
+use Rattle.s10_book.proofs.Marks.{pick_new, pick_drawn, pick_left}
+use Rattle.s10_book.proofs.Own.{new_ordered, drawn_from, lies_picked}
+use Rattle.s10_book.proofs.Apart.{none_pass, apart}
+use Rattle.s10_ranges.specs.declared.ranges.Ranges.{Ranges}
+use Rattle.s10_ranges.specs.Mirror.{Mirrors}
+use Rattle.s10_ranges.specs.Sound.{AreSound}
+use Rattle.s10_ranges.proofs.Found.{find_none, find_first}
+use Rattle.s10_ranges.proofs.Orders.{at_place}
+
+-- a range that is found has a number of the list
+pub found_number : (p : Range → Bool) (rs : List Range) (r : Range) → AreSound rs → find p rs ≡ Some r → (0 < r.num) × (r.num ≤ length rs)
+found_number p rs r sound found =
+    let there = Contains-find p rs r found in
+    let at = sound there.0 r there.1 in
+    let e : (get_or rs there.0 r).num ≡ r.num = ap (λ (x : Range). x.num) there.2 in
+    (omega (arith, at.num, e), omega (arith, at.num, e, there.1))
+
+-- and one of the identifier ends not before its serial
+pub found_reaches : (s c : ℕ × ℕ) (n : ℕ) (rs : List Range) (r : Range) → find (overlaps s c n n) rs ≡ Some r → n ≤ r.last
+found_reaches s c n rs r found =
+    let a = and_parts _ _ (found_passes (overlaps s c n n) rs r found) in
+    let b = and_parts _ _ a.0 in
+    leb-true n r.last b.1
+
+granted_parts : (b1 b2 b3 : Bool) (n m : ℕ) → cond b1 NotThePost (cond b2 BadGrant (cond b3 Overlap (Granted n))) ≡ Granted m → n ≡ m
+granted_parts true b2 b3 n m e = cc
+granted_parts false true b3 n m e = cc
+granted_parts false false true n m e = cc
+granted_parts false false false n m e = cc
+
+granted_when : (b1 b2 b3 : Bool) (n m : ℕ) → cond b1 NotThePost (cond b2 BadGrant (cond b3 Overlap (Granted n))) ≡ Granted m → b3 ≡ false
+granted_when true b2 b3 n m h = cc
+granted_when false true b3 n m h = cc
+granted_when false false true n m h = cc
+granted_when false false false n m h = refl
+
+-- what is known of the range of a Done Grant
+pub record IsNext (h : List Entry) (e : Entry) (r : Range) : Type 0 where
+  pub made : range_of_grant (length (ranges_of h) + 1) e.request.body e.outcome ≡ Some r
+  pub num : r.num ≡ length (ranges_of h) + 1
+  pub proper : r.first ≤ r.last
+  pub apart : find (overlaps r.service r.country r.first r.last) (ranges_of h) ≡ None
+
+next_made : (h : List Entry) (customer day interval num : ℕ) (b : Body) (o : Outcome) (r : Range) → o ≡ body_answer h customer b day interval → o ≡ Granted num → range_of_grant num b (Granted num) ≡ Some r
+    → (range_of_grant (length (ranges_of h) + 1) b o ≡ Some r) × (r.num ≡ length (ranges_of h) + 1) × (find (overlaps r.service r.country r.first r.last) (ranges_of h) ≡ None)
+next_made h customer day interval num (Grant holder s c first last) o r is done made =
+    let count : length (ranges_of h) + 1 ≡ num = granted_parts _ _ _ _ _ (sym is ∙ done) in
+    let none = none_pass (overlaps s c first last) (ranges_of h) (granted_when _ _ _ _ _ (sym is ∙ done)) in
+    let same = same_Some _ _ made in
+    let P : Range → Type 0 = λ y. find (overlaps y.service y.country y.first y.last) (ranges_of h) ≡ None in (
+      ap₂ (λ (n : ℕ) (y : Outcome). range_of_grant n (Grant holder s c first last) y) count done ∙ made,
+      omega (arith, count, ap (λ (y : Range). y.num) same),
+      subst P same (find_none (overlaps s c first last) (ranges_of h) none),
+    )
+next_made h customer day interval num b o r is done made = absurd (none-some r made)
+
+pub is_next : (h : List Entry) (t : Terms) (e : Entry) (num : ℕ) (r : Range) → MayFollow h t e → e.outcome ≡ Granted num → range_of_grant num e.request.body (Granted num) ≡ Some r → IsNext h e r
+is_next h t e num r may done made =
+    let all = next_made h e.request.customer e.day t.interval num e.request.body e.outcome r may.right done made in
+    record { made = all.0; num = all.1; proper = new_ordered h e.request.customer e.day t.interval (length (ranges_of h) + 1) e.request.body e.outcome r may.right all.0; apart = all.2 }
+
+-- two functions that agree on each element make one list
+pub same_map : (f g : Range → ℕ) (rs : List Range) → ((k : ℕ) (d : Range) → k < length rs → f (get_or rs k d) ≡ g (get_or rs k d)) → map f rs ≡ map g rs
+same_map f g [] same = refl
+same_map f g (x ∷ xs) same = ap₂ (λ (n : ℕ) (l : List ℕ). n ∷ l) (same 0 x (omega arith)) (same_map f g xs (λ k d lt. same (suc k) d (omega arith)))
+
+-- but for one place
+pub set_map : (f g : Range → ℕ) (rs : List Range) (k v : ℕ) → k < length rs → ((d : Range) → g (get_or rs k d) ≡ v)
+    → ((i : ℕ) (d : Range) → i < length rs → (i ≡ k → ⊥) → f (get_or rs i d) ≡ g (get_or rs i d)) → set (map f rs) k v ≡ map g rs
+set_map f g [] k v lt here same = absurd (omega arith)
+set_map f g (x ∷ xs) zero v lt here same = ap₂ (λ (n : ℕ) (l : List ℕ). n ∷ l) (sym (here x)) (same_map f g xs (λ i d h. same (suc i) d (omega arith) (λ e. omega (arith, e))))
+set_map f g (x ∷ xs) (suc k) v lt here same = ap₂ (λ (n : ℕ) (l : List ℕ). n ∷ l) (same 0 x (omega arith) (λ e. omega (arith, e))) (set_map f g xs k v (omega arith) here (λ i d h ne. same (suc i) d (omega arith) (λ e. ne (omega (arith, e)))))
+
+-- the ranges and marks behind a Done Grant
+pub grant_ranges : (h : List Entry) (e : Entry) (r : Range) → IsNext h e r → ranges_of (h ++ e ∷ []) ≡ ranges_of h ++ r ∷ []
+grant_ranges h e r next =
+    let turned : 1 + length (ranges_of h) ≡ length (ranges_of h) + 1 = omega arith in
+    ranges_from-push 1 h e ∙ ap (λ (o : Option Range). ranges_of h ++ option_to_list o) (ap (λ (n : ℕ). range_of_grant n e.request.body e.outcome) turned ∙ next.made)
+
+not_drawn : (num day : ℕ) (x : Id) (o : Outcome) → o ≡ Granted num → o ≡ Drawn day x → ⊥
+not_drawn num day x o p q = cc
+
+pub grant_marks : (h : List Entry) (t : Terms) (e : Entry) (num : ℕ) (r : Range) → IsLegal h t → MayFollow h t e → e.outcome ≡ Granted num → IsNext h e r
+    → map (pick_of (issues_of (h ++ e ∷ []))) (ranges_of (h ++ e ∷ [])) ≡ map (pick_of (issues_of h)) (ranges_of h) ++ r.first ∷ []
+grant_marks h t e num r legal may done next =
+    let f : Range → ℕ = pick_of (issues_of (h ++ e ∷ [])) in
+    let old : map f (ranges_of h) ≡ map (pick_of (issues_of h)) (ranges_of h) =
+    same_map f (pick_of (issues_of h)) (ranges_of h) (λ k d lt. pick_left h t e legal may (get_or (ranges_of h) k d) (k, lt, same_at (ranges_of h) k d lt) (λ day x is _. not_drawn num day x e.outcome done is)) in
+    ap (map f) (grant_ranges h e r next) ∙ map-append f (ranges_of h) (r ∷ []) ∙ ap₂ (λ (l : List ℕ) (m : ℕ). l ++ m ∷ []) old (pick_new h t e legal may r next.made)
+  where
+    same_at : (xs : List Range) (k : ℕ) (d : Range) → k < length xs → get_or xs k (get_or xs k d) ≡ get_or xs k d
+    same_at [] k d lt = absurd (omega arith)
+    same_at (x ∷ xs) zero d lt = refl
+    same_at (x ∷ xs) (suc k) d lt = same_at xs k d (omega arith)
+
+-- a call that is no Done Grant makes no range
+none_made : (n : ℕ) (b : Body) (o : Outcome) → ((m : ℕ) → o ≡ Granted m → ⊥) → range_of_grant n b o ≡ None
+none_made n (Grant holder s c first last) (Granted m) other = absurd (other m refl)
+none_made n b o other = refl
+
+pub same_ranges : (h : List Entry) (e : Entry) → ((m : ℕ) → e.outcome ≡ Granted m → ⊥) → ranges_of (h ++ e ∷ []) ≡ ranges_of h
+same_ranges h e other =
+    ranges_from-push 1 h e ∙ ap (λ (o : Option Range). ranges_of h ++ option_to_list o) (none_made (1 + length (ranges_of h)) e.request.body e.outcome other) ∙ append-nil (ranges_of h)
+
+again : (xs : List Range) (k : ℕ) (d : Range) → k < length xs → get_or xs k (get_or xs k d) ≡ get_or xs k d
+again [] k d lt = absurd (omega arith)
+again (x ∷ xs) zero d lt = refl
+again (x ∷ xs) (suc k) d lt = again xs k d (omega arith)
+
+-- a call that is no Done Grant and no Done Draw leaves ranges and marks
+pub other_mirrors : (r : Ranges) (h : List Entry) (t : Terms) (e : Entry) → IsLegal h t → MayFollow h t e → ((m : ℕ) → e.outcome ≡ Granted m → ⊥) → ((day : ℕ) (x : Id) → e.outcome ≡ Drawn day x → ⊥)
+    → Mirrors r h → Mirrors r (h ++ e ∷ [])
+other_mirrors r h t e legal may no_grant no_draw m =
+    let ranges = same_ranges h e no_grant in
+    let f : Range → ℕ = pick_of (issues_of (h ++ e ∷ [])) in
+    let old : map (pick_of (issues_of h)) (ranges_of h) ≡ map f (ranges_of h) =
+    same_map (pick_of (issues_of h)) f (ranges_of h) (λ k d lt. sym (pick_left h t e legal may (get_or (ranges_of h) k d) (k, lt, again (ranges_of h) k d lt) (λ day x is _. no_draw day x is))) in
+    record { ranges = m.ranges ∙ sym ranges; marks = m.marks ∙ old ∙ ap (map f) (sym ranges) }
+
+-- a Done Grant adds its range, whose mark is its first serial
+pub grant_mirrors : (old new : Ranges) (h : List Entry) (t : Terms) (e : Entry) (num : ℕ) (r : Range) → IsLegal h t → MayFollow h t e → length h < 4294967295 → Mirrors old h
+    → e.outcome ≡ Granted num → range_of_grant num e.request.body (Granted num) ≡ Some r
+    → (length old.ranges.items < 4294967295 → r.num ≡ length old.ranges.items + 1 → r.first ≤ r.last → find (overlaps r.service r.country r.first r.last) old.ranges.items ≡ None
+    → (new.ranges.items ≡ old.ranges.items ++ r ∷ []) × (new.marks.items ≡ old.marks.items ++ r.first ∷ []))
+    → Mirrors new (h ++ e ∷ [])
+grant_mirrors old new h t e num r legal may few m done made pushed =
+    let next = is_next h t e num r may done made in
+    let count : length old.ranges.items ≡ length (ranges_of h) = ap length m.ranges in
+    let both = pushed (omega (arith, count, length-ranges_from 1 h, few)) (omega (arith, next.num, count)) next.proper (ap (find (overlaps r.service r.country r.first r.last)) m.ranges ∙ next.apart) in
+    record {
+      ranges = both.0 ∙ ap (λ (l : List Range). l ++ r ∷ []) m.ranges ∙ sym (grant_ranges h e r next);
+      marks = both.1 ∙ ap (λ (l : List ℕ). l ++ r.first ∷ []) m.marks ∙ sym (grant_marks h t e num r legal may done next);
+    }
+
+drawn_same : (a b : ℕ) (x y : Id) → Drawn a x ≡ Drawn b y → x ≡ y
+drawn_same a b x y e = cc
+
+-- two places with the identifier are one
+one_place : (h : List Entry) (t : Terms) (x : Id) (i k : ℕ) (d : Range) → IsLegal h t → i < length (ranges_of h) → k < length (ranges_of h)
+    → lies_in (get_or (ranges_of h) i d) x ≡ true → lies_in (get_or (ranges_of h) k d) x ≡ true → i ≡ k
+one_place h t x i k d legal lt lt' li lk =
+    elim (cases_order i k) [
+      | inl e ↦ e
+      | inr w ↦ elim w [
+        | inl below ↦ absurd (apart h t legal i k d below lt' x li lk)
+        | inr above ↦ absurd (apart h t legal k i d above lt x lk li)
+      ]
+    ]
+
+-- a Done Draw turns the mark of the range of its identifier
+pub draw_mirrors : (old new : Ranges) (h : List Entry) (t : Terms) (e : Entry) (day : ℕ) (x : Id) → IsLegal h t → MayFollow h t e → AreSound old.ranges.items → Mirrors old h
+    → e.outcome ≡ Drawn day x → new.ranges.items ≡ old.ranges.items
+    → ((r : Range) → find (overlaps x.service x.country x.serial x.serial) old.ranges.items ≡ Some r → new.marks.items ≡ set old.marks.items (r.num - 1) (if x.serial == r.last then r.first else x.serial + 1))
+    → Mirrors new (h ++ e ∷ [])
+draw_mirrors old new h t e day x legal may sound m done kept turned =
+    let rs : List Range = ranges_of h in
+    let from = drawn_from h e.request.customer e.day t.interval day e.request.body x (sym may.right ∙ done) in
+    let r : Range = from.range in
+    let lies : lies_in r x ≡ true = lies_picked h t e.request.customer e.day t.interval (issues_of h) (day, x) legal from in
+    let k : ℕ = from.there.0 in
+    let lt : k < length rs = from.there.1 in
+    let is : get_or rs k r ≡ r = from.there.2 in
+    let at : (d : Range) → get_or rs k d ≡ r = λ d. at_place rs k d r lt is in
+    let lies_there : (d : Range) → lies_in (get_or rs k d) x ≡ true = λ d. ap (λ (y : Range). lies_in y x) (at d) ∙ lies in
+    let hit : overlaps x.service x.country x.serial x.serial r ≡ true = and_from _ _ lies (le-leb x.serial x.serial (omega arith)) in
+    let found : find (overlaps x.service x.country x.serial x.serial) rs ≡ Some r =
+    find_first (overlaps x.service x.country x.serial x.serial) rs k r lt is hit
+    (λ i d below. false_from_ne_true (overlaps x.service x.country x.serial x.serial (get_or rs i d)) (λ also.
+    let both = and_parts _ _ also in
+    let e' : i ≡ k = one_place h t x i k d legal (omega (arith, below, lt)) lt both.0 (lies_there d) in omega (arith, e', below))) in
+    let sound' : AreSound rs = subst AreSound m.ranges sound in
+    let num = sound' k r lt in
+    let place : r.num - 1 ≡ k = omega (arith, num.num, ap (λ (y : Range). y.num) is) in
+    let v : ℕ = if x.serial == r.last then r.first else x.serial + 1 in
+    let f : Range → ℕ = pick_of (issues_of (h ++ e ∷ [])) in
+    let drawn : f r ≡ v = pick_drawn h t e legal may r from.there day x done lies in
+    let ranges : ranges_of (h ++ e ∷ []) ≡ rs = same_ranges h e (λ n is'. not_drawn n day x e.outcome is' done) in
+    let moved : set (map (pick_of (issues_of h)) rs) k v ≡ map f rs =
+    set_map (pick_of (issues_of h)) f rs k v lt (λ d. ap f (at d) ∙ drawn)
+    (λ i d in' ne. sym (pick_left h t e legal may (get_or rs i d) (i, in', again rs i d in') (λ day' x' is' lies'.
+    let same : x' ≡ x = drawn_same day' day x' x (sym is' ∙ done) in
+    ne (one_place h t x i k d legal in' lt (ap (λ (y : Id). lies_in (get_or rs i d) y) (sym same) ∙ lies') (lies_there d))))) in
+    record {
+      ranges = kept ∙ m.ranges ∙ sym ranges;
+      marks = turned r (ap (find (overlaps x.service x.country x.serial x.serial)) m.ranges ∙ found)
+          ∙ ap₂ (λ (l : List ℕ) (n : ℕ). set l n v) m.marks place ∙ moved ∙ ap (map f) (sym ranges);
+    }

@@ -1,0 +1,33 @@
+-- The mark that is held for a range of the history.
+use Rattle.std.proofs.Common.{◌≡◌, ◌∙◌, ℕ, zero, suc, ◌+◌, ◌-◌, ◌<◌, List, [], ◌∷◌, map, Some, length, get_or, refl, ap, ap₂, subst, arith}
+use Rattle.std.specs.Prelude.{Contains, slice_get}
+use Rattle.s10_book.specs.declared.entry.Entry.{Entry}
+use Rattle.s10_book.specs.declared.range.Range.{Range}
+use Rattle.s10_book.specs.History.{ranges_of}
+use Rattle.s10_book.specs.Issues.{issues_of, pick_of}
+use Rattle.s10_ranges.specs.declared.ranges.Ranges.{Ranges}
+use Rattle.s10_ranges.specs.Mirror.{Mirrors}
+use Rattle.s10_ranges.specs.Sound.{AreSound}
+
+get_map : (f : Range → ℕ) (rs : List Range) (k : ℕ) (d : Range) → k < length rs → slice_get (map f rs) k ≡ Some (f (get_or rs k d))
+get_map f [] k d lt = absurd (omega arith)
+get_map f (x ∷ xs) zero d lt = refl
+get_map f (x ∷ xs) (suc k) d lt = get_map f xs k d (omega arith)
+
+-- its number is one more than its place
+numbered : (r : Ranges) (h : List Entry) (range : Range) → AreSound r.ranges.items → Mirrors r h → (there : Contains (ranges_of h) range) → range.num ≡ there.0 + 1
+numbered r h range sound m there =
+    let at = subst AreSound m.ranges sound there.0 range there.1 in
+    let e : (get_or (ranges_of h) there.0 range).num ≡ range.num = ap (λ (x : Range). x.num) there.2 in
+    omega (arith, at.num, e)
+
+pub mark_above : (r : Ranges) (h : List Entry) (range : Range) → AreSound r.ranges.items → Mirrors r h → Contains (ranges_of h) range → 0 < range.num
+mark_above r h range sound m there = let num = numbered r h range sound m there in omega (arith, num)
+
+-- the mark is the pick
+pub mark_picked : (r : Ranges) (h : List Entry) (range : Range) → AreSound r.ranges.items → Mirrors r h → Contains (ranges_of h) range → slice_get r.marks.items (range.num - 1) ≡ Some (pick_of (issues_of h) range)
+mark_picked r h range sound m there =
+    let num = numbered r h range sound m there in
+    let f : Range → ℕ = pick_of (issues_of h) in
+    let place : range.num - 1 ≡ there.0 = omega (arith, num) in
+    ap₂ slice_get m.marks place ∙ get_map f (ranges_of h) there.0 range there.1 ∙ ap (λ (x : Range). Some (f x)) there.2

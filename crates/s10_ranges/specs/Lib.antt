@@ -1,0 +1,5 @@
+pub mod Keys
+pub mod Order
+pub mod Sound
+pub mod Room
+pub mod Mirror

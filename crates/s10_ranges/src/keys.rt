@@ -1,0 +1,68 @@
+//! The numbers that ranges are sorted by.
+
+ghost use Rattle.std.specs.Prelude.{◌≡◌, ◌≤◌, ◌<◌, ◌^◌};
+ghost use Rattle.s10_core.specs.Letters.{AreCapitals};
+ghost use Rattle.s10_core.specs.Serial.{IsSerial};
+ghost use Rattle.s10_ranges.specs.Keys.{pair_of, place_key, holder_key, key_by, IsFitting};
+
+use crate::sort_key::SortKey;
+use s10_book::Range;
+use s10_core::{Country, Serial, Service};
+
+// The four letters as a big-endian number.
+fn pair_number(service: Service, country: Country) -> u32
+    ensures value { result ≡ pair_of service country }
+    ensures service { AreCapitals service }
+    ensures country { AreCapitals country }
+{
+    let [s0, s1] = service.bytes();
+    let [c0, c1] = country.bytes();
+    u32::from_be_bytes([s0, s1, c0, c1])
+}
+
+// The pair, and behind it the serial.
+pub(crate) fn place_number(service: Service, country: Country, serial: Serial) -> u128
+    ensures value { result ≡ place_key service country serial }
+    ensures service { AreCapitals service }
+    ensures country { AreCapitals country }
+    ensures serial { IsSerial serial }
+    ensures small { result < 2 ^ 64 }
+{
+    u128::from(pair_number(service, country)) * 4_294_967_296 + u128::from(serial.value())
+}
+
+// The holder, behind it the pair, and behind that the number.
+pub(crate) fn holder_number(holder: u32, service: Service, country: Country, num: u128) -> u128
+    requires { num ≤ 4294967296 }
+    ensures value { result ≡ holder_key holder service country num }
+    ensures service { AreCapitals service }
+    ensures country { AreCapitals country }
+{
+    (u128::from(holder) * 4_294_967_296 + u128::from(pair_number(service, country))) * 4_294_967_296
+        + num
+}
+
+// The number of a range by which it is sorted.
+pub(crate) fn key_number(by: SortKey, range: &Range) -> u128
+    ensures { result ≡ key_by by range.now }
+{
+    match by {
+        SortKey::First => place_number(range.service, range.country, range.first),
+        SortKey::Last => place_number(range.service, range.country, range.last),
+        SortKey::Holder => holder_number(
+            range.holder,
+            range.service,
+            range.country,
+            u128::from(range.num),
+        ),
+    }
+}
+
+// What is known of every range: its parts are in theirs.
+pub(crate) fn parts_fit(range: &Range)
+    ensures { IsFitting range.now }
+{
+    let range = *range;
+    let _first = place_number(range.service, range.country, range.first);
+    let _last = place_number(range.service, range.country, range.last);
+}

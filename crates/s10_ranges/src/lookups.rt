@@ -1,0 +1,89 @@
+//! Look-ups among ranges by the orders of their places.
+
+ghost use Rattle.std.specs.Prelude.{◌≡◌, ◌-◌, ◌<◌, ◌==◌, find, slice_get, None};
+ghost use Rattle.s10_book.specs.History.{is_held_above, overlaps};
+ghost use Rattle.s10_ranges.specs.declared.sort_key.SortKey.TheVariants.{First, Last, Holder};
+ghost use Rattle.s10_ranges.specs.Keys.{key_by};
+ghost use Rattle.s10_ranges.specs.Order.{IsOrder};
+ghost use Rattle.s10_ranges.specs.Sound.{AreSound};
+
+use crate::keys::{holder_number, place_number};
+use crate::order::{first_at, least_in};
+use crate::sort_key::SortKey;
+use s10_book::Range;
+use s10_core::{Country, Serial, Service};
+
+pub(crate) fn range_numbered(ranges: &[Range], num: u32) -> Option<Range>
+    requires sound { AreSound ranges.now }
+    ensures { result ≡ find (λ r. r.num == num) ranges.now }
+{
+    if num == 0 || num as usize > ranges.len() {
+        return None;
+    }
+    Some(ranges[num as usize - 1])
+}
+
+pub(crate) fn mark_numbered(marks: &[Serial], num: u32) -> Option<Serial>
+    ensures some { 0 < num → result ≡ slice_get marks.now (num - 1) }
+    ensures none { num ≡ 0 → result ≡ None }
+{
+    let place = num.checked_sub(1)?;
+    marks.get(place as usize).copied()
+}
+
+// Whether the range is the customer's, of that service and country, with a number above another.
+fn is_later(range: &Range, after: u32, customer: u32, service: Service, country: Country) -> bool
+    ensures { result ≡ is_held_above after customer service country range.now }
+{
+    after < range.num && range.is_held_by(customer, service, country)
+}
+
+pub(crate) fn range_held(
+    ranges: &[Range],
+    by_holder: &[u32],
+    customer: u32,
+    service: Service,
+    country: Country,
+    after: u32,
+) -> Option<Range>
+    requires sound { AreSound ranges.now }
+    requires held { IsOrder (key_by Holder) (key_by Holder) ranges.now by_holder.now }
+    ensures { result ≡ find (is_held_above after customer service country) ranges.now }
+{
+    let key = holder_number(customer, service, country, u128::from(after) + 1);
+    let at = first_at(ranges, by_holder, SortKey::Holder, key);
+    if at == by_holder.len() {
+        return None;
+    }
+    let range = &ranges[by_holder[at] as usize];
+    if is_later(range, after, customer, service, country) {
+        Some(*range)
+    } else {
+        None
+    }
+}
+
+pub(crate) fn range_over(
+    ranges: &[Range],
+    by_place: &[u32],
+    service: Service,
+    country: Country,
+    first: Serial,
+    last: Serial,
+) -> Option<Range>
+    requires sound { AreSound ranges.now }
+    requires placed { IsOrder (key_by First) (key_by Last) ranges.now by_place.now }
+    ensures { result ≡ find (overlaps service country first last) ranges.now }
+{
+    if last.value() < first.value() {
+        return None;
+    }
+    let low = place_number(service, country, first);
+    let start = first_at(ranges, by_place, SortKey::Last, low);
+    let high = place_number(service, country, last) + 1;
+    let end = first_at(ranges, by_place, SortKey::First, high);
+    match least_in(by_place, start, end) {
+        None => None,
+        Some(place) => Some(ranges[place as usize]),
+    }
+}

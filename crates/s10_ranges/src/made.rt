@@ -1,0 +1,44 @@
+//! What a kept call makes of the ranges.
+
+ghost use Rattle.std.specs.Prelude.{◌≡◌, ◌==◌, ◌≤◌, ◌+◌, if◌then◌else◌};
+ghost use Rattle.s10_wire.specs.declared.outcome.Outcome.TheVariants.{Granted};
+ghost use Rattle.s10_book.specs.History.{range_of_grant};
+
+use s10_book::{Entry, Range};
+use s10_core::Serial;
+use s10_wire::Body;
+
+// The range of a Grant that made the one of that number.
+pub(crate) fn range_granted(entry: &Entry, num: u32) -> Option<Range>
+    ensures { result ≡ range_of_grant num entry.now.request.body (Granted num) }
+{
+    match entry.request.body {
+        Body::Grant {
+            holder,
+            service,
+            country,
+            first,
+            last,
+        } => Some(Range {
+            num,
+            holder,
+            service,
+            country,
+            first,
+            last,
+        }),
+        _ => None,
+    }
+}
+
+// The serial behind that one of the range: the next, or the first one behind the last.
+pub(crate) fn serial_behind(range: &Range, serial: Serial) -> Serial
+    requires { serial ≤ range.now.last }
+    ensures { result ≡ (if serial == range.now.last then range.now.first else serial + 1) }
+{
+    let last = range.last.value();
+    if serial.value() == last {
+        return range.first;
+    }
+    Serial::new(serial.value() + 1).unwrap_or(range.first)
+}

@@ -1,0 +1,48 @@
+//! Places of ranges in an order of their own.
+
+ghost use Rattle.std.specs.Prelude.{◌≡◌, ℕ, ◌<◌, ◌≤◌, length, MatchOption, slice_index};
+ghost use Rattle.s10_book.specs.declared.range.Range.{Range};
+ghost use Rattle.s10_ranges.specs.Keys.{key_by};
+ghost use Rattle.s10_ranges.specs.Order.{range_at, ArePlaces, IsRising, IsLeastIn};
+
+use crate::keys::key_number;
+use crate::sort_key::SortKey;
+use s10_book::Range;
+
+// How many ranges, in the order, come before the key. By halving.
+pub(crate) fn first_at(ranges: &[Range], order: &[u32], by: SortKey, key: u128) -> usize
+    requires places { ArePlaces ranges.now order.now }
+    requires rising { IsRising (key_by by) ranges.now order.now }
+    ensures within { result ≤ length order.now }
+    ensures below { (j : ℕ) (d : Range) → j < result → key_by by (range_at ranges.now order.now j d) < key }
+    ensures above { (j : ℕ) (d : Range) → result ≤ j → j < length order.now → key ≤ key_by by (range_at ranges.now order.now j d) }
+{
+    let mut low = 0;
+    let mut high = order.len();
+    while low < high {
+        let middle = low + (high - low) / 2;
+        let range = &ranges[order[middle] as usize];
+        if key_number(by, range) < key {
+            low = middle + 1;
+        } else {
+            high = middle;
+        }
+    }
+    low
+}
+
+// The least of the places.
+fn least(places: &[u32]) -> Option<u32>
+    ensures { MatchOption result (length places.now ≡ 0) (λ m. ((k : ℕ) → k < length places.now → m ≤ slice_index places.now k) × ((k : ℕ) × (k < length places.now) × (slice_index places.now k ≡ m))) }
+{
+    places.iter().copied().min()
+}
+
+// The least of a part of the order.
+pub(crate) fn least_in(order: &[u32], start: usize, end: usize) -> Option<u32>
+    requires { end ≤ length order.now }
+    ensures { IsLeastIn order.now start end result }
+{
+    let part = order.get(start..end)?;
+    least(part)
+}

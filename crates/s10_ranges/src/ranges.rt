@@ -1,0 +1,214 @@
+//! Ranges with their marks in memory.
+
+ghost use Rattle.std.specs.Prelude.{◌≡◌, ◌≤◌, ◌<◌, ◌+◌, ◌-◌, ◌==◌, ◌++◌, ◌∷◌, [], length, find, set, None, OnOk, slice_get};
+ghost use Rattle.s10_book.specs.History.{is_held_above, overlaps};
+ghost use Rattle.s10_ranges.specs.declared.sort_key.SortKey.TheVariants.{First, Last, Holder};
+ghost use Rattle.s10_ranges.specs.Keys.{key_by};
+ghost use Rattle.s10_ranges.specs.Order.{IsOrder};
+ghost use Rattle.s10_ranges.specs.Sound.{AreSound};
+
+use crate::lookups::{mark_numbered, range_held, range_numbered, range_over};
+use crate::made::{range_granted, serial_behind};
+use crate::places::{place_among, place_among_held};
+use s10_book::{Entry, Range};
+use s10_core::{Country, Id, Serial, Service};
+use s10_wire::Outcome;
+use std::alloc::{AllocError, Global};
+
+/// The ranges of a ledger, numbered from 1, each with its mark: the serial that it gives next. No two
+/// have a serial in common. A look-up takes steps as the logarithm of how many ranges there are, and
+/// `over` besides as many as there are ranges with a serial in common.
+#[derive(Drop)]
+pub struct Ranges {
+    ranges: Vec<Range>,
+    marks: Vec<Serial>,
+    by_place: Vec<u32>,
+    by_holder: Vec<u32>,
+    ghost sound: { AreSound ranges.items },
+    ghost marked: { length marks.items ≡ length ranges.items },
+    ghost placed: { IsOrder (key_by First) (key_by Last) ranges.items by_place.items },
+    ghost held: { IsOrder (key_by Holder) (key_by Holder) ranges.items by_holder.items },
+}
+
+impl Ranges {
+    ghost use Rattle.std.specs.Prelude.{List, Some, if◌then◌else◌};
+    ghost use Rattle.s10_book.specs.declared.entry.Entry.{Entry};
+    ghost use Rattle.s10_book.specs.declared.range.Range.{Range};
+    ghost use Rattle.s10_book.specs.Settings.{Terms};
+    ghost use Rattle.s10_book.specs.Rules.{IsLegal, MayFollow};
+    ghost use Rattle.s10_ranges.specs.Mirror.{Mirrors};
+    ghost use Rattle.s10_ranges.specs.Room.{HasRoom};
+
+    /// No ranges.
+    pub fn new(alloc: Global) -> Ranges
+        ensures ranges { result.ranges.items ≡ [] }
+        ensures marks { result.marks.items ≡ [] }
+    {
+        Ranges {
+            ranges: Vec::new(alloc),
+            marks: Vec::new(alloc),
+            by_place: Vec::new(alloc),
+            by_holder: Vec::new(alloc),
+        }
+    }
+
+    /// Makes room for one more range.
+    pub fn reserve(&mut self) -> Result<(), AllocError>
+        ensures ranges { self.new.ranges.items ≡ self.old.ranges.items }
+        ensures marks { self.new.marks.items ≡ self.old.marks.items }
+        ensures room { OnOk result (HasRoom self.new) }
+    {
+        self.ranges.reserve(1)?;
+        self.marks.reserve(1)?;
+        self.by_place.reserve(1)?;
+        self.by_holder.reserve(1)?;
+        Ok(())
+    }
+
+    // Adds the next range, for which there is room. It has the next number and no serial in common
+    // with another one.
+    fn push_reserved(&mut self, range: Range, mark: Serial)
+        requires room { HasRoom self.old }
+        requires few { length self.old.ranges.items < 4294967295 }
+        requires num { range.num ≡ length self.old.ranges.items + 1 }
+        requires proper { range.first ≤ range.last }
+        requires apart { find (overlaps range.service range.country range.first range.last) self.old.ranges.items ≡ None }
+        ensures ranges { self.new.ranges.items ≡ self.old.ranges.items ++ range ∷ [] }
+        ensures marks { self.new.marks.items ≡ self.old.marks.items ++ mark ∷ [] }
+    {
+        let place = self.ranges.len() as u32;
+        let place_at = place_among(&self.ranges, &self.by_place, &range);
+        let held_at = place_among_held(&self.ranges, &self.by_holder, &range);
+        let _ = self.by_place.insert(place_at, place);
+        let _ = self.by_holder.insert(held_at, place);
+        self.ranges.push_reserved(range);
+        self.marks.push_reserved(mark);
+    }
+
+    // Adds the range, where it is the next one and has no serial in common with another: there is room
+    // for it. Leaves the ranges as they are where it is not.
+    fn push_next(&mut self, range: Range, mark: Serial)
+        requires room { HasRoom self.old }
+        ensures next { length self.old.ranges.items < 4294967295 → range.num ≡ length self.old.ranges.items + 1 → range.first ≤ range.last
+            → find (overlaps range.service range.country range.first range.last) self.old.ranges.items ≡ None
+            → (self.new.ranges.items ≡ self.old.ranges.items ++ range ∷ []) × (self.new.marks.items ≡ self.old.marks.items ++ mark ∷ []) }
+    {
+        let len = self.ranges.len();
+        if len >= 4_294_967_295 || range.num as usize != len + 1 {
+            return;
+        }
+        if range.last.value() < range.first.value() {
+            return;
+        }
+        let over = range_over(
+            &self.ranges,
+            &self.by_place,
+            range.service,
+            range.country,
+            range.first,
+            range.last,
+        );
+        if over.is_none() {
+            self.push_reserved(range, mark);
+        }
+    }
+
+    // Sets the mark of the range of the identifier behind its serial: the next, or the first one behind
+    // the last. Leaves the marks as they are where it lies in no range.
+    fn turn(&mut self, id: &Id)
+        ensures ranges { self.new.ranges.items ≡ self.old.ranges.items }
+        ensures marks { (r : Range) → find (overlaps id.now.service id.now.country id.now.serial id.now.serial) self.old.ranges.items ≡ Some r
+            → self.new.marks.items ≡ set self.old.marks.items (r.num - 1) (if id.now.serial == r.last then r.first else id.now.serial + 1) }
+    {
+        let found = range_over(
+            &self.ranges,
+            &self.by_place,
+            id.service,
+            id.country,
+            id.serial,
+            id.serial,
+        );
+        let Some(range) = found else {
+            return;
+        };
+        let mark = serial_behind(&range, id.serial);
+        self.set_mark(range.num, mark);
+    }
+
+    /// Adds what a kept call makes: the range of a Done Grant, the mark behind a Done Draw. Where the
+    /// ranges are not those of a legal history that the call may follow, a range that is not the next
+    /// one, or overlaps another, is left out.
+    pub fn follow(&mut self, entry: &Entry)
+        requires room { HasRoom self.old }
+        ensures { (h : List Entry) (t : Terms) → IsLegal h t → MayFollow h t entry.now → length h < 4294967295 → Mirrors self.old h → Mirrors self.new (h ++ entry.now ∷ []) }
+    {
+        match entry.outcome {
+            Outcome::Granted { range: num } => {
+                if let Some(range) = range_granted(entry, num) {
+                    self.push_next(range, range.first);
+                }
+            }
+            Outcome::Drawn { id, .. } => self.turn(&id),
+            _ => {}
+        }
+    }
+
+    // Sets the mark of the range of that number.
+    fn set_mark(&mut self, num: u32, mark: Serial)
+        requires from { 0 < num }
+        requires to { num ≤ length self.old.ranges.items }
+        ensures ranges { self.new.ranges.items ≡ self.old.ranges.items }
+        ensures marks { self.new.marks.items ≡ set self.old.marks.items (num - 1) mark }
+    {
+        self.marks[num as usize - 1] = mark;
+    }
+
+    /// The mark of the range of that number, if there is one.
+    pub fn mark(&self, num: u32) -> Option<Serial>
+        ensures some { 0 < num → result ≡ slice_get self.now.marks.items (num - 1) }
+        ensures none { num ≡ 0 → result ≡ None }
+    {
+        mark_numbered(&self.marks, num)
+    }
+
+    /// The range of that number, if there is one.
+    pub fn numbered(&self, num: u32) -> Option<Range>
+        ensures { result ≡ find (λ r. r.num == num) self.now.ranges.items }
+    {
+        range_numbered(&self.ranges, num)
+    }
+
+    /// The range of least number above `after` with that holder, service and country, if there is one.
+    pub fn held_after(
+        &self,
+        customer: u32,
+        service: Service,
+        country: Country,
+        after: u32,
+    ) -> Option<Range>
+        ensures { result ≡ find (is_held_above after customer service country) self.now.ranges.items }
+    {
+        range_held(
+            &self.ranges,
+            &self.by_holder,
+            customer,
+            service,
+            country,
+            after,
+        )
+    }
+
+    /// The range of least number of that service and country that has a serial in common with `first`
+    /// to `last`, if there is one. Where `first` is above `last` there is none.
+    pub fn over(
+        &self,
+        service: Service,
+        country: Country,
+        first: Serial,
+        last: Serial,
+    ) -> Option<Range>
+        ensures { result ≡ find (overlaps service country first last) self.now.ranges.items }
+    {
+        range_over(&self.ranges, &self.by_place, service, country, first, last)
+    }
+}

@@ -1,0 +1,124 @@
+//! Ranges that calls made.
+
+use s10_book::{Entry, Range};
+use s10_core::{Country, Id, Serial, Service};
+use s10_ranges::Ranges;
+use s10_wire::{Body, Outcome, Request};
+use std::process::Abort;
+
+pub(crate) fn service(rt: &impl Abort, letters: [u8; 2]) -> Service {
+    match Service::new(letters) {
+        Some(service) => service,
+        None => panic!(rt),
+    }
+}
+
+pub(crate) fn country(rt: &impl Abort, letters: [u8; 2]) -> Country {
+    match Country::new(letters) {
+        Some(country) => country,
+        None => panic!(rt),
+    }
+}
+
+pub(crate) fn serial(rt: &impl Abort, value: u32) -> Serial {
+    match Serial::new(value) {
+        Some(serial) => serial,
+        None => panic!(rt),
+    }
+}
+
+/// What the post grants of GB: the holder, the service, the first and the last serial.
+pub(crate) type Granted = (u32, [u8; 2], u32, u32);
+
+/// Seven ranges, in an order that is not that of their serials, of holders that take turns; two of them have one serial.
+pub(crate) const GRANTS: [Granted; 7] = [
+    (8, *b"RA", 50, 59),
+    (7, *b"RA", 10, 19),
+    (8, *b"RA", 30, 30),
+    (7, *b"RA", 90, 99),
+    (9, *b"RA", 0, 0),
+    (8, *b"RA", 20, 29),
+    (7, *b"RB", 10, 19),
+];
+
+/// The range of a grant.
+pub(crate) fn range(rt: &impl Abort, num: u32, granted: Granted) -> Range {
+    let (holder, letters, first, last) = granted;
+    Range {
+        num,
+        holder,
+        service: service(rt, letters),
+        country: country(rt, *b"GB"),
+        first: serial(rt, first),
+        last: serial(rt, last),
+    }
+}
+
+/// The range of that number of those granted. None for number 0.
+pub(crate) fn numbered(rt: &impl Abort, num: u32) -> Option<Range> {
+    let place = num.checked_sub(1)?;
+    let granted = GRANTS.get(place as usize)?;
+    Some(range(rt, num, *granted))
+}
+
+fn follow(rt: &impl Abort, ranges: &mut Ranges, entry: &Entry) {
+    match ranges.reserve() {
+        Ok(()) => ranges.follow(entry),
+        Err(fault) => panic!(rt; "{fault}"),
+    }
+}
+
+/// A Grant of the range was Done.
+pub(crate) fn grant(rt: &impl Abort, ranges: &mut Ranges, range: &Range) {
+    let body = Body::Grant {
+        holder: range.holder,
+        service: range.service,
+        country: range.country,
+        first: range.first,
+        last: range.last,
+    };
+    let entry = Entry {
+        request: Request {
+            customer: 0,
+            number: range.num,
+            body,
+        },
+        day: 20000,
+        outcome: Outcome::Granted { range: range.num },
+    };
+    follow(rt, ranges, &entry);
+}
+
+/// A Draw of RA GB was Done, and gave that serial.
+pub(crate) fn draw(rt: &impl Abort, ranges: &mut Ranges, value: u32) {
+    let service = service(rt, *b"RA");
+    let country = country(rt, *b"GB");
+    let entry = Entry {
+        request: Request {
+            customer: 7,
+            number: 1,
+            body: Body::Draw { service, country },
+        },
+        day: 20000,
+        outcome: Outcome::Drawn {
+            day: 20000,
+            id: Id {
+                service,
+                serial: serial(rt, value),
+                country,
+            },
+        },
+    };
+    follow(rt, ranges, &entry);
+}
+
+/// The ranges that were granted, in their order.
+pub(crate) fn all_granted<R: Abort + AllocGlobal>(rt: &R) -> Ranges {
+    let mut ranges = Ranges::new(rt.alloc());
+    let mut num = 0u32;
+    for granted in &GRANTS {
+        num = num.saturating_add(1);
+        grant(rt, &mut ranges, &range(rt, num, *granted));
+    }
+    ranges
+}
