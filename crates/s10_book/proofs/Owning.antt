@@ -12,7 +12,8 @@ use Rattle.s10_wire.specs.declared.status.Status.TheVariants.{Unknown}
 use Rattle.s10_book.specs.declared.entry.Entry.{Entry}
 use Rattle.s10_book.specs.History.{ranges_of}
 use Rattle.s10_book.specs.Issues.{last_issue_of}
-use Rattle.s10_book.specs.Rules.{status_of, status_of_issue}
+use Rattle.s10_wire.specs.declared.outcome.Outcome.TheVariants.{Told, NotYours}
+use Rattle.s10_book.specs.Rules.{status_of, status_of_issue, query_answer}
 use Rattle.s10_book.proofs.Granting.{any_is}
 use Rattle.s10_book.proofs.Apart.{Apart}
 
@@ -62,3 +63,24 @@ none_is false b e = ap not e
 
 pub status_at : (h : List Entry) (x : Id) (b : Bool) → list_any (λ r. lies_in r x) (ranges_of h) ≡ b → status_of h x ≡ cond b (status_of_issue (last_issue_of h x)) Unknown
 status_at h x b e = ap (λ c. cond c (status_of_issue (last_issue_of h x)) Unknown) e
+
+own_lies_at : (a b c d : Bool) → ((a && b) || c) ≡ true → (c ≡ true → d ≡ true) → (b || d) ≡ true
+own_lies_at true true c d own rest = refl
+own_lies_at true false c d own rest = rest own
+own_lies_at false true c d own rest = refl
+own_lies_at false false c d own rest = rest own
+
+-- an identifier in a range of the customer's lies in a range
+own_lies : (customer : ℕ) (x : Id) (rs : List Range) → list_any (is_own customer x) rs ≡ true → list_any (λ r. lies_in r x) rs ≡ true
+own_lies customer x [] own = own
+own_lies customer x (r ∷ rs) own = own_lies_at (eqb r.holder customer) (lies_in r x) (list_any (is_own customer x) rs) (list_any (λ r. lies_in r x) rs) own (own_lies customer x rs)
+
+or_true : (a : Bool) → (a || true) ≡ true
+or_true true = refl
+or_true false = refl
+
+-- the customer of an identifier is told what became of its last issue
+pub own_query : (h : List Entry) (customer : ℕ) (x : Id) → list_any (is_own customer x) (ranges_of h) ≡ true → query_answer h customer x ≡ Told (status_of_issue (last_issue_of h x))
+own_query h customer x own =
+    ap (λ b. cond (eqb customer 0 || b) (Told (status_of h x)) NotYours) own ∙ ap (λ b. cond b (Told (status_of h x)) NotYours) (or_true (eqb customer 0))
+    ∙ ap (λ s. Told s) (status_at h x true (own_lies customer x (ranges_of h) own))

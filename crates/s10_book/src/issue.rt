@@ -10,3 +10,15 @@ pub struct Issue {
     /// The number of that customer's request.
     pub number: u32,
 }
+
+impl Issue {
+    ghost use Rattle.std.specs.Prelude.{◌≡◌, ◌-◌, nat_le};
+
+    /// Whether the identifier is free again on a day: the reuse interval, in days, has passed since
+    /// its issue.
+    pub fn is_free(&self, day: u32, interval: u32) -> bool
+        ensures { result ≡ nat_le interval (day - self.now.day) }
+    {
+        day.saturating_sub(self.day) >= interval
+    }
+}

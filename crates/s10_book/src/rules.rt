@@ -21,7 +21,7 @@ pub(crate) fn is_free(issue: &Option<Issue>, day: u32, interval: u32) -> bool
 {
     match issue {
         None => true,
-        Some(issue) => day.saturating_sub(issue.day) >= interval,
+        Some(issue) => issue.is_free(day, interval),
     }
 }
 
@@ -185,7 +185,7 @@ fn decide_query<B: Book>(book: &mut B, customer: u32, id: &Id) -> Result<Outcome
     if !owns(book, customer, id)? {
         return Ok(Outcome::NotYours);
     }
-    let status = known_status(book, id)?;
+    let status = issue_status(book, id)?;
     Ok(Outcome::Told(status))
 }
 

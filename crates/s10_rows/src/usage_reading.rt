@@ -21,7 +21,7 @@ fn with_issue(usage: Usage, issue: &Issue, day: u32, interval: u32) -> Usage
     ensures voided { result.voided ≡ usage.voided + (if issue.now.voided then 1 else 0) }
     ensures free { result.free + (if not (nat_le interval (day - issue.now.day)) then 1 else 0) ≡ usage.free }
 {
-    let is_free = day.saturating_sub(issue.day) >= interval;
+    let is_free = issue.is_free(day, interval);
     Usage {
         used: usage.used + 1,
         voided: if issue.voided {
