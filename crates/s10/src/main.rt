@@ -37,7 +37,7 @@ fn run_words<S: AsStr, O: Write + Drop>(
         return Err(io::Error::from(ErrorKind::OutOfMemory));
     };
     let mut output = BufWriter::new(rt.alloc(), output)?;
-    let status = run_job(rt, &job, Unknown, &mut output);
+    let (status, _files) = run_job(rt, &job, Unknown, &mut output);
     output.flush()?;
     Ok(status)
 }

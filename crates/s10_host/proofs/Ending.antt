@@ -1,15 +1,13 @@
 -- What the result of a job says.
 use denote.RattleType.{RattleType}
-use Rattle.std.proofs.Common.{◌≡◌, ◌⊎◌, inl, inr, ℕ, Bool, List, Option, Some, Result, Ok, Err, sym, subst, true, false}
-use Rattle.std.specs.Prelude.{IfOk, OnOk, IsOk}
-use Rattle.std.proofs.lemmas.Result.{on_ok_weaker}
+use Rattle.std.proofs.Common.{◌≡◌, ◌⊎◌, inl, inr, ℕ, Bool, List, Option, Some, None, Result, Ok, Err, sym, subst, true, false}
+use Rattle.std.specs.Prelude.{IfOk, IsSomeAnd}
 use Rattle.sqlite_disk.specs.declared.start.Start.{Ghosts}
-use Rattle.sqlite_wal.specs.Files.{image_at}
 use Rattle.sqlite.specs.Files.{file_state, over_files}
 use Rattle.s10_link.specs.declared.trace.Trace.{Trace}
 use Rattle.s10_link.specs.Trace.{new_trace}
 use Rattle.s10_wire.specs.declared.write_fault.WriteFault.{WriteFault}
-use Rattle.s10_book.specs.Settings.{Terms}
+use Rattle.s10_book.specs.Book.{Keeps}
 use Rattle.s10_ledger.specs.Ledger.{IsHonest, history_in}
 use Rattle.s10_jobs.specs.declared.status.Status.{Status}
 use Rattle.s10_jobs.specs.declared.status.Status.TheVariants.{Done, Failed}
@@ -19,18 +17,23 @@ use Rattle.s10_jobs.specs.declared.reporting.Report.TheVariants.{Ranges, Issues}
 use Rattle.s10_jobs.specs.Reporting.{report_lines, PrintsReport}
 use Rattle.s10_jobs.specs.Serving.{IsTurn, Serves}
 use Rattle.s10_host.specs.Unbound.{IsUnbound}
-use Rattle.s10_host.specs.Files.{FileLedger, IsEmptyBook, IsOpenedFrom, IsPutAway}
-use Rattle.s10_host.specs.Jobs.{IsAskedFor, HasMade, HasServed, HasReported, HasDone}
+use Rattle.s10_host.specs.Files.{FileLedger, ClosedFiles, PutsAway}
+use Rattle.s10_host.specs.Jobs.{IsAskedFor, IsServed, IsReported, HasDone}
+use Rattle.s10_host.proofs.Backwards.{before_turns}
 
 -- what failed is not done
 pub failed_is_not_done : (P : Status → Type 0) (A : Type 0) (r : Result Status WriteFault) → IfOk r (λ s. (s ≡ Failed) × P s) → r ≡ Ok Done → A
 failed_is_not_done P A (Ok s) says is = absurd (let failed = says.0 in cc)
 failed_is_not_done P A (Err e) says is = absurd cc
 
--- what a success says holds where there is one
-pub at_success : {A E P : Type 0} (r : Result A E) → OnOk r P → IsOk r → P
-at_success (Ok a) holds is = holds
-at_success (Err e) holds is = absurd cc
+-- a fact of what there is gives another
+pub some_weaker : {A : Type 0} (P Q : A → Type 0) (there : Option A) → ((a : A) → P a → Q a) → IsSomeAnd there P → IsSomeAnd there Q
+some_weaker P Q (Some a) gives holds = gives a holds
+some_weaker P Q None gives holds = absurd holds
+
+-- of what was closed, where it was handed back
+pub closed_says : {A E : Type 0} (P Q : A → Type 0) (closed : Result A E) (files : Option A) → ((a : A) → P a → Q a) → IfOk closed P → IsSomeAnd files (λ a. closed ≡ Ok a) → IsSomeAnd files Q
+closed_says P Q closed files gives says = some_weaker (λ a. closed ≡ Ok a) Q files (λ a is. gives a (subst (λ r. IfOk r P) is says))
 
 pub asked_for : (is_of_issues : Bool) (day : Option ℕ) (made : Option Report) (report : Report) → made ≡ Some report
     → (is_of_issues ≡ true → made ≡ Some Issues) → ((d : ℕ) → is_of_issues ≡ false → day ≡ Some d → made ≡ Some (Ranges d)) → IsAskedFor is_of_issues day report
@@ -38,40 +41,50 @@ asked_for is_of_issues day made report is issues ranges =
     record { issues = λ so. let one = issues so in cc; ranges = λ d so given. let one = ranges d so given in cc }
 
 module _ (S : RattleType) (first : Ghosts S.Denot) where
-  pub made_and_away : {E : Type 0} (terms : Terms) (book : FileLedger S first) (closed : Result (Unit {0}) E) → IsEmptyBook terms book → OnOk closed (IsPutAway book) → OnOk closed (HasMade S first terms)
-  made_and_away terms book closed empty away = on_ok_weaker closed (λ there. record { book = book; empty = empty; away = there }) away
+  abbrev Turns : Option ℕ → ℕ → FileLedger S first → FileLedger S first → Option (List ℕ) → Option (List ℕ) → Result Status WriteFault → Trace → Type 0
+  Turns day count opened served old new result trace =
+      Serves (IsTurn (λ (b : FileLedger S first). b.faults) (IsHonest over_files) (λ b. b.terms) (λ b. history_in (file_state b.conn).now) day) (new_trace, opened) (trace, served) old new count result
 
-  pub served_and_away : (day : Option ℕ) (count : ℕ) (old new last : Option (List ℕ)) (opened before after closed : FileLedger S first) (result : Result Status WriteFault)
-      → IsOpenedFrom (image_at first) opened → before ≡ opened → closed ≡ after
-      → IsUnbound before after old new result
-      ⊎ ((trace : Trace) × Serves (IsTurn (λ (b : FileLedger S first). b.faults) (IsHonest over_files) (λ b. b.terms) (λ b. history_in (file_state b.conn).now) day) (new_trace, before) (trace, after) old new count result)
-      → result ≡ Ok Done → last ≡ new → IsPutAway closed → HasServed S first day count old last
-  served_and_away day count old new last opened before after closed result found is given (inl unbound) done same away = failed_is_not_done _ _ result unbound.1 done
-  served_and_away day count old new last opened before after closed result found is given (inr turns) done same away = record {
-    opened = before;
-    found = subst (IsOpenedFrom (image_at first)) (sym is) found;
+  is_served : (day : Option ℕ) (count : ℕ) (old new last : Option (List ℕ)) (opened after : FileLedger S first) (trace : Trace) (result : Result Status WriteFault) (files : ClosedFiles S first)
+      → Turns day count opened after old new result trace → result ≡ Ok Done → last ≡ new → PutsAway after files → IsServed S first opened day count old last files
+  is_served day count old new last opened after trace result files turns done same away = record {
     served = after;
-    trace = turns.0;
-    turns =
-        subst (λ text. Serves (IsTurn (λ (b : FileLedger S first). b.faults) (IsHonest over_files) (λ b. b.terms) (λ b. history_in (file_state b.conn).now) day) (new_trace, before) (turns.0, after) old text count (Ok Done)) (sym same)
-        (subst (λ r. Serves (IsTurn (λ (b : FileLedger S first). b.faults) (IsHonest over_files) (λ b. b.terms) (λ b. history_in (file_state b.conn).now) day) (new_trace, before) (turns.0, after) old new count r) done turns.1);
-    away = subst IsPutAway given away;
-  }
-
-  pub reported_and_away : (is_of_issues : Bool) (day : Option ℕ) (old new last : Option (List ℕ)) (report : Report) (opened after : FileLedger S first) (result : Result Status WriteFault)
-      → IsAskedFor is_of_issues day report → IsOpenedFrom (image_at first) opened
-      → (IsHonest over_files after → IfOk result (PrintsReport old new (report_lines report (history_in (file_state opened.conn).now) opened.terms)))
-      → result ≡ Ok Done → last ≡ new → IsPutAway after → HasReported S first is_of_issues day old last
-  reported_and_away is_of_issues day old new last report opened after result asked found written done same away = record {
-    report = report;
-    asked = asked;
-    opened = opened;
-    found = found;
-    reported = after;
-    written = λ honest. rw same (subst (λ r. IfOk r (PrintsReport old new (report_lines report (history_in (file_state opened.conn).now) opened.terms))) done (written honest));
+    trace = trace;
+    turns = subst (λ text. Turns day count opened after old text (Ok Done) trace) (sym same) (subst (λ r. Turns day count opened after old new r trace) done turns);
+    was_honest =
+        before_turns (λ (b : FileLedger S first). b.faults) (IsHonest over_files) (λ b. b.terms) (λ b. history_in (file_state b.conn).now) day
+        (new_trace, opened) (trace, after) turns.turns turns.lead;
     away = away;
   }
 
-  -- what was done of a job was done of the same one
-  pub done_as : (job same : Job) (old new : Option (List ℕ)) → job ≡ same → HasDone S first same old new → HasDone S first job old new
-  done_as job same old new is done = subst (λ j. HasDone S first j old new) (sym is) done
+  pub served_and_away : {E : Type 0} (day : Option ℕ) (count : ℕ) (old new last : Option (List ℕ)) (opened before after closed : FileLedger S first) (result : Result Status WriteFault)
+      (put : Result (ClosedFiles S first) E) (files : Option (ClosedFiles S first))
+      → before ≡ opened → closed ≡ after → IsUnbound before after old new result ⊎ ((trace : Trace) × Turns day count before after old new result trace)
+      → IfOk put (PutsAway closed) → result ≡ Ok Done → IsSomeAnd files (λ f. put ≡ Ok f) → last ≡ new → IsSomeAnd files (IsServed S first opened day count old last)
+  served_and_away day count old new last opened before after closed result put files is given (inl unbound) away done there same = failed_is_not_done _ _ result unbound.1 done
+  served_and_away day count old new last opened before after closed result put files is given (inr (trace, turns)) away done there same =
+      closed_says (PutsAway closed) (IsServed S first opened day count old last) put files
+      (λ f put. is_served day count old new last opened after trace result f (subst (λ b. Turns day count b after old new result trace) is turns) done same (subst (λ b. PutsAway b f) given put)) away there
+
+  is_reported : (old new last : Option (List ℕ)) (report : Report) (opened after : FileLedger S first) (result : Result Status WriteFault) (files : ClosedFiles S first)
+      → Keeps (λ (b : FileLedger S first). history_in (file_state b.conn).now) (λ b. b.terms) (IsHonest over_files) opened after
+      → (IsHonest over_files after → IfOk result (PrintsReport old new (report_lines report (history_in (file_state opened.conn).now) opened.terms)))
+      → result ≡ Ok Done → last ≡ new → PutsAway after files → IsReported S first opened report old last files
+  is_reported old new last report opened after result files keeps written done same away = record {
+    reported = after;
+    written = λ honest. rw same (subst (λ r. IfOk r (PrintsReport old new (report_lines report (history_in (file_state opened.conn).now) opened.terms))) done (written honest));
+    keeps = keeps;
+    away = away;
+  }
+
+  pub reported_and_away : {E : Type 0} (old new last : Option (List ℕ)) (report : Report) (opened after : FileLedger S first) (result : Result Status WriteFault)
+      (put : Result (ClosedFiles S first) E) (files : Option (ClosedFiles S first))
+      → Keeps (λ (b : FileLedger S first). history_in (file_state b.conn).now) (λ b. b.terms) (IsHonest over_files) opened after
+      → (IsHonest over_files after → IfOk result (PrintsReport old new (report_lines report (history_in (file_state opened.conn).now) opened.terms)))
+      → IfOk put (PutsAway after) → result ≡ Ok Done → IsSomeAnd files (λ f. put ≡ Ok f) → last ≡ new → IsSomeAnd files (IsReported S first opened report old last)
+  reported_and_away old new last report opened after result put files keeps written away done there same =
+      closed_says (PutsAway after) (IsReported S first opened report old last) put files (λ f put. is_reported old new last report opened after result f keeps written done same put) away there
+
+  pub done_as : (job same : Job) (old new : Option (List ℕ)) (given files : Option (ClosedFiles S first)) → job ≡ same → given ≡ files
+      → HasDone S first same old new files → HasDone S first job old new given
+  done_as job same old new given files is handed done = subst (λ f. HasDone S first job old new f) (sym handed) (subst (λ j. HasDone S first j old new files) (sym is) done)

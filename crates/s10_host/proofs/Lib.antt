@@ -3,4 +3,5 @@ mod MemoryLedger
 mod Answering
 mod Looping
 mod Opening
+mod Backwards
 mod Ending

@@ -1,33 +1,32 @@
 -- What a book says of the files that it was made in or opened from.
 use denote.RattleType.{RattleType}
-use Rattle.std.proofs.Common.{◌≡◌, ◌∙◌, inr, ap, subst, Result, Ok, Err}
+use Rattle.std.proofs.Common.{◌≡◌, ◌≤◌, ◌∙◌, inr, ap, sym, subst, arith, Result, Ok, Err}
 use Rattle.std.specs.Prelude.{IfOk, IfErr, IsErrAnd, IsTrue, []}
 use Rattle.std.proofs.lemmas.Result.{IfOk-weaker}
 use Rattle.sqlite_disk.specs.declared.Disk.{Ghosts}
+use Rattle.sqlite_disk.specs.declared.Files.{Files}
 use Rattle.sqlite_wal.specs.Recovery.{Image}
+use Rattle.sqlite_wal.specs.Reads.{AreClean}
+use Rattle.sqlite_trees.specs.View.{doubt}
+use Rattle.sqlite_trees.proofs.Doubt.{no_doubt}
+use Rattle.sqlite_pool.proofs.StateLemmas.{clean_is}
 use Rattle.sqlite_store.specs.declared.store.FileStore.{FileStore}
+use Rattle.sqlite_store.specs.FileStore.{view, files as store_files}
 use Rattle.sqlite.specs.Effect.{Database}
 use Rattle.sqlite.specs.Held.{Held}
 use Rattle.sqlite.specs.State.{HasCleanDisk}
 use Rattle.sqlite_disk.specs.declared.start.Start as start
 use Rattle.sqlite_wal.specs.Files.{image_at}
-use Rattle.sqlite.specs.Files.{file_state, over_files}
+use Rattle.sqlite.specs.Files.{file_state, over_files, AreFoundIn}
+use Rattle.sqlite.specs.Closing.{IsCopied}
 use Rattle.s10_book.specs.Settings.{Terms}
-use Rattle.s10_ledger.specs.Ledger.{Ledger, IsHonest, history_in}
+use Rattle.s10_ledger.specs.Ledger.{Ledger, IsLedger, IsHonest, history_in}
+use Rattle.s10_ledger.specs.Settled.{WasSound}
 use Rattle.s10_rows.specs.declared.open_fault.OpenFault.{OpenFault}
 use Rattle.s10_ledger.specs.Refusals.{IsMakingRefusal, IsOpeningRefusal}
-use Rattle.s10_host.specs.Files.{FileConnection, IsFoundIn, IsHonestWhereClean, IsEmptyBook, IsOpenedFrom, IsNotMade, IsNotOpened}
+use Rattle.s10_host.specs.Files.{FileConnection, IsFoundIn, WhereClean, IsEmptyBook, IsFoundBook, Copies, PutsAway, Leaves, IsNotMade, IsNotOpened}
 
--- what holds of the value that was made holds of it where it was kept
-kept_is_made : {A E F : Type 0} (P : A → Type 0) (made : Result A E) (kept : Result A F) → IfOk made P → IfOk kept (λ a. made ≡ Ok a) → IfOk kept P
-kept_is_made P made kept holds same = IfOk-weaker kept (λ a. made ≡ Ok a) P (λ a is. subst (λ r. IfOk r P) is holds) same
-
--- and what follows from two facts of it
-kept_with : {A E F : Type 0} (P Q R : A → Type 0) → ((a : A) → P a → Q a → R a) → (made : Result A E) (kept : Result A F)
-    → IfOk made P → IfOk made Q → IfOk kept (λ a. made ≡ Ok a) → IfOk kept R
-kept_with P Q R gives made kept one other same = IfOk-weaker kept (λ a. made ≡ Ok a) R (λ a is. gives a (subst (λ r. IfOk r P) is one) (subst (λ r. IfOk r Q) is other)) same
-
--- or from three
+-- what follows from three facts of the value that was made holds of it where it was kept
 kept_with_three : {A E F : Type 0} (P Q R T : A → Type 0) → ((a : A) → P a → Q a → R a → T a) → (made : Result A E) (kept : Result A F)
     → IfOk made P → IfOk made Q → IfOk made R → IfOk kept (λ a. made ≡ Ok a) → IfOk kept T
 kept_with_three P Q R T gives made kept one other third same =
@@ -67,28 +66,89 @@ module _ (S : RattleType) (first : start.Ghosts S.Denot) where
       (each_passed_on made kept fault_in (λ refusal fault. HasCleanDisk (file_state (left refusal)) → IsTrue (file_state (left refusal)).is_open → IsOpeningRefusal (file_state was).now fault) says is)
 
 module _ {D : Type 0} {g : Ghosts D} where
-  pub kept_empty : {E F : Type 0} (terms : Terms) (made : Result (Ledger (FileStore D g)) E) (kept : Result (Ledger (FileStore D g)) F)
-      → IfOk made (λ book. (book.terms ≡ terms) × (book.faults ≡ 0)) → IfOk made IsHonestWhereClean
+  pub kept_empty : {E F : Type 0} (made : Result (Ledger (FileStore D g)) E) (kept : Result (Ledger (FileStore D g)) F)
+      → IfOk made (λ book. HasCleanDisk (file_state book.conn) → IsTrue (file_state book.conn).is_open)
+      → IfOk made (λ book. HasCleanDisk (file_state book.conn) → IsTrue (file_state book.conn).is_open → IsHonest over_files book)
       → IfOk made (λ book. IsHonest over_files book → history_in (file_state book.conn).now ≡ [])
-      → IfOk kept (λ book. made ≡ Ok book) → IfOk kept (IsEmptyBook terms)
-  kept_empty terms made kept new honest empty is =
-      kept_with_three _ _ _ (IsEmptyBook terms) (λ book new honest empty. record { settings = new.0; honest = honest; empty = empty }) made kept new honest empty is
+      → IfOk kept (λ book. made ≡ Ok book) → IfOk kept (WhereClean IsEmptyBook)
+  kept_empty made kept opened honest empty is =
+      kept_with_three _ _ _ (WhereClean IsEmptyBook)
+      (λ book opened honest empty clean. let sound = honest clean (opened clean) in record { honest = sound; empty = empty sound }) made kept opened honest empty is
 
-  opened_from : (held : Image) (was : Held (FileStore D g)) (book : Ledger (FileStore D g)) → IsFoundIn held was → IsHonestWhereClean book
-      → (IsHonest over_files book → (file_state book.conn).now ≡ (file_state was).now) → IsOpenedFrom held book
-  opened_from held was book found honest same = record {
-    was = was;
-    found = found;
-    honest = honest;
-    same = same;
-    holds = λ db holds clean sound.
-        let (opened, finds) = found clean in
-        ap (λ (d : Database). d.trees) (same sound) ∙ ap (λ (d : Database). d.trees) opened.0.clean ∙ finds.holds db holds;
-  }
+  pub kept_terms : {E F : Type 0} (terms : Terms) (made : Result (Ledger (FileStore D g)) E) (kept : Result (Ledger (FileStore D g)) F)
+      → IfOk made (λ book. (book.terms ≡ terms) × (book.faults ≡ 0)) → IfOk kept (λ book. made ≡ Ok book) → IfOk kept (λ book. book.terms ≡ terms)
+  kept_terms terms made kept new is =
+      IfOk-weaker kept (λ book. made ≡ Ok book) (λ book. book.terms ≡ terms) (λ book same. let has = subst (λ r. IfOk r (λ b. (b.terms ≡ terms) × (b.faults ≡ 0))) same new in has.0) is
 
-  pub kept_from : {E F : Type 0} (held : Image) (was : Held (FileStore D g)) (opened : Result (Ledger (FileStore D g)) E) (kept : Result (Ledger (FileStore D g)) F)
-      → IsFoundIn held was → IfOk opened IsHonestWhereClean
+  -- what the opening of a ledger says of the connection that it was handed, and of the book
+  pub record Opening (was : Held (FileStore D g)) (book : Ledger (FileStore D g)) : Type 0 where
+    pub opened : HasCleanDisk (file_state book.conn) → IsTrue (file_state book.conn).is_open
+    pub honest : HasCleanDisk (file_state book.conn) → IsTrue (file_state book.conn).is_open → IsHonest over_files book
+    pub same : IsHonest over_files book → (file_state book.conn).now ≡ (file_state was).now
+    pub sound : WasSound over_files was book.conn
+
+  found_book : (held : Image) (was : Held (FileStore D g)) (book : Ledger (FileStore D g)) → IsFoundIn held was → Opening was book → WhereClean (IsFoundBook held) book
+  found_book held was book found opening clean =
+      let sound = opening.honest clean (opening.opened clean) in
+      let (first, finds) = found (opening.sound clean).0 in
+      let trees = ap (λ (d : Database). d.trees) (opening.same sound) ∙ ap (λ (d : Database). d.trees) first.0.clean in
+      record {
+        honest = sound;
+        holds = λ db holds. trees ∙ finds.holds db holds;
+        reads = subst (AreFoundIn held) (sym trees) finds.reads;
+        was = was;
+        found = (first, finds);
+        same = opening.same sound;
+      }
+
+  all_of : {E : Type 0} (was : Held (FileStore D g)) (opened : Result (Ledger (FileStore D g)) E)
+      → IfOk opened (λ book. HasCleanDisk (file_state book.conn) → IsTrue (file_state book.conn).is_open)
+      → IfOk opened (λ book. HasCleanDisk (file_state book.conn) → IsTrue (file_state book.conn).is_open → IsHonest over_files book)
       → IfOk opened (λ book. IsHonest over_files book → (file_state book.conn).now ≡ (file_state was).now)
-      → IfOk kept (λ book. opened ≡ Ok book) → IfOk kept (IsOpenedFrom held)
-  kept_from held was opened kept found honest same is =
-      kept_with _ _ (IsOpenedFrom held) (λ book. opened_from held was book found) opened kept honest same is
+      → IfOk opened (λ book. WasSound over_files was book.conn) → IfOk opened (Opening was)
+  all_of was (Ok book) opened honest same sound = record { opened = opened; honest = honest; same = same; sound = sound }
+  all_of was (Err e) opened honest same sound = tt
+
+  pub kept_found : {E F : Type 0} (held : Image) (was : Held (FileStore D g)) (opened : Result (Ledger (FileStore D g)) E) (kept : Result (Ledger (FileStore D g)) F)
+      → IsFoundIn held was
+      → IfOk opened (λ book. HasCleanDisk (file_state book.conn) → IsTrue (file_state book.conn).is_open)
+      → IfOk opened (λ book. HasCleanDisk (file_state book.conn) → IsTrue (file_state book.conn).is_open → IsHonest over_files book)
+      → IfOk opened (λ book. IsHonest over_files book → (file_state book.conn).now ≡ (file_state was).now)
+      → IfOk opened (λ book. WasSound over_files was book.conn)
+      → IfOk kept (λ book. opened ≡ Ok book) → IfOk kept (WhereClean (IsFoundBook held))
+  kept_found held was opened kept found live honest same sound is =
+      let all = all_of was opened live honest same sound in
+      IfOk-weaker kept (λ book. opened ≡ Ok book) (WhereClean (IsFoundBook held)) (λ book here. found_book held was book found (subst (λ r. IfOk r (Opening was)) here all)) is
+
+  -- a connection whose last commit the files hold showed a ledger of which what was true is true of the book
+  pub put_away : (book : Ledger (FileStore D g)) (closed : Held (FileStore D g)) (files : Files D) → closed ≡ book.conn → Copies closed files
+      → (HasCleanDisk (file_state closed) → IsTrue (file_state closed).is_open → (file_state closed).committed ≡ (file_state closed).now)
+      → (HasCleanDisk (file_state closed) → IsTrue (file_state closed).is_open → IsLedger (file_state closed).now book.terms book.len book.day)
+      → PutsAway book files
+  put_away book closed files same copies committed ledger clean =
+      let copied = copies clean in
+      let here = subst (λ conn. IsCopied conn files) same copied in
+      record {
+        honest = record {
+          clean = here.was_clean;
+          is_open = here.was_open;
+          ledger = subst (λ conn. IsLedger (file_state conn).now book.terms book.len book.day) same (ledger copied.was_clean copied.was_open);
+        };
+        settled = subst (λ conn. (file_state conn).committed ≡ (file_state conn).now) same (committed copied.was_clean copied.was_open);
+        copied = here;
+      }
+
+  pub closed_away : {E : Type 0} (book : Ledger (FileStore D g)) (closed : Held (FileStore D g)) (made : Result (Files D) E) → closed ≡ book.conn → IfOk made (Copies closed)
+      → (HasCleanDisk (file_state closed) → IsTrue (file_state closed).is_open → (file_state closed).committed ≡ (file_state closed).now)
+      → (HasCleanDisk (file_state closed) → IsTrue (file_state closed).is_open → IsLedger (file_state closed).now book.terms book.len book.day)
+      → IfOk made (PutsAway book)
+  closed_away book closed made same copies committed ledger =
+      IfOk-weaker made (Copies closed) (PutsAway book) (λ files copies. put_away book closed files same copies committed ledger) copies
+
+  -- files are as clean as the store that gave them back, and that one as the connection before
+  pub left_clean : (c : Held (FileStore D g)) (store : FileStore D g) (files : Files D)
+      → doubt (view c.store).is_clean ≤ doubt (view store).is_clean → (files.log, files.db) ≡ store_files store → Leaves c files
+  left_clean c store files falls same clean =
+      let sure = subst (λ p. AreClean g p.0 p.1) same clean in
+      let none : doubt (view store).is_clean ≡ 0 = no_doubt _ (subst IsTrue (sym (clean_is store.pool)) sure) in
+      omega (arith, falls, none)

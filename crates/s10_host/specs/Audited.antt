@@ -1,5 +1,5 @@
 -- What an audit finds of a database, and prints.
-use Rattle.std.specs.Prelude.{◌≡◌, ℕ, IsTrue, List, [], ◌∷◌, length, codes, decimal, Result, Ok, Err}
+use Rattle.std.specs.Prelude.{◌≡◌, ℕ, IsTrue, List, [], ◌∷◌, length, codes, decimal, Result, Ok, Err, OnOk}
 use Rattle.sqlite_trees.specs.declared.store.Store.{Ghosts}
 use Rattle.sqlite.specs.Effect.{Database}
 use Rattle.sqlite.specs.Held.{Held, state}
@@ -8,6 +8,7 @@ use Rattle.s10_book.specs.Settings.{Terms}
 use Rattle.s10_wire.specs.Lines.{line_of}
 use Rattle.s10_rows.specs.declared.open_fault.OpenFault.{OpenFault}
 use Rattle.s10_ledger.specs.Ledger.{IsLedger, history_in}
+use Rattle.s10_ledger.specs.Settled.{WasSound}
 use Rattle.s10_ledger.specs.Refusals.{IsOpeningRefusal}
 use Rattle.s10_jobs.specs.declared.status.Status.{Status}
 use Rattle.s10_jobs.specs.declared.status.Status.TheVariants.{Done, Failed}
@@ -26,9 +27,12 @@ abbrev pub IsFinding : Database → Result ℕ OpenFault → Type 0
 IsFinding db (Ok count) = HoldsCalls db count
 IsFinding db (Err fault) = IsOpeningRefusal db fault
 
--- the same where the connection, as the audit leaves it, is open over disks that kept what they were given
-abbrev pub IsFound : {S : Type 0} → Ghosts S → Held S → Held S → Result ℕ OpenFault → Type 0
-IsFound g before left found = HasCleanDisk (state g left) → IsTrue (state g left).is_open → IsFinding (state g before).now found
+-- what was found of the database that a connection showed, by the connection that the audit leaves: it holds where that
+-- one is open over disks that kept what they were given, and those are clean only where they were so before
+pub record IsFound {S : Type 0} (g : Ghosts S) (before left : Held S) (found : Result ℕ OpenFault) : Type 0 where
+  pub sound : WasSound g before left
+  pub opened : HasCleanDisk (state g left) → OnOk found (IsTrue (state g left).is_open)
+  pub finding : HasCleanDisk (state g left) → IsTrue (state g left).is_open → IsFinding (state g before).now found
 
 abbrev pub audit_line : Result ℕ OpenFault → List ℕ
 audit_line (Ok count) = line_of (codes "ledger") (codes "ok" ∷ decimal count ∷ [])

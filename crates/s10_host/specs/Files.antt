@@ -16,10 +16,9 @@ use Rattle.sqlite_trees.specs.Tree.{Trees}
 use Rattle.sqlite_store.specs.declared.store.FileStore.{FileStore}
 use Rattle.sqlite.specs.Held.{Held}
 use Rattle.sqlite.specs.State.{HasCleanDisk}
-use Rattle.sqlite.specs.Files.{file_state, over_files, HoldsDatabase, IsOpened}
+use Rattle.sqlite.specs.Files.{file_state, over_files, HoldsDatabase, AreFoundIn, IsOpened}
 use Rattle.sqlite.specs.Start.{FindsIn}
 use Rattle.sqlite.specs.Closing.{IsCopied}
-use Rattle.s10_book.specs.Settings.{Terms}
 use Rattle.s10_ledger.specs.Ledger.{Ledger, IsHonest, history_in}
 use Rattle.s10_rows.specs.declared.open_fault.OpenFault.{OpenFault}
 use Rattle.s10_rows.specs.declared.open_fault.OpenFault.TheVariants.{NotALedger, Memory, Store}
@@ -30,28 +29,42 @@ module _ {D : Type 0} {g : Ghosts D} where
   abbrev pub IsFoundIn : Image → Held (FileStore D g) → Type 0
   IsFoundIn held c = HasCleanDisk (file_state c) → IsOpened c × FindsIn held (file_state c)
 
-  -- the book is honest where it is open over disks that kept what they were given
-  abbrev pub IsHonestWhereClean : Ledger (FileStore D g) → Type 0
-  IsHonestWhereClean book = HasCleanDisk (file_state book.conn) → IsTrue (file_state book.conn).is_open → IsHonest over_files book
+  -- a fact of a book, where its disk has returned what was written
+  abbrev pub WhereClean : (Ledger (FileStore D g) → Type 0) → Ledger (FileStore D g) → Type 0
+  WhereClean Is book = HasCleanDisk (file_state book.conn) → Is book
 
-  -- a ledger with these settings, and no call
-  pub record IsEmptyBook (terms : Terms) (book : Ledger (FileStore D g)) : Type 0 where
-    pub settings : book.terms ≡ terms
-    pub honest : IsHonestWhereClean book
-    pub empty : IsHonest over_files book → history_in (file_state book.conn).now ≡ []
+  -- a ledger with no call
+  pub record IsEmptyBook (book : Ledger (FileStore D g)) : Type 0 where
+    pub honest : IsHonest over_files book
+    pub empty : history_in (file_state book.conn).now ≡ []
 
-  -- a ledger over the tables of a connection that was found in the files
-  pub record IsOpenedFrom (held : Image) (book : Ledger (FileStore D g)) : Type 0 where
+  -- a ledger over the database that the files held
+  pub record IsFoundBook (held : Image) (book : Ledger (FileStore D g)) : Type 0 where
+    pub honest : IsHonest over_files book
+    pub holds : (db : Trees) → HoldsDatabase held db → (file_state book.conn).now.trees ≡ db
+    pub reads : AreFoundIn held (file_state book.conn).now.trees
+    -- it shows what was found as the files were opened
     pub was : Held (FileStore D g)
-    pub found : IsFoundIn held was
-    pub honest : IsHonestWhereClean book
-    pub same : IsHonest over_files book → (file_state book.conn).now ≡ (file_state was).now
-    -- it is the database that the files held
-    pub holds : (db : Trees) → HoldsDatabase held db → HasCleanDisk (file_state was) → IsHonest over_files book → (file_state book.conn).now.trees ≡ db
+    pub found : IsOpened was × FindsIn held (file_state was)
+    pub same : (file_state book.conn).now ≡ (file_state was).now
 
   -- the last commit is in the database file, where both files kept what they were given
-  abbrev pub IsPutAway : Ledger (FileStore D g) → Type 0
-  IsPutAway book = (files : Files D) × (AreClean g files.log files.db → IsCopied book.conn files)
+  abbrev pub Copies : Held (FileStore D g) → Files D → Type 0
+  Copies c files = AreClean g files.log files.db → IsCopied c files
+
+  -- the ledger was honest to the end, and what it showed is what the files hold, also after a crash
+  pub record IsPutAway (book : Ledger (FileStore D g)) (files : Files D) : Type 0 where
+    pub honest : IsHonest over_files book
+    pub settled : (file_state book.conn).committed ≡ (file_state book.conn).now
+    pub copied : IsCopied book.conn files
+
+  -- the same, where both files kept what they were given
+  abbrev pub PutsAway : Ledger (FileStore D g) → Files D → Type 0
+  PutsAway book files = AreClean g files.log files.db → IsPutAway book files
+
+  -- both files kept what they were given only where the connection's disk did
+  abbrev pub Leaves : Held (FileStore D g) → Files D → Type 0
+  Leaves c files = AreClean g files.log files.db → HasCleanDisk (file_state c)
 
 -- a file of the system
 abbrev pub SystemFile : (S : RattleType) → start.Ghosts S.Denot → Type 0
@@ -66,6 +79,10 @@ FileConnection S first = Held (FileStore (SystemFile S first) (system_files S fi
 
 abbrev pub FileLedger : (S : RattleType) → start.Ghosts S.Denot → Type 0
 FileLedger S first = Ledger (FileStore (SystemFile S first) (system_files S first))
+
+-- the log and the database file, closed
+abbrev pub ClosedFiles : (S : RattleType) → start.Ghosts S.Denot → Type 0
+ClosedFiles S first = Files (SystemFile S first)
 
 -- the file could not be opened as a database
 abbrev pub IsFileFault : OpenFault → Type 0

@@ -1,16 +1,22 @@
 //! Ledgers in files, whatever the files held: `S` stands for that.
 
-ghost use Rattle.std.specs.Prelude.{◌≡◌, false, Ok, IfOk, IfErr, IsErrAnd, OnOk};
+ghost use Rattle.std.specs.Prelude.{◌≡◌, false, Ok, IfOk, IfErr, IsErrAnd};
 ghost use Rattle.sqlite_wal.specs.Files.{image_at};
-ghost use Rattle.s10_host.specs.Files.{IsFoundIn, IsEmptyBook, IsOpenedFrom, IsPutAway, IsFileFault, IsAbsenceOr, IsNotMade, IsNotOpened};
+ghost use Rattle.s10_host.specs.Files.{IsFoundIn, IsEmptyBook, IsFoundBook, WhereClean, PutsAway, Copies, Leaves, IsFileFault, IsAbsenceOr, IsNotMade, IsNotOpened};
 
 use s10_book::Settings;
 use s10_ledger::{OpenFault, Refused, SqlBook};
-use sqlite::{Connection, Error, ErrorCode, FileFrom, FileStore, Start};
+use sqlite::{Connection, Error, ErrorCode, FileFrom, FileStore, Files, Leftover, Start};
 use std::fs;
+
+/// A connection over a file.
+pub type FileConnection<S> = Connection<FileStore<FileFrom<S>>>;
 
 /// A book over the tables of a file.
 pub type FileBook<S> = SqlBook<FileStore<FileFrom<S>>>;
+
+/// A database file and its log, closed.
+pub type ClosedFiles<S> = Files<FileFrom<S>>;
 
 /// Makes an empty ledger in a file. A refusal leaves the file with no table of a ledger's.
 pub fn create_book<S: Start>(
@@ -19,7 +25,8 @@ pub fn create_book<S: Start>(
     settings: Settings,
     start: S,
 ) -> Result<FileBook<S>, OpenFault>
-    ensures made { IfOk result (IsEmptyBook settings) }
+    ensures settings { IfOk result (λ book. book.terms ≡ settings) }
+    ensures made { IfOk result (WhereClean IsEmptyBook) }
     ensures refused { IfErr result (IsNotMade S.row S.Start) }
 {
     let connection = connect(rt, path, start)?;
@@ -28,7 +35,7 @@ pub fn create_book<S: Start>(
 
 /// Opens the ledger of a file, which does all its calls again.
 pub fn open_book<S: Start>(rt: &HostRuntime, path: &str, start: S) -> Result<FileBook<S>, OpenFault>
-    ensures opened { IfOk result (IsOpenedFrom (image_at S.Start)) }
+    ensures opened { IfOk result (WhereClean (IsFoundBook (image_at S.Start))) }
     ensures refused { IfErr result (IsNotOpened S.row S.Start) }
 {
     let connection = connect_to_ledger(rt, path, start)?;
@@ -36,17 +43,37 @@ pub fn open_book<S: Start>(rt: &HostRuntime, path: &str, start: S) -> Result<Fil
 }
 
 /// Ends a book: what it committed is then in the database file itself.
-pub fn close_book<S: Start>(book: FileBook<S>) -> Result<(), OpenFault>
-    ensures away { OnOk result (IsPutAway book) }
+pub fn close_book<S: Start>(book: FileBook<S>) -> Result<ClosedFiles<S>, OpenFault>
+    ensures away { IfOk result (PutsAway book) }
     ensures refused { IfErr result (λ fault. fault ≡ OpenFault.Store) }
 {
-    match book.close().close_files() {
-        Ok(_files) => Ok(()),
-        Err((_, store)) => {
-            drop(store.close());
-            Err(OpenFault::Store)
-        }
+    close_copied(book.close())
+}
+
+// The files of a connection, with its last commit in the database file itself.
+fn close_copied<S: Start>(connection: FileConnection<S>) -> Result<ClosedFiles<S>, OpenFault>
+    ensures copied { IfOk result (Copies connection) }
+    ensures refused { IfErr result (λ fault. fault ≡ OpenFault.Store) }
+{
+    match connection.close_files() {
+        Ok(files) => Ok(files),
+        Err(failed) => Err(fault_of_closing(failed)),
     }
+}
+
+fn fault_of_closing<S: Start>(failed: (Error, FileStore<FileFrom<S>>)) -> OpenFault
+    ensures { result ≡ OpenFault.Store }
+{
+    let (_error, store) = failed;
+    drop(store.close());
+    OpenFault::Store
+}
+
+/// The files of a connection, as it leaves them: its last commits may stand in the log alone.
+pub fn leave_files<S: Start>(connection: FileConnection<S>) -> ClosedFiles<S>
+    ensures { Leaves connection result }
+{
+    connection.into_store().close()
 }
 
 /// Opens a file that is there as a database. One that is not there is no ledger, and is not made; in
@@ -55,7 +82,7 @@ pub fn connect_to_ledger<S: Start>(
     rt: &HostRuntime,
     path: &str,
     start: S,
-) -> Result<Connection<FileStore<FileFrom<S>>>, OpenFault>
+) -> Result<FileConnection<S>, OpenFault>
     ensures idle { IfOk result (λ connection. connection.in_transaction ≡ false) }
     ensures found { IfOk result (IsFoundIn (image_at S.Start)) }
     ensures refused { IfErr result (IsAbsenceOr IsFileFault) }
@@ -81,19 +108,23 @@ fn absence(rt: &HostRuntime, path: &str) -> OpenFault
 }
 
 // Opens a file as a database, or makes it.
-fn connect<S: Start>(
-    rt: &HostRuntime,
-    path: &str,
-    start: S,
-) -> Result<Connection<FileStore<FileFrom<S>>>, OpenFault>
+fn connect<S: Start>(rt: &HostRuntime, path: &str, start: S) -> Result<FileConnection<S>, OpenFault>
     ensures idle { IfOk result (λ connection. connection.in_transaction ≡ false) }
     ensures found { IfOk result (IsFoundIn (image_at S.Start)) }
     ensures refused { IfErr result IsFileFault }
 {
     match Connection::open_from(rt, path, false, start) {
         Ok(connection) => Ok(connection),
-        Err((Error::SqliteFailure(ErrorCode::OutOfMemory), _)) => Err(OpenFault::Memory),
-        Err(_) => Err(OpenFault::Store),
+        Err(failed) => Err(fault_of_opening(failed)),
+    }
+}
+
+fn fault_of_opening<S: Start>(failed: (Error, Option<Leftover<FileFrom<S>>>)) -> OpenFault
+    ensures { IsFileFault result }
+{
+    match failed {
+        (Error::SqliteFailure(ErrorCode::OutOfMemory), _) => OpenFault::Memory,
+        _ => OpenFault::Store,
     }
 }
 
@@ -106,9 +137,14 @@ fn kept_or_closed<S: Start>(
 {
     match made {
         Ok(book) => Ok(book),
-        Err(Refused { fault, connection }) => {
-            let _ = connection.close();
-            Err(fault)
-        }
+        Err(refusal) => Err(fault_of_refusal(refusal)),
     }
+}
+
+fn fault_of_refusal<S: Start>(refusal: Refused<FileStore<FileFrom<S>>>) -> OpenFault
+    ensures { result ≡ refusal.fault }
+{
+    let Refused { fault, connection } = refusal;
+    let _ = connection.close();
+    fault
 }

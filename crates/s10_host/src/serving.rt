@@ -39,7 +39,11 @@ where
         Ok(link) => link,
         Err(fault) => return fail_by_link(fault, out),
     };
-    // The turns go on where standard error is closed.
-    let _ = eprintln!(rt; "serving on {}", link.local());
+    tell_address(rt, link.local());
     serve_turns(rt, server, &mut link, count, day, out)
+}
+
+// The turns go on where standard error is closed.
+fn tell_address<R: Eprint>(rt: &R, at: Peer) {
+    let _ = eprintln!(rt; "serving on {at}");
 }

@@ -10,7 +10,8 @@ fn ends_with(rt: &HostRuntime, words: &[&str], status: u8, line: &[u8]) -> bool 
         return false;
     };
     let mut output = Vec::new(rt.alloc());
-    run_job(rt, &job, Unknown, &mut output) == status && output.as_slice() == line
+    let (ended, _files) = run_job(rt, &job, Unknown, &mut output);
+    ended == status && output.as_slice() == line
 }
 
 #[test]

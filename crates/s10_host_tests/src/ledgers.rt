@@ -177,7 +177,8 @@ fn audited<R: Abort + AllocGlobal, W: Write>(
     out: &mut W,
 ) -> u8 {
     assert!(rt; connection.is_autocommit());
-    run_audit(rt.alloc(), connection, out)
+    let (status, _left) = run_audit(rt.alloc(), connection, out);
+    status
 }
 
 /// An audit of the connection has this status and prints this line.

@@ -1,6 +1,6 @@
-use Rattle.std.proofs.Common.{subst}
-use Rattle.sqlite.specs.Closing.{IsCopied}
+use Rattle.s10_host.proofs.Opening.{closed_away}
 use Rattle.s10_host.proofs.files.close_book.Goals as goal
 
-pub returns-in-Ok-clause-away : goal.returns-in-Ok-clause-away
-returns-in-Ok-clause-away g c = (c.in-Ok._files, λ clean. subst (λ conn. IsCopied conn c.in-Ok._files) c.close.ensures.same (c.in-Ok.ensures.copied clean))
+pub returns-clause-away : goal.returns-clause-away
+returns-clause-away g c =
+    closed_away c.args.book c.close.result c.close_copied.result c.close.ensures.same c.close_copied.ensures.copied c.close.ensures.committed c.close.ensures.ledger
