@@ -1,4 +1,4 @@
-use Rattle.std.proofs.Common.{◌≡◌, ◌∙◌, sym, ap}
+use Rattle.std.proofs.Common.{◌∙◌, sym, ap}
 use Rattle.std.specs.Prelude.{find}
 use Rattle.s10_rows.proofs.DrawRows.{covers, covering, covered}
 use Rattle.s10_ledger.proofs.keeping.drawn_made.Goals as goal

@@ -1,4 +1,4 @@
-use Rattle.std.proofs.Common.{◌≡◌, refl, sym, ◌∙◌}
+use Rattle.std.proofs.Common.{refl, sym, ◌∙◌}
 use Rattle.std.proofs.lemmas.Option.{same_Some}
 use Rattle.s10_book.specs.Issues.{issues_of, pick_of}
 use Rattle.s10_ledger.proofs.lookups.candidate_in.Goals as goal

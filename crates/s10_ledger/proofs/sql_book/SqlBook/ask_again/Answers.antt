@@ -1,13 +1,5 @@
-use Rattle.std.proofs.Common.{rules, ◌≡◌, ◌==◌, find, arith}
-use base.Stored.{Coded-set}
-use Rattle.std.specs.Coded.{coded_option}
-use Rattle.s10_book.specs.contracts.entry.Entry.{the_row}
-use Rattle.sqlite.specs.Held.{state}
-use Rattle.s10_book.specs.History.{entry_with_key, entry_at, ranges_of, is_held_above, overlaps}
-use Rattle.s10_book.specs.Issues.{last_issue_of, candidate_of}
-use Rattle.s10_book.specs.Usage.{usage_of}
-use Rattle.s10_ledger.specs.Ledger.{Ledger, history_in}
-use Rattle.s10_ledger.proofs.BookLemmas.{still_kept, still_mirrored, if_answered, was_ledger, read_keeps, answered}
+use Rattle.s10_ledger.specs.Ledger.{Ledger}
+use Rattle.s10_ledger.proofs.BookLemmas.{still_kept, still_mirrored, if_answered, read_keeps}
 use Rattle.s10_ledger.proofs.sql_book.SqlBook.ask_again.Goals as goal
 
 pub invariant_of-self : goal.invariant_of-self

@@ -1,4 +1,4 @@
-use Rattle.std.proofs.Common.{◌∙◌, arith}
+use Rattle.std.proofs.Common.{◌∙◌}
 use base.Stored.{Coded-set}
 use Rattle.s10_book.specs.contracts.candidate.Candidate.{the_row}
 use Rattle.sqlite.specs.Held.{state}
