@@ -44,6 +44,7 @@ serve
 "$s10" grant --to "$address" --number 1 --holder 7 --service RA --country GB --first 0 --last 99999 > /dev/null || fail grant
 
 # Draws until one is not answered: the server is killed while they go on.
+: > "$dir/answers"
 (
     number=1
     while [ "$number" -le 100 ] && draw "$number" 1 >> "$dir/answers"; do
@@ -51,7 +52,7 @@ serve
     done
 ) &
 draws=$!
-while [ "$(grep -c ' done ' "$dir/answers" 2>/dev/null || true)" -lt 50 ]; do sleep 0.01; done
+while [ "$(grep -c ' done ' "$dir/answers" || true)" -lt 50 ]; do sleep 0.01; done
 stop
 wait "$draws" || true
 grep ' done ' "$dir/answers" > "$dir/answered"

@@ -1,5 +1,6 @@
 //! The subcommand `audit`.
 use crate::builders::{named, with};
+use crate::found::text_of;
 use crate::options::ledger_option;
 use clap::{ArgMatches, Command};
 use s10_jobs::Job;
@@ -30,6 +31,6 @@ Example:
 /// The audit that the words ask for.
 pub fn audit_job<'a>(found: &ArgMatches<'a>) -> Option<Job<'a>> {
     Some(Job::Audit {
-        ledger: found.get_str("ledger")?,
+        ledger: text_of(found, "ledger")?,
     })
 }

@@ -22,26 +22,24 @@ pub fn with_subcommand<'a>(
 
 /// A word that has to be given in its place.
 pub fn word<'a>(alloc: Global, name: &'a str, value: &'a str, help: &'a str) -> Arg<'a> {
-    Arg::new(alloc, name)
-        .value_name(value)
-        .required(true)
-        .help(help)
+    let arg = valued(Arg::new(alloc, name), value, help);
+    arg.required(true)
 }
 
 /// An option without a value.
 pub fn flag<'a>(alloc: Global, name: &'a str, help: &'a str) -> Arg<'a> {
-    Arg::new(alloc, name)
-        .long(name)
-        .action(ArgAction::SetTrue)
-        .help(help)
+    let arg = Arg::new(alloc, name).long(name).help(help);
+    arg.action(ArgAction::SetTrue)
 }
 
 /// An option with a value.
 pub fn option<'a>(alloc: Global, name: &'a str, value: &'a str, help: &'a str) -> Arg<'a> {
-    Arg::new(alloc, name)
-        .long(name)
-        .value_name(value)
-        .help(help)
+    let arg = Arg::new(alloc, name).long(name);
+    valued(arg, value, help)
+}
+
+fn valued<'a>(arg: Arg<'a>, value: &'a str, help: &'a str) -> Arg<'a> {
+    arg.value_name(value).help(help)
 }
 
 /// A text that has to be given.

@@ -43,14 +43,17 @@ pub fn command<'a>(alloc: Global) -> Result<Command<'a>, AllocError> {
 
 fn program<'a>(alloc: Global) -> Command<'a> {
     let about = "Issue S10 identifiers of postal items, as RA473124829US, and check them";
-    with_subcommands(named(alloc, "s10", about, STATUSES)).version(VERSION)
+    explaining(demanding(named(alloc, "s10", about, STATUSES))).version(VERSION)
 }
 
-// A command that asks for a subcommand, and explains itself where nothing is said.
-fn with_subcommands<'a>(command: Command<'a>) -> Command<'a> {
-    command
-        .subcommand_required(true)
-        .arg_required_else_help(true)
+// A command that asks for a subcommand.
+fn demanding<'a>(command: Command<'a>) -> Command<'a> {
+    command.subcommand_required(true)
+}
+
+// A command that explains itself where nothing is said.
+fn explaining<'a>(command: Command<'a>) -> Command<'a> {
+    command.arg_required_else_help(true)
 }
 
 /// Parses a command line.

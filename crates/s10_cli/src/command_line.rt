@@ -1,6 +1,6 @@
 //! A command line, from its words to its exit status.
 use crate::command::parse;
-use crate::options::settings_of;
+use crate::found::{settings_of, text_of};
 use clap::error::ErrorKind;
 use clap::{ArgMatches, Error};
 use s10_host::run_replay;
@@ -82,7 +82,10 @@ fn run_subcommand<I: Read, O: Write>(
 
 // The value of a required argument, which a parsed command line has.
 fn value_of<'a>(found: &ArgMatches<'a>, id: &str) -> &'a str {
-    found.get_str(id).unwrap_or("")
+    match text_of(found, id) {
+        Some(value) => value,
+        None => "",
+    }
 }
 
 // Prints help, the version or a fault of the command line.

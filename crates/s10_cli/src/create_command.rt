@@ -1,6 +1,7 @@
 //! The subcommand `create`.
 use crate::builders::{named, with};
-use crate::options::{interval_option, ledger_option, limit_option, settings_of};
+use crate::found::{settings_of, text_of};
+use crate::options::{interval_option, ledger_option, limit_option};
 use clap::{ArgMatches, Command};
 use s10_jobs::Job;
 use std::alloc::{AllocError, Global};
@@ -31,7 +32,7 @@ Example:
 /// The ledger that the words ask for.
 pub fn create_job<'a>(found: &ArgMatches<'a>) -> Option<Job<'a>> {
     Some(Job::Create {
-        ledger: found.get_str("ledger")?,
+        ledger: text_of(found, "ledger")?,
         settings: settings_of(found)?,
     })
 }

@@ -1,10 +1,11 @@
 //! The subcommand `draw`.
 use crate::builders::{named, with};
+use crate::found::{number_of, text_of, tries_of};
 use crate::options::{
     country_option, customer_option, request_option, service_option, to_option, tries_option,
 };
 use clap::{ArgMatches, Command};
-use s10_jobs::{BodyWords, Job, Question, Tries};
+use s10_jobs::{BodyWords, Job, Question};
 use std::alloc::{AllocError, Global};
 
 /// What `draw` may say.
@@ -38,14 +39,14 @@ Example:
 /// The request that the words ask.
 pub fn draw_job<'a>(found: &ArgMatches<'a>) -> Option<Job<'a>> {
     let body = BodyWords::Draw {
-        service: found.get_str("service")?,
-        country: found.get_str("country")?,
+        service: text_of(found, "service")?,
+        country: text_of(found, "country")?,
     };
     Some(Job::Ask(Question {
-        to: found.get_str("to")?,
-        customer: found.get_one::<u32>("customer")?,
-        number: found.get_one::<u32>("number")?,
+        to: text_of(found, "to")?,
+        customer: number_of(found, "customer")?,
+        number: number_of(found, "number")?,
         body,
-        tries: Tries::new(found.get_one::<u32>("tries")?)?,
+        tries: tries_of(found)?,
     }))
 }

@@ -1,9 +1,10 @@
 //! The subcommand `grant`.
 use crate::builders::{named, number_option, serial_option, with};
+use crate::found::{number_of, text_of, tries_of};
 use crate::options::{country_option, request_option, service_option, to_option, tries_option};
 use clap::{ArgMatches, Command};
 use s10_core::Serial;
-use s10_jobs::{BodyWords, Job, Question, Tries};
+use s10_jobs::{BodyWords, Job, Question};
 use std::alloc::{AllocError, Global};
 
 /// The customer number of the post, which alone can grant.
@@ -51,17 +52,17 @@ Example:
 /// The request that the words ask.
 pub fn grant_job<'a>(found: &ArgMatches<'a>) -> Option<Job<'a>> {
     let body = BodyWords::Grant {
-        holder: found.get_one::<u32>("holder")?,
-        service: found.get_str("service")?,
-        country: found.get_str("country")?,
-        first: Serial::new(found.get_one::<u32>("first")?)?,
-        last: Serial::new(found.get_one::<u32>("last")?)?,
+        holder: number_of(found, "holder")?,
+        service: text_of(found, "service")?,
+        country: text_of(found, "country")?,
+        first: Serial::new(number_of(found, "first")?)?,
+        last: Serial::new(number_of(found, "last")?)?,
     };
     Some(Job::Ask(Question {
-        to: found.get_str("to")?,
+        to: text_of(found, "to")?,
         customer: POST,
-        number: found.get_one::<u32>("number")?,
+        number: number_of(found, "number")?,
         body,
-        tries: Tries::new(found.get_one::<u32>("tries")?)?,
+        tries: tries_of(found)?,
     }))
 }

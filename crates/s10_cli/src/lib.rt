@@ -8,6 +8,7 @@ mod command;
 mod command_line;
 mod create_command;
 mod draw_command;
+mod found;
 mod grant_command;
 mod job_words;
 mod loop_command;

@@ -1,5 +1,6 @@
 //! The subcommand `loop`.
 use crate::builders::{named, with};
+use crate::found::number_of;
 use crate::options::day_option;
 use clap::{ArgMatches, Command};
 use s10_jobs::Job;
@@ -37,6 +38,6 @@ Example:
 /// The loop that the words ask for.
 pub fn loop_job<'a>(found: &ArgMatches<'a>) -> Job<'a> {
     Job::Loop {
-        day: found.get_one::<u32>("day"),
+        day: number_of(found, "day"),
     }
 }

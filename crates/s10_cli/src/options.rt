@@ -1,7 +1,6 @@
 //! Options that several subcommands have.
 use crate::builders::{number_option, option, text_option};
-use clap::{Arg, ArgMatches, value_parser};
-use s10_book::Settings;
+use clap::{Arg, value_parser};
 use std::alloc::Global;
 
 /// The file of a ledger.
@@ -34,14 +33,6 @@ pub fn limit_option<'a>(alloc: Global) -> Arg<'a> {
         "How many requests the ledger keeps at most, 1 to 1000000000",
     )
     .value_parser(value_parser!(u32).range(1..=1_000_000_000))
-}
-
-/// The settings of a ledger, which a parsed command line with both options has within their
-/// limits.
-pub fn settings_of(found: &ArgMatches<'_>) -> Option<Settings> {
-    let interval = found.get_one::<u32>("interval")?;
-    let limit = found.get_one::<u32>("limit")?;
-    Settings::new(interval, limit)
 }
 
 /// The address of the server that is asked.

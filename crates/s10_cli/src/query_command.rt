@@ -1,8 +1,9 @@
 //! The subcommand `query`.
 use crate::builders::{named, with};
+use crate::found::{number_of, text_of, tries_of};
 use crate::options::{customer_option, id_option, request_option, to_option, tries_option};
 use clap::{ArgMatches, Command};
-use s10_jobs::{BodyWords, Job, Question, Tries};
+use s10_jobs::{BodyWords, Job, Question};
 use std::alloc::{AllocError, Global};
 
 /// What `query` may say.
@@ -36,13 +37,13 @@ Example:
 /// The request that the words ask.
 pub fn query_job<'a>(found: &ArgMatches<'a>) -> Option<Job<'a>> {
     let body = BodyWords::Query {
-        id: found.get_str("id")?,
+        id: text_of(found, "id")?,
     };
     Some(Job::Ask(Question {
-        to: found.get_str("to")?,
-        customer: found.get_one::<u32>("customer")?,
-        number: found.get_one::<u32>("number")?,
+        to: text_of(found, "to")?,
+        customer: number_of(found, "customer")?,
+        number: number_of(found, "number")?,
         body,
-        tries: Tries::new(found.get_one::<u32>("tries")?)?,
+        tries: tries_of(found)?,
     }))
 }

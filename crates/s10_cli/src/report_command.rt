@@ -1,5 +1,6 @@
 //! The subcommand `report`.
 use crate::builders::{flag, named, with};
+use crate::found::{number_of, text_of};
 use crate::options::{day_option, ledger_option};
 use clap::{ArgMatches, Command};
 use s10_jobs::Job;
@@ -47,8 +48,8 @@ Example:
 /// The report that the words ask for.
 pub fn report_job<'a>(found: &ArgMatches<'a>) -> Option<Job<'a>> {
     Some(Job::Report {
-        ledger: found.get_str("ledger")?,
+        ledger: text_of(found, "ledger")?,
         is_of_issues: found.get_flag("issues"),
-        day: found.get_one::<u32>("day"),
+        day: number_of(found, "day"),
     })
 }

@@ -1,5 +1,6 @@
 //! The subcommand `serve`.
 use crate::builders::{named, number_option, text_option, with};
+use crate::found::{number_of, text_of};
 use crate::options::{day_option, ledger_option};
 use clap::{ArgMatches, Command};
 use s10_jobs::Job;
@@ -61,9 +62,9 @@ Example:
 /// The serving that the words ask for.
 pub fn serve_job<'a>(found: &ArgMatches<'a>) -> Option<Job<'a>> {
     Some(Job::Serve {
-        ledger: found.get_str("ledger")?,
-        bind: found.get_str("bind")?,
-        count: found.get_one::<u32>("count")?,
-        day: found.get_one::<u32>("day"),
+        ledger: text_of(found, "ledger")?,
+        bind: text_of(found, "bind")?,
+        count: number_of(found, "count")?,
+        day: number_of(found, "day"),
     })
 }

@@ -65,8 +65,7 @@ pub heard_quiet : (t m m' : Trace) (k : ℕ) → Hearing t m k → k < 8 → m' 
 heard_quiet t m m' k h few is =
     let calls : m'.calls ≡ m.calls + 1 = ap (λ (x : Trace). x.calls) is in
     let received : m'.received ≡ m.received = ap (λ (x : Trace). x.received) is in
-    let failures : m'.failures ≡ m.failures = ap (λ (x : Trace). x.failures) is in
-    (
+    let failures : m'.failures ≡ m.failures = ap (λ (x : Trace). x.failures) is in (
       record {
         most = omega (arith, h.calls, calls);
         failures = omega (arith, h.failures, failures);

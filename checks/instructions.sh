@@ -1,0 +1,56 @@
+#!/usr/bin/env bash
+# Tells what a Draw costs by instructions, which are the same on every machine: of replays, whose ledger is
+# in memory, as valgrind's callgrind counts them.
+#
+#     bash checks/instructions.sh [PROGRAM]
+set -eu
+
+s10=$(readlink -f "${1:-$(dirname "$(readlink -f "${BASH_SOURCE[0]}")")/../crates/s10/out/s10}")
+dir=$(mktemp -d)
+trap 'rm -rf "$dir"' EXIT
+
+# Grants of RA GB, as many as asked: the numbers of the requests and the serials follow one another.
+grants() { # COUNT FIRST_NUMBER HOLDER FIRST_SERIAL SERIALS
+    awk -v count="$1" -v number="$2" -v holder="$3" -v first="$4" -v serials="$5" 'BEGIN {
+        for (i = 0; i < count; i++)
+            printf "20000 5331010100000000%08x%08x52414742%08x%08x\n", number + i, holder, first + i * serials, first + (i + 1) * serials - 1
+    }'
+}
+
+# Draws of RA GB by customer 7.
+draws() { # COUNT FIRST_NUMBER
+    awk -v count="$1" -v number="$2" 'BEGIN {
+        for (i = 0; i < count; i++)
+            printf "20000 5331010200000007%08x52414742\n", number + i
+    }'
+}
+
+# The instructions of a replay of the lines that come in.
+instructions() {
+    valgrind --tool=callgrind --callgrind-out-file=/dev/null "$s10" replay --interval 30 --limit 1000000 2>&1 >/dev/null |
+        sed -n 's/.*Collected : //p'
+}
+
+# The instructions of the last lines of a replay, for each.
+each() { # COUNT WITHOUT WITH
+    local before after
+    before=$(instructions <"$2")
+    after=$(instructions <"$3")
+    echo $(((after - before) / $1))
+}
+
+grants 1 1 7 0 100000 >"$dir/one"
+{ cat "$dir/one"; draws 4000 1; } >"$dir/one_drawn"
+echo "a Draw over one range: $(each 4000 "$dir/one" "$dir/one_drawn")"
+
+{ grants 1000 1 8 1000000 10; grants 1 1001 7 0 100000; } >"$dir/many"
+{ cat "$dir/many"; draws 4000 1; } >"$dir/many_drawn"
+echo "a Draw over the last of 1,001 ranges, the others of another holder: $(each 4000 "$dir/many" "$dir/many_drawn")"
+
+{ grants 400 1 7 0 1; grants 1 401 7 1000000 10; draws 400 1; } >"$dir/used"
+{ cat "$dir/used"; draws 1 401; } >"$dir/used_drawn"
+echo "one Draw that finds 400 used ranges of its customer first: $(each 1 "$dir/used" "$dir/used_drawn")"
+
+: >"$dir/nothing"
+grants 1000 1 7 0 10 >"$dir/granted"
+echo "a Grant, of a thousand: $(each 1000 "$dir/nothing" "$dir/granted")"
