@@ -5,6 +5,7 @@ mod audit;
 mod files;
 mod jobs;
 mod loopback;
+mod memory;
 mod questioning;
 mod replays;
 mod serving;

@@ -5,6 +5,7 @@ ghost use Rattle.s10_wire.specs.declared.body.Body.TheVariants.{Draw};
 ghost use Rattle.s10_jobs.specs.Shown.{Prints};
 ghost use Rattle.s10_host.specs.Looped.{ra, gb, first_of_range, granted_range, customer_calls, requests_of, loop_requests, AreDone};
 
+use crate::memory::let_go;
 use crate::waiting::WAIT;
 use s10_book::Settings;
 use s10_core::{Country, Id, Serial, Service};
@@ -78,7 +79,7 @@ fn run_calls<N: Net + AllocGlobal, W: Write>(
         near: _,
         day: _,
     } = link;
-    let _ = server.into_book().close();
+    let_go(server.into_book());
     status
 }
 

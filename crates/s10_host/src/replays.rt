@@ -4,6 +4,7 @@ ghost use Rattle.std.specs.Prelude.{[], List, IfSome};
 ghost use Rattle.s10_book.specs.declared.entry.Entry.{Entry};
 ghost use Rattle.s10_jobs.specs.Replay.{Replayed};
 
+use crate::memory::let_go;
 use s10_book::Settings;
 use s10_ends::Server;
 use s10_jobs::{ReplayFault, Status, replay_on, write_replay_fault};
@@ -30,7 +31,7 @@ pub fn replay<R: Read, W: Write>(
     };
     let mut server = Server::new(book);
     let replayed = replay_on(&mut server, input, output);
-    let _ = server.into_book().close();
+    let_go(server.into_book());
     replayed
 }
 
