@@ -17,7 +17,7 @@ module _ {B : Type 0} (faults : B → ℕ) (honest : B → Type 0) (terms : B �
   before_turn old new (Ok (Replied from frame)) (day, is, (packet, link, handles)) kept = handles.was_honest kept
   before_turn old new (Err Receive) (day, is, (link, same)) kept = subst honest same kept
   before_turn old new (Err Send) (day, is, (from, packet, frame, link, handles)) kept = handles.was_honest kept
-  before_turn old new (Err Spent) (day, is, inl (link, same)) kept = subst honest same kept
+  before_turn old new (Err Spent) (day, is, inl (link, spent, same)) kept = subst honest same kept
   before_turn old new (Err Spent) (day, is, inr (from, packet, frame, link, handles)) kept = handles.was_honest kept
   before_turn old new (Err Bind) (day, is, never) kept = absurd never
 
