@@ -2,10 +2,7 @@
 
 use s10_book::{BookFault, Entry, Issue, Range, Usage};
 use s10_core::{Country, Id, Serial, Service};
-use s10_rows::{
-    CallRow, RangeRow, SerialRow, letters_in, mark_of, only_call, only_issue, pair_number,
-    range_after, range_numbered, range_over, usage_among,
-};
+use s10_rows::{CallRow, SerialRow, only_call, only_issue, pair_number, usage_among};
 use s10_wire::{Body, Outcome, Request};
 use std::alloc::Global;
 use std::process::Abort;
@@ -46,27 +43,6 @@ fn call_row(rt: &impl Abort, alloc: Global, day: i64, reply: &[u8]) -> CallRow {
     }
 }
 
-fn range_row(num: i64, holder: i64, pair: i64, low: i64, high: i64, mark: i64) -> RangeRow {
-    RangeRow {
-        num,
-        holder,
-        pair,
-        low,
-        high,
-        mark,
-    }
-}
-
-/// Range 1 is customer 7's, RA GB 0 to 2; ranges 2 and 3 are customer 8's, RA GB 3 and RB GB 0 to 2. One serial of the first
-/// was drawn.
-fn range_rows() -> [RangeRow; 3] {
-    [
-        range_row(1, 7, RA_GB, 0, 2, 1),
-        range_row(2, 8, RA_GB, 3, 3, 3),
-        range_row(3, 8, RB_GB, 0, 2, 0),
-    ]
-}
-
 fn range(rt: &impl Abort, num: u32, holder: u32, letters: [u8; 2], first: u32, last: u32) -> Range {
     Range {
         num,
@@ -95,18 +71,6 @@ fn pairs_are_four_letters_as_a_number(rt: HostRuntime) {
     let ra = service(&rt, *b"RA");
     let gb = country(&rt, *b"GB");
     assert_eq!(rt; pair_number(ra, gb), 1380009794);
-    assert_eq!(rt; letters_in(RA_GB), Some((ra, gb)));
-    // ra GB, RA G0, and numbers that are not of 32 bits.
-    for column in [
-        1918977858,
-        1380009776,
-        0,
-        -1,
-        4294967296,
-        RA_GB + 4294967296,
-    ] {
-        assert_eq!(rt; letters_in(column), None, "at {column}");
-    }
 }
 
 #[test]
@@ -161,49 +125,6 @@ fn rows_that_do_not_read_are_faults_of_the_store(rt: HostRuntime) {
         call_row(&rt, alloc, 20000, REPLY),
     ];
     assert_eq!(rt; only_call(&two), Err(BookFault::Store));
-}
-
-#[test]
-fn ranges_are_found_by_number_and_by_customer(rt: HostRuntime) {
-    let rows = range_rows();
-    let ra = service(&rt, *b"RA");
-    let gb = country(&rt, *b"GB");
-    let second = range(&rt, 2, 8, *b"RA", 3, 3);
-    let third = range(&rt, 3, 8, *b"RB", 0, 2);
-    assert_eq!(rt; range_numbered(&rows, 3), Ok(Some(third)));
-    assert_eq!(rt; range_numbered(&rows, 4), Ok(None));
-    assert_eq!(rt; range_after(&rows, 8, ra, gb, 0), Ok(Some(second)));
-    assert_eq!(rt; range_after(&rows, 8, ra, gb, 2), Ok(None));
-}
-
-#[test]
-fn ranges_are_found_by_their_serials(rt: HostRuntime) {
-    let rows = range_rows();
-    let ra = service(&rt, *b"RA");
-    let gb = country(&rt, *b"GB");
-    let first = range(&rt, 1, 7, *b"RA", 0, 2);
-    let second = range(&rt, 2, 8, *b"RA", 3, 3);
-    let third = serial(&rt, 2);
-    let fourth = serial(&rt, 3);
-    let fifth = serial(&rt, 4);
-    assert_eq!(rt; range_over(&rows, ra, gb, third, fifth), Ok(Some(first)));
-    assert_eq!(rt; range_over(&rows, ra, gb, fourth, fourth), Ok(Some(second)));
-    assert_eq!(rt; range_over(&rows, ra, gb, fifth, fifth), Ok(None));
-}
-
-#[test]
-fn mark_is_that_of_the_row_of_the_range(rt: HostRuntime) {
-    let first = range(&rt, 1, 7, *b"RA", 0, 2);
-    let shorter = range(&rt, 1, 7, *b"RA", 0, 1);
-    assert_eq!(rt; mark_of(&range_rows(), &first), Ok(serial(&rt, 1)));
-    assert_eq!(rt; mark_of(&range_rows(), &shorter), Err(BookFault::Store));
-}
-
-#[test]
-fn row_of_a_range_with_a_small_letter_is_a_fault_of_the_store(rt: HostRuntime) {
-    // ra GB
-    let rows = [range_row(1, 7, 1918977858, 0, 2, 0)];
-    assert_eq!(rt; range_numbered(&rows, 1), Err(BookFault::Store));
 }
 
 #[test]

@@ -5,7 +5,6 @@ pub mod Pairs
 pub mod Replies
 pub mod Calls
 pub mod CallRows
-pub mod RangeRows
 pub mod Parts
 pub mod Rising
 pub mod LastIssues

@@ -25,20 +25,6 @@ abbrev pub AreOfCall : List StoredCall → Option Entry → Type 0
 AreOfCall rows None = rows ≡ []
 AreOfCall rows (Some e) = (row : StoredCall) × (rows ≡ row ∷ []) × IsCallOf row e
 
--- the row is the range's, with some mark
-pub record IsRowOf (r : Range) (row : RangeRow) : Type 0 where
-  pub range : IsRange r
-  pub columns : row ≡ record (range_row 0 r) { mark = row.mark }
-
--- one of the rows is the range's
-abbrev pub HasRow : List RangeRow → Range → Type 0
-HasRow rows r = (row : RangeRow) × Contains rows row × IsRowOf r row
-
--- the range that was found passes the test, and has a row; where none was found, each row is of a range that fails it
-abbrev pub AreOfRange : (Range → Bool) → List RangeRow → Option Range → Type 0
-AreOfRange p rows None = All (λ row. (r : Range) × IsRowOf r row × (p r ≡ false)) rows
-AreOfRange p rows (Some r) = (p r ≡ true) × HasRow rows r
-
 -- the row tells the issue
 pub record Tells (row : SerialRow) (i : Issue) : Type 0 where
   pub day : row.day ≡ pos i.day
