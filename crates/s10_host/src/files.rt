@@ -47,7 +47,8 @@ pub fn close_book<S: Start>(book: FileBook<S>) -> Result<ClosedFiles<S>, OpenFau
     ensures away { IfOk result (PutsAway book) }
     ensures refused { IfErr result (λ fault. fault ≡ OpenFault.Store) }
 {
-    close_copied(book.close())
+    let connection = book.close();
+    close_copied(connection)
 }
 
 // The files of a connection, with its last commit in the database file itself.
