@@ -9,8 +9,6 @@ use std::process::Abort;
 
 const RA_GB: i64 = 1380009794;
 
-const RB_GB: i64 = 1380075330;
-
 /// The reply to customer 7's first Draw of RA GB, on day 20000.
 const REPLY: &[u8] =
     b"S1\x01\x82\x00\x00\x00\x07\x00\x00\x00\x01RAGB\x00\x00\x00\x4e\x20RA000000005GB";
