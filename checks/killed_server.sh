@@ -47,12 +47,15 @@ serve
 : > "$dir/answers"
 (
     number=1
-    while [ "$number" -le 100 ] && draw "$number" 1 >> "$dir/answers"; do
+    while [ "$number" -le 100 ] && draw "$number" 3 >> "$dir/answers"; do
         number=$((number + 1))
     done
 ) &
 draws=$!
-while [ "$(grep -c ' done ' "$dir/answers" || true)" -lt 50 ]; do sleep 0.01; done
+while [ "$(grep -c ' done ' "$dir/answers" || true)" -lt 50 ]; do
+    kill -0 "$draws" 2>/dev/null || fail "a draw was not answered before the server was killed"
+    sleep 0.01
+done
 stop
 wait "$draws" || true
 grep ' done ' "$dir/answers" > "$dir/answered"
