@@ -4,7 +4,11 @@
 #[cfg(test)]
 mod asked;
 #[cfg(test)]
+mod hiccup;
+#[cfg(test)]
 mod refusing;
+#[cfg(test)]
+mod replays;
 #[cfg(test)]
 mod reports;
 #[cfg(test)]

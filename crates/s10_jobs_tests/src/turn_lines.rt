@@ -1,5 +1,6 @@
 //! The lines of a server's turns, and of ledgers and links that failed.
 
+use crate::hiccup::Hiccup;
 use crate::refusing::Refusing;
 use s10_book::BookFault;
 use s10_ends::Served;
@@ -24,12 +25,16 @@ fn drawn() -> Result<Frame, WireFault> {
     }
 }
 
-/// Whether this is the line of the turn, on a writer that takes it alone.
-fn is_line_of_turn(alloc: Global, turn: &Result<Served, LinkFault>, line: &str) -> bool {
+/// Whether this is the line of the turn, and a writer that fails once has got its beginning.
+fn is_line_of_turn(alloc: Global, turn: &Result<Served, LinkFault>, line: &[u8]) -> bool {
+    for room in 0..line.len() {
+        let mut out = Hiccup::new(alloc, room);
+        if write_turn(turn, &mut out) != Err(WriteFault) || out.bytes.as_slice() != &line[..room] {
+            return false;
+        }
+    }
     let mut out = Vec::new(alloc);
-    write_turn(turn, &mut out) == Ok(())
-        && out.as_slice() == line.as_bytes()
-        && write_turn(turn, &mut Refusing) == Err(WriteFault)
+    write_turn(turn, &mut out) == Ok(()) && out.as_slice() == line
 }
 
 fn is_line_of_ledger_fault(alloc: Global, fault: OpenFault, line: &str) -> bool {
@@ -72,7 +77,10 @@ fn turns_have_their_lines(rt: HostRuntime) -> Result<(), Fail> {
         (Err(LinkFault::Spent), "link spent\n"),
     ];
     for (turn, line) in turns {
-        assert!(rt; is_line_of_turn(rt.alloc(), &turn, line), "{line}");
+        assert!(rt;
+            is_line_of_turn(rt.alloc(), &turn, line.as_bytes()),
+            "{line}"
+        );
     }
     Ok(())
 }

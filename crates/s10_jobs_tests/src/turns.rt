@@ -1,6 +1,6 @@
 //! The turns of a server.
 
-use crate::refusing::Refusing;
+use crate::hiccup::Hiccup;
 use s10_book::{Book, PlainBook, Settings};
 use s10_ends::Server;
 use s10_jobs::{Status, day_or_today, serve_turns, today};
@@ -261,16 +261,47 @@ fn days_are_whole_days_since_1970(rt: HostRuntime) {
     assert!(rt; today(&rt).is_some());
 }
 
-/// Whether a turn whose line cannot be written ends the turns.
-fn ends_unwritten<C: Clock>(alloc: Global, clock: &C) -> Result<bool, Fail> {
+/// How many whole lines stand in the first so many bytes of the seven.
+fn whole_lines(room: usize) -> usize {
+    let mut left = room;
+    for (count, line) in SEVEN_LINES.iter().enumerate() {
+        if left < line.len() {
+            return count;
+        }
+        left -= line.len();
+    }
+    SEVEN_LINES.len()
+}
+
+/// Whether the turns end at the one whose line cannot be written whole, and the writer has got the lines to there.
+fn ends_unwritten<C: Clock>(
+    alloc: Global,
+    clock: &C,
+    lines: &[u8],
+    room: usize,
+) -> Result<bool, Fail> {
     let mut server = new_server(alloc)?;
-    let mut link = ScriptLink::new(alloc, Vec::new(alloc), Vec::new(alloc))?;
-    let served = serve_turns(clock, &mut server, &mut link, 1, Some(0), &mut Refusing);
-    Ok(served == Err(WriteFault))
+    let sends = [true, false, true];
+    let mut link = ScriptLink::new(alloc, seven_receipts(alloc)?, sends.to_vec(alloc)?)?;
+    let mut out = Hiccup::new(alloc, room);
+    let served = serve_turns(clock, &mut server, &mut link, 7, Some(20_000), &mut out);
+    let calls = if whole_lines(room) < 4 { 1 } else { 2 };
+    Ok(
+        served == Err(WriteFault)
+            && lines.starts_with(out.bytes.as_slice())
+            && out.bytes.len() == room
+            && server.book().len() == calls,
+    )
 }
 
 #[test]
 fn a_writer_that_fails_ends_the_turns(rt: HostRuntime) -> Result<(), Fail> {
-    assert!(rt; ends_unwritten(rt.alloc(), &rt)?);
+    let lines = first_lines(rt.alloc(), 7)?;
+    for room in 0..lines.len() {
+        assert!(rt;
+            ends_unwritten(rt.alloc(), &rt, lines.as_bytes(), room)?,
+            "{room} bytes"
+        );
+    }
     Ok(())
 }
