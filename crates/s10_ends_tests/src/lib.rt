@@ -16,6 +16,8 @@ mod memory;
 #[cfg(test)]
 mod near_links;
 #[cfg(test)]
+mod odd_datagrams;
+#[cfg(test)]
 mod ranges;
 #[cfg(test)]
 mod refusals;

@@ -1,0 +1,138 @@
+//! Datagrams that come twice, and one that no link of ours sends.
+
+use crate::fixtures::{ANY_PORT, FIRST_DRAW, FIRST_GRANT, draw, new_server};
+use s10_book::{Book, PlainBook};
+use s10_ends::{Client, Served, Server, UdpLink, call, serve_one};
+use s10_link::{Link, LinkFault, Packet, Peer};
+use s10_wire::{Body, Frame, Request, WireFault, decode_reply, encode_reply, encode_request};
+use std::io;
+use std::net::{Ipv4Addr, Net, SocketAddr, SocketAddrV4, UdpSocket};
+use std::test::Fail;
+use std::time::Duration;
+
+/// Whether the datagram of a reply is sent twice.
+fn is_sent_twice(far: &mut UdpLink, to: Peer, datagram: &[u8]) -> bool {
+    match decode_reply(datagram) {
+        Ok(reply) => {
+            let frame = encode_reply(&reply);
+            far.send(to, &frame) == Ok(()) && far.send(to, &frame) == Ok(())
+        }
+        Err(_) => false,
+    }
+}
+
+/// Whether a call gets the reply of this datagram.
+fn is_answered(
+    client: &mut Client,
+    near: &mut UdpLink,
+    to: Peer,
+    body: Body,
+    datagram: &[u8],
+) -> bool {
+    match call(client, near, to, body, 2) {
+        Ok(reply) => encode_reply(&reply).bytes() == datagram,
+        Err(_) => false,
+    }
+}
+
+/// The request of customer 7 with this number.
+fn request(number: u32, body: Body) -> Frame {
+    encode_request(&Request {
+        customer: 7,
+        number,
+        body,
+    })
+}
+
+/// Whether the next datagram is this one; where none is named, whether there is none.
+fn comes(link: &mut UdpLink, from: Peer, frame: Option<Frame>) -> bool {
+    match frame {
+        Some(frame) => link.receive() == Ok(Some((from, Packet::new(frame.bytes())))),
+        None => link.receive() == Ok(None),
+    }
+}
+
+#[test]
+fn a_client_that_gets_each_datagram_twice_sends_each_frame_once(
+    rt: HostRuntime,
+) -> Result<(), Fail> {
+    let mut near = UdpLink::bind(&rt, ANY_PORT, 1_000)?;
+    let mut far = UdpLink::bind(&rt, ANY_PORT, 100)?;
+    let mut client = Client::new(7, 1, 3)?;
+    let (here, there) = (near.local(), far.local());
+    let replies: [&[u8]; 3] = [
+        FIRST_DRAW.1,
+        b"S1\x01\x82\0\0\0\x07\0\0\0\x02RAGB\0\0\0\x4e\x20RA000000014GB",
+        b"S1\x01\x82\0\0\0\x07\0\0\0\x03RAGB\x05",
+    ];
+    for reply in replies {
+        assert!(rt; is_sent_twice(&mut far, here, reply));
+        assert!(rt; is_answered(&mut client, &mut near, there, draw()?, reply));
+    }
+    for number in 1..=3u32 {
+        let frame = request(number, draw()?);
+        assert!(rt; comes(&mut far, here, Some(frame)), "number {number}");
+    }
+    assert!(rt; comes(&mut far, here, None));
+    Ok(())
+}
+
+/// Whether one turn of the server ends so.
+fn serves(
+    server: &mut Server<PlainBook>,
+    link: &mut UdpLink,
+    turn: Result<Served, LinkFault>,
+) -> bool {
+    serve_one(server, link, 20_000) == turn
+}
+
+/// A socket of this machine that waits so many milliseconds in a receive.
+fn raw_socket<N: Net>(net: &N, wait_ms: u64) -> io::Result<UdpSocket> {
+    let any = SocketAddr::V4(SocketAddrV4::new(Ipv4Addr::LOCALHOST, 0));
+    let socket = UdpSocket::bind(net, any)?;
+    socket.set_read_timeout(Some(Duration::from_millis(wait_ms)))?;
+    Ok(socket)
+}
+
+/// Where a socket is bound.
+fn peer_of(socket: &UdpSocket) -> Option<Peer> {
+    match socket.local_addr() {
+        Ok(SocketAddr::V4(at)) => Some(Peer {
+            ip: at.ip().octets(),
+            port: at.port(),
+        }),
+        _ => None,
+    }
+}
+
+/// Whether all bytes are sent to a port of this machine.
+fn sends_raw(socket: &UdpSocket, port: u16, bytes: &[u8]) -> bool {
+    let to = SocketAddr::V4(SocketAddrV4::new(Ipv4Addr::LOCALHOST, port));
+    socket.send_to(bytes, to).ok() == Some(bytes.len())
+}
+
+/// How many bytes the next datagram has, if one comes.
+fn next_length(socket: &UdpSocket) -> Option<usize> {
+    let mut room = [0u8; 512];
+    match socket.recv_from(&mut room) {
+        Ok((length, _)) => Some(length),
+        Err(_) => None,
+    }
+}
+
+#[test]
+fn a_grant_of_29_bytes_is_dropped_unanswered(rt: HostRuntime) -> Result<(), Fail> {
+    let mut far = UdpLink::bind(&rt, ANY_PORT, 1_000)?;
+    let mut server = new_server(rt.alloc(), 100)?;
+    let socket = raw_socket(&rt, 100)?;
+    let from = peer_of(&socket).ok_or("address")?;
+    let mut longer = FIRST_GRANT.0.to_vec(rt.alloc())?;
+    longer.push(0)?;
+    assert_eq!(rt; longer.len(), 29);
+    assert!(rt; sends_raw(&socket, far.local().port, &longer));
+    let dropped = Ok(Served::Dropped(from, WireFault::Length));
+    assert!(rt; serves(&mut server, &mut far, dropped));
+    assert_eq!(rt; server.book().len(), 0);
+    assert_eq!(rt; next_length(&socket), None);
+    Ok(())
+}
