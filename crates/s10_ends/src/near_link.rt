@@ -9,7 +9,7 @@ use s10_link::{Link, LinkFault, Packet, Peer, Trace};
 use s10_wire::Frame;
 
 /// The near end of a network for a client in the server's own process: before each receive the
-/// server at the far end gets one turn on the day, whatever comes of it.
+/// server gets one turn on the far end, on the day. What comes of it is not told, a fault neither.
 #[derive(Drop)]
 pub struct NearLink<B, F, N> {
     pub server: Server<B>,

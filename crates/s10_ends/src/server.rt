@@ -81,8 +81,9 @@ impl<B: Book> Server<B> {
     }
 
     /// What becomes of the bytes of a datagram on a day. `Faulted(Full)` is answered where the book has as many calls
-    /// as its limit allows and none with the key of the request; `Faulted(Memory)` and `Faulted(Store)` come from the
-    /// book's calls. A request that was faulted may be handed in again.
+    /// as its limit allows and none with the key of the request; `Faulted(Memory)` or `Faulted(Store)` where a call of
+    /// the book was refused with one of them, though which of the two is not promised. A request that was faulted may be
+    /// handed in again.
     pub fn handle(&mut self, bytes: &[u8], day: u32) -> Answer
         // The count of faults rises where the book failed, and nowhere else.
         ensures faults { CountsAnswer result (B.faults (book_of self.old)) (B.faults (book_of self.new)) }

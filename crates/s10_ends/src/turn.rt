@@ -12,8 +12,9 @@ use s10_link::{Link, LinkFault, Peer};
 use s10_wire::Frame;
 
 /// One receive and at most one send: what came is handled on this day, and a reply goes to the
-/// peer that it came from. Refused with Receive, which leaves the server as it was, with Send,
-/// after which the request is kept with its reply, or with Spent.
+/// peer that it came from. Refused with Receive, or with Spent where the link can count no further
+/// receive, which leaves the server as it was; with Send, or with Spent where the link sends no
+/// more, behind a datagram that was handled with a reply.
 pub fn serve_one<B: Book, L: Link>(
     server: &mut Server<B>,
     link: &mut L,

@@ -13,7 +13,7 @@ use std::net::{Ipv4Addr, Net, SocketAddr, SocketAddrV4, UdpSocket};
 use std::time::Duration;
 
 /// A link over an IPv4 UDP socket. A receive in which nothing came in time, or a datagram from
-/// another source than IPv4, is `None`.
+/// another source than IPv4, is `None`, and so is one that was interrupted.
 #[derive(Drop)]
 pub struct UdpLink {
     socket: UdpSocket,
@@ -68,7 +68,7 @@ impl UdpLink {
             }
             Ok((_, SocketAddr::V6(_))) => Ok(None),
             Err(error) => match error.kind() {
-                ErrorKind::WouldBlock | ErrorKind::TimedOut => Ok(None),
+                ErrorKind::WouldBlock | ErrorKind::TimedOut | ErrorKind::Interrupted => Ok(None),
                 _ => Err(error),
             },
         }
