@@ -11,3 +11,5 @@ mod failures;
 mod reads;
 #[cfg(test)]
 mod reports;
+#[cfg(test)]
+mod trips;

@@ -1,0 +1,153 @@
+//! Which call of a book that fails once is the one that fails.
+
+use crate::books::{OPENING, answer, empty_book, first_unlike, id};
+use s10_book::{Book, BookFault, ReportFault, TripBook, decide, write_ranges};
+use s10_core::Id;
+use s10_wire::{Body, Request};
+use std::alloc::Global;
+use std::test::Fail;
+
+/// What a book is asked.
+#[derive(Clone, Copy, Debug)]
+enum Question {
+    Find,
+    Entry,
+    Range,
+    NextRange,
+    Covering,
+    LastIssue,
+    /// What a Draw would be given: the customer's range is looked for, and its candidate.
+    Candidate,
+    /// The report of the ranges: range 1 is looked for, and its usage.
+    Usage,
+    /// A Query of the post with a new number: its key, the range of the identifier and its last issue are looked for,
+    /// and it is kept.
+    Keep,
+}
+
+/// Each question, and how many calls of the book it takes.
+const QUESTIONS: [(Question, u64); 9] = [
+    (Question::Find, 1),
+    (Question::Entry, 1),
+    (Question::Range, 1),
+    (Question::NextRange, 1),
+    (Question::Covering, 1),
+    (Question::LastIssue, 1),
+    (Question::Candidate, 2),
+    (Question::Usage, 2),
+    (Question::Keep, 4),
+];
+
+fn asked(customer: u32, number: u32, body: Body) -> Request {
+    Request {
+        customer,
+        number,
+        body,
+    }
+}
+
+/// A Draw of the service and country of an identifier.
+fn draw_of(id: &Id) -> Body {
+    Body::Draw {
+        service: id.service,
+        country: id.country,
+    }
+}
+
+fn report<B: Book>(alloc: Global, book: &mut B) -> Result<(), BookFault> {
+    let mut out = Vec::new(alloc);
+    match write_ranges(book, 20_000, &mut out) {
+        Ok(()) => Ok(()),
+        Err(ReportFault::Book(fault)) => Err(fault),
+        Err(ReportFault::Write) => Err(BookFault::Memory),
+    }
+}
+
+fn ask<B: Book>(
+    alloc: Global,
+    book: &mut B,
+    question: Question,
+    id: &Id,
+    number: u32,
+) -> Result<(), BookFault> {
+    match question {
+        Question::Find => {
+            book.find(0, 1)?;
+        }
+        Question::Entry => {
+            book.entry(1)?;
+        }
+        Question::Range => {
+            book.range(1)?;
+        }
+        Question::NextRange => {
+            book.next_range(7, id.service, id.country, 0)?;
+        }
+        Question::Covering => {
+            book.covering(id.service, id.country, id.serial, id.serial)?;
+        }
+        Question::LastIssue => {
+            book.last_issue(id)?;
+        }
+        Question::Candidate => {
+            let day = book.day().max(20_000);
+            decide(book, &asked(7, number, draw_of(id)), day)?;
+        }
+        Question::Usage => {
+            report(alloc, book)?;
+        }
+        Question::Keep => {
+            answer(book, &asked(0, number, Body::Query { id: *id }), 20_000)?;
+        }
+    }
+    Ok(())
+}
+
+/// Whether a question is refused; None where it is refused with another fault than Store.
+fn is_refused<B: Book>(
+    alloc: Global,
+    book: &mut B,
+    question: Question,
+    id: &Id,
+    number: u32,
+) -> Option<bool> {
+    match ask(alloc, book, question, id, number) {
+        Ok(()) => Some(false),
+        Err(BookFault::Store) => Some(true),
+        Err(_) => None,
+    }
+}
+
+/// Which of two questions of a kind, and of a third one of a single call, a book refuses that fails at one of its calls,
+/// counted from 0.
+fn refused(alloc: Global, question: Question, at: u64) -> Result<Option<[bool; 3]>, Fail> {
+    let mut inner = empty_book(alloc, 100)?;
+    if first_unlike(&mut inner, &[OPENING])?.is_some() {
+        return Ok(None);
+    }
+    let mut book = TripBook::new(inner, at);
+    let id = id(0)?;
+    let first = is_refused(alloc, &mut book, question, &id, 2);
+    let second = is_refused(alloc, &mut book, question, &id, 3);
+    let third = is_refused(alloc, &mut book, Question::Entry, &id, 4);
+    Ok(match (first, second, third) {
+        (Some(first), Some(second), Some(third)) => Some([first, second, third]),
+        _ => None,
+    })
+}
+
+#[test]
+fn each_call_of_the_book_is_counted_and_fails_in_its_turn(rt: HostRuntime) -> Result<(), Fail> {
+    for (question, calls) in QUESTIONS {
+        let both = calls.saturating_mul(2);
+        for at in 0..both.saturating_add(2) {
+            let expected = [at < calls, calls <= at && at < both, at == both];
+            assert_eq!(rt;
+                refused(rt.alloc(), question, at)?,
+                Some(expected),
+                "{question:?} at {at}"
+            );
+        }
+    }
+    Ok(())
+}
