@@ -4,6 +4,8 @@
 #[cfg(test)]
 mod memory;
 #[cfg(test)]
+mod odd_worlds;
+#[cfg(test)]
 mod story;
 #[cfg(test)]
 mod worlds;

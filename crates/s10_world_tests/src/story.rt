@@ -32,22 +32,22 @@ pub(crate) fn grant() -> Option<Body> {
     })
 }
 
-fn submit(client: u32, body: &Body) -> Event {
+pub(crate) fn submit(client: u32, body: &Body) -> Event {
     Event::Submit {
         client,
         body: *body,
     }
 }
 
-fn resend(client: u32) -> Event {
+pub(crate) fn resend(client: u32) -> Event {
     Event::Resend { client }
 }
 
-fn to_server(index: usize, day: u32) -> Event {
+pub(crate) fn to_server(index: usize, day: u32) -> Event {
     Event::ToServer { index, day }
 }
 
-fn to_client(client: u32, index: usize) -> Event {
+pub(crate) fn to_client(client: u32, index: usize) -> Event {
     Event::ToClient { client, index }
 }
 

@@ -1,0 +1,112 @@
+//! Worlds of strange bytes and of a full book.
+
+use crate::story::{draw, grant, new_world, resend, story, submit, to_client, to_server};
+use s10_book::{Book, PlainBook, Settings};
+use s10_link::Packet;
+use s10_world::{Event, World};
+use std::alloc::Global;
+use std::test::Fail;
+
+const GRANTED: &[u8] = b"S1\x01\x81\0\0\0\0\0\0\0\x01\0\0\0\x07RAGB\0\0\0\0\0\0\0\x02\0\0\0\0\x01";
+
+/// Customer 7's Draw with number 1, and its reply.
+const DRAW: &[u8] = b"S1\x01\x02\0\0\0\x07\0\0\0\x01RAGB";
+
+const DRAWN: &[u8] = b"S1\x01\x82\0\0\0\x07\0\0\0\x01RAGB\0\0\0\x4e\x20RA000000005GB";
+
+fn strange(bytes: &[u8], day: u32) -> Event {
+    Event::Strange {
+        packet: Packet::new(bytes),
+        day,
+    }
+}
+
+/// Bytes that ask nothing, and a Draw of customer 7 that nobody submitted, before the client's own with that number.
+fn strange_bytes() -> Option<[Event; 10]> {
+    let grant = grant()?;
+    let draw = draw()?;
+    Some([
+        strange(b"S1", 20_000),
+        submit(0, &grant),
+        resend(0),
+        to_server(0, 20_000),
+        to_client(0, 0),
+        strange(DRAW, 20_000),
+        submit(1, &draw),
+        resend(1),
+        to_server(1, 20_001),
+        to_client(1, 2),
+    ])
+}
+
+/// What events come to.
+#[derive(Clone, Copy)]
+struct Expected<'a> {
+    replied: &'a [&'a [u8]],
+    submitted: usize,
+    accepted: usize,
+    /// How many calls the book has then.
+    calls: u32,
+}
+
+fn are_replied(world: &World<PlainBook>, datagrams: &[&[u8]]) -> bool {
+    let mut pairs = world.replied().iter().zip(datagrams);
+    world.replied().len() == datagrams.len() && pairs.all(|(frame, bytes)| frame.bytes() == *bytes)
+}
+
+/// Whether no client accepted two replies with one number.
+fn are_accepted_once(world: &World<PlainBook>) -> bool {
+    for (at, (client, reply)) in world.accepted().iter().enumerate() {
+        for (other, earlier) in world.accepted().iter().take(at) {
+            if other == client && earlier.request().number == reply.request().number {
+                return false;
+            }
+        }
+    }
+    true
+}
+
+/// Whether the events over a book with room for so many calls come to this.
+fn come_to(
+    alloc: Global,
+    limit: u32,
+    events: &[Event],
+    expected: Expected<'_>,
+) -> Result<bool, Fail> {
+    let settings = Settings::new(30, limit).ok_or("settings")?;
+    let mut world = new_world(alloc, PlainBook::new(alloc, settings))?;
+    world.run(events)?;
+    Ok(
+        are_replied(&world, expected.replied)
+            && are_accepted_once(&world)
+            && world.submitted().len() == expected.submitted
+            && world.accepted().len() == expected.accepted
+            && world.server().book().len() == expected.calls,
+    )
+}
+
+#[test]
+fn strange_bytes_are_executed_once_where_they_ask(rt: HostRuntime) -> Result<(), Fail> {
+    let expected = Expected {
+        replied: &[GRANTED, DRAWN, DRAWN],
+        submitted: 2,
+        accepted: 2,
+        calls: 2,
+    };
+    let events = strange_bytes().ok_or("events")?;
+    assert!(rt; come_to(rt.alloc(), 100, &events, expected)?);
+    Ok(())
+}
+
+#[test]
+fn a_full_book_takes_no_new_call(rt: HostRuntime) -> Result<(), Fail> {
+    let expected = Expected {
+        replied: &[GRANTED],
+        submitted: 3,
+        accepted: 1,
+        calls: 1,
+    };
+    let events = story().ok_or("events")?;
+    assert!(rt; come_to(rt.alloc(), 1, &events, expected)?);
+    Ok(())
+}
