@@ -37,9 +37,9 @@ fn run_words<S: AsStr, O: Write + Drop>(
         return Err(io::Error::from(ErrorKind::OutOfMemory));
     };
     let mut output = BufWriter::new(rt.alloc(), output)?;
-    let (status, _files) = run_job(rt, &job, Unknown, &mut output);
+    let (done, _left) = run_job(rt, &job, Unknown, &mut output);
     output.flush()?;
-    Ok(status)
+    Ok(done.unwrap_or(Status::Failed) as u8)
 }
 
 // Where the output failed there is nothing more to say.

@@ -5,3 +5,4 @@ mod Looping
 mod Opening
 mod Backwards
 mod Ending
+mod Replaying
