@@ -5,4 +5,3 @@ mod Looping
 mod Opening
 mod Backwards
 mod Ending
-mod Replaying
