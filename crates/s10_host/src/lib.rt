@@ -3,6 +3,7 @@
 
 mod audit;
 mod files;
+mod front;
 mod jobs;
 mod left;
 mod loopback;
