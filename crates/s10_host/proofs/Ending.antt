@@ -47,9 +47,14 @@ closed_by put done (Ok status) new last store (fault, is, (well, failed, written
 closed_by put done (Err e) new last store says = tt
 
 pub asked_for : (is_of_issues : Bool) (day : Option ℕ) (made : Option Report) (report : Report) → made ≡ Some report
-    → (is_of_issues ≡ true → made ≡ Some Issues) → ((d : ℕ) → is_of_issues ≡ false → day ≡ Some d → made ≡ Some (Ranges d)) → IsAskedFor is_of_issues day report
-asked_for is_of_issues day made report is issues ranges =
-    record { issues = λ so. let one = issues so in cc; ranges = λ d so given. let one = ranges d so given in cc }
+    → (is_of_issues ≡ true → made ≡ Some Issues) → ((d : ℕ) → is_of_issues ≡ false → day ≡ Some d → made ≡ Some (Ranges d))
+    → (is_of_issues ≡ false → IfSome made (λ r. (d : ℕ) × (r ≡ Ranges d))) → IsAskedFor is_of_issues day report
+asked_for true day made report is issues ranges some = record { issues = λ so. let one = issues so in cc; ranges = λ so. absurd cc }
+asked_for false day None report is issues ranges some = absurd cc
+asked_for false day (Some r) report is issues ranges some =
+    let found = some refl in
+    let of_day : report ≡ Ranges found.0 = let one = found.1 in cc in
+    record { issues = λ so. absurd cc; ranges = λ so. (found.0, of_day, λ d given. let one = ranges d refl given in let other = found.1 in cc) }
 
 -- no report is made of ranges alone, of a day that was not given
 pub no_report : (is_of_issues : Bool) (day : Option ℕ) (made : Option Report) → made ≡ None

@@ -26,7 +26,7 @@ use Rattle.s10_jobs.specs.declared.reporting.Report.{Report}
 use Rattle.s10_jobs.specs.declared.reporting.Report.TheVariants.{Ranges, Issues}
 use Rattle.s10_host.specs.Audited.{IsFound, audit_line, audit_status}
 use Rattle.s10_jobs.specs.Reporting.{report_lines, PrintsReport}
-use Rattle.s10_jobs.specs.Serving.{IsTurn, Serves}
+use Rattle.s10_jobs.specs.Serving.{IsDay, IsTurn, Serves}
 use Rattle.s10_host.specs.Questioning.{IsAsked, IsUnasked}
 use Rattle.s10_host.specs.Looped.{loop_requests, AreDone}
 use Rattle.s10_jobs.specs.Shown.{Prints}
@@ -44,10 +44,10 @@ FailsByLedger IsFault old new status = (status ≡ Failed) × (fault : OpenFault
 abbrev pub FailsByClosing : Result Status WriteFault → Option (List ℕ) → Option (List ℕ) → Result Status WriteFault → Type 0
 FailsByClosing done between new result = IfOk result (λ status. IsOk done × FailsByLedger (λ fault. fault ≡ Store) between new status)
 
--- the report that the words ask for; the day of the ranges is the clock's where none was given
+-- the report that the words ask for: of the ranges, on the day that was given, where it is not that of the issues
 pub record IsAskedFor (is_of_issues : Bool) (day : Option ℕ) (report : Report) : Type 0 where
   pub issues : is_of_issues ≡ true → report ≡ Issues
-  pub ranges : (d : ℕ) → is_of_issues ≡ false → day ≡ Some d → report ≡ Ranges d
+  pub ranges : is_of_issues ≡ false → (d : ℕ) × (report ≡ Ranges d) × IsDay day d
 
 -- the question was asked over the link that is handed back, or the line says why nothing was
 pub record HasAsked (question : Question) (old new : Option (List ℕ)) (result : Result Status WriteFault) (link : Option BoundLink) : Type 0 where

@@ -10,7 +10,7 @@ returns-in_default g c =
 
 pub returns-in-Ok : goal.returns-in-Ok
 returns-in-Ok g c =
-    let asked = asked_for c.args.is_of_issues c.args.day c.new.result c.in-Some.report c.in-Some.is c.new.ensures.issues c.new.ensures.ranges in
+    let asked = asked_for c.args.is_of_issues c.args.day c.new.result c.in-Some.report c.in-Some.is c.new.ensures.issues c.new.ensures.ranges c.new.ensures.of_a_day in
     reported_in _ g.S.Start c.args.is_of_issues c.args.day (g.W.Write.contents c.args.out.now) (g.W.Write.contents c.report_on.new.out)
     c.in-Some.report c.in-Ok.book c.report_on.result.0 c.report_on.result.1 asked c.in-Ok.ensures.opened c.report_on.ensures.reported c.report_on.ensures.lost
 
