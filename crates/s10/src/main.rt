@@ -4,6 +4,7 @@
 use s10_cli::{parse_job, run_buffered};
 use s10_host::run_job;
 use s10_jobs::Status;
+use s10_wire::WriteFault;
 use sqlite::Unknown;
 use std::convert::AsStr;
 use std::io;
@@ -37,12 +38,15 @@ fn run_words<S: AsStr, O: Write + Drop>(
         return Err(io::Error::from(ErrorKind::OutOfMemory));
     };
     let mut output = BufWriter::new(rt.alloc(), output)?;
-    let (status, _files) = run_job(rt, &job, Unknown, &mut output);
+    let (done, _left) = run_job(rt, &job, Unknown, &mut output);
     output.flush()?;
-    Ok(status)
+    match done {
+        Ok(status) => Ok(status as u8),
+        Err(WriteFault) => Err(io::Error::from(ErrorKind::WriteZero)),
+    }
 }
 
-// Where the output failed there is nothing more to say.
+// Says why there is no more output.
 fn tell<R: Print + Eprint>(rt: &R, error: &io::Error) -> Status {
     match error.kind() {
         ErrorKind::InvalidData => {
@@ -53,6 +57,9 @@ fn tell<R: Print + Eprint>(rt: &R, error: &io::Error) -> Status {
             let _ = rt.println("memory");
             Status::Failed
         }
-        _ => Status::Failed,
+        _ => {
+            let _ = eprintln!(rt; "error: the output cannot be written: {error}");
+            Status::Failed
+        }
     }
 }

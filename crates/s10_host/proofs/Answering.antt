@@ -12,6 +12,7 @@ use Rattle.s10_wire.specs.declared.write_fault.WriteFault.{WriteFault}
 use Rattle.s10_wire.specs.Lines.{line_of}
 use Rattle.s10_link.specs.Peer.{SpellsPeer}
 use Rattle.s10_link.specs.Trace.{new_trace}
+use Rattle.s10_ends.specs.UdpLink.{BoundLink}
 use Rattle.s10_ends.specs.Client.{ClientState, new_client}
 use Rattle.s10_ends.specs.Calls.{Calls}
 use Rattle.s10_ends.specs.declared.call_fault.CallFault.{CallFault}
@@ -23,45 +24,39 @@ use Rattle.s10_jobs.specs.Asked.{asked_status, asked_line}
 use Rattle.s10_jobs.specs.Lines.{refused_line}
 use Rattle.s10_jobs.specs.Words.{link_fault_words}
 use Rattle.s10_jobs.specs.Questions.{refusal_words, IsBody, IsRefusal}
-use Rattle.s10_host.specs.Questioning.{IsAnswer}
+use Rattle.s10_host.specs.Questioning.{IsUnasked, IsAsked}
 
-pub refused_answer : (question : Question) (refusal : Refusal) (old new : Option (List ℕ)) (r : Result Status WriteFault) → IsRefusal question refusal
+-- of a text that does not read
+pub refused_unasked : (question : Question) (refusal : Refusal) (old new : Option (List ℕ)) (r : Result Status WriteFault) → IsRefusal question refusal
     → IfOk r (λ status. (status ≡ Refused) × Appends old new (refused_line (refusal_words refusal)))
-    → IfOk r (λ status. (line : List ℕ) × IsAnswer question status line × Appends old new line)
-refused_answer question refusal old new (Ok status) is (same, line) = (refused_line (refusal_words refusal), inl (refusal, is, same, refl), line)
-refused_answer question refusal old new (Err fault) is says = tt
+    → IfOk r (λ status. (line : List ℕ) × IsUnasked question status line × Appends old new line)
+refused_unasked question refusal old new (Ok status) is (same, line) = (refused_line (refusal_words refusal), inl (refusal, is, same, refl), line)
+refused_unasked question refusal old new (Err fault) is says = tt
 
-pub unbound_answer : (question : Question) (to : Peer) (body : Body) (fault : LinkFault) (old new : Option (List ℕ)) (r : Result Status WriteFault)
+-- of a link that there is not
+pub unbound_unasked : (question : Question) (to : Peer) (body : Body) (fault : LinkFault) (old new : Option (List ℕ)) (r : Result Status WriteFault)
     → SpellsPeer question.to.now to → IsBody question.body body → fault ≡ Bind
     → IfOk r (λ status. (status ≡ Failed) × Appends old new (line_of (codes "link") (link_fault_words fault)))
-    → IfOk r (λ status. (line : List ℕ) × IsAnswer question status line × Appends old new line)
-unbound_answer question to body Bind old new (Ok status) peer asks is (same, line) =
-    (line_of (codes "link") (link_fault_words Bind), inr (to, body, peer, asks, inl (same, refl)), line)
-unbound_answer question to body fault old new (Ok status) peer asks is says = absurd cc
-unbound_answer question to body fault old new (Err failed) peer asks is says = tt
+    → IfOk r (λ status. (line : List ℕ) × IsUnasked question status line × Appends old new line)
+unbound_unasked question to body Bind old new (Ok status) peer asks is (same, line) =
+    (line_of (codes "link") (link_fault_words Bind), inr (to, body, peer, asks, same, refl), line)
+unbound_unasked question to body fault old new (Ok status) peer asks is says = absurd cc
+unbound_unasked question to body fault old new (Err failed) peer asks is says = tt
 
-pub asked_answer : (question : Question) (to : Peer) (body : Body) (begun left : Trace) (old new : Option (List ℕ)) (r : Result Status WriteFault)
+-- of a call that began on a new link
+pub asked_over : (question : Question) (to : Peer) (body : Body) (begun : Trace) (link : BoundLink) (old new : Option (List ℕ)) (r : Result Status WriteFault)
     → SpellsPeer question.to.now to → IsBody question.body body → begun ≡ new_trace
     → ((client : ClientState) × (called : Result Reply CallFault)
-    × Calls (new_client question.customer question.number question.number) client begun left to body question.tries called
+    × Calls (new_client question.customer question.number question.number) client begun link.trace to body question.tries called
     × IfOk r (λ status. (status ≡ asked_status called) × Appends old new (asked_line called)))
-    → IfOk r (λ status. (line : List ℕ) × IsAnswer question status line × Appends old new line)
-asked_answer question to body begun left old new (Ok status) peer asks fresh (client, called, calls, (same, line)) = (
-  asked_line called,
-  inr (
-    to,
-    body,
-    peer,
-    asks,
-    inr (
-      client,
-      left,
-      called,
-      subst (λ (t : Trace). Calls (new_client question.customer question.number question.number) client t left to body question.tries called) fresh calls,
-      same,
-      refl,
-    ),
-  ),
-  line,
-)
-asked_answer question to body begun left old new (Err failed) peer asks fresh called = tt
+    → IsAsked question link old new r
+asked_over question to body begun link old new r peer asks fresh (client, called, calls, shows) = record {
+  to = to;
+  body = body;
+  peer = peer;
+  asks = asks;
+  left = client;
+  called = called;
+  calls = subst (λ (t : Trace). Calls (new_client question.customer question.number question.number) client t link.trace to body question.tries called) fresh calls;
+  shows = shows;
+}

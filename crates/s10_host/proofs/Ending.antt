@@ -1,90 +1,186 @@
--- What the result of a job says.
+-- What a job says as it ends.
 use denote.RattleType.{RattleType}
-use Rattle.std.proofs.Common.{◌≡◌, ◌⊎◌, inl, inr, ℕ, Bool, List, Option, Some, None, Result, Ok, Err, sym, subst, true, false}
-use Rattle.std.specs.Prelude.{IfOk, IsSomeAnd}
+use Rattle.std.proofs.Common.{◌≡◌, ◌∙◌, inl, inr, ℕ, Bool, List, [], ◌∷◌, Option, Some, None, Result, Ok, Err, refl, sym, subst, true, false, ◌++◌}
+use Rattle.std.proofs.KnownBytes.{Appends-trans}
+use Rattle.std.specs.Prelude.{IfOk, IfErr, IfSome, IsOk, codes}
+use Rattle.std.specs.Io.KnownBytes.{Appends}
 use Rattle.sqlite_disk.specs.declared.start.Start.{Ghosts}
+use Rattle.sqlite_wal.specs.Files.{image_at}
 use Rattle.sqlite.specs.Files.{file_state, over_files}
-use Rattle.s10_link.specs.declared.trace.Trace.{Trace}
-use Rattle.s10_link.specs.Trace.{new_trace}
 use Rattle.s10_wire.specs.declared.write_fault.WriteFault.{WriteFault}
+use Rattle.s10_wire.specs.Lines.{line_of}
+use Rattle.s10_link.specs.Trace.{new_trace}
+use Rattle.s10_ends.specs.UdpLink.{BoundLink}
 use Rattle.s10_book.specs.Book.{Keeps}
 use Rattle.s10_ledger.specs.Ledger.{IsHonest, history_in}
+use Rattle.s10_rows.specs.declared.open_fault.OpenFault.{OpenFault}
+use Rattle.s10_rows.specs.declared.open_fault.OpenFault.TheVariants.{Store}
 use Rattle.s10_jobs.specs.declared.status.Status.{Status}
-use Rattle.s10_jobs.specs.declared.status.Status.TheVariants.{Done, Failed}
+use Rattle.s10_jobs.specs.declared.status.Status.TheVariants.{Failed}
 use Rattle.s10_jobs.specs.declared.job.Job.{Job}
+use Rattle.s10_jobs.specs.Questions.{IsPeerText}
 use Rattle.s10_jobs.specs.declared.reporting.Report.{Report}
 use Rattle.s10_jobs.specs.declared.reporting.Report.TheVariants.{Ranges, Issues}
-use Rattle.s10_jobs.specs.Reporting.{report_lines, PrintsReport}
-use Rattle.s10_jobs.specs.Serving.{IsTurn, Serves}
 use Rattle.s10_host.specs.Unbound.{IsUnbound}
-use Rattle.s10_host.specs.Files.{FileLedger, ClosedFiles, PutsAway}
-use Rattle.s10_host.specs.Jobs.{IsAskedFor, IsServed, IsReported, HasDone}
+use Rattle.s10_host.specs.Files.{FileLedger, ClosedFiles, PutsAway, WhereClean, IsFoundBook, IsNotOpened}
+use Rattle.s10_host.specs.Jobs.{ledger_line, FailsByLedger, IsAskedFor, Turns, IsServed, IsLost, IsUnlinked, Writes, IsReported, IsReportedAndLost, HasServed, HasReported, HasEnded}
 use Rattle.s10_host.proofs.Backwards.{before_turns}
 
--- what failed is not done
-pub failed_is_not_done : (P : Status → Type 0) (A : Type 0) (r : Result Status WriteFault) → IfOk r (λ s. (s ≡ Failed) × P s) → r ≡ Ok Done → A
-failed_is_not_done P A (Ok s) says is = absurd (let failed = says.0 in cc)
-failed_is_not_done P A (Err e) says is = absurd cc
+-- of a fault that was written
+pub fails_by : (IsFault : OpenFault → Type 0) (fault : OpenFault) (old new : Option (List ℕ)) (r : Result Status WriteFault) → IsFault fault
+    → IfOk r (λ status. (status ≡ Failed) × Appends old new (ledger_line fault)) → IfOk r (FailsByLedger IsFault old new)
+fails_by IsFault fault old new (Ok status) is (failed, written) = (failed, fault, is, written)
+fails_by IsFault fault old new (Err e) is says = tt
 
--- a fact of what there is gives another
-pub some_weaker : {A : Type 0} (P Q : A → Type 0) (there : Option A) → ((a : A) → P a → Q a) → IsSomeAnd there P → IsSomeAnd there Q
-some_weaker P Q (Some a) gives holds = gives a holds
-some_weaker P Q None gives holds = absurd holds
+-- what was done, where the files were put away, and what was not
+abbrev Kept : {A : Type 0} → Result A OpenFault → Result Status WriteFault → Result Status WriteFault → Option (List ℕ) → Option (List ℕ) → Option A → Type 0
+Kept put done result new last files = IfSome files (λ f. (put ≡ Ok f) × (result ≡ done) × (last ≡ new))
 
--- of what was closed, where it was handed back
-pub closed_says : {A E : Type 0} (P Q : A → Type 0) (closed : Result A E) (files : Option A) → ((a : A) → P a → Q a) → IfOk closed P → IsSomeAnd files (λ a. closed ≡ Ok a) → IsSomeAnd files Q
-closed_says P Q closed files gives says = some_weaker (λ a. closed ≡ Ok a) Q files (λ a is. gives a (subst (λ r. IfOk r P) is says))
+abbrev Unkept : {A : Type 0} → Result A OpenFault → Result Status WriteFault → Result Status WriteFault → Option (List ℕ) → Option (List ℕ) → Option A → Type 0
+Unkept put done result new last files =
+    files ≡ None → (fault : OpenFault) × (put ≡ Err fault) × IfOk result (λ status. IsOk done × (status ≡ Failed) × Appends new last (ledger_line fault))
+
+closed_by : {A : Type 0} (put : Result A OpenFault) (done result : Result Status WriteFault) (new last : Option (List ℕ)) → IfErr put (λ fault. fault ≡ Store)
+    → (fault : OpenFault) × (put ≡ Err fault) × IfOk result (λ status. IsOk done × (status ≡ Failed) × Appends new last (ledger_line fault))
+    → IfOk result (λ status. IsOk done × FailsByLedger (λ fault. fault ≡ Store) new last status)
+closed_by put done (Ok status) new last store (fault, is, (well, failed, written)) = (well, (failed, fault, subst (λ r. IfErr r (λ fault. fault ≡ Store)) is store, written))
+closed_by put done (Err e) new last store says = tt
 
 pub asked_for : (is_of_issues : Bool) (day : Option ℕ) (made : Option Report) (report : Report) → made ≡ Some report
-    → (is_of_issues ≡ true → made ≡ Some Issues) → ((d : ℕ) → is_of_issues ≡ false → day ≡ Some d → made ≡ Some (Ranges d)) → IsAskedFor is_of_issues day report
-asked_for is_of_issues day made report is issues ranges =
-    record { issues = λ so. let one = issues so in cc; ranges = λ d so given. let one = ranges d so given in cc }
+    → (is_of_issues ≡ true → made ≡ Some Issues) → ((d : ℕ) → is_of_issues ≡ false → day ≡ Some d → made ≡ Some (Ranges d))
+    → (is_of_issues ≡ false → IfSome made (λ r. (d : ℕ) × (r ≡ Ranges d))) → IsAskedFor is_of_issues day report
+asked_for true day made report is issues ranges some = record { issues = λ so. let one = issues so in cc; ranges = λ so. absurd cc }
+asked_for false day None report is issues ranges some = absurd cc
+asked_for false day (Some r) report is issues ranges some =
+    let found = some refl in
+    let of_day : report ≡ Ranges found.0 = let one = found.1 in cc in
+    record { issues = λ so. absurd cc; ranges = λ so. (found.0, of_day, λ d given. let one = ranges d refl given in let other = found.1 in cc) }
+
+-- no report is made of ranges alone, of a day that was not given
+pub no_report : (is_of_issues : Bool) (day : Option ℕ) (made : Option Report) → made ≡ None
+    → (is_of_issues ≡ true → made ≡ Some Issues) → ((d : ℕ) → is_of_issues ≡ false → day ≡ Some d → made ≡ Some (Ranges d)) → (is_of_issues ≡ false) × (day ≡ None)
+no_report true day made is issues ranges = absurd (let one = issues refl in cc)
+no_report false None made is issues ranges = (refl, refl)
+no_report false (Some d) made is issues ranges = absurd (let one = ranges d refl refl in cc)
 
 module _ (S : RattleType) (first : Ghosts S.Denot) where
-  abbrev Turns : Option ℕ → ℕ → FileLedger S first → FileLedger S first → Option (List ℕ) → Option (List ℕ) → Result Status WriteFault → Trace → Type 0
-  Turns day count opened served old new result trace =
-      Serves (IsTurn (λ (b : FileLedger S first). b.faults) (IsHonest over_files) (λ b. b.terms) (λ b. history_in (file_state b.conn).now) day) (new_trace, opened) (trace, served) old new count result
+  was_honest : (day : Option ℕ) (count : ℕ) (old new : Option (List ℕ)) (opened after : FileLedger S first) (result : Result Status WriteFault) (link : BoundLink)
+      → Turns S first day count opened after old new result link → IsHonest over_files after → IsHonest over_files opened
+  was_honest day count old new opened after result link turns =
+      before_turns (λ (b : FileLedger S first). b.faults) (IsHonest over_files) (λ b. b.terms) (λ b. history_in (file_state b.conn).now) day
+      (new_trace, opened) (link.trace, after) turns.turns turns.lead
 
-  is_served : (day : Option ℕ) (count : ℕ) (old new last : Option (List ℕ)) (opened after : FileLedger S first) (trace : Trace) (result : Result Status WriteFault) (files : ClosedFiles S first)
-      → Turns day count opened after old new result trace → result ≡ Ok Done → last ≡ new → PutsAway after files → IsServed S first opened day count old last files
-  is_served day count old new last opened after trace result files turns done same away = record {
-    served = after;
-    trace = trace;
-    turns = subst (λ text. Turns day count opened after old text (Ok Done) trace) (sym same) (subst (λ r. Turns day count opened after old new r trace) done turns);
-    was_honest =
-        before_turns (λ (b : FileLedger S first). b.faults) (IsHonest over_files) (λ b. b.terms) (λ b. history_in (file_state b.conn).now) day
-        (new_trace, opened) (trace, after) turns.turns turns.lead;
-    away = away;
-  }
+  pub served_away : (day : Option ℕ) (count : ℕ) (old new last : Option (List ℕ)) (opened before after closed : FileLedger S first) (done result : Result Status WriteFault)
+      (put : Result (ClosedFiles S first) OpenFault) (files : Option (ClosedFiles S first)) (link : Option BoundLink)
+      → before ≡ opened → closed ≡ after → IfSome link (Turns S first day count before after old new done)
+      → IfOk put (PutsAway closed) → Kept put done result new last files → IfSome link (λ l. IfSome files (IsServed S first opened day count old last result l))
+  served_away day count old new last opened before after closed done result put files None is given turns away kept = tt
+  served_away day count old new last opened before after closed done result put None (Some l) is given turns away kept = tt
+  served_away day count old new last opened before after closed done result put (Some f) (Some l) is given turns away (there, same, still) =
+      let begun = subst (λ b. Turns S first day count b after old new done l) is turns in
+      record {
+        served = after;
+        turns = subst (λ text. Turns S first day count opened after old text result l) (sym still) (subst (λ r. Turns S first day count opened after old new r l) (sym same) begun);
+        was_honest = was_honest day count old new opened after done l begun;
+        away = subst (λ b. PutsAway b f) given (subst (λ r. IfOk r (PutsAway closed)) there away);
+      }
 
-  pub served_and_away : {E : Type 0} (day : Option ℕ) (count : ℕ) (old new last : Option (List ℕ)) (opened before after closed : FileLedger S first) (result : Result Status WriteFault)
-      (put : Result (ClosedFiles S first) E) (files : Option (ClosedFiles S first))
-      → before ≡ opened → closed ≡ after → IsUnbound before after old new result ⊎ ((trace : Trace) × Turns day count before after old new result trace)
-      → IfOk put (PutsAway closed) → result ≡ Ok Done → IsSomeAnd files (λ f. put ≡ Ok f) → last ≡ new → IsSomeAnd files (IsServed S first opened day count old last)
-  served_and_away day count old new last opened before after closed result put files is given (inl unbound) away done there same = failed_is_not_done _ _ result unbound.1 done
-  served_and_away day count old new last opened before after closed result put files is given (inr (trace, turns)) away done there same =
-      closed_says (PutsAway closed) (IsServed S first opened day count old last) put files
-      (λ f put. is_served day count old new last opened after trace result f (subst (λ b. Turns day count b after old new result trace) is turns) done same (subst (λ b. PutsAway b f) given put)) away there
+  pub served_lost : (day : Option ℕ) (count : ℕ) (old new last : Option (List ℕ)) (opened before after : FileLedger S first) (done result : Result Status WriteFault)
+      (put : Result (ClosedFiles S first) OpenFault) (files : Option (ClosedFiles S first)) (link : Option BoundLink)
+      → before ≡ opened → IfSome link (Turns S first day count before after old new done)
+      → IfErr put (λ fault. fault ≡ Store) → Unkept put done result new last files → IfSome link (λ l. files ≡ None → IsLost S first opened day count old last result l)
+  served_lost day count old new last opened before after done result put files None is turns store unkept = tt
+  served_lost day count old new last opened before after done result put files (Some l) is turns store unkept =
+      let begun = subst (λ b. Turns S first day count b after old new done l) is turns in
+      λ none. record {
+        served = after;
+        turned = done;
+        between = new;
+        turns = begun;
+        was_honest = was_honest day count old new opened after done l begun;
+        told = closed_by put done result new last store (unkept none);
+      }
 
-  is_reported : (old new last : Option (List ℕ)) (report : Report) (opened after : FileLedger S first) (result : Result Status WriteFault) (files : ClosedFiles S first)
+  unlinked_kept : (old new last : Option (List ℕ)) (done result : Result Status WriteFault)
+      → IfOk done (λ status. (status ≡ Failed) × Appends old new (line_of (codes "link") (codes "bind" ∷ []))) → result ≡ done → last ≡ new
+      → IfOk result (λ status. (status ≡ Failed) × Appends old last (line_of (codes "link") (codes "bind" ∷ [])))
+  unlinked_kept old new last done result told same still =
+      let Told : Result Status WriteFault → Option (List ℕ) → Type 0 = λ r text. IfOk r (λ status. (status ≡ Failed) × Appends old text (line_of (codes "link") (codes "bind" ∷ []))) in
+      subst (λ text. Told result text) (sym still) (subst (λ r. Told r new) (sym same) told)
+
+  unlinked_lost : (old new last : Option (List ℕ)) (done result : Result Status WriteFault)
+      → IfOk done (λ status. (status ≡ Failed) × Appends old new (line_of (codes "link") (codes "bind" ∷ [])))
+      → IfOk result (λ status. IsOk done × FailsByLedger (λ fault. fault ≡ Store) new last status)
+      → IfOk result (λ status. (status ≡ Failed) × Appends old last (line_of (codes "link") (codes "bind" ∷ []) ++ ledger_line Store))
+  unlinked_lost old new last (Ok status) (Ok other) told (well, (failed, fault, is, written)) =
+      (failed, Appends-trans old new last (line_of (codes "link") (codes "bind" ∷ [])) (ledger_line Store) told.1 (subst (λ f. Appends new last (ledger_line f)) is written))
+  unlinked_lost old new last (Err e) (Ok other) told (well, rest) = absurd (let one = well in cc)
+  unlinked_lost old new last done (Err e) told says = tt
+
+  pub unlinked : (old new last : Option (List ℕ)) (opened before after closed : FileLedger S first) (done result : Result Status WriteFault)
+      (put : Result (ClosedFiles S first) OpenFault) (files : Option (ClosedFiles S first))
+      → before ≡ opened → closed ≡ after → IsUnbound before after old new done
+      → IfOk put (PutsAway closed) → IfErr put (λ fault. fault ≡ Store) → Kept put done result new last files → Unkept put done result new last files
+      → IsUnlinked S first opened old last result files
+  unlinked old new last opened before after closed done result put None is given unbound away store kept unkept =
+      record { away = tt; told = tt; lost = λ none. unlinked_lost old new last done result unbound.1 (closed_by put done result new last store (unkept none)) }
+  unlinked old new last opened before after closed done result put (Some f) is given unbound away store (there, same, still) unkept =
+      let same_book : closed ≡ opened = given ∙ unbound.0 ∙ is in
+      record {
+        away = subst (λ b. PutsAway b f) same_book (subst (λ r. IfOk r (PutsAway closed)) there away);
+        told = unlinked_kept old new last done result unbound.1 same still;
+        lost = λ none. absurd (let one : Some f ≡ None = none in cc);
+      }
+
+  pub reported_away : (old new last : Option (List ℕ)) (report : Report) (opened after : FileLedger S first) (done result : Result Status WriteFault)
+      (put : Result (ClosedFiles S first) OpenFault) (files : Option (ClosedFiles S first))
       → Keeps (λ (b : FileLedger S first). history_in (file_state b.conn).now) (λ b. b.terms) (IsHonest over_files) opened after
-      → (IsHonest over_files after → IfOk result (PrintsReport old new (report_lines report (history_in (file_state opened.conn).now) opened.terms)))
-      → result ≡ Ok Done → last ≡ new → PutsAway after files → IsReported S first opened report old last files
-  is_reported old new last report opened after result files keeps written done same away = record {
+      → Writes S first report opened after old new done
+      → IfOk put (PutsAway after) → Kept put done result new last files → IfSome files (IsReported S first opened report old last result)
+  reported_away old new last report opened after done result put None keeps written away kept = tt
+  reported_away old new last report opened after done result put (Some f) keeps written away (there, same, still) = record {
     reported = after;
-    written = λ honest. rw same (subst (λ r. IfOk r (PrintsReport old new (report_lines report (history_in (file_state opened.conn).now) opened.terms))) done (written honest));
+    written = subst (λ text. Writes S first report opened after old text result) (sym still) (subst (λ r. Writes S first report opened after old new r) (sym same) written);
     keeps = keeps;
-    away = away;
+    away = subst (λ r. IfOk r (PutsAway after)) there away;
   }
 
-  pub reported_and_away : {E : Type 0} (old new last : Option (List ℕ)) (report : Report) (opened after : FileLedger S first) (result : Result Status WriteFault)
-      (put : Result (ClosedFiles S first) E) (files : Option (ClosedFiles S first))
-      → Keeps (λ (b : FileLedger S first). history_in (file_state b.conn).now) (λ b. b.terms) (IsHonest over_files) opened after
-      → (IsHonest over_files after → IfOk result (PrintsReport old new (report_lines report (history_in (file_state opened.conn).now) opened.terms)))
-      → IfOk put (PutsAway after) → result ≡ Ok Done → IsSomeAnd files (λ f. put ≡ Ok f) → last ≡ new → IsSomeAnd files (IsReported S first opened report old last)
-  reported_and_away old new last report opened after result put files keeps written away done there same =
-      closed_says (PutsAway after) (IsReported S first opened report old last) put files (λ f put. is_reported old new last report opened after result f keeps written done same put) away there
+  pub reported_lost : (old new last : Option (List ℕ)) (report : Report) (opened after : FileLedger S first) (done result : Result Status WriteFault)
+      (put : Result (ClosedFiles S first) OpenFault) (files : Option (ClosedFiles S first))
+      → Writes S first report opened after old new done
+      → IfErr put (λ fault. fault ≡ Store) → Unkept put done result new last files → files ≡ None → IsReportedAndLost S first opened report old last result
+  reported_lost old new last report opened after done result put files written store unkept none =
+      record { reported = after; done = done; between = new; written = written; told = closed_by put done result new last store (unkept none) }
 
-  pub done_as : (job same : Job) (old new : Option (List ℕ)) (given files : Option (ClosedFiles S first)) → job ≡ same → given ≡ files
-      → HasDone S first same old new files → HasDone S first job old new given
-  done_as job same old new given files is handed done = subst (λ f. HasDone S first job old new f) (sym handed) (subst (λ j. HasDone S first j old new files) (sym is) done)
+  pub served_in : (bind : List ℕ) (day : Option ℕ) (count : ℕ) (old new : Option (List ℕ)) (opened : FileLedger S first) (result : Result Status WriteFault)
+      (files : Option (ClosedFiles S first)) (link : Option BoundLink) → IsPeerText bind → WhereClean (IsFoundBook (image_at first)) opened
+      → IfSome link (λ l. IfSome files (IsServed S first opened day count old new result l)) → IfSome link (λ l. files ≡ None → IsLost S first opened day count old new result l)
+      → (link ≡ None → IsUnlinked S first opened old new result files) → HasServed S first bind day count old new result files link
+  served_in bind day count old new opened result files None text found served lost unlinked =
+      record { served = tt; unlinked = λ none. inr (inr (text, opened, found, unlinked none)) }
+  served_in bind day count old new opened result files (Some l) text found served lost unlinked =
+      record { served = (opened, found, served, lost); unlinked = λ none. absurd cc }
+
+  pub not_served : (bind : List ℕ) (day : Option ℕ) (count : ℕ) (old new : Option (List ℕ)) (fault : OpenFault) (told result : Result Status WriteFault)
+      (files : Option (ClosedFiles S first)) (link : Option BoundLink) → IsPeerText bind → IsNotOpened S first fault
+      → IfOk told (λ status. (status ≡ Failed) × Appends old new (ledger_line fault)) → result ≡ told → link ≡ None
+      → HasServed S first bind day count old new result files link
+  not_served bind day count old new fault told result files (Some l) text refused says same none = absurd cc
+  not_served bind day count old new fault told result files None text refused says same none =
+      record { served = tt; unlinked = λ _. inr (inl (text, subst (λ r. IfOk r (FailsByLedger (IsNotOpened S first) old new)) (sym same) (fails_by (IsNotOpened S first) fault old new told refused says))) }
+
+  pub reported_in : (is_of_issues : Bool) (day : Option ℕ) (old new : Option (List ℕ)) (report : Report) (opened : FileLedger S first) (result : Result Status WriteFault)
+      (files : Option (ClosedFiles S first)) → IsAskedFor is_of_issues day report → WhereClean (IsFoundBook (image_at first)) opened
+      → IfSome files (IsReported S first opened report old new result) → (files ≡ None → IsReportedAndLost S first opened report old new result)
+      → HasReported S first is_of_issues day old new result files
+  reported_in is_of_issues day old new report opened result None asked found reported lost =
+      record { reported = tt; unreported = λ none. inr (report, asked, opened, found, lost none) }
+  reported_in is_of_issues day old new report opened result (Some f) asked found reported lost =
+      record { reported = (report, asked, opened, found, reported); unreported = λ none. absurd cc }
+
+  -- the same of what was handed on
+  pub ended_as : (job same : Job) (old new : Option (List ℕ)) (result handed : Result Status WriteFault) (files given : Option (ClosedFiles S first)) (link over : Option BoundLink)
+      → job ≡ same → handed ≡ result → given ≡ files → over ≡ link → HasEnded S first same old new result files link → HasEnded S first job old new handed given over
+  ended_as job same old new result handed files given link over is so put on ended =
+      subst (λ l. HasEnded S first job old new handed given l) (sym on)
+      (subst (λ f. HasEnded S first job old new handed f link) (sym put) (subst (λ r. HasEnded S first job old new r files link) (sym so) (subst (λ j. HasEnded S first j old new result files link) (sym is) ended)))

@@ -1,33 +1,58 @@
--- What the subcommands have done where they end well.
+-- What the subcommands have done as they end, and what they print.
 use denote.RattleType.{RattleType}
-use Rattle.std.specs.Prelude.{◌≡◌, ℕ, Bool, true, false, List, codes, Option, Some, IsSomeAnd, Ok}
+use Rattle.std.specs.Prelude.{◌≡◌, ◌⊎◌, ℕ, Bool, true, false, List, [], ◌∷◌, ◌++◌, codes, Option, Some, None, Result, Ok, IsOk, IfOk, IfSome}
 use Rattle.std.specs.Io.KnownBytes.{Appends}
 use Rattle.sqlite_disk.specs.declared.start.Start.{Ghosts}
 use Rattle.sqlite_wal.specs.Files.{image_at}
 use Rattle.sqlite.specs.Files.{file_state, over_files}
-use Rattle.s10_link.specs.declared.trace.Trace.{Trace}
 use Rattle.s10_link.specs.Trace.{new_trace}
-use Rattle.s10_book.specs.Reports.{joined}
+use Rattle.s10_ends.specs.UdpLink.{BoundLink}
+use Rattle.s10_wire.specs.declared.write_fault.WriteFault.{WriteFault}
+use Rattle.s10_wire.specs.Lines.{line_of}
 use Rattle.s10_book.specs.Settings.{Terms}
 use Rattle.s10_book.specs.Book.{Keeps}
 use Rattle.s10_ledger.specs.Ledger.{IsHonest, history_in}
-use Rattle.s10_jobs.specs.declared.status.Status.TheVariants.{Done}
+use Rattle.s10_rows.specs.declared.open_fault.OpenFault.{OpenFault}
+use Rattle.s10_rows.specs.declared.open_fault.OpenFault.TheVariants.{Store}
+use Rattle.s10_jobs.specs.declared.status.Status.{Status}
+use Rattle.s10_jobs.specs.declared.status.Status.TheVariants.{Done, Refused, Failed}
+use Rattle.s10_jobs.specs.declared.question.Question.{Question}
+use Rattle.s10_jobs.specs.Questions.{IsPeerText}
+use Rattle.s10_jobs.specs.Lines.{refused_line}
+use Rattle.s10_jobs.specs.Words.{open_fault_words}
 use Rattle.s10_jobs.specs.declared.job.Job.{Job}
 use Rattle.s10_jobs.specs.declared.job.Job.TheVariants as job
 use Rattle.s10_jobs.specs.declared.reporting.Report.{Report}
 use Rattle.s10_jobs.specs.declared.reporting.Report.TheVariants.{Ranges, Issues}
-use Rattle.s10_host.specs.Audited.{IsFound, audit_line}
-use Rattle.s10_jobs.specs.Reporting.{report_lines}
-use Rattle.s10_jobs.specs.Serving.{IsTurn, Serves}
-use Rattle.s10_host.specs.Questioning.{IsAnswer}
+use Rattle.s10_host.specs.Audited.{IsFound, audit_line, audit_status}
+use Rattle.s10_jobs.specs.Reporting.{report_lines, PrintsReport}
+use Rattle.s10_jobs.specs.Serving.{IsDay, IsTurn, Serves}
+use Rattle.s10_host.specs.Questioning.{IsAsked, IsUnasked}
 use Rattle.s10_host.specs.Looped.{loop_requests, AreDone}
 use Rattle.s10_jobs.specs.Shown.{Prints}
-use Rattle.s10_host.specs.Files.{FileConnection, FileLedger, ClosedFiles, WhereClean, IsFoundIn, IsEmptyBook, IsFoundBook, PutsAway, Leaves}
+use Rattle.s10_host.specs.Files.{FileConnection, FileLedger, ClosedFiles, WhereClean, IsFoundIn, IsEmptyBook, IsFoundBook, PutsAway, Leaves, IsFileFault, IsAbsenceOr, IsNotMade, IsNotOpened}
 
--- the report that the words ask for; the day of the ranges is the clock's where none was given
+-- the line of a fault of the ledger
+abbrev pub ledger_line : OpenFault → List ℕ
+ledger_line fault = line_of (codes "ledger") (open_fault_words fault)
+
+-- the job failed by such a fault of the ledger, which the line names
+abbrev pub FailsByLedger : (OpenFault → Type 0) → Option (List ℕ) → Option (List ℕ) → Status → Type 0
+FailsByLedger IsFault old new status = (status ≡ Failed) × (fault : OpenFault) × IsFault fault × Appends old new (ledger_line fault)
+
+-- it was done so far, and then the ledger could not be put away
+abbrev pub FailsByClosing : Result Status WriteFault → Option (List ℕ) → Option (List ℕ) → Result Status WriteFault → Type 0
+FailsByClosing done between new result = IfOk result (λ status. IsOk done × FailsByLedger (λ fault. fault ≡ Store) between new status)
+
+-- the report that the words ask for: of the ranges, on the day that was given, where it is not that of the issues
 pub record IsAskedFor (is_of_issues : Bool) (day : Option ℕ) (report : Report) : Type 0 where
   pub issues : is_of_issues ≡ true → report ≡ Issues
-  pub ranges : (d : ℕ) → is_of_issues ≡ false → day ≡ Some d → report ≡ Ranges d
+  pub ranges : is_of_issues ≡ false → (d : ℕ) × (report ≡ Ranges d) × IsDay day d
+
+-- the question was asked over the link that is handed back, or the line says why nothing was
+pub record HasAsked (question : Question) (old new : Option (List ℕ)) (result : Result Status WriteFault) (link : Option BoundLink) : Type 0 where
+  pub asked : IfSome link (λ l. IsAsked question l old new result)
+  pub unasked : link ≡ None → IfOk result (λ status. (line : List ℕ) × IsUnasked question status line × Appends old new line)
 
 module _ (S : RattleType) (first : Ghosts S.Denot) where
   -- an empty ledger with these settings was made, and put away in these files
@@ -37,52 +62,108 @@ module _ (S : RattleType) (first : Ghosts S.Denot) where
     pub empty : WhereClean IsEmptyBook book
     pub away : PutsAway book files
 
-  -- the ledger was served in so many turns on a new link, and put away in these files; the lines of the turns were written
-  pub record IsServed (opened : FileLedger S first) (day : Option ℕ) (count : ℕ) (old new : Option (List ℕ)) (files : ClosedFiles S first) : Type 0 where
+  -- such a ledger was made, and only then that was said; or the line says why there is none
+  pub record HasCreated (terms : Terms) (old new : Option (List ℕ)) (result : Result Status WriteFault) (files : Option (ClosedFiles S first)) : Type 0 where
+    pub made : IfSome files (HasMade terms)
+    pub told : IfSome files (λ _. IfOk result (λ status. (status ≡ Done) × Appends old new (codes "created\n")))
+    pub refused : files ≡ None → IfOk result (FailsByLedger (IsNotMade S first) old new)
+
+  -- the turns on a new link, and their lines
+  abbrev pub Turns : Option ℕ → ℕ → FileLedger S first → FileLedger S first → Option (List ℕ) → Option (List ℕ) → Result Status WriteFault → BoundLink → Type 0
+  Turns day count opened served old new result link =
+      Serves (IsTurn (λ (b : FileLedger S first). b.faults) (IsHonest over_files) (λ b. b.terms) (λ b. history_in (file_state b.conn).now) day)
+      (new_trace, opened) (link.trace, served) old new count result
+
+  -- the ledger was served in turns, which are all that this link carried, and put away in these files
+  pub record IsServed (opened : FileLedger S first) (day : Option ℕ) (count : ℕ) (old new : Option (List ℕ)) (result : Result Status WriteFault) (link : BoundLink) (files : ClosedFiles S first) : Type 0 where
     pub served : FileLedger S first
-    pub trace : Trace
-    pub turns : Serves (IsTurn (λ (b : FileLedger S first). b.faults) (IsHonest over_files) (λ b. b.terms) (λ b. history_in (file_state b.conn).now) day)
-        (new_trace, opened) (trace, served) old new count (Ok Done)
+    pub turns : Turns day count opened served old new result link
     pub was_honest : IsHonest over_files served → IsHonest over_files opened
     pub away : PutsAway served files
 
-  -- it was opened from the files; where the closed ones kept what they were given it was honest as it was put away, and so
-  -- it was honest as it was opened
-  pub record HasServed (day : Option ℕ) (count : ℕ) (old new : Option (List ℕ)) (files : ClosedFiles S first) : Type 0 where
-    pub opened : FileLedger S first
-    pub found : WhereClean (IsFoundBook (image_at first)) opened
-    pub after : IsServed opened day count old new files
+  -- it was served so, and could not be put away
+  pub record IsLost (opened : FileLedger S first) (day : Option ℕ) (count : ℕ) (old new : Option (List ℕ)) (result : Result Status WriteFault) (link : BoundLink) : Type 0 where
+    pub served : FileLedger S first
+    pub turned : Result Status WriteFault
+    pub between : Option (List ℕ)
+    pub turns : Turns day count opened served old between turned link
+    pub was_honest : IsHonest over_files served → IsHonest over_files opened
+    pub told : FailsByClosing turned between new result
 
-  -- the lines of the report of the ledger's history were written, and it was put away in these files
-  pub record IsReported (opened : FileLedger S first) (report : Report) (old new : Option (List ℕ)) (files : ClosedFiles S first) : Type 0 where
+  -- it was opened, and its address could not be had
+  pub record IsUnlinked (opened : FileLedger S first) (old new : Option (List ℕ)) (result : Result Status WriteFault) (files : Option (ClosedFiles S first)) : Type 0 where
+    pub away : IfSome files (PutsAway opened)
+    pub told : IfSome files (λ _. IfOk result (λ status. (status ≡ Failed) × Appends old new (line_of (codes "link") (codes "bind" ∷ []))))
+    pub lost : files ≡ None → IfOk result (λ status. (status ≡ Failed) × Appends old new (line_of (codes "link") (codes "bind" ∷ []) ++ ledger_line Store))
+
+  -- what comes before the turns, in this order: the address reads, the ledger is opened, the address is had
+  abbrev pub HasNoLink : List ℕ → Option (List ℕ) → Option (List ℕ) → Result Status WriteFault → Option (ClosedFiles S first) → Type 0
+  HasNoLink bind old new result files =
+      ((¬ IsPeerText bind) × IfOk result (λ status. (status ≡ Refused) × Appends old new (refused_line (codes "peer" ∷ []))))
+      ⊎ (IsPeerText bind × IfOk result (FailsByLedger (IsNotOpened S first) old new))
+      ⊎ (IsPeerText bind × (opened : FileLedger S first) × WhereClean (IsFoundBook (image_at first)) opened × IsUnlinked opened old new result files)
+
+  -- it was opened from the files and served; where the closed ones kept what they were given it was honest as it was put away, and so
+  -- it was honest as it was opened. Or there is no link, and the line says why
+  pub record HasServed (bind : List ℕ) (day : Option ℕ) (count : ℕ) (old new : Option (List ℕ)) (result : Result Status WriteFault) (files : Option (ClosedFiles S first)) (link : Option BoundLink) : Type 0 where
+    pub served : IfSome link (λ l. (opened : FileLedger S first) × WhereClean (IsFoundBook (image_at first)) opened
+        × IfSome files (IsServed opened day count old new result l) × (files ≡ None → IsLost opened day count old new result l))
+    pub unlinked : link ≡ None → HasNoLink bind old new result files
+
+  -- the report of the ledger's history was written, as far as the book and the writer went
+  abbrev pub Writes : Report → FileLedger S first → FileLedger S first → Option (List ℕ) → Option (List ℕ) → Result Status WriteFault → Type 0
+  Writes report opened reported old new result =
+      IsHonest over_files reported → IfOk result (PrintsReport old new (report_lines report (history_in (file_state opened.conn).now) opened.terms))
+
+  -- and the ledger was put away in these files
+  pub record IsReported (opened : FileLedger S first) (report : Report) (old new : Option (List ℕ)) (result : Result Status WriteFault) (files : ClosedFiles S first) : Type 0 where
     pub reported : FileLedger S first
-    pub written : IsHonest over_files reported → Appends old new (joined (report_lines report (history_in (file_state opened.conn).now) opened.terms))
+    pub written : Writes report opened reported old new result
     pub keeps : Keeps (λ (b : FileLedger S first). history_in (file_state b.conn).now) (λ b. b.terms) (IsHonest over_files) opened reported
     pub away : PutsAway reported files
 
-  -- it was opened from the files, and reported on as was asked for
-  pub record HasReported (is_of_issues : Bool) (day : Option ℕ) (old new : Option (List ℕ)) (files : ClosedFiles S first) : Type 0 where
-    pub report : Report
-    pub asked : IsAskedFor is_of_issues day report
-    pub opened : FileLedger S first
-    pub found : WhereClean (IsFoundBook (image_at first)) opened
-    pub after : IsReported opened report old new files
+  -- or it could not be put away
+  pub record IsReportedAndLost (opened : FileLedger S first) (report : Report) (old new : Option (List ℕ)) (result : Result Status WriteFault) : Type 0 where
+    pub reported : FileLedger S first
+    pub done : Result Status WriteFault
+    pub between : Option (List ℕ)
+    pub written : Writes report opened reported old between done
+    pub told : FailsByClosing done between new result
 
-  -- the ledger in the files was audited and left in these files, and the number of its calls was written
-  pub record HasAudited (old new : Option (List ℕ)) (files : ClosedFiles S first) : Type 0 where
+  -- what comes before the report, in this order: the clock gives a day where none was given, the ledger is opened
+  abbrev pub HasNoReport : Bool → Option ℕ → Option (List ℕ) → Option (List ℕ) → Result Status WriteFault → Type 0
+  HasNoReport is_of_issues day old new result =
+      ((is_of_issues ≡ false) × (day ≡ None) × IfOk result (λ status. (status ≡ Failed) × Appends old new (codes "clock\n")))
+      ⊎ IfOk result (FailsByLedger (IsNotOpened S first) old new)
+
+  -- it was opened from the files, and reported on as was asked for; or the line says why there is no report
+  pub record HasReported (is_of_issues : Bool) (day : Option ℕ) (old new : Option (List ℕ)) (result : Result Status WriteFault) (files : Option (ClosedFiles S first)) : Type 0 where
+    pub reported : IfSome files (λ f. (report : Report) × IsAskedFor is_of_issues day report
+        × (opened : FileLedger S first) × WhereClean (IsFoundBook (image_at first)) opened × IsReported opened report old new result f)
+    pub unreported : files ≡ None → HasNoReport is_of_issues day old new result
+        ⊎ ((report : Report) × IsAskedFor is_of_issues day report
+        × (opened : FileLedger S first) × WhereClean (IsFoundBook (image_at first)) opened × IsReportedAndLost opened report old new result)
+
+  -- the ledger in the files was audited and left in these files, and what was found was written
+  pub record IsAudited (old new : Option (List ℕ)) (result : Result Status WriteFault) (files : ClosedFiles S first) : Type 0 where
     pub opened : FileConnection S first
     pub found : IsFoundIn (image_at first) opened
     pub left : FileConnection S first
-    pub count : ℕ
-    pub counted : IsFound over_files opened left (Ok count)
-    pub written : Appends old new (audit_line (Ok count))
+    pub finding : Result ℕ OpenFault
+    pub counted : IsFound over_files opened left finding
+    pub written : IfOk result (λ status. (status ≡ audit_status finding) × Appends old new (audit_line finding))
     pub leaves : Leaves left files
 
-  -- what a job has done where its exit status is 0, and the files that it hands back
-  abbrev pub HasDone : Job → Option (List ℕ) → Option (List ℕ) → Option (ClosedFiles S first) → Type 0
-  HasDone (job.Create ledger settings) old new files = IsSomeAnd files (HasMade settings) × Appends old new (codes "created\n")
-  HasDone (job.Serve ledger bind count day) old new files = IsSomeAnd files (HasServed day count old new)
-  HasDone (job.Ask question) old new files = (line : List ℕ) × IsAnswer question Done line × Appends old new line
-  HasDone (job.Report ledger is_of_issues day) old new files = IsSomeAnd files (HasReported is_of_issues day old new)
-  HasDone (job.Audit ledger) old new files = IsSomeAnd files (HasAudited old new)
-  HasDone (job.Loop day) old new files = Prints old new (AreDone loop_requests)
+  -- or the line says why the files could not be opened
+  pub record HasAudited (old new : Option (List ℕ)) (result : Result Status WriteFault) (files : Option (ClosedFiles S first)) : Type 0 where
+    pub audited : IfSome files (IsAudited old new result)
+    pub refused : files ≡ None → IfOk result (FailsByLedger (IsAbsenceOr IsFileFault) old new)
+
+  -- what a job has done as it ends, by its result and by the files and the link that it hands back
+  abbrev pub HasEnded : Job → Option (List ℕ) → Option (List ℕ) → Result Status WriteFault → Option (ClosedFiles S first) → Option BoundLink → Type 0
+  HasEnded (job.Create ledger settings) old new result files link = HasCreated settings old new result files
+  HasEnded (job.Serve ledger bind count day) old new result files link = HasServed bind.now day count old new result files link
+  HasEnded (job.Ask question) old new result files link = HasAsked question old new result link
+  HasEnded (job.Report ledger is_of_issues day) old new result files link = HasReported is_of_issues day old new result files
+  HasEnded (job.Audit ledger) old new result files link = HasAudited old new result files
+  HasEnded (job.Loop day) old new result files link = result ≡ Ok Done → Prints old new (AreDone loop_requests)

@@ -1,8 +1,9 @@
 //! An audit of a ledger.
 
-ghost use Rattle.std.specs.Prelude.{◌≡◌, ◌⊎◌, ◌∷◌, [], ℕ, false, codes, decimal, Ok, OnOk, IfOk, IsOk};
+ghost use Rattle.std.specs.Prelude.{◌≡◌, ◌∷◌, [], ℕ, false, codes, decimal, Result, OnOk, IfOk};
 ghost use Rattle.std.specs.Io.KnownBytes.{Appends};
 ghost use Rattle.s10_wire.specs.Lines.{line_of};
+ghost use Rattle.s10_rows.specs.declared.open_fault.OpenFault.{OpenFault};
 ghost use Rattle.s10_host.specs.Audited.{IsFound, audit_line, audit_status};
 
 use s10_book::Book;
@@ -14,20 +15,18 @@ use std::alloc::Global;
 use std::io::Write;
 
 /// Opens the ledger of a connection, which does all its calls again, and writes `ledger ok N` with the number of its
-/// calls, or `ledger` and why it is none. Answers the exit status: 0 for a ledger, else 3, also where the output
-/// failed; and the connection.
+/// calls, or `ledger` and why it is none, which is a failure. Answers the connection too.
 pub fn run_audit<S: Alter, W: Write>(
     alloc: Global,
     connection: Connection<S>,
     output: &mut W,
-) -> (u8, Connection<S>)
+) -> (Result<Status, WriteFault>, Connection<S>)
     requires idle { connection.in_transaction ≡ false }
-    ensures ok { result.0 ≡ 0 → (count : ℕ) × IsFound S.Store connection result.1 (Ok count)
-        × Appends (W.contents output.old) (W.contents output.new) (audit_line (Ok count)) }
-    ensures status { (result.0 ≡ 0) ⊎ (result.0 ≡ 3) }
+    ensures { (found : Result ℕ OpenFault) × IsFound S.Store connection result.1 found × IfOk result.0 (λ status. (status ≡ audit_status found)
+        × Appends (W.contents output.old) (W.contents output.new) (audit_line found)) }
 {
     let (found, left) = count_calls(alloc, connection);
-    (write_audit(found, output), left)
+    (write_found(found, output), left)
 }
 
 // How many calls the ledger keeps, or why it is none; and the connection.
@@ -44,17 +43,6 @@ fn count_calls<S: Alter>(
             (Ok(count), book.close())
         }
         Err(Refused { fault, connection }) => (Err(fault), connection),
-    }
-}
-
-// The line, and the exit status.
-fn write_audit<W: Write>(found: Result<u32, OpenFault>, out: &mut W) -> u8
-    ensures ok { result ≡ 0 → IfOk found (λ count. Appends (W.contents out.old) (W.contents out.new) (audit_line (Ok count))) × IsOk found }
-    ensures status { (result ≡ 0) ⊎ (result ≡ 3) }
-{
-    match write_found(found, out) {
-        Ok(Status::Done) => 0,
-        _ => 3,
     }
 }
 

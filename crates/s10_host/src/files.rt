@@ -4,10 +4,12 @@ ghost use Rattle.std.specs.Prelude.{◌≡◌, false, Ok, IfOk, IfErr, IsErrAnd}
 ghost use Rattle.sqlite_wal.specs.Files.{image_at};
 ghost use Rattle.s10_host.specs.Files.{IsFoundIn, IsEmptyBook, IsFoundBook, WhereClean, PutsAway, Copies, Leaves, IsFileFault, IsAbsenceOr, IsNotMade, IsNotOpened};
 
+use crate::front::fault_of_front;
 use s10_book::Settings;
 use s10_ledger::{OpenFault, Refused, SqlBook};
-use sqlite::{Connection, Error, ErrorCode, FileFrom, FileStore, Files, Leftover, Start};
+use sqlite::{Connection, Error, ErrorCode, FileFrom, FileStore, Files, Start};
 use std::fs;
+use std::fs::OpenOptions;
 
 /// A connection over a file.
 pub type FileConnection<S> = Connection<FileStore<FileFrom<S>>>;
@@ -78,7 +80,7 @@ pub fn leave_files<S: Start>(connection: FileConnection<S>) -> ClosedFiles<S>
 }
 
 /// Opens a file that is there as a database. One that is not there is no ledger, and is not made; in
-/// a folder that is not there it could not be.
+/// a folder that is not there it could not be. One whose front is no database's is not opened.
 pub fn connect_to_ledger<S: Start>(
     rt: &HostRuntime,
     path: &str,
@@ -89,7 +91,10 @@ pub fn connect_to_ledger<S: Start>(
     ensures refused { IfErr result (IsAbsenceOr IsFileFault) }
 {
     match fs::exists(rt, path) {
-        Ok(true) => connect(rt, path, start),
+        Ok(true) => match fault_of_front(rt, path) {
+            None => connect(rt, path, start),
+            Some(fault) => Err(fault),
+        },
         Ok(false) => Err(absence(rt, path)),
         Err(_) => Err(OpenFault::Store),
     }
@@ -116,15 +121,27 @@ fn connect<S: Start>(rt: &HostRuntime, path: &str, start: S) -> Result<FileConne
 {
     match Connection::open_from(rt, path, false, start) {
         Ok(connection) => Ok(connection),
-        Err(failed) => Err(fault_of_opening(failed)),
+        Err((error, _files)) => {
+            tell_cause(rt, path, &error);
+            Err(fault_of_opening(&error))
+        }
     }
 }
 
-fn fault_of_opening<S: Start>(failed: (Error, Option<Leftover<FileFrom<S>>>)) -> OpenFault
+// Says on standard error why a file could not be opened, in the system's words where these say more.
+fn tell_cause(rt: &HostRuntime, path: &str, error: &Error) {
+    let opened = OpenOptions::new().read(true).write(true).open(rt, path);
+    let _ = match opened {
+        Err(cause) => eprintln!(rt; "cannot open {path}: {cause}"),
+        Ok(_) => eprintln!(rt; "cannot open {path}: {error}"),
+    };
+}
+
+fn fault_of_opening(error: &Error) -> OpenFault
     ensures { IsFileFault result }
 {
-    match failed {
-        (Error::SqliteFailure(ErrorCode::OutOfMemory), _) => OpenFault::Memory,
+    match error {
+        Error::SqliteFailure(ErrorCode::OutOfMemory) => OpenFault::Memory,
         _ => OpenFault::Store,
     }
 }

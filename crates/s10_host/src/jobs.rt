@@ -1,20 +1,23 @@
 //! The subcommands over files, sockets and the clock. `S` stands for what the files held.
 
-ghost use Rattle.std.specs.Prelude.{◌≡◌, codes, Some, Ok, IfOk, IsSomeAnd};
+ghost use Rattle.std.specs.Prelude.{◌≡◌, codes, None, Ok, Err, IsOk, IfOk, IfErr, IfSome};
 ghost use Rattle.std.specs.Io.KnownBytes.{Appends};
 ghost use Rattle.s10_host.specs.Looped.{loop_requests, AreDone};
 ghost use Rattle.s10_jobs.specs.Shown.{Prints};
-ghost use Rattle.s10_host.specs.Jobs.{HasMade, IsServed, HasServed, IsReported, HasReported, HasAudited, HasDone};
+ghost use Rattle.s10_rows.specs.declared.open_fault.OpenFault.{OpenFault};
+ghost use Rattle.s10_host.specs.Files.{IsNotMade};
+ghost use Rattle.s10_host.specs.Jobs.{ledger_line, HasMade, HasCreated, IsServed, IsLost, IsUnlinked, HasServed, IsReported, IsReportedAndLost, HasReported, HasAudited, HasEnded};
 
 use crate::audit::run_audit;
 use crate::files::{
     ClosedFiles, FileBook, close_book, connect_to_ledger, create_book, leave_files, open_book,
 };
+use crate::left::Left;
 use crate::loopback::run_loop;
 use crate::questioning::run_question;
 use crate::serving::serve_at;
 use s10_book::Settings;
-use s10_ends::Server;
+use s10_ends::{Server, UdpLink};
 use s10_jobs::{
     Job, Report, Status, day_or_today, fail_by_clock, fail_by_ledger, refuse, write_report,
 };
@@ -24,54 +27,54 @@ use s10_wire::{WriteFault, write_text};
 use sqlite::Start;
 use std::io::Write;
 
-/// What came of a job, and the files of its ledger, where they were closed.
-type Ended<S> = (Result<Status, WriteFault>, Option<ClosedFiles<S>>);
+/// What came of a job, and what it leaves behind it.
+type Ended<S> = (Result<Status, WriteFault>, Left<S>);
 
-/// Does a job, and answers its exit status, and the files of its ledger where there are any.
+/// What came of a job over the ledger of a file alone, and its files, where they were closed.
+type Closed<S> = (Result<Status, WriteFault>, Option<ClosedFiles<S>>);
+
+/// Does a job, and answers how it ended, and what it leaves behind it.
 pub fn run_job<S: Start, W: Write>(
     rt: &HostRuntime,
     job: &Job<'_>,
     start: S,
     out: &mut W,
-) -> (u8, Option<ClosedFiles<S>>)
-    ensures { result.0 ≡ 0 → HasDone S.row S.Start job.now (W.contents out.old) (W.contents out.new) result.1 }
+) -> (Result<Status, WriteFault>, Left<S>)
+    ensures { HasEnded S.row S.Start job.now (W.contents out.old) (W.contents out.new) result.0 result.1.files result.1.link }
 {
     match job {
         Job::Create { ledger, settings } => {
-            with_status(run_create(rt, *ledger, *settings, start, out))
+            with_files(run_create(rt, *ledger, *settings, start, out))
         }
         Job::Serve {
             ledger,
             bind,
             count,
             day,
-        } => with_status(run_serve(rt, *ledger, *bind, *count, *day, start, out)),
-        Job::Ask(question) => (status_of(run_question(rt, question, out)), None),
+        } => run_serve(rt, *ledger, *bind, *count, *day, start, out),
+        Job::Ask(question) => with_link(run_question(rt, question, out)),
         Job::Report {
             ledger,
             is_of_issues,
             day,
-        } => with_status(run_report(rt, *ledger, *is_of_issues, *day, start, out)),
-        Job::Audit { ledger } => audit_file(rt, *ledger, start, out),
-        Job::Loop { day } => (run_loop_on(rt, *day, out), None),
+        } => with_files(run_report(rt, *ledger, *is_of_issues, *day, start, out)),
+        Job::Audit { ledger } => with_files(audit_file(rt, *ledger, start, out)),
+        Job::Loop { day } => with_link((run_loop_on(rt, *day, out), None)),
     }
 }
 
-fn status_of(done: Result<Status, WriteFault>) -> u8
-    ensures { result ≡ 0 → done ≡ Ok Status.Done }
+fn with_files<S: Start>(closed: Closed<S>) -> Ended<S>
+    ensures same { (result.0 ≡ closed.0) × (result.1.files ≡ closed.1) }
 {
-    match done {
-        Ok(status) => status as u8,
-        Err(WriteFault) => Status::Failed as u8,
-    }
+    let (done, files) = closed;
+    (done, Left { files, link: None })
 }
 
-fn with_status<T>(ended: (Result<Status, WriteFault>, T)) -> (u8, T)
-    ensures done { result.0 ≡ 0 → ended.0 ≡ Ok Status.Done }
-    ensures same { result.1 ≡ ended.1 }
+fn with_link<S: Start>(asked: (Result<Status, WriteFault>, Option<UdpLink>)) -> Ended<S>
+    ensures same { (result.0 ≡ asked.0) × (result.1.link ≡ asked.1) }
 {
-    let (done, files) = ended;
-    (status_of(done), files)
+    let (done, link) = asked;
+    (done, Left { files: None, link })
 }
 
 // `created` is printed once the ledger is in its file.
@@ -81,9 +84,8 @@ fn run_create<S: Start, W: Write>(
     settings: Settings,
     start: S,
     out: &mut W,
-) -> Ended<S>
-    ensures made { result.0 ≡ Ok Status.Done → IsSomeAnd result.1 (HasMade S.row S.Start settings) }
-    ensures told { result.0 ≡ Ok Status.Done → Appends (W.contents out.old) (W.contents out.new) (codes "created\n") }
+) -> Closed<S>
+    ensures { HasCreated S.row S.Start settings (W.contents out.old) (W.contents out.new) result.0 result.1 }
 {
     match make_ledger(rt, ledger, settings, start) {
         Ok(files) => (write_created(out), Some(files)),
@@ -92,7 +94,7 @@ fn run_create<S: Start, W: Write>(
 }
 
 fn write_created<W: Write>(out: &mut W) -> Result<Status, WriteFault>
-    ensures { IfOk result (λ _. Appends (W.contents out.old) (W.contents out.new) (codes "created\n")) }
+    ensures { IfOk result (λ status. (status ≡ Status.Done) × Appends (W.contents out.old) (W.contents out.new) (codes "created\n")) }
 {
     write_text(b"created\n", out)?;
     Ok(Status::Done)
@@ -104,7 +106,8 @@ fn make_ledger<S: Start>(
     settings: Settings,
     start: S,
 ) -> Result<ClosedFiles<S>, OpenFault>
-    ensures { IfOk result (HasMade S.row S.Start settings) }
+    ensures made { IfOk result (HasMade S.row S.Start settings) }
+    ensures refused { IfErr result (IsNotMade S.row S.Start) }
 {
     match create_book(rt, ledger, settings, start) {
         Ok(book) => close_book(book),
@@ -121,15 +124,15 @@ fn run_serve<S: Start, W: Write>(
     start: S,
     out: &mut W,
 ) -> Ended<S>
-    ensures { result.0 ≡ Ok Status.Done → IsSomeAnd result.1 (HasServed S.row S.Start day count (W.contents out.old) (W.contents out.new)) }
+    ensures { HasServed S.row S.Start bind.now day count (W.contents out.old) (W.contents out.new) result.0 result.1.files result.1.link }
 {
     let Some(at) = Peer::read(bind.as_bytes()) else {
-        return (refuse(b"peer", out), None);
+        return with_link((refuse(b"peer", out), None));
     };
     tell_opening(rt, ledger);
     match open_book(rt, ledger, start) {
         Ok(book) => serve_book(rt, at, book, count, day, out),
-        Err(fault) => (fail_by_ledger(fault, out), None),
+        Err(fault) => with_link((fail_by_ledger(fault, out), None)),
     }
 }
 
@@ -147,12 +150,15 @@ fn serve_book<S: Start, W: Write>(
     day: Option<u32>,
     out: &mut W,
 ) -> Ended<S>
-    ensures { result.0 ≡ Ok Status.Done → IsSomeAnd result.1 (IsServed S.row S.Start book day count (W.contents out.old) (W.contents out.new)) }
+    ensures served { IfSome result.1.link (λ link. IfSome result.1.files (IsServed S.row S.Start book day count (W.contents out.old) (W.contents out.new) result.0 link)) }
+    ensures lost { IfSome result.1.link (λ link. result.1.files ≡ None → IsLost S.row S.Start book day count (W.contents out.old) (W.contents out.new) result.0 link) }
+    ensures unlinked { result.1.link ≡ None → IsUnlinked S.row S.Start book (W.contents out.old) (W.contents out.new) result.0 result.1.files }
 {
     let mut server = Server::new(book);
-    let served = serve_at(rt, at, &mut server, count, day, out);
+    let (served, link) = serve_at(rt, at, &mut server, count, day, out);
     let closed = close_book(server.into_book());
-    ended(served, closed, out)
+    let (done, files) = ended(served, closed, out);
+    (done, Left { files, link })
 }
 
 // The day is known before the ledger is opened.
@@ -163,8 +169,8 @@ fn run_report<S: Start, W: Write>(
     day: Option<u32>,
     start: S,
     out: &mut W,
-) -> Ended<S>
-    ensures { result.0 ≡ Ok Status.Done → IsSomeAnd result.1 (HasReported S.row S.Start is_of_issues day (W.contents out.old) (W.contents out.new)) }
+) -> Closed<S>
+    ensures { HasReported S.row S.Start is_of_issues day (W.contents out.old) (W.contents out.new) result.0 result.1 }
 {
     let Some(report) = Report::new(rt, is_of_issues, day) else {
         return (fail_by_clock(out), None);
@@ -175,8 +181,9 @@ fn run_report<S: Start, W: Write>(
     }
 }
 
-fn report_on<S: Start, W: Write>(mut book: FileBook<S>, report: Report, out: &mut W) -> Ended<S>
-    ensures { result.0 ≡ Ok Status.Done → IsSomeAnd result.1 (IsReported S.row S.Start book report (W.contents out.old) (W.contents out.new)) }
+fn report_on<S: Start, W: Write>(mut book: FileBook<S>, report: Report, out: &mut W) -> Closed<S>
+    ensures reported { IfSome result.1 (IsReported S.row S.Start book report (W.contents out.old) (W.contents out.new) result.0) }
+    ensures lost { result.1 ≡ None → IsReportedAndLost S.row S.Start book report (W.contents out.old) (W.contents out.new) result.0 }
 {
     let written = write_report(&mut book, report, out);
     let closed = close_book(book);
@@ -189,7 +196,9 @@ fn ended<T, W: Write>(
     closed: Result<T, OpenFault>,
     out: &mut W,
 ) -> (Result<Status, WriteFault>, Option<T>)
-    ensures { result.0 ≡ Ok Status.Done → (done ≡ Ok Status.Done) × IsSomeAnd result.1 (λ files. closed ≡ Ok files) × (W.contents out.new ≡ W.contents out.old) }
+    ensures kept { IfSome result.1 (λ files. (closed ≡ Ok files) × (result.0 ≡ done) × (W.contents out.new ≡ W.contents out.old)) }
+    ensures lost { result.1 ≡ None → (fault : OpenFault) × (closed ≡ Err fault) × IfOk result.0 (λ status. IsOk done × (status ≡ Status.Failed)
+        × Appends (W.contents out.old) (W.contents out.new) (ledger_line fault)) }
 {
     match closed {
         Ok(files) => (done, Some(files)),
@@ -202,7 +211,8 @@ fn fail_by_closing<W: Write>(
     fault: OpenFault,
     out: &mut W,
 ) -> Result<Status, WriteFault>
-    ensures { IfOk result (λ status. status ≡ Status.Failed) }
+    ensures { IfOk result (λ status. IsOk done × (status ≡ Status.Failed)
+        × Appends (W.contents out.old) (W.contents out.new) (ledger_line fault)) }
 {
     let _status = done?;
     fail_by_ledger(fault, out)
@@ -213,23 +223,27 @@ fn audit_file<S: Start, W: Write>(
     ledger: &str,
     start: S,
     out: &mut W,
-) -> (u8, Option<ClosedFiles<S>>)
-    ensures { result.0 ≡ 0 → IsSomeAnd result.1 (HasAudited S.row S.Start (W.contents out.old) (W.contents out.new)) }
+) -> Closed<S>
+    ensures { HasAudited S.row S.Start (W.contents out.old) (W.contents out.new) result.0 result.1 }
 {
     match connect_to_ledger(rt, ledger, start) {
         Ok(connection) => {
-            let (status, left) = run_audit(rt.alloc(), connection, out);
-            (status, Some(leave_files(left)))
+            let (audited, left) = run_audit(rt.alloc(), connection, out);
+            (audited, Some(leave_files(left)))
         }
-        Err(fault) => (status_of(fail_by_ledger(fault, out)), None),
+        Err(fault) => (fail_by_ledger(fault, out), None),
     }
 }
 
-fn run_loop_on<W: Write>(rt: &HostRuntime, day: Option<u32>, out: &mut W) -> u8
-    ensures { result ≡ 0 → Prints (W.contents out.old) (W.contents out.new) (AreDone loop_requests) }
+fn run_loop_on<W: Write>(
+    rt: &HostRuntime,
+    day: Option<u32>,
+    out: &mut W,
+) -> Result<Status, WriteFault>
+    ensures { result ≡ Ok Status.Done → Prints (W.contents out.old) (W.contents out.new) (AreDone loop_requests) }
 {
     match day_or_today(rt, day) {
         Some(day) => run_loop(rt, day, out),
-        None => status_of(fail_by_clock(out)),
+        None => fail_by_clock(out),
     }
 }

@@ -3,7 +3,9 @@
 
 mod audit;
 mod files;
+mod front;
 mod jobs;
+mod left;
 mod loopback;
 mod memory;
 mod questioning;
@@ -13,6 +15,7 @@ mod waiting;
 
 pub use audit::run_audit;
 pub use jobs::run_job;
+pub use left::Left;
 pub use loopback::run_loop;
 pub use questioning::run_question;
 pub use replays::{replay, run_replay};

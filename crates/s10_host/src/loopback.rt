@@ -28,20 +28,9 @@ const TRIES: u32 = 5;
 
 /// Makes a ledger in memory with a reuse interval of 30 days, serves it on this day over a socket of this machine, and
 /// writes the lines of five calls to it over another: the post grants RA GB 0 to 2 to customer 7, who draws twice,
-/// voids the first identifier and asks about it. Answers the exit status: 0 where all were done. The first call that is
-/// not done ends the run; a fault of the ledger or of a socket is written, and its status is 3, as where the output
-/// failed.
-pub fn run_loop<N: Net + AllocGlobal, W: Write>(rt: &N, day: u32, output: &mut W) -> u8
-    ensures { result ≡ 0 → Prints (W.contents output.old) (W.contents output.new) (AreDone loop_requests) }
-{
-    match run_calls(rt, day, output) {
-        Ok(Status::Done) => 0,
-        Ok(Status::Refused) => 1,
-        _ => 3,
-    }
-}
-
-fn run_calls<N: Net + AllocGlobal, W: Write>(
+/// voids the first identifier and asks about it. Done where all were; the first call that is not ends the run, and a fault
+/// of the ledger or of a socket is written.
+pub fn run_loop<N: Net + AllocGlobal, W: Write>(
     rt: &N,
     day: u32,
     out: &mut W,

@@ -1,13 +1,13 @@
 //! A request over a socket of its own.
 
-ghost use Rattle.std.specs.Prelude.{◌≡◌, ℕ, List, Result, IfOk};
+ghost use Rattle.std.specs.Prelude.{◌≡◌, ℕ, List, Result, None, IfOk, IfSome};
 ghost use Rattle.std.specs.Io.KnownBytes.{Appends};
 ghost use Rattle.s10_wire.specs.declared.reply.Reply.{Reply};
 ghost use Rattle.s10_ends.specs.declared.call_fault.CallFault.{CallFault};
 ghost use Rattle.s10_ends.specs.Calls.{Calls};
 ghost use Rattle.s10_ends.specs.Client.{ClientState, new_client};
 ghost use Rattle.s10_jobs.specs.Asked.{asked_status, asked_line};
-ghost use Rattle.s10_host.specs.Questioning.{IsAnswer};
+ghost use Rattle.s10_host.specs.Questioning.{IsUnasked, IsAsked};
 
 use crate::waiting::WAIT;
 use s10_ends::{Client, UdpLink};
@@ -23,25 +23,27 @@ const UNSPECIFIED: Peer = Peer {
     port: 0,
 };
 
-/// Asks a server, and writes the line of its reply, or of what failed. A text that does not read is
-/// refused before there is a socket.
+/// Asks a server over a socket of its own, and writes the line of its reply, or of what failed. A text that does not read
+/// is refused before there is a socket. Answers the link too: None where nothing was asked.
 pub fn run_question<N: Net, W: Write>(
     net: &N,
     question: &Question<'_>,
     out: &mut W,
-) -> Result<Status, WriteFault>
-    ensures { IfOk result (λ status. (line : List ℕ) × IsAnswer question.now status line
+) -> (Result<Status, WriteFault>, Option<UdpLink>)
+    ensures unasked { result.1 ≡ None → IfOk result.0 (λ status. (line : List ℕ) × IsUnasked question.now status line
         × Appends (W.contents out.old) (W.contents out.new) line) }
+    ensures asked { IfSome result.1 (λ link. IsAsked question.now link (W.contents out.old) (W.contents out.new) result.0) }
 {
     let (to, body) = match question.read() {
         Ok(read) => read,
-        Err(refusal) => return write_refusal(refusal, out),
+        Err(refusal) => return (write_refusal(refusal, out), None),
     };
     let mut link = match UdpLink::bind(net, UNSPECIFIED, WAIT) {
         Ok(link) => link,
-        Err(fault) => return fail_by_link(fault, out),
+        Err(fault) => return (fail_by_link(fault, out), None),
     };
-    ask_once(question, &mut link, to, body, out)
+    let asked = ask_once(question, &mut link, to, body, out);
+    (asked, Some(link))
 }
 
 // Asks under the one number of the question.

@@ -1,8 +1,10 @@
 //! A replay over a new ledger in memory.
 
-ghost use Rattle.std.specs.Prelude.{[], List, IfSome};
+ghost use Rattle.std.specs.Prelude.{[], ℕ, List, Option, Result, IfSome};
 ghost use Rattle.s10_book.specs.declared.entry.Entry.{Entry};
 ghost use Rattle.s10_jobs.specs.Replay.{Replayed};
+ghost use Rattle.s10_jobs.specs.declared.replay_fault.ReplayFault.{ReplayFault};
+ghost use Rattle.s10_host.specs.Replays.{TellsReplay};
 
 use crate::memory::let_go;
 use s10_book::Settings;
@@ -41,7 +43,11 @@ pub fn run_replay<R: Read, W: Write>(
     settings: Settings,
     input: &mut R,
     output: &mut W,
-) -> Result<Status, WriteFault> {
+) -> Result<Status, WriteFault>
+    ensures { IfSome (R.remaining input.old) (λ bytes. IfSome (W.contents output.old) (λ held.
+        (after : List Entry) × (replayed : Result ℕ ReplayFault) × (between : Option (List ℕ))
+        × Replayed [] settings bytes held between replayed after × TellsReplay replayed between (W.contents output.new) result)) }
+{
     match replay(alloc, settings, input, output) {
         Ok(_) => Ok(Status::Done),
         Err(fault) => write_replay_fault(fault, output),

@@ -1,7 +1,6 @@
 //! The turns of a server, over a socket of its own.
 
-ghost use Rattle.std.specs.Prelude.{◌⊎◌};
-ghost use Rattle.s10_link.specs.declared.trace.Trace.{Trace};
+ghost use Rattle.std.specs.Prelude.{◌≡◌, None, IfSome};
 ghost use Rattle.s10_link.specs.Trace.{new_trace};
 ghost use Rattle.s10_ends.specs.Server.{book_of};
 ghost use Rattle.s10_jobs.specs.Serving.{IsTurn, Serves};
@@ -17,7 +16,8 @@ use std::io::Write;
 use std::net::Net;
 use std::time::Clock;
 
-/// Serves at the address, and says on standard error where that is.
+/// Serves at the address, and says on standard error where that is. Answers the link too: None where the address cannot
+/// be had.
 pub fn serve_at<R, B, W>(
     rt: &R,
     at: Peer,
@@ -25,22 +25,23 @@ pub fn serve_at<R, B, W>(
     count: u32,
     day: Option<u32>,
     out: &mut W,
-) -> Result<Status, WriteFault>
+) -> (Result<Status, WriteFault>, Option<UdpLink>)
 where
     R: Net + Clock + Eprint,
     B: Book,
     W: Write,
-    ensures { IsUnbound (book_of server.old) (book_of server.new) (W.contents out.old) (W.contents out.new) result
-        ⊎ ((left : Trace) × Serves (IsTurn B.faults B.honest B.terms B.history day)
-        (new_trace, book_of server.old) (left, book_of server.new)
-        (W.contents out.old) (W.contents out.new) count result) }
+    ensures unbound { result.1 ≡ None → IsUnbound (book_of server.old) (book_of server.new) (W.contents out.old) (W.contents out.new) result.0 }
+    ensures served { IfSome result.1 (λ link. Serves (IsTurn B.faults B.honest B.terms B.history day)
+        (new_trace, book_of server.old) (link.trace, book_of server.new)
+        (W.contents out.old) (W.contents out.new) count result.0) }
 {
     let mut link = match UdpLink::bind(rt, at, WAIT) {
         Ok(link) => link,
-        Err(fault) => return fail_by_link(fault, out),
+        Err(fault) => return (fail_by_link(fault, out), None),
     };
     tell_address(rt, link.local());
-    serve_turns(rt, server, &mut link, count, day, out)
+    let served = serve_turns(rt, server, &mut link, count, day, out);
+    (served, Some(link))
 }
 
 // The turns go on where standard error is closed.

@@ -2,21 +2,22 @@
 
 use s10_cli::parse_job;
 use s10_host::run_job;
+use s10_jobs::Status;
 use sqlite::Unknown;
 
 /// Whether the job of a command line has this status and prints this line.
-fn ends_with(rt: &HostRuntime, words: &[&str], status: u8, line: &[u8]) -> bool {
+fn ends_with(rt: &HostRuntime, words: &[&str], status: Status, line: &[u8]) -> bool {
     let Some(job) = parse_job(rt.alloc(), words) else {
         return false;
     };
     let mut output = Vec::new(rt.alloc());
-    let (ended, _files) = run_job(rt, &job, Unknown, &mut output);
-    ended == status && output.as_slice() == line
+    let (ended, _left) = run_job(rt, &job, Unknown, &mut output);
+    ended == Ok(status) && output.as_slice() == line
 }
 
 #[test]
 fn what_cannot_be_done_has_its_line_and_status(rt: HostRuntime) {
-    let cases: [(&[&str], u8, &[u8]); 5] = [
+    let cases: [(&[&str], Status, &[u8]); 5] = [
         (
             &[
                 "s10",
@@ -28,7 +29,7 @@ fn what_cannot_be_done_has_its_line_and_status(rt: HostRuntime) {
                 "--limit",
                 "100",
             ],
-            3,
+            Status::Failed,
             b"ledger store\n",
         ),
         (
@@ -42,7 +43,7 @@ fn what_cannot_be_done_has_its_line_and_status(rt: HostRuntime) {
                 "--count",
                 "1",
             ],
-            1,
+            Status::Refused,
             b"refused peer\n",
         ),
         (
@@ -56,17 +57,17 @@ fn what_cannot_be_done_has_its_line_and_status(rt: HostRuntime) {
                 "--count",
                 "1",
             ],
-            3,
+            Status::Failed,
             b"ledger store\n",
         ),
         (
             &["s10", "report", "--ledger", "nowhere/a.db", "--issues"],
-            3,
+            Status::Failed,
             b"ledger store\n",
         ),
         (
             &["s10", "audit", "--ledger", "nothing.db"],
-            3,
+            Status::Failed,
             b"ledger not-a-ledger\n",
         ),
     ];

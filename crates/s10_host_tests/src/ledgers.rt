@@ -5,10 +5,10 @@ use s10_book::{Book, PlainBook, Settings, write_issues, write_ranges};
 use s10_core::{Country, Id, Serial, Service};
 use s10_ends::{Answer, Delivery, Server};
 use s10_host::run_audit;
-use s10_jobs::write_answer;
+use s10_jobs::{Status, write_answer};
 use s10_ledger::{OpenFault, SqlBook};
 use s10_link::Packet;
-use s10_wire::{Body, Request, encode_request};
+use s10_wire::{Body, Request, WriteFault, encode_request};
 use sqlite::{Connection, MemStore};
 use std::alloc::{AllocError, Global};
 use std::io::Write;
@@ -170,43 +170,58 @@ fn reports_of_tables_are_as_worked_by_hand(rt: HostRuntime) -> Result<(), Fail> 
     Ok(())
 }
 
-/// The status of an audit.
+/// How an audit ended.
 fn audited<R: Abort + AllocGlobal, W: Write>(
     rt: &R,
     connection: Connection<MemStore>,
     out: &mut W,
-) -> u8 {
+) -> Result<Status, WriteFault> {
     assert!(rt; connection.is_autocommit());
-    let (status, _left) = run_audit(rt.alloc(), connection, out);
-    status
+    let (done, _left) = run_audit(rt.alloc(), connection, out);
+    done
 }
 
-/// An audit of the connection has this status and prints this line.
+/// An audit of the connection ends with this status and prints this line.
 fn audit<R: Abort + AllocGlobal>(
     rt: &R,
     connection: Connection<MemStore>,
-    status: u8,
+    status: Status,
     line: &str,
     change: &str,
 ) {
     let mut out = Vec::new(rt.alloc());
-    assert_eq!(rt; audited(rt, connection, &mut out), status, "{change}");
+    assert_eq!(rt; audited(rt, connection, &mut out), Ok(status), "{change}");
     assert_eq!(rt; out.as_slice(), line.as_bytes(), "{change}");
 }
 
 #[test]
 fn ledger_as_it_was_kept_is_sound(rt: HostRuntime) -> Result<(), Fail> {
-    audit(&rt, worked_ledger(&rt)?, 0, "ledger ok 9\n", "none");
+    audit(
+        &rt,
+        worked_ledger(&rt)?,
+        Status::Done,
+        "ledger ok 9\n",
+        "none",
+    );
     let empty = tables(new_server(rt.alloc(), settings(&rt))?);
-    audit(&rt, empty, 0, "ledger ok 0\n", "none");
-    assert_eq!(rt; audited(&rt, worked_ledger(&rt)?, &mut Refusing), 3);
+    audit(&rt, empty, Status::Done, "ledger ok 0\n", "none");
+    assert_eq!(rt;
+        audited(&rt, worked_ledger(&rt)?, &mut Refusing),
+        Err(WriteFault)
+    );
     Ok(())
 }
 
 #[test]
 fn database_without_tables_is_no_ledger(rt: HostRuntime) -> Result<(), Fail> {
     let connection = Connection::open_in_memory(rt.alloc())?;
-    audit(&rt, connection, 3, "ledger not-a-ledger\n", "no tables");
+    audit(
+        &rt,
+        connection,
+        Status::Failed,
+        "ledger not-a-ledger\n",
+        "no tables",
+    );
     Ok(())
 }
 
@@ -269,7 +284,7 @@ fn one_change_of_the_tables_is_found(rt: HostRuntime) -> Result<(), Fail> {
         let mut connection = worked_ledger(&rt)?;
         connection.execute(change, &[])?;
         let line = format!(in rt.alloc(); "ledger {fault}\n")?;
-        audit(&rt, connection, 3, &line, change);
+        audit(&rt, connection, Status::Failed, &line, change);
     }
     Ok(())
 }

@@ -2,6 +2,8 @@
 
 use crate::refusing::Refusing;
 use s10_host::run_loop;
+use s10_jobs::Status;
+use s10_wire::WriteFault;
 use std::net::Net;
 
 const LINES: &str = "\
@@ -15,9 +17,9 @@ reply query customer 7 number 4 RA000000005GB done voided 20000
 /// Whether a loop prints the five replies, on a writer that takes them alone.
 fn prints_five_replies<N: Net + AllocGlobal>(net: &N) -> bool {
     let mut out = Vec::new(net.alloc());
-    run_loop(net, 20_000, &mut out) == 0
+    run_loop(net, 20_000, &mut out) == Ok(Status::Done)
         && out.as_slice() == LINES.as_bytes()
-        && run_loop(net, 20_000, &mut Refusing) == 3
+        && run_loop(net, 20_000, &mut Refusing) == Err(WriteFault)
 }
 
 #[test]

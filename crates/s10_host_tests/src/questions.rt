@@ -38,9 +38,9 @@ fn is_told<N: Net>(
     line: &str,
 ) -> bool {
     let mut out = Vec::new(alloc);
-    run_question(net, question, &mut out) == Ok(status)
-        && out.as_slice() == line.as_bytes()
-        && run_question(net, question, &mut Refusing) == Err(WriteFault)
+    let (done, _link) = run_question(net, question, &mut out);
+    let (failed, _other) = run_question(net, question, &mut Refusing);
+    done == Ok(status) && out.as_slice() == line.as_bytes() && failed == Err(WriteFault)
 }
 
 #[test]

@@ -26,7 +26,7 @@ fn is_served_at<R: Net + Clock + Eprint + AllocGlobal>(
     let settings = Settings::new(30, 2).ok_or("settings")?;
     let mut server = Server::new(PlainBook::new(rt.alloc(), settings));
     let mut out = Vec::new(rt.alloc());
-    let served = serve_at(rt, at, &mut server, count, Some(20_000), &mut out);
+    let (served, _link) = serve_at(rt, at, &mut server, count, Some(20_000), &mut out);
     Ok(served == Ok(status) && out.as_slice() == text.as_bytes())
 }
 

@@ -22,13 +22,14 @@ pub enum Report {
 }
 
 impl Report {
-    ghost use Rattle.std.specs.Prelude.{◌≡◌, ℕ, true, false, Some};
+    ghost use Rattle.std.specs.Prelude.{◌≡◌, ℕ, true, false, Some, IfSome};
 
     /// The report of the issues, or that of the ranges on a day, for which alone the clock is read
     /// where no day is given. `None` where the clock gives none.
     pub fn new<C: Clock>(clock: &C, is_of_issues: bool, day: Option<u32>) -> Option<Report>
         ensures issues { is_of_issues ≡ true → result ≡ Some Report.Issues }
         ensures ranges { (d : ℕ) → is_of_issues ≡ false → day ≡ Some d → result ≡ Some (Report.Ranges d) }
+        ensures of_a_day { is_of_issues ≡ false → IfSome result (λ r. (d : ℕ) × (r ≡ Report.Ranges d)) }
     {
         if is_of_issues {
             return Some(Report::Issues);

@@ -1,0 +1,64 @@
+//! The front of a file that is to be opened as a database: a file that is none stays as it was, with nothing beside it.
+
+ghost use Rattle.std.specs.Prelude.{IfSome};
+ghost use Rattle.s10_host.specs.Files.{IsFileFault, IsAbsenceOr};
+
+use s10_ledger::OpenFault;
+use std::fs::File;
+use std::io::{ErrorKind, Read};
+use std::{fs, io};
+
+/// The first bytes of every database file.
+const MAGIC: [u8; 16] = *b"SQLite format 3\0";
+
+#[derive(Clone, Copy, Debug, PartialEq, Eq)]
+enum Front {
+    Empty,
+    Database,
+    Other,
+}
+
+/// Why a file that is there is no ledger, where its first bytes show it. None where a log stands beside it, which may hold
+/// its first pages, and where they cannot be read.
+pub(crate) fn fault_of_front(rt: &HostRuntime, path: &str) -> Option<OpenFault>
+    ensures { IfSome result (IsAbsenceOr IsFileFault) }
+{
+    match front_of(rt, path) {
+        Ok(Front::Empty) => Some(OpenFault::NotALedger),
+        Ok(Front::Other) => Some(OpenFault::Store),
+        Ok(Front::Database) | Err(_) => None,
+    }
+}
+
+fn front_of(rt: &HostRuntime, path: &str) -> io::Result<Front> {
+    let real = fs::canonicalize(rt, path)?;
+    let metadata = fs::metadata(rt, real.as_str())?;
+    if !metadata.is_file() || has_log(rt, real.as_str())? {
+        return Ok(Front::Database);
+    }
+    if metadata.len() == 0 {
+        return Ok(Front::Empty);
+    }
+    read_front(rt, real.as_str())
+}
+
+// The log stands beside the file that a link leads to.
+fn has_log(rt: &HostRuntime, path: &str) -> io::Result<bool> {
+    let log = format!(in rt.alloc(); "{path}-wal")?;
+    match fs::metadata(rt, log.as_str()) {
+        Ok(metadata) => Ok(metadata.len() > 0),
+        Err(error) if error.kind() == ErrorKind::NotFound => Ok(false),
+        Err(error) => Err(error),
+    }
+}
+
+fn read_front(rt: &HostRuntime, path: &str) -> io::Result<Front> {
+    let mut file = File::open(rt, path)?;
+    let mut front = [0u8; 16];
+    match file.read_exact(&mut front) {
+        Ok(()) if front == MAGIC => Ok(Front::Database),
+        Ok(()) => Ok(Front::Other),
+        Err(error) if error.kind() == ErrorKind::UnexpectedEof => Ok(Front::Other),
+        Err(error) => Err(error),
+    }
+}
