@@ -1,6 +1,7 @@
 pub mod Texts
 pub mod ReadLemmas
 pub mod StateLemmas
+pub mod RowByRow
 pub mod AnswerLemmas
 pub mod ArrivalLemmas
 pub mod RowLemmas

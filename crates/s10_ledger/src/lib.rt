@@ -11,6 +11,7 @@ mod reads;
 mod refused;
 mod row_reading;
 mod sql_book;
+mod streams;
 mod verdict;
 mod writes;
 
