@@ -16,7 +16,7 @@ pub mod MarkLemmas
 pub mod IssueLemmas
 pub mod Rising
 pub mod Alike
-pub mod Remade
+pub mod RemadeLemmas
 pub mod HistoryLemmas
 pub mod BookLemmas
 pub mod NewLedger

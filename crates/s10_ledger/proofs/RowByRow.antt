@@ -177,3 +177,7 @@ on_err (Err x) P e is h = h
 pub if_err : {T E : Type 0} (r : Result T E) (P : E → Type 0) (e : E) → r ≡ Err e → IfErr r P → P e
 if_err (Ok x) P e is h = absurd cc
 if_err (Err x) P e is h = let same : x ≡ e = cc in rw (← same) h
+
+pub if_ok : {T E : Type 0} (r : Result T E) (P : T → Type 0) (x : T) → r ≡ Ok x → IfOk r P → P x
+if_ok (Ok y) P x is h = let same : y ≡ x = cc in rw (← same) h
+if_ok (Err e) P x is h = absurd cc

@@ -9,6 +9,7 @@ mod making;
 mod opening;
 mod reads;
 mod refused;
+mod remade;
 mod row_reading;
 mod sql_book;
 mod streams;
