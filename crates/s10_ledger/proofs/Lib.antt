@@ -1,6 +1,7 @@
 pub mod Texts
 pub mod ReadLemmas
 pub mod StateLemmas
+pub mod RowByRow
 pub mod AnswerLemmas
 pub mod ArrivalLemmas
 pub mod RowLemmas
@@ -15,7 +16,7 @@ pub mod MarkLemmas
 pub mod IssueLemmas
 pub mod Rising
 pub mod Alike
-pub mod Remade
+pub mod RemadeLemmas
 pub mod HistoryLemmas
 pub mod BookLemmas
 pub mod NewLedger

@@ -125,13 +125,7 @@ refused_for db tables rows NotEmpty refusal = refusal
 refused_for db tables rows Memory refusal = tt
 refused_for db tables rows Store refusal = tt
 
--- the parts of the rows that were read
-pub these_tables : (heads : List HeadRow) (calls : List StoredCall) (ranges : List RangeRow) (serials : List SerialRow) (tables : Tables)
-    → heads ≡ tables.heads → calls ≡ tables.calls → ranges ≡ tables.ranges → serials ≡ tables.serials
-    → tables ≡ record { heads = heads; calls = calls; ranges = ranges; serials = serials }
-these_tables heads calls ranges serials tables a b c d = λ i. record { heads = sym a i; calls = sym b i; ranges = sym c i; serials = sym d i }
-
--- what was found twice of an answer
-pub both_found : {T E : Type 0} (r : Result T E) (P Q : T → Type 0) → IfOk r P → IfOk r Q → IfOk r (λ x. P x × Q x)
-both_found (Ok x) P Q p q = (p, q)
-both_found (Err e) P Q p q = tt
+-- what was found twice of an answer, of each of which that holds
+pub each_found : {T E X : Type 0} (r : Result T E) (F : X → Type 0) (P Q : X → T → Type 0) → ((x : X) → F x → IfOk r (P x)) → ((x : X) → F x → IfOk r (Q x)) → IfOk r (λ t. (x : X) → F x → P x t × Q x t)
+each_found (Ok t) F P Q p q = λ x f. (p x f, q x f)
+each_found (Err e) F P Q p q = tt

@@ -3,3 +3,4 @@ pub mod Settled
 pub mod Statements
 pub mod Ledger
 pub mod Refusals
+pub mod Remade

@@ -1,52 +1,64 @@
-//! All rows of the four tables are read.
+//! The rows of the four tables are read, those of the calls to be done again and dropped.
 
-ghost use Rattle.std.specs.Prelude.{◌≡◌, IfOk, OnOk, IsTrue};
+ghost use Rattle.std.specs.Prelude.{List, IfOk, OnOk, IsTrue};
 ghost use Rattle.sqlite.specs.Held.{state};
 ghost use Rattle.sqlite.specs.State.{HasCleanDisk};
+ghost use Rattle.s10_rows.specs.declared.head_row.HeadRow.{HeadRow};
+ghost use Rattle.s10_rows.specs.CallRow.{StoredCall};
 ghost use Rattle.s10_schema.specs.Schema.{IsLedgerSchema};
 ghost use Rattle.s10_ledger.specs.Settled.{IsSettled};
 ghost use Rattle.s10_ledger.specs.Statements.{Leaves};
-ghost use Rattle.s10_ledger.specs.Refusals.{HasRows};
+ghost use Rattle.s10_ledger.specs.Remade.{HasKept, HasMade, IsRemade, AreRead};
 
 use crate::reads::{all_calls, all_heads, all_ranges, all_serials};
-use s10_rows::{CallRow, HeadRow, RangeRow, SerialRow};
+use crate::remade::Remade;
+use s10_rows::{CallRow, HeadRow, OpenFault, RangeRow, SerialRow};
 use sqlite::{Alter, Connection, Error};
 use std::alloc::Global;
-use std::marker::Model;
 
-// The rows of the four tables, those of `calls` in order of arrival.
-#[derive(Drop)]
-pub(crate) struct AllRows {
-    pub(crate) heads: Vec<HeadRow>,
-    pub(crate) calls: Vec<CallRow>,
-    pub(crate) ranges: Vec<RangeRow>,
-    pub(crate) serials: Vec<SerialRow>,
+// The rows of `head`, and those of `calls` in order of arrival.
+fn kept_rows<S: Alter>(
+    alloc: Global,
+    conn: &mut Connection<S>,
+) -> Result<(Vec<HeadRow>, Vec<CallRow>), Error>
+    ensures leaves { Leaves S.Store conn.old conn.new }
+    ensures opened { HasCleanDisk (state S.Store conn.new) → OnOk result (IsTrue (state S.Store conn.new).is_open) }
+    ensures rows { HasCleanDisk (state S.Store conn.new) → IsTrue (state S.Store conn.new).is_open → IsSettled S.Store conn.old → IsLedgerSchema (state S.Store conn.old).now.schema
+        → IfOk result (λ kept. HasKept (state S.Store conn.old).now kept.0.items kept.1.items) }
+{
+    let heads = all_heads(alloc, conn)?;
+    let calls = all_calls(alloc, conn)?;
+    Ok((heads, calls))
 }
 
-impl Model for AllRows {
-    ghost use Rattle.s10_rows.specs.Tables.{Tables};
-
-    ghost Value = { Tables };
-
-    ghost view = { λ r. record { heads = r.heads.items; calls = r.calls.items; ranges = r.ranges.items; serials = r.serials.items } };
+// The rows of `ranges` and of `serials`.
+fn made_rows<S: Alter>(
+    alloc: Global,
+    conn: &mut Connection<S>,
+) -> Result<(Vec<RangeRow>, Vec<SerialRow>), Error>
+    ensures leaves { Leaves S.Store conn.old conn.new }
+    ensures opened { HasCleanDisk (state S.Store conn.new) → OnOk result (IsTrue (state S.Store conn.new).is_open) }
+    ensures rows { HasCleanDisk (state S.Store conn.new) → IsTrue (state S.Store conn.new).is_open → IsSettled S.Store conn.old → IsLedgerSchema (state S.Store conn.old).now.schema
+        → IfOk result (λ made. HasMade (state S.Store conn.old).now made.0.items made.1.items) }
+{
+    let ranges = all_ranges(alloc, conn)?;
+    let serials = all_serials(alloc, conn)?;
+    Ok((ranges, serials))
 }
 
-impl AllRows {
-    pub(crate) fn read<S: Alter>(alloc: Global, conn: &mut Connection<S>) -> Result<AllRows, Error>
-        ensures leaves { Leaves S.Store conn.old conn.new }
-        ensures opened { HasCleanDisk (state S.Store conn.new) → OnOk result (IsTrue (state S.Store conn.new).is_open) }
-        ensures rows { HasCleanDisk (state S.Store conn.new) → IsTrue (state S.Store conn.new).is_open → IsSettled S.Store conn.old → IsLedgerSchema (state S.Store conn.old).now.schema
-            → IfOk result (HasRows (state S.Store conn.old).now) }
-    {
-        let heads = all_heads(alloc, conn)?;
-        let calls = all_calls(alloc, conn)?;
-        let ranges = all_ranges(alloc, conn)?;
-        let serials = all_serials(alloc, conn)?;
-        Ok(AllRows {
-            heads,
-            calls,
-            ranges,
-            serials,
-        })
-    }
+// What is found of the settings and the calls, and the rows that are to be compared with what these make.
+pub(crate) fn all_rows<S: Alter>(
+    alloc: Global,
+    conn: &mut Connection<S>,
+) -> Result<(Result<Remade, OpenFault>, Vec<RangeRow>, Vec<SerialRow>), Error>
+    ensures leaves { Leaves S.Store conn.old conn.new }
+    ensures opened { HasCleanDisk (state S.Store conn.new) → OnOk result (IsTrue (state S.Store conn.new).is_open) }
+    ensures rows { HasCleanDisk (state S.Store conn.new) → IsTrue (state S.Store conn.new).is_open → IsSettled S.Store conn.old → IsLedgerSchema (state S.Store conn.old).now.schema
+        → IfOk result (λ rows. AreRead (state S.Store conn.old).now rows.0 rows.1.items rows.2.items) }
+    ensures remade { IfOk result (λ rows. IfOk rows.0 (λ made. (heads : List HeadRow) × ((calls : List StoredCall) × IsRemade heads calls made))) }
+{
+    let (heads, calls) = kept_rows(alloc, conn)?;
+    let made = Remade::of(alloc, heads, calls);
+    let (ranges, serials) = made_rows(alloc, conn)?;
+    Ok((made, ranges, serials))
 }

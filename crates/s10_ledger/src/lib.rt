@@ -9,8 +9,10 @@ mod making;
 mod opening;
 mod reads;
 mod refused;
+mod remade;
 mod row_reading;
 mod sql_book;
+mod streams;
 mod verdict;
 mod writes;
 

@@ -7,7 +7,7 @@ ghost use Rattle.s10_ledger.specs.Settled.{IsSettled, WasSound};
 ghost use Rattle.s10_ledger.specs.Ledger.{IsLedger, IsMirrored};
 ghost use Rattle.s10_ledger.specs.Refusals.{IsOpeningRefusal};
 
-use crate::all_rows::AllRows;
+use crate::all_rows::all_rows;
 use crate::faults::opening_fault;
 use crate::refused::Refused;
 use crate::sql_book::SqlBook;
@@ -37,11 +37,12 @@ pub(crate) fn ledger_in<S: Alter>(
     if !is_ledger_schema(conn.schema()) {
         return Err(OpenFault::NotALedger);
     }
-    let rows = match AllRows::read(alloc, conn) {
+    let (made, ranges, serials) = match all_rows(alloc, conn) {
         Ok(rows) => rows,
         Err(error) => return Err(opening_fault(error)),
     };
-    verdict(alloc, &rows.heads, &rows.calls, &rows.ranges, &rows.serials)
+    let made = made?;
+    verdict(alloc, made, ranges, serials)
 }
 
 impl<S: Alter> SqlBook<S> {

@@ -18,7 +18,8 @@ ghost use Rattle.s10_rows.specs.Selected.{has_key_columns, arrives_between, is_w
 ghost use Rattle.s10_ledger.specs.Settled.{Spares};
 ghost use Rattle.s10_ledger.specs.Statements.{Leaves};
 
-use crate::row_reading::{calls_in, heads_in, numbered_serials_in, ranges_in, serials_in};
+use crate::row_reading::{heads_in, ranges_in, serials_in};
+use crate::streams::{calls_shown, numbered_serials_shown};
 use s10_rows::{CallRow, HeadRow, RangeRow, SerialRow};
 use sqlite::types::ValueRef;
 use sqlite::{Alter, Connection, Error, Row, params};
@@ -68,12 +69,12 @@ pub(crate) fn calls_with_key<S: Alter>(
     ensures rows { HasCleanDisk (state S.Store conn.new) → IfOk result (λ rows. (tables : Tables) → HasTables (state S.Store conn.old).now tables
         → HaveSameRows (filter (has_key_columns customer number) tables.calls) rows.items) }
 {
-    let rows = read(
+    calls_shown(
+        alloc,
         conn,
         "SELECT arrival, customer, number, day, reply FROM calls WHERE customer = ?1 AND number = ?2 ORDER BY arrival",
         params![customer, number],
-    )?;
-    calls_in(alloc, &rows)
+    )
 }
 
 /// The rows of `calls` whose arrival is from `low` to `high`.
@@ -88,12 +89,12 @@ pub(crate) fn calls_between<S: Alter>(
     ensures rows { HasCleanDisk (state S.Store conn.new) → IfOk result (λ rows. (tables : Tables) → HasTables (state S.Store conn.old).now tables
         → HaveSameRows (filter (arrives_between (pos low) (pos high)) tables.calls) rows.items) }
 {
-    let rows = read(
+    calls_shown(
+        alloc,
         conn,
         "SELECT arrival, customer, number, day, reply FROM calls WHERE arrival BETWEEN ?1 AND ?2 ORDER BY arrival",
         params![low, high],
-    )?;
-    calls_in(alloc, &rows)
+    )
 }
 
 /// All rows of `calls`, in order of arrival.
@@ -110,12 +111,12 @@ pub(crate) fn all_calls<S: Alter>(
     ensures sorted { HasCleanDisk (state S.Store conn.new) → IfOk result (λ rows. IsLedgerSchema (state S.Store conn.old).now.schema
         → IsAscending (λ a b. int_cmp a.arrival b.arrival ≢ Ordering.Greater) rows.items) }
 {
-    let rows = read(
+    calls_shown(
+        alloc,
         conn,
         "SELECT arrival, customer, number, day, reply FROM calls ORDER BY arrival",
         &[],
-    )?;
-    calls_in(alloc, &rows)
+    )
 }
 
 /// All rows of `ranges`, in order of their numbers.
@@ -172,10 +173,9 @@ pub(crate) fn all_serials<S: Alter>(
         → HaveSameRows (map shown_serial rows.items) (map serial_columns ((state S.Store conn.old).now.trees 4))) }
     ensures numbered { HasCleanDisk (state S.Store conn.new) → OnOk result (IsLedgerSchema (state S.Store conn.old).now.schema → AllByRecursion IsNumbered ((state S.Store conn.old).now.trees 4)) }
 {
-    let rows = read(
+    numbered_serials_shown(
+        alloc,
         conn,
         "SELECT pair, serial, arrival, day, customer, number, voided, rowid FROM serials ORDER BY pair, serial",
-        &[],
-    )?;
-    numbered_serials_in(alloc, &rows)
+    )
 }

@@ -32,7 +32,7 @@ fn head_in(row: &Row) -> Result<HeadRow, Error>
     })
 }
 
-fn call_in(row: &Row) -> Result<CallRow, Error>
+pub(crate) fn call_in(row: &Row) -> Result<CallRow, Error>
     ensures { IfOk result (λ call. shown_call call ≡ row.now) }
 {
     check_width(row, 5)?;
@@ -83,16 +83,6 @@ pub(crate) fn heads_in(alloc: Global, rows: &[Row]) -> Result<Vec<HeadRow>, Erro
     Ok(heads)
 }
 
-pub(crate) fn calls_in(alloc: Global, rows: &[Row]) -> Result<Vec<CallRow>, Error>
-    ensures { IfOk result (λ calls. map shown_call calls.items ≡ rows.now) }
-{
-    let mut calls = Vec::new(alloc);
-    for row in rows {
-        calls.push(call_in(row)?)?;
-    }
-    Ok(calls)
-}
-
 pub(crate) fn ranges_in(alloc: Global, rows: &[Row]) -> Result<Vec<RangeRow>, Error>
     ensures { IfOk result (λ ranges. map shown_range ranges.items ≡ rows.now) }
 {
@@ -114,7 +104,7 @@ pub(crate) fn serials_in(alloc: Global, rows: &[Row]) -> Result<Vec<SerialRow>, 
 }
 
 // A row with its rowid behind the columns.
-fn numbered_serial_in(row: &Row) -> Result<SerialRow, Error>
+pub(crate) fn numbered_serial_in(row: &Row) -> Result<SerialRow, Error>
     ensures columns { IfOk result (λ serial. shown_serial serial ≡ serial_front row.now) }
     ensures numbered { OnOk result (IsTrue (is_int (column row.now 7))) }
 {
@@ -128,15 +118,4 @@ fn numbered_serial_in(row: &Row) -> Result<SerialRow, Error>
         number: row.get(5)?,
         voided: row.get(6)?,
     })
-}
-
-pub(crate) fn numbered_serials_in(alloc: Global, rows: &[Row]) -> Result<Vec<SerialRow>, Error>
-    ensures columns { IfOk result (λ serials. map shown_serial serials.items ≡ map serial_front rows.now) }
-    ensures numbered { OnOk result (All (λ row. IsTrue (is_int (column row 7))) rows.now) }
-{
-    let mut serials = Vec::new(alloc);
-    for row in rows {
-        serials.push(numbered_serial_in(row)?)?;
-    }
-    Ok(serials)
 }

@@ -38,17 +38,30 @@ fn holds(
     Ok(row.as_slice() == head)
 }
 
+// Whether the book has these settings, and no call and no range.
+fn is_new<B: Book>(book: &mut B, settings: Settings) -> bool {
+    book.len() == 0
+        && book.day() == 0
+        && book.settings() == settings
+        && book.entry(1) == Ok(None)
+        && book.range(1) == Ok(None)
+}
+
+fn is_idle(book: &SqlBook<MemStore>) -> bool {
+    book.connection().is_autocommit()
+}
+
+fn closed(book: SqlBook<MemStore>) -> Connection<MemStore> {
+    book.close()
+}
+
 #[test]
 fn a_new_ledger_has_its_settings_and_no_call(rt: HostRuntime) -> Result<(), Fail> {
     let settings = settings(&rt, 100);
     let mut book = ledger(&rt, settings);
-    assert_eq!(rt; book.len(), 0);
-    assert_eq!(rt; book.day(), 0);
-    assert_eq!(rt; book.settings(), settings);
-    assert_eq!(rt; book.entry(1), Ok(None));
-    assert_eq!(rt; book.range(1), Ok(None));
-    assert!(rt; book.connection().is_autocommit());
-    let mut conn = book.close();
+    assert!(rt; is_new(&mut book, settings));
+    assert!(rt; is_idle(&book));
+    let mut conn = closed(book);
     assert!(rt; holds(rt.alloc(), &mut conn, &HEAD, [1, 0, 0, 0])?);
     Ok(())
 }
@@ -68,11 +81,16 @@ fn refusal<R: Abort + AllocGlobal>(
     }
 }
 
+// A ledger of nine calls.
+fn nine_kept<R: Abort + AllocGlobal>(rt: &R) -> Connection<MemStore> {
+    let mut book = ledger(rt, settings(rt, 100));
+    run(rt, "nine calls", &mut book, &nine_calls());
+    closed(book)
+}
+
 #[test]
 fn a_ledger_is_not_made_over_a_ledger(rt: HostRuntime) -> Result<(), Fail> {
-    let mut book = ledger(&rt, settings(&rt, 100));
-    run(&rt, "nine calls", &mut book, &nine_calls());
-    let (fault, mut conn) = refusal(&rt, book.close(), settings(&rt, 50));
+    let (fault, mut conn) = refusal(&rt, nine_kept(&rt), settings(&rt, 50));
     assert_eq!(rt; fault, OpenFault::NotEmpty);
     assert!(rt; holds(rt.alloc(), &mut conn, &HEAD, [1, 9, 1, 3])?);
     Ok(())

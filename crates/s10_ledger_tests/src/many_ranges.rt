@@ -1,15 +1,15 @@
-//! Hundreds of ranges of many holders, granted in an order that is not that of their serials, over both books.
+//! A thousand ranges of many holders, granted in an order that is not that of their serials, over both books.
 
 ghost use Rattle.std.specs.Prelude.{◌≤◌};
 
 use crate::calls::{answer, draw, gb, grant, ledger, ra, serial, settings};
-use s10_book::{Book, PlainBook, Settings};
+use s10_book::{Book, PlainBook};
 use s10_ledger::SqlBook;
 use s10_wire::Request;
 use sqlite::MemStore;
 use std::process::Abort;
 
-const RANGES: u32 = 300;
+const RANGES: u32 = 1_000;
 
 const HOLDERS: u32 = 9;
 
@@ -60,7 +60,7 @@ fn draws_are_alike<A: Book, B: Book>(one: &mut A, other: &mut B, draws: u32) -> 
 
 // Whether they have the same range of that number, and find the same ones.
 fn range_is_alike<A: Book, B: Book>(one: &mut A, other: &mut B, place: u32) -> bool
-    requires { place ≤ 1000 }
+    requires { place ≤ 2000 }
 {
     let first = serial(place * 10 + 5);
     let last = serial(place * 10 + 35);
@@ -71,7 +71,7 @@ fn range_is_alike<A: Book, B: Book>(one: &mut A, other: &mut B, place: u32) -> b
 }
 
 fn ranges_are_alike<A: Book, B: Book>(one: &mut A, other: &mut B, ranges: u32) -> bool
-    requires { ranges ≤ 1000 }
+    requires { ranges ≤ 2000 }
 {
     for place in 0..ranges {
         if !range_is_alike(one, other, place) {
@@ -89,29 +89,52 @@ fn opened_again<R: Abort + AllocGlobal>(rt: &R, book: SqlBook<MemStore>) -> SqlB
     }
 }
 
-fn new_books<R: Abort + AllocGlobal>(rt: &R, settings: Settings) -> (PlainBook, SqlBook<MemStore>) {
+fn new_books<R: Abort + AllocGlobal>(rt: &R) -> (PlainBook, SqlBook<MemStore>) {
+    let settings = settings(rt, 10_000);
     (PlainBook::new(rt.alloc(), settings), ledger(rt, settings))
+}
+
+fn close(book: SqlBook<MemStore>) {
+    let _ = book.close();
+}
+
+// Whether the books answer all Grants, all that overlap them, and Draws alike.
+fn calls_are_alike<A: Book, B: Book>(one: &mut A, other: &mut B) -> bool {
+    grants_are_alike(one, other, RANGES)
+        && overlaps_are_alike(one, other, RANGES)
+        && draws_are_alike(one, other, 1_000)
+}
+
+// Whether they find the same ranges, and keep as many calls.
+fn books_are_alike<A: Book, B: Book>(one: &mut A, other: &mut B) -> bool {
+    ranges_are_alike(one, other, RANGES + 10) && one.len() == other.len()
 }
 
 #[test]
 fn ranges_of_many_holders_are_answered_alike(rt: HostRuntime) {
-    let (mut plain, mut tables) = new_books(&rt, settings(&rt, 10_000));
-    assert!(rt; grants_are_alike(&mut plain, &mut tables, RANGES));
-    assert!(rt; overlaps_are_alike(&mut plain, &mut tables, RANGES));
-    assert!(rt; draws_are_alike(&mut plain, &mut tables, 1_000));
-    assert!(rt; ranges_are_alike(&mut plain, &mut tables, RANGES + 10));
-    assert_eq!(rt; tables.len(), plain.len());
-    let _ = tables.close();
+    let (mut plain, mut tables) = new_books(&rt);
+    assert!(rt; calls_are_alike(&mut plain, &mut tables));
+    assert!(rt; books_are_alike(&mut plain, &mut tables));
+    close(tables);
+}
+
+// Whether the books answer all Grants and Draws alike.
+fn grants_and_draws_are_alike<A: Book, B: Book>(one: &mut A, other: &mut B) -> bool {
+    grants_are_alike(one, other, RANGES) && draws_are_alike(one, other, 500)
+}
+
+// Whether they find the same ranges, and answer Grants that overlap them alike.
+fn overlaps_are_found_alike<A: Book, B: Book>(one: &mut A, other: &mut B) -> bool {
+    ranges_are_alike(one, other, RANGES + 10)
+        && overlaps_are_alike(one, other, RANGES)
+        && one.len() == other.len()
 }
 
 #[test]
 fn ranges_are_found_as_before_once_the_ledger_is_opened_again(rt: HostRuntime) {
-    let (mut plain, mut tables) = new_books(&rt, settings(&rt, 10_000));
-    assert!(rt; grants_are_alike(&mut plain, &mut tables, RANGES));
-    assert!(rt; draws_are_alike(&mut plain, &mut tables, 500));
+    let (mut plain, mut tables) = new_books(&rt);
+    assert!(rt; grants_and_draws_are_alike(&mut plain, &mut tables));
     let mut opened = opened_again(&rt, tables);
-    assert!(rt; ranges_are_alike(&mut plain, &mut opened, RANGES + 10));
-    assert!(rt; overlaps_are_alike(&mut plain, &mut opened, RANGES));
-    assert_eq!(rt; opened.len(), plain.len());
-    let _ = opened.close();
+    assert!(rt; overlaps_are_found_alike(&mut plain, &mut opened));
+    close(opened);
 }

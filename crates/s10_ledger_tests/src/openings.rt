@@ -1,6 +1,6 @@
 //! Databases that open as ledgers, and those that do not.
 
-use crate::tables::{HEAD, TABLES, database, found, ledger_of, nine_calls, opens};
+use crate::tables::{HEAD, TABLES, database, found, ledger_of, nine_calls, opens, run_batch};
 use s10_ledger::OpenFault;
 use s10_rows::Opened;
 use sqlite::Error;
@@ -33,7 +33,7 @@ fn opens_after(
     expected: &Result<Opened, OpenFault>,
 ) -> Result<bool, Error> {
     let mut conn = database(alloc, &TABLES)?;
-    conn.execute_batch(text)?;
+    run_batch(&mut conn, text)?;
     Ok(opens(alloc, conn, expected))
 }
 
@@ -167,11 +167,11 @@ fn is_told_and_mended(
     mend: &str,
 ) -> Result<bool, Error> {
     let mut conn = nine_calls(alloc)?;
-    conn.execute_batch(damage)?;
+    run_batch(&mut conn, damage)?;
     let Some((answer, mut conn)) = found(alloc, conn) else {
         return Ok(false);
     };
-    conn.execute_batch(mend)?;
+    run_batch(&mut conn, mend)?;
     Ok(opens(alloc, conn, &Ok(whole)) && answer == Err(OpenFault::Damaged(call)))
 }
 

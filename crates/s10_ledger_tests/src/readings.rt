@@ -96,33 +96,37 @@ fn row_of_a_draw_reads_as_its_call(rt: HostRuntime) {
     assert_eq!(rt; only_call(&[row]), Ok(Some(call)));
 }
 
+// Whether a row of that day with that reply reads as no call.
+fn is_unread(rt: &impl Abort, alloc: Global, day: i64, reply: &[u8]) -> bool {
+    only_call(&[call_row(rt, alloc, day, reply)]) == Err(BookFault::Store)
+}
+
+fn are_unread(rows: &[CallRow]) -> bool {
+    only_call(rows) == Err(BookFault::Store)
+}
+
 #[test]
 fn rows_that_do_not_read_are_faults_of_the_store(rt: HostRuntime) {
-    let alloc = rt.alloc();
     let long =
         b"S1\x01\x82\x00\x00\x00\x07\x00\x00\x00\x01RAGB\x00\x00\x00\x4e\x20RA000000005GB\x00";
     let request = b"S1\x01\x02\x00\x00\x00\x07\x00\x00\x00\x01RAGB";
-    assert_eq!(rt;
-        only_call(&[call_row(&rt, alloc, 20000, long)]),
-        Err(BookFault::Store)
-    );
-    assert_eq!(rt;
-        only_call(&[call_row(&rt, alloc, 20000, request)]),
-        Err(BookFault::Store)
-    );
-    assert_eq!(rt;
-        only_call(&[call_row(&rt, alloc, -1, REPLY)]),
-        Err(BookFault::Store)
-    );
-    assert_eq!(rt;
-        only_call(&[call_row(&rt, alloc, 4294967296, REPLY)]),
-        Err(BookFault::Store)
-    );
-    let two = [
-        call_row(&rt, alloc, 20000, REPLY),
-        call_row(&rt, alloc, 20000, REPLY),
+    let rows: [(i64, &[u8]); 4] = [
+        (20000, long),
+        (20000, request),
+        (-1, REPLY),
+        (4294967296, REPLY),
     ];
-    assert_eq!(rt; only_call(&two), Err(BookFault::Store));
+    for (day, reply) in rows {
+        assert!(rt; is_unread(&rt, rt.alloc(), day, reply), "on {day}");
+    }
+    let row = call_row(&rt, rt.alloc(), 20000, REPLY);
+    let same = call_row(&rt, rt.alloc(), 20000, REPLY);
+    assert!(rt; are_unread(&[row, same]));
+}
+
+// Whether the rows of an identifier tell this.
+fn tell(rows: &[SerialRow], told: &Result<Option<Issue>, BookFault>) -> bool {
+    only_issue(rows) == *told
 }
 
 #[test]
@@ -133,25 +137,30 @@ fn row_of_an_identifier_tells_its_last_issue(rt: HostRuntime) {
         customer: 7,
         number: 2,
     };
-    assert_eq!(rt; only_issue(&[]), Ok(None));
-    assert_eq!(rt;
-        only_issue(&[serial_row(1, 3, 20000, 2, 1)]),
-        Ok(Some(issue))
-    );
-    assert_eq!(rt;
-        only_issue(&[serial_row(1, 3, 20000, 2, 2)]),
-        Err(BookFault::Store)
-    );
-    assert_eq!(rt;
-        only_issue(&[serial_row(1, 3, -5, 2, 1)]),
-        Err(BookFault::Store)
-    );
+    assert!(rt; tell(&[], &Ok(None)));
+    let store = Err(BookFault::Store);
+    for (day, voided, told) in [
+        (20000, 1, Ok(Some(issue))),
+        (20000, 2, store),
+        (-5, 1, store),
+    ] {
+        assert!(rt;
+            tell(&[serial_row(1, 3, day, 2, voided)], &told),
+            "{day} {voided}"
+        );
+    }
+}
+
+// Whether the rows of the range RA GB 0 to 2 tell so many serials used, voided and free.
+fn is_used(rt: &impl Abort, rows: &[SerialRow], day: u32, usage: (u32, u32, u32)) -> bool {
+    let range = range(rt, 1, 7, *b"RA", 0, 2);
+    let (used, voided, free) = usage;
+    usage_among(rows, &range, day, 30) == Ok(Usage { used, voided, free })
 }
 
 // Three draws, of which one was voided; and, thirty days on, two more.
 #[test]
 fn usage_is_that_of_the_report(rt: HostRuntime) {
-    let range = range(&rt, 1, 7, *b"RA", 0, 2);
     let first_day = [
         serial_row(0, 2, 20000, 1, 0),
         serial_row(1, 3, 20000, 2, 1),
@@ -162,22 +171,7 @@ fn usage_is_that_of_the_report(rt: HostRuntime) {
         serial_row(1, 9, 20030, 8, 0),
         serial_row(2, 6, 20000, 5, 0),
     ];
-    let used = Usage {
-        used: 3,
-        voided: 1,
-        free: 0,
-    };
-    let later = Usage {
-        used: 3,
-        voided: 0,
-        free: 1,
-    };
-    let unused = Usage {
-        used: 0,
-        voided: 0,
-        free: 3,
-    };
-    assert_eq!(rt; usage_among(&first_day, &range, 20000, 30), Ok(used));
-    assert_eq!(rt; usage_among(&thirty_on, &range, 20030, 30), Ok(later));
-    assert_eq!(rt; usage_among(&[], &range, 20000, 30), Ok(unused));
+    assert!(rt; is_used(&rt, &first_day, 20000, (3, 1, 0)));
+    assert!(rt; is_used(&rt, &thirty_on, 20030, (3, 0, 1)));
+    assert!(rt; is_used(&rt, &[], 20000, (0, 0, 3)));
 }

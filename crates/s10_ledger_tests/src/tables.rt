@@ -48,11 +48,15 @@ const THREE_SERIALS: &str =
 
 pub(crate) const TABLES: [&str; 4] = [HEAD_TABLE, CALLS_TABLE, RANGES_TABLE, SERIALS_TABLE];
 
+pub(crate) fn run_batch(conn: &mut Connection<MemStore>, text: &str) -> Result<(), Error> {
+    conn.execute_batch(text)
+}
+
 // A database in memory, made by the statements.
 pub(crate) fn database(alloc: Global, texts: &[&str]) -> Result<Connection<MemStore>, Error> {
     let mut conn = Connection::open_in_memory(alloc)?;
     for text in texts {
-        conn.execute_batch(text)?;
+        run_batch(&mut conn, text)?;
     }
     Ok(conn)
 }
@@ -61,7 +65,7 @@ pub(crate) fn database(alloc: Global, texts: &[&str]) -> Result<Connection<MemSt
 pub(crate) fn nine_calls(alloc: Global) -> Result<Connection<MemStore>, Error> {
     let mut conn = database(alloc, &TABLES)?;
     for text in [HEAD, NINE_REPLIES, ONE_RANGE, THREE_SERIALS] {
-        conn.execute_batch(text)?;
+        run_batch(&mut conn, text)?;
     }
     Ok(conn)
 }

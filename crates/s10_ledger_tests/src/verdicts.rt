@@ -1,7 +1,7 @@
 //! What is found of the rows of a ledger's tables.
 
 use crate::tables::{
-    HEAD, NINE_REPLIES, ONE_RANGE, TABLES, database, ledger_of, nine_calls, opens,
+    HEAD, NINE_REPLIES, ONE_RANGE, TABLES, database, ledger_of, nine_calls, opens, run_batch,
 };
 use s10_ledger::OpenFault;
 use s10_rows::Opened;
@@ -21,7 +21,7 @@ fn found_after(
     expected: &Result<Opened, OpenFault>,
 ) -> Result<bool, Error> {
     let mut conn = nine_calls(alloc)?;
-    conn.execute_batch(change)?;
+    run_batch(&mut conn, change)?;
     Ok(opens(alloc, conn, expected))
 }
 
@@ -29,7 +29,7 @@ fn found_after(
 fn found_turned(alloc: Global, whole: Opened) -> Result<bool, Error> {
     let mut conn = database(alloc, &TABLES)?;
     for text in [HEAD, NINE_REPLIES, ONE_RANGE, TURNED] {
-        conn.execute_batch(text)?;
+        run_batch(&mut conn, text)?;
     }
     Ok(opens(alloc, conn, &Ok(whole)))
 }

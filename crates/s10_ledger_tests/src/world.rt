@@ -220,18 +220,25 @@ fn are_kept_once(calls: &[Option<Entry>; 4], asked: &Requests) -> Result<bool, F
     Ok(*calls == all)
 }
 
-#[test]
-fn a_ledger_in_tables_executes_each_call_of_a_world_once(rt: HostRuntime) -> Result<(), Fail> {
+// What is seen of the story over a ledger in tables, and its first four calls.
+fn tables_see_story(alloc: Global) -> Result<(Seen, [Option<Entry>; 4]), Fail> {
     let settings = Settings::new(30, 100).ok_or("settings")?;
-    let ledger = SqlBook::in_memory(rt.alloc(), settings)?;
-    let (seen, mut ledger) = run_story(rt.alloc(), ledger);
+    let ledger = SqlBook::in_memory(alloc, settings)?;
+    let (seen, mut ledger) = run_story(alloc, ledger);
     let calls = kept_calls(&mut ledger);
     let _ = ledger.close();
-    let seen = seen?;
-    let calls = calls?;
+    Ok((seen?, calls?))
+}
+
+// Whether each request was executed once, and answered to its own client.
+fn is_as_told(seen: &Seen, calls: &[Option<Entry>; 4]) -> Result<bool, Fail> {
     let asked = story_requests().ok_or("requests")?;
-    assert!(rt; clients_saw(&seen, &asked)?);
-    assert!(rt; server_replied(&seen));
-    assert!(rt; are_kept_once(&calls, &asked)?);
+    Ok(clients_saw(seen, &asked)? && server_replied(seen) && are_kept_once(calls, &asked)?)
+}
+
+#[test]
+fn a_ledger_in_tables_executes_each_call_of_a_world_once(rt: HostRuntime) -> Result<(), Fail> {
+    let (seen, calls) = tables_see_story(rt.alloc())?;
+    assert!(rt; is_as_told(&seen, &calls)?);
     Ok(())
 }

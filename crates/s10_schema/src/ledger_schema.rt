@@ -19,7 +19,7 @@ use sqlite_value::keys::{Collation, Order};
 use sqlite_value::value::Value;
 
 fn is_column(column: &Column, name: &[u8], kind: Kind) -> bool
-    ensures { IsTrue result ↔ (column.now ≡ column_of name.now kind) }
+    ensures known { IsTrue result ↔ (column.now ≡ column_of name.now kind) }
 {
     column.name.as_slice() == name
         && column.kind == kind
@@ -321,7 +321,7 @@ fn refer_apart(references: &[Reference]) -> bool
 }
 
 fn is_apart(table: &Table) -> bool
-    ensures { result ≡ (not (spec.is_own_tree table.now.tree) && spec.refer_apart table.now.references) }
+    ensures apart { result ≡ (not (spec.is_own_tree table.now.tree) && spec.refer_apart table.now.references) }
 {
     !is_own_tree(table.tree) && refer_apart(table.references.as_slice())
 }
@@ -341,7 +341,7 @@ fn index_apart(indexes: &[Index]) -> bool
 }
 
 fn are_tables(tables: &[Table]) -> bool
-    ensures { IsTrue result ↔ ((tables.now ≡ head_table ∷ calls_table ∷ ranges_table ∷ serials_table ∷ drop 4 tables.now) × (spec.are_apart (drop 4 tables.now) ≡ true)) }
+    ensures known { IsTrue result ↔ ((tables.now ≡ head_table ∷ calls_table ∷ ranges_table ∷ serials_table ∷ drop 4 tables.now) × (spec.are_apart (drop 4 tables.now) ≡ true)) }
 {
     let [head, calls, ranges, serials, others @ ..] = tables else {
         return false;
@@ -354,7 +354,7 @@ fn are_tables(tables: &[Table]) -> bool
 }
 
 fn are_indexes(indexes: &[Index]) -> bool
-    ensures { IsTrue result ↔ ((indexes.now ≡ calls_index ∷ serials_index ∷ drop 2 indexes.now) × (spec.index_apart (drop 2 indexes.now) ≡ true)) }
+    ensures known { IsTrue result ↔ ((indexes.now ≡ calls_index ∷ serials_index ∷ drop 2 indexes.now) × (spec.index_apart (drop 2 indexes.now) ≡ true)) }
 {
     let [calls, serials, others @ ..] = indexes else {
         return false;

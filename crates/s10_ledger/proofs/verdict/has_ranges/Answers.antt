@@ -8,9 +8,9 @@ use Rattle.s10_rows.proofs.Rising as rows
 use Rattle.s10_ledger.proofs.Rising.{range_rows_rise}
 use Rattle.s10_ledger.proofs.verdict.has_ranges.Goals as goal
 
-pub returns-in-Ok-same_ranges-clause-answer : goal.returns-in-Ok-same_ranges-clause-answer
-returns-in-Ok-same_ranges-clause-answer g c = λ clean h t stands.
+pub returns-clause-answer : goal.returns-clause-answer
+returns-clause-answer g c = λ clean h t stands.
     let made = c.deref.ensures.value ∙ c.in-Ok.ensures.in_order clean (tables_of h t) stands (range_rows_rise h) in
     let Up : List RangeRow → Type 0 = IsAscending (λ a b. int_cmp a.num b.num ≡ Less) in
-    let Same : List RangeRow → Type 0 = λ l. IsTrue c.in-Ok-same_ranges.same ↔ HaveSameRows l c.args.rows.now in
-    subst Same made (c.in-Ok-same_ranges.ensures (subst Up (sym made) (rows.range_rows_rise h)))
+    let Same : List RangeRow → Type 0 = λ l. IsTrue c.same_ranges.result ↔ HaveSameRows l c.args.rows.items in
+    subst Same made (c.same_ranges.ensures (subst Up (sym made) (rows.range_rows_rise h)))

@@ -17,14 +17,18 @@ use Rattle.s10_book.specs.History.{day_of}
 use Rattle.s10_rows.specs.declared.open_fault.OpenFault.{OpenFault}
 use Rattle.s10_rows.specs.declared.open_fault.OpenFault.TheVariants.{Memory, Store}
 use Rattle.s10_rows.specs.declared.opened.Opened.{Opened}
+use Rattle.s10_ranges.specs.Mirror.{Mirrors}
+use Rattle.s10_rows.specs.declared.head_row.HeadRow.{HeadRow}
 use Rattle.s10_rows.specs.CallRow.{StoredCall}
 use Rattle.s10_rows.specs.Tables.{Tables, HaveSameRows}
 use Rattle.s10_rows.specs.RightRows.{AreRight, kept_of, entry_of}
 use Rattle.s10_rows.specs.Verdict.{IsHead, AreMade, IsWhole, IsRefusal}
 use Rattle.s10_rows.specs.Selected.{IsCall}
+use Rattle.s10_ledger.specs.declared.remade.Remade.{Remade}
 use Rattle.s10_ledger.specs.Shown.{StandsFor}
 use Rattle.s10_ledger.specs.Settled.{IsSettled}
 use Rattle.s10_ledger.specs.Statements.{Leaves}
+use Rattle.s10_ledger.specs.Remade.{IsRemade}
 use Rattle.s10_ledger.specs.Ledger.{Ledger, IsLedger, Holds, IsHonest, history_in}
 use Rattle.s10_ledger.proofs.BookLemmas.{same_tables, still_kept}
 
@@ -81,4 +85,17 @@ whole tables t found db head same right it kept made = record {
   made = made;
   len = told_length db t found.len found.day tables.calls it kept;
   day = told_day db t found.len found.day tables.calls it kept;
+}
+
+-- a ledger of these calls, with its ranges
+pub made_again : (heads heads' : List HeadRow) (calls calls' : List StoredCall) (t : Terms) (made : Remade) → heads' ≡ heads → calls' ≡ calls → IsHead heads' (pos 1) t → made.opened.settings ≡ t → AreRight t calls'
+    → history_in (state over_memory made.conn).now ≡ kept_of calls' → IsLedger (state over_memory made.conn).now t made.opened.len made.opened.day → IsSettled over_memory made.conn → Mirrors made.ranges (kept_of calls')
+    → IsRemade heads calls made
+made_again heads heads' calls calls' t made here same head terms right kept ledger settled mirrored = record {
+  head = subst (λ (u : Terms). IsHead heads (pos 1) u) (sym terms) (subst (λ (l : List HeadRow). IsHead l (pos 1) t) here head);
+  right = subst (λ (u : Terms). AreRight u calls) (sym terms) (subst (λ (l : List StoredCall). AreRight t l) same right);
+  history = kept ∙ ap kept_of same;
+  ledger = subst (λ (u : Terms). IsLedger (state over_memory made.conn).now u made.opened.len made.opened.day) (sym terms) ledger;
+  settled = settled;
+  mirrored = subst (λ (l : List StoredCall). Mirrors made.ranges (kept_of l)) same mirrored;
 }

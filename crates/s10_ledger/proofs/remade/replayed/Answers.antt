@@ -11,8 +11,8 @@ use Rattle.s10_ranges.specs.Mirror.{Mirrors}
 use Rattle.s10_rows.specs.RightRows.{AreRight}
 use Rattle.s10_rows.specs.Verdict.{IsHead}
 use Rattle.s10_ledger.specs.Ledger.{history_in}
-use Rattle.s10_ledger.proofs.Remade.{in_memory, not_made, told_ledger}
-use Rattle.s10_ledger.proofs.verdict.replayed.Goals as goal
+use Rattle.s10_ledger.proofs.RemadeLemmas.{in_memory, not_made, told_ledger}
+use Rattle.s10_ledger.proofs.remade.replayed.Goals as goal
 
 pub returns-in_err-book-clause-err : goal.returns-in_err-book-clause-err
 returns-in_err-book-clause-err c = λ tables same head.

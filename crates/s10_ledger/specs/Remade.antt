@@ -1,0 +1,53 @@
+-- What is read of a database to be opened, and a ledger in memory of the same calls.
+use Rattle.std.specs.Prelude.{◌≡◌, ◌≢◌, pos, List, map, Result, IfOk, IfErr}
+use Rattle.std.specs.List.{AllByRecursion}
+use Rattle.std.specs.Ordering.{int_cmp}
+use Rattle.std.specs.declared.cmp.Ordering.TheVariants as Ordering
+use Rattle.sqlite_trees.specs.Tree.{IsAscending}
+use Rattle.sqlite.specs.Effect.{Database}
+use Rattle.sqlite.specs.Held.{state}
+use Rattle.sqlite.specs.Steps.{over_memory}
+use Rattle.s10_ranges.specs.Mirror.{Mirrors}
+use Rattle.s10_rows.specs.declared.head_row.HeadRow.{HeadRow}
+use Rattle.s10_rows.specs.declared.range_row.RangeRow.{RangeRow}
+use Rattle.s10_rows.specs.declared.serial_row.SerialRow.{SerialRow}
+use Rattle.s10_rows.specs.declared.open_fault.OpenFault.{OpenFault}
+use Rattle.s10_rows.specs.CallRow.{StoredCall}
+use Rattle.s10_rows.specs.Tables.{Tables, HaveSameRows}
+use Rattle.s10_rows.specs.RightRows.{AreRight, kept_of}
+use Rattle.s10_rows.specs.Verdict.{IsHead, IsRefusal}
+use Rattle.s10_ledger.specs.declared.remade.Remade.{Remade}
+use Rattle.s10_ledger.specs.Shown.{shown_head, shown_call, shown_range, shown_serial, head_columns, call_columns, range_columns, serial_columns, IsNumbered}
+use Rattle.s10_ledger.specs.Settled.{IsSettled}
+use Rattle.s10_ledger.specs.Ledger.{IsLedger, history_in}
+use Rattle.s10_ledger.specs.Refusals.{HasRows}
+
+-- these are the rows of head and of calls, the latter in order of arrival
+pub record HasKept (db : Database) (heads : List HeadRow) (calls : List StoredCall) : Type 0 where
+  pub heads_are : HaveSameRows (map shown_head heads) (map head_columns (db.trees 0))
+  pub calls_are : HaveSameRows (map shown_call calls) (map call_columns (db.trees 1))
+  pub in_order : IsAscending (λ a b. int_cmp a.arrival b.arrival ≢ Ordering.Greater) calls
+
+-- these are the rows of ranges and of serials
+pub record HasMade (db : Database) (ranges : List RangeRow) (serials : List SerialRow) : Type 0 where
+  pub ranges_are : HaveSameRows (map shown_range ranges) (map range_columns (db.trees 3))
+  pub serials_are : HaveSameRows (map shown_serial serials) (map serial_columns (db.trees 4))
+  pub numbered : AllByRecursion IsNumbered (db.trees 4)
+
+-- the calls are right under the settings, and a ledger in memory keeps them
+pub record IsRemade (heads : List HeadRow) (calls : List StoredCall) (made : Remade) : Type 0 where
+  pub head : IsHead heads (pos 1) made.opened.settings
+  pub right : AreRight made.opened.settings calls
+  pub history : history_in (state over_memory made.conn).now ≡ kept_of calls
+  pub ledger : IsLedger (state over_memory made.conn).now made.opened.settings made.opened.len made.opened.day
+  pub settled : IsSettled over_memory made.conn
+  pub mirrored : Mirrors made.ranges (kept_of calls)
+
+-- the tables of the database, of which the calls were done again or are refused
+pub record AreRead (db : Database) (made : Result Remade OpenFault) (ranges : List RangeRow) (serials : List SerialRow) : Type 0 where
+  pub tables : Tables
+  pub rows : HasRows db tables
+  pub ranges_are : tables.ranges ≡ ranges
+  pub serials_are : tables.serials ≡ serials
+  pub ok : IfOk made (IsRemade tables.heads tables.calls)
+  pub err : IfErr made (IsRefusal tables)
