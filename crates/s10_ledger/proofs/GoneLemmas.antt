@@ -9,8 +9,6 @@ use Rattle.sqlite_value.specs.Order.{Row, value_cmp}
 use Rattle.sqlite_value.proofs.OrderLemmas.{value_cmp-Int}
 use Rattle.sqlite_trees.specs.Tree.{rowid, has_rowid}
 use Rattle.sqlite_rules.specs.Lists.{Has}
-use Rattle.sqlite_rules.specs.Calls.{ids_of}
-use Rattle.sqlite_rules.specs.Edit.{id_in, without_all}
 use Rattle.sqlite_keyed.proofs.ListLemmas.{along_permutation}
 use Rattle.sqlite_trees.specs.View.{is_int}
 use Rattle.s10_ledger.specs.Shown.{IsNumbered}
@@ -53,12 +51,8 @@ same_int a b h = grind (arith, ints)
 pub has_id : (num n : ℤ) (r : Row) → rowid r ≡ Int n → has_rowid num r ≡ int_eq n num
 has_id num n r e = ap (λ v. is_eq (value_cmp v (Int num))) e ∙ ap is_eq (value_cmp-Int n num)
 
--- all pass
-pub filter_all : {X : Type 0} (p : X → Bool) (xs : List X) → AllByRecursion (λ x. p x ≡ true) xs → filter p xs ≡ xs
-filter_all p [] all = refl
-filter_all p (x ∷ xs) all = rw (all.0, filter_all p xs all.1)
-
-passing : {X : Type 0} (p : X → Bool) (xs : List X) → AllByRecursion (λ x. p x ≡ true) (filter p xs)
+-- what is kept passes
+pub passing : {X : Type 0} (p : X → Bool) (xs : List X) → AllByRecursion (λ x. p x ≡ true) (filter p xs)
 passing {X} p [] = tt
 passing {X} p (x ∷ xs) = go (p x) refl (passing p xs)
   where
@@ -66,29 +60,6 @@ passing {X} p (x ∷ xs) = go (p x) refl (passing p xs)
     go true e more = (e, more)
     go false e more = more
 
-module _ (num : ℤ) where
-  abbrev pub stays : Row → Bool
-  stays r = not (has_rowid num r)
-
-  gone_again : (ids : List ℤ) (rows : List Row) → AllByRecursion (λ id. id ≡ num) ids → AllByRecursion (λ r. stays r ≡ true) rows → without_all rows ids ≡ rows
-  gone_again [] rows all kept = refl
-  gone_again (id ∷ ids) rows all kept =
-      let one : filter (λ r. not (has_rowid id r)) rows ≡ rows = subst (λ n. filter (λ r. not (has_rowid n r)) rows ≡ rows) (sym all.0) (filter_all stays rows kept) in
-      ap (λ l. without_all l ids) one ∙ gone_again ids rows all.1 kept
-
-  ids_are : (found : List Row) → ((x : Row) → Has found x → id_in (rowid x) ≡ num) → AllByRecursion (λ id. id ≡ num) (ids_of found)
-  ids_are [] each = tt
-  ids_are (x ∷ more) each = (each x (inl refl), ids_are more (λ y has. each y (inr has)))
-
-  none_has : (rows : List Row) → ((r : Row) → Has rows r → has_rowid num r ≡ false) → AllByRecursion (λ r. stays r ≡ true) rows
-  none_has [] each = tt
-  none_has (r ∷ rs) each = (ap not (each r (inl refl)), none_has rs (λ y has. each y (inr has)))
-
-  -- where the rows that were found are those with the rowid, the others stay
-  pub gone_are : (rows found : List Row) → ((x : Row) → Has found x → id_in (rowid x) ≡ num) → (found ≡ [] → (r : Row) → Has rows r → has_rowid num r ≡ false)
-      → without_all rows (ids_of found) ≡ filter stays rows
-  gone_are rows [] each none = sym (filter_all stays rows (none_has rows (none refl)))
-  gone_are rows (x ∷ more) each none =
-      let first : id_in (rowid x) ≡ num = each x (inl refl) in
-      let rest = ids_are more (λ y has. each y (inr has)) in
-      ap (λ n. without_all (filter (λ r. not (has_rowid n r)) rows) (ids_of more)) first ∙ gone_again (ids_of more) (filter stays rows) rest (passing stays rows)
+-- the row has another rowid
+abbrev pub stays : ℤ → Row → Bool
+stays num r = not (has_rowid num r)

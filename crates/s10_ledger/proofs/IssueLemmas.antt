@@ -43,12 +43,13 @@ use Rattle.sqlite.specs.Listing.{understood}
 use Rattle.sqlite.specs.State.{State, mode_of, Executes}
 use Rattle.sqlite.proofs.Callers.{statement_of, runs_as, one_step, one_permutation}
 use Rattle.s10_rows.specs.declared.serial_row.SerialRow.{SerialRow}
+use Rattle.s10_rows.specs.declared.serial_write.SerialWrite.TheVariants.{Again}
 use Rattle.s10_schema.specs.Schema.{with_others, others_in, are_apart, index_apart, serials_table}
 use Rattle.s10_rows.specs.Tables.{Tables}
 use Rattle.s10_rows.specs.Kept.{is_at, with_serial}
 use Rattle.s10_ledger.specs.Shown.{HasTables, shown_serial, serial_columns, IsNumbered}
-use Rattle.s10_ledger.specs.Statements.{issue_text}
-use Rattle.s10_ledger.proofs.WriteTexts.{issue_terms, issue_is, issue_plain, issue_upsert, update_query}
+use Rattle.s10_ledger.specs.Statements.{again_text}
+use Rattle.s10_ledger.proofs.WriteTexts.{issue_terms, again_is, again_plain, issue_upsert, update_query}
 use Rattle.s10_ledger.proofs.Apart.{no_works, none_shares, not_serials, is_as_it_was}
 use Rattle.s10_ledger.proofs.ReadLemmas.{filter_each, kept_are, rows_are}
 use Rattle.s10_ledger.proofs.PutLemmas.{cast_int, cast_null, went, same_value, put_fresh, one_fresh}
@@ -167,11 +168,11 @@ module _ (limit : Option ℕ) (params : Row) (id : ℤ) (r : SerialRow) (there :
 int_same : (k : ℤ) → int_eq k k ≡ true
 int_same k = grind (arith, ints)
 
-length_numbered : (left sources : List Row) → length (numbered Given left sources) ≡ length sources
+pub length_numbered : (left sources : List Row) → length (numbered Given left sources) ≡ length sources
 length_numbered left [] = refl
 length_numbered left (s ∷ sources) = ap suc (length_numbered (put_row s left) sources)
 
-length_mapped : {X Y : Type 0} (f : X → Y) (xs : List X) → length (map f xs) ≡ length xs
+pub length_mapped : {X Y : Type 0} (f : X → Y) (xs : List X) → length (map f xs) ≡ length xs
 length_mapped f [] = refl
 length_mapped f (x ∷ xs) = ap suc (length_mapped f xs)
 
@@ -330,13 +331,13 @@ issue_schema : (o : Schema) (limit : Option ℕ) (mode : Mode) (db : Trees) (r :
     → Does limit mode (shown_serial r) (record { schema = with_others o; trees = db }) text None (InsertOr 3 Abort (Values issue_terms 8) (issue_upsert ∷ [])) (Ok (tally, new)) → new.schema ≡ with_others o
 issue_schema o limit mode db r text tally new h = let done = went h in ap (λ (p : Tally × Database). p.1.schema) (same_value (went (went done.2).2).2)
 
-one_changed : (o : Option ℕ) → 1 ≡ unwrap_or o 0 → o ≡ Some 1
+pub one_changed : (o : Option ℕ) → 1 ≡ unwrap_or o 0 → o ≡ Some 1
 one_changed None h = absurd (omega (arith, h))
 one_changed (Some n) h = ap Some (sym h)
 
 -- the typed rows after the write
 typed_after : (serials : List SerialRow) (r : SerialRow) (old new : Trees) → Upserted old new r → IsPermutation (map shown_serial serials) (map serial_columns (old 4))
-    → IsPermutation (map shown_serial (with_serial (Some r) serials)) (map serial_columns (new 4))
+    → IsPermutation (map shown_serial (with_serial (Some (Again r)) serials)) (map serial_columns (new 4))
 typed_after serials r old new it p =
     let left : filter (λ v. not (at_key r v)) (map shown_serial serials) ≡ map shown_serial (filter (λ x. not (is_at r.pair r.serial x)) serials) =
     filter-map (λ v. not (at_key r v)) shown_serial serials ∙ ap (map shown_serial) (filter_each (λ x. not (at_key r (shown_serial x))) (λ x. not (is_at r.pair r.serial x)) (λ x. ap not (key_typed r x)) serials) in
@@ -357,7 +358,7 @@ few_keyed serials r rows p few =
 shown_rows : (serials : List SerialRow) (rows : List Row) → IsPermutation (map shown_serial serials) (map serial_columns rows) → AllByRecursion (λ x. IsShown (serial_columns x)) rows
 shown_rows serials rows p = all_of_map IsShown serial_columns rows (all_moved IsShown (map shown_serial serials) (map serial_columns rows) p (all_shown IsShown shown_serial (λ s. (s, refl)) serials))
 
-all_kept : {X : Type 0} (P : X → Type 0) (p : X → Bool) (xs : List X) → AllByRecursion P xs → AllByRecursion P (filter p xs)
+pub all_kept : {X : Type 0} (P : X → Type 0) (p : X → Bool) (xs : List X) → AllByRecursion P xs → AllByRecursion P (filter p xs)
 all_kept P p [] all = tt
 all_kept P p (x ∷ xs) all = elim (p x) as (λ b. AllByRecursion P (cond b (x ∷ filter p xs) (filter p xs))) [ true ↦ (all.0, all_kept P p xs all.1) | false ↦ all_kept P p xs all.1 ]
 
@@ -365,14 +366,14 @@ numbered_after : (r : SerialRow) (old new : Trees) → Upserted old new r → Al
 numbered_after r old new it all = all_moved IsNumbered (it.row ∷ others r (old 4)) (new 4) it.put (it.is_numbered, all_kept IsNumbered (λ x. not (at_key r (serial_columns x))) (old 4) all)
 
 pub issues : (old new : State) (r : SerialRow) (tables : Tables) → HasTables old.now tables → length (filter (is_at r.pair r.serial) tables.serials) ≤ 1
-    → Executes issue_text (shown_serial r) old new (Ok 1) → HasTables new.now (record tables { serials = with_serial (Some r) tables.serials })
+    → Executes again_text (shown_serial r) old new (Ok 1) → HasTables new.now (record tables { serials = with_serial (Some (Again r)) tables.serials })
 issues old new r tables held few h =
     let params = shown_serial r in
     let has = held.schema.is in
     let o = others_in old.now.schema in
     let command = InsertOr 3 Abort (Values issue_terms 8) (issue_upsert ∷ []) in
-    let w = runs_as issue_text params old new (with_others o) has command (issue_is o) (issue_plain o) 1 h in
-    let text = statement_of issue_text (understood (with_others o) issue_text) in
+    let w = runs_as again_text params old new (with_others o) has command (again_is o) (again_plain o) 1 h in
+    let text = statement_of again_text (understood (with_others o) again_text) in
     let does = subst (λ s. Does old.step_limit (mode_of old) params (record old.now { schema = s }) text None command (Ok (w.tally, new.now))) has w.changed in
     let it : IsPermutation (map shown_serial tables.serials) (map serial_columns (old.now.trees 4)) → Upserted old.now.trees new.now.trees r =
     λ p. (does_issue o held.schema.tables held.schema.indexes old.step_limit (mode_of old) old.now.trees r text w.tally new.now refl (one_changed w.tally.rows w.counted) (all_ids (old.now.trees 4) held.numbered)

@@ -12,8 +12,9 @@ pub mod KeepLemmas
 pub mod MakeLemmas
 pub mod HeadLemmas
 pub mod GoneLemmas
-pub mod MarkLemmas
 pub mod IssueLemmas
+pub mod AddLemmas
+pub mod MarkLemmas
 pub mod Rising
 pub mod Alike
 pub mod RemadeLemmas

@@ -46,11 +46,17 @@ settings_text = codes "INSERT INTO head (one, schema, interval, cap) VALUES (1, 
 abbrev pub keep_text : List ℕ
 keep_text = codes "INSERT INTO calls (arrival, customer, number, day, reply) VALUES (?1, ?2, ?3, ?4, ?5)"
 
+abbrev pub grant_text : List ℕ
+grant_text = codes "INSERT INTO ranges (num, holder, pair, low, high, mark) VALUES (?1, ?2, ?3, ?4, ?5, ?6)"
+
 abbrev pub mark_text : List ℕ
-mark_text = codes "INSERT OR REPLACE INTO ranges (num, holder, pair, low, high, mark) VALUES (?1, ?2, ?3, ?4, ?5, ?6)"
+mark_text = codes "UPDATE ranges SET mark = ?2 WHERE num = ?1"
 
 abbrev pub issue_text : List ℕ
-issue_text = codes "INSERT INTO serials (pair, serial, arrival, day, customer, number, voided) VALUES (?1, ?2, ?3, ?4, ?5, ?6, ?7) ON CONFLICT (pair, serial) DO UPDATE SET arrival = ?3, day = ?4, customer = ?5, number = ?6, voided = ?7"
+issue_text = codes "INSERT INTO serials (pair, serial, arrival, day, customer, number, voided) VALUES (?1, ?2, ?3, ?4, ?5, ?6, ?7)"
+
+abbrev pub again_text : List ℕ
+again_text = codes "INSERT INTO serials (pair, serial, arrival, day, customer, number, voided) VALUES (?1, ?2, ?3, ?4, ?5, ?6, ?7) ON CONFLICT (pair, serial) DO UPDATE SET arrival = ?3, day = ?4, customer = ?5, number = ?6, voided = ?7"
 
 -- A read leaves the tables as they were, and a connection that has nothing to commit. What is said of them holds where the store
 -- is clean and the connection open as the read ends; the disk does not come clean again.

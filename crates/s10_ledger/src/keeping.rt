@@ -24,11 +24,21 @@ use crate::reads::serials_within;
 use crate::writes::keep_rows;
 use s10_book::{BookFault, Entry};
 use s10_core::Id;
-use s10_ranges::Ranges;
-use s10_rows::{Made, drawn_rows, granted_row, pair_number, voided_row};
+use s10_ranges::{Ranges, Turn};
+use s10_rows::{Issued, Made, drawn_rows, granted_row, pair_number, voided_row};
 use s10_wire::{Body, Outcome, Reply, encode_reply};
 use sqlite::{Alter, Connection};
 use std::alloc::Global;
+
+// Whether the identifier at a mark was issued before.
+fn issued_in(turn: Turn) -> Issued
+    ensures { result ≡ Issued.Never → turn ≡ Turn.First }
+{
+    match turn {
+        Turn::First => Issued::Never,
+        Turn::Later => Issued::Before,
+    }
+}
 
 // What a Done Draw makes, by the range of its identifier. A fault of the store where no range has it.
 fn drawn_made(ranges: &Ranges, arrival: u32, entry: &Entry, id: &Id) -> Result<Made, BookFault>
@@ -41,7 +51,11 @@ fn drawn_made(ranges: &Ranges, arrival: u32, entry: &Entry, id: &Id) -> Result<M
     let Some(range) = found else {
         return Err(BookFault::Store);
     };
-    Ok(drawn_rows(&range, arrival, entry, id))
+    let Some(mark) = ranges.mark(range.num) else {
+        return Err(BookFault::Store);
+    };
+    let issued = issued_in(mark.turn);
+    Ok(drawn_rows(&range, issued, arrival, entry, id))
 }
 
 // What a Done Void makes, by the row of its identifier.

@@ -8,7 +8,9 @@ ghost use Rattle.s10_book.specs.declared.entry.Entry.{Entry};
 ghost use Rattle.s10_book.specs.declared.book_fault.BookFault.TheVariants.{Full};
 ghost use Rattle.s10_book.specs.Settings.{Terms};
 ghost use Rattle.s10_book.specs.History.{entry_with_key, entry_at, day_of, ranges_of};
-ghost use Rattle.s10_book.specs.Issues.{issues_of, last_issue_of, candidate_of, pick_of};
+ghost use Rattle.s10_book.specs.Issues.{issues_of, last_issue_of, candidate_of};
+ghost use Rattle.s10_ranges.specs.declared.mark.Mark.{Mark as RangeMark};
+ghost use Rattle.s10_ranges.specs.Turns.{mark_of};
 ghost use Rattle.s10_book.specs.Usage.{usage_of};
 ghost use Rattle.s10_book.specs.Rules.{IsLegal};
 ghost use Rattle.s10_core.specs.Id.{IsId};
@@ -21,6 +23,7 @@ use crate::faults::fault_of;
 use crate::reads::{calls_between, calls_with_key, serials_within};
 use s10_book::{BookFault, Candidate, Entry, Issue, Range, Usage};
 use s10_core::{Id, Serial};
+use s10_ranges::{Mark, Turn};
 use s10_rows::{only_call, only_issue, pair_number, usage_among};
 use sqlite::{Alter, Connection};
 use std::alloc::Global;
@@ -93,22 +96,38 @@ pub(crate) fn issue_of<S: Alter>(
     only_issue(&rows)
 }
 
+// The serial of a mark in the first turn, which was never issued.
+pub(crate) fn new_serial(mark: &Option<Mark>) -> Option<Serial>
+    ensures { IfSome result (λ serial. let first : RangeMark = record { serial = serial; turn = Turn.First } in mark.now ≡ Some first) }
+{
+    match mark {
+        Some(
+            Mark {
+                serial,
+                turn: Turn::First,
+            },
+        ) => Some(*serial),
+        _ => None,
+    }
+}
+
 // The mark of a range with the last issue of its identifier. A fault of the store where there is no mark.
 pub(crate) fn candidate_in<S: Alter>(
     alloc: Global,
     conn: &mut Connection<S>,
     range: &Range,
-    mark: Option<Serial>,
+    mark: Option<Mark>,
 ) -> Result<Candidate, BookFault>
     ensures leaves { Leaves S.Store conn.old conn.new }
     ensures opened { HasCleanDisk (state S.Store conn.new) → OnOk result (IsTrue (state S.Store conn.new).is_open) }
     ensures fault { result ≢ Err Full }
     ensures answer { HasCleanDisk (state S.Store conn.new) → (h : List Entry) (t : Terms) → IsLegal h t → All IsCall h → StandsFor (state S.Store conn.old).now h t
-        → mark ≡ Some (pick_of (issues_of h) range.now) → IfOk result (λ answer. answer ≡ candidate_of h range.now) }
+        → mark ≡ Some (mark_of (issues_of h) range.now) → IfOk result (λ answer. answer ≡ candidate_of h range.now) }
 {
-    let Some(serial) = mark else {
+    let Some(mark) = mark else {
         return Err(BookFault::Store);
     };
+    let serial = mark.serial;
     let id = Id {
         service: range.service,
         serial,

@@ -8,7 +8,7 @@ ghost use Rattle.s10_ledger.specs.Ledger.{history_in, IsHonest};
 
 use crate::faults::opening_fault;
 use crate::keeping::keep_followed;
-use crate::lookups::{call_at, call_with_key, candidate_in, issue_of, usage_in};
+use crate::lookups::{call_at, call_with_key, candidate_in, issue_of, new_serial, usage_in};
 use crate::making::{make_ledger, refusal_of};
 use crate::refused::Refused;
 use s10_book::{Book, BookFault, Candidate, Entry, Issue, Range, Settings, Usage};
@@ -370,6 +370,16 @@ impl<S: Alter> Book for SqlBook<S> {
         ensures answer { IsHonest S.Store self.new → IfOk result (λ c. c ≡ candidate_of (history_of S.Store self.old) range.now) }
     {
         let mark = self.ranges.mark(range.num);
+        let new = new_serial(&mark);
+        if let Some(serial) = new {
+            if let Err(fault) = self.ask_again() {
+                return Err(fault);
+            }
+            return Ok(Candidate {
+                serial,
+                issue: None,
+            });
+        }
         let found = candidate_in(self.alloc, &mut self.conn, range, mark);
         let answered = found.is_ok();
         self.answered = answered;

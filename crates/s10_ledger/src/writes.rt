@@ -9,11 +9,11 @@ ghost use Rattle.s10_rows.specs.CallRow.{StoredCall};
 ghost use Rattle.s10_rows.specs.Tables.{Tables};
 ghost use Rattle.s10_ledger.specs.Shown.{HasTables};
 ghost use Rattle.s10_ledger.specs.Settled.{IsSettled};
-ghost use Rattle.s10_rows.specs.Kept.{is_at, with_range, with_serial};
+ghost use Rattle.s10_rows.specs.Kept.{is_at, row_of, with_range, with_serial};
 ghost use Rattle.std.specs.Prelude.{Some};
 
 use s10_book::Entry;
-use s10_rows::{RangeRow, SerialRow};
+use s10_rows::{RangeRow, RangeWrite, SerialRow, SerialWrite};
 use sqlite::{Alter, Connection, Error, Transaction, params};
 
 /// Adds the row of a call.
@@ -45,14 +45,14 @@ pub(crate) fn put_call<S: Alter>(
     Ok(())
 }
 
-/// Puts the row of a range in the place of the one with its number, or adds it.
-pub(crate) fn put_range<S: Alter>(
+/// Adds the row of a range.
+pub(crate) fn add_range<S: Alter>(
     tx: &mut Transaction<'_, S>,
     range: &RangeRow,
 ) -> Result<(), Error>
     ensures same_reference { tx.new.conn.ghost_name ≡ tx.old.conn.ghost_name }
     ensures made { HasCleanDisk (state S.Store tx.new.conn.now) → IsTrue (state S.Store tx.old.conn.now).in_transaction → OnOk result ((tables : Tables) → HasTables (state S.Store tx.old.conn.now).now tables
-        → HasTables (state S.Store tx.new.conn.now).now (record tables { ranges = with_range (Some range.now) tables.ranges })) }
+        → HasTables (state S.Store tx.new.conn.now).now (record tables { ranges = with_range (Some (RangeWrite.New range.now)) tables.ranges })) }
     ensures inside { HasCleanDisk (state S.Store tx.new.conn.now) → IsTrue (state S.Store tx.old.conn.now).in_transaction
         → OnOk result (Shows (state S.Store tx.old.conn.now) (state S.Store tx.new.conn.now) (state S.Store tx.new.conn.now).now (state S.Store tx.old.conn.now).committed true) }
     ensures kept { HasCleanDisk (state S.Store tx.new.conn.now) → IsTrue (state S.Store tx.old.conn.now).in_transaction → KeepsCommit (state S.Store tx.old.conn.now) (state S.Store tx.new.conn.now) }
@@ -67,20 +67,93 @@ pub(crate) fn put_range<S: Alter>(
         mark,
     } = *range;
     tx.execute(
-        "INSERT OR REPLACE INTO ranges (num, holder, pair, low, high, mark) VALUES (?1, ?2, ?3, ?4, ?5, ?6)",
+        "INSERT INTO ranges (num, holder, pair, low, high, mark) VALUES (?1, ?2, ?3, ?4, ?5, ?6)",
         params![num, holder, pair, low, high, mark],
     )?;
     Ok(())
 }
 
-/// Puts the row of a serial in the place of the one of its identifier, or adds it. It fails unless one row is changed.
-pub(crate) fn put_serial<S: Alter>(
+/// Sets the mark of the range of that number. It fails unless one row is changed.
+pub(crate) fn set_mark<S: Alter>(
+    tx: &mut Transaction<'_, S>,
+    num: i64,
+    mark: i64,
+) -> Result<(), Error>
+    ensures same_reference { tx.new.conn.ghost_name ≡ tx.old.conn.ghost_name }
+    ensures made { HasCleanDisk (state S.Store tx.new.conn.now) → IsTrue (state S.Store tx.old.conn.now).in_transaction → OnOk result ((tables : Tables) → HasTables (state S.Store tx.old.conn.now).now tables
+        → HasTables (state S.Store tx.new.conn.now).now (record tables { ranges = with_range (Some (RangeWrite.Mark num mark)) tables.ranges })) }
+    ensures inside { HasCleanDisk (state S.Store tx.new.conn.now) → IsTrue (state S.Store tx.old.conn.now).in_transaction
+        → OnOk result (Shows (state S.Store tx.old.conn.now) (state S.Store tx.new.conn.now) (state S.Store tx.new.conn.now).now (state S.Store tx.old.conn.now).committed true) }
+    ensures kept { HasCleanDisk (state S.Store tx.new.conn.now) → IsTrue (state S.Store tx.old.conn.now).in_transaction → KeepsCommit (state S.Store tx.old.conn.now) (state S.Store tx.new.conn.now) }
+    ensures survives { Survives (state S.Store tx.old.conn.now) (state S.Store tx.new.conn.now) (λ _. ⊥) }
+{
+    let changed = tx.execute(
+        "UPDATE ranges SET mark = ?2 WHERE num = ?1",
+        params![num, mark],
+    )?;
+    if changed == 1 {
+        Ok(())
+    } else {
+        Err(Error::QueryReturnedNoRows)
+    }
+}
+
+/// Makes of the ranges what a call makes of them.
+pub(crate) fn put_range<S: Alter>(
+    tx: &mut Transaction<'_, S>,
+    write: &RangeWrite,
+) -> Result<(), Error>
+    ensures same_reference { tx.new.conn.ghost_name ≡ tx.old.conn.ghost_name }
+    ensures made { HasCleanDisk (state S.Store tx.new.conn.now) → IsTrue (state S.Store tx.old.conn.now).in_transaction → OnOk result ((tables : Tables) → HasTables (state S.Store tx.old.conn.now).now tables
+        → HasTables (state S.Store tx.new.conn.now).now (record tables { ranges = with_range (Some write.now) tables.ranges })) }
+    ensures inside { HasCleanDisk (state S.Store tx.new.conn.now) → IsTrue (state S.Store tx.old.conn.now).in_transaction
+        → OnOk result (Shows (state S.Store tx.old.conn.now) (state S.Store tx.new.conn.now) (state S.Store tx.new.conn.now).now (state S.Store tx.old.conn.now).committed true) }
+    ensures kept { HasCleanDisk (state S.Store tx.new.conn.now) → IsTrue (state S.Store tx.old.conn.now).in_transaction → KeepsCommit (state S.Store tx.old.conn.now) (state S.Store tx.new.conn.now) }
+    ensures survives { Survives (state S.Store tx.old.conn.now) (state S.Store tx.new.conn.now) (λ _. ⊥) }
+{
+    match *write {
+        RangeWrite::New(row) => add_range(tx, &row),
+        RangeWrite::Mark { num, mark } => set_mark(tx, num, mark),
+    }
+}
+
+/// Adds the row of a serial.
+pub(crate) fn add_serial<S: Alter>(
     tx: &mut Transaction<'_, S>,
     serial: &SerialRow,
 ) -> Result<(), Error>
     ensures same_reference { tx.new.conn.ghost_name ≡ tx.old.conn.ghost_name }
     ensures made { HasCleanDisk (state S.Store tx.new.conn.now) → IsTrue (state S.Store tx.old.conn.now).in_transaction → OnOk result ((tables : Tables) → HasTables (state S.Store tx.old.conn.now).now tables
-        → length (filter (is_at serial.now.pair serial.now.serial) tables.serials) ≤ 1 → HasTables (state S.Store tx.new.conn.now).now (record tables { serials = with_serial (Some serial.now) tables.serials })) }
+        → HasTables (state S.Store tx.new.conn.now).now (record tables { serials = with_serial (Some (SerialWrite.New serial.now)) tables.serials })) }
+    ensures inside { HasCleanDisk (state S.Store tx.new.conn.now) → IsTrue (state S.Store tx.old.conn.now).in_transaction
+        → OnOk result (Shows (state S.Store tx.old.conn.now) (state S.Store tx.new.conn.now) (state S.Store tx.new.conn.now).now (state S.Store tx.old.conn.now).committed true) }
+    ensures kept { HasCleanDisk (state S.Store tx.new.conn.now) → IsTrue (state S.Store tx.old.conn.now).in_transaction → KeepsCommit (state S.Store tx.old.conn.now) (state S.Store tx.new.conn.now) }
+    ensures survives { Survives (state S.Store tx.old.conn.now) (state S.Store tx.new.conn.now) (λ _. ⊥) }
+{
+    let SerialRow {
+        pair,
+        serial,
+        arrival,
+        day,
+        customer,
+        number,
+        voided,
+    } = *serial;
+    tx.execute(
+        "INSERT INTO serials (pair, serial, arrival, day, customer, number, voided) VALUES (?1, ?2, ?3, ?4, ?5, ?6, ?7)",
+        params![pair, serial, arrival, day, customer, number, voided],
+    )?;
+    Ok(())
+}
+
+/// Puts the row of a serial in the place of the one of its identifier, or adds it. It fails unless one row is changed.
+pub(crate) fn replace_serial<S: Alter>(
+    tx: &mut Transaction<'_, S>,
+    serial: &SerialRow,
+) -> Result<(), Error>
+    ensures same_reference { tx.new.conn.ghost_name ≡ tx.old.conn.ghost_name }
+    ensures made { HasCleanDisk (state S.Store tx.new.conn.now) → IsTrue (state S.Store tx.old.conn.now).in_transaction → OnOk result ((tables : Tables) → HasTables (state S.Store tx.old.conn.now).now tables
+        → length (filter (is_at serial.now.pair serial.now.serial) tables.serials) ≤ 1 → HasTables (state S.Store tx.new.conn.now).now (record tables { serials = with_serial (Some (SerialWrite.Again serial.now)) tables.serials })) }
     ensures inside { HasCleanDisk (state S.Store tx.new.conn.now) → IsTrue (state S.Store tx.old.conn.now).in_transaction
         → OnOk result (Shows (state S.Store tx.old.conn.now) (state S.Store tx.new.conn.now) (state S.Store tx.new.conn.now).now (state S.Store tx.old.conn.now).committed true) }
     ensures kept { HasCleanDisk (state S.Store tx.new.conn.now) → IsTrue (state S.Store tx.old.conn.now).in_transaction → KeepsCommit (state S.Store tx.old.conn.now) (state S.Store tx.new.conn.now) }
@@ -106,9 +179,28 @@ pub(crate) fn put_serial<S: Alter>(
     }
 }
 
+/// Makes of the serials what a call makes of them.
+pub(crate) fn put_serial<S: Alter>(
+    tx: &mut Transaction<'_, S>,
+    write: &SerialWrite,
+) -> Result<(), Error>
+    ensures same_reference { tx.new.conn.ghost_name ≡ tx.old.conn.ghost_name }
+    ensures made { HasCleanDisk (state S.Store tx.new.conn.now) → IsTrue (state S.Store tx.old.conn.now).in_transaction → OnOk result ((tables : Tables) → HasTables (state S.Store tx.old.conn.now).now tables
+        → length (filter (is_at (row_of write.now).pair (row_of write.now).serial) tables.serials) ≤ 1 → HasTables (state S.Store tx.new.conn.now).now (record tables { serials = with_serial (Some write.now) tables.serials })) }
+    ensures inside { HasCleanDisk (state S.Store tx.new.conn.now) → IsTrue (state S.Store tx.old.conn.now).in_transaction
+        → OnOk result (Shows (state S.Store tx.old.conn.now) (state S.Store tx.new.conn.now) (state S.Store tx.new.conn.now).now (state S.Store tx.old.conn.now).committed true) }
+    ensures kept { HasCleanDisk (state S.Store tx.new.conn.now) → IsTrue (state S.Store tx.old.conn.now).in_transaction → KeepsCommit (state S.Store tx.old.conn.now) (state S.Store tx.new.conn.now) }
+    ensures survives { Survives (state S.Store tx.old.conn.now) (state S.Store tx.new.conn.now) (λ _. ⊥) }
+{
+    match *write {
+        SerialWrite::New(row) => add_serial(tx, &row),
+        SerialWrite::Again(row) => replace_serial(tx, &row),
+    }
+}
+
 fn put_range_made<S: Alter>(
     tx: &mut Transaction<'_, S>,
-    range: &Option<RangeRow>,
+    range: &Option<RangeWrite>,
 ) -> Result<(), Error>
     ensures same_reference { tx.new.conn.ghost_name ≡ tx.old.conn.ghost_name }
     ensures made { HasCleanDisk (state S.Store tx.new.conn.now) → IsTrue (state S.Store tx.old.conn.now).in_transaction → OnOk result ((tables : Tables) → HasTables (state S.Store tx.old.conn.now).now tables
@@ -121,17 +213,17 @@ fn put_range_made<S: Alter>(
 {
     match range {
         None => Ok(()),
-        Some(row) => put_range(tx, row),
+        Some(write) => put_range(tx, write),
     }
 }
 
 fn put_serial_made<S: Alter>(
     tx: &mut Transaction<'_, S>,
-    serial: &Option<SerialRow>,
+    serial: &Option<SerialWrite>,
 ) -> Result<(), Error>
     ensures same_reference { tx.new.conn.ghost_name ≡ tx.old.conn.ghost_name }
     ensures made { HasCleanDisk (state S.Store tx.new.conn.now) → IsTrue (state S.Store tx.old.conn.now).in_transaction → OnOk result ((tables : Tables) → HasTables (state S.Store tx.old.conn.now).now tables
-        → IfSome serial.now (λ s. length (filter (is_at s.pair s.serial) tables.serials) ≤ 1) → HasTables (state S.Store tx.new.conn.now).now (record tables { serials = with_serial serial.now tables.serials })) }
+        → IfSome serial.now (λ w. length (filter (is_at (row_of w).pair (row_of w).serial) tables.serials) ≤ 1) → HasTables (state S.Store tx.new.conn.now).now (record tables { serials = with_serial serial.now tables.serials })) }
     ensures inside { HasCleanDisk (state S.Store tx.new.conn.now) → IsTrue (state S.Store tx.old.conn.now).in_transaction
         → OnOk result (IsTrue (state S.Store tx.new.conn.now).in_transaction) }
     ensures kept { HasCleanDisk (state S.Store tx.new.conn.now) → IsTrue (state S.Store tx.old.conn.now).in_transaction → KeepsCommit (state S.Store tx.old.conn.now) (state S.Store tx.new.conn.now) }
@@ -140,7 +232,7 @@ fn put_serial_made<S: Alter>(
 {
     match serial {
         None => Ok(()),
-        Some(row) => put_serial(tx, row),
+        Some(write) => put_serial(tx, write),
     }
 }
 
@@ -150,15 +242,15 @@ pub(crate) fn keep_rows<S: Alter>(
     arrival: u32,
     entry: &Entry,
     reply: &[u8],
-    range: &Option<RangeRow>,
-    serial: &Option<SerialRow>,
+    range: &Option<RangeWrite>,
+    serial: &Option<SerialWrite>,
 ) -> Result<(), Error>
     requires settled { IsSettled S.Store conn.old }
     ensures settled { IsSettled S.Store conn.new }
     ensures opened { HasCleanDisk (state S.Store conn.new) → OnOk result (IsTrue (state S.Store conn.new).is_open) }
     ensures all { let row : StoredCall = record { arrival = pos arrival; customer = pos entry.now.request.customer; number = pos entry.now.request.number; day = pos entry.now.day; reply = reply.now } in
         HasCleanDisk (state S.Store conn.new) → OnOk result ((tables : Tables) → HasTables (state S.Store conn.old).now tables
-        → IfSome serial.now (λ s. length (filter (is_at s.pair s.serial) tables.serials) ≤ 1)
+        → IfSome serial.now (λ w. length (filter (is_at (row_of w).pair (row_of w).serial) tables.serials) ≤ 1)
         → HasTables (state S.Store conn.new).now (record tables { calls = tables.calls ++ row ∷ []; ranges = with_range range.now tables.ranges; serials = with_serial serial.now tables.serials })) }
     ensures none { HasCleanDisk (state S.Store conn.new) → IsTrue (state S.Store conn.new).is_open → OnErr result ((state S.Store conn.new).now ≡ (state S.Store conn.old).now) }
     ensures was_open { HasCleanDisk (state S.Store conn.new) → IsTrue (state S.Store conn.new).is_open → IsTrue (state S.Store conn.old).is_open }
@@ -166,7 +258,7 @@ pub(crate) fn keep_rows<S: Alter>(
     ensures crash { let row : StoredCall = record { arrival = pos arrival; customer = pos entry.now.request.customer; number = pos entry.now.request.number; day = pos entry.now.day; reply = reply.now } in
         HasCleanDisk (state S.Store conn.new) → (db : Trees) → (state S.Store conn.new).may_leave db
         → (state S.Store conn.old).may_leave db ⊎ (IsTrue (state S.Store conn.old).is_open × ((tables : Tables) → HasTables (state S.Store conn.old).now tables
-        → IfSome serial.now (λ s. length (filter (is_at s.pair s.serial) tables.serials) ≤ 1)
+        → IfSome serial.now (λ w. length (filter (is_at (row_of w).pair (row_of w).serial) tables.serials) ≤ 1)
         → HasTables (record (state S.Store conn.old).now { trees = db }) (record tables { calls = tables.calls ++ row ∷ []; ranges = with_range range.now tables.ranges; serials = with_serial serial.now tables.serials }))) }
 {
     let mut tx = conn.transaction();

@@ -2,7 +2,9 @@
 
 use s10_book::{BookFault, Entry, Range};
 use s10_core::{Country, Id, Serial, Service};
-use s10_rows::{Made, RangeRow, SerialRow, drawn_rows, granted_row, voided_row};
+use s10_rows::{
+    Issued, Made, RangeRow, RangeWrite, SerialRow, SerialWrite, drawn_rows, granted_row, voided_row,
+};
 use s10_wire::{Body, Outcome, Request};
 use std::process::Abort;
 
@@ -64,15 +66,15 @@ fn first_range(rt: &impl Abort) -> Range {
     }
 }
 
-/// Its row.
-fn range_row(mark: i64) -> RangeRow {
+/// Its row, where it gave no serial.
+fn new_range() -> RangeRow {
     RangeRow {
         num: 1,
         holder: 7,
         pair: RA_GB,
         low: 0,
         high: 2,
-        mark,
+        mark: 0,
     }
 }
 
@@ -107,7 +109,7 @@ fn new_range_gives_its_first_serial_next(rt: HostRuntime) {
         outcome: Outcome::Granted { range: 1 },
     };
     let made = Made {
-        range: Some(range_row(0)),
+        range: Some(RangeWrite::New(new_range())),
         serial: None,
     };
     assert_eq!(rt; granted_row(&grant), made);
@@ -124,21 +126,27 @@ fn mark_goes_on_by_one_and_back_behind_the_last(rt: HostRuntime) {
         (1, 9, 20030, 8, 2),
     ] {
         let drawn = draw(&rt, number, day, value);
-        let made = Made {
-            range: Some(range_row(mark)),
-            serial: Some(serial_row(
-                i64::from(value),
-                i64::from(arrival),
-                i64::from(day),
-                i64::from(number),
-                0,
-            )),
-        };
-        assert_eq!(rt;
-            drawn_rows(&first_range(&rt), arrival, &drawn, &id(&rt, value)),
-            made,
-            "at {arrival}"
+        let row = serial_row(
+            i64::from(value),
+            i64::from(arrival),
+            i64::from(day),
+            i64::from(number),
+            0,
         );
+        for (issued, serial) in [
+            (Issued::Never, SerialWrite::New(row)),
+            (Issued::Before, SerialWrite::Again(row)),
+        ] {
+            let made = Made {
+                range: Some(RangeWrite::Mark { num: 1, mark }),
+                serial: Some(serial),
+            };
+            assert_eq!(rt;
+                drawn_rows(&first_range(&rt), issued, arrival, &drawn, &id(&rt, value)),
+                made,
+                "at {arrival}"
+            );
+        }
     }
 }
 
@@ -146,7 +154,7 @@ fn mark_goes_on_by_one_and_back_behind_the_last(rt: HostRuntime) {
 fn void_keeps_the_row_and_marks_it_as_voided(rt: HostRuntime) {
     let made = Made {
         range: None,
-        serial: Some(serial_row(1, 3, 20000, 2, 1)),
+        serial: Some(SerialWrite::Again(serial_row(1, 3, 20000, 2, 1))),
     };
     assert_eq!(rt; voided_row(&[serial_row(1, 3, 20000, 2, 0)]), Ok(made));
     assert_eq!(rt; voided_row(&[]), Err(BookFault::Store));

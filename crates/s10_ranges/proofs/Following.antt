@@ -1,6 +1,6 @@
 -- What a kept call makes of the ranges that are held.
 use Rattle.std.proofs.Common.{append-nil, ◌≡◌, ◌∙◌, ℕ, zero, suc, ◌+◌, ◌-◌, ◌<◌, ◌≤◌, Bool, true, false, cond, List, [], ◌∷◌, ◌++◌, map, set, Option, Some, None, length, get_or, refl, sym, ap, ap₂, subst, arith, inl, inr}
-use Rattle.std.specs.Prelude.{find, option_to_list, if◌then◌else◌, ◌==◌}
+use Rattle.std.specs.Prelude.{find, option_to_list, slice_get}
 use Rattle.std.proofs.lemmas.Bool.{and_parts, leb-true, and_from, cases_order, false_from_ne_true, le-leb}
 use Rattle.std.proofs.lemmas.Option.{none-some, same_Some}
 use Rattle.std.proofs.lemmas.List.{map-append}
@@ -13,18 +13,22 @@ use Rattle.s10_book.specs.declared.entry.Entry.{Entry}
 use Rattle.s10_book.specs.declared.range.Range.{Range}
 use Rattle.s10_book.specs.Settings.{Terms}
 use Rattle.s10_book.specs.History.{ranges_of, range_of_grant, overlaps, lies_in}
-use Rattle.s10_book.specs.Issues.{issues_of, pick_of}
+use Rattle.s10_book.specs.Issues.{issues_of}
 use Rattle.s10_book.specs.Rules.{IsLegal, MayFollow, body_answer}
 use Rattle.s10_book.proofs.Ranges.{Contains-find, found_passes}
 use Rattle.s10_book.proofs.Push.{ranges_from-push, length-ranges_from}
-use Rattle.s10_book.proofs.Marks.{pick_new, pick_drawn, pick_left}
 use Rattle.s10_book.proofs.Own.{new_ordered, drawn_from, lies_picked}
 use Rattle.s10_book.proofs.Apart.{none_pass, apart}
+use Rattle.s10_ranges.specs.declared.mark.Mark.{Mark}
 use Rattle.s10_ranges.specs.declared.ranges.Ranges.{Ranges}
+use Rattle.s10_ranges.specs.declared.turn.Turn.TheVariants.{First}
 use Rattle.s10_ranges.specs.Mirror.{Mirrors}
+use Rattle.s10_ranges.specs.Turns.{turn_of, mark_of, mark_behind}
 use Rattle.s10_ranges.specs.Sound.{AreSound}
 use Rattle.s10_ranges.proofs.Found.{find_none, find_first}
+use Rattle.s10_ranges.proofs.Marked.{mark_held}
 use Rattle.s10_ranges.proofs.Orders.{at_place}
+use Rattle.s10_ranges.proofs.Turning.{mark_new, mark_drawn, mark_left}
 
 -- a range that is found has a number of the list
 pub found_number : (p : Range → Bool) (rs : List Range) (r : Range) → AreSound rs → find p rs ≡ Some r → (0 < r.num) × (r.num ≤ length rs)
@@ -79,16 +83,20 @@ is_next h t e num r may done made =
     record { made = all.0; num = all.1; proper = new_ordered h e.request.customer e.day t.interval (length (ranges_of h) + 1) e.request.body e.outcome r may.right all.0; apart = all.2 }
 
 -- two functions that agree on each element make one list
-pub same_map : (f g : Range → ℕ) (rs : List Range) → ((k : ℕ) (d : Range) → k < length rs → f (get_or rs k d) ≡ g (get_or rs k d)) → map f rs ≡ map g rs
+pub same_map : {X : Type 0} (f g : Range → X) (rs : List Range) → ((k : ℕ) (d : Range) → k < length rs → f (get_or rs k d) ≡ g (get_or rs k d)) → map f rs ≡ map g rs
 same_map f g [] same = refl
-same_map f g (x ∷ xs) same = ap₂ (λ (n : ℕ) (l : List ℕ). n ∷ l) (same 0 x (omega arith)) (same_map f g xs (λ k d lt. same (suc k) d (omega arith)))
+same_map f g (x ∷ xs) same = ap₂ ◌∷◌ (same 0 x (omega arith)) (same_map f g xs (λ k d lt. same (suc k) d (omega arith)))
 
 -- but for one place
-pub set_map : (f g : Range → ℕ) (rs : List Range) (k v : ℕ) → k < length rs → ((d : Range) → g (get_or rs k d) ≡ v)
+pub set_map : {X : Type 0} (f g : Range → X) (rs : List Range) (k : ℕ) (v : X) → k < length rs → ((d : Range) → g (get_or rs k d) ≡ v)
     → ((i : ℕ) (d : Range) → i < length rs → (i ≡ k → ⊥) → f (get_or rs i d) ≡ g (get_or rs i d)) → set (map f rs) k v ≡ map g rs
 set_map f g [] k v lt here same = absurd (omega arith)
-set_map f g (x ∷ xs) zero v lt here same = ap₂ (λ (n : ℕ) (l : List ℕ). n ∷ l) (sym (here x)) (same_map f g xs (λ i d h. same (suc i) d (omega arith) (λ e. omega (arith, e))))
-set_map f g (x ∷ xs) (suc k) v lt here same = ap₂ (λ (n : ℕ) (l : List ℕ). n ∷ l) (same 0 x (omega arith) (λ e. omega (arith, e))) (set_map f g xs k v (omega arith) here (λ i d h ne. same (suc i) d (omega arith) (λ e. ne (omega (arith, e)))))
+set_map f g (x ∷ xs) zero v lt here same = ap₂ ◌∷◌ (sym (here x)) (same_map f g xs (λ i d h. same (suc i) d (omega arith) (λ e. omega (arith, e))))
+set_map f g (x ∷ xs) (suc k) v lt here same = ap₂ ◌∷◌ (same 0 x (omega arith) (λ e. omega (arith, e))) (set_map f g xs k v (omega arith) here (λ i d h ne. same (suc i) d (omega arith) (λ e. ne (omega (arith, e)))))
+
+-- the mark of a range that gave no serial
+abbrev pub first_mark : Range → Mark
+first_mark r = record { serial = r.first; turn = First }
 
 -- the ranges and marks behind a Done Grant
 pub grant_ranges : (h : List Entry) (e : Entry) (r : Range) → IsNext h e r → ranges_of (h ++ e ∷ []) ≡ ranges_of h ++ r ∷ []
@@ -100,12 +108,12 @@ not_drawn : (num day : ℕ) (x : Id) (o : Outcome) → o ≡ Granted num → o �
 not_drawn num day x o p q = cc
 
 pub grant_marks : (h : List Entry) (t : Terms) (e : Entry) (num : ℕ) (r : Range) → IsLegal h t → MayFollow h t e → e.outcome ≡ Granted num → IsNext h e r
-    → map (pick_of (issues_of (h ++ e ∷ []))) (ranges_of (h ++ e ∷ [])) ≡ map (pick_of (issues_of h)) (ranges_of h) ++ r.first ∷ []
+    → map (mark_of (issues_of (h ++ e ∷ []))) (ranges_of (h ++ e ∷ [])) ≡ map (mark_of (issues_of h)) (ranges_of h) ++ first_mark r ∷ []
 grant_marks h t e num r legal may done next =
-    let f : Range → ℕ = pick_of (issues_of (h ++ e ∷ [])) in
-    let old : map f (ranges_of h) ≡ map (pick_of (issues_of h)) (ranges_of h) =
-    same_map f (pick_of (issues_of h)) (ranges_of h) (λ k d lt. pick_left h t e legal may (get_or (ranges_of h) k d) (k, lt, same_at (ranges_of h) k d lt) (λ day x is _. not_drawn num day x e.outcome done is)) in
-    ap (map f) (grant_ranges h e r next) ∙ map-append f (ranges_of h) (r ∷ []) ∙ ap₂ (λ (l : List ℕ) (m : ℕ). l ++ m ∷ []) old (pick_new h t e legal may r next.made)
+    let f : Range → Mark = mark_of (issues_of (h ++ e ∷ [])) in
+    let old : map f (ranges_of h) ≡ map (mark_of (issues_of h)) (ranges_of h) =
+    same_map f (mark_of (issues_of h)) (ranges_of h) (λ k d lt. mark_left h t e legal may (get_or (ranges_of h) k d) (k, lt, same_at (ranges_of h) k d lt) (λ day x is _. not_drawn num day x e.outcome done is)) in
+    ap (map f) (grant_ranges h e r next) ∙ map-append f (ranges_of h) (r ∷ []) ∙ ap₂ (λ (l : List Mark) (m : Mark). l ++ m ∷ []) old (mark_new h t e num r legal may done next.made)
   where
     same_at : (xs : List Range) (k : ℕ) (d : Range) → k < length xs → get_or xs k (get_or xs k d) ≡ get_or xs k d
     same_at [] k d lt = absurd (omega arith)
@@ -131,16 +139,16 @@ pub other_mirrors : (r : Ranges) (h : List Entry) (t : Terms) (e : Entry) → Is
     → Mirrors r h → Mirrors r (h ++ e ∷ [])
 other_mirrors r h t e legal may no_grant no_draw m =
     let ranges = same_ranges h e no_grant in
-    let f : Range → ℕ = pick_of (issues_of (h ++ e ∷ [])) in
-    let old : map (pick_of (issues_of h)) (ranges_of h) ≡ map f (ranges_of h) =
-    same_map (pick_of (issues_of h)) f (ranges_of h) (λ k d lt. sym (pick_left h t e legal may (get_or (ranges_of h) k d) (k, lt, again (ranges_of h) k d lt) (λ day x is _. no_draw day x is))) in
+    let f : Range → Mark = mark_of (issues_of (h ++ e ∷ [])) in
+    let old : map (mark_of (issues_of h)) (ranges_of h) ≡ map f (ranges_of h) =
+    same_map (mark_of (issues_of h)) f (ranges_of h) (λ k d lt. sym (mark_left h t e legal may (get_or (ranges_of h) k d) (k, lt, again (ranges_of h) k d lt) (λ day x is _. no_draw day x is))) in
     record { ranges = m.ranges ∙ sym ranges; marks = m.marks ∙ old ∙ ap (map f) (sym ranges) }
 
 -- a Done Grant adds its range, whose mark is its first serial
 pub grant_mirrors : (old new : Ranges) (h : List Entry) (t : Terms) (e : Entry) (num : ℕ) (r : Range) → IsLegal h t → MayFollow h t e → length h < 4294967295 → Mirrors old h
     → e.outcome ≡ Granted num → range_of_grant num e.request.body (Granted num) ≡ Some r
     → (length old.ranges.items < 4294967295 → r.num ≡ length old.ranges.items + 1 → r.first ≤ r.last → find (overlaps r.service r.country r.first r.last) old.ranges.items ≡ None
-    → (new.ranges.items ≡ old.ranges.items ++ r ∷ []) × (new.marks.items ≡ old.marks.items ++ r.first ∷ []))
+    → (new.ranges.items ≡ old.ranges.items ++ r ∷ []) × (new.marks.items ≡ old.marks.items ++ first_mark r ∷ []))
     → Mirrors new (h ++ e ∷ [])
 grant_mirrors old new h t e num r legal may few m done made pushed =
     let next = is_next h t e num r may done made in
@@ -148,7 +156,7 @@ grant_mirrors old new h t e num r legal may few m done made pushed =
     let both = pushed (omega (arith, count, length-ranges_from 1 h, few)) (omega (arith, next.num, count)) next.proper (ap (find (overlaps r.service r.country r.first r.last)) m.ranges ∙ next.apart) in
     record {
       ranges = both.0 ∙ ap (λ (l : List Range). l ++ r ∷ []) m.ranges ∙ sym (grant_ranges h e r next);
-      marks = both.1 ∙ ap (λ (l : List ℕ). l ++ r.first ∷ []) m.marks ∙ sym (grant_marks h t e num r legal may done next);
+      marks = both.1 ∙ ap (λ (l : List Mark). l ++ first_mark r ∷ []) m.marks ∙ sym (grant_marks h t e num r legal may done next);
     }
 
 drawn_same : (a b : ℕ) (x y : Id) → Drawn a x ≡ Drawn b y → x ≡ y
@@ -169,7 +177,8 @@ one_place h t x i k d legal lt lt' li lk =
 -- a Done Draw turns the mark of the range of its identifier
 pub draw_mirrors : (old new : Ranges) (h : List Entry) (t : Terms) (e : Entry) (day : ℕ) (x : Id) → IsLegal h t → MayFollow h t e → AreSound old.ranges.items → Mirrors old h
     → e.outcome ≡ Drawn day x → new.ranges.items ≡ old.ranges.items
-    → ((r : Range) → find (overlaps x.service x.country x.serial x.serial) old.ranges.items ≡ Some r → new.marks.items ≡ set old.marks.items (r.num - 1) (if x.serial == r.last then r.first else x.serial + 1))
+    → ((r : Range) (m : Mark) → find (overlaps x.service x.country x.serial x.serial) old.ranges.items ≡ Some r → slice_get old.marks.items (r.num - 1) ≡ Some m
+    → new.marks.items ≡ set old.marks.items (r.num - 1) (mark_behind r m.turn x.serial))
     → Mirrors new (h ++ e ∷ [])
 draw_mirrors old new h t e day x legal may sound m done kept turned =
     let rs : List Range = ranges_of h in
@@ -190,17 +199,17 @@ draw_mirrors old new h t e day x legal may sound m done kept turned =
     let sound' : AreSound rs = subst AreSound m.ranges sound in
     let num = sound' k r lt in
     let place : r.num - 1 ≡ k = omega (arith, num.num, ap (λ (y : Range). y.num) is) in
-    let v : ℕ = if x.serial == r.last then r.first else x.serial + 1 in
-    let f : Range → ℕ = pick_of (issues_of (h ++ e ∷ [])) in
-    let drawn : f r ≡ v = pick_drawn h t e legal may r from.there day x done lies in
+    let v : Mark = mark_behind r (turn_of (issues_of h) r) x.serial in
+    let f : Range → Mark = mark_of (issues_of (h ++ e ∷ [])) in
+    let drawn : f r ≡ v = mark_drawn h t e legal may r from.there day x done lies in
     let ranges : ranges_of (h ++ e ∷ []) ≡ rs = same_ranges h e (λ n is'. not_drawn n day x e.outcome is' done) in
-    let moved : set (map (pick_of (issues_of h)) rs) k v ≡ map f rs =
-    set_map (pick_of (issues_of h)) f rs k v lt (λ d. ap f (at d) ∙ drawn)
-    (λ i d in' ne. sym (pick_left h t e legal may (get_or rs i d) (i, in', again rs i d in') (λ day' x' is' lies'.
+    let moved : set (map (mark_of (issues_of h)) rs) k v ≡ map f rs =
+    set_map (mark_of (issues_of h)) f rs k v lt (λ d. ap f (at d) ∙ drawn)
+    (λ i d in' ne. sym (mark_left h t e legal may (get_or rs i d) (i, in', again rs i d in') (λ day' x' is' lies'.
     let same : x' ≡ x = drawn_same day' day x' x (sym is' ∙ done) in
     ne (one_place h t x i k d legal in' lt (ap (λ (y : Id). lies_in (get_or rs i d) y) (sym same) ∙ lies') (lies_there d))))) in
     record {
       ranges = kept ∙ m.ranges ∙ sym ranges;
-      marks = turned r (ap (find (overlaps x.service x.country x.serial x.serial)) m.ranges ∙ found)
-          ∙ ap₂ (λ (l : List ℕ) (n : ℕ). set l n v) m.marks place ∙ moved ∙ ap (map f) (sym ranges);
+      marks = turned r (mark_of (issues_of h) r) (ap (find (overlaps x.service x.country x.serial x.serial)) m.ranges ∙ found) (mark_held old h r sound m from.there)
+          ∙ ap₂ (λ (l : List Mark) (n : ℕ). set l n v) m.marks place ∙ moved ∙ ap (map f) (sym ranges);
     }

@@ -5,5 +5,6 @@ pub mod Holding
 pub mod Placing
 pub mod Pushing
 pub mod Leasts
-pub mod Following
+pub mod Turning
 pub mod Marked
+pub mod Following

@@ -4,12 +4,14 @@ use Rattle.std.specs.Prelude.{Contains, slice_get}
 use Rattle.s10_book.specs.declared.entry.Entry.{Entry}
 use Rattle.s10_book.specs.declared.range.Range.{Range}
 use Rattle.s10_book.specs.History.{ranges_of}
-use Rattle.s10_book.specs.Issues.{issues_of, pick_of}
+use Rattle.s10_book.specs.Issues.{issues_of}
+use Rattle.s10_ranges.specs.declared.mark.Mark.{Mark}
 use Rattle.s10_ranges.specs.declared.ranges.Ranges.{Ranges}
 use Rattle.s10_ranges.specs.Mirror.{Mirrors}
+use Rattle.s10_ranges.specs.Turns.{mark_of}
 use Rattle.s10_ranges.specs.Sound.{AreSound}
 
-get_map : (f : Range → ℕ) (rs : List Range) (k : ℕ) (d : Range) → k < length rs → slice_get (map f rs) k ≡ Some (f (get_or rs k d))
+get_map : {X : Type 0} (f : Range → X) (rs : List Range) (k : ℕ) (d : Range) → k < length rs → slice_get (map f rs) k ≡ Some (f (get_or rs k d))
 get_map f [] k d lt = absurd (omega arith)
 get_map f (x ∷ xs) zero d lt = refl
 get_map f (x ∷ xs) (suc k) d lt = get_map f xs k d (omega arith)
@@ -24,10 +26,10 @@ numbered r h range sound m there =
 pub mark_above : (r : Ranges) (h : List Entry) (range : Range) → AreSound r.ranges.items → Mirrors r h → Contains (ranges_of h) range → 0 < range.num
 mark_above r h range sound m there = let num = numbered r h range sound m there in omega (arith, num)
 
--- the mark is the pick
-pub mark_picked : (r : Ranges) (h : List Entry) (range : Range) → AreSound r.ranges.items → Mirrors r h → Contains (ranges_of h) range → slice_get r.marks.items (range.num - 1) ≡ Some (pick_of (issues_of h) range)
-mark_picked r h range sound m there =
+-- the mark is that of the history
+pub mark_held : (r : Ranges) (h : List Entry) (range : Range) → AreSound r.ranges.items → Mirrors r h → Contains (ranges_of h) range → slice_get r.marks.items (range.num - 1) ≡ Some (mark_of (issues_of h) range)
+mark_held r h range sound m there =
     let num = numbered r h range sound m there in
-    let f : Range → ℕ = pick_of (issues_of h) in
+    let f : Range → Mark = mark_of (issues_of h) in
     let place : range.num - 1 ≡ there.0 = omega (arith, num) in
     ap₂ slice_get m.marks place ∙ get_map f (ranges_of h) there.0 range there.1 ∙ ap (λ (x : Range). Some (f x)) there.2

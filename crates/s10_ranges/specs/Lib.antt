@@ -2,4 +2,5 @@ pub mod Keys
 pub mod Order
 pub mod Sound
 pub mod Room
+pub mod Turns
 pub mod Mirror

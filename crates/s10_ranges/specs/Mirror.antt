@@ -2,10 +2,11 @@
 use Rattle.std.specs.Prelude.{◌≡◌, List, map}
 use Rattle.s10_book.specs.declared.entry.Entry.{Entry}
 use Rattle.s10_book.specs.History.{ranges_of}
-use Rattle.s10_book.specs.Issues.{issues_of, pick_of}
+use Rattle.s10_book.specs.Issues.{issues_of}
 use Rattle.s10_ranges.specs.declared.ranges.Ranges.{Ranges}
+use Rattle.s10_ranges.specs.Turns.{mark_of}
 
--- the ranges of the history, each with its pick as the mark
+-- the ranges of the history, each with its mark: its pick, and its turn
 pub record Mirrors (r : Ranges) (h : List Entry) : Type 0 where
   pub ranges : r.ranges.items ≡ ranges_of h
-  pub marks : r.marks.items ≡ map (pick_of (issues_of h)) (ranges_of h)
+  pub marks : r.marks.items ≡ map (mark_of (issues_of h)) (ranges_of h)

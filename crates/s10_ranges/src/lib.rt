@@ -4,9 +4,13 @@
 mod keys;
 mod lookups;
 mod made;
+mod mark;
 mod order;
 mod places;
 mod ranges;
 mod sort_key;
+mod turn;
 
+pub use mark::Mark;
 pub use ranges::Ranges;
+pub use turn::Turn;

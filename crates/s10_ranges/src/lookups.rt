@@ -8,6 +8,7 @@ ghost use Rattle.s10_ranges.specs.Order.{IsOrder};
 ghost use Rattle.s10_ranges.specs.Sound.{AreSound};
 
 use crate::keys::{holder_number, place_number};
+use crate::mark::Mark;
 use crate::order::{first_at, least_in};
 use crate::sort_key::SortKey;
 use s10_book::Range;
@@ -23,7 +24,7 @@ pub(crate) fn range_numbered(ranges: &[Range], num: u32) -> Option<Range>
     Some(ranges[num as usize - 1])
 }
 
-pub(crate) fn mark_numbered(marks: &[Serial], num: u32) -> Option<Serial>
+pub(crate) fn mark_numbered(marks: &[Mark], num: u32) -> Option<Mark>
     ensures some { 0 < num → result ≡ slice_get marks.now (num - 1) }
     ensures none { num ≡ 0 → result ≡ None }
 {

@@ -3,7 +3,10 @@
 ghost use Rattle.std.specs.Prelude.{◌≡◌, ◌==◌, ◌≤◌, ◌+◌, if◌then◌else◌};
 ghost use Rattle.s10_wire.specs.declared.outcome.Outcome.TheVariants.{Granted};
 ghost use Rattle.s10_book.specs.History.{range_of_grant};
+ghost use Rattle.s10_ranges.specs.Turns.{mark_behind};
 
+use crate::mark::Mark;
+use crate::turn::Turn;
 use s10_book::{Entry, Range};
 use s10_core::Serial;
 use s10_wire::Body;
@@ -32,7 +35,7 @@ pub(crate) fn range_granted(entry: &Entry, num: u32) -> Option<Range>
 }
 
 // The serial behind that one of the range: the next, or the first one behind the last.
-pub(crate) fn serial_behind(range: &Range, serial: Serial) -> Serial
+fn serial_behind(range: &Range, serial: Serial) -> Serial
     requires { serial ≤ range.now.last }
     ensures { result ≡ (if serial == range.now.last then range.now.first else serial + 1) }
 {
@@ -41,4 +44,19 @@ pub(crate) fn serial_behind(range: &Range, serial: Serial) -> Serial
         return range.first;
     }
     Serial::new(serial.value() + 1).unwrap_or(range.first)
+}
+
+// The mark behind a serial that the range gave in that turn.
+pub(crate) fn next_mark(range: &Range, turn: Turn, serial: Serial) -> Mark
+    requires { serial ≤ range.now.last }
+    ensures { result ≡ mark_behind range.now turn serial }
+{
+    let next = serial_behind(range, serial);
+    if serial.value() == range.last.value() {
+        return Mark {
+            serial: next,
+            turn: Turn::Later,
+        };
+    }
+    Mark { serial: next, turn }
 }

@@ -6,22 +6,25 @@ ghost use Rattle.s10_ranges.specs.declared.sort_key.SortKey.TheVariants.{First, 
 ghost use Rattle.s10_ranges.specs.Keys.{key_by};
 ghost use Rattle.s10_ranges.specs.Order.{IsOrder};
 ghost use Rattle.s10_ranges.specs.Sound.{AreSound};
+ghost use Rattle.s10_ranges.specs.Turns.{mark_behind};
 
 use crate::lookups::{mark_numbered, range_held, range_numbered, range_over};
-use crate::made::{range_granted, serial_behind};
+use crate::made::{next_mark, range_granted};
+use crate::mark::Mark;
 use crate::places::{place_among, place_among_held};
+use crate::turn::Turn;
 use s10_book::{Entry, Range};
 use s10_core::{Country, Id, Serial, Service};
 use s10_wire::Outcome;
 use std::alloc::{AllocError, Global};
 
-/// The ranges of a ledger, numbered from 1, each with its mark: the serial that it gives next. No two
-/// have a serial in common. A look-up takes steps as the logarithm of how many ranges there are, and
+/// The ranges of a ledger, numbered from 1, each with its mark: the serial that it gives next, and its
+/// turn. No two have a serial in common. A look-up takes steps as the logarithm of how many ranges there are, and
 /// `over` besides as many as there are ranges with a serial in common.
 #[derive(Drop)]
 pub struct Ranges {
     ranges: Vec<Range>,
-    marks: Vec<Serial>,
+    marks: Vec<Mark>,
     by_place: Vec<u32>,
     by_holder: Vec<u32>,
     ghost sound: { AreSound ranges.items },
@@ -31,9 +34,10 @@ pub struct Ranges {
 }
 
 impl Ranges {
-    ghost use Rattle.std.specs.Prelude.{List, Some, if◌then◌else◌};
+    ghost use Rattle.std.specs.Prelude.{List, Some};
     ghost use Rattle.s10_book.specs.declared.entry.Entry.{Entry};
     ghost use Rattle.s10_book.specs.declared.range.Range.{Range};
+    ghost use Rattle.s10_ranges.specs.declared.mark.Mark.{Mark};
     ghost use Rattle.s10_book.specs.Settings.{Terms};
     ghost use Rattle.s10_book.specs.Rules.{IsLegal, MayFollow};
     ghost use Rattle.s10_ranges.specs.Mirror.{Mirrors};
@@ -67,7 +71,7 @@ impl Ranges {
 
     // Adds the next range, for which there is room. It has the next number and no serial in common
     // with another one.
-    fn push_reserved(&mut self, range: Range, mark: Serial)
+    fn push_reserved(&mut self, range: Range, mark: Mark)
         requires room { HasRoom self.old }
         requires few { length self.old.ranges.items < 4294967295 }
         requires num { range.num ≡ length self.old.ranges.items + 1 }
@@ -87,7 +91,7 @@ impl Ranges {
 
     // Adds the range, where it is the next one and has no serial in common with another: there is room
     // for it. Leaves the ranges as they are where it is not.
-    fn push_next(&mut self, range: Range, mark: Serial)
+    fn push_next(&mut self, range: Range, mark: Mark)
         requires room { HasRoom self.old }
         ensures next { length self.old.ranges.items < 4294967295 → range.num ≡ length self.old.ranges.items + 1 → range.first ≤ range.last
             → find (overlaps range.service range.country range.first range.last) self.old.ranges.items ≡ None
@@ -114,11 +118,11 @@ impl Ranges {
     }
 
     // Sets the mark of the range of the identifier behind its serial: the next, or the first one behind
-    // the last. Leaves the marks as they are where it lies in no range.
+    // the last, which begins a later turn. Leaves the marks as they are where it lies in no range.
     fn turn(&mut self, id: &Id)
         ensures ranges { self.new.ranges.items ≡ self.old.ranges.items }
-        ensures marks { (r : Range) → find (overlaps id.now.service id.now.country id.now.serial id.now.serial) self.old.ranges.items ≡ Some r
-            → self.new.marks.items ≡ set self.old.marks.items (r.num - 1) (if id.now.serial == r.last then r.first else id.now.serial + 1) }
+        ensures marks { (r : Range) (m : Mark) → find (overlaps id.now.service id.now.country id.now.serial id.now.serial) self.old.ranges.items ≡ Some r
+            → slice_get self.old.marks.items (r.num - 1) ≡ Some m → self.new.marks.items ≡ set self.old.marks.items (r.num - 1) (mark_behind r m.turn id.now.serial) }
     {
         let found = range_over(
             &self.ranges,
@@ -131,8 +135,12 @@ impl Ranges {
         let Some(range) = found else {
             return;
         };
-        let mark = serial_behind(&range, id.serial);
-        self.set_mark(range.num, mark);
+        let held = mark_numbered(&self.marks, range.num);
+        let Some(mark) = held else {
+            return;
+        };
+        let next = next_mark(&range, mark.turn, id.serial);
+        self.set_mark(range.num, next);
     }
 
     /// Adds what a kept call makes: the range of a Done Grant, the mark behind a Done Draw. Where the
@@ -145,7 +153,11 @@ impl Ranges {
         match entry.outcome {
             Outcome::Granted { range: num } => {
                 if let Some(range) = range_granted(entry, num) {
-                    self.push_next(range, range.first);
+                    let mark = Mark {
+                        serial: range.first,
+                        turn: Turn::First,
+                    };
+                    self.push_next(range, mark);
                 }
             }
             Outcome::Drawn { id, .. } => self.turn(&id),
@@ -154,7 +166,7 @@ impl Ranges {
     }
 
     // Sets the mark of the range of that number.
-    fn set_mark(&mut self, num: u32, mark: Serial)
+    fn set_mark(&mut self, num: u32, mark: Mark)
         requires from { 0 < num }
         requires to { num ≤ length self.old.ranges.items }
         ensures ranges { self.new.ranges.items ≡ self.old.ranges.items }
@@ -164,7 +176,7 @@ impl Ranges {
     }
 
     /// The mark of the range of that number, if there is one.
-    pub fn mark(&self, num: u32) -> Option<Serial>
+    pub fn mark(&self, num: u32) -> Option<Mark>
         ensures some { 0 < num → result ≡ slice_get self.now.marks.items (num - 1) }
         ensures none { num ≡ 0 → result ≡ None }
     {

@@ -1,17 +1,17 @@
 -- The rows that a Done Draw makes.
-use Rattle.std.proofs.Common.{◌≡◌, ℕ, zero, suc, ◌+◌, ◌<◌, ◌≤◌, Bool, true, false, not, cond, eqb, leb, ◌&&◌, ◌||◌, pos, List, [], ◌∷◌, ◌++◌, map, length, get_or, Option, Some, None, refl, sym, ap, ap₂, ◌∙◌, inl, inr, arith, subst}
-use Rattle.std.specs.Prelude.{Result, Ok, find, filter, All, AllPairs, Contains, slice_get, int_le}
+use Rattle.std.proofs.Common.{◌≡◌, ℕ, zero, suc, ◌+◌, Bool, true, false, not, cond, eqb, leb, ◌&&◌, ◌||◌, pos, List, [], ◌∷◌, ◌++◌, map, length, get_or, Some, None, refl, sym, ap, ap₂, ◌∙◌, inl, inr, arith, subst}
+use Rattle.std.specs.Prelude.{ℤ, option_to_list, find, filter, All, AllPairs, Contains, slice_get, int_le}
 use Rattle.std.proofs.lemmas.Bool.Decides.{same_from_decides}
-use Rattle.std.proofs.lemmas.Bool.{both_ways, cases_Bool, cases_order, eq-eqb, ne_eqb, and_parts, and_from, le-leb}
+use Rattle.std.proofs.lemmas.Bool.{both_ways, cases_Bool, cases_order, eq-eqb, eqb-true, and_parts, and_from, le-leb}
 use Rattle.std.proofs.lemmas.Option.{none-some, same_Some, slice_get-get_or}
 use Rattle.std.proofs.lemmas.List.{map-append}
+use Rattle.std.specs.List.{last_or}
 use Rattle.std.proofs.lemmas.List.Folds.{list_any-append}
 use Rattle.std.proofs.lemmas.List.Elements.{All-weaker, All-contains_itself}
 use Rattle.s10_core.specs.declared.id.Id.{Id}
 use Rattle.s10_core.specs.Id.{IsId}
 use Rattle.s10_wire.specs.declared.outcome.Outcome.{Outcome}
 use Rattle.s10_wire.specs.Datagrams.{IsOutcome}
-use Rattle.s10_book.specs.declared.book_fault.BookFault.{BookFault}
 use Rattle.std.specs.Ordering.{int_eq}
 use Rattle.s10_wire.specs.declared.outcome.Outcome.TheVariants.{Granted, Drawn, Voided}
 use Rattle.s10_book.specs.declared.entry.Entry.{Entry}
@@ -28,15 +28,18 @@ use Rattle.s10_book.proofs.Own.{drawn_from, lies_picked}
 use Rattle.s10_book.proofs.Marks.{pick_drawn, pick_left}
 use Rattle.s10_book.proofs.Spaced.{drawn_parts, id_same}
 use Rattle.s10_book.proofs.Free.{id_equal}
+use Rattle.s10_rows.specs.declared.issued.Issued.{Issued}
+use Rattle.s10_rows.specs.declared.issued.Issued.TheVariants.{Never, Before}
 use Rattle.s10_rows.specs.declared.range_row.RangeRow.{RangeRow}
+use Rattle.s10_rows.specs.declared.range_write.RangeWrite.TheVariants.{Mark}
 use Rattle.s10_rows.specs.declared.serial_row.SerialRow.{SerialRow}
-use Rattle.s10_rows.specs.Tables.{HaveSameRows, pair_of, range_row, range_rows, serial_row, serial_rows}
+use Rattle.s10_rows.specs.Tables.{pair_of, range_row, range_rows, serial_row, serial_rows}
 use Rattle.s10_rows.specs.Selected.{IsCall, IsIssuance}
-use Rattle.s10_rows.specs.Kept.{Makes, has_num, is_at}
+use Rattle.s10_rows.specs.Kept.{Makes, marked, is_at, with_serial, write_of}
 use Rattle.s10_rows.proofs.Tests.{int_eq-pos, between_itself}
-use Rattle.s10_rows.proofs.LastIssues.{All-last_issues}
+use Rattle.s10_rows.proofs.LastIssues.{none_filter, last_of, All-last_issues}
 use Rattle.s10_rows.proofs.SerialRows.{issues_of_fit, row_of_is, filter_image}
-use Rattle.s10_rows.proofs.Replaced.{replaced, same_images, same_rows}
+use Rattle.s10_rows.proofs.Replaced.{same_images, map_twice, images_agree, all_left, same_rows}
 use Rattle.s10_rows.proofs.MadeRows.{made_by, row_in, same_row_in, same_ranges, none_behind, none_made, none_voided}
 
 -- a range in two places of a list is the same range, and two ranges of one identifier are one
@@ -57,61 +60,49 @@ one_range rs r s x pairs cr cs lr ls =
     again : (ys : List Range) (y : Range) (c : Contains ys y) (d : Range) → get_or ys c.0 d ≡ y
     again ys y c d = same_Some (get_or ys c.0 d) y (sym (slice_get-get_or ys c.0 d c.1) ∙ slice_get-get_or ys c.0 y c.1 ∙ ap Some c.2)
 
--- of ranges that are numbered on, none has a lower number
-none_lower : (n num : ℕ) (rs : List Range) → num < n → Numbered n rs → filter (λ r. eqb r.num num) rs ≡ []
-none_lower n num [] lt up = refl
-none_lower n num (r ∷ rs) lt up =
-    let other : eqb r.num num ≡ false = ne_eqb r.num num (λ e. omega (arith, up.0, e)) in
-    rw (other, none_lower (n + 1) num rs (omega arith) up.1) refl
+-- the number of a range tells its place
+num_at : (n : ℕ) (r : Range) (rs : List Range) → Numbered n rs → (there : Contains rs r) → r.num ≡ n + there.0
+num_at n r [] up there = absurd (omega (arith, there.1))
+num_at n r (s ∷ rs) up (zero, lt, is) = omega (arith, up.0, ap (λ (y : Range). y.num) is)
+num_at n r (s ∷ rs) up (suc k, lt, is) = omega (arith, num_at (n + 1) r rs up.1 (k, omega arith, is))
 
-above_first : (n : ℕ) (r : Range) (rs : List Range) → Numbered n rs → Contains rs r → n ≤ r.num
-above_first n r [] up there = absurd (omega (arith, there.1))
-above_first n r (s ∷ rs) up (zero, lt, is) = omega (arith, up.0, ap (λ (y : Range). y.num) is)
-above_first n r (s ∷ rs) up (suc k, lt, is) = omega (arith, above_first (n + 1) r rs up.1 (k, omega arith, is))
-
--- and one has each number
-one_numbered : (n : ℕ) (r : Range) (rs : List Range) → Numbered n rs → Contains rs r → filter (λ s. eqb s.num r.num) rs ≡ r ∷ []
-one_numbered n r [] up there = absurd (omega (arith, there.1))
-one_numbered n r (s ∷ rs) up (zero, lt, is) =
-    let same : s ≡ r = is in
-    let test : eqb s.num r.num ≡ true = eq-eqb s.num r.num (ap (λ (y : Range). y.num) same) in
-    rw (test, none_lower (n + 1) r.num rs (omega (arith, up.0, ap (λ (y : Range). y.num) same)) up.1) (ap (λ (y : Range). y ∷ []) same)
-one_numbered n r (s ∷ rs) up (suc k, lt, is) =
-    let there : Contains rs r = (k, omega arith, is) in
-    let other : eqb s.num r.num ≡ false = ne_eqb s.num r.num (λ e. omega (arith, up.0, e, above_first (n + 1) r rs up.1 there)) in
-    rw other (one_numbered (n + 1) r rs up.1 there)
-
-rows_but_one : (f : Range → ℕ) (num : ℕ) (rs : List Range) → filter (λ row. not (has_num (pos num) row)) (map (λ r. range_row (f r) r) rs) ≡ map (λ r. range_row (f r) r) (filter (λ r. not (eqb r.num num)) rs)
-rows_but_one f num rs =
-    filter_image (λ row. not (has_num (pos num) row)) (λ r. not (eqb r.num num)) (λ r. range_row (f r) r) (λ r. ℕ) (λ r _. ap not (int_eq-pos r.num num)) rs (λ k d lt. 0)
+-- so two of one number are one
+one_numbered : (rs : List Range) (r s : Range) → Numbered 1 rs → Contains rs r → Contains rs s → s.num ≡ r.num → s ≡ r
+one_numbered rs r s up cr cs same =
+    let at : cs.0 ≡ cr.0 = omega (arith, num_at 1 r rs up cr, num_at 1 s rs up cs, same) in
+    let f : slice_get rs cr.0 ≡ Some r = slice_get-get_or rs cr.0 r cr.1 ∙ ap Some cr.2 in
+    let g : slice_get rs cs.0 ≡ Some s = slice_get-get_or rs cs.0 s cs.1 ∙ ap Some cs.2 in
+    same_Some s r (sym g ∙ ap (slice_get rs) at ∙ f)
 
 abbrev next_of : Range → ℕ → ℕ
 next_of r serial = cond (eqb serial r.last) r.first (serial + 1)
 
 -- the rows of ranges behind a Done Draw
-pub draw_ranges : (h : List Entry) (t : Terms) (e : Entry) (day : ℕ) (x : Id) (r : Range) → IsLegal h t → MayFollow h t e → e.outcome ≡ Drawn day x → Contains (ranges_of h) r → lies_in r x ≡ true
-    → HaveSameRows (filter (λ row. not (has_num (pos r.num) row)) (range_rows h) ++ range_row (next_of r x.serial) r ∷ []) (range_rows (h ++ e ∷ []))
+draw_ranges : (h : List Entry) (t : Terms) (e : Entry) (day : ℕ) (x : Id) (r : Range) → IsLegal h t → MayFollow h t e → e.outcome ≡ Drawn day x → Contains (ranges_of h) r → lies_in r x ≡ true
+    → map (marked (pos r.num) (pos (next_of r x.serial))) (range_rows h) ≡ range_rows (h ++ e ∷ [])
 draw_ranges h t e day x r legal may done there lies =
     let old : Range → RangeRow = λ s. range_row (pick_of (issues_of h) s) s in
     let new : Range → RangeRow = λ s. range_row (pick_of (issues_of (h ++ e ∷ [])) s) s in
+    let next : Range → RangeRow = range_row (next_of r x.serial) in
+    let write : RangeRow → RangeRow = marked (pos r.num) (pos (next_of r x.serial)) in
     let other : (n : ℕ) → ¬ (e.outcome ≡ Granted n) = λ n is. not_both day x n (sym done ∙ is) in
     let ranges : ranges_of (h ++ e ∷ []) ≡ ranges_of h = same_ranges h e (none_made (1 + length (ranges_of h)) e.request.body e.outcome other) in
-    let here : new r ≡ range_row (next_of r x.serial) r = ap (λ (m : ℕ). range_row m r) (pick_drawn h t e legal may r there day x done lies) in
-    let left : All (λ s. eqb s.num r.num ≡ false → old s ≡ new s) (ranges_of h) =
-    All-weaker (λ s. Contains (ranges_of h) s) (λ s. eqb s.num r.num ≡ false → old s ≡ new s)
-    (λ s in' apart_num. ap (λ (m : ℕ). range_row m s) (sym (pick_left h t e legal may s in' (λ d y is ly.
-    let same : x ≡ y = (drawn_parts day d x y (sym done ∙ is)).1 in
-    let P : Id → Type 0 = λ z. lies_in s z ≡ true in
-    let one : s ≡ r = one_range (ranges_of h) s r x (apart h t legal) in' there (subst P (sym same) ly) lies in
-    both_ways (eqb s.num r.num) apart_num (eq-eqb s.num r.num (ap (λ (z : Range). z.num) one))))))
-    (ranges_of h) (All-contains_itself (ranges_of h)) in
-    let moved : HaveSameRows (map old (filter (λ s. not (eqb s.num r.num)) (ranges_of h)) ++ new r ∷ []) (map new (ranges_of h)) =
-    replaced (λ s. eqb s.num r.num) old new (ranges_of h) r (one_numbered 1 r (ranges_of h) (numbered 1 h) there) left in
-    let front : map old (filter (λ s. not (eqb s.num r.num)) (ranges_of h)) ++ new r ∷ [] ≡ filter (λ row. not (has_num (pos r.num) row)) (range_rows h) ++ range_row (next_of r x.serial) r ∷ [] =
-    ap₂ (λ (l : List RangeRow) (row : RangeRow). l ++ row ∷ []) (sym (rows_but_one (λ s. pick_of (issues_of h) s) r.num (ranges_of h))) here in
-    let P : List RangeRow → Type 0 = λ l. HaveSameRows l (map new (ranges_of h)) in
-    let Q : List Range → Type 0 = λ rs. HaveSameRows (filter (λ row. not (has_num (pos r.num) row)) (range_rows h) ++ range_row (next_of r x.serial) r ∷ []) (map new rs) in
-    subst Q (sym ranges) (subst P front moved)
+    let here : new r ≡ next r = ap (λ (m : ℕ). range_row m r) (pick_drawn h t e legal may r there day x done lies) in
+    let each : (s : Range) → Contains (ranges_of h) s → write (old s) ≡ new s =
+    λ s in'. ap (λ (b : Bool). cond b (next s) (old s)) (int_eq-pos s.num r.num) ∙ elim (cases_Bool (eqb s.num r.num)) [
+      | inl same ↦
+          let one : s ≡ r = one_numbered (ranges_of h) r s (numbered 1 h) there in' (eqb-true s.num r.num same) in
+          ap (λ (b : Bool). cond b (next s) (old s)) same ∙ ap next one ∙ sym here ∙ ap new (sym one)
+      | inr apart_num ↦ ap (λ (b : Bool). cond b (next s) (old s)) apart_num
+          ∙ ap (λ (m : ℕ). range_row m s) (sym (pick_left h t e legal may s in' (λ d y is ly.
+          let drawn : x ≡ y = (drawn_parts day d x y (sym done ∙ is)).1 in
+          let P : Id → Type 0 = λ z. lies_in s z ≡ true in
+          let one : s ≡ r = one_range (ranges_of h) s r x (apart h t legal) in' there (subst P (sym drawn) ly) lies in
+          both_ways (eqb s.num r.num) apart_num (eq-eqb s.num r.num (ap (λ (z : Range). z.num) one)))))
+    ] in
+    map_twice write old (ranges_of h)
+    ∙ images_agree (λ s. write (old s)) new (ranges_of h) (All-weaker (λ s. Contains (ranges_of h) s) (λ s. write (old s) ≡ new s) each (ranges_of h) (All-contains_itself (ranges_of h)))
+    ∙ ap (map new) (sym ranges)
   where
     not_both : (day : ℕ) (x : Id) (n : ℕ) → Drawn day x ≡ Granted n → ⊥
     not_both day x n e = cc
@@ -173,13 +164,27 @@ draw_serials h e day x calls right done =
     not_done : (day : ℕ) (x : Id) → Drawn day x ≡ Voided → ⊥
     not_done day x e = cc
 
-pub draw_makes : (h : List Entry) (t : Terms) (e : Entry) (day : ℕ) (x : Id) (r : Range) → IsLegal h t → MayFollow h t e → All IsCall h → IsCall e → e.outcome ≡ Drawn day x → Contains (ranges_of h) r → lies_in r x ≡ true
-    → Makes h e (Some (range_row (next_of r x.serial) r)) (Some (serial_row false (made_by e (1 + length h) (day, x))))
-draw_makes h t e day x r legal may calls call done there lies =
+-- of an identifier that was never issued there is no row
+unissued_rows : (h : List Entry) (x : Id) → All IsCall h → IsId x → is_issued (issues_of h) x ≡ false
+    → filter (λ row. not (is_at (pos (pair_of x.service x.country)) (pos x.serial) row)) (serial_rows h) ≡ serial_rows h
+unissued_rows h x calls right never =
+    rows_but_at h x calls right
+    ∙ ap (map (row_in h)) (all_left (is_of x) (last_issues (issues_of h)) (last_of (issues_of h) x ∙ ap (λ (is : List Issuance). option_to_list (last_or None is)) (none_filter (is_of x) (issues_of h) never)))
+
+with_issue : (h : List Entry) (x : Id) (issued : Issued) (row : SerialRow) → All IsCall h → IsId x → (row.pair ≡ pos (pair_of x.service x.country)) × (row.serial ≡ pos x.serial) → (issued ≡ Never → is_issued (issues_of h) x ≡ false)
+    → with_serial (Some (write_of issued row)) (serial_rows h) ≡ filter (λ s. not (is_at (pos (pair_of x.service x.country)) (pos x.serial) s)) (serial_rows h) ++ row ∷ []
+with_issue h x Never row calls right at never = ap (λ (l : List SerialRow). l ++ row ∷ []) (sym (unissued_rows h x calls right (never refl)))
+with_issue h x Before row calls right at never = ap₂ (λ (p s : ℤ). filter (λ r. not (is_at p s r)) (serial_rows h) ++ row ∷ []) at.0 at.1
+
+pub draw_makes : (h : List Entry) (t : Terms) (e : Entry) (day : ℕ) (x : Id) (r : Range) (issued : Issued) → IsLegal h t → MayFollow h t e → All IsCall h → IsCall e → e.outcome ≡ Drawn day x → Contains (ranges_of h) r → lies_in r x ≡ true
+    → (issued ≡ Never → is_issued (issues_of h) x ≡ false)
+    → Makes h e (Some (Mark (pos r.num) (pos (next_of r x.serial)))) (Some (write_of issued (serial_row false (made_by e (1 + length h) (day, x)))))
+draw_makes h t e day x r issued legal may calls call done there lies never =
     let out : IsOutcome (Drawn day x) = subst IsOutcome done call.outcome in
+    let row : SerialRow = serial_row false (made_by e (1 + length h) (day, x)) in
     record {
-      ranges = draw_ranges h t e day x r legal may done there lies;
-      serials = same_rows _ (serial_rows (h ++ e ∷ [])) (draw_serials h e day x calls out.1 done);
+      ranges = same_rows _ (range_rows (h ++ e ∷ [])) (draw_ranges h t e day x r legal may done there lies);
+      serials = same_rows _ (serial_rows (h ++ e ∷ [])) (with_issue h x issued row calls out.1 (refl, refl) never ∙ draw_serials h e day x calls out.1 done);
     }
 
 -- whether the range has the identifier

@@ -1,8 +1,6 @@
 -- The row that a Done Grant makes.
-use Rattle.std.proofs.Common.{◌≡◌, ℕ, ◌+◌, ◌≤◌, Bool, true, false, not, cond, pos, List, [], ◌∷◌, ◌++◌, map, length, Option, Some, None, refl, sym, ap, ap₂, ◌∙◌, arith}
-use Rattle.std.specs.Prelude.{filter, option_to_list}
-use Rattle.std.proofs.lemmas.Bool.{ne_eqb}
-use Rattle.std.proofs.lemmas.Option.{none-some, same_Some}
+use Rattle.std.proofs.Common.{◌≡◌, ℕ, ◌+◌, Bool, true, false, cond, List, [], ◌∷◌, ◌++◌, map, length, Option, Some, None, sym, ap, ap₂, ◌∙◌, arith}
+use Rattle.std.specs.Prelude.{option_to_list}
 use Rattle.std.proofs.lemmas.List.{map-append}
 use Rattle.s10_wire.specs.declared.body.Body.{Body}
 use Rattle.s10_wire.specs.declared.body.Body.TheVariants.{Grant}
@@ -15,23 +13,14 @@ use Rattle.s10_book.specs.Settings.{Terms}
 use Rattle.s10_book.specs.History.{ranges_of, range_of_grant}
 use Rattle.s10_book.specs.Issues.{issues_of, pick_of, carried_by}
 use Rattle.s10_book.specs.Rules.{IsLegal, MayFollow, body_answer}
-use Rattle.s10_book.proofs.Ranges.{Numbered, numbered}
 use Rattle.s10_book.proofs.Push.{ranges_from-push}
 use Rattle.s10_book.proofs.Marks.{pick_new}
 use Rattle.s10_rows.specs.declared.range_row.RangeRow.{RangeRow}
+use Rattle.s10_rows.specs.declared.range_write.RangeWrite.TheVariants.{New}
 use Rattle.s10_rows.specs.Tables.{range_row, range_rows, serial_rows}
-use Rattle.s10_rows.specs.Kept.{Makes, has_num}
-use Rattle.s10_rows.proofs.Tests.{int_eq-pos}
+use Rattle.s10_rows.specs.Kept.{Makes}
 use Rattle.s10_rows.proofs.Replaced.{same_rows}
 use Rattle.s10_rows.proofs.MadeRows.{same_issues, same_serial_rows, none_voided}
-
--- the rows of lower numbers stay
-others_kept : (f : Range → ℕ) (n num : ℕ) (rs : List Range) → Numbered n rs → n + length rs ≤ num
-    → filter (λ row. not (has_num (pos num) row)) (map (λ r. range_row (f r) r) rs) ≡ map (λ r. range_row (f r) r) rs
-others_kept f n num [] up le = refl
-others_kept f n num (r ∷ rs) up le =
-    let other : has_num (pos num) (range_row (f r) r) ≡ false = int_eq-pos r.num num ∙ ne_eqb r.num num (λ e. omega (arith, up.0, e)) in
-    rw (other, others_kept f (n + 1) num rs up.1 (omega arith)) refl
 
 granted_parts : (b1 b2 b3 : Bool) (n m : ℕ) → cond b1 NotThePost (cond b2 BadGrant (cond b3 Overlap (Granted n))) ≡ Granted m → n ≡ m
 granted_parts true b2 b3 n m e = cc
@@ -47,12 +36,8 @@ made_range h customer day interval num (Grant holder s c first last) o r is done
     ap₂ (λ (n : ℕ) (y : Outcome). range_of_grant n (Grant holder s c first last) y) count done ∙ made
 made_range h customer day interval num b o r is done made = absurd cc
 
-num_of_grant : (num : ℕ) (b : Body) (o : Outcome) (r : Range) → range_of_grant num b o ≡ Some r → r.num ≡ num
-num_of_grant num (Grant holder service country first last) (Granted n) r is = sym (ap (λ (x : Range). x.num) (same_Some _ _ is))
-num_of_grant num b o r is = absurd (none-some r is)
-
 pub grant_makes : (h : List Entry) (t : Terms) (e : Entry) (num : ℕ) (r : Range) → IsLegal h t → MayFollow h t e → e.outcome ≡ Granted num → range_of_grant num e.request.body (Granted num) ≡ Some r
-    → Makes h e (Some (range_row r.first r)) None
+    → Makes h e (Some (New (range_row r.first r))) None
 grant_makes h t e num r legal may done makes =
     let made : range_of_grant (length (ranges_of h) + 1) e.request.body e.outcome ≡ Some r =
     made_range h e.request.customer e.day t.interval num e.request.body e.outcome r may.right done makes in
@@ -65,11 +50,8 @@ grant_makes h t e num r legal may done makes =
     ap (map (f (issues_of (h ++ e ∷ [])))) ranges
     ∙ map-append (f (issues_of (h ++ e ∷ []))) (ranges_of h) (r ∷ [])
     ∙ ap₂ (λ (is : List Issuance) (mark : ℕ). map (f is) (ranges_of h) ++ range_row mark r ∷ []) (same_issues h e carried) (pick_new h t e legal may r made) in
-    let num_is : r.num ≡ length (ranges_of h) + 1 = num_of_grant (length (ranges_of h) + 1) e.request.body e.outcome r made in
-    let kept : filter (λ row. not (has_num (pos r.num) row)) (range_rows h) ≡ range_rows h =
-    others_kept (λ s. pick_of (issues_of h) s) 1 r.num (ranges_of h) (numbered 1 h) (omega (arith, num_is)) in
     let voided : (o : Outcome) → o ≡ Granted num → ¬ (o ≡ Voided) = λ o is no'. cc in
     record {
-      ranges = same_rows (filter (λ row. not (has_num (pos r.num) row)) (range_rows h) ++ range_row r.first r ∷ []) (range_rows (h ++ e ∷ [])) (ap (λ (l : List RangeRow). l ++ range_row r.first r ∷ []) kept ∙ sym rows);
+      ranges = same_rows (range_rows h ++ range_row r.first r ∷ []) (range_rows (h ++ e ∷ [])) (sym rows);
       serials = same_rows (serial_rows h) (serial_rows (h ++ e ∷ [])) (same_serial_rows h e carried (λ x. none_voided x e.request.body e.outcome (voided e.outcome done)));
     }

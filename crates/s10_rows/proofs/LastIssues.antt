@@ -10,7 +10,8 @@ use Rattle.s10_book.specs.declared.issuance.Issuance.{Issuance}
 use Rattle.s10_book.specs.Issues.{is_of, is_issued, last_issuance_of, last_issues}
 use Rattle.s10_book.proofs.Free.{id_equal, issued_latest}
 
-none_filter : {A : Type 0} (p : A → Bool) (xs : List A) → list_any p xs ≡ false → filter p xs ≡ []
+-- where none passes
+pub none_filter : {A : Type 0} (p : A → Bool) (xs : List A) → list_any p xs ≡ false → filter p xs ≡ []
 none_filter p [] h = refl
 none_filter p (x ∷ xs) h = let both = or_parts (p x) (list_any p xs) h in rw both.0 (none_filter p xs both.1)
 

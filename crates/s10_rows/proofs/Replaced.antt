@@ -1,7 +1,8 @@
 -- Images of a list, one of which changes.
-use Rattle.std.proofs.Common.{◌≡◌, Bool, true, false, not, cond, List, [], ◌∷◌, ◌++◌, map, refl, sym, ap, ap₂, ◌∙◌, subst}
+use Rattle.std.proofs.Common.{◌≡◌, Bool, true, false, not, cond, List, [], ◌∷◌, ◌++◌, map, length, refl, sym, ap, ap₂, ◌∙◌, subst, arith, inl, inr}
 use Rattle.std.specs.Prelude.{filter, All}
 use Rattle.std.specs.List.Sorted.{IsPermutation}
+use Rattle.std.proofs.lemmas.Bool.{cases_Bool}
 use Rattle.std.proofs.lemmas.List.{map-append}
 use Rattle.std.proofs.lemmas.List.Elements.{All-head, All-tail}
 use Rattle.std.proofs.lemmas.List.Sorted.{IsPermutation-refl, IsPermutation-map, IsPermutation-sym, IsPermutation-trans, IsPermutation-append_comm, IsPermutation-filter_both}
@@ -11,6 +12,24 @@ use Rattle.s10_rows.specs.Tables.{HaveSameRows}
 pub same_images : {A B : Type 0} (f g : A → B) → ((x : A) → f x ≡ g x) → (xs : List A) → map f xs ≡ map g xs
 same_images f g same [] = refl
 same_images f g same (x ∷ xs) = ap₂ ◌∷◌ (same x) (same_images f g same xs)
+
+pub map_twice : {A B C : Type 0} (g : B → C) (f : A → B) (xs : List A) → map g (map f xs) ≡ map (λ x. g (f x)) xs
+map_twice g f [] = refl
+map_twice g f (x ∷ xs) = ap (λ l. g (f x) ∷ l) (map_twice g f xs)
+
+-- where they are the same for each element
+pub images_agree : {A B : Type 0} (f g : A → B) (xs : List A) → All (λ x. f x ≡ g x) xs → map f xs ≡ map g xs
+images_agree f g [] all = refl
+images_agree f g (x ∷ xs) all = ap₂ ◌∷◌ (All-head (λ y. f y ≡ g y) x xs all) (images_agree f g xs (All-tail (λ y. f y ≡ g y) x xs all))
+
+-- where none passes all others stay
+pub all_left : {A : Type 0} (p : A → Bool) (xs : List A) → filter p xs ≡ [] → filter (λ x. not (p x)) xs ≡ xs
+all_left p [] none = refl
+all_left p (x ∷ xs) none =
+    elim (cases_Bool (p x)) [
+      | inl t ↦ absurd (omega (arith, ap length (rw t at none)))
+      | inr f ↦ rw f (ap (λ l. x ∷ l) (all_left p xs (rw f at none)))
+    ]
 
 at_first : {A B : Type 0} (f g : A → B) (b : Bool) (x : A) (l : List A) → (b ≡ false → f x ≡ g x) → map f l ≡ map g l → map f (cond (not b) (x ∷ l) l) ≡ map g (cond (not b) (x ∷ l) l)
 at_first f g true x l same rest = rest

@@ -1,17 +1,16 @@
 -- What the rows say that were read, whatever is under them.
-use Rattle.std.specs.Prelude.{◌≡◌, ℕ, ◌+◌, ◌-◌, nat_le, pos, Bool, true, false, not, length, count_by, List, [], ◌∷◌, Option, Some, None, All, Contains}
+use Rattle.std.specs.Prelude.{◌≡◌, ℕ, ◌+◌, ◌-◌, nat_le, pos, Bool, not, length, count_by, List, [], ◌∷◌, Option, Some, None}
 use Rattle.std.specs.Ordering.{int_eq}
 use Rattle.s10_wire.specs.Datagrams.{Replies}
 use Rattle.s10_book.specs.declared.entry.Entry.{Entry}
 use Rattle.s10_book.specs.declared.range.Range.{Range}
 use Rattle.s10_book.specs.declared.issue.Issue.{Issue}
 use Rattle.s10_book.specs.declared.usage.Usage.{Usage}
-use Rattle.s10_rows.specs.declared.range_row.RangeRow.{RangeRow}
 use Rattle.s10_rows.specs.declared.serial_row.SerialRow.{SerialRow}
 use Rattle.s10_rows.specs.CallRow.{StoredCall}
-use Rattle.s10_rows.specs.Tables.{range_row, flag}
+use Rattle.s10_rows.specs.Tables.{flag}
 use Rattle.s10_rows.specs.RightRows.{entry_of, day_in}
-use Rattle.s10_rows.specs.Selected.{IsCall, IsRange}
+use Rattle.s10_rows.specs.Selected.{IsCall}
 
 -- the row stands for the call: its reply decodes, and its day is that of the call
 pub record IsCallOf (row : StoredCall) (e : Entry) : Type 0 where

@@ -9,23 +9,27 @@ ghost use Rattle.s10_book.specs.declared.issuance.Issuance.{Issuance};
 ghost use Rattle.s10_book.specs.Settings.{Terms};
 ghost use Rattle.s10_book.specs.Rules.{IsLegal, MayFollow};
 ghost use Rattle.s10_book.specs.History.{ranges_of, lies_in};
+ghost use Rattle.s10_book.specs.Issues.{issues_of, is_issued};
 ghost use Rattle.s10_rows.specs.declared.serial_row.SerialRow.{SerialRow};
 ghost use Rattle.s10_rows.specs.Tables.{HaveSameRows, pair_of, range_row, serial_row, serial_rows};
 ghost use Rattle.s10_rows.specs.Selected.{IsCall, is_within};
-ghost use Rattle.s10_rows.specs.Kept.{Makes};
+ghost use Rattle.s10_rows.specs.Kept.{Makes, write_of};
 
 use crate::column::pair_number;
+use crate::issued::Issued;
 use crate::range_row::RangeRow;
+use crate::range_write::RangeWrite;
 use crate::serial_row::SerialRow;
+use crate::serial_write::SerialWrite;
 use s10_book::{BookFault, Entry, Range};
 use s10_core::{Id, Serial};
 use s10_wire::{Body, Outcome};
 
-/// The rows of ranges and of serials that a call makes, at most one of each table.
+/// What a call makes of the ranges and of the serials: at most one row of each table.
 #[derive(Clone, Copy, Debug, PartialEq, Eq)]
 pub struct Made {
-    pub range: Option<RangeRow>,
-    pub serial: Option<SerialRow>,
+    pub range: Option<RangeWrite>,
+    pub serial: Option<SerialWrite>,
 }
 
 // The row of the range whose next serial is the mark.
@@ -38,6 +42,16 @@ fn row_of(range: &Range, mark: u32) -> RangeRow
         pair: i64::from(pair_number(range.service, range.country)),
         low: i64::from(range.first.value()),
         high: i64::from(range.last.value()),
+        mark: i64::from(mark),
+    }
+}
+
+// The write of the serial that the range gives next.
+fn mark_write(range: &Range, mark: u32) -> RangeWrite
+    ensures { result ≡ RangeWrite.Mark (pos range.now.num) (pos mark) }
+{
+    RangeWrite::Mark {
+        num: i64::from(range.num),
         mark: i64::from(mark),
     }
 }
@@ -68,8 +82,18 @@ fn issue_row(arrival: u32, entry: &Entry, id: &Id) -> SerialRow
     }
 }
 
+// The write of an issue, by whether its identifier was issued before.
+fn issue_write(issued: Issued, row: SerialRow) -> SerialWrite
+    ensures { result ≡ write_of issued row }
+{
+    match issued {
+        Issued::Never => SerialWrite::New(row),
+        Issued::Before => SerialWrite::Again(row),
+    }
+}
+
 // The row of the range that a Grant makes where it is Done. None for another call.
-fn new_range_row(entry: &Entry) -> Option<RangeRow>
+fn new_range_row(entry: &Entry) -> Option<RangeWrite>
     ensures row { (h : List Entry) (t : Terms) (n : ℕ) → IsLegal h t → MayFollow h t entry.now → entry.now.outcome ≡ Granted n
         → Makes h entry.now result None }
 {
@@ -94,7 +118,7 @@ fn new_range_row(entry: &Entry) -> Option<RangeRow>
         first,
         last,
     };
-    Some(row_of(&range, first.value()))
+    Some(RangeWrite::New(row_of(&range, first.value())))
 }
 
 /// What a Done Grant makes: the row of its range, whose first serial is the mark.
@@ -108,17 +132,18 @@ pub fn granted_row(entry: &Entry) -> Made
     }
 }
 
-/// What a Done Draw makes of the range that has its identifier: the range's row, with the mark behind it, and the row of the
-/// issue.
-pub fn drawn_rows(range: &Range, arrival: u32, entry: &Entry, id: &Id) -> Made
+/// What a Done Draw makes of the range that has its identifier: the mark behind it, and the row of the issue, which is new
+/// where the identifier was never issued.
+pub fn drawn_rows(range: &Range, issued: Issued, arrival: u32, entry: &Entry, id: &Id) -> Made
     ensures rows { IsSome result.range × IsSome result.serial }
     ensures makes { (h : List Entry) (t : Terms) (day : ℕ) → IsLegal h t → MayFollow h t entry.now → All IsCall h → IsCall entry.now → entry.now.outcome ≡ Drawn day id.now
-        → arrival ≡ length h + 1 → Contains (ranges_of h) range.now → lies_in range.now id.now ≡ true → Makes h entry.now result.range result.serial }
+        → arrival ≡ length h + 1 → Contains (ranges_of h) range.now → lies_in range.now id.now ≡ true
+        → (issued ≡ Issued.Never → is_issued (issues_of h) id.now ≡ false) → Makes h entry.now result.range result.serial }
 {
     let mark = serial_behind(range, id.serial);
     Made {
-        range: Some(row_of(range, mark)),
-        serial: Some(issue_row(arrival, entry, id)),
+        range: Some(mark_write(range, mark)),
+        serial: Some(issue_write(issued, issue_row(arrival, entry, id))),
     }
 }
 
@@ -144,7 +169,7 @@ pub fn voided_row(rows: &[SerialRow]) -> Result<Made, BookFault>
     match rows {
         [row] => Ok(Made {
             range: None,
-            serial: Some(as_voided(row)),
+            serial: Some(SerialWrite::Again(as_voided(row))),
         }),
         _ => Err(BookFault::Store),
     }

@@ -1,10 +1,13 @@
-use Rattle.std.proofs.Common.{◌∙◌}
+use Rattle.std.proofs.Common.{◌∙◌, refl, sym}
+use Rattle.std.proofs.lemmas.Option.{same_Some}
 use base.Stored.{Coded-set}
 use Rattle.s10_book.specs.contracts.candidate.Candidate.{the_row}
 use Rattle.sqlite.specs.Held.{state}
-use Rattle.s10_book.specs.Issues.{candidate_of}
+use Rattle.s10_book.specs.Issues.{issues_of, candidate_of}
+use Rattle.s10_ranges.specs.Turns.{mark_of}
 use Rattle.s10_ledger.specs.Ledger.{Ledger, history_in}
-use Rattle.s10_ranges.proofs.Marked.{mark_above, mark_picked}
+use Rattle.s10_ranges.proofs.Marked.{mark_above, mark_held}
+use Rattle.s10_ranges.proofs.Turning.{candidate_new}
 use Rattle.s10_ledger.proofs.BookLemmas.{still_kept, still_mirrored, if_answered, was_ledger, read_keeps, answered}
 use Rattle.s10_ledger.proofs.sql_book.SqlBookBook.candidate.Goals as goal
 
@@ -25,6 +28,17 @@ returns-clause-answer g c honest =
     let past = (read_keeps g.S.Store old c.candidate_in-found.new.conn c.counted.new.faults c.candidate_in-found.ensures.leaves c.self.invariant.2 c.self.invariant.1).was_honest honest in
     let m = c.self.invariant.3 past.clean past.is_open in
     let marked = c.mark-mark.ensures.some (mark_above c.self.inside.ranges (history_in (state g.S.Store c.self.inside.conn).now) c.args.range.now c.self.inside.ranges.sound m has)
-    ∙ mark_picked c.self.inside.ranges (history_in (state g.S.Store c.self.inside.conn).now) c.args.range.now c.self.inside.ranges.sound m has in
+    ∙ mark_held c.self.inside.ranges (history_in (state g.S.Store c.self.inside.conn).now) c.args.range.now c.self.inside.ranges.sound m has in
     rw (c.counted.ensures.same, ← c.self.view_is) (answered (Coded-set the_row.coded) c.candidate_in-found.result (candidate_of (history_in (state g.S.Store c.self.inside.conn).now) c.args.range.now) was.held
     (λ h. c.candidate_in-found.ensures.answer honest.clean (history_in (state g.S.Store c.self.inside.conn).now) c.self.inside.settings was.legal h.calls h.tables marked))
+
+pub returns-in-Some-clause-answer : goal.returns-in-Some-clause-answer
+returns-in-Some-clause-answer g c =
+    let kept = rw (← c.self.view_is) at c.ask_again.ensures.keeps in
+    rw (← c.self.view_is) (λ honest.
+    let past = kept.was_honest honest in
+    let h = history_in (state g.S.Store c.self.inside.conn).now in
+    let has = (rw (← c.self.view_is) at c.requires) past in
+    let m = c.self.invariant.3 past.clean past.is_open in
+    let marked = c.mark-mark.ensures.some (mark_above c.self.inside.ranges h c.args.range.now c.self.inside.ranges.sound m has) ∙ mark_held c.self.inside.ranges h c.args.range.now c.self.inside.ranges.sound m has in
+    candidate_new h c.self.inside.settings c.args.range.now _ past.ledger.legal has (same_Some _ (mark_of (issues_of h) c.args.range.now) (sym c.in-Some.ensures ∙ marked)) refl)

@@ -1,11 +1,13 @@
-use Rattle.std.proofs.Common.{◌∙◌, sym, ap}
-use Rattle.std.specs.Prelude.{find}
+use Rattle.std.proofs.Common.{◌≡◌, ◌∙◌, ◌-◌, Some, sym, ap, subst}
+use Rattle.std.specs.Prelude.{find, slice_get}
+use Rattle.std.proofs.lemmas.Option.{none-some, same_Some}
+use Rattle.s10_book.specs.declared.range.Range.{Range}
 use Rattle.s10_book.specs.History.{overlaps}
 use Rattle.s10_ranges.proofs.Following.{found_number, found_reaches}
 use Rattle.s10_ranges.proofs.ranges.Ranges.turn.Goals as goal
 
-pub serial_behind-mark-requires : goal.serial_behind-mark-requires
-serial_behind-mark-requires c =
+pub next_mark-next-requires : goal.next_mark-next-requires
+next_mark-next-requires c =
     found_reaches c.args.id.now.service c.args.id.now.country c.args.id.now.serial c.deref.result.now c.in-Some.range (sym c.in-Some.ensures)
 
 pub set_mark-requires-clause-from : goal.set_mark-requires-clause-from
@@ -17,3 +19,12 @@ pub set_mark-requires-clause-to : goal.set_mark-requires-clause-to
 set_mark-requires-clause-to c =
     (found_number (overlaps c.args.id.now.service c.args.id.now.country c.args.id.now.serial c.args.id.now.serial) c.args.self.now.ranges.items c.in-Some.range c.args.self.now.sound
     (ap (find (overlaps c.args.id.now.service c.args.id.now.country c.args.id.now.serial c.args.id.now.serial)) (sym c.deref.ensures.value) ∙ sym c.in-Some.ensures)).1
+
+pub returns-in_default-held-clause-marks : goal.returns-in_default-held-clause-marks
+returns-in_default-held-clause-marks c r m found held =
+    let same : find (overlaps c.args.id.now.service c.args.id.now.country c.args.id.now.serial c.args.id.now.serial) c.args.self.now.ranges.items ≡ Some c.in-Some.range =
+    ap (find (overlaps c.args.id.now.service c.args.id.now.country c.args.id.now.serial c.args.id.now.serial)) (sym c.deref.ensures.value) ∙ sym c.in-Some.ensures in
+    let num = found_number (overlaps c.args.id.now.service c.args.id.now.country c.args.id.now.serial c.args.id.now.serial) c.args.self.now.ranges.items c.in-Some.range c.args.self.now.sound same in
+    let P : Range → Type 0 = λ x. slice_get c.args.self.now.marks.items (x.num - 1) ≡ Some m in
+    let there = subst P (sym (same_Some c.in-Some.range r (sym same ∙ found))) held in
+    absurd (none-some m (sym c.in_default-held.is ∙ c.mark_numbered-held.ensures.some num.0 ∙ ap (λ l. slice_get l (c.in-Some.range.num - 1)) c.deref-3.ensures.value ∙ there))

@@ -3,7 +3,7 @@ use Rattle.sqlite_value.specs.declared.value.Value.TheVariants.{Int}
 use Rattle.sqlite_value.specs.Value.{owned}
 use Rattle.sqlite.specs.Held.{state}
 use Rattle.s10_ledger.proofs.IssueLemmas.{issues}
-use Rattle.s10_ledger.proofs.writes.put_serial.Goals as goal
+use Rattle.s10_ledger.proofs.writes.replace_serial.Goals as goal
 
 pub returns-then-changed-eq1-clause-made : goal.returns-then-changed-eq1-clause-made
 returns-then-changed-eq1-clause-made g c clean inside tables held few =

@@ -1,0 +1,197 @@
+-- Which turn a range is in, and how its mark moves.
+use Rattle.std.proofs.Common.{◌≡◌, ◌∙◌, ℕ, ◌+◌, ◌-◌, ◌≤◌, Bool, true, false, cond, not, eqb, ◌||◌, List, [], ◌∷◌, ◌++◌, map, Option, Some, None, length, get_or, refl, sym, ap, ap₂, subst, arith, inl, inr, append-nil}
+use Rattle.std.specs.Prelude.{filter, All, IsTrue, Contains}
+use Rattle.std.specs.List.{list_any, last_or}
+use Rattle.std.specs.Option.{option_map, option_or, unwrap_or}
+use Rattle.std.proofs.lemmas.Bool.{both_ways, cases_eq, eq-eqb, ne_eqb, or_left, or_from, or_parts, false_from_ne_true, not_from_false}
+use Rattle.std.proofs.lemmas.List.Folds.{list_any-append, list_any_none, list_any_at}
+use Rattle.std.proofs.lemmas.List.Elements.{All-nil, All-push, All-weaker, All-contains}
+use Rattle.s10_core.specs.declared.id.Id.{Id}
+use Rattle.s10_core.specs.Id.{same_id}
+use Rattle.s10_wire.specs.declared.outcome.Outcome.{Outcome}
+use Rattle.s10_wire.specs.declared.outcome.Outcome.TheVariants.{Granted, Drawn}
+use Rattle.s10_book.specs.declared.candidate.Candidate.{Candidate}
+use Rattle.s10_book.specs.declared.entry.Entry.{Entry}
+use Rattle.s10_book.specs.declared.range.Range.{Range}
+use Rattle.s10_book.specs.declared.issue.Issue.{Issue}
+use Rattle.s10_book.specs.declared.issuance.Issuance.{Issuance}
+use Rattle.s10_book.specs.Settings.{Terms}
+use Rattle.s10_book.specs.History.{ranges_of, range_of_grant, lies_in}
+use Rattle.s10_book.specs.Issues.{issues_of, carried_by, is_of, is_issued, id_at, serials, least_serial_unissued, serial_issued_earliest, pick_of, is_voided, last_issue_of, candidate_of}
+use Rattle.s10_book.specs.Rules.{IsLegal, MayFollow}
+use Rattle.s10_book.proofs.Apart.{apart, new_apart}
+use Rattle.s10_book.proofs.Carried.{made_by, IsPicked, after_call}
+use Rattle.s10_book.proofs.Free.{id_equal, id_within, none_within}
+use Rattle.s10_book.proofs.Legal.{legal_induction}
+use Rattle.s10_book.proofs.Marks.{one_range, pick_new, pick_drawn, pick_left}
+use Rattle.s10_book.proofs.Own.{ordered, lies_at, lies_picked, new_ordered, drawn_from}
+use Rattle.s10_book.proofs.Push.{ranges_from-push, issues_from-push}
+use Rattle.s10_book.proofs.Ranges.{found_passes}
+use Rattle.s10_book.proofs.Spaced.{id_same}
+use Rattle.s10_ranges.specs.declared.mark.Mark.{Mark}
+use Rattle.s10_ranges.specs.declared.turn.Turn.{Turn}
+use Rattle.s10_ranges.specs.declared.turn.Turn.TheVariants.{First, Later}
+use Rattle.s10_ranges.specs.Turns.{turn_of, mark_of, mark_behind}
+
+abbrev mark_at : ℕ → Turn → Mark
+mark_at serial turn = record { serial = serial; turn = turn }
+
+in_order : (h : List Entry) (t : Terms) (r : Range) → IsLegal h t → Contains (ranges_of h) r → r.first ≤ r.last
+in_order h t r legal there = All-contains (λ s. s.first ≤ s.last) (ranges_of h) r (ordered h t legal) there
+
+-- ---- behind a Draw of the range
+
+turned : (b c : Bool) → cond (b || (c || false)) Later First ≡ cond c Later (cond b Later First)
+turned true true = refl
+turned true false = refl
+turned false true = refl
+turned false false = refl
+
+is_last : (r : Range) (x : Id) → lies_in r x ≡ true → same_id x (id_at r r.last) ≡ eqb x.serial r.last
+is_last r x lies =
+    elim (cases_eq x.serial r.last) [
+      | inl e ↦ id_same x (id_at r r.last) (sym (id_within r x lies) ∙ ap (id_at r) e) ∙ sym (eq-eqb x.serial r.last e)
+      | inr ne ↦ false_from_ne_true (same_id x (id_at r r.last)) (λ is. ne (ap (λ (y : Id). y.serial) (id_equal x (id_at r r.last) is))) ∙ sym (ne_eqb x.serial r.last ne)
+    ]
+
+turn_drawn : (h : List Entry) (e : Entry) (r : Range) (day : ℕ) (x : Id) → e.outcome ≡ Drawn day x → lies_in r x ≡ true
+    → turn_of (issues_of (h ++ e ∷ [])) r ≡ cond (eqb x.serial r.last) Later (turn_of (issues_of h) r)
+turn_drawn h e r day x done lies =
+    let y : Issuance = made_by e (1 + length h) (day, x) in
+    let issues : issues_of (h ++ e ∷ []) ≡ issues_of h ++ y ∷ [] =
+    issues_from-push 1 h e ∙ ap (λ (o : Outcome). issues_of h ++ map (made_by e (1 + length h)) (carried_by o)) done in
+    ap (λ (is : List Issuance). turn_of is r) issues
+    ∙ ap (λ (b : Bool). cond b Later First) (list_any-append (is_of (id_at r r.last)) (issues_of h) (y ∷ []))
+    ∙ turned (is_issued (issues_of h) (id_at r r.last)) (same_id x (id_at r r.last))
+    ∙ ap (λ (b : Bool). cond b Later (turn_of (issues_of h) r)) (is_last r x lies)
+
+pub mark_drawn : (h : List Entry) (t : Terms) (e : Entry) → IsLegal h t → MayFollow h t e → (r : Range) → Contains (ranges_of h) r → (day : ℕ) (x : Id) → e.outcome ≡ Drawn day x → lies_in r x ≡ true
+    → mark_of (issues_of (h ++ e ∷ [])) r ≡ mark_behind r (turn_of (issues_of h) r) x.serial
+mark_drawn h t e legal may r there day x done lies = ap₂ mark_at (pick_drawn h t e legal may r there day x done lies) (turn_drawn h e r day x done lies)
+
+-- ---- behind another call
+
+or_false : (b : Bool) → (b || false) ≡ b
+or_false true = refl
+or_false false = refl
+
+none_last : (r : Range) (e : Entry) (n : ℕ) (o : Outcome) → r.first ≤ r.last → ((day : ℕ) (x : Id) → o ≡ Drawn day x → ¬ (IsTrue (lies_in r x))) → list_any (is_of (id_at r r.last)) (map (made_by e n) (carried_by o)) ≡ false
+none_last r e n (Drawn day x) order other =
+    let P : Id → Type 0 = λ y. lies_in r y ≡ true in
+    let last : lies_in r (id_at r r.last) ≡ true = lies_at r r.last (record { low = order; high = omega arith }) in
+    or_from (same_id x (id_at r r.last)) false
+    (false_from_ne_true (same_id x (id_at r r.last)) (λ is. other day x refl (subst P (sym (id_equal x (id_at r r.last) is)) last))) refl
+none_last r e n o order other = refl
+
+turn_left : (h : List Entry) (e : Entry) (r : Range) → r.first ≤ r.last → ((day : ℕ) (x : Id) → e.outcome ≡ Drawn day x → ¬ (IsTrue (lies_in r x))) → turn_of (issues_of (h ++ e ∷ [])) r ≡ turn_of (issues_of h) r
+turn_left h e r order other =
+    let made : List Issuance = map (made_by e (1 + length h)) (carried_by e.outcome) in
+    ap (λ (is : List Issuance). turn_of is r) (issues_from-push 1 h e)
+    ∙ ap (λ (b : Bool). cond b Later First)
+    (list_any-append (is_of (id_at r r.last)) (issues_of h) made ∙ ap (λ (b : Bool). is_issued (issues_of h) (id_at r r.last) || b) (none_last r e (1 + length h) e.outcome order other)
+    ∙ or_false (is_issued (issues_of h) (id_at r r.last)))
+
+pub mark_left : (h : List Entry) (t : Terms) (e : Entry) → IsLegal h t → MayFollow h t e → (r : Range) → Contains (ranges_of h) r → ((day : ℕ) (x : Id) → e.outcome ≡ Drawn day x → ¬ (IsTrue (lies_in r x)))
+    → mark_of (issues_of (h ++ e ∷ [])) r ≡ mark_of (issues_of h) r
+mark_left h t e legal may r there other = ap₂ mark_at (pick_left h t e legal may r there other) (turn_left h e r (in_order h t r legal there) other)
+
+-- ---- behind the Grant of the range
+
+-- each issue lies in a range
+abbrev IsCovered : List Entry → Issuance → Type 0
+IsCovered h i = list_any (λ r. lies_in r i.id) (ranges_of h) ≡ true
+
+covered_more : (g : List Entry) (e : Entry) (i : Issuance) → IsCovered g i → IsCovered (g ++ e ∷ []) i
+covered_more g e i h =
+    let P : List Range → Type 0 = λ rs. list_any (λ r. lies_in r i.id) rs ≡ true in
+    subst P (sym (ranges_from-push 1 g e))
+    (list_any-append (λ r. lies_in r i.id) (ranges_of g) _ ∙ or_left (list_any (λ r. lies_in r i.id) (ranges_of g)) _ h)
+
+covered_picked : (g : List Entry) (t : Terms) (customer day n : ℕ) (is : List Issuance) (c : ℕ × Id) → IsLegal g t → IsPicked (ranges_of g) customer day n is c → list_any (λ r. lies_in r c.1) (ranges_of g) ≡ true
+covered_picked g t customer day n is c legal from =
+    let P : Range → Type 0 = λ r. lies_in r c.1 ≡ true in
+    list_any_at (λ r. lies_in r c.1) (ranges_of g) from.there.0 from.range from.there.1 (subst P (sym from.there.2) (lies_picked g t customer day n is c legal from))
+
+covered : (h : List Entry) (t : Terms) → IsLegal h t → All (IsCovered h) (issues_of h)
+covered h t legal = legal_induction (λ g. All (IsCovered g) (issues_of g)) h t legal (All-nil (IsCovered []))
+    (λ g e legal_g before may.
+    let P : Issuance → Type 0 = IsCovered (g ++ e ∷ []) in
+    after_call (All P) g t e may (All-weaker (IsCovered g) P (covered_more g e) (issues_of g) before)
+    (λ is c picked all.
+    All-push P is (made_by e (1 + length g) c) all (covered_more g e (made_by e (1 + length g) c) (covered_picked g t e.request.customer e.day t.interval is c legal_g picked))))
+
+-- the last serial of a new range was never issued
+last_new : (h : List Entry) (t : Terms) (e : Entry) (r : Range) (num : ℕ) → IsLegal h t → MayFollow h t e → range_of_grant num e.request.body e.outcome ≡ Some r → is_issued (issues_of h) (id_at r r.last) ≡ false
+last_new h t e r num legal may made =
+    let order = new_ordered h e.request.customer e.day t.interval num e.request.body e.outcome r may.right made in
+    let parted = new_apart h e.request.customer e.day t.interval num e.request.body e.outcome r may.right made in
+    let last : lies_in r (id_at r r.last) ≡ true = lies_at r r.last (record { low = order; high = omega arith }) in
+    let P : Id → Type 0 = λ y. lies_in r y ≡ true in
+    list_any_none (is_of (id_at r r.last)) (issues_of h)
+    (All-weaker (IsCovered h) (λ i. is_of (id_at r r.last) i ≡ false)
+    (λ i c. false_from_ne_true (same_id i.id (id_at r r.last)) (λ is.
+    both_ways (list_any (λ s. lies_in s i.id) (ranges_of h))
+    (list_any_none (λ s. lies_in s i.id) (ranges_of h) (λ k d lt. false_from_ne_true (lies_in (get_or (ranges_of h) k d) i.id) (λ old. parted k d lt i.id old (subst P (sym (id_equal i.id (id_at r r.last) is)) last)))) c))
+    (issues_of h) (covered h t legal))
+
+pub mark_new : (h : List Entry) (t : Terms) (e : Entry) (num : ℕ) (r : Range) → IsLegal h t → MayFollow h t e → e.outcome ≡ Granted num → range_of_grant (length (ranges_of h) + 1) e.request.body e.outcome ≡ Some r
+    → mark_of (issues_of (h ++ e ∷ [])) r ≡ mark_at r.first First
+mark_new h t e num r legal may done made =
+    let none : issues_of (h ++ e ∷ []) ≡ issues_of h =
+    issues_from-push 1 h e ∙ ap (λ (o : Outcome). issues_of h ++ map (made_by e (1 + length h)) (carried_by o)) done ∙ append-nil (issues_of h) in
+    ap₂ mark_at (pick_new h t e legal may r made)
+    (ap (λ (is : List Issuance). turn_of is r) none ∙ ap (λ (b : Bool). cond b Later First) (last_new h t e r (length (ranges_of h) + 1) legal may made))
+
+-- ---- the serial at the mark in the first turn
+
+not_yet : (b : Bool) → not b ≡ true → b ≡ false
+not_yet true h = absurd (let e = h in cc)
+not_yet false h = refl
+
+still_first : (b : Bool) → cond b Later First ≡ First → b ≡ false
+still_first true h = absurd (let e = h in cc)
+still_first false h = refl
+
+-- it was never issued
+pub pick_unissued : (is : List Issuance) (r : Range) → r.first ≤ r.last → turn_of is r ≡ First → is_issued is (id_at r (pick_of is r)) ≡ false
+pick_unissued is r order turn = at (least_serial_unissued r is) refl
+  where
+    test : ℕ → Bool
+    test = λ serial. not (is_issued is (id_at r serial))
+
+    at : (o : Option ℕ) → least_serial_unissued r is ≡ o → is_issued is (id_at r (pick_of is r)) ≡ false
+    at None none =
+        absurd (both_ways (test r.last) (none_within test r.first (r.last + 1 - r.first) r.last none order (omega (arith, order)))
+        (not_from_false (is_issued is (id_at r r.last)) (still_first (is_issued is (id_at r r.last)) turn)))
+    at (Some s) found =
+        let P : ℕ → Type 0 = λ k. is_issued is (id_at r k) ≡ false in
+        subst P (sym (ap (λ (o : Option ℕ). unwrap_or (option_or o (serial_issued_earliest r is)) r.first) found)) (not_yet (is_issued is (id_at r s)) (found_passes test (serials r) s found))
+
+none_passes : (p : Issuance → Bool) (xs : List Issuance) → list_any p xs ≡ false → filter p xs ≡ []
+none_passes p [] h = refl
+none_passes p (x ∷ xs) h = let both = or_parts (p x) (list_any p xs) h in rw both.0 (none_passes p xs both.1)
+
+abbrev new_candidate : ℕ → Option Issue → Candidate
+new_candidate serial issue = record { serial = serial; issue = issue }
+
+-- so the candidate has no issue
+pub candidate_new : (h : List Entry) (t : Terms) (r : Range) (m : Mark) → IsLegal h t → Contains (ranges_of h) r → m ≡ mark_of (issues_of h) r → m.turn ≡ First
+    → new_candidate m.serial None ≡ candidate_of h r
+candidate_new h t r m legal there is first =
+    let serial : m.serial ≡ pick_of (issues_of h) r = ap (λ (k : Mark). k.serial) is in
+    let turn : turn_of (issues_of h) r ≡ First = sym (ap (λ (k : Mark). k.turn) is) ∙ first in
+    let x : Id = id_at r (pick_of (issues_of h) r) in
+    let told : Issuance → Issue = λ i. record { day = i.day; voided = is_voided h x; customer = i.customer; number = i.number } in
+    let none : last_issue_of h x ≡ None =
+    ap (λ (is : List Issuance). option_map told (last_or None is)) (none_passes (is_of x) (issues_of h) (pick_unissued (issues_of h) r (in_order h t r legal there) turn)) in
+    ap₂ new_candidate serial (sym none)
+
+-- and what is drawn was never issued
+pub drawn_new : (h : List Entry) (t : Terms) (e : Entry) (day : ℕ) (x : Id) (r : Range) (m : Mark) → IsLegal h t → MayFollow h t e → e.outcome ≡ Drawn day x → Contains (ranges_of h) r → lies_in r x ≡ true
+    → m ≡ mark_of (issues_of h) r → m.turn ≡ First → is_issued (issues_of h) x ≡ false
+drawn_new h t e day x r m legal may done there lies is first =
+    let from = drawn_from h e.request.customer e.day t.interval day e.request.body x (sym may.right ∙ done) in
+    let same : from.range ≡ r = one_range (ranges_of h) from.range r x (apart h t legal) from.there there (lies_picked h t e.request.customer e.day t.interval (issues_of h) (day, x) legal from) lies in
+    let turn : turn_of (issues_of h) r ≡ First = sym (ap (λ (k : Mark). k.turn) is) ∙ first in
+    let P : Id → Type 0 = λ y. is_issued (issues_of h) y ≡ false in
+    subst P (ap (λ (s : Range). id_at s (pick_of (issues_of h) s)) (sym same) ∙ from.picked) (pick_unissued (issues_of h) r (in_order h t r legal there) turn)
