@@ -1,5 +1,8 @@
-use crate::books::{NINE_CALLS, Step, answer, empty_book, is_as_answered, request};
+use crate::books::{
+    Answered, Asked, NINE_CALLS, OPENING, Step, answer, empty_book, is_as_answered, request,
+};
 use s10_book::{Book, BookFault, TripBook};
+use s10_wire::{Outcome, Status};
 use std::alloc::Global;
 use std::test::Fail;
 
@@ -76,5 +79,45 @@ fn a_failed_call_of_the_book_is_made_good_by_a_repeat(rt: HostRuntime) -> Result
     assert_eq!(rt; calls_of(rt.alloc(), &NINE_CALLS[..2])?, Some(7));
     assert_eq!(rt; calls_of(rt.alloc(), &NINE_CALLS[..3])?, Some(11));
     assert_eq!(rt; calls_of(rt.alloc(), &NINE_CALLS[..4])?, Some(15));
+    Ok(())
+}
+
+/// Queries of a serial that was never issued, each behind the first Grant: by its customer, by the
+/// post, and by another customer.
+const QUERIES: [Step; 3] = [
+    (
+        7,
+        1,
+        Asked::Query(0),
+        20000,
+        Answered::Other(Outcome::Told(Status::Never)),
+    ),
+    (
+        0,
+        2,
+        Asked::Query(0),
+        20000,
+        Answered::Other(Outcome::Told(Status::Never)),
+    ),
+    (
+        8,
+        1,
+        Asked::Query(0),
+        20000,
+        Answered::Other(Outcome::NotYours),
+    ),
+];
+
+// A Query looks for its key, once for the range of the identifier and, where that is the sender's or the
+// sender is the post, for its last issue, and is kept.
+#[test]
+fn a_query_looks_once_for_the_range_of_its_identifier(rt: HostRuntime) -> Result<(), Fail> {
+    let grant = 3;
+    for (query, calls) in QUERIES.iter().zip([4u64, 4, 3]) {
+        assert_eq!(rt;
+            calls_of(rt.alloc(), &[OPENING, *query])?,
+            Some(grant + calls)
+        );
+    }
     Ok(())
 }
