@@ -148,6 +148,8 @@ class Client:
     def __init__(self, server, customer, number, write_down, *, last=LAST_NUMBER, request=None,
                  tries=5, wait=1.0):
         self.customer = _u32(customer, "customer")
+        if number != last + 1:
+            _u32(number, "number")
         self.number = number
         self.last = _u32(last, "last number")
         self.request = request
