@@ -174,23 +174,22 @@ local function show(tree, range, found)
     end
 end
 
--- The frames of each request, by its ends and its bytes, and what each frame belongs to.
-local frames, belongs = {}, {}
-function s10.init() frames, belongs = {}, {} end
+-- The first frame of each request, by server and bytes; the last one, by client too; what each frame belongs to.
+local firsts, lasts, belongs = {}, {}, {}
+function s10.init() firsts, lasts, belongs = {}, {}, {} end
 
 local function follow(pinfo, bytes, found)
     local client = tostring(pinfo.src) .. " " .. pinfo.src_port
     local server = tostring(pinfo.dst) .. " " .. pinfo.dst_port
     if found.is_reply then client, server = server, client end
-    local request = bytes:sub(1, 3) .. string.char(found.kind) .. bytes:sub(5, LENGTHS[found.kind])
-    local key = client .. " " .. server .. " " .. request
+    local asked = server .. " " .. bytes:sub(1, 3) .. string.char(found.kind) .. bytes:sub(5, LENGTHS[found.kind])
+    local asked_by = client .. " " .. asked
     if not pinfo.visited then
         if found.is_reply then
-            belongs[pinfo.number] = frames[key] and frames[key].last
-        elseif frames[key] then
-            belongs[pinfo.number], frames[key].last = frames[key].first, pinfo.number
+            belongs[pinfo.number] = lasts[asked_by]
         else
-            frames[key] = { first = pinfo.number, last = pinfo.number }
+            belongs[pinfo.number], lasts[asked_by] = firsts[asked], pinfo.number
+            firsts[asked] = firsts[asked] or pinfo.number
         end
     end
     return belongs[pinfo.number]
