@@ -49,6 +49,7 @@ doc=/usr/share/doc/s10
 for page in README.md docs/OPERATING.md docs/DATAGRAMS.md docs/LEDGER.md docs/RULES.md docs/AT_MOST_ONCE.md; do
     put 644 "$root/$page" "$doc/$(basename "$page")"
 done
+put 644 "$contrib/README.md" "$doc/contrib.md"
 for piece in s10client.py test_s10client.py turns.awk health; do
     put 644 "$contrib/$piece" "$doc/examples/$piece"
 done
