@@ -1,0 +1,39 @@
+# Completion of s10 for bash. Written by write_texts.py from the help texts of the program.
+_s10() {
+    local word=${COMP_WORDS[COMP_CWORD]} before=${COMP_WORDS[COMP_CWORD - 1]} options values files one
+    COMPREPLY=()
+    if ((COMP_CWORD == 1)); then
+        options='check make show replay create serve grant draw void query report audit loop help'
+        [[ $word != -* ]] || options='--help --version'
+        mapfile -t COMPREPLY < <(compgen -W "$options" -- "$word")
+        return
+    fi
+    case ${COMP_WORDS[1]} in
+        help) ((COMP_CWORD == 2)) && mapfile -t COMPREPLY < <(compgen -W 'check make show replay create serve grant draw void query report audit loop' -- "$word")
+            return ;;
+        check) options='--label --help' values='' files='' ;;
+        make) options='--help' values='' files='' ;;
+        show) options='--help' values='' files='' ;;
+        replay) options='--interval --limit --help' values='--interval --limit' files='' ;;
+        create) options='--ledger --interval --limit --help' values='--interval --limit' files='--ledger' ;;
+        serve) options='--ledger --bind --count --day --help' values='--bind --count --day' files='--ledger' ;;
+        grant) options='--to --number --holder --service --country --first --last --tries --help' values='--to --number --holder --service --country --first --last --tries' files='' ;;
+        draw) options='--to --customer --number --service --country --tries --help' values='--to --customer --number --service --country --tries' files='' ;;
+        void) options='--to --customer --number --id --tries --help' values='--to --customer --number --id --tries' files='' ;;
+        query) options='--to --customer --number --id --tries --help' values='--to --customer --number --id --tries' files='' ;;
+        report) options='--ledger --issues --day --help' values='--day' files='--ledger' ;;
+        audit) options='--ledger --help' values='' files='--ledger' ;;
+        loop) options='--day --help' values='--day' files='' ;;
+        *) return ;;
+    esac
+    if [[ " $files " == *" $before "* ]]; then
+        compopt -o filenames
+        mapfile -t COMPREPLY < <(compgen -f -- "$word")
+    elif [[ " $values " != *" $before "* && $word == -* ]]; then
+        for one in $options; do
+            [[ " ${COMP_WORDS[*]:2:COMP_CWORD-2} " == *" $one "* ]] ||
+                mapfile -t -O ${#COMPREPLY[@]} COMPREPLY < <(compgen -W "$one" -- "$word")
+        done
+    fi
+}
+complete -F _s10 s10

@@ -1,0 +1,382 @@
+"""A client of an s10 server, of Python's standard library alone. It speaks version 1 of the datagrams.
+
+    from s10client import Client, make_notes
+
+    make_notes("printer.notes", customer=7, first=1, last=999999)      # once for each printer
+
+    with Client.open("printer.notes", ("127.0.0.1", 4000)) as client:
+        if client.is_open:
+            print(client.again())           # what the last request of the run before came to
+        print(client.draw("RA", "GB").identifier)
+
+A request is written down with its number before it is sent, so that it is never asked again under
+another number. Where no reply comes, `GaveUp` is raised and the request stays open: `again` asks
+it again, and the server executes it once at most. No other request is taken until it is answered.
+A client opened from notes begins with its last request open, since the notes do not tell whether
+it was answered; a repeat costs the server no write and changes nothing.
+
+A refusal by the server is an exception of its own, below `Refused`. A text or a number that fits
+no datagram is a `ValueError`, and takes no number. A client is for one thread at a time.
+"""
+
+import json
+import os
+import re
+import socket
+import struct
+import time
+from typing import NamedTuple
+
+__all__ = [
+    "Client", "make_notes", "Drawn", "Told", "S10Error", "GaveUp", "Unanswered", "NumbersSpent",
+    "Refused", "NotThePost", "BadGrant", "Overlap", "NoRange", "NoneFree", "NotYours", "NotIssued",
+    "AlreadyVoid", "NumberReused", "check_digit",
+]
+
+GRANT, DRAW, VOID, QUERY = 1, 2, 3, 4
+POST = 0
+LAST_NUMBER = 0xFFFFFFFF
+LAST_SERIAL = 99_999_999
+
+_HEADER = struct.Struct(">2sBBII")
+_MAGIC, _VERSION, _REPLY = b"S1", 1, 0x80
+_STATUSES = ("unknown", "never", "issued", "voided")
+_LONGEST = 512
+
+
+class S10Error(Exception):
+    """What a client raises besides `ValueError` and `OSError`."""
+
+
+class GaveUp(S10Error):
+    """No reply came within the tries. The request was executed once or not at all: `again`."""
+
+
+class Unanswered(S10Error):
+    """The request before has no reply yet, so that no other is taken: `again`."""
+
+
+class NumbersSpent(S10Error):
+    """The client has no number left."""
+
+
+class Refused(S10Error):
+    """A rule of the server refused the request, whose number is used up by it."""
+
+
+class NotThePost(Refused):
+    """Another than the post asked for a grant."""
+
+
+class BadGrant(Refused):
+    """The holder is 0, or the first serial is above the last."""
+
+
+class Overlap(Refused):
+    """Another range of the service and country has a serial in common."""
+
+
+class NoRange(Refused):
+    """The customer has no range of the service and country."""
+
+
+class NoneFree(Refused):
+    """No serial of the customer's ranges is free on that day."""
+
+
+class NotYours(Refused):
+    """The identifier is in none of the customer's ranges."""
+
+
+class NotIssued(Refused):
+    """The identifier was never issued."""
+
+
+class AlreadyVoid(Refused):
+    """The identifier was voided before."""
+
+
+class NumberReused(Refused):
+    """The customer has used the number for another request. This one was not executed."""
+
+
+# The refusals by outcome byte, and the kinds of request that each fits.
+_REFUSALS = {
+    1: (NotThePost, {GRANT}),
+    2: (BadGrant, {GRANT}),
+    3: (Overlap, {GRANT}),
+    4: (NoRange, {DRAW}),
+    5: (NoneFree, {DRAW}),
+    6: (NotYours, {VOID, QUERY}),
+    7: (NotIssued, {VOID}),
+    8: (AlreadyVoid, {VOID}),
+    9: (NumberReused, {GRANT, DRAW, VOID, QUERY}),
+}
+
+
+class Drawn(NamedTuple):
+    """An identifier, and the day on which it was issued, in days since 1970-01-01."""
+
+    identifier: str
+    day: int
+
+
+class Told(NamedTuple):
+    """What became of an identifier: `unknown`, `never`, `issued` or `voided`; the day of its last
+    issue, or 0."""
+
+    status: str
+    day: int
+
+
+def check_digit(serial):
+    """The check digit of a serial number, by the standard's weights."""
+    total = sum(w * int(d) for w, d in zip((8, 6, 4, 2, 3, 5, 9, 7), f"{serial:08}"))
+    return {10: 0, 11: 5}.get(11 - total % 11, 11 - total % 11)
+
+
+class Client:
+    """A client of one server, as one customer, with numbers that no other client of it has.
+
+    `server` is an IPv4 address and a port. `write_down` is called with the datagram of each new
+    request before it is sent; where it raises, nothing is sent and the number is not used. It has
+    to keep the datagram so that it is there after a crash. The next number is `number`, the last
+    one `last`. `request` is the last datagram that was written down by the run before, if there is
+    one. A request is sent up to `tries` times, each time with `wait` seconds for its reply.
+    """
+
+    def __init__(self, server, customer, number, write_down, *, last=LAST_NUMBER, request=None,
+                 tries=5, wait=1.0):
+        self.customer = _u32(customer, "customer")
+        if number != last + 1:
+            _u32(number, "number")
+        self.number = number
+        self.last = _u32(last, "last number")
+        self.request = request
+        self.is_open = request is not None
+        self.tries, self.wait = tries, wait
+        self._write_down = write_down
+        self._notes = None
+        self._link = socket.socket(socket.AF_INET, socket.SOCK_DGRAM)
+        try:
+            self._link.connect(server)
+        except OSError:
+            self._link.close()
+            raise
+
+    @classmethod
+    def open(cls, path, server, *, tries=5, wait=1.0):
+        """A client that keeps its notes in a file, which `make_notes` made."""
+        notes = _Notes(path)
+        try:
+            client = cls(server, notes.customer, notes.next, notes.write_down, last=notes.last,
+                         request=notes.request, tries=tries, wait=wait)
+        except BaseException:
+            notes.close()
+            raise
+        client._notes = notes
+        return client
+
+    def close(self):
+        """Closes the socket, and frees the notes for another client."""
+        self._link.close()
+        if self._notes is not None:
+            self._notes.close()
+
+    def __enter__(self):
+        return self
+
+    def __exit__(self, *_):
+        self.close()
+
+    def grant(self, holder, service, country, first, last):
+        """Grants serials to a customer, as the post; answers the number of the range."""
+        body = struct.pack(">I2s2sII", _u32(holder, "holder"), _letters(service, "service"),
+                           _letters(country, "country"), _serial(first), _serial(last))
+        return self._ask(GRANT, body)
+
+    def draw(self, service, country):
+        """Draws the next free identifier of a service and country: a `Drawn`."""
+        return self._ask(DRAW, _letters(service, "service") + _letters(country, "country"))
+
+    def void(self, identifier):
+        """Gives an identifier up."""
+        self._ask(VOID, _identifier(identifier))
+
+    def query(self, identifier):
+        """Asks what became of an identifier: a `Told`."""
+        return self._ask(QUERY, _identifier(identifier))
+
+    def again(self):
+        """Asks the last request again, with its number, and answers as it did or would have done."""
+        if self.request is None:
+            raise ValueError("nothing was asked yet")
+        outcome, answer = self._call()
+        self.is_open = False
+        if outcome:
+            refusal = _REFUSALS[outcome][0]
+            raise refusal(f"request {self.number_of_request}: {refusal.__doc__}")
+        return answer
+
+    @property
+    def number_of_request(self):
+        """The number of the last request."""
+        return None if self.request is None else _HEADER.unpack_from(self.request)[4]
+
+    def _ask(self, kind, body):
+        if self.is_open:
+            raise Unanswered(f"request {self.number_of_request} has no reply yet")
+        if self.number > self.last:
+            raise NumbersSpent(f"number {self.last} was the last one")
+        request = _HEADER.pack(_MAGIC, _VERSION, kind, self.customer, self.number) + body
+        self._write_down(request)
+        self.number += 1
+        self.request, self.is_open = request, True
+        return self.again()
+
+    # The outcome byte of the reply to the request, and what else it tells.
+    def _call(self):
+        cause = None
+        for _ in range(self.tries):
+            end = time.monotonic() + self.wait
+            try:
+                self._link.send(self.request)
+            except OSError as error:
+                cause = error
+            while (left := end - time.monotonic()) > 0:
+                self._link.settimeout(left)
+                try:
+                    datagram = self._link.recv(_LONGEST)
+                except socket.timeout:
+                    break
+                except OSError as error:        # as where no server listens: it may come yet
+                    cause = error
+                    time.sleep(min(left, 0.05))
+                    continue
+                reply = _read_reply(self.request, datagram)
+                if reply is not None:
+                    return reply
+        raise GaveUp(f"request {self.number_of_request}: no reply") from cause
+
+
+def _read_reply(request, datagram):
+    """The outcome byte and the answer, or None where the bytes are no reply to this request."""
+    at, kind = len(request), request[3]
+    if datagram[:at] != request[:3] + bytes([kind | _REPLY]) + request[4:] or len(datagram) == at:
+        return None
+    outcome, rest = datagram[at], datagram[at + 1:]
+    if outcome:
+        fits = outcome in _REFUSALS and kind in _REFUSALS[outcome][1]
+        return (outcome, None) if fits and not rest else None
+    if kind == GRANT and len(rest) == 4:
+        return 0, int.from_bytes(rest, "big")
+    if kind == DRAW and len(rest) == 17 and _is_identifier(rest[4:]):
+        return 0, Drawn(rest[4:].decode("ascii"), int.from_bytes(rest[:4], "big"))
+    if kind == VOID and not rest:
+        return 0, None
+    if kind == QUERY and len(rest) == 5 and rest[0] < len(_STATUSES):
+        day = int.from_bytes(rest[1:], "big")
+        return (0, Told(_STATUSES[rest[0]], day)) if rest[0] >= 2 or day == 0 else None
+    return None
+
+
+def _is_identifier(text):
+    return (re.fullmatch(rb"[A-Z]{2}[0-9]{9}[A-Z]{2}", text) is not None
+            and check_digit(int(text[2:10])) == text[10] - ord("0"))
+
+
+def _identifier(text):
+    data = text.encode("ascii", "replace")
+    if not _is_identifier(data):
+        raise ValueError(f"{text!r} is no identifier")
+    return data
+
+
+def _letters(text, what):
+    data = text.encode("ascii", "replace")
+    if re.fullmatch(rb"[A-Z]{2}", data) is None:
+        raise ValueError(f"a {what} is two capital letters, not {text!r}")
+    return data
+
+
+def _u32(number, what):
+    if not (isinstance(number, int) and 0 <= number <= 0xFFFFFFFF):
+        raise ValueError(f"a {what} is a number from 0 to 4294967295, not {number!r}")
+    return number
+
+
+def _serial(number):
+    if not (isinstance(number, int) and 0 <= number <= LAST_SERIAL):
+        raise ValueError(f"a serial is a number from 0 to {LAST_SERIAL}, not {number!r}")
+    return number
+
+
+def make_notes(path, customer, first=1, last=LAST_NUMBER):
+    """Makes the notes of a client that has the numbers from `first` to `last`.
+
+    No file may be at the path. Lost notes are made anew with numbers that were surely never used.
+    """
+    if _u32(first, "number") > _u32(last, "number"):
+        raise ValueError("the first number is above the last")
+    noted = {"customer": _u32(customer, "customer"), "next": first, "last": last, "request": None}
+    with open(path, "x", encoding="ascii") as file:
+        _write_whole(file, noted)
+    _sync_folder(path)
+
+
+class _Notes:
+    """A file with the customer, the next number, the last number and the last request."""
+
+    def __init__(self, path):
+        import fcntl                            # of POSIX alone
+        self._path = os.fspath(path)
+        self._lock = open(self._path + ".lock", "a", encoding="ascii")
+        try:
+            fcntl.flock(self._lock, fcntl.LOCK_EX | fcntl.LOCK_NB)
+            self._read()
+        except BaseException:
+            self._lock.close()
+            raise
+
+    def _read(self):
+        with open(self._path, encoding="ascii") as file:
+            text = file.read()
+        try:
+            noted = json.loads(text)
+            self.customer, self.last = _u32(noted["customer"], "customer"), _u32(noted["last"], "number")
+            self.next, request = noted["next"], noted["request"]
+            self.request = None if request is None else bytes.fromhex(request)
+            if self.request is None:
+                _u32(self.next, "number")
+            elif _HEADER.unpack_from(self.request)[3:] != (self.customer, self.next - 1):
+                raise ValueError("the request has another customer or number")
+        except (ValueError, TypeError, KeyError, struct.error) as fault:
+            raise ValueError(f"{self._path} holds no notes: {fault}") from fault
+
+    def write_down(self, request):
+        """The notes are whole before and behind the renaming, which is on the disk at the end."""
+        number = _HEADER.unpack_from(request)[4]
+        beside = self._path + ".new"
+        with open(beside, "w", encoding="ascii") as file:
+            _write_whole(file, {"customer": self.customer, "next": number + 1, "last": self.last,
+                                "request": request.hex()})
+        os.replace(beside, self._path)
+        _sync_folder(self._path)
+
+    def close(self):
+        self._lock.close()
+
+
+def _write_whole(file, noted):
+    json.dump(noted, file)
+    file.write("\n")
+    file.flush()
+    os.fsync(file.fileno())
+
+
+def _sync_folder(path):
+    folder = os.open(os.path.dirname(os.path.abspath(path)), os.O_RDONLY)
+    try:
+        os.fsync(folder)
+    finally:
+        os.close(folder)

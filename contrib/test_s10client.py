@@ -1,0 +1,458 @@
+"""Tests of s10client against the real server, under loss.
+
+    S10=/path/to/s10 python3 test_s10client.py
+
+Without S10 the program `s10` of the PATH is used.
+"""
+
+import os
+import random
+import select
+import shutil
+import socket
+import subprocess
+import sys
+import tempfile
+import threading
+import time
+import unittest
+
+import s10client
+from s10client import (AlreadyVoid, BadGrant, Client, Drawn, GaveUp, NoneFree, NoRange, NotIssued,
+                       NotThePost, NotYours, NumberReused, NumbersSpent, Overlap, Told, Unanswered,
+                       make_notes)
+
+PROGRAM = os.environ.get("S10") or shutil.which("s10")
+DAY = 20000
+
+
+def s10(*words):
+    """What the program prints for these words."""
+    done = subprocess.run([PROGRAM, *map(str, words)], capture_output=True, text=True, check=False)
+    return done.stdout
+
+
+class Server:
+    """A server of the real program over a ledger of its own."""
+
+    def __init__(self, folder, interval=30, limit=100000):
+        self.ledger = os.path.join(folder, "ledger")
+        assert s10("create", "--ledger", self.ledger, "--interval", interval, "--limit", limit) == "created\n"
+        self.process = subprocess.Popen(
+            [PROGRAM, "serve", "--ledger", self.ledger, "--bind", "127.0.0.1:0",
+             "--count", "4294967295", "--day", str(DAY)],
+            stdout=subprocess.DEVNULL, stderr=subprocess.PIPE, text=True)
+        for line in self.process.stderr:
+            if line.startswith("serving on "):
+                host, port = line.split()[2].split(":")
+                self.address = (host, int(port))
+                return
+        raise RuntimeError("the server does not start")
+
+    def stop(self):
+        """Ends the server; its ledger can be read afterwards."""
+        self.process.terminate()
+        self.process.wait()
+        self.process.stderr.close()
+
+    def issues(self):
+        """Customer, number and identifier of each issue, in order of arrival."""
+        lines = s10("report", "--ledger", self.ledger, "--issues").splitlines()[1:]
+        return [(int(c), int(n), i) for _, _, c, n, i, _ in map(str.split, lines)]
+
+
+class Proxy:
+    """Stands between the clients and a server; loses, repeats and holds back datagrams both ways.
+
+    Of each datagram a seeded choice says whether it is lost, and else how often it is passed on and
+    whether a copy of it is held back until some later ones have passed.
+    """
+
+    def __init__(self, server, seed, lost=0.3, repeated=0.3, late=0.2):
+        self.server, self.lost, self.repeated, self.late = server, lost, repeated, late
+        self.choose = random.Random(seed)
+        self.counts = {"lost": 0, "repeated": 0, "late": 0, "passed": 0}
+        self.front = socket.socket(socket.AF_INET, socket.SOCK_DGRAM)
+        self.front.bind(("127.0.0.1", 0))
+        self.address = self.front.getsockname()
+        self.backs = {}                         # a socket towards the server for each client
+        self.held = []
+        self.ends = False
+        self.thread = threading.Thread(target=self.run, daemon=True)
+        self.thread.start()
+
+    def run(self):
+        """Passes datagrams on until it is stopped."""
+        while not self.ends:
+            sockets = [self.front, *self.backs.values()]
+            for ready in select.select(sockets, [], [], 0.05)[0]:
+                datagram, sender = ready.recvfrom(2048)
+                if ready is self.front:
+                    if sender not in self.backs:
+                        self.backs[sender] = socket.socket(socket.AF_INET, socket.SOCK_DGRAM)
+                    self.pass_on(self.backs[sender], datagram, self.server)
+                else:
+                    client = next(c for c, s in self.backs.items() if s is ready)
+                    self.pass_on(self.front, datagram, client)
+
+    def pass_on(self, link, datagram, to):
+        """One datagram, by the choice that is next."""
+        if self.choose.random() < self.lost:
+            self.counts["lost"] += 1
+            return
+        copies = 1
+        while copies < 4 and self.choose.random() < self.repeated:
+            copies += 1
+        self.counts["repeated"] += copies - 1
+        self.counts["passed"] += 1
+        for _ in range(copies):
+            link.sendto(datagram, to)
+        if self.choose.random() < self.late:
+            self.counts["late"] += 1
+            self.held.append((link, datagram, to))
+        if len(self.held) > 8:
+            link, datagram, to = self.held.pop(self.choose.randrange(len(self.held)))
+            link.sendto(datagram, to)
+
+    def stop(self):
+        """Ends the thread and closes the sockets."""
+        self.ends = True
+        self.thread.join()
+        for link in (self.front, *self.backs.values()):
+            link.close()
+
+
+class ServedTest(unittest.TestCase):
+    """A folder and a server for each test."""
+
+    def setUp(self):
+        self.folder = tempfile.mkdtemp()
+        self.addCleanup(shutil.rmtree, self.folder)
+        self.server = Server(self.folder)
+        self.addCleanup(self.server.stop)
+
+    def client(self, customer, number=1, address=None, **more):
+        """A client whose requests are written down in a list."""
+        noted = []
+        client = Client(address or self.server.address, customer, number, noted.append, **more)
+        client.noted = noted
+        self.addCleanup(client.close)
+        return client
+
+
+class Calls(ServedTest):
+    """Each call and each refusal, over a network that loses nothing."""
+
+    def test_calls_are_answered(self):
+        post, seven = self.client(0), self.client(7)
+        self.assertEqual(post.grant(7, "RA", "GB", 0, 2), 1)
+        self.assertEqual(seven.draw("RA", "GB"), Drawn("RA000000005GB", DAY))
+        self.assertEqual(seven.draw("RA", "GB"), Drawn("RA000000014GB", DAY))
+        self.assertIsNone(seven.void("RA000000014GB"))
+        self.assertEqual(seven.query("RA000000005GB"), Told("issued", DAY))
+        self.assertEqual(seven.query("RA000000014GB"), Told("voided", DAY))
+        self.assertEqual(seven.query("RA000000028GB"), Told("never", 0))
+        self.assertEqual(post.query("RA000000031GB"), Told("unknown", 0))
+
+    def test_refusals_are_raised(self):
+        post, seven = self.client(0), self.client(7)
+        post.grant(7, "RA", "GB", 0, 1)
+        post.grant(8, "RA", "GB", 2, 2)
+        refused = [
+            (NotThePost, lambda: seven.grant(7, "RA", "GB", 9, 9)),
+            (BadGrant, lambda: post.grant(0, "RA", "GB", 9, 9)),
+            (BadGrant, lambda: post.grant(7, "RA", "GB", 9, 8)),
+            (Overlap, lambda: post.grant(8, "RA", "GB", 1, 9)),
+            (NoRange, lambda: seven.draw("RB", "GB")),
+            (NotYours, lambda: seven.void("RA000000028GB")),
+            (NotYours, lambda: seven.query("RA000000028GB")),
+            (NotIssued, lambda: seven.void("RA000000014GB")),
+        ]
+        for refusal, call in refused:
+            with self.assertRaises(refusal):
+                call()
+        seven.draw("RA", "GB")
+        seven.void("RA000000005GB")
+        with self.assertRaises(AlreadyVoid):
+            seven.void("RA000000005GB")
+        seven.draw("RA", "GB")
+        with self.assertRaises(NoneFree):
+            seven.draw("RA", "GB")
+        with self.assertRaises(NoneFree):           # the kept outcome
+            seven.again()
+        other = self.client(7)
+        with self.assertRaises(NumberReused):
+            other.draw("RA", "GB")
+
+    def test_what_fits_no_datagram_takes_no_number(self):
+        seven = self.client(7)
+        for call in (lambda: seven.draw("ra", "GB"), lambda: seven.draw("RA", "GBR"),
+                     lambda: seven.void("RA000000006GB"), lambda: seven.query("RÄ000000005GB"),
+                     lambda: seven.grant(7, "RA", "GB", 0, 100_000_000),
+                     lambda: seven.grant(-1, "RA", "GB", 0, 1)):
+            with self.assertRaises(ValueError):
+                call()
+        self.assertEqual((seven.number, seven.noted), (1, []))
+
+    def test_numbers_end(self):
+        seven = self.client(7, number=2**32 - 1)
+        with self.assertRaises(NoRange):
+            seven.draw("RA", "GB")
+        with self.assertRaises(NumbersSpent):
+            seven.draw("RA", "GB")
+
+    def test_a_request_is_written_down_before_it_is_sent(self):
+        def fail(_):
+            raise OSError("no room")
+        seven = Client(self.server.address, 7, 1, fail)
+        self.addCleanup(seven.close)
+        with self.assertRaises(OSError):
+            seven.draw("RA", "GB")
+        self.assertEqual((seven.number, seven.is_open), (1, False))
+        other = self.client(7)
+        with self.assertRaises(NoRange):            # number 1 reached no server
+            other.draw("RA", "GB")
+        self.assertEqual(other.noted, [other.request])
+
+
+class Loss(ServedTest):
+    """Over a network that loses, repeats and reorders."""
+
+    SEEDS = (1, 2, 3)
+    DRAWS = 60
+
+    def draw_all(self, client, count):
+        """So many draws, each asked again once it is answered; asked as long as it takes."""
+        drawn = {}
+        for _ in range(count):
+            try:
+                answer = client.draw("RA", "GB")
+            except GaveUp:
+                answer = self.ask_again(client)
+            drawn[client.customer, client.number_of_request] = answer.identifier
+            self.assertEqual(self.ask_again(client), answer)
+        return drawn
+
+    def ask_again(self, client):
+        """The reply to the last request, however often it has to be asked."""
+        for _ in range(100):
+            try:
+                return client.again()
+            except GaveUp:
+                pass
+        self.fail("no reply in a hundred calls")
+
+    def test_each_number_draws_once(self):
+        post = self.client(0)
+        post.grant(7, "RA", "GB", 0, 9999)
+        post.grant(8, "RA", "GB", 10000, 19999)
+        drawn, losses = {}, {"lost": 0, "repeated": 0, "late": 0, "passed": 0}
+        for seed in self.SEEDS:
+            proxy = Proxy(self.server.address, seed)
+            printers = [(7, 1000 * seed), (7, 1000 * seed + 500), (8, 1000 * seed)]
+            found = [None] * len(printers)
+
+            def run(at, customer, number, address=proxy.address, found=found):
+                client = self.client(customer, number, address, last=number + 499, wait=0.1, tries=3)
+                found[at] = self.draw_all(client, self.DRAWS)
+
+            threads = [threading.Thread(target=run, args=(at, *p)) for at, p in enumerate(printers)]
+            for thread in threads:
+                thread.start()
+            for thread in threads:
+                thread.join()
+            proxy.stop()
+            for one in found:
+                self.assertIsNotNone(one)
+                drawn.update(one)
+            for name, count in proxy.counts.items():
+                losses[name] += count
+        total = len(self.SEEDS) * 3 * self.DRAWS
+        self.assertEqual(len(drawn), total)
+        self.assertEqual(len(set(drawn.values())), total)
+
+        # The numbers asked once more over a network that loses nothing: the same identifiers.
+        for (customer, number), identifier in drawn.items():
+            self.assertEqual(self.client(customer, number).draw("RA", "GB").identifier, identifier)
+
+        self.server.stop()
+        self.assertEqual({(c, n): i for c, n, i in self.server.issues()}, drawn)
+        self.assertEqual(s10("audit", "--ledger", self.server.ledger), f"ledger ok {total + 2}\n")
+        print(f"\n{total} draws by 3 printers at a time; datagrams {losses}", file=sys.stderr)
+
+    def test_a_late_reply_to_another_request_is_not_taken(self):
+        post, seven = self.client(0), self.client(7)
+        post.grant(7, "RA", "GB", 0, 9)
+        first = seven.draw("RA", "GB")
+        late = seven.request
+        second = seven.draw("RA", "GB")
+        self.assertNotEqual(first, second)
+        seven._link.send(late)                      # its reply waits in the socket
+        time.sleep(0.1)
+        self.assertEqual(seven.query(first.identifier), Told("issued", DAY))
+
+    def test_no_changed_reply_is_taken(self):
+        post, seven = self.client(0), self.client(7)
+        post.grant(7, "RA", "GB", 0, 9)
+        link = socket.socket(socket.AF_INET, socket.SOCK_DGRAM)
+        self.addCleanup(link.close)
+        link.settimeout(5)
+        seven.draw("RA", "GB")
+        for client, ask in ((post, lambda: post.grant(8, "RA", "GB", 10, 19)),
+                            (seven, lambda: seven.draw("RA", "GB")),
+                            (seven, lambda: seven.void("RA000000005GB")),
+                            (seven, lambda: seven.query("RA000000005GB"))):
+            ask()
+            request = client.request
+            link.sendto(request, self.server.address)
+            reply = link.recv(512)
+            self.assertEqual(s10client._read_reply(request, reply)[0], 0)
+            for at in range(len(request)):
+                for bit in range(8):
+                    changed = bytearray(reply)
+                    changed[at] ^= 1 << bit
+                    self.assertIsNone(s10client._read_reply(request, bytes(changed)))
+            for length in range(len(reply)):
+                self.assertIsNone(s10client._read_reply(request, reply[:length]))
+            self.assertIsNone(s10client._read_reply(request, reply + b"\0"))
+
+    def test_the_same_bytes_are_read_as_the_program_reads_them(self):
+        post, seven = self.client(0), self.client(7)
+        post.grant(7, "RA", "GB", 0, 9)
+        requests = list(post.noted)
+        seven.draw("RA", "GB")
+        seven.void("RA000000005GB")
+        seven.query("RA000000005GB")
+        requests += seven.noted
+        choose = random.Random(4)
+        link = socket.socket(socket.AF_INET, socket.SOCK_DGRAM)
+        self.addCleanup(link.close)
+        link.settimeout(5)
+        for request in requests:
+            link.sendto(request, self.server.address)
+            reply = link.recv(512)
+            for _ in range(25):
+                changed = bytearray(reply)
+                for _ in range(choose.randint(1, 2)):
+                    changed[choose.randrange(len(request), len(reply))] = choose.choice((
+                        choose.randrange(256), choose.randrange(10), choose.randrange(48, 58)))
+                shown = not s10("show", changed.hex()).startswith("refused")
+                self.assertEqual(s10client._read_reply(request, bytes(changed)) is not None, shown)
+
+
+class Notes(ServedTest):
+    """Notes in a file."""
+
+    def setUp(self):
+        super().setUp()
+        self.path = os.path.join(self.folder, "notes")
+        self.client(0).grant(7, "RA", "GB", 0, 9)
+
+    def open(self, address=None, **more):
+        """A client with its notes in the file."""
+        client = Client.open(self.path, address or self.server.address, **more)
+        self.addCleanup(client.close)
+        return client
+
+    def test_a_client_goes_on_where_the_notes_end(self):
+        make_notes(self.path, 7, first=11, last=13)
+        with self.open() as client:
+            self.assertFalse(client.is_open)
+            self.assertEqual(client.draw("RA", "GB").identifier, "RA000000005GB")
+            self.assertEqual(client.draw("RA", "GB").identifier, "RA000000014GB")
+        with self.open() as client:
+            with self.assertRaises(Unanswered):
+                client.draw("RA", "GB")
+            self.assertEqual(client.again().identifier, "RA000000014GB")
+            self.assertEqual(client.draw("RA", "GB").identifier, "RA000000028GB")
+            with self.assertRaises(NumbersSpent):
+                client.draw("RA", "GB")
+        self.server.stop()
+        self.assertEqual([n for _, n, _ in self.server.issues()], [11, 12, 13])
+
+    def test_a_client_that_ended_before_its_reply_asks_again(self):
+        make_notes(self.path, 7)
+        proxy = Proxy(self.server.address, 5, lost=0, repeated=0, late=0)
+        self.addCleanup(proxy.stop)
+        with self.open(proxy.address, wait=0.2, tries=2) as client:
+            pass_on = proxy.pass_on
+            proxy.pass_on = lambda link, datagram, to: (
+                pass_on(link, datagram, to) if to == self.server.address else None)
+            with self.assertRaises(GaveUp):         # every reply is lost
+                client.draw("RA", "GB")
+            with self.assertRaises(Unanswered):
+                client.draw("RA", "GB")
+        with self.open() as client:
+            self.assertTrue(client.is_open)
+            self.assertEqual(client.again().identifier, "RA000000005GB")
+            self.assertEqual(client.draw("RA", "GB").identifier, "RA000000014GB")
+        self.server.stop()
+        self.assertEqual(self.server.issues(), [(7, 1, "RA000000005GB"), (7, 2, "RA000000014GB")])
+
+    def test_a_server_that_is_not_there_may_come_yet(self):
+        make_notes(self.path, 7)
+        with socket.socket(socket.AF_INET, socket.SOCK_DGRAM) as free:
+            free.bind(("127.0.0.1", 0))
+            nobody = free.getsockname()
+        with self.open(nobody, wait=0.1, tries=2) as client:
+            with self.assertRaises(GaveUp):
+                client.draw("RA", "GB")
+        with self.open() as client:
+            self.assertEqual(client.again().identifier, "RA000000005GB")
+
+    def test_notes_are_of_one_client(self):
+        make_notes(self.path, 7)
+        with self.assertRaises(FileExistsError):
+            make_notes(self.path, 7)
+        with self.open():
+            with self.assertRaises(BlockingIOError):
+                self.open()
+        self.open().close()
+        os.remove(self.path)
+        with self.assertRaises(FileNotFoundError):
+            self.open()
+
+    def test_what_holds_no_notes_is_refused(self):
+        make_notes(self.path, 7)
+        with self.open() as client:
+            client.draw("RA", "GB")
+        with open(self.path, encoding="ascii") as file:
+            text = file.read()
+        for wrong in ("", "{}", text[:-9], text.replace(': 2', ': 3'), text.replace(': 7', ': 8'),
+                      text.replace('"5331', '"')):
+            with open(self.path, "w", encoding="ascii") as file:
+                file.write(wrong)
+            with self.assertRaises(ValueError, msg=wrong):
+                self.open()
+
+
+class Datagrams(unittest.TestCase):
+    """Bytes worked by hand."""
+
+    def test_check_digits(self):
+        self.assertEqual([s10client.check_digit(n) for n in (0, 1, 2, 3, 8, 47312482)], [5, 4, 8, 1, 0, 9])
+
+    def test_bytes(self):
+        noted = []
+
+        def stop(request):
+            noted.append(request.hex())
+            raise InterruptedError
+
+        with Client(("127.0.0.1", 9), 7, 1, stop) as client:
+            for call in (lambda: client.grant(7, "RA", "GB", 0, 2), lambda: client.draw("RA", "GB"),
+                         lambda: client.void("RA000000014GB"), lambda: client.query("RA000000014GB")):
+                with self.assertRaises(InterruptedError):
+                    call()
+        self.assertEqual(noted, [
+            "5331010100000007000000010000000752414742" "00000000" "00000002",
+            "53310102000000070000000152414742",
+            "533101030000000700000001" "52413030303030303031344742",
+            "533101040000000700000001" "52413030303030303031344742",
+        ])
+
+
+if __name__ == "__main__":
+    if PROGRAM is None:
+        sys.exit("no program: set S10, or put s10 on the PATH")
+    unittest.main()
