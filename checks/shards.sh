@@ -11,7 +11,7 @@ s10=$(readlink -f "${1:-$(dirname "$(readlink -f "${BASH_SOURCE[0]}")")/../s10}"
 draws=${2:-10000}
 servers=${3:-4}
 dir=$(mktemp -d)
-pids=()
+pids=() addresses=()
 trap 'stop; rm -rf "$dir"' EXIT
 
 fail() {
@@ -22,15 +22,17 @@ fail() {
 stop() {
     local pid
     for pid in "${pids[@]}"; do
-        kill "$pid" 2>/dev/null && wait "$pid" 2>/dev/null || true
+        kill "$pid" 2>/dev/null || true
+        wait "$pid" 2>/dev/null || true
     done
     pids=()
 }
 
-# Starts a server over a ledger of its own with a million serials of its own, and writes down where it listens.
+# Starts a server over a ledger of its own with a million serials of its own, and notes where it listens.
 serve() { # NUMBER
     local ledger=$dir/ledger.$1 told=$dir/told.$1 address=
     rm -f "$ledger" "$ledger-wal"
+    : >"$told"
     "$s10" create --ledger "$ledger" --interval 365 --limit 1000000 >/dev/null || fail create
     "$s10" serve --ledger "$ledger" --bind 127.0.0.1:0 --count 4294967295 >/dev/null 2>"$told" &
     pids+=($!)
@@ -42,12 +44,12 @@ serve() { # NUMBER
     [ -n "$address" ] || fail "a server does not start"
     "$s10" grant --to "$address" --number 1 --holder 7 --service RA --country GB \
         --first $(($1 * 1000000)) --last $(($1 * 1000000 + 999999)) >/dev/null || fail grant
-    echo "$address" >>"$dir/addresses"
+    addresses+=("$address")
 }
 
 # One client for each server: each sends a Draw, waits for its reply, and sends the next. Prints each rate, and their sum.
 draw_all() {
-    python3 - "$draws" $(cat "$dir/addresses") <<'END'
+    python3 - "$draws" "${addresses[@]}" <<'END'
 import multiprocessing, socket, struct, sys, time
 
 def draw(address, draws, start, rates):
@@ -81,7 +83,7 @@ END
 # So many servers at once; afterwards their ledgers are looked at.
 run() { # SERVERS
     local number
-    : >"$dir/addresses"
+    addresses=()
     : >"$dir/issued"
     for number in $(seq "$1"); do serve "$number"; done
     draw_all
