@@ -175,6 +175,20 @@ impl Ranges {
         self.marks[num as usize - 1] = mark;
     }
 
+    /// The ranges, in order of their numbers.
+    pub fn all(&self) -> &[Range]
+        ensures { result.now ≡ self.now.ranges.items }
+    {
+        &self.ranges
+    }
+
+    /// The marks of the ranges, in the same order.
+    pub fn marks(&self) -> &[Mark]
+        ensures { result.now ≡ self.now.marks.items }
+    {
+        &self.marks
+    }
+
     /// The mark of the range of that number, if there is one.
     pub fn mark(&self, num: u32) -> Option<Mark>
         ensures some { 0 < num → result ≡ slice_get self.now.marks.items (num - 1) }

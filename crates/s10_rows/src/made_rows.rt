@@ -11,7 +11,7 @@ ghost use Rattle.s10_book.specs.Rules.{IsLegal, MayFollow};
 ghost use Rattle.s10_book.specs.History.{ranges_of, lies_in};
 ghost use Rattle.s10_book.specs.Issues.{issues_of, is_issued};
 ghost use Rattle.s10_rows.specs.declared.serial_row.SerialRow.{SerialRow};
-ghost use Rattle.s10_rows.specs.Tables.{HaveSameRows, pair_of, range_row, serial_row, serial_rows};
+ghost use Rattle.s10_rows.specs.Tables.{HaveSameRows, pair_of, serial_row, serial_rows};
 ghost use Rattle.s10_rows.specs.Selected.{IsCall, is_within};
 ghost use Rattle.s10_rows.specs.Kept.{Makes, write_of};
 
@@ -30,20 +30,6 @@ use s10_wire::{Body, Outcome};
 pub struct Made {
     pub range: Option<RangeWrite>,
     pub serial: Option<SerialWrite>,
-}
-
-// The row of the range whose next serial is the mark.
-fn row_of(range: &Range, mark: u32) -> RangeRow
-    ensures { result ≡ range_row mark range.now }
-{
-    RangeRow {
-        num: i64::from(range.num),
-        holder: i64::from(range.holder),
-        pair: i64::from(pair_number(range.service, range.country)),
-        low: i64::from(range.first.value()),
-        high: i64::from(range.last.value()),
-        mark: i64::from(mark),
-    }
 }
 
 // The write of the serial that the range gives next.
@@ -118,7 +104,7 @@ fn new_range_row(entry: &Entry) -> Option<RangeWrite>
         first,
         last,
     };
-    Some(RangeWrite::New(row_of(&range, first.value())))
+    Some(RangeWrite::New(RangeRow::of(&range, first.value())))
 }
 
 /// What a Done Grant makes: the row of its range, whose first serial is the mark.

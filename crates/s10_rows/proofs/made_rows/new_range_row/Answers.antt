@@ -16,7 +16,7 @@ returns c = record {
       let g = c.in-Grant in
       let n : ℕ = c.in-Granted.num in
       let r : Range = record { num = n; holder = g.holder; service = g.service; country = g.country; first = g.first; last = g.last } in
-      let row : range_row r.first r ≡ c.row_of.result = sym (c.row_of.ensures ∙ ap (λ (mark : ℕ). range_row mark r) c.value.ensures.value) in
+      let row : range_row r.first r ≡ c.of.result = sym (c.of.ensures ∙ ap (λ (mark : ℕ). range_row mark r) c.value.ensures.value) in
       let P : RangeRow → Type 0 = λ s. Makes h c.args.entry.now (Some (New s)) None in
       subst P row (grant_makes h t c.args.entry.now n r legal may c.in-Granted.is (ap (λ (b : Body). range_of_grant n b (Granted n)) g.is));
 }

@@ -1,0 +1,5 @@
+pub mod Placing
+pub mod Issuing
+pub mod Inserting
+pub mod Reserving
+pub mod LastRows

@@ -1,0 +1,70 @@
+-- The place of the first call that passes.
+use Rattle.std.proofs.Common.{◌≡◌, ◌∙◌, ℕ, suc, ◌+◌, ◌-◌, ◌≤◌, Bool, true, false, cond, eqb, List, [], ◌∷◌, ◌++◌, Option, Some, None, length, refl, sym, ap, ap₂, arith, Bor}
+use Rattle.std.specs.Prelude.{find, slice_get}
+use Rattle.std.specs.List.{position_from}
+use Rattle.std.specs.Option.{option_copied}
+use Rattle.std.specs.Slice.{IsItemAt}
+use Rattle.std.proofs.lemmas.Bool.{eqb-true, and_parts}
+use Rattle.std.proofs.lemmas.Option.{none-some, same_Some, slice_get_past, slice_get_read}
+use Rattle.s10_book.specs.declared.entry.Entry.{Entry}
+use Rattle.s10_book.specs.History.{has_key, entry_with_key}
+
+-- where no call has a place, none is found
+pub none_placed : (p : Entry → Bool) (xs : List Entry) (i : ℕ) → position_from p i xs ≡ None → find p xs ≡ None
+none_placed p [] i none = refl
+none_placed p (x ∷ xs) i none = at (p x) refl (none_placed p xs (i + 1))
+  where
+    at : (b : Bool) → p x ≡ b → (position_from p (i + 1) xs ≡ None → find p xs ≡ None) → find p (x ∷ xs) ≡ None
+    at true is rest = absurd (none-some i (sym (rw is at none)))
+    at false is rest = rw is (rest (rw is at none))
+
+placed : (p : Entry → Bool) (xs : List Entry) (i k : ℕ) → position_from p i xs ≡ Some k → (i ≤ k) × (slice_get xs (k - i) ≡ find p xs)
+placed p [] i k found = absurd (none-some k found)
+placed p (x ∷ xs) i k found = at (p x) refl (placed p xs (i + 1) k)
+  where
+    at : (b : Bool) → p x ≡ b → (position_from p (i + 1) xs ≡ Some k → (i + 1 ≤ k) × (slice_get xs (k - (i + 1)) ≡ find p xs)) → (i ≤ k) × (slice_get (x ∷ xs) (k - i) ≡ find p (x ∷ xs))
+    at true is more =
+        let e : i ≡ k = same_Some i k (rw is at found) in
+        let z : k - i ≡ 0 = omega (arith, e) in
+        (omega (arith, e), ap (slice_get (x ∷ xs)) z ∙ rw is refl)
+    at false is more =
+        let rest = more (rw is at found) in
+        let up : k - i ≡ suc (k - (i + 1)) = omega (arith, rest.0) in
+        (omega (arith, rest.0), ap (slice_get (x ∷ xs)) up ∙ rw is rest.1)
+
+-- the call at the place is the one that is found
+pub placed_call : (p : Entry → Bool) (xs : List Entry) (k : ℕ) → position_from p 0 xs ≡ Some k → slice_get xs k ≡ find p xs
+placed_call p xs k found = let e : k ≡ k - 0 = omega arith in ap (slice_get xs) e ∙ (placed p xs 0 k found).1
+
+-- one more call, which is the first that passes if it does
+place_new : (p : Entry → Bool) (xs : List Entry) (i : ℕ) (e : Entry) → find p xs ≡ None → position_from p i (xs ++ e ∷ []) ≡ cond (p e) (Some (i + length xs)) None
+place_new p [] i e none = ap (λ n. cond (p e) (Some n) None) (omega arith)
+place_new p (x ∷ xs) i e none = at (p x) refl (place_new p xs (i + 1) e)
+  where
+    at : (b : Bool) → p x ≡ b → (find p xs ≡ None → position_from p (i + 1) (xs ++ e ∷ []) ≡ cond (p e) (Some (i + 1 + length xs)) None)
+        → position_from p i ((x ∷ xs) ++ e ∷ []) ≡ cond (p e) (Some (i + length (x ∷ xs))) None
+    at true is rest = absurd (none-some x (sym (rw is at none)))
+    at false is rest = rw is (rest (rw is at none) ∙ ap (λ n. cond (p e) (Some n) None) (omega arith))
+
+-- one more call that does not pass
+place_same : (p : Entry → Bool) (xs : List Entry) (i : ℕ) (e : Entry) → p e ≡ false → position_from p i (xs ++ e ∷ []) ≡ position_from p i xs
+place_same p [] i e fails = rw fails refl
+place_same p (x ∷ xs) i e fails = ap (cond (p x) (Some i)) (place_same p xs (i + 1) e fails)
+
+-- the place of a key behind a call with a new key
+pub place_behind : (h : List Entry) (e : Entry) (customer number place : ℕ) (o : Option ℕ) → entry_with_key h e.request.customer e.request.number ≡ None → place ≡ length h
+    → o ≡ position_from (has_key customer number) 0 h → cond (has_key customer number e) (Some place) o ≡ position_from (has_key customer number) 0 (h ++ e ∷ [])
+place_behind h e customer number place o new is old = at (has_key customer number e) refl
+  where
+    at : (b : Bool) → has_key customer number e ≡ b → cond b (Some place) o ≡ position_from (has_key customer number) 0 (h ++ e ∷ [])
+    at true same =
+        let both = and_parts (eqb e.request.customer customer) (eqb e.request.number number) same in
+        let none : entry_with_key h customer number ≡ None =
+        ap₂ (entry_with_key h) (sym (eqb-true e.request.customer customer both.0)) (sym (eqb-true e.request.number number both.1)) ∙ new in
+        sym (place_new (has_key customer number) h 0 e none ∙ ap (λ b. cond b (Some (0 + length h)) None) same ∙ ap Some (omega (arith, is)))
+    at false other = old ∙ sym (place_same (has_key customer number) h 0 e other)
+
+-- what a slice gives at a place is the item there, if there is one
+pub item_at : (xs : List Entry) (k : ℕ) (o : Option (Bor Entry)) → IsItemAt xs k o → option_copied o ≡ slice_get xs k
+item_at xs k None is = sym (slice_get_past xs k is.3)
+item_at xs k (Some x) is = sym (slice_get_read xs (length xs) k x.now refl is.3.0 is.1)

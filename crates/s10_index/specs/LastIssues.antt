@@ -1,0 +1,22 @@
+-- The last issue of each identifier.
+use Rattle.std.specs.Prelude.{◌≡◌, ℕ, List, if◌then◌else◌, true}
+use Rattle.std.specs.Option.{option_map}
+use Rattle.std.specs.HashMap.{HashMap, get}
+use Rattle.s10_core.specs.declared.id.Id.{Id}
+use Rattle.s10_core.specs.Id.{IsId}
+use Rattle.s10_book.specs.declared.entry.Entry.{Entry}
+use Rattle.s10_book.specs.declared.issue.Issue.{Issue}
+use Rattle.s10_book.specs.Issues.{last_issue_of}
+use Rattle.s10_index.specs.Keys.{same_key, id_key}
+
+-- at the key of each identifier the map has its last issue
+abbrev pub HasIssues : {S : Type 0} → HashMap (ℕ × ℕ) Issue S → List Entry → Type 0
+HasIssues issues h = (x : Id) → IsId x → get same_key issues (id_key x) ≡ last_issue_of h x
+
+-- the issue, voided
+abbrev pub voided_issue : Issue → Issue
+voided_issue i = record { day = i.day; voided = true; customer = i.customer; number = i.number }
+
+-- the map has the issue at that key voided, if it has one, and the others as they were
+abbrev pub Voids : {S : Type 0} → ℕ × ℕ → HashMap (ℕ × ℕ) Issue S → HashMap (ℕ × ℕ) Issue S → Type 0
+Voids key old new = (q : ℕ × ℕ) → get same_key new q ≡ (if same_key key q then option_map voided_issue (get same_key old q) else get same_key old q)

@@ -1,0 +1,245 @@
+//! The book in memory with an index.
+
+ghost use Rattle.std.specs.Prelude.{◌≡◌, ◌∷◌, ◌++◌, [], ⊤, OnOk, OnErr, IfOk, IfErr, IfSome, IsTrue, Contains, find, ◌==◌, ◌<◌, count_by, vec_len, vec_capacity};
+ghost use Rattle.s10_wire.specs.Kind.{fits};
+ghost use Rattle.s10_book.specs.History.{ranges_of, entry_with_key, entry_at, is_held_above, overlaps};
+ghost use Rattle.s10_book.specs.Issues.{issues_of, last_issue_of, candidate_of, is_issued, is_voided as is_voided_in, is_free as is_free_on, id_at, serials};
+ghost use Rattle.s10_book.specs.Usage.{usage_of};
+ghost use Rattle.s10_book.specs.Rules.{IsLegal, MayFollow};
+ghost use Rattle.s10_book.specs.BookFault.{Counts};
+ghost use Rattle.s10_ranges.specs.Mirror.{Mirrors};
+ghost use Rattle.s10_index.specs.Places.{HasPlaces};
+ghost use Rattle.s10_index.specs.LastIssues.{HasIssues};
+
+use crate::last_issues::{note_issue, noted_issue};
+use crate::places::{kept_call, note_place};
+use crate::tally::{count_if, id_with, is_free, is_voided};
+use s10_book::{Book, BookFault, Candidate, Entry, Issue, Range, Settings, Usage};
+use s10_core::{Country, Id, Serial, Service};
+use s10_ranges::Ranges;
+use std::alloc::{AllocError, Global};
+use std::collections::HashMap;
+
+/// A book in memory that finds a call by its key, and the last issue of an identifier, in a map, and the ranges and
+/// their marks in the orders of `Ranges`. It is always honest, and only `keep` can be refused, by Memory. Of its calls
+/// `usage` alone takes longer in a long history than the logarithm of it: it asks for each serial of the range.
+#[derive(Drop)]
+pub struct IndexedBook {
+    settings: Settings,
+    faults: u64,
+    pub(crate) entries: Vec<Entry>,
+    pub(crate) ranges: Ranges,
+    places: HashMap<(u32, u32), u32>,
+    pub(crate) issues: HashMap<(u32, u32), Issue>,
+    ghost mirrored: { Mirrors ranges entries.items },
+    ghost placed: { HasPlaces places entries.items },
+    ghost issued: { HasIssues issues entries.items },
+    ghost legal: { IsLegal entries.items settings },
+}
+
+impl IndexedBook {
+    /// An empty book with these settings and no fault counted.
+    pub fn new(alloc: Global, settings: Settings) -> IndexedBook
+        ensures history { ⟦<IndexedBook as Book>⟧.history result ≡ [] }
+        ensures terms { ⟦<IndexedBook as Book>⟧.terms result ≡ settings }
+        ensures faults { ⟦<IndexedBook as Book>⟧.faults result ≡ 0 }
+        ensures honest { ⟦<IndexedBook as Book>⟧.honest result }
+    {
+        IndexedBook {
+            settings,
+            faults: 0,
+            entries: Vec::new(alloc),
+            ranges: Ranges::new(alloc),
+            places: HashMap::new(alloc),
+            issues: HashMap::new(alloc),
+        }
+    }
+
+    // Adds a call and what it makes, once there is room for all of it.
+    fn add(&mut self, entry: Entry) -> Result<(), AllocError>
+        requires { MayFollow self.old.entries.items self.old.settings entry }
+        ensures terms { self.new.settings ≡ self.old.settings }
+        ensures faults { self.new.faults ≡ self.old.faults }
+        ensures ok { OnOk result (self.new.entries.items ≡ self.old.entries.items ++ entry ∷ []) }
+        ensures err { OnErr result (self.new.entries.items ≡ self.old.entries.items) }
+    {
+        let place = self.len();
+        self.ranges.reserve()?;
+        self.places.reserve(1)?;
+        self.issues.reserve(1)?;
+        self.entries.reserve(1)?;
+        self.ranges.follow(&entry);
+        note_place(&mut self.places, &entry, place);
+        note_issue(&mut self.issues, &entry);
+        push_item(&mut self.entries, entry);
+        Ok(())
+    }
+
+    // The last issue of an identifier, if it was ever issued.
+    fn last_state(&self, id: &Id) -> Option<Issue>
+        ensures { result ≡ last_issue_of self.now.entries.items id.now }
+    {
+        noted_issue(&self.issues, id)
+    }
+
+    // How many serials of the range were issued, are voided, and are free on the day.
+    fn usage_on(&self, range: &Range, day: u32) -> Usage
+        ensures used { result.used ≡ count_by (λ serial. is_issued (issues_of self.now.entries.items) (id_at range.now serial)) (serials range.now) }
+        ensures voided { result.voided ≡ count_by (λ serial. is_voided_in self.now.entries.items (id_at range.now serial)) (serials range.now) }
+        ensures free { result.free ≡ count_by (λ serial. is_free_on (issues_of self.now.entries.items) (id_at range.now serial) day self.now.settings.interval) (serials range.now) }
+    {
+        let interval = self.settings.interval();
+        let mut usage = Usage {
+            used: 0,
+            voided: 0,
+            free: 0,
+        };
+        for value in range.first.value()..=range.last.value() {
+            let last = self.last_state(&id_with(range, value));
+            usage.used = count_if(usage.used, last.is_some());
+            usage.voided = count_if(usage.voided, is_voided(&last));
+            usage.free = count_if(usage.free, is_free(&last, day, interval));
+        }
+        usage
+    }
+}
+
+// Adds an item at the end, for which there is room.
+fn push_item<T: Copy>(list: &mut Vec<T>, item: T)
+    requires { vec_len list.old < vec_capacity list.old }
+    ensures { list.new.items ≡ list.old.items ++ item ∷ [] }
+{
+    list.push_reserved(item);
+}
+
+// A read of a book in memory always succeeds and changes nothing.
+impl Book for IndexedBook {
+    ghost history = { λ b. b.entries.items };
+
+    ghost terms = { λ b. b.settings };
+
+    ghost faults = { λ b. b.faults };
+
+    ghost honest = { λ b. ⊤ };
+
+    ghost legal = { λ b h. b.legal };
+
+    fn settings(&self) -> Settings {
+        self.settings
+    }
+
+    fn len(&self) -> u32 {
+        let _limit = self.settings.limit();
+        self.entries.len() as u32
+    }
+
+    fn day(&self) -> u32 {
+        match self.entries.last() {
+            None => 0,
+            Some(entry) => entry.day,
+        }
+    }
+
+    fn find(&mut self, customer: u32, number: u32) -> Result<Option<Entry>, BookFault>
+        ensures same { self.new ≡ self.old }
+        ensures answer { result ≡ Ok (entry_with_key (⟦<IndexedBook as Book>⟧.history self.old) customer number) }
+        ensures fits { IfOk result (λ found. IfSome found (λ e. IsTrue (fits e.request.body e.outcome))) }
+    {
+        Ok(kept_call(&self.entries, &self.places, customer, number))
+    }
+
+    fn entry(&mut self, at: u32) -> Result<Option<Entry>, BookFault>
+        ensures same { self.new ≡ self.old }
+        ensures answer { result ≡ Ok (entry_at (⟦<IndexedBook as Book>⟧.history self.old) at) }
+    {
+        match at.checked_sub(1) {
+            None => Ok(None),
+            Some(place) => Ok(self.entries.get(place as usize).copied()),
+        }
+    }
+
+    fn range(&mut self, num: u32) -> Result<Option<Range>, BookFault>
+        ensures same { self.new ≡ self.old }
+        ensures answer { result ≡ Ok (find (λ r. r.num == num) (ranges_of (⟦<IndexedBook as Book>⟧.history self.old))) }
+    {
+        Ok(self.ranges.numbered(num))
+    }
+
+    fn next_range(
+        &mut self,
+        customer: u32,
+        service: Service,
+        country: Country,
+        after: u32,
+    ) -> Result<Option<Range>, BookFault>
+        ensures same { self.new ≡ self.old }
+        ensures answer { result ≡ Ok (find (is_held_above after customer service country) (ranges_of (⟦<IndexedBook as Book>⟧.history self.old))) }
+        ensures above { IfOk result (λ found. IfSome found (λ r. after < r.num)) }
+    {
+        Ok(self.ranges.held_after(customer, service, country, after))
+    }
+
+    fn covering(
+        &mut self,
+        service: Service,
+        country: Country,
+        first: Serial,
+        last: Serial,
+    ) -> Result<Option<Range>, BookFault>
+        ensures same { self.new ≡ self.old }
+        ensures answer { result ≡ Ok (find (overlaps service country first last) (ranges_of (⟦<IndexedBook as Book>⟧.history self.old))) }
+    {
+        Ok(self.ranges.over(service, country, first, last))
+    }
+
+    fn last_issue(&mut self, id: &Id) -> Result<Option<Issue>, BookFault>
+        ensures same { self.new ≡ self.old }
+        ensures answer { result ≡ Ok (last_issue_of (⟦<IndexedBook as Book>⟧.history self.old) id.now) }
+    {
+        Ok(self.last_state(id))
+    }
+
+    fn candidate(&mut self, range: &Range) -> Result<Candidate, BookFault>
+        requires { Contains (ranges_of (⟦<IndexedBook as Book>⟧.history self.old)) range.now }
+        ensures same { self.new ≡ self.old }
+        ensures answer { result ≡ Ok (candidate_of (⟦<IndexedBook as Book>⟧.history self.old) range.now) }
+    {
+        let serial = match self.ranges.mark(range.num) {
+            None => range.first,
+            Some(mark) => mark.serial,
+        };
+        let id = Id {
+            service: range.service,
+            serial,
+            country: range.country,
+        };
+        let issue = self.last_state(&id);
+        Ok(Candidate { serial, issue })
+    }
+
+    fn usage(&mut self, range: &Range, day: u32) -> Result<Usage, BookFault>
+        requires { Contains (ranges_of (⟦<IndexedBook as Book>⟧.history self.old)) range.now }
+        ensures same { self.new ≡ self.old }
+        ensures answer { result ≡ Ok (usage_of (⟦<IndexedBook as Book>⟧.history self.old) range.now day (⟦<IndexedBook as Book>⟧.terms self.old).interval) }
+    {
+        let day = self.day().max(day);
+        Ok(self.usage_on(range, day))
+    }
+
+    fn keep(&mut self, entry: Entry) -> Result<(), BookFault>
+        requires { MayFollow (⟦<IndexedBook as Book>⟧.history self.old) (⟦<IndexedBook as Book>⟧.terms self.old) entry }
+        ensures faults { Counts result (⟦<IndexedBook as Book>⟧.faults self.old) (⟦<IndexedBook as Book>⟧.faults self.new) }
+        ensures memory { IfErr result (λ fault. fault ≡ BookFault.Memory) }
+        ensures same_terms { ⟦<IndexedBook as Book>⟧.terms self.new ≡ ⟦<IndexedBook as Book>⟧.terms self.old }
+        ensures ok { OnOk result (⟦<IndexedBook as Book>⟧.history self.new ≡ ⟦<IndexedBook as Book>⟧.history self.old ++ entry ∷ []) }
+        ensures err { OnErr result (⟦<IndexedBook as Book>⟧.history self.new ≡ ⟦<IndexedBook as Book>⟧.history self.old) }
+    {
+        match self.add(entry) {
+            Ok(()) => Ok(()),
+            Err(_) => {
+                self.faults = self.faults.saturating_add(1);
+                Err(BookFault::Memory)
+            }
+        }
+    }
+}

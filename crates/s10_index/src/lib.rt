@@ -1,0 +1,11 @@
+//! The book in memory with an index: what a call asks of it is found without a walk over the calls.
+#![tactic(auto)]
+
+mod id_key;
+mod indexed_book;
+mod last_issues;
+mod places;
+mod rows;
+mod tally;
+
+pub use indexed_book::IndexedBook;

@@ -1,0 +1,34 @@
+//! Where the call of each key stands.
+
+ghost use Rattle.std.specs.Prelude.{◌≡◌, ◌<◌, ◌++◌, ◌∷◌, [], List, None, length};
+ghost use Rattle.std.specs.HashMap.{spare};
+ghost use Rattle.s10_book.specs.declared.entry.Entry.{Entry};
+ghost use Rattle.s10_book.specs.History.{entry_with_key};
+ghost use Rattle.s10_index.specs.Places.{HasPlaces};
+
+use s10_book::Entry;
+use std::collections::HashMap;
+
+pub(crate) fn kept_call(
+    calls: &[Entry],
+    places: &HashMap<(u32, u32), u32>,
+    customer: u32,
+    number: u32,
+) -> Option<Entry>
+    requires { HasPlaces places.now calls.now }
+    ensures { result ≡ entry_with_key calls.now customer number }
+{
+    let place = *places.get(&(customer, number))?;
+    calls.get(place as usize).copied()
+}
+
+// Notes the place of the next call. Its key is new, and there is room for it.
+pub(crate) fn note_place(places: &mut HashMap<(u32, u32), u32>, entry: &Entry, place: u32)
+    requires room { 0 < spare places.old }
+    ensures { (h : List Entry) → HasPlaces places.old h → place ≡ length h
+        → entry_with_key h entry.now.request.customer entry.now.request.number ≡ None
+        → HasPlaces places.new (h ++ entry.now ∷ []) }
+{
+    let key = (entry.request.customer, entry.request.number);
+    let _ = places.insert(key, place);
+}
