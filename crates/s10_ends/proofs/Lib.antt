@@ -2,7 +2,8 @@ pub mod Applied
 pub mod Whole
 pub mod One
 pub mod Runs
-pub mod Drawn
+pub mod Equal
+pub mod Carried
 pub mod Pending
 pub mod Turns
 pub mod Listening

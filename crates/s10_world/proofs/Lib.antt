@@ -3,7 +3,6 @@ pub mod Once
 pub mod Sent
 pub mod Run
 pub mod Kept
-pub mod Equal
 pub mod Told
 pub mod Unshared
 pub mod Clients

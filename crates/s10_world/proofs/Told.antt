@@ -21,7 +21,7 @@ use Rattle.s10_ends.specs.Served.{Gives}
 use Rattle.s10_world.specs.World.{Acceptance, WorldState}
 use Rattle.s10_world.specs.Agreement.{HasOutcome, HasOther, IsOutcomeIn, Agrees, IsExecutedAtMostOnce, TellsExecution, IsAtMostOnce}
 use Rattle.s10_world.specs.Sound.{GivesIn, IsSound}
-use Rattle.s10_world.proofs.Equal.{same_request_or_not}
+use Rattle.s10_ends.proofs.Equal.{same_request_or_not}
 
 chosen : {A : Type 0} (b : Bool) (x r : A) (o : Option A) → cond b (Some x) o ≡ Some r → ((b ≡ true) × (x ≡ r)) ⊎ (o ≡ Some r)
 chosen true x r o is = inl (refl, same_Some x r is)
@@ -45,7 +45,7 @@ outcome_at h q o (Some e) is gives =
       | inr other ↦ inr (gives.1 other, (e, here.1, here.0, other))
     ]
 
-pub outcome_in : (h : List Entry) (q : Request) (o : Outcome) → GivesIn h q o → HasOutcome h q o ⊎ ((o ≡ NumberReused) × HasOther h q)
+outcome_in : (h : List Entry) (q : Request) (o : Outcome) → GivesIn h q o → HasOutcome h q o ⊎ ((o ≡ NumberReused) × HasOther h q)
 outcome_in h q o gives = outcome_at h q o (entry_with_key h q.customer q.number) refl gives
 
 pub agrees : (w : WorldState) → IsSound w → Agrees w
@@ -123,7 +123,7 @@ kept_not : (h : List Entry) (t : Terms) (i : ℕ) (e : Entry) → IsLegal h t �
 kept_not h t i e legal at reused = answer_not (take i h) e.request e.request.body e.day t.interval (sym (legal.right i e at) ∙ reused)
 
 -- an element of a list has a place
-pub placed : {X : Type 0} (xs : List X) (x : X) (is : Contains xs x) → slice_get xs is.0 ≡ Some x
+placed : {X : Type 0} (xs : List X) (x : X) (is : Contains xs x) → slice_get xs is.0 ≡ Some x
 placed xs x is = slice_get-get_or xs is.0 x is.1 ∙ ap Some is.2
 
 tells : (h : List Entry) (t : Terms) (a : Acceptance) → IsLegal h t → GivesIn h a.request a.outcome → TellsExecution h a

@@ -1,23 +1,22 @@
 -- Where no two clients of one customer have a number in common.
-use Rattle.std.proofs.Common.{◌≡◌, ◌≢◌, ◌∙◌, inl, inr, ℕ, zero, suc, ◌+◌, ◌<◌, ◌≤◌, List, [], ◌∷◌, ◌++◌, length, get_or, map, Some, refl, sym, ap, subst, arith}
+use Rattle.std.proofs.Common.{◌≡◌, ◌≢◌, ◌∙◌, inl, inr, ℕ, zero, suc, ◌+◌, ◌<◌, ◌≤◌, List, [], ◌∷◌, ◌++◌, length, get_or, Some, refl, sym, ap, subst, arith}
 use Rattle.std.specs.Prelude.{All, AllPairs, Contains, slice_get}
 use Rattle.std.proofs.lemmas.Bool.{cases_order}
 use Rattle.std.proofs.lemmas.Bool.Decides.{eqb_tells}
-use Rattle.std.proofs.lemmas.List.Elements.{All-contains, All-get_or, Contains-append_left, Contains-append_right}
+use Rattle.std.proofs.lemmas.List.Elements.{All-contains, All-get_or, Contains-append_right}
 use Rattle.std.proofs.lemmas.Option.{none-some, same_Some, slice_get_within, get_or_from_slice_get}
 use Rattle.s10_core.specs.declared.id.Id.{Id}
 use Rattle.s10_wire.specs.declared.request.Request.{Request}
-use Rattle.s10_wire.specs.declared.outcome.Outcome.{Outcome}
-use Rattle.s10_wire.specs.declared.outcome.Outcome.TheVariants.{Drawn, NumberReused}
 use Rattle.s10_book.specs.declared.entry.Entry.{Entry}
 use Rattle.s10_book.specs.declared.issuance.Issuance.{Issuance}
 use Rattle.s10_book.specs.Issues.{carried_by, issues_at, issues_from}
 use Rattle.s10_book.specs.Promises.{IsSpaced}
+use Rattle.s10_book.proofs.Carried.{made_by}
 use Rattle.s10_ends.specs.Client.{ClientState}
+use Rattle.s10_ends.proofs.Carried.{carrying, issued_here, issued}
 use Rattle.s10_world.specs.World.{Acceptance, WorldState}
 use Rattle.s10_world.specs.Agreement.{HaveOwnNumbers, AreOneCallEach, AreDaysApart, IsUnshared}
 use Rattle.s10_world.specs.Sound.{GivesIn, IsOfClient, IsSound}
-use Rattle.s10_world.proofs.Told.{outcome_in, placed}
 
 pairs_head : {X : Type 0} (R : X → X → Type 0) (x : X) (xs : List X) → AllPairs R (x ∷ xs) → All (R x) xs
 pairs_head R x xs pairs = λ k d within. pairs 0 (suc k) d (omega arith) (omega (arith, within))
@@ -36,44 +35,21 @@ across R (z ∷ zs) ys x y zero pairs within at later =
     subst (λ v. R v y) at (All-contains (R z) (zs ++ ys) y (pairs_head R z (zs ++ ys) pairs) (Contains-append_right zs ys y later))
 across R (z ∷ zs) ys x y (suc i) pairs within at later = across R zs ys x y i (pairs_tail R z (zs ++ ys) pairs) (omega (arith, within)) at later
 
-issue : ℕ → Entry → ℕ → Id → Issuance
-issue arrival e day x = record { id = x; day = day; customer = e.request.customer; number = e.request.number; arrival = arrival }
-
--- a Drawn outcome is an issue
-issued_here : (arrival : ℕ) (e : Entry) (day : ℕ) (x : Id) → e.outcome ≡ Drawn day x → Contains (issues_at arrival e) (issue arrival e day x)
-unfolding issue
-issued_here arrival e day x is =
-    subst (λ (o : Outcome). Contains (map (λ (c : ℕ × Id). issue arrival e c.0 c.1) (carried_by o)) (issue arrival e day x)) (sym is) (0, omega arith, refl)
-
-issued : (h : List Entry) (arrival k : ℕ) (e : Entry) (day : ℕ) (x : Id) → slice_get h k ≡ Some e → e.outcome ≡ Drawn day x
-    → (i : Issuance) × Contains (issues_from arrival h) i × (i.id ≡ x) × (i.day ≡ day)
-unfolding issue
-issued [] arrival k e day x at is = absurd (none-some e at)
-issued (f ∷ fs) arrival zero e day x at is =
-    let here : f.outcome ≡ Drawn day x = ap (λ (y : Entry). y.outcome) (same_Some f e at) ∙ is in
-    (issue arrival f day x, Contains-append_left (issues_at arrival f) (issues_from (arrival + 1) fs) (issue arrival f day x) (issued_here arrival f day x here), refl, refl)
-issued (f ∷ fs) arrival (suc k) e day x at is =
-    let rest = issued fs (arrival + 1) k e day x at is in
-    (rest.0, Contains-append_right (issues_at arrival f) (issues_from (arrival + 1) fs) rest.0 rest.1, rest.2, rest.3)
-
 abbrev IsSpacedPair : ℕ → Issuance → Issuance → Type 0
 IsSpacedPair interval i j = i.id ≡ j.id → i.day + interval ≤ j.day
 
--- two calls that issue one identifier have days the interval apart
-spaced_calls : (h : List Entry) (arrival interval i j : ℕ) (e f : Entry) (day later : ℕ) (x : Id) → AllPairs (IsSpacedPair interval) (issues_from arrival h) → i < j
-    → slice_get h i ≡ Some e → slice_get h j ≡ Some f → e.outcome ≡ Drawn day x → f.outcome ≡ Drawn later x → day + interval ≤ later
-unfolding issue
-spaced_calls [] arrival interval i j e f day later x pairs before at_i at_j is_i is_j = absurd (none-some e at_i)
-spaced_calls (c ∷ cs) arrival interval i zero e f day later x pairs before at_i at_j is_i is_j = absurd (omega (arith, before))
-spaced_calls (c ∷ cs) arrival interval zero (suc j) e f day later x pairs before at_i at_j is_i is_j =
-    let here : c.outcome ≡ Drawn day x = ap (λ (y : Entry). y.outcome) (same_Some c e at_i) ∙ is_i in
-    let first = issued_here arrival c day x here in
-    let second = issued cs (arrival + 1) j f later x at_j is_j in
-    let apart : IsSpacedPair interval (issue arrival c day x) second.0 =
-    across (IsSpacedPair interval) (issues_at arrival c) (issues_from (arrival + 1) cs) (issue arrival c day x) second.0 first.0 pairs first.1 first.2 second.1 in
-    omega (arith, apart (sym second.2), second.3)
-spaced_calls (c ∷ cs) arrival interval (suc i) (suc j) e f day later x pairs before at_i at_j is_i is_j =
-    spaced_calls cs (arrival + 1) interval i j e f day later x (pairs_right (IsSpacedPair interval) (issues_at arrival c) (issues_from (arrival + 1) cs) pairs) (omega (arith, before)) at_i at_j is_i is_j
+-- of two calls that carry one identifier the later has a day the interval past the earlier
+spaced_calls : (h : List Entry) (arrival interval i j : ℕ) (e f : Entry) (c d : ℕ × Id) → AllPairs (IsSpacedPair interval) (issues_from arrival h) → i < j
+    → slice_get h i ≡ Some e → slice_get h j ≡ Some f → Contains (carried_by e.outcome) c → Contains (carried_by f.outcome) d → c.1 ≡ d.1 → c.0 + interval ≤ d.0
+spaced_calls [] arrival interval i j e f c d pairs before at_i at_j carries_i carries_j same = absurd (none-some e at_i)
+spaced_calls (y ∷ ys) arrival interval i zero e f c d pairs before at_i at_j carries_i carries_j same = absurd (omega (arith, before))
+spaced_calls (y ∷ ys) arrival interval zero (suc j) e f c d pairs before at_i at_j carries_i carries_j same =
+    let P : Entry → Type 0 = λ z. Contains (issues_at arrival z) (made_by e arrival c) in
+    let first = subst P (sym (same_Some y e at_i)) (issued_here arrival e c carries_i) in
+    let second = issued (arrival + 1) ys j f d at_j carries_j in
+    across (IsSpacedPair interval) (issues_at arrival y) (issues_from (arrival + 1) ys) (made_by e arrival c) (made_by f second.0 d) first.0 pairs first.1 first.2 second.1 same
+spaced_calls (y ∷ ys) arrival interval (suc i) (suc j) e f c d pairs before at_i at_j carries_i carries_j same =
+    spaced_calls ys (arrival + 1) interval i j e f c d (pairs_right (IsSpacedPair interval) (issues_at arrival y) (issues_from (arrival + 1) ys) pairs) (omega (arith, before)) at_i at_j carries_i carries_j same
 
 -- clients of one customer at two places have no number in common
 numbers_apart : (clients : List ClientState) (i j : ℕ) (c d : ClientState) (n : ℕ) → HaveOwnNumbers clients → i < j → slice_get clients i ≡ Some c → slice_get clients j ≡ Some d
@@ -134,27 +110,19 @@ accepted_keys w i j z sound own before within same =
           other.1 (ap (λ (q : Request). q.customer) same) numbers
     ]
 
--- where a request has a Drawn outcome in the history
-drawn_at : (h : List Entry) (q : Request) (o : Outcome) (day : ℕ) (x : Id) → GivesIn h q o → o ≡ Drawn day x
-    → (k : ℕ) × (e : Entry) × (slice_get h k ≡ Some e) × (e.request ≡ q) × (e.outcome ≡ Drawn day x)
-drawn_at h q o day x gives is = elim (outcome_in h q o gives) [
-  | inl own ↦ (own.1.0, own.0, placed h own.0 own.1, own.2, own.3 ∙ is)
-  | inr other ↦ absurd (let clash : NumberReused ≡ Drawn day x = sym other.0 ∙ is in cc)
-]
-
 days_apart : (w : WorldState) (interval : ℕ) → IsSpaced w.history interval → IsSound w → HaveOwnNumbers w.clients → AllPairs (AreDaysApart interval) w.accepted
 days_apart w interval spaced sound own i j z before within x d e first second =
     let a = get_or w.accepted i z in
     let b = get_or w.accepted j z in
-    let p = drawn_at w.history a.request a.outcome d x (All-get_or (λ y. GivesIn w.history y.request y.outcome) w.accepted i z (omega (arith, before, within)) sound.given) first in
-    let q = drawn_at w.history b.request b.outcome e x (All-get_or (λ y. GivesIn w.history y.request y.outcome) w.accepted j z within sound.given) second in
-    elim (cases_order p.0 q.0) [
+    let p = carrying w.history a.request a.outcome (d, x) (All-get_or (λ y. GivesIn w.history y.request y.outcome) w.accepted i z (omega (arith, before, within)) sound.given) first in
+    let q = carrying w.history b.request b.outcome (e, x) (All-get_or (λ y. GivesIn w.history y.request y.outcome) w.accepted j z within sound.given) second in
+    elim (cases_order p.place q.place) [
       | inl same ↦
-          let entries : p.1 ≡ q.1 = same_Some p.1 q.1 (sym p.2 ∙ ap (slice_get w.history) same ∙ q.2) in
-          absurd (accepted_keys w i j z sound own before within (sym p.3 ∙ ap (λ (y : Entry). y.request) entries ∙ q.3))
+          let entries : p.entry ≡ q.entry = same_Some p.entry q.entry (sym p.there ∙ ap (slice_get w.history) same ∙ q.there) in
+          absurd (accepted_keys w i j z sound own before within (sym p.own ∙ ap (λ (y : Entry). y.request) entries ∙ q.own))
       | inr other ↦ elim other [
-        | inl earlier ↦ inl (spaced_calls w.history 1 interval p.0 q.0 p.1 q.1 d e x spaced earlier p.2 q.2 p.4 q.4)
-        | inr later ↦ inr (spaced_calls w.history 1 interval q.0 p.0 q.1 p.1 e d x spaced later q.2 p.2 q.4 p.4)
+        | inl earlier ↦ inl (spaced_calls w.history 1 interval p.place q.place p.entry q.entry (d, x) (e, x) spaced earlier p.there q.there p.carries q.carries refl)
+        | inr later ↦ inr (spaced_calls w.history 1 interval q.place p.place q.entry p.entry (e, x) (d, x) spaced later q.there p.there q.carries p.carries refl)
       ]
     ]
 

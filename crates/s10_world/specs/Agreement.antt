@@ -3,9 +3,10 @@ use Rattle.std.specs.Prelude.{◌≡◌, ◌≢◌, ℕ, ◌+◌, ◌≤◌, ◌
 use Rattle.s10_core.specs.declared.id.Id.{Id}
 use Rattle.s10_wire.specs.declared.request.Request.{Request}
 use Rattle.s10_wire.specs.declared.outcome.Outcome.{Outcome}
-use Rattle.s10_wire.specs.declared.outcome.Outcome.TheVariants.{Drawn, NumberReused}
+use Rattle.s10_wire.specs.declared.outcome.Outcome.TheVariants.{NumberReused}
 use Rattle.s10_book.specs.declared.entry.Entry.{Entry}
 use Rattle.s10_book.specs.History.{has_key}
+use Rattle.s10_book.specs.Issues.{carried_by}
 use Rattle.s10_ends.specs.Client.{ClientState}
 use Rattle.s10_world.specs.World.{Acceptance, WorldState}
 
@@ -54,9 +55,9 @@ HaveOwnNumbers clients = AllPairs IsApartFrom clients
 abbrev pub AreOneCallEach : List (ℕ × Request) → Type 0
 AreOneCallEach submitted = AllPairs (λ s u. s.1.customer ≡ u.1.customer → s.1.number ≢ u.1.number) submitted
 
--- two accepted replies with one identifier have days at least the interval apart
+-- two accepted replies that carry one identifier do so on days at least the interval apart
 abbrev pub AreDaysApart : ℕ → Acceptance → Acceptance → Type 0
-AreDaysApart interval a b = (x : Id) (d e : ℕ) → a.outcome ≡ Drawn d x → b.outcome ≡ Drawn e x → (d + interval ≤ e) ⊎ (e + interval ≤ d)
+AreDaysApart interval a b = (x : Id) (d e : ℕ) → Contains (carried_by a.outcome) (d, x) → Contains (carried_by b.outcome) (e, x) → (d + interval ≤ e) ⊎ (e + interval ≤ d)
 
 -- each submitted request was executed at most once, also where its client gave it up, and each accepted reply tells
 -- whether its request was executed

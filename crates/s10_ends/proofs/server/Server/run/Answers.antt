@@ -6,7 +6,7 @@ use Rattle.s10_ends.specs.Served.{Served}
 use Rattle.s10_ends.specs.Runs.{CountsAll}
 use Rattle.s10_ends.proofs.Whole.{Served-nil}
 use Rattle.s10_ends.proofs.Runs.{CountsAll-nil, CountsAll-push, Served-map_push, IsKept-legal}
-use Rattle.s10_ends.proofs.Drawn.{Served-issued}
+use Rattle.s10_ends.proofs.Carried.{Served-issued}
 use Rattle.s10_ends.proofs.server.Server.run.Goals as goal
 
 pub returns-in_err-answers-clause-kept : goal.returns-in_err-answers-clause-kept
