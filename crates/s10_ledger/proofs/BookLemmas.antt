@@ -20,13 +20,13 @@ use Rattle.s10_book.specs.Settings.{Terms}
 use Rattle.s10_ranges.specs.declared.ranges.Ranges.{Ranges}
 use Rattle.s10_ranges.specs.Mirror.{Mirrors}
 use Rattle.s10_schema.specs.Schema.{IsLedgerSchema}
-use Rattle.s10_ledger.specs.Settled.{IsSettled}
-use Rattle.s10_ledger.specs.Statements.{Leaves}
+use Rattle.s10_statements.specs.Settled.{IsSettled}
+use Rattle.s10_statements.specs.Statements.{Leaves}
 use Rattle.s10_ledger.specs.Ledger.{Ledger, IsLedger, IsMirrored, Holds, IsHonest, history_in, history_of}
 use Rattle.s10_rows.specs.Selected.{IsCall}
-use Rattle.s10_ledger.specs.Shown.{StandsFor}
+use Rattle.s10_statements.specs.Shown.{StandsFor}
 use Rattle.s10_ledger.proofs.HistoryLemmas.{history_is}
-use Rattle.s10_ledger.proofs.Apart.{is_ledger-prop}
+use Rattle.s10_statements.proofs.Apart.{is_ledger-prop}
 
 -- what is kept true of a ledger's connection
 abbrev pub IsKept : {S : Type 0} → Ghosts S → Held S → Terms → ℕ → ℕ → Type 0

@@ -10,12 +10,12 @@ use Rattle.s10_rows.specs.CallRow.{StoredCall}
 use Rattle.s10_rows.specs.RightRows.{entry_of}
 use Rattle.s10_rows.specs.Tables.{HaveSameRows, call_row, call_rows, call_rows_from}
 use Rattle.s10_rows.specs.Selected.{IsCall, arrives_between}
-use Rattle.s10_ledger.specs.Shown.{StandsFor, shown_call, call_columns}
+use Rattle.s10_statements.specs.Shown.{StandsFor, shown_call, call_columns}
 use Rattle.s10_ledger.specs.Ledger.{call_from, in_turn, history_in}
 use Rattle.s10_rows.proofs.SameRows.{same_length}
 use Rattle.s10_rows.proofs.Calls.{entry_of-call_row}
 use Rattle.s10_rows.proofs.CallRows.{AreThose, selected_by_place}
-use Rattle.s10_ledger.proofs.ReadLemmas.{again}
+use Rattle.s10_statements.proofs.ReadLemmas.{again}
 use Rattle.sqlite_keyed.proofs.ListLemmas.{IsPermutation-filter}
 
 -- the rows of one arrival are the row of its call

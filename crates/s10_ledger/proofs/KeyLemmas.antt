@@ -20,8 +20,8 @@ use Rattle.s10_rows.specs.Replies.{reply_bytes}
 use Rattle.s10_rows.specs.Tables.{HaveSameRows, tables_of, pair_of, call_row, call_rows_from, call_rows, range_rows, serial_row, serial_rows}
 use Rattle.s10_rows.specs.Kept.{is_at, row_of, with_range, with_serial, Makes}
 use Rattle.s10_rows.specs.Selected.{IsCall, IsIssuance}
-use Rattle.s10_ledger.specs.Shown.{HasTables, StandsFor, shown_range, shown_serial}
-use Rattle.s10_ledger.proofs.GoneLemmas.{same_int}
+use Rattle.s10_statements.specs.Shown.{HasTables, StandsFor, shown_range, shown_serial}
+use Rattle.s10_statements.proofs.GoneLemmas.{same_int}
 use Rattle.s10_rows.proofs.LastIssues.{last_of, All-last_issues}
 use Rattle.s10_rows.proofs.SerialRows.{issues_of_fit, row_of_is, filter_image}
 

@@ -6,7 +6,7 @@ use Rattle.s10_book.specs.Settings.{Terms}
 use Rattle.s10_book.proofs.Push.{IsLegal-nil}
 use Rattle.s10_ledger.specs.Ledger.{IsLedger, history_in}
 use Rattle.s10_rows.specs.Selected.{IsCall}
-use Rattle.s10_ledger.specs.Shown.{StandsFor}
+use Rattle.s10_statements.specs.Shown.{StandsFor}
 use Rattle.s10_ledger.proofs.HistoryLemmas.{history_is}
 
 pub no_history : (db : Database) (t : Terms) → StandsFor db [] t → history_in db ≡ []

@@ -29,12 +29,12 @@ use Rattle.s10_rows.specs.CallRow.{StoredCall}
 use Rattle.s10_rows.specs.Tables.{Tables, HaveSameRows, head_row, call_row, call_rows_from, call_rows, range_rows, serial_rows}
 use Rattle.s10_rows.specs.RightRows.{IsRightRow, AreRight, kept_of, entry_of}
 use Rattle.s10_rows.specs.Selected.{IsCall}
-use Rattle.s10_ledger.specs.Shown.{StandsFor, shown_head, shown_call, shown_range, shown_serial}
+use Rattle.s10_statements.specs.Shown.{StandsFor, shown_head, shown_call, shown_range, shown_serial}
 use Rattle.s10_rows.specs.Verdict.{IsHead, IsFirstWrong, AreMade, IsRefusal}
 use Rattle.s10_ledger.specs.Refusals.{HasRows, IsRefusedFor, IsOpeningRefusal}
 use Rattle.s10_ledger.specs.Ledger.{IsLedger, history_in}
-use Rattle.s10_ledger.proofs.AnswerLemmas.{int_in, call_from, range_from, serial_from}
-use Rattle.s10_ledger.proofs.ReadLemmas.{again}
+use Rattle.s10_statements.proofs.AnswerLemmas.{int_in, call_from, range_from, serial_from}
+use Rattle.s10_statements.proofs.ReadLemmas.{again}
 use Rattle.s10_rows.proofs.SameRows.{one_row}
 use Rattle.s10_rows.proofs.Calls.{entry_of-call_row, row_replies}
 use Rattle.s10_ledger.proofs.Rising.{call_rows_rise}

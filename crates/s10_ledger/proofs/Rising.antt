@@ -1,23 +1,18 @@
--- The rows of ranges and of calls rise by their keys, as the statements ask it.
+-- The rows of calls rise by arrival, as the statements ask it.
 use Rattle.std.proofs.Common.{◌≡◌, List, [], ◌∷◌}
 use Rattle.std.specs.Ordering.{int_cmp}
 use Rattle.std.specs.declared.cmp.Ordering.TheVariants.{Less}
 use Rattle.sqlite_trees.specs.Tree.{IsAscending}
 use Rattle.s10_book.specs.declared.entry.Entry.{Entry}
-use Rattle.s10_rows.specs.declared.range_row.RangeRow.{RangeRow}
 use Rattle.s10_rows.specs.Ascending as rows
 use Rattle.s10_rows.specs.CallRow.{StoredCall}
-use Rattle.s10_rows.specs.Tables.{range_rows, call_rows}
+use Rattle.s10_rows.specs.Tables.{call_rows}
 use Rattle.s10_rows.proofs.Rising as rows_rising
 
 ascending : {X : Type 0} (R : X → X → Type 0) (xs : List X) → rows.IsAscending R xs → IsAscending R xs
 ascending R [] up = tt
 ascending R (x ∷ xs) up = (up.0, ascending R xs up.1)
 
--- the rows of ranges rise by number
-pub range_rows_rise : (h : List Entry) → IsAscending (λ (a b : RangeRow). int_cmp a.num b.num ≡ Less) (range_rows h)
-range_rows_rise h = ascending _ (range_rows h) (rows_rising.range_rows_rise h)
-
--- and those of calls by arrival
+-- the rows of calls rise by arrival
 pub call_rows_rise : (h : List Entry) → IsAscending (λ (a b : StoredCall). int_cmp a.arrival b.arrival ≡ Less) (call_rows h)
 call_rows_rise h = ascending _ (call_rows h) (rows_rising.call_rows_rise h)

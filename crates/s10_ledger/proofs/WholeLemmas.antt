@@ -11,18 +11,15 @@ use Rattle.s10_book.specs.Settings.{Terms}
 use Rattle.s10_book.specs.History.{day_of}
 use Rattle.s10_book.specs.Rules.{IsLegal}
 use Rattle.s10_book.proofs.Push.{IsLegal-push, IsLegal-nil}
-use Rattle.s10_rows.specs.declared.head_row.HeadRow.{HeadRow}
 use Rattle.s10_rows.specs.declared.open_fault.OpenFault.{OpenFault}
 use Rattle.s10_rows.specs.declared.open_fault.OpenFault.TheVariants.{NotALedger, Schema as OtherSchema, Damaged, NotEmpty, Memory, Store}
 use Rattle.s10_rows.specs.declared.opened.Opened.{Opened}
-use Rattle.s10_rows.specs.declared.range_row.RangeRow.{RangeRow}
-use Rattle.s10_rows.specs.declared.serial_row.SerialRow.{SerialRow}
 use Rattle.s10_rows.specs.CallRow.{StoredCall}
 use Rattle.s10_rows.specs.Replies.{reply_bytes}
 use Rattle.s10_rows.specs.Tables.{Tables, HaveSameRows, call_row, call_rows_from, call_rows}
 use Rattle.s10_rows.specs.RightRows.{IsRightRow, AreRight, kept_of, entry_of}
 use Rattle.s10_rows.specs.Selected.{IsCall}
-use Rattle.s10_ledger.specs.Shown.{HasTables, StandsFor, shown_head, shown_range, shown_serial, head_columns}
+use Rattle.s10_statements.specs.Shown.{HasTables, StandsFor, shown_head, shown_range, shown_serial, head_columns}
 use Rattle.s10_rows.specs.Verdict.{IsWhole, IsRefusal}
 use Rattle.s10_ledger.specs.Refusals.{HasRows, IsOpeningRefusal}
 use Rattle.s10_ledger.specs.Ledger.{IsLedger, history_in}

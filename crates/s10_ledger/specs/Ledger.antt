@@ -18,7 +18,7 @@ use Rattle.s10_ranges.specs.Mirror.{Mirrors}
 use Rattle.s10_rows.specs.CallRow.{StoredCall}
 use Rattle.s10_rows.specs.RightRows.{entry_of}
 use Rattle.s10_rows.specs.Selected.{IsCall, arrives_between}
-use Rattle.s10_ledger.specs.Shown.{StandsFor, call_columns}
+use Rattle.s10_statements.specs.Shown.{StandsFor, call_columns}
 
 abbrev pub int_in : Value → ℤ
 int_in Null = pos 0

@@ -1,30 +1,15 @@
--- What a ledger that is made or opened is refused for.
-use Rattle.std.specs.Prelude.{◌≢◌, ◌⊎◌, codes, IsSome, ⊤}
+-- What the opening of a ledger is refused for.
+use Rattle.std.specs.Prelude.{◌≢◌, ◌⊎◌, ⊤}
 use Rattle.std.specs.Ordering.{int_cmp}
 use Rattle.std.specs.declared.cmp.Ordering.TheVariants as Ordering
 use Rattle.sqlite_trees.specs.Tree.{IsAscending}
-use Rattle.sqlite_schema.specs.declared.schema.Schema.{Schema}
-use Rattle.sqlite_schema.specs.Names.{table_named}
 use Rattle.sqlite.specs.Effect.{Database}
 use Rattle.s10_rows.specs.declared.open_fault.OpenFault.{OpenFault}
 use Rattle.s10_rows.specs.declared.open_fault.OpenFault.TheVariants.{NotALedger, Schema as OtherSchema, Damaged, NotEmpty, Memory, Store}
 use Rattle.s10_rows.specs.Tables.{Tables}
 use Rattle.s10_rows.specs.Verdict.{IsRefusal}
 use Rattle.s10_schema.specs.Schema.{IsLedgerSchema}
-use Rattle.s10_ledger.specs.Shown.{HasTables}
-
--- a table of one of the four names is there
-abbrev pub HasOneOfTheNames : Schema → Type 0
-HasOneOfTheNames s = IsSome (table_named s (codes "head")) ⊎ (IsSome (table_named s (codes "calls")) ⊎ (IsSome (table_named s (codes "ranges")) ⊎ IsSome (table_named s (codes "serials"))))
-
--- what the making of a ledger is refused for
-abbrev pub IsMakingRefusal : Schema → OpenFault → Type 0
-IsMakingRefusal s NotALedger = ⊥
-IsMakingRefusal s (OtherSchema n) = ⊥
-IsMakingRefusal s (Damaged k) = ⊥
-IsMakingRefusal s NotEmpty = HasOneOfTheNames s
-IsMakingRefusal s Memory = ⊤
-IsMakingRefusal s Store = ¬ HasOneOfTheNames s
+use Rattle.s10_statements.specs.Shown.{HasTables}
 
 -- the database has the four tables with these rows, those of calls in order of arrival
 pub record HasRows (db : Database) (tables : Tables) : Type 0 where

@@ -1,13 +1,11 @@
--- What is read of a database to be opened, and a ledger in memory of the same calls.
-use Rattle.std.specs.Prelude.{◌≡◌, ◌≢◌, pos, List, map, Result, IfOk, IfErr}
+-- What is read of a database to be opened, and a book in memory of the same calls.
+use Rattle.std.specs.Prelude.{◌≡◌, ◌≢◌, pos, List, length, map, Result, IfOk, IfErr}
 use Rattle.std.specs.List.{AllByRecursion}
 use Rattle.std.specs.Ordering.{int_cmp}
 use Rattle.std.specs.declared.cmp.Ordering.TheVariants as Ordering
 use Rattle.sqlite_trees.specs.Tree.{IsAscending}
 use Rattle.sqlite.specs.Effect.{Database}
-use Rattle.sqlite.specs.Held.{state}
-use Rattle.sqlite.specs.Steps.{over_memory}
-use Rattle.s10_ranges.specs.Mirror.{Mirrors}
+use Rattle.s10_book.specs.History.{day_of}
 use Rattle.s10_rows.specs.declared.head_row.HeadRow.{HeadRow}
 use Rattle.s10_rows.specs.declared.range_row.RangeRow.{RangeRow}
 use Rattle.s10_rows.specs.declared.serial_row.SerialRow.{SerialRow}
@@ -17,9 +15,7 @@ use Rattle.s10_rows.specs.Tables.{Tables, HaveSameRows}
 use Rattle.s10_rows.specs.RightRows.{AreRight, kept_of}
 use Rattle.s10_rows.specs.Verdict.{IsHead, IsRefusal}
 use Rattle.s10_ledger.specs.declared.remade.Remade.{Remade}
-use Rattle.s10_ledger.specs.Shown.{shown_head, shown_call, shown_range, shown_serial, head_columns, call_columns, range_columns, serial_columns, IsNumbered}
-use Rattle.s10_ledger.specs.Settled.{IsSettled}
-use Rattle.s10_ledger.specs.Ledger.{IsLedger, history_in}
+use Rattle.s10_statements.specs.Shown.{shown_head, shown_call, shown_range, shown_serial, head_columns, call_columns, range_columns, serial_columns, IsNumbered}
 use Rattle.s10_ledger.specs.Refusals.{HasRows}
 
 -- these are the rows of head and of calls, the latter in order of arrival
@@ -34,14 +30,13 @@ pub record HasMade (db : Database) (ranges : List RangeRow) (serials : List Seri
   pub serials_are : HaveSameRows (map shown_serial serials) (map serial_columns (db.trees 4))
   pub numbered : AllByRecursion IsNumbered (db.trees 4)
 
--- the calls are right under the settings, and a ledger in memory keeps them
+-- the calls are right under the settings, and a book in memory keeps them
 pub record IsRemade (heads : List HeadRow) (calls : List StoredCall) (made : Remade) : Type 0 where
   pub head : IsHead heads (pos 1) made.opened.settings
   pub right : AreRight made.opened.settings calls
-  pub history : history_in (state over_memory made.conn).now ≡ kept_of calls
-  pub ledger : IsLedger (state over_memory made.conn).now made.opened.settings made.opened.len made.opened.day
-  pub settled : IsSettled over_memory made.conn
-  pub mirrored : Mirrors made.ranges (kept_of calls)
+  pub kept : made.book.entries.items ≡ kept_of calls
+  pub len : made.opened.len ≡ length calls
+  pub day : made.opened.day ≡ day_of (kept_of calls)
 
 -- the tables of the database, of which the calls were done again or are refused
 pub record AreRead (db : Database) (made : Result Remade OpenFault) (ranges : List RangeRow) (serials : List SerialRow) : Type 0 where

@@ -6,13 +6,13 @@ ghost use Rattle.sqlite.specs.State.{HasCleanDisk};
 ghost use Rattle.s10_rows.specs.declared.head_row.HeadRow.{HeadRow};
 ghost use Rattle.s10_rows.specs.CallRow.{StoredCall};
 ghost use Rattle.s10_schema.specs.Schema.{IsLedgerSchema};
-ghost use Rattle.s10_ledger.specs.Settled.{IsSettled};
-ghost use Rattle.s10_ledger.specs.Statements.{Leaves};
+ghost use Rattle.s10_statements.specs.Settled.{IsSettled};
+ghost use Rattle.s10_statements.specs.Statements.{Leaves};
 ghost use Rattle.s10_ledger.specs.Remade.{HasKept, HasMade, IsRemade, AreRead};
 
-use crate::reads::{all_calls, all_heads, all_ranges, all_serials};
 use crate::remade::Remade;
 use s10_rows::{CallRow, HeadRow, OpenFault, RangeRow, SerialRow};
+use s10_statements::{all_calls, all_heads, all_ranges, all_serials};
 use sqlite::{Alter, Connection, Error};
 use std::alloc::Global;
 

@@ -11,21 +11,20 @@ ghost use Rattle.s10_book.specs.declared.book_fault.BookFault.TheVariants.{Full}
 ghost use Rattle.s10_book.specs.Settings.{Terms};
 ghost use Rattle.s10_book.specs.Rules.{IsLegal, MayFollow};
 ghost use Rattle.s10_schema.specs.Schema.{IsLedgerSchema};
-ghost use Rattle.s10_ledger.specs.Shown.{StandsFor};
+ghost use Rattle.s10_statements.specs.Shown.{StandsFor};
 ghost use Rattle.s10_ranges.specs.Mirror.{Mirrors};
 ghost use Rattle.s10_rows.specs.Selected.{IsCall};
 ghost use Rattle.s10_rows.specs.Tables.{serial_rows};
 ghost use Rattle.s10_rows.specs.Kept.{Makes, is_at};
-ghost use Rattle.s10_ledger.specs.Settled.{IsSettled, Spares};
-ghost use Rattle.s10_ledger.specs.Statements.{Leaves};
+ghost use Rattle.s10_statements.specs.Settled.{IsSettled, Spares};
+ghost use Rattle.s10_statements.specs.Statements.{Leaves};
 
 use crate::faults::fault_of;
-use crate::reads::serials_within;
-use crate::writes::keep_rows;
 use s10_book::{BookFault, Entry};
 use s10_core::Id;
 use s10_ranges::{Ranges, Turn};
 use s10_rows::{Issued, Made, drawn_rows, granted_row, pair_number, voided_row};
+use s10_statements::{keep_rows, serials_within};
 use s10_wire::{Body, Outcome, Reply, encode_reply};
 use sqlite::{Alter, Connection};
 use std::alloc::Global;

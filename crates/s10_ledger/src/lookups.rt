@@ -15,16 +15,16 @@ ghost use Rattle.s10_book.specs.Usage.{usage_of};
 ghost use Rattle.s10_book.specs.Rules.{IsLegal};
 ghost use Rattle.s10_core.specs.Id.{IsId};
 ghost use Rattle.s10_rows.specs.Tables.{pair_of};
-ghost use Rattle.s10_ledger.specs.Shown.{StandsFor};
+ghost use Rattle.s10_statements.specs.Shown.{StandsFor};
 ghost use Rattle.s10_rows.specs.Selected.{IsCall};
-ghost use Rattle.s10_ledger.specs.Statements.{Leaves};
+ghost use Rattle.s10_statements.specs.Statements.{Leaves};
 
 use crate::faults::fault_of;
-use crate::reads::{calls_between, calls_with_key, serials_within};
 use s10_book::{BookFault, Candidate, Entry, Issue, Range, Usage};
 use s10_core::{Id, Serial};
 use s10_ranges::{Mark, Turn};
 use s10_rows::{only_call, only_issue, pair_number, usage_among};
+use s10_statements::{calls_between, calls_with_key, serials_within};
 use sqlite::{Alter, Connection};
 use std::alloc::Global;
 

@@ -3,7 +3,7 @@
 ghost use Rattle.std.specs.Prelude.{◌≡◌, ◌≤◌, IfOk, IfErr, OnOk, IsTrue};
 ghost use Rattle.sqlite.specs.Held.{state};
 ghost use Rattle.sqlite.specs.State.{HasCleanDisk};
-ghost use Rattle.s10_ledger.specs.Settled.{IsSettled, WasSound};
+ghost use Rattle.s10_statements.specs.Settled.{IsSettled, WasSound};
 ghost use Rattle.s10_ledger.specs.Ledger.{IsLedger, IsMirrored};
 ghost use Rattle.s10_ledger.specs.Refusals.{IsOpeningRefusal};
 
@@ -50,7 +50,7 @@ impl<S: Alter> SqlBook<S> {
     ghost use Rattle.sqlite.specs.Held.{state};
     ghost use Rattle.sqlite.specs.State.{HasCleanDisk};
     ghost use Rattle.s10_book.specs.Settings.{Terms, AreTerms};
-    ghost use Rattle.s10_ledger.specs.Settled.{WasSound};
+    ghost use Rattle.s10_statements.specs.Settled.{WasSound};
     ghost use Rattle.s10_ledger.specs.Ledger.{IsLedger, IsHonest};
     ghost use Rattle.s10_ledger.specs.Refusals.{IsOpeningRefusal};
 

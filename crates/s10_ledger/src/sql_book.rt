@@ -9,12 +9,12 @@ ghost use Rattle.s10_ledger.specs.Ledger.{history_in, IsHonest};
 use crate::faults::opening_fault;
 use crate::keeping::keep_followed;
 use crate::lookups::{call_at, call_with_key, candidate_in, issue_of, new_serial, usage_in};
-use crate::making::{make_ledger, refusal_of};
 use crate::refused::Refused;
 use s10_book::{Book, BookFault, Candidate, Entry, Issue, Range, Settings, Usage};
 use s10_core::{Country, Id, Serial, Service};
 use s10_ranges::Ranges;
 use s10_rows::OpenFault;
+use s10_statements::{make_ledger, refusal_of};
 use sqlite::{Alter, Connection, MemStore};
 use std::alloc::Global;
 use std::marker::Model;
@@ -36,7 +36,7 @@ impl<S: Alter> Model for SqlBook<S> {
     ghost use Rattle.std.specs.Prelude.{IsTrue, ◌≤◌};
     ghost use Rattle.sqlite.specs.Held.{state};
     ghost use Rattle.sqlite.specs.State.{HasCleanDisk};
-    ghost use Rattle.s10_ledger.specs.Settled.{IsSettled, IsOpenIf};
+    ghost use Rattle.s10_statements.specs.Settled.{IsSettled, IsOpenIf};
     ghost use Rattle.s10_ledger.specs.Ledger.{Ledger, ledger_code, IsLedger, IsMirrored};
 
     ghost Value = { Ledger S };
@@ -53,8 +53,8 @@ impl<S: Alter> SqlBook<S> {
     ghost use Rattle.sqlite.specs.Held.{state};
     ghost use Rattle.sqlite.specs.State.{HasCleanDisk};
     ghost use Rattle.s10_ledger.specs.Ledger.{Ledger, IsLedger, IsMirrored, IsHonest, history_in};
-    ghost use Rattle.s10_ledger.specs.Settled.{IsSettled, WasSound};
-    ghost use Rattle.s10_ledger.specs.Refusals.{HasOneOfTheNames, IsMakingRefusal};
+    ghost use Rattle.s10_statements.specs.Settled.{IsSettled, WasSound};
+    ghost use Rattle.s10_statements.specs.Making.{HasOneOfTheNames, IsMakingRefusal};
     ghost use Rattle.s10_schema.specs.Schema.{ledger_schema};
 
     /// Makes an empty ledger with these settings in an empty database, in one transaction. Refused
@@ -146,17 +146,6 @@ impl<S: Alter> SqlBook<S> {
         ensures committed { HasCleanDisk (state S.Store result) → IsTrue (state S.Store result).is_open → (state S.Store result).committed ≡ (state S.Store result).now }
         ensures ledger { HasCleanDisk (state S.Store result) → IsTrue (state S.Store result).is_open → IsLedger (state S.Store result).now self.terms self.len self.day }
     {
-        let (conn, _) = self.into_parts();
-        conn
-    }
-
-    // The connection, as `close` gives it, and the ranges that are held.
-    pub(crate) fn into_parts(self) -> (Connection<S>, Ranges)
-        ensures same { result.0 ≡ self.conn }
-        ensures settled { IsSettled S.Store result.0 }
-        ensures ledger { HasCleanDisk (state S.Store result.0) → IsTrue (state S.Store result.0).is_open → IsLedger (state S.Store result.0).now self.terms self.len self.day }
-        ensures mirrored { IsMirrored S.Store result.0 result.1 }
-    {
         let SqlBook {
             alloc: _,
             conn,
@@ -164,10 +153,10 @@ impl<S: Alter> SqlBook<S> {
             len: _,
             day: _,
             faults: _,
-            ranges,
+            ranges: _,
             answered: _,
         } = self;
-        (conn, ranges)
+        conn
     }
 }
 

@@ -1,4 +1,4 @@
-use Rattle.std.proofs.Common.{◌≡◌, refl, sym, subst, arith, IsTrue}
+use Rattle.std.proofs.Common.{refl, sym, subst, arith, IsTrue}
 use Rattle.std.proofs.lemmas.Result.{IfOk-weaker}
 use Rattle.sqlite.specs.Effect.{Database}
 use Rattle.sqlite.specs.Held.{state}
@@ -6,7 +6,7 @@ use Rattle.sqlite.specs.State.{HasCleanDisk}
 use Rattle.s10_schema.specs.Schema.{IsLedgerSchema}
 use Rattle.s10_rows.specs.Tables.{Tables}
 use Rattle.s10_ledger.specs.Remade.{HasMade}
-use Rattle.s10_ledger.proofs.StateLemmas.{leaves_then}
+use Rattle.s10_statements.proofs.StateLemmas.{leaves_then}
 use Rattle.s10_ledger.proofs.all_rows.all_rows.Goals as goal
 
 pub returns-in_err-ranges-clause-leaves : goal.returns-in_err-ranges-clause-leaves

@@ -7,10 +7,10 @@ use Rattle.s10_wire.specs.Datagrams.{Replies}
 use Rattle.s10_rows.specs.CallRow.{StoredCall}
 use Rattle.s10_rows.specs.Tables.{tables_of, call_row}
 use Rattle.s10_rows.specs.Selected.{IsCall}
-use Rattle.s10_ledger.specs.Shown.{StandsFor}
+use Rattle.s10_statements.specs.Shown.{StandsFor}
 use Rattle.s10_rows.proofs.Replies.{reply_replies}
 use Rattle.s10_ledger.proofs.KeyLemmas.{few_of, stands_after, row_is}
-use Rattle.s10_ledger.proofs.CrashLemmas.{either, tables_left}
+use Rattle.s10_statements.proofs.CrashLemmas.{either, tables_left}
 use Rattle.s10_ledger.proofs.keeping.keep_call.Goals as goal
 
 pub returns-in-Ok-clause-ok : goal.returns-in-Ok-clause-ok

@@ -1,4 +1,4 @@
-use Rattle.s10_ledger.proofs.StateLemmas.{leaves_same}
+use Rattle.s10_statements.proofs.StateLemmas.{leaves_same}
 use Rattle.s10_rows.proofs.MadeRows.{others_make_none}
 use Rattle.s10_ledger.proofs.keeping.rows_made.Goals as goal
 

@@ -10,7 +10,7 @@ use Rattle.s10_rows.specs.Tables.{Tables}
 use Rattle.s10_rows.specs.Verdict.{IsWhole, IsRefusal}
 use Rattle.s10_ledger.specs.Ledger.{history_in}
 use Rattle.s10_ledger.specs.Remade.{IsRemade}
-use Rattle.s10_ledger.proofs.RowByRow.{if_ok, if_err}
+use Rattle.s10_statements.proofs.RowByRow.{if_ok, if_err}
 use Rattle.s10_ledger.proofs.WholeLemmas.{whole_few, whole_ledger, history, each_found, refused_for}
 use Rattle.s10_ledger.proofs.opening.ledger_in.Goals as goal
 

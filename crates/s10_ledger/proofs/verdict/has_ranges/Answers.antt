@@ -3,14 +3,13 @@ use Rattle.std.specs.Prelude.{IsTrue, ◌↔◌}
 use Rattle.std.specs.Ordering.{int_cmp}
 use Rattle.s10_rows.specs.Ascending.{IsAscending}
 use Rattle.s10_rows.specs.declared.range_row.RangeRow.{RangeRow}
-use Rattle.s10_rows.specs.Tables.{HaveSameRows, tables_of}
-use Rattle.s10_rows.proofs.Rising as rows
-use Rattle.s10_ledger.proofs.Rising.{range_rows_rise}
+use Rattle.s10_rows.specs.Tables.{HaveSameRows}
+use Rattle.s10_rows.proofs.Rising.{range_rows_rise}
 use Rattle.s10_ledger.proofs.verdict.has_ranges.Goals as goal
 
 pub returns-clause-answer : goal.returns-clause-answer
-returns-clause-answer g c = λ clean h t stands.
-    let made = c.deref.ensures.value ∙ c.in-Ok.ensures.in_order clean (tables_of h t) stands (range_rows_rise h) in
+returns-clause-answer c =
+    let made = c.deref.ensures.value ∙ c.in-Ok.ensures in
     let Up : List RangeRow → Type 0 = IsAscending (λ a b. int_cmp a.num b.num ≡ Less) in
     let Same : List RangeRow → Type 0 = λ l. IsTrue c.same_ranges.result ↔ HaveSameRows l c.args.rows.items in
-    subst Same made (c.same_ranges.ensures (subst Up (sym made) (rows.range_rows_rise h)))
+    subst Same made (c.same_ranges.ensures (subst Up (sym made) (range_rows_rise c.args.book.now.entries.items)))

@@ -1,14 +1,15 @@
-use Rattle.std.proofs.Common.{refl, sym, subst, List}
+use Rattle.std.proofs.Common.{sym, subst, All, List}
 use Rattle.std.proofs.lemmas.Result.{err_from_is_err_and}
 use Rattle.std.proofs.lemmas.Bool.{both_ways}
-use Rattle.sqlite.proofs.Callers.{memory_is_clean}
-use Rattle.sqlite.specs.Held.{state}
-use Rattle.sqlite.specs.Steps.{over_memory}
+use Rattle.s10_book.specs.declared.entry.Entry.{Entry}
+use Rattle.s10_ranges.specs.Mirror.{Mirrors}
 use Rattle.s10_rows.specs.declared.range_row.RangeRow.{RangeRow}
 use Rattle.s10_rows.specs.declared.serial_row.SerialRow.{SerialRow}
 use Rattle.s10_rows.specs.RightRows.{kept_of}
+use Rattle.s10_rows.specs.Selected.{IsCall}
 use Rattle.s10_rows.specs.Tables.{HaveSameRows, range_rows, serial_rows}
-use Rattle.s10_ledger.proofs.RemadeLemmas.{told, told_after, whole}
+use Rattle.s10_rows.proofs.Compared.{right_calls}
+use Rattle.s10_ledger.proofs.RemadeLemmas.{told}
 use Rattle.s10_ledger.proofs.verdict.verdict.Goals as goal
 
 pub returns-in_err-has_ranges-clause-err : goal.returns-in_err-has_ranges-clause-err
@@ -23,10 +24,9 @@ returns-in_err-has_serials-clause-err c = λ tables ranges_are serials_are it.
 
 pub returns-then-not-branch-clause-err : goal.returns-then-not-branch-clause-err
 returns-then-not-branch-clause-err c = λ tables ranges_are serials_are it.
-    let opened = c.args.made.opened in
-    let ranges = told (state over_memory c.args.made.conn).now opened.settings opened.len opened.day tables.calls it.ledger it.history range_rows c.args.ranges.items c.in_ok-has_ranges.field-0
-    (λ h u calls stands. c.in_ok-has_ranges.ensures.answer (memory_is_clean c.has_ranges.new.conn) h u stands) in (
-      opened.settings,
+    let h = c.args.made.book.entries.items in
+    let ranges = told range_rows c.args.ranges.items c.in_ok-has_ranges.field-0 h (kept_of tables.calls) it.kept c.in_ok-has_ranges.ensures.answer in (
+      c.args.made.opened.settings,
       it.head,
       it.right,
       λ made. both_ways c.in_ok-has_ranges.field-0 c.if-not-branch.true
@@ -35,10 +35,10 @@ returns-then-not-branch-clause-err c = λ tables ranges_are serials_are it.
 
 pub returns-then-not-branch-2-clause-err : goal.returns-then-not-branch-2-clause-err
 returns-then-not-branch-2-clause-err c = λ tables ranges_are serials_are it.
-    let opened = c.args.made.opened in
-    let serials = told_after c.args.made.conn c.has_ranges.new.conn opened.settings opened.len opened.day tables.calls c.in_ok-has_ranges.ensures.leaves it.settled it.ledger it.history serial_rows c.args.serials.items c.in_ok-has_serials.field-0
-    (c.in_ok-has_serials.ensures.answer (memory_is_clean c.has_serials.new.conn)) in (
-      opened.settings,
+    let h = c.args.made.book.entries.items in
+    let calls = subst (λ (l : List Entry). All IsCall l) (sym it.kept) (right_calls c.args.made.opened.settings tables.calls it.right) in
+    let serials = told serial_rows c.args.serials.items c.in_ok-has_serials.field-0 h (kept_of tables.calls) it.kept (c.in_ok-has_serials.ensures.answer calls) in (
+      c.args.made.opened.settings,
       it.head,
       it.right,
       λ made. both_ways c.in_ok-has_serials.field-0 c.if-not-branch-2.true
@@ -47,13 +47,20 @@ returns-then-not-branch-2-clause-err c = λ tables ranges_are serials_are it.
 
 pub returns-clause-ok : goal.returns-clause-ok
 returns-clause-ok c = λ tables ranges_are serials_are it.
-    let opened = c.args.made.opened in
-    let db = (state over_memory c.args.made.conn).now in
-    let ranges = told db opened.settings opened.len opened.day tables.calls it.ledger it.history range_rows c.args.ranges.items c.in_ok-has_ranges.field-0
-    (λ h u calls stands. c.in_ok-has_ranges.ensures.answer (memory_is_clean c.has_ranges.new.conn) h u stands) in
-    let serials = told_after c.args.made.conn c.has_ranges.new.conn opened.settings opened.len opened.day tables.calls c.in_ok-has_ranges.ensures.leaves it.settled it.ledger it.history serial_rows c.args.serials.items c.in_ok-has_serials.field-0
-    (c.in_ok-has_serials.ensures.answer (memory_is_clean c.has_serials.new.conn)) in
-    whole tables opened.settings opened db it.head refl it.right it.ledger it.history (record {
-      ranges = subst (λ (l : List RangeRow). HaveSameRows (range_rows (kept_of tables.calls)) l) (sym ranges_are) (ranges.0 c.if-not-branch.false);
-      serials = subst (λ (l : List SerialRow). HaveSameRows (serial_rows (kept_of tables.calls)) l) (sym serials_are) (serials.0 c.if-not-branch-2.false);
-    })
+    let h = c.args.made.book.entries.items in
+    let calls = subst (λ (l : List Entry). All IsCall l) (sym it.kept) (right_calls c.args.made.opened.settings tables.calls it.right) in
+    let ranges = told range_rows c.args.ranges.items c.in_ok-has_ranges.field-0 h (kept_of tables.calls) it.kept c.in_ok-has_ranges.ensures.answer in
+    let serials = told serial_rows c.args.serials.items c.in_ok-has_serials.field-0 h (kept_of tables.calls) it.kept (c.in_ok-has_serials.ensures.answer calls) in
+    record {
+      head = it.head;
+      right = it.right;
+      made = record {
+        ranges = subst (λ (l : List RangeRow). HaveSameRows (range_rows (kept_of tables.calls)) l) (sym ranges_are) (ranges.0 c.if-not-branch.false);
+        serials = subst (λ (l : List SerialRow). HaveSameRows (serial_rows (kept_of tables.calls)) l) (sym serials_are) (serials.0 c.if-not-branch-2.false);
+      };
+      len = it.len;
+      day = it.day;
+    }
+
+pub returns-clause-mirrored : goal.returns-clause-mirrored
+returns-clause-mirrored c = λ tables it. subst (λ (l : List Entry). Mirrors c.into_ranges.result l) it.kept c.into_ranges.ensures

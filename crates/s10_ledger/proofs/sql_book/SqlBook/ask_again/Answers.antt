@@ -1,3 +1,4 @@
+use Rattle.std.proofs.Common.{rules}
 use Rattle.s10_ledger.specs.Ledger.{Ledger}
 use Rattle.s10_ledger.proofs.BookLemmas.{still_kept, still_mirrored, if_answered, read_keeps}
 use Rattle.s10_ledger.proofs.sql_book.SqlBook.ask_again.Goals as goal
@@ -10,3 +11,6 @@ pub returns-clause-keeps : goal.returns-clause-keeps
 returns-clause-keeps g c =
     let old : Ledger g.row.S.Denot = record { conn = c.self.inside.conn; terms = c.self.inside.settings; len = c.self.inside.len; day = c.self.inside.day; faults = c.self.inside.faults } in
     rw (← c.self.view_is) (read_keeps g.S.Store old c.call_at-found.new.conn c.counted.new.faults c.call_at-found.ensures.leaves c.self.invariant.2 c.self.invariant.1)
+
+pub returns-then-self-clause-opened : goal.returns-then-self-clause-opened
+returns-then-self-clause-opened g c = search rules

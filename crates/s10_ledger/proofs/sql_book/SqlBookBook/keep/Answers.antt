@@ -4,7 +4,7 @@ use Rattle.sqlite.specs.State.{HasCleanDisk}
 use Rattle.sqlite.specs.Held.{state}
 use Rattle.s10_ledger.specs.Ledger.{Ledger, IsHonest, history_in}
 use Rattle.s10_ledger.proofs.BookLemmas.{IsKept, schema_is, kept_ledger, kept_longer, kept_same, followed_mirrors, if_answered, longer_history, longer_ledger}
-use Rattle.s10_ledger.proofs.CrashLemmas.{either}
+use Rattle.s10_statements.proofs.CrashLemmas.{either}
 use Rattle.s10_ledger.proofs.sql_book.SqlBookBook.keep.Goals as goal
 
 pub invariant_of-self : goal.invariant_of-self

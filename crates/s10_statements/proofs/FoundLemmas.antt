@@ -1,0 +1,86 @@
+-- What the reads find, as typed rows.
+use Rattle.std.proofs.Common.{◌≡◌, ℕ, ℤ, List, [], ◌∷◌, map, filter, refl, sym, subst, ◌∙◌, int_cmp, Less, All, IsTrue, arith}
+use Rattle.std.proofs.Math.Logic.{∥∥₁_elim, ∥∥₁_map}
+use Rattle.std.specs.List.Sorted.{IsPermutation}
+use Rattle.std.proofs.lemmas.List.Sorted.{IsPermutation-sym, IsPermutation-map}
+use Rattle.std.proofs.lemmas.List.Elements.{All-tail}
+use Rattle.std.specs.List.{AllByRecursion}
+use Rattle.sqlite_trees.specs.View.{is_int}
+use Rattle.sqlite_keyed.proofs.ListLemmas.{map-map}
+use Rattle.sqlite_value.specs.Order.{Row, column}
+use Rattle.sqlite_trees.specs.Tree.{IsAscending}
+use Rattle.sqlite_trees.specs.Props.{rows_set}
+use Rattle.sqlite.specs.State.{State, Shown}
+use Rattle.s10_rows.specs.declared.head_row.HeadRow.{HeadRow}
+use Rattle.s10_rows.specs.declared.range_row.RangeRow.{RangeRow}
+use Rattle.s10_rows.specs.declared.serial_row.SerialRow.{SerialRow}
+use Rattle.s10_rows.specs.CallRow.{StoredCall}
+use Rattle.s10_schema.specs.Schema.{IsLedgerSchema}
+use Rattle.s10_rows.specs.Tables.{Tables, HaveSameRows}
+use Rattle.s10_statements.specs.Shown.{HasTables, shown_head, shown_call, shown_range, shown_serial, head_columns, call_columns, range_columns, serial_columns, serial_front, IsNumbered}
+use Rattle.s10_rows.specs.Selected.{has_key_columns, arrives_between, is_within}
+use Rattle.s10_statements.specs.Statements.{head_text, key_text, arrivals_text, calls_text, ranges_text, within_text, serials_text}
+use Rattle.s10_statements.proofs.ReadLemmas.{read_back}
+use Rattle.s10_statements.proofs.GoneLemmas.{all_moved, all_of_map}
+use Rattle.s10_statements.proofs.AnswerLemmas.{wide_columns, call_from, range_from, head_shows, key_shows, key_params, key_test, key_selects, arrivals_shows, arrivals_params, arrivals_test, arrivals_selects, calls_shows, calls_rise, ranges_shows, ranges_rise, within_shows, within_params, within_test, within_selects, serials_shows}
+
+all_in_turn : {X : Type 0} (P : X → Type 0) (xs : List X) → All P xs → AllByRecursion P xs
+all_in_turn P [] each = tt
+all_in_turn P (x ∷ xs) each = (each 0 x (omega arith), all_in_turn P xs (All-tail P x xs each))
+
+whole : {X : Type 0} (shown : X → Row) (vs rows : List Row) (found : List X) → IsPermutation vs rows → map shown found ≡ rows → HaveSameRows (map shown found) vs
+whole shown vs rows found p e = ∣ IsPermutation-sym vs (map shown found) (subst (IsPermutation vs) (sym e) p) ∣₁
+
+module _ (params : Row) (old new : State) (rows : List Row) (has : IsLedgerSchema old.now.schema) where
+  pub head_found : (found : List HeadRow) → Shown head_text params old new rows → map shown_head found ≡ rows → HaveSameRows (map shown_head found) (map head_columns (old.now.trees 0))
+  head_found found h typed = whole shown_head (map head_columns (old.now.trees 0)) rows found (head_shows params old new rows has h) typed
+
+  pub calls_found : (found : List StoredCall) → Shown calls_text params old new rows → map shown_call found ≡ rows → HaveSameRows (map shown_call found) (map call_columns (old.now.trees 1))
+  calls_found found h typed = whole shown_call (map call_columns (old.now.trees 1)) rows found (calls_shows params old new rows has h) typed
+
+  pub ranges_found : (found : List RangeRow) → Shown ranges_text params old new rows → map shown_range found ≡ rows → HaveSameRows (map shown_range found) (map range_columns (old.now.trees 3))
+  ranges_found found h typed = whole shown_range (map range_columns (old.now.trees 3)) rows found (ranges_shows params old new rows has h) typed
+
+  pub serials_found : (found : List SerialRow) → Shown serials_text params old new rows → map shown_serial found ≡ map serial_front rows
+      → HaveSameRows (map shown_serial found) (map serial_columns (old.now.trees 4))
+  serials_found found h typed =
+      let wide : IsPermutation (map serial_front (map wide_columns (old.now.trees 4))) (map serial_front rows) = IsPermutation-map serial_front _ _ (serials_shows params old new rows has h) in
+      whole shown_serial (map serial_columns (old.now.trees 4)) (map serial_front rows) found (rw (map-map serial_front wide_columns (old.now.trees 4)) at wide) typed
+
+  pub serials_numbered : Shown serials_text params old new rows → All (λ v. IsTrue (is_int (column v 7))) rows → AllByRecursion IsNumbered (old.now.trees 4)
+  serials_numbered h each =
+      all_of_map (λ v. IsTrue (is_int (column v 7))) wide_columns (old.now.trees 4)
+      (all_moved (λ v. IsTrue (is_int (column v 7))) rows (map wide_columns (old.now.trees 4)) (IsPermutation-sym _ _ (serials_shows params old new rows has h)) (all_in_turn (λ v. IsTrue (is_int (column v 7))) rows each))
+
+  pub calls_in_order : (tables : Tables) → HasTables old.now tables → IsAscending (λ a b. int_cmp a.arrival b.arrival ≡ Less) tables.calls → (found : List StoredCall) → Shown calls_text params old new rows
+      → map shown_call found ≡ rows → found ≡ tables.calls
+  calls_in_order tables held up found h typed =
+      let same : rows ≡ map shown_call tables.calls = ∥∥₁_elim held.calls (rows_set _ _) (λ p. calls_rise params old new rows has tables.calls up p h) in
+      read_back shown_call call_from (λ x. refl) found tables.calls (typed ∙ same)
+
+  pub ranges_in_order : (tables : Tables) → HasTables old.now tables → IsAscending (λ a b. int_cmp a.num b.num ≡ Less) tables.ranges → (found : List RangeRow) → Shown ranges_text params old new rows
+      → map shown_range found ≡ rows → found ≡ tables.ranges
+  ranges_in_order tables held up found h typed =
+      let same : rows ≡ map shown_range tables.ranges = ∥∥₁_elim held.ranges (rows_set _ _) (λ p. ranges_rise params old new rows has tables.ranges up p h) in
+      read_back shown_range range_from (λ x. refl) found tables.ranges (typed ∙ same)
+
+pub key_found : (customer number : ℕ) (old new : State) (rows : List Row) → (tables : Tables) → HasTables old.now tables → (found : List StoredCall) → Shown key_text (key_params customer number) old new rows
+    → map shown_call found ≡ rows → HaveSameRows (filter (has_key_columns customer number) tables.calls) found
+key_found customer number old new rows tables held found h typed =
+    let shows : IsPermutation (filter (key_test (key_params customer number)) (map call_columns (old.now.trees 1))) (map shown_call found) =
+    subst (IsPermutation (filter (key_test (key_params customer number)) (map call_columns (old.now.trees 1)))) (sym typed) (key_shows (key_params customer number) old new rows held.schema h) in
+    ∥∥₁_map held.calls (λ p. key_selects customer number tables.calls found (map call_columns (old.now.trees 1)) p shows)
+
+pub arrivals_found : (low high : ℤ) (old new : State) (rows : List Row) → (tables : Tables) → HasTables old.now tables → (found : List StoredCall) → Shown arrivals_text (arrivals_params low high) old new rows
+    → map shown_call found ≡ rows → HaveSameRows (filter (arrives_between low high) tables.calls) found
+arrivals_found low high old new rows tables held found h typed =
+    let shows : IsPermutation (filter (arrivals_test (arrivals_params low high)) (map call_columns (old.now.trees 1))) (map shown_call found) =
+    subst (IsPermutation (filter (arrivals_test (arrivals_params low high)) (map call_columns (old.now.trees 1)))) (sym typed) (arrivals_shows (arrivals_params low high) old new rows held.schema h) in
+    ∥∥₁_map held.calls (λ p. arrivals_selects low high tables.calls found (map call_columns (old.now.trees 1)) p shows)
+
+pub within_found : (pair low high : ℤ) (old new : State) (rows : List Row) → (tables : Tables) → HasTables old.now tables → (found : List SerialRow) → Shown within_text (within_params pair low high) old new rows
+    → map shown_serial found ≡ rows → HaveSameRows (filter (is_within pair low high) tables.serials) found
+within_found pair low high old new rows tables held found h typed =
+    let shows : IsPermutation (filter (within_test (within_params pair low high)) (map serial_columns (old.now.trees 4))) (map shown_serial found) =
+    subst (IsPermutation (filter (within_test (within_params pair low high)) (map serial_columns (old.now.trees 4)))) (sym typed) (within_shows (within_params pair low high) old new rows held.schema h) in
+    ∥∥₁_map held.serials (λ p. within_selects pair low high tables.serials found (map serial_columns (old.now.trees 4)) p shows)

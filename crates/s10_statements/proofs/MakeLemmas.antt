@@ -1,0 +1,108 @@
+-- What the statements that make a ledger make of an empty database.
+use Rattle.std.proofs.Common.{◌≡◌, ℕ, List, [], ◌∷◌, false, None, Ok, refl, sym, ap, subst, ◌∙◌}
+use Rattle.std.proofs.lemmas.List.Sorted.{IsPermutation-refl}
+use Rattle.sqlite_schema.specs.declared.schema.Schema.{Schema}
+use Rattle.sqlite_schema.specs.declared.schema.Table.{Table}
+use Rattle.sqlite_schema.specs.declared.command.Command.TheVariants.{CreateTable}
+use Rattle.sqlite_resolve.specs.Compile.{table_defined_by}
+use Rattle.sqlite_catalog.specs.Change.{created, next_tree, KeepsRows}
+use Rattle.sqlite_tied.specs.Compute.{everything}
+use Rattle.sqlite.specs.Does.{Tally, lacks_sequence}
+use Rattle.sqlite.specs.Effect.{Database}
+use Rattle.sqlite.specs.Given.{IsPlain}
+use Rattle.sqlite.specs.Listing.{understood}
+use Rattle.sqlite.specs.State.{State, Writes, Executes}
+use Rattle.sqlite.proofs.Callers.{command_of, statement_of, runs_as}
+use Rattle.s10_schema.specs.Schema.{IsLedgerSchema, ledger_schema, with_others, no_schema, head_table, calls_table, ranges_table, serials_table, calls_index}
+use Rattle.s10_statements.specs.Statements.{head_made, calls_made, ranges_made, serials_made}
+use Rattle.s10_rows.specs.Tables.{no_rows}
+use Rattle.s10_statements.specs.Shown.{HasTables}
+use Rattle.s10_statements.proofs.PutLemmas.{went, same_value}
+
+abbrev one_table : Schema
+one_table = record { tables = head_table ∷ []; indexes = []; views = [] }
+
+abbrev two_tables : Schema
+two_tables = record { tables = head_table ∷ calls_table ∷ []; indexes = calls_index ∷ []; views = [] }
+
+abbrev three_tables : Schema
+three_tables = record { tables = head_table ∷ calls_table ∷ ranges_table ∷ []; indexes = calls_index ∷ []; views = [] }
+
+-- under the schema the text makes the table, which gives the next schema
+pub record Defines (schema : Schema) (text : List ℕ) (table : Table) (next : Schema) : Type 0 where
+  pub command : command_of (understood schema text) ≡ CreateTable
+  pub plain : IsPlain (understood schema text)
+  pub whole : statement_of text (understood schema text) ≡ text
+  pub defined : table_defined_by text ≡ Ok table
+  pub is : created schema table ≡ next
+  pub uncounted : lacks_sequence next ≡ false
+
+head_defined : Defines no_schema head_made (record head_table { tree = 0 }) one_table
+unfolding understood everything
+head_defined = record { command = refl; plain = (refl, refl); whole = refl; defined = refl; is = refl; uncounted = refl }
+
+calls_defined : Defines one_table calls_made (record calls_table { tree = 0 }) two_tables
+unfolding understood everything
+calls_defined = record { command = refl; plain = (refl, refl); whole = refl; defined = refl; is = refl; uncounted = refl }
+
+ranges_defined : Defines two_tables ranges_made (record ranges_table { tree = 0 }) three_tables
+unfolding understood everything
+ranges_defined = record { command = refl; plain = (refl, refl); whole = refl; defined = refl; is = refl; uncounted = refl }
+
+serials_defined : Defines three_tables serials_made (record serials_table { tree = 0 }) (with_others no_schema)
+unfolding understood everything
+serials_defined = record { command = refl; plain = (refl, refl); whole = refl; defined = refl; is = refl; uncounted = refl }
+
+-- the next schema is there; the new table is empty, and the others are as they were
+pub record IsNext (schema next : Schema) (old new : Database) : Type 0 where
+  pub schema_is : new.schema ≡ next
+  pub empty : new.trees (next_tree schema) ≡ []
+  pub others : KeepsRows schema.tables old.trees new.trees
+
+pub makes : (schema : Schema) (text : List ℕ) (table : Table) (next : Schema) → Defines schema text table next → (old new : State) (count : ℕ) → old.now.schema ≡ schema → Executes text [] old new (Ok count)
+    → IsNext schema next old.now new.now
+makes schema text table next d old new count has h =
+    let w = subst (λ t. Writes old new None CreateTable t [] count) d.whole (runs_as text [] old new schema has CreateTable d.command d.plain count h) in
+    let all = went w.changed in
+    let first = went all.1 in
+    let made = first.1 in
+    let both : Ok made.table ≡ Ok table = sym made.defined ∙ d.defined in
+    let same : made.table ≡ table = same_value both in
+    let schema_is : first.0.schema ≡ next = made.is ∙ ap (λ s. created s made.table) has ∙ ap (created schema) same ∙ d.is in
+    let plain : lacks_sequence first.0.schema ≡ false = ap lacks_sequence schema_is ∙ d.uncounted in
+    let now : new.now ≡ first.0 = ap (λ (p : Tally × Database). p.1) (same_value all.2) ∙ same_value (rw plain at first.2) in
+    record {
+      schema_is = ap (λ (b : Database). b.schema) now ∙ schema_is;
+      empty = ap (λ (b : Database). b.trees (next_tree schema)) now ∙ subst (λ s. first.0.trees (next_tree s) ≡ []) has made.empty;
+      others = subst (λ (b : Database). KeepsRows schema.tables old.now.trees b.trees) (sym now) (subst (λ (s : Schema). KeepsRows s.tables old.now.trees first.0.trees) has made.others);
+    }
+
+-- the four statements, one after the other
+pub all_made : (s0 s1 s2 s3 s4 : State) (m n p q : ℕ) → s0.now.schema ≡ no_schema → Executes head_made [] s0 s1 (Ok m) → Executes calls_made [] s1 s2 (Ok n) → Executes ranges_made [] s2 s3 (Ok p)
+    → Executes serials_made [] s3 s4 (Ok q) → HasTables s4.now no_rows
+all_made s0 s1 s2 s3 s4 m n p q has h1 h2 h3 h4 =
+    let a = makes no_schema head_made (record head_table { tree = 0 }) one_table head_defined s0 s1 m has h1 in
+    let b = makes one_table calls_made (record calls_table { tree = 0 }) two_tables calls_defined s1 s2 n a.schema_is h2 in
+    let c = makes two_tables ranges_made (record ranges_table { tree = 0 }) three_tables ranges_defined s2 s3 p b.schema_is h3 in
+    let d = makes three_tables serials_made (record serials_table { tree = 0 }) (with_others no_schema) serials_defined s3 s4 q c.schema_is h4 in
+    let heads : s4.now.trees 0 ≡ [] = d.others.0 ∙ c.others.0 ∙ b.others.0 ∙ a.empty in
+    let calls : s4.now.trees 1 ≡ [] = d.others.1.0 ∙ c.others.1.0 ∙ b.empty in
+    let ranges : s4.now.trees 3 ≡ [] = d.others.1.1.0 ∙ c.empty in
+    let serials : s4.now.trees 4 ≡ [] = d.empty in
+    record {
+      schema = subst IsLedgerSchema (sym d.schema_is) (record { is = refl; tables = refl; indexes = refl });
+      heads = rw heads (∣ IsPermutation-refl [] ∣₁);
+      calls = rw calls (∣ IsPermutation-refl [] ∣₁);
+      ranges = rw ranges (∣ IsPermutation-refl [] ∣₁);
+      serials = rw serials (∣ IsPermutation-refl [] ∣₁);
+      numbered = rw serials tt;
+    }
+
+-- and nothing else is declared
+pub all_declared : (s0 s1 s2 s3 s4 : State) (m n p q : ℕ) → s0.now.schema ≡ no_schema → Executes head_made [] s0 s1 (Ok m) → Executes calls_made [] s1 s2 (Ok n) → Executes ranges_made [] s2 s3 (Ok p)
+    → Executes serials_made [] s3 s4 (Ok q) → s4.now.schema ≡ ledger_schema
+all_declared s0 s1 s2 s3 s4 m n p q has h1 h2 h3 h4 =
+    let a = makes no_schema head_made (record head_table { tree = 0 }) one_table head_defined s0 s1 m has h1 in
+    let b = makes one_table calls_made (record calls_table { tree = 0 }) two_tables calls_defined s1 s2 n a.schema_is h2 in
+    let c = makes two_tables ranges_made (record ranges_table { tree = 0 }) three_tables ranges_defined s2 s3 p b.schema_is h3 in
+    (makes three_tables serials_made (record serials_table { tree = 0 }) (with_others no_schema) serials_defined s3 s4 q c.schema_is h4).schema_is

@@ -1,0 +1,157 @@
+-- What the texts of the reads mean under the schema.
+use Rattle.std.proofs.Common.{◌≡◌, ℕ, pos, negsuc, List, [], ◌∷◌, codes, false, None, refl}
+use Rattle.sqlite_value.specs.declared.keys.Collation.TheVariants.{Binary}
+use Rattle.sqlite_value.specs.declared.value.Value.TheVariants.{Int}
+use Rattle.sqlite_value.specs.Keys.{ascending}
+use Rattle.sqlite_sql.specs.declared.ops.BinaryOp.TheVariants.{Compare}
+use Rattle.sqlite_sql.specs.declared.ops.CompareOp.TheVariants.{Eq, Ge, Le}
+use Rattle.sqlite_sql.specs.Term.{Term, lit, col, op2}
+use Rattle.sqlite_sql.specs.Query.{Query, inner, end}
+use Rattle.sqlite_schema.specs.declared.command.Command.TheVariants.{Select}
+use Rattle.sqlite_tied.specs.Compute.{everything}
+use Rattle.sqlite_schema.specs.declared.schema.Schema.{Schema}
+use Rattle.sqlite.specs.Listing.{understood, reads_listing}
+use Rattle.sqlite.specs.Given.{IsPlain}
+use Rattle.sqlite.proofs.Callers.{command_of}
+use Rattle.s10_schema.specs.Schema.{with_others}
+use Rattle.s10_statements.specs.Statements.{head_text, key_text, arrivals_text, calls_text, ranges_text, within_text, serials_text}
+
+-- a read of one table
+abbrev pub read_of : ℕ → List Term → List Term → List Term → Query
+read_of tree filter project order = record {
+  from = inner tree end;
+  filter = filter;
+  group = None;
+  project = project;
+  distinct = false;
+  collations = [];
+  order = Rattle.std.specs.Prelude.map (λ term. (term, ascending Binary)) order;
+  limit = lit (Int (negsuc 0));
+  offset = lit (Int (pos 0));
+}
+
+abbrev pub by_one : List Term
+by_one = col 1 0 ∷ []
+
+abbrev pub call_terms : List Term
+call_terms = col 1 0 ∷ col 1 2 ∷ col 1 3 ∷ col 1 4 ∷ col 1 5 ∷ []
+
+abbrev pub serial_terms : List Term
+serial_terms = col 1 1 ∷ col 1 2 ∷ col 1 3 ∷ col 1 4 ∷ col 1 5 ∷ col 1 6 ∷ col 1 7 ∷ []
+
+abbrev pub equals : ℕ → ℕ → Term
+equals place at = op2 (Compare Eq Binary) (col 1 place) (col 0 at)
+
+abbrev pub from_to : ℕ → ℕ → ℕ → List Term
+from_to place low high = op2 (Compare Ge Binary) (col 1 place) (col 0 low) ∷ op2 (Compare Le Binary) (col 1 place) (col 0 high) ∷ []
+
+abbrev pub call_names : List (List ℕ)
+call_names = codes "arrival" ∷ codes "customer" ∷ codes "number" ∷ codes "day" ∷ codes "reply" ∷ []
+
+abbrev pub serial_names : List (List ℕ)
+serial_names = codes "pair" ∷ codes "serial" ∷ codes "arrival" ∷ codes "day" ∷ codes "customer" ∷ codes "number" ∷ codes "voided" ∷ []
+
+abbrev pub head_query : Query
+head_query = read_of 0 [] (col 1 0 ∷ col 1 2 ∷ col 1 3 ∷ col 1 4 ∷ []) by_one
+
+pub head_is : (o : Schema) → command_of (understood (with_others o) head_text) ≡ Select (record { lets = []; body = head_query }) (codes "one" ∷ codes "schema" ∷ codes "interval" ∷ codes "cap" ∷ [])
+unfolding understood everything
+head_is o = refl
+
+pub head_plain : (o : Schema) → IsPlain (understood (with_others o) head_text)
+unfolding understood everything
+head_plain o = (refl, refl)
+
+pub head_unlisted : (o : Schema) → reads_listing (with_others o) head_text ≡ false
+unfolding understood everything
+head_unlisted o = refl
+
+abbrev pub key_query : Query
+key_query = read_of 1 (equals 2 0 ∷ equals 3 1 ∷ []) call_terms by_one
+
+pub key_is : (o : Schema) → command_of (understood (with_others o) key_text) ≡ Select (record { lets = []; body = key_query }) (call_names)
+unfolding understood everything
+key_is o = refl
+
+pub key_plain : (o : Schema) → IsPlain (understood (with_others o) key_text)
+unfolding understood everything
+key_plain o = (refl, refl)
+
+pub key_unlisted : (o : Schema) → reads_listing (with_others o) key_text ≡ false
+unfolding understood everything
+key_unlisted o = refl
+
+abbrev pub arrivals_query : Query
+arrivals_query = read_of 1 (from_to 0 0 1) call_terms by_one
+
+pub arrivals_is : (o : Schema) → command_of (understood (with_others o) arrivals_text) ≡ Select (record { lets = []; body = arrivals_query }) (call_names)
+unfolding understood everything
+arrivals_is o = refl
+
+pub arrivals_plain : (o : Schema) → IsPlain (understood (with_others o) arrivals_text)
+unfolding understood everything
+arrivals_plain o = (refl, refl)
+
+pub arrivals_unlisted : (o : Schema) → reads_listing (with_others o) arrivals_text ≡ false
+unfolding understood everything
+arrivals_unlisted o = refl
+
+abbrev pub calls_query : Query
+calls_query = read_of 1 [] call_terms by_one
+
+pub calls_is : (o : Schema) → command_of (understood (with_others o) calls_text) ≡ Select (record { lets = []; body = calls_query }) (call_names)
+unfolding understood everything
+calls_is o = refl
+
+pub calls_plain : (o : Schema) → IsPlain (understood (with_others o) calls_text)
+unfolding understood everything
+calls_plain o = (refl, refl)
+
+pub calls_unlisted : (o : Schema) → reads_listing (with_others o) calls_text ≡ false
+unfolding understood everything
+calls_unlisted o = refl
+
+abbrev pub ranges_query : Query
+ranges_query = read_of 3 [] (col 1 0 ∷ col 1 2 ∷ col 1 3 ∷ col 1 4 ∷ col 1 5 ∷ col 1 6 ∷ []) by_one
+
+pub ranges_is : (o : Schema) → command_of (understood (with_others o) ranges_text) ≡ Select (record { lets = []; body = ranges_query }) (codes "num" ∷ codes "holder" ∷ codes "pair" ∷ codes "low" ∷ codes "high" ∷ codes "mark" ∷ [])
+unfolding understood everything
+ranges_is o = refl
+
+pub ranges_plain : (o : Schema) → IsPlain (understood (with_others o) ranges_text)
+unfolding understood everything
+ranges_plain o = (refl, refl)
+
+pub ranges_unlisted : (o : Schema) → reads_listing (with_others o) ranges_text ≡ false
+unfolding understood everything
+ranges_unlisted o = refl
+
+abbrev pub within_query : Query
+within_query = read_of 4 (equals 1 0 ∷ from_to 2 1 2) serial_terms (col 1 1 ∷ col 1 2 ∷ [])
+
+pub within_is : (o : Schema) → command_of (understood (with_others o) within_text) ≡ Select (record { lets = []; body = within_query }) (serial_names)
+unfolding understood everything
+within_is o = refl
+
+pub within_plain : (o : Schema) → IsPlain (understood (with_others o) within_text)
+unfolding understood everything
+within_plain o = (refl, refl)
+
+pub within_unlisted : (o : Schema) → reads_listing (with_others o) within_text ≡ false
+unfolding understood everything
+within_unlisted o = refl
+
+abbrev pub serials_query : Query
+serials_query = read_of 4 [] (col 1 1 ∷ col 1 2 ∷ col 1 3 ∷ col 1 4 ∷ col 1 5 ∷ col 1 6 ∷ col 1 7 ∷ col 1 0 ∷ []) (col 1 1 ∷ col 1 2 ∷ [])
+
+pub serials_is : (o : Schema) → command_of (understood (with_others o) serials_text) ≡ Select (record { lets = []; body = serials_query }) (codes "pair" ∷ codes "serial" ∷ codes "arrival" ∷ codes "day" ∷ codes "customer" ∷ codes "number" ∷ codes "voided" ∷ codes "rowid" ∷ [])
+unfolding understood everything
+serials_is o = refl
+
+pub serials_plain : (o : Schema) → IsPlain (understood (with_others o) serials_text)
+unfolding understood everything
+serials_plain o = (refl, refl)
+
+pub serials_unlisted : (o : Schema) → reads_listing (with_others o) serials_text ≡ false
+unfolding understood everything
+serials_unlisted o = refl

@@ -1,0 +1,16 @@
+use Rattle.std.proofs.Common.{[], ◌∙◌}
+use Rattle.std.proofs.lemmas.Result.{IfOk-weaker}
+use Rattle.sqlite.specs.Held.{state}
+use Rattle.s10_statements.proofs.Texts.{head_plain}
+use Rattle.s10_statements.proofs.FoundLemmas.{head_found}
+use Rattle.s10_statements.proofs.reads.all_heads.Goals as goal
+
+pub returns-in_err-rows-clause-leaves : goal.returns-in_err-rows-clause-leaves
+returns-in_err-rows-clause-leaves g c = c.read.ensures.leaves head_plain
+
+pub returns-clause-leaves : goal.returns-clause-leaves
+returns-clause-leaves g c = c.read.ensures.leaves head_plain
+
+pub returns-clause-rows : goal.returns-clause-rows
+returns-clause-rows g c clean =
+    IfOk-weaker c.heads_in.result _ _ (λ found typed has. head_found [] (state g.S.Store c.args.conn.now) (state g.S.Store c.read.new.conn) c.in_ok-rows.rows.items has found.items (c.in_ok-rows.ensures.rows clean) (typed ∙ c.deref.ensures.value)) c.heads_in.ensures

@@ -1,0 +1,4 @@
+pub mod Shown
+pub mod Settled
+pub mod Statements
+pub mod Making

@@ -1,0 +1,19 @@
+-- What the making of a ledger is refused for.
+use Rattle.std.specs.Prelude.{◌⊎◌, codes, IsSome, ⊤}
+use Rattle.sqlite_schema.specs.declared.schema.Schema.{Schema}
+use Rattle.sqlite_schema.specs.Names.{table_named}
+use Rattle.s10_rows.specs.declared.open_fault.OpenFault.{OpenFault}
+use Rattle.s10_rows.specs.declared.open_fault.OpenFault.TheVariants.{NotALedger, Schema as OtherSchema, Damaged, NotEmpty, Memory, Store}
+
+-- a table of one of the four names is there
+abbrev pub HasOneOfTheNames : Schema → Type 0
+HasOneOfTheNames s = IsSome (table_named s (codes "head")) ⊎ (IsSome (table_named s (codes "calls")) ⊎ (IsSome (table_named s (codes "ranges")) ⊎ IsSome (table_named s (codes "serials"))))
+
+-- what the making of a ledger is refused for
+abbrev pub IsMakingRefusal : Schema → OpenFault → Type 0
+IsMakingRefusal s NotALedger = ⊥
+IsMakingRefusal s (OtherSchema n) = ⊥
+IsMakingRefusal s (Damaged k) = ⊥
+IsMakingRefusal s NotEmpty = HasOneOfTheNames s
+IsMakingRefusal s Memory = ⊤
+IsMakingRefusal s Store = ¬ HasOneOfTheNames s

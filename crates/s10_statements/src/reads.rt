@@ -1,0 +1,172 @@
+//! The reads of the four tables.
+
+ghost use Rattle.std.specs.Prelude.{◌≡◌, ◌≢◌, pos, List, map, filter, IsTrue, IfOk, OnOk};
+ghost use Rattle.std.specs.List.{AllByRecursion};
+ghost use Rattle.std.specs.Ordering.{int_cmp};
+ghost use Rattle.std.specs.declared.cmp.Ordering.TheVariants as Ordering;
+ghost use Rattle.sqlite_trees.specs.Tree.{IsAscending};
+ghost use Rattle.sqlite.specs.Held.{state};
+ghost use Rattle.sqlite_schema.specs.declared.schema.Schema.{Schema};
+ghost use Rattle.sqlite.specs.State.{HasCleanDisk, Shown};
+ghost use Rattle.sqlite.specs.Given.{IsPlain};
+ghost use Rattle.sqlite.specs.Listing.{understood};
+ghost use Rattle.sqlite.specs.Values.{bound};
+ghost use Rattle.s10_rows.specs.Tables.{Tables, HaveSameRows};
+ghost use Rattle.s10_schema.specs.Schema.{IsLedgerSchema, with_others};
+ghost use Rattle.s10_statements.specs.Shown.{HasTables, shown_head, shown_call, shown_range, shown_serial, head_columns, call_columns, range_columns, serial_columns, IsNumbered};
+ghost use Rattle.s10_rows.specs.Selected.{has_key_columns, arrives_between, is_within};
+ghost use Rattle.s10_statements.specs.Settled.{Spares};
+ghost use Rattle.s10_statements.specs.Statements.{Leaves};
+
+use crate::row_reading::{heads_in, ranges_in, serials_in};
+use crate::streams::{calls_shown, numbered_serials_shown};
+use s10_rows::{CallRow, HeadRow, RangeRow, SerialRow};
+use sqlite::types::ValueRef;
+use sqlite::{Alter, Connection, Error, Row, params};
+use std::alloc::Global;
+
+// The rows that a query shows.
+fn read<S: Alter>(
+    conn: &mut Connection<S>,
+    sql: &str,
+    params: &[ValueRef<'_>],
+) -> Result<Vec<Row>, Error>
+    ensures leaves { ((o : Schema) → IsPlain (understood (with_others o) sql.now)) → Leaves S.Store conn.old conn.new }
+    ensures spares { ((o : Schema) → IsPlain (understood (with_others o) sql.now)) → Spares S.Store conn.old conn.new }
+    ensures rows { HasCleanDisk (state S.Store conn.new) → IfOk result (λ rows. Shown sql.now (bound params.now) (state S.Store conn.old) (state S.Store conn.new) rows.items) }
+    ensures opened { HasCleanDisk (state S.Store conn.new) → OnOk result (IsTrue (state S.Store conn.new).is_open) }
+{
+    conn.query_all(sql, params)
+}
+
+/// All rows of `head`.
+pub fn all_heads<S: Alter>(alloc: Global, conn: &mut Connection<S>) -> Result<Vec<HeadRow>, Error>
+    ensures leaves { Leaves S.Store conn.old conn.new }
+    ensures opened { HasCleanDisk (state S.Store conn.new) → OnOk result (IsTrue (state S.Store conn.new).is_open) }
+    ensures rows { HasCleanDisk (state S.Store conn.new) → IfOk result (λ rows. IsLedgerSchema (state S.Store conn.old).now.schema
+        → HaveSameRows (map shown_head rows.items) (map head_columns ((state S.Store conn.old).now.trees 0))) }
+{
+    let rows = read(
+        conn,
+        "SELECT one, schema, interval, cap FROM head ORDER BY one",
+        &[],
+    )?;
+    heads_in(alloc, &rows)
+}
+
+/// The rows of `calls` with a key.
+pub fn calls_with_key<S: Alter>(
+    alloc: Global,
+    conn: &mut Connection<S>,
+    customer: u32,
+    number: u32,
+) -> Result<Vec<CallRow>, Error>
+    ensures leaves { Leaves S.Store conn.old conn.new }
+    ensures opened { HasCleanDisk (state S.Store conn.new) → OnOk result (IsTrue (state S.Store conn.new).is_open) }
+    ensures rows { HasCleanDisk (state S.Store conn.new) → IfOk result (λ rows. (tables : Tables) → HasTables (state S.Store conn.old).now tables
+        → HaveSameRows (filter (has_key_columns customer number) tables.calls) rows.items) }
+{
+    calls_shown(
+        alloc,
+        conn,
+        "SELECT arrival, customer, number, day, reply FROM calls WHERE customer = ?1 AND number = ?2 ORDER BY arrival",
+        params![customer, number],
+    )
+}
+
+/// The rows of `calls` whose arrival is from `low` to `high`.
+pub fn calls_between<S: Alter>(
+    alloc: Global,
+    conn: &mut Connection<S>,
+    low: u32,
+    high: u32,
+) -> Result<Vec<CallRow>, Error>
+    ensures leaves { Leaves S.Store conn.old conn.new }
+    ensures opened { HasCleanDisk (state S.Store conn.new) → OnOk result (IsTrue (state S.Store conn.new).is_open) }
+    ensures rows { HasCleanDisk (state S.Store conn.new) → IfOk result (λ rows. (tables : Tables) → HasTables (state S.Store conn.old).now tables
+        → HaveSameRows (filter (arrives_between (pos low) (pos high)) tables.calls) rows.items) }
+{
+    calls_shown(
+        alloc,
+        conn,
+        "SELECT arrival, customer, number, day, reply FROM calls WHERE arrival BETWEEN ?1 AND ?2 ORDER BY arrival",
+        params![low, high],
+    )
+}
+
+/// All rows of `calls`, in order of arrival.
+pub fn all_calls<S: Alter>(alloc: Global, conn: &mut Connection<S>) -> Result<Vec<CallRow>, Error>
+    ensures leaves { Leaves S.Store conn.old conn.new }
+    ensures opened { HasCleanDisk (state S.Store conn.new) → OnOk result (IsTrue (state S.Store conn.new).is_open) }
+    ensures rows { HasCleanDisk (state S.Store conn.new) → IfOk result (λ rows. IsLedgerSchema (state S.Store conn.old).now.schema
+        → HaveSameRows (map shown_call rows.items) (map call_columns ((state S.Store conn.old).now.trees 1))) }
+    ensures in_order { HasCleanDisk (state S.Store conn.new) → IfOk result (λ rows. (tables : Tables) → HasTables (state S.Store conn.old).now tables
+        → IsAscending (λ a b. int_cmp a.arrival b.arrival ≡ Ordering.Less) tables.calls → rows.items ≡ tables.calls) }
+    ensures sorted { HasCleanDisk (state S.Store conn.new) → IfOk result (λ rows. IsLedgerSchema (state S.Store conn.old).now.schema
+        → IsAscending (λ a b. int_cmp a.arrival b.arrival ≢ Ordering.Greater) rows.items) }
+{
+    calls_shown(
+        alloc,
+        conn,
+        "SELECT arrival, customer, number, day, reply FROM calls ORDER BY arrival",
+        &[],
+    )
+}
+
+/// All rows of `ranges`, in order of their numbers.
+pub fn all_ranges<S: Alter>(alloc: Global, conn: &mut Connection<S>) -> Result<Vec<RangeRow>, Error>
+    ensures spares { Spares S.Store conn.old conn.new }
+    ensures leaves { Leaves S.Store conn.old conn.new }
+    ensures opened { HasCleanDisk (state S.Store conn.new) → OnOk result (IsTrue (state S.Store conn.new).is_open) }
+    ensures rows { HasCleanDisk (state S.Store conn.new) → IfOk result (λ rows. IsLedgerSchema (state S.Store conn.old).now.schema
+        → HaveSameRows (map shown_range rows.items) (map range_columns ((state S.Store conn.old).now.trees 3))) }
+    ensures in_order { HasCleanDisk (state S.Store conn.new) → IfOk result (λ rows. (tables : Tables) → HasTables (state S.Store conn.old).now tables
+        → IsAscending (λ a b. int_cmp a.num b.num ≡ Ordering.Less) tables.ranges → rows.items ≡ tables.ranges) }
+{
+    let rows = read(
+        conn,
+        "SELECT num, holder, pair, low, high, mark FROM ranges ORDER BY num",
+        &[],
+    )?;
+    ranges_in(alloc, &rows)
+}
+
+/// The rows of `serials` of a pair whose serial is from `low` to `high`.
+pub fn serials_within<S: Alter>(
+    alloc: Global,
+    conn: &mut Connection<S>,
+    pair: u32,
+    low: u32,
+    high: u32,
+) -> Result<Vec<SerialRow>, Error>
+    ensures spares { Spares S.Store conn.old conn.new }
+    ensures leaves { Leaves S.Store conn.old conn.new }
+    ensures opened { HasCleanDisk (state S.Store conn.new) → OnOk result (IsTrue (state S.Store conn.new).is_open) }
+    ensures rows { HasCleanDisk (state S.Store conn.new) → IfOk result (λ rows. (tables : Tables) → HasTables (state S.Store conn.old).now tables
+        → HaveSameRows (filter (is_within (pos pair) (pos low) (pos high)) tables.serials) rows.items) }
+{
+    let rows = read(
+        conn,
+        "SELECT pair, serial, arrival, day, customer, number, voided FROM serials WHERE pair = ?1 AND serial BETWEEN ?2 AND ?3 ORDER BY pair, serial",
+        params![pair, low, high],
+    )?;
+    serials_in(alloc, &rows)
+}
+
+/// All rows of `serials`. Their rowids are read too, which shows that they are integers.
+pub fn all_serials<S: Alter>(
+    alloc: Global,
+    conn: &mut Connection<S>,
+) -> Result<Vec<SerialRow>, Error>
+    ensures leaves { Leaves S.Store conn.old conn.new }
+    ensures opened { HasCleanDisk (state S.Store conn.new) → OnOk result (IsTrue (state S.Store conn.new).is_open) }
+    ensures rows { HasCleanDisk (state S.Store conn.new) → IfOk result (λ rows. IsLedgerSchema (state S.Store conn.old).now.schema
+        → HaveSameRows (map shown_serial rows.items) (map serial_columns ((state S.Store conn.old).now.trees 4))) }
+    ensures numbered { HasCleanDisk (state S.Store conn.new) → OnOk result (IsLedgerSchema (state S.Store conn.old).now.schema → AllByRecursion IsNumbered ((state S.Store conn.old).now.trees 4)) }
+{
+    numbered_serials_shown(
+        alloc,
+        conn,
+        "SELECT pair, serial, arrival, day, customer, number, voided, rowid FROM serials ORDER BY pair, serial",
+    )
+}
