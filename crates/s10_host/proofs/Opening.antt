@@ -21,9 +21,10 @@ use Rattle.sqlite.specs.Files.{file_state, over_files, AreFoundIn}
 use Rattle.sqlite.specs.Closing.{IsCopied}
 use Rattle.s10_book.specs.Settings.{Terms}
 use Rattle.s10_ledger.specs.Ledger.{Ledger, IsLedger, IsHonest, history_in}
-use Rattle.s10_ledger.specs.Settled.{WasSound}
+use Rattle.s10_statements.specs.Settled.{WasSound}
 use Rattle.s10_rows.specs.declared.open_fault.OpenFault.{OpenFault}
-use Rattle.s10_ledger.specs.Refusals.{IsMakingRefusal, IsOpeningRefusal}
+use Rattle.s10_ledger.specs.Refusals.{IsOpeningRefusal}
+use Rattle.s10_statements.specs.Making.{IsMakingRefusal}
 use Rattle.s10_host.specs.Files.{FileConnection, IsFoundIn, WhereClean, IsEmptyBook, IsFoundBook, Copies, PutsAway, Leaves, IsNotMade, IsNotOpened}
 
 -- what follows from three facts of the value that was made holds of it where it was kept

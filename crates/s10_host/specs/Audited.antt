@@ -8,7 +8,7 @@ use Rattle.s10_book.specs.Settings.{Terms}
 use Rattle.s10_wire.specs.Lines.{line_of}
 use Rattle.s10_rows.specs.declared.open_fault.OpenFault.{OpenFault}
 use Rattle.s10_ledger.specs.Ledger.{IsLedger, history_in}
-use Rattle.s10_ledger.specs.Settled.{WasSound}
+use Rattle.s10_statements.specs.Settled.{WasSound}
 use Rattle.s10_ledger.specs.Refusals.{IsOpeningRefusal}
 use Rattle.s10_jobs.specs.declared.status.Status.{Status}
 use Rattle.s10_jobs.specs.declared.status.Status.TheVariants.{Done, Failed}

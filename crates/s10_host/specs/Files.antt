@@ -22,7 +22,8 @@ use Rattle.sqlite.specs.Closing.{IsCopied}
 use Rattle.s10_ledger.specs.Ledger.{Ledger, IsHonest, history_in}
 use Rattle.s10_rows.specs.declared.open_fault.OpenFault.{OpenFault}
 use Rattle.s10_rows.specs.declared.open_fault.OpenFault.TheVariants.{NotALedger, Memory, Store}
-use Rattle.s10_ledger.specs.Refusals.{IsMakingRefusal, IsOpeningRefusal}
+use Rattle.s10_ledger.specs.Refusals.{IsOpeningRefusal}
+use Rattle.s10_statements.specs.Making.{IsMakingRefusal}
 
 module _ {D : Type 0} {g : Ghosts D} where
   -- the connection is open, and shows what the files held, where the disk has returned what was written

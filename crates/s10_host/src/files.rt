@@ -4,7 +4,7 @@ ghost use Rattle.std.specs.Prelude.{◌≡◌, false, Ok, IfOk, IfErr, IsErrAnd}
 ghost use Rattle.sqlite_wal.specs.Files.{image_at};
 ghost use Rattle.s10_host.specs.Files.{IsFoundIn, IsEmptyBook, IsFoundBook, WhereClean, PutsAway, Copies, Leaves, IsFileFault, IsAbsenceOr, IsNotMade, IsNotOpened};
 
-use crate::front::fault_of_front;
+use crate::front::{fault_of_front, fault_of_place};
 use s10_book::Settings;
 use s10_ledger::{OpenFault, Refused, SqlBook};
 use sqlite::{Connection, Error, ErrorCode, FileFrom, FileStore, Files, Start};
@@ -20,7 +20,8 @@ pub type FileBook<S> = SqlBook<FileStore<FileFrom<S>>>;
 /// A database file and its log, closed.
 pub type ClosedFiles<S> = Files<FileFrom<S>>;
 
-/// Makes an empty ledger in a file. A refusal leaves the file with no table of a ledger's.
+/// Makes an empty ledger in a file. A refusal leaves the file with no table of a ledger's. One that holds something else
+/// than a database is not opened.
 pub fn create_book<S: Start>(
     rt: &HostRuntime,
     path: &str,
@@ -31,7 +32,7 @@ pub fn create_book<S: Start>(
     ensures made { IfOk result (WhereClean IsEmptyBook) }
     ensures refused { IfErr result (IsNotMade S.row S.Start) }
 {
-    let connection = connect(rt, path, start)?;
+    let connection = connect_to_place(rt, path, start)?;
     kept_or_closed(SqlBook::create(rt.alloc(), connection, settings))
 }
 
@@ -97,6 +98,22 @@ pub fn connect_to_ledger<S: Start>(
         },
         Ok(false) => Err(absence(rt, path)),
         Err(_) => Err(OpenFault::Store),
+    }
+}
+
+// Opens the file of a new ledger as a database, or makes it.
+fn connect_to_place<S: Start>(
+    rt: &HostRuntime,
+    path: &str,
+    start: S,
+) -> Result<FileConnection<S>, OpenFault>
+    ensures idle { IfOk result (λ connection. connection.in_transaction ≡ false) }
+    ensures found { IfOk result (IsFoundIn (image_at S.Start)) }
+    ensures refused { IfErr result IsFileFault }
+{
+    match fault_of_place(rt, path) {
+        None => connect(rt, path, start),
+        Some(fault) => Err(fault),
     }
 }
 

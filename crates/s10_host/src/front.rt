@@ -1,6 +1,6 @@
 //! The front of a file that is to be opened as a database: a file that is none stays as it was, with nothing beside it.
 
-ghost use Rattle.std.specs.Prelude.{IfSome};
+ghost use Rattle.std.specs.Prelude.{◌≡◌, IfSome};
 ghost use Rattle.s10_host.specs.Files.{IsFileFault, IsAbsenceOr};
 
 use s10_ledger::OpenFault;
@@ -25,9 +25,27 @@ pub(crate) fn fault_of_front(rt: &HostRuntime, path: &str) -> Option<OpenFault>
 {
     match front_of(rt, path) {
         Ok(Front::Empty) => Some(OpenFault::NotALedger),
-        Ok(Front::Other) => Some(OpenFault::Store),
+        Ok(Front::Other) => Some(fault_of_other(rt, path)),
         Ok(Front::Database) | Err(_) => None,
     }
+}
+
+/// Why no ledger can be made in a file, where its first bytes show that it holds something else.
+pub(crate) fn fault_of_place(rt: &HostRuntime, path: &str) -> Option<OpenFault>
+    ensures { IfSome result IsFileFault }
+{
+    match front_of(rt, path) {
+        Ok(Front::Other) => Some(fault_of_other(rt, path)),
+        Ok(Front::Empty | Front::Database) | Err(_) => None,
+    }
+}
+
+// Says on standard error that the file holds something else.
+fn fault_of_other(rt: &HostRuntime, path: &str) -> OpenFault
+    ensures { result ≡ OpenFault.Store }
+{
+    let _ = eprintln!(rt; "cannot open {path}: it is no database");
+    OpenFault::Store
 }
 
 fn front_of(rt: &HostRuntime, path: &str) -> io::Result<Front> {

@@ -9,7 +9,6 @@ mod left;
 mod loopback;
 mod memory;
 mod questioning;
-mod replays;
 mod serving;
 mod waiting;
 
@@ -18,5 +17,4 @@ pub use jobs::run_job;
 pub use left::Left;
 pub use loopback::run_loop;
 pub use questioning::run_question;
-pub use replays::{replay, run_replay};
 pub use serving::serve_at;

@@ -12,6 +12,4 @@ mod questions;
 #[cfg(test)]
 mod refusing;
 #[cfg(test)]
-mod replays;
-#[cfg(test)]
 mod serving;

@@ -17,7 +17,7 @@ use Rattle.s10_wire.specs.Lines.{line_of}
 use Rattle.s10_jobs.specs.declared.status.Status.{Status}
 use Rattle.s10_jobs.specs.declared.status.Status.TheVariants.{Refused, Failed}
 use Rattle.s10_jobs.specs.declared.replay_fault.ReplayFault.{ReplayFault}
-use Rattle.s10_jobs.specs.declared.replay_fault.ReplayFault.TheVariants.{Line, Read, Write, Memory as LedgerMemory, Store as LedgerStore}
+use Rattle.s10_jobs.specs.declared.replay_fault.ReplayFault.TheVariants.{Line, Read, Write}
 
 abbrev pub group_words : Group → List ℕ
 group_words Parcel = codes "parcel"
@@ -68,13 +68,9 @@ abbrev pub replay_fault_line : ReplayFault → List ℕ
 replay_fault_line (Line number) = line_of (codes "refused") (codes "line" ∷ decimal number ∷ [])
 replay_fault_line Read = codes "input\n"
 replay_fault_line Write = codes "output\n"
-replay_fault_line LedgerMemory = codes "memory\n"
-replay_fault_line LedgerStore = codes "store\n"
 
 -- a refused line is refused by a rule, all else failed
 abbrev pub replay_fault_status : ReplayFault → Status
 replay_fault_status (Line number) = Refused
 replay_fault_status Read = Failed
 replay_fault_status Write = Failed
-replay_fault_status LedgerMemory = Failed
-replay_fault_status LedgerStore = Failed

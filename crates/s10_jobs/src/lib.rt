@@ -41,7 +41,7 @@ pub use question::Question;
 pub use refusal::{Refusal, write_refusal};
 pub use refusals::refuse;
 pub use replay_fault::{ReplayFault, write_replay_fault};
-pub use replaying::replay_on;
+pub use replaying::{replay, replay_on, run_replay};
 pub use reporting::{Report, write_report};
 pub use showing::show;
 pub use status::Status;

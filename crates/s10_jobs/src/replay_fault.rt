@@ -19,12 +19,6 @@ pub enum ReplayFault {
     /// The output cannot be written. Part of a line may have gone out.
     #[error("the output cannot be written")]
     Write,
-    /// The ledger cannot be made for want of memory. Nothing was written.
-    #[error("there is no memory for the ledger")]
-    Memory,
-    /// The ledger cannot be made in its store. Nothing was written.
-    #[error("the ledger cannot be stored")]
-    Store,
 }
 
 /// Writes the line of a replay that ended early, and answers its status: Refused for a line that is refused, else
@@ -43,8 +37,6 @@ pub fn write_replay_fault<W: Write>(fault: ReplayFault, out: &mut W) -> Result<S
         }
         ReplayFault::Read => write_text(b"input\n", out)?,
         ReplayFault::Write => write_text(b"output\n", out)?,
-        ReplayFault::Memory => write_text(b"memory\n", out)?,
-        ReplayFault::Store => write_text(b"store\n", out)?,
     }
     Ok(Status::Failed)
 }

@@ -1,14 +1,20 @@
 //! A replay: datagrams from the lines of an input, answers as lines of output.
-ghost use Rattle.std.specs.Prelude.{IfSome};
+ghost use Rattle.std.specs.Prelude.{[], ℕ, List, Option, Result, IfSome};
+ghost use Rattle.s10_book.specs.declared.entry.Entry.{Entry};
 ghost use Rattle.s10_ends.specs.Server.{book_of};
-ghost use Rattle.s10_jobs.specs.Replay.{Replayed};
+ghost use Rattle.s10_jobs.specs.Replay.{Replayed, TellsReplay};
+ghost use Rattle.s10_jobs.specs.declared.replay_fault.ReplayFault.{ReplayFault};
 
 use crate::answer_line::write_answer;
 use crate::delivery_line::{read_delivery, without_return};
 use crate::line_reader::{LINE_ROOM, NextLine, next_byte, read_line};
-use crate::replay_fault::ReplayFault;
-use s10_book::Book;
+use crate::replay_fault::{ReplayFault, write_replay_fault};
+use crate::status::Status;
+use s10_book::{Book, Settings};
 use s10_ends::Server;
+use s10_index::IndexedBook;
+use s10_wire::WriteFault;
+use std::alloc::Global;
 use std::io::{Read, Write};
 
 /// How many lines an input may have, empty ones too.
@@ -60,5 +66,38 @@ pub fn replay_on<B: Book, R: Read, W: Write>(
         Ok(None) => Ok(count),
         Ok(Some(_byte)) => Err(ReplayFault::Line(MOST_LINES + 1)),
         Err(_) => Err(ReplayFault::Read),
+    }
+}
+
+/// Hands the datagrams of an input to the server of an empty ledger, writes a line for each answer, and answers how many
+/// there were, as `replay_on` does.
+pub fn replay<R: Read, W: Write>(
+    alloc: Global,
+    settings: Settings,
+    input: &mut R,
+    output: &mut W,
+) -> Result<u32, ReplayFault>
+    ensures { IfSome (R.remaining input.old) (λ bytes. IfSome (W.contents output.old) (λ held.
+        (after : List Entry) × Replayed [] settings bytes held (W.contents output.new) result after)) }
+{
+    let book = IndexedBook::new(alloc, settings);
+    let mut server = Server::new(book);
+    replay_on(&mut server, input, output)
+}
+
+/// Runs a replay. A fault of it is written as the last line.
+pub fn run_replay<R: Read, W: Write>(
+    alloc: Global,
+    settings: Settings,
+    input: &mut R,
+    output: &mut W,
+) -> Result<Status, WriteFault>
+    ensures { IfSome (R.remaining input.old) (λ bytes. IfSome (W.contents output.old) (λ held.
+        (after : List Entry) × (replayed : Result ℕ ReplayFault) × (between : Option (List ℕ))
+        × Replayed [] settings bytes held between replayed after × TellsReplay replayed between (W.contents output.new) result)) }
+{
+    match replay(alloc, settings, input, output) {
+        Ok(_) => Ok(Status::Done),
+        Err(fault) => write_replay_fault(fault, output),
     }
 }

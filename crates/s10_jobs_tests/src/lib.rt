@@ -6,6 +6,8 @@ mod asked;
 #[cfg(test)]
 mod hiccup;
 #[cfg(test)]
+mod many_lines;
+#[cfg(test)]
 mod refusing;
 #[cfg(test)]
 mod replays;

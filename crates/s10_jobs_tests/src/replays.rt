@@ -1,45 +1,213 @@
-//! A replay of as many lines as an input may have, and of more.
+//! Replays of inputs over a new ledger.
 
-use s10_book::{PlainBook, Settings};
-use s10_ends::Server;
-use s10_jobs::{ReplayFault, replay_on};
-use std::alloc::Global;
+use s10_book::Settings;
+use s10_jobs::{ReplayFault, replay};
+use std::alloc::{AllocError, Global};
 use std::io;
-use std::io::{Read, Write};
+use std::io::{ErrorKind, Read, Write};
 use std::test::Fail;
 
-/// A day and no bytes: what stands behind the empty lines.
-const LAST: &[u8] = b"1 \n";
+/// The post grants range 1 to customer 7: RA GB 0 to 2.
+const GRANT: &str = "20000 53310101000000000000000100000007524147420000000000000002\n";
 
-/// A reader that makes empty lines as they are read, and then has these bytes.
-#[derive(Drop)]
-struct Lines<'a> {
-    empty: u32,
-    last: &'a [u8],
+const GRANTED: &str = "5331018100000000000000010000000752414742000000000000000200\
+00000001\n";
+
+/// Customer 7's first Draw.
+const DRAW: &str = "20000 53310102000000070000000152414742\n";
+
+const DRAWN: &str = "533101820000000700000001524147420000004e2052413030303030303030354742\n";
+
+fn settings(limit: u32) -> Result<Settings, Fail> {
+    Ok(Settings::new(30, limit).ok_or("settings")?)
 }
 
-impl Read for Lines<'_> {
+/// Whether a replay over a ledger of this limit has this answer and writes this text.
+fn gives<R: Read>(
+    alloc: Global,
+    limit: u32,
+    input: &mut R,
+    want: Result<u32, ReplayFault>,
+    text: &str,
+) -> Result<bool, Fail> {
+    let mut output = Vec::new(alloc);
+    let answer = replay(alloc, settings(limit)?, input, &mut output);
+    Ok(answer == want && output.as_slice() == text.as_bytes())
+}
+
+/// Whether a replay of these bytes has this answer and writes this text.
+fn is_replayed(
+    alloc: Global,
+    mut bytes: &[u8],
+    want: Result<u32, ReplayFault>,
+    text: &str,
+) -> Result<bool, Fail> {
+    gives(alloc, 100, &mut bytes, want, text)
+}
+
+#[test]
+fn nine_lines_get_their_nine_lines(rt: HostRuntime) -> Result<(), Fail> {
+    let is_replayed = is_replayed(
+        rt.alloc(),
+        b"20000 53310101000000000000000100000007524147420000000000000002
+20000 53310102000000070000000152414742
+20400 53310102000000070000000152414742
+20000 53310102000000070000000252414742
+20000 53310102000000070000000352414742
+20029 53310102000000070000000452414742
+20030 53310102000000070000000452414742
+20030 53310102000000070000000552414742
+20030 533101020000000700000006524147
+",
+        Ok(9),
+        "533101810000000000000001000000075241474200000000000000020000000001
+533101820000000700000001524147420000004e2052413030303030303030354742
+533101820000000700000001524147420000004e2052413030303030303030354742
+533101820000000700000002524147420000004e2052413030303030303031344742
+533101820000000700000003524147420000004e2052413030303030303032384742
+5331018200000007000000045241474205
+5331018200000007000000045241474205
+533101820000000700000005524147420000004e3e52413030303030303030354742
+dropped length
+",
+    )?;
+    assert!(rt; is_replayed);
+    Ok(())
+}
+
+#[test]
+fn small_inputs_are_read_as_lines(rt: HostRuntime) -> Result<(), Fail> {
+    let cases: [(&[u8], Result<u32, ReplayFault>, &str); 19] = [
+        (b"", Ok(0), ""),
+        (b"20000 ", Ok(1), "dropped short\n"),
+        (b"20000 \n", Ok(1), "dropped short\n"),
+        (b"20000 5", Err(ReplayFault::Line(1)), ""),
+        (b"20000", Err(ReplayFault::Line(1)), ""),
+        (b" 53", Err(ReplayFault::Line(1)), ""),
+        (b"20000  53", Err(ReplayFault::Line(1)), ""),
+        (b"2000x 53", Err(ReplayFault::Line(1)), ""),
+        (b"20000 5g", Err(ReplayFault::Line(1)), ""),
+        (b"00000020000 53", Err(ReplayFault::Line(1)), ""),
+        (b"0000020000 53", Ok(1), "dropped short\n"),
+        (b"4294967295 53", Ok(1), "dropped short\n"),
+        (b"4294967296 53", Err(ReplayFault::Line(1)), ""),
+        // Empty lines are counted and passed over, also with a carriage return.
+        (b"\n\r\n\n20000 x\n", Err(ReplayFault::Line(4)), ""),
+        (b"\n\r\n\n20000 \r\n", Ok(1), "dropped short\n"),
+        (b"20000 \r\r\n", Err(ReplayFault::Line(1)), ""),
+        (
+            b"1 \n2 \nx\n4 \n",
+            Err(ReplayFault::Line(3)),
+            "dropped short\ndropped short\n",
+        ),
+        (
+            b"1 533001020000000700000001\n1 533102020000000700000001\n1 533101050000000700000001\n",
+            Ok(3),
+            "dropped magic\ndropped version\ndropped kind\n",
+        ),
+        (
+            b"1 53310102000000070000000172614742\n1 53310102000000070000000152416762",
+            Ok(2),
+            "dropped field 12\ndropped field 14\n",
+        ),
+    ];
+    for (bytes, want, text) in cases {
+        let is_replayed = is_replayed(rt.alloc(), bytes, want, text)?;
+        assert!(rt; is_replayed, "{bytes:?}");
+    }
+    Ok(())
+}
+
+#[test]
+fn digits_of_both_cases_are_read_and_small_ones_written(rt: HostRuntime) -> Result<(), Fail> {
+    let is_replayed = is_replayed(
+        rt.alloc(),
+        b"20000 53310101000000000000000100000007524147420000000A0000000c",
+        Ok(1),
+        "5331018100000000000000010000000752414742\
+0000000a0000000c0000000001\n",
+    )?;
+    assert!(rt; is_replayed);
+    Ok(())
+}
+
+/// The longest line: a day of ten digits, 512 bytes and a carriage return.
+fn longest_line(alloc: Global) -> Result<Vec<u8>, AllocError> {
+    let mut line = Vec::new(alloc);
+    line.extend_from_slice(b"0000020000 ")?;
+    for _ in 0..1024u32 {
+        line.push(b'0')?;
+    }
+    line.push(b'\r')?;
+    Ok(line)
+}
+
+#[test]
+fn longest_line_is_read_whole(rt: HostRuntime) -> Result<(), Fail> {
+    let mut line = longest_line(rt.alloc())?;
+    assert_eq!(rt; line.len(), 1036);
+    assert!(rt; is_replayed(rt.alloc(), &line, Ok(1), "dropped magic\n")?);
+    line.push(b'\n')?;
+    assert!(rt; is_replayed(rt.alloc(), &line, Ok(1), "dropped magic\n")?);
+    Ok(())
+}
+
+#[test]
+fn longer_line_is_refused_without_reading_more(rt: HostRuntime) -> Result<(), Fail> {
+    let mut line = Vec::new(rt.alloc());
+    for _ in 0..1036u32 {
+        line.push(b'0')?;
+    }
+    for (more, want) in [("", ReplayFault::Read), ("0", ReplayFault::Line(1))] {
+        line.extend_from_slice(more.as_bytes())?;
+        assert!(rt; is_read_until(rt.alloc(), &line, want, "")?, "{more}");
+    }
+    assert!(rt; is_replayed(rt.alloc(), &line, Err(ReplayFault::Line(1)), "")?);
+    Ok(())
+}
+
+#[test]
+fn full_ledger_is_told(rt: HostRuntime) -> Result<(), Fail> {
+    let other = "20000 53310102000000070000000252414742\n";
+    let text = format!(in rt.alloc(); "{GRANT}{DRAW}{other}{DRAW}")?;
+    let wanted = format!(in rt.alloc(); "{GRANTED}{DRAWN}faulted full\n{DRAWN}")?;
+    let mut input: &[u8] = text.as_bytes();
+    assert!(rt; gives(rt.alloc(), 2, &mut input, Ok(4), &wanted)?);
+    Ok(())
+}
+
+/// A reader that fails once its bytes are read, and is interrupted before each read.
+#[derive(Drop)]
+struct Failing<'a> {
+    bytes: &'a [u8],
+    is_interrupted: bool,
+}
+
+impl Read for Failing<'_> {
     fn read(&mut self, buf: &mut [u8]) -> io::Result<usize> {
-        if self.empty == 0 || buf.is_empty() {
-            return self.last.read(buf);
+        self.is_interrupted = !self.is_interrupted;
+        if self.is_interrupted {
+            return Err(io::Error::from(ErrorKind::Interrupted));
         }
-        self.empty -= 1;
-        buf[0] = b'\n';
-        Ok(1)
+        if self.bytes.is_empty() {
+            return Err(io::Error::from(ErrorKind::Other));
+        }
+        self.bytes.read(buf)
     }
 }
 
-/// A writer that counts the lines.
+/// A writer with room for so many bytes.
 #[derive(Drop)]
-struct Counting {
-    lines: u32,
+struct Narrow {
+    room: usize,
 }
 
-impl Write for Counting {
+impl Write for Narrow {
     fn write(&mut self, buf: &[u8]) -> io::Result<usize> {
-        if buf.ends_with(b"\n") {
-            self.lines = self.lines.saturating_add(1);
+        if buf.len() > self.room {
+            return Err(io::Error::from(ErrorKind::Other));
         }
+        self.room -= buf.len();
         Ok(buf.len())
     }
 
@@ -48,34 +216,35 @@ impl Write for Counting {
     }
 }
 
-/// Whether a replay of so many empty lines and the last one has this answer, writes so many lines and leaves so many
-/// bytes unread.
-fn is_replayed(
-    alloc: Global,
-    empty: u32,
-    want: Result<u32, ReplayFault>,
-    written: u32,
-    left: usize,
-) -> Result<bool, Fail> {
-    let settings = Settings::new(30, 100).ok_or("settings")?;
-    let mut server = Server::new(PlainBook::new(alloc, settings));
-    let mut input = Lines { empty, last: LAST };
-    let mut output = Counting { lines: 0 };
-    let answer = replay_on(&mut server, &mut input, &mut output);
-    Ok(answer == want && output.lines == written && input.last.len() == left)
+/// Whether a replay of a reader that fails after these bytes ends with this fault, and writes this
+/// text.
+fn is_read_until(alloc: Global, bytes: &[u8], want: ReplayFault, text: &str) -> Result<bool, Fail> {
+    let mut input = Failing {
+        bytes,
+        is_interrupted: false,
+    };
+    gives(alloc, 100, &mut input, Err(want), text)
 }
 
 #[test]
-fn the_line_past_the_millionth_is_refused(rt: HostRuntime) -> Result<(), Fail> {
-    let cases = [
-        (999_999, Ok(1), 1, 0),
-        (1_000_000, Err(ReplayFault::Line(1_000_001)), 0, 2),
-    ];
-    for (empty, want, written, left) in cases {
-        assert!(rt;
-            is_replayed(rt.alloc(), empty, want, written, left)?,
-            "behind {empty}"
-        );
+fn reader_that_fails_ends_the_replay(rt: HostRuntime) -> Result<(), Fail> {
+    let bytes = b"20000 \n20000 5";
+    assert!(rt; is_read_until(rt.alloc(), bytes, ReplayFault::Read, "dropped short\n")?);
+    Ok(())
+}
+
+/// What a replay of two lines answers where the writer has so much room.
+fn replayed_into(alloc: Global, room: usize) -> Result<Result<u32, ReplayFault>, Fail> {
+    let mut input: &[u8] = b"20000 \n20000 \n";
+    Ok(replay(alloc, settings(100)?, &mut input, &mut Narrow { room }))
+}
+
+#[test]
+fn writer_that_fails_ends_the_replay(rt: HostRuntime) -> Result<(), Fail> {
+    for room in [0, 13, 14, 27] {
+        let answer = replayed_into(rt.alloc(), room)?;
+        assert_eq!(rt; answer, Err(ReplayFault::Write), "{room}");
     }
+    assert_eq!(rt; replayed_into(rt.alloc(), 28)?, Ok(2));
     Ok(())
 }

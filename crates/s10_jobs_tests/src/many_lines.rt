@@ -1,0 +1,81 @@
+//! A replay of as many lines as an input may have, and of more.
+
+use s10_book::{PlainBook, Settings};
+use s10_ends::Server;
+use s10_jobs::{ReplayFault, replay_on};
+use std::alloc::Global;
+use std::io;
+use std::io::{Read, Write};
+use std::test::Fail;
+
+/// A day and no bytes: what stands behind the empty lines.
+const LAST: &[u8] = b"1 \n";
+
+/// A reader that makes empty lines as they are read, and then has these bytes.
+#[derive(Drop)]
+struct Lines<'a> {
+    empty: u32,
+    last: &'a [u8],
+}
+
+impl Read for Lines<'_> {
+    fn read(&mut self, buf: &mut [u8]) -> io::Result<usize> {
+        if self.empty == 0 || buf.is_empty() {
+            return self.last.read(buf);
+        }
+        self.empty -= 1;
+        buf[0] = b'\n';
+        Ok(1)
+    }
+}
+
+/// A writer that counts the lines.
+#[derive(Drop)]
+struct Counting {
+    lines: u32,
+}
+
+impl Write for Counting {
+    fn write(&mut self, buf: &[u8]) -> io::Result<usize> {
+        if buf.ends_with(b"\n") {
+            self.lines = self.lines.saturating_add(1);
+        }
+        Ok(buf.len())
+    }
+
+    fn flush(&mut self) -> io::Result<()> {
+        Ok(())
+    }
+}
+
+/// Whether a replay of so many empty lines and the last one has this answer, writes so many lines and leaves so many
+/// bytes unread.
+fn is_replayed(
+    alloc: Global,
+    empty: u32,
+    want: Result<u32, ReplayFault>,
+    written: u32,
+    left: usize,
+) -> Result<bool, Fail> {
+    let settings = Settings::new(30, 100).ok_or("settings")?;
+    let mut server = Server::new(PlainBook::new(alloc, settings));
+    let mut input = Lines { empty, last: LAST };
+    let mut output = Counting { lines: 0 };
+    let answer = replay_on(&mut server, &mut input, &mut output);
+    Ok(answer == want && output.lines == written && input.last.len() == left)
+}
+
+#[test]
+fn the_line_past_the_millionth_is_refused(rt: HostRuntime) -> Result<(), Fail> {
+    let cases = [
+        (999_999, Ok(1), 1, 0),
+        (1_000_000, Err(ReplayFault::Line(1_000_001)), 0, 2),
+    ];
+    for (empty, want, written, left) in cases {
+        assert!(rt;
+            is_replayed(rt.alloc(), empty, want, written, left)?,
+            "behind {empty}"
+        );
+    }
+    Ok(())
+}
