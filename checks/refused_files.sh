@@ -1,6 +1,6 @@
 #!/bin/sh
-# Hands `audit`, `report` and `serve` what is no ledger, and sees that each line and status is as written
-# and that every file stays as it was, with none beside it.
+# Hands `audit`, `report` and `serve` what is no ledger, and `create` what none can be made in, and sees that each line and
+# status is as written and that every file stays as it was, with none beside it.
 #
 #     sh checks/refused_files.sh [PROGRAM]
 set -eu
@@ -26,31 +26,35 @@ state() {
 state >../before
 tried=0
 
-# The line, and the status 3, of each command over the file.
+# The line, and the status 3, of a command.
+refuses() { # COMMAND LINE
+    status=0
+    # shellcheck disable=SC2086
+    line=$("$s10" $1 2>/dev/null) || status=$?
+    if [ "$line" != "$2" ] || [ "$status" -ne 3 ]; then
+        echo "s10 $1: '$line', status $status; '$2', status 3 were expected"
+        exit 1
+    fi
+    state >../after
+    if ! cmp -s ../before ../after; then
+        echo "s10 $1: the folder is not as it was"
+        exit 1
+    fi
+    tried=$((tried + 1))
+}
+
 refused() { # FILE LINE
-    for command in "audit --ledger $1" "report --ledger $1 --day 20000" \
-        "serve --ledger $1 --bind 127.0.0.1:0 --count 1"; do
-        status=0
-        # shellcheck disable=SC2086
-        line=$("$s10" $command 2>/dev/null) || status=$?
-        if [ "$line" != "$2" ] || [ "$status" -ne 3 ]; then
-            echo "s10 $command: '$line', status $status; '$2', status 3 were expected"
-            exit 1
-        fi
-        state >../after
-        if ! cmp -s ../before ../after; then
-            echo "s10 $command: the folder is not as it was"
-            exit 1
-        fi
-        tried=$((tried + 1))
-    done
+    refuses "audit --ledger $1" "$2"
+    refuses "report --ledger $1 --day 20000" "$2"
+    refuses "serve --ledger $1 --bind 127.0.0.1:0 --count 1" "$2"
 }
 
 refused missing 'ledger not-a-ledger'
 refused nowhere/missing 'ledger store'
 refused empty 'ledger not-a-ledger'
-refused text 'ledger store'
-refused short 'ledger store'
-refused zeros 'ledger store'
-refused folder 'ledger store'
+for file in text short zeros folder; do
+    refused "$file" 'ledger store'
+    refuses "create --ledger $file --interval 30 --limit 10" 'ledger store'
+done
+refuses 'create --ledger nowhere/missing --interval 30 --limit 10' 'ledger store'
 echo "$tried commands over what is no ledger: each refused, every file as it was"

@@ -1,7 +1,8 @@
 #!/bin/sh
 # Refuses the first request for memory of a test, then the second, and so on, until the test beside it, which
 # asks for the same memory and wants all of it, meets no refusal. After each refusal the server's run, or the
-# world, has to be that of the other deliveries or events. Some minutes.
+# world, has to be that of the other deliveries or events, and the refused call of a book is made good by a
+# repeat. Some minutes.
 # Run it as: sh checks/refused_memory.sh
 set -eu
 cd "$(dirname "$0")/../crates"
@@ -32,3 +33,6 @@ refuse_each s10_ends_tests \
 refuse_each s10_world_tests \
     memory::a_refused_request_for_memory_leaves_a_run_of_the_other_events \
     worlds::each_call_is_executed_once_and_answered_to_its_own_client
+refuse_each s10_index_tests \
+    nine::a_refused_request_for_memory_is_made_good_by_a_repeat \
+    nine::nine_calls_with_ample_memory_are_kept_at_once

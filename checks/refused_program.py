@@ -1,0 +1,245 @@
+#!/usr/bin/env python3
+"""Refuses the program its first request for memory, then its second, and so on, and stops its disk at the first change of a file,
+then at the second, and so on (checks/refuse.c), until a run meets no refusal. After each, the ledger has to be one that the
+program opens, with exactly the calls that were answered, and asked again each call has to get the reply that it got, or that it
+would have got.
+
+  python3 checks/refused_program.py [PROGRAM]
+"""
+
+import os
+import select
+import shutil
+import socket
+import subprocess
+import sys
+import tempfile
+from concurrent.futures import ThreadPoolExecutor
+from pathlib import Path
+
+HERE = Path(__file__).resolve().parent
+PROGRAM = str(Path(sys.argv[1] if len(sys.argv) > 1 else HERE / "../crates/s10/out/s10").resolve())
+
+# The post grants RA GB 0 to 2 to customer 7, who draws serials 0 and 1, voids 1 twice, draws serial 2 and is told that none is
+# free; 30 days after it draws 0 and 1 again. The tenth call draws 2 again.
+GRANT = "53310101000000000000000100000007524147420000000000000002"
+VOID = "52413030303030303031344742"
+
+
+def draw(number):
+    return f"5331010200000007{number:08x}52414742"
+
+
+FIRST = [GRANT, draw(1), draw(2), f"533101030000000700000003{VOID}", f"533101030000000700000004{VOID}", draw(5), draw(6)]
+LATER = [draw(7), draw(8)]
+SETTINGS = ["--interval", "30", "--limit", "1000"]
+TENTH = draw(9)
+TENTH_REPLY = "533101820000000700000009524147420000004e3e52413030303030303032384742"
+
+
+class Failed(Exception):
+    """A run that did not end as it has to."""
+
+
+def fail(why):
+    raise Failed(why)
+
+
+def run(words, refusals=None, **more):
+    return subprocess.run([PROGRAM, *words], env={**os.environ, **(refusals or {})}, capture_output=True, text=True, check=False, **more)
+
+
+def audit(ledger):
+    return run(["audit", "--ledger", ledger]).stdout.strip()
+
+
+def replies_of(deliveries):
+    """What an empty ledger owes to datagrams on their days."""
+    text = "".join(f"{day} {datagram}\n" for day, datagram in deliveries)
+    return run(["replay", *SETTINGS], input=text).stdout.split()
+
+
+def serve(ledger, day, datagrams, refusals=None):
+    """Serves so many turns; answers the replies by datagram, and whether the server was there to be asked."""
+    words = [PROGRAM, "serve", "--ledger", ledger, "--bind", "127.0.0.1:0", "--count", str(len(datagrams)), "--day", str(day)]
+    with subprocess.Popen(words, env={**os.environ, **(refusals or {})}, stdout=subprocess.PIPE, stderr=subprocess.PIPE, text=True) as server:
+        address = ""
+        for line in server.stderr:
+            if line.startswith("serving on "):
+                address = line.split()[-1]
+                break
+        found = {}
+        if address:
+            host, port = address.rsplit(":", 1)
+            with socket.socket(socket.AF_INET, socket.SOCK_DGRAM) as link:
+                link.connect((host, int(port)))
+                for datagram in datagrams:
+                    try:
+                        link.send(bytes.fromhex(datagram))
+                    except ConnectionRefusedError:
+                        break
+                server.wait()
+                while select.select([link], [], [], 0)[0]:
+                    try:
+                        reply = link.recv(2048).hex()
+                    except ConnectionRefusedError:
+                        continue
+                    found[next(it for it in datagrams if it[8:24] == reply[8:24])] = reply
+        server.wait()
+        return found
+
+
+def make(folder, calls):
+    os.mkdir(folder)
+    ledger = f"{folder}/ledger"
+    if run(["create", "--ledger", ledger, *SETTINGS]).stdout != "created\n":
+        fail("create")
+    for day, datagrams in calls:
+        if len(serve(ledger, day, datagrams)) != len(datagrams):
+            fail("a call was not answered")
+    return ledger
+
+
+def copied(ledger, into):
+    shutil.copytree(Path(ledger).parent, into, dirs_exist_ok=True)
+    return f"{into}/ledger"
+
+
+def check_serving(name, ledger, before, day, datagrams, replies):
+    """The calls before, and those of these that were answered, and no other, are kept; handed in again, each gets its reply."""
+    answered = [it for it in datagrams if it in replies]
+    if audit(ledger) != f"ledger ok {len(before) + len(answered)}":
+        fail(f"{name}: {audit(ledger)} with {len(answered)} replies")
+    kept = [*before, *((day, it) for it in answered)]
+    owed = replies_of([*kept, *((day, it) for it in datagrams)])
+    if [replies[it] for it in answered] != owed[len(before) : len(kept)]:
+        fail(f"{name}: another reply")
+    again = serve(ledger, day, datagrams)
+    if [again.get(it) for it in datagrams] != owed[len(kept) :]:
+        fail(f"{name}: another reply to a call that is handed in again")
+
+
+def each_refusal(name, room, refusals, do):
+    """Does it for 1, 2, .. until nothing is refused, several side by side, each in a folder of its own; prints how many were."""
+
+    def tried(at):
+        here = f"{room}/here-{at}"
+        mark = f"{here}-refused"
+        os.mkdir(here)
+        do(f"{name} {at}", here, {**refusals(at, here), "LD_PRELOAD": f"{room}/refuse.so", "REFUSED": mark})
+        is_refused = Path(mark).exists()
+        Path(mark).unlink(missing_ok=True)
+        shutil.rmtree(here)
+        return is_refused
+
+    count, whole = 0, True
+    with ThreadPoolExecutor(os.cpu_count()) as several:
+        while whole:
+            found = list(several.map(tried, range(count + 1, count + 65)))
+            whole = all(found)
+            count += found.index(False) if not whole else len(found)
+    if count == 0:
+        fail(f"{name}: nothing was refused")
+    print(f"{count} {name}: each refused in turn", flush=True)
+
+
+def refuse_memory(room):
+    def refusals(at, _):
+        return {"REFUSE_MEMORY": str(at)}
+
+    def create(name, here, env):
+        words = ["create", "--ledger", f"{here}/ledger", *SETTINGS]
+        made = run(words, env)
+        second = run(words)
+        if (made.returncode, second.stdout) not in ((0, "ledger not-empty\n"), (3, "created\n"), (3, "ledger not-empty\n")):
+            fail(f"{name}: {made.stdout.strip()}, then {second.stdout.strip()}")
+        if audit(f"{here}/ledger") != "ledger ok 0":
+            fail(f"{name}: {audit(f'{here}/ledger')}")
+
+    each_refusal("requests for memory of create", room, refusals, create)
+
+    nine = make(f"{room}/nine", [(20000, FIRST), (20030, LATER)])
+
+    def look(name, here, env):
+        ledger = copied(nine, here)
+        before = Path(ledger).read_bytes()
+        found = run(["audit", "--ledger", ledger], env)
+        if (found.returncode, found.stdout) != (0, "ledger ok 9\n") and found.returncode != 3:
+            fail(f"{name}: {found.stdout.strip()}")
+        if Path(ledger).read_bytes() != before or audit(ledger) != "ledger ok 9":
+            fail(f"{name}: the ledger is another")
+
+    each_refusal("requests for memory of audit", room, refusals, look)
+
+    for what, kept, day, datagrams in (("seven calls", [], 20000, FIRST), ("two calls behind seven", [(20000, FIRST)], 20030, LATER)):
+        base = make(f"{room}/{what}", kept)
+        told = [(then, it) for then, those in kept for it in those]
+
+        def answer(name, here, env, base=base, told=told, day=day, datagrams=datagrams):
+            ledger = copied(base, here)
+            check_serving(name, ledger, told, day, datagrams, serve(ledger, day, datagrams, env))
+
+        each_refusal(f"requests for memory of a server of {what}", room, refusals, answer)
+
+
+def stop_disk(room):
+    closed = make(f"{room}/closed", [(20000, FIRST), (20030, LATER)])
+    killed = copied(closed, f"{room}/killed")
+    kill_server(killed)
+    for state, base in (("closed", closed), ("killed", killed)):
+        for file in ("ledger", "ledger-wal"):
+
+            def refusals(at, here, file=file):
+                return {"STOP_FILE": f"{here}/{file}", "STOP_AT": str(at - 1)}
+
+            def answer(name, here, env, base=base):
+                ledger = copied(base, here)
+                replies = serve(ledger, 20030, [TENTH], env)
+                if replies.get(TENTH, TENTH_REPLY) != TENTH_REPLY:
+                    fail(f"{name}: another reply")
+                found = audit(ledger)
+                if found != "ledger ok 10" and (found != "ledger ok 9" or replies):
+                    fail(f"{name}: {found} with {len(replies)} replies")
+                if serve(ledger, 20030, [TENTH]).get(TENTH) != TENTH_REPLY:
+                    fail(f"{name}: asked again, another reply")
+                if audit(ledger) != "ledger ok 10":
+                    fail(f"{name}: {audit(ledger)} in the end")
+
+            each_refusal(f"changes of {file} by a server of a {state} ledger", room, refusals, answer)
+
+    for file in ("ledger", "ledger-wal"):
+
+        def refusals(at, here, file=file):
+            return {"STOP_FILE": f"{here}/{file}", "STOP_AT": str(at - 1)}
+
+        def create(name, here, env):
+            made = run(["create", "--ledger", f"{here}/ledger", *SETTINGS], env)
+            found = audit(f"{here}/ledger")
+            if found != "ledger ok 0" and (found != "ledger not-a-ledger" or made.returncode == 0):
+                fail(f"{name}: {made.stdout.strip()}, then {found}")
+
+        each_refusal(f"changes of {file} by create", room, refusals, create)
+
+
+def kill_server(ledger):
+    """A server answers a call again and is killed, so that its log stays."""
+    words = [PROGRAM, "serve", "--ledger", ledger, "--bind", "127.0.0.1:0", "--count", "1000", "--day", "20030"]
+    with subprocess.Popen(words, stdout=subprocess.DEVNULL, stderr=subprocess.PIPE, text=True) as server:
+        for line in server.stderr:
+            if line.startswith("serving on "):
+                break
+        server.kill()
+
+
+def main():
+    with tempfile.TemporaryDirectory() as room:
+        subprocess.run(["cc", "-O1", "-shared", "-fPIC", "-o", f"{room}/refuse.so", str(HERE / "refuse.c")], check=True)
+        refuse_memory(room)
+        stop_disk(room)
+
+
+try:
+    main()
+except Failed as why:
+    print(f"failed: {why}")
+    sys.exit(1)
