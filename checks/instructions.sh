@@ -1,6 +1,6 @@
 #!/usr/bin/env bash
-# Tells what a Draw costs by instructions, which are the same on every machine: of replays, whose ledger is
-# in memory, as valgrind's callgrind counts them.
+# Tells what a Draw costs by instructions, which are the same on every machine, as valgrind's callgrind counts them: of
+# replays, over the book in memory, and of a server, over tables in a file, with its socket and its lines.
 #
 #     bash checks/instructions.sh [PROGRAM]
 set -eu
@@ -54,3 +54,25 @@ echo "one Draw that finds 400 used ranges of its customer first: $(each 1 "$dir/
 : >"$dir/nothing"
 grants 1000 1 7 0 10 >"$dir/granted"
 echo "a Grant, of a thousand: $(each 1000 "$dir/nothing" "$dir/granted")"
+
+# The instructions of a server of a Grant and so many Draws, one after another.
+served() { # DRAWS
+    local ledger=$dir/ledger-$1
+    "$s10" create --ledger "$ledger" --interval 30 --limit 1000000 >"$dir/created"
+    mkfifo "$dir/told-$1"
+    valgrind --tool=callgrind --callgrind-out-file=/dev/null "$s10" serve --ledger "$ledger" --bind 127.0.0.1:0 \
+        --count $(($1 + 1)) --day 20000 2>"$dir/told-$1" >/dev/null &
+    { grants 1 1 7 0 100000; draws "$1" 1; } | python3 -c '
+import re, socket, sys
+told = open(sys.argv[1])
+address = next(it for it in told if it.startswith("serving on ")).split()[-1].rsplit(":", 1)
+link = socket.socket(socket.AF_INET, socket.SOCK_DGRAM)
+link.connect((address[0], int(address[1])))
+for line in sys.stdin:
+    link.send(bytes.fromhex(line.split()[1]))
+    link.recv(2048)
+print(re.search(r"Collected : (\d+)", told.read()).group(1))
+' "$dir/told-$1"
+}
+
+echo "a Draw of a server over one range: $((($(served 1100) - $(served 100)) / 1000))"
