@@ -1,17 +1,16 @@
 -- A pick looks at the identifiers of the issues and at their days alone, so Draws in a row are picks in a row.
-use Rattle.std.proofs.Common.{◌≡◌, ℕ, zero, suc, ◌+◌, Bool, true, false, cond, not, ◌&&◌, ◌||◌, List, [], ◌∷◌, ◌++◌, map, Option, Some, None, refl, sym, ap, ap₂, ◌∙◌, subst, length, append-nil}
-use Rattle.std.specs.Prelude.{find, filter, option_to_list}
+use Rattle.std.proofs.Common.{◌≡◌, ℕ, zero, suc, ◌+◌, Bool, true, false, cond, not, ◌&&◌, ◌||◌, List, [], ◌∷◌, ◌++◌, Option, Some, None, refl, sym, ap, ap₂, ◌∙◌, subst, length, append-nil}
+use Rattle.std.specs.Prelude.{find, filter}
 use Rattle.std.specs.List.{last_or}
 use Rattle.std.specs.Option.{option_map, option_or, unwrap_or}
 use Rattle.s10_core.specs.declared.id.Id.{Id}
 use Rattle.s10_core.specs.Id.{same_id}
-use Rattle.s10_wire.specs.declared.outcome.Outcome.{Outcome}
 use Rattle.s10_book.specs.declared.entry.Entry.{Entry}
 use Rattle.s10_book.specs.declared.range.Range.{Range}
 use Rattle.s10_book.specs.declared.issuance.Issuance.{Issuance}
 use Rattle.s10_book.specs.History.{ranges_of, is_held, ranges_held, lies_in}
 use Rattle.s10_book.specs.Issues.{issues_of, is_of, last_issuance_of, is_issued, is_free_since, serial_issued_earliest, serials, pick_of, id_at}
-use Rattle.s10_book.specs.Rules.{has_free_pick, outcome_of_pick, draw_answer, draw_done, then_drawn, draws_in_a_row}
+use Rattle.s10_book.specs.Rules.{has_free_pick, outcome_of_pick, draw_done, then_drawn, draws_in_a_row}
 use Rattle.s10_book.proofs.Earliest.{earliest_cons}
 use Rattle.s10_book.proofs.Push.{ranges_from-push, issues_from-push}
 use Rattle.s10_book.proofs.Rows.{then_found, then_same, picks}

@@ -1,5 +1,5 @@
 -- The identifiers that a call carries, each over the issues with those before it.
-use Rattle.std.proofs.Common.{◌≡◌, ℕ, ◌+◌, Bool, true, false, List, [], ◌∷◌, ◌++◌, map, Option, Some, None, refl, sym, ap, ◌∙◌, subst, length, append-nil, append_assoc}
+use Rattle.std.proofs.Common.{◌≡◌, ℕ, ◌+◌, Bool, true, false, List, [], ◌∷◌, ◌++◌, map, Option, Some, None, refl, sym, subst, length, append-nil, append_assoc}
 use Rattle.std.specs.Prelude.{find, filter, All, IsTrue, Contains}
 use Rattle.std.proofs.lemmas.Bool.{both_ways, eqb-true, and_parts}
 use Rattle.std.proofs.lemmas.List.Elements.{All-nil, All-cons, All-contains, All-filter, All-contains_itself, filter_passes}
@@ -14,7 +14,7 @@ use Rattle.s10_book.specs.declared.range.Range.{Range}
 use Rattle.s10_book.specs.declared.issuance.Issuance.{Issuance}
 use Rattle.s10_book.specs.Settings.{Terms}
 use Rattle.s10_book.specs.History.{ranges_of, is_held, ranges_held}
-use Rattle.s10_book.specs.Issues.{issues_of, issues_at, carried_by, is_free, id_at, pick_of}
+use Rattle.s10_book.specs.Issues.{issues_of, carried_by, is_free, id_at, pick_of}
 use Rattle.s10_book.specs.Rules.{MayFollow, body_answer, outcome_of_pick, has_free_pick}
 use Rattle.s10_book.proofs.Ranges.{Contains-find, found_passes}
 use Rattle.s10_book.proofs.Push.{issues_from-push}

@@ -1,28 +1,27 @@
 -- In a legal history each issue lies in a range that its customer holds by an earlier call.
-use Rattle.std.proofs.Common.{◌≡◌, ℕ, zero, suc, ◌+◌, ◌-◌, ◌<◌, ◌≤◌, Bool, true, false, cond, not, eqb, ltb, ◌&&◌, List, [], ◌∷◌, ◌++◌, map, Option, Some, None, refl, sym, ap, ◌∙◌, inl, inr, arith, subst, length, take, append-nil, length-append, take_all}
-use Rattle.std.specs.Prelude.{find, filter, All, IsTrue, Contains, option_to_list}
+use Rattle.std.proofs.Common.{◌≡◌, ℕ, zero, suc, ◌+◌, ◌-◌, ◌<◌, ◌≤◌, Bool, true, false, cond, not, eqb, ltb, ◌&&◌, List, [], ◌∷◌, ◌++◌, Option, Some, None, refl, sym, ap, ◌∙◌, inl, inr, arith, subst, length, take, append-nil, length-append, take_all}
+use Rattle.std.specs.Prelude.{find, All, IsTrue, option_to_list}
 use Rattle.std.specs.List.{list_any, range_with_len}
-use Rattle.std.proofs.lemmas.Bool.{eq-eqb, eqb-true, le-leb, ltb-false, and_parts, and_from, or_parts}
+use Rattle.std.proofs.lemmas.Bool.{eq-eqb, le-leb, ltb-false, and_parts, and_from, or_parts}
 use Rattle.std.proofs.lemmas.Option.{none-some, same_Some}
 use Rattle.std.proofs.lemmas.List.{take-append-le}
 use Rattle.std.proofs.lemmas.List.Folds.{list_any_at}
-use Rattle.std.proofs.lemmas.List.Elements.{All-nil, All-cons, All-append, All-push, All-weaker, All-contains, All-filter, All-contains_itself, filter_passes}
+use Rattle.std.proofs.lemmas.List.Elements.{All-nil, All-push, All-weaker, All-contains}
 use Rattle.s10_core.specs.declared.id.Id.{Id}
 use Rattle.s10_wire.specs.declared.body.Body.{Body}
-use Rattle.s10_wire.specs.declared.body.Body.TheVariants.{Grant, Draw, Void, Query}
+use Rattle.s10_wire.specs.declared.body.Body.TheVariants.{Grant}
 use Rattle.s10_wire.specs.declared.outcome.Outcome.{Outcome}
 use Rattle.s10_wire.specs.declared.outcome.Outcome.TheVariants.{Granted, Drawn, NotThePost, BadGrant, Overlap}
 use Rattle.s10_book.specs.declared.entry.Entry.{Entry}
 use Rattle.s10_book.specs.declared.range.Range.{Range}
 use Rattle.s10_book.specs.declared.issuance.Issuance.{Issuance}
 use Rattle.s10_book.specs.Settings.{Terms}
-use Rattle.s10_book.specs.History.{ranges_of, range_of_grant, lies_in, is_own, is_held, ranges_held}
+use Rattle.s10_book.specs.History.{ranges_of, range_of_grant, lies_in, is_own}
 use Rattle.s10_book.specs.Issues.{issues_of, is_issued, serial_issued_earliest, pick_of, id_at, carried_by}
-use Rattle.s10_book.specs.Rules.{IsLegal, body_answer, outcome_of_pick, has_free_pick}
+use Rattle.s10_book.specs.Rules.{IsLegal, body_answer}
 use Rattle.s10_book.specs.Promises.{IsOwn}
-use Rattle.s10_book.proofs.Ranges.{chosen, find_cases, Contains-find}
-use Rattle.s10_book.proofs.Push.{ranges_from-push, issues_from-push}
-use Rattle.s10_book.proofs.Fitting.{answer_fits}
+use Rattle.s10_book.proofs.Ranges.{chosen, find_cases}
+use Rattle.s10_book.proofs.Push.{ranges_from-push}
 use Rattle.std.specs.Option.{option_or, unwrap_or}
 use Rattle.s10_book.proofs.Earliest.{earliest_cons}
 use Rattle.s10_book.proofs.Legal.{legal_induction}

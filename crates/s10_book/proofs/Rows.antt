@@ -1,24 +1,21 @@
 -- Draws in a row, over a list of issues that each of them makes longer.
-use Rattle.std.proofs.Common.{◌≡◌, ℕ, zero, suc, ◌+◌, ◌-◌, ◌<◌, ◌≤◌, Bool, true, false, cond, eqb, leb, List, [], ◌∷◌, ◌++◌, map, Option, Some, None, refl, sym, ap, ◌∙◌, ◌⊎◌, inl, inr, arith, subst, length, append-nil}
-use Rattle.std.specs.Prelude.{find, filter, All, AllPairs, IsTrue, Contains}
-use Rattle.std.specs.Option.{option_map}
-use Rattle.std.proofs.lemmas.Bool.{both_ways, cases_Bool, cases_eq, eq-eqb, ne_eqb, leb-true}
+use Rattle.std.proofs.Common.{◌≡◌, ℕ, zero, suc, ◌+◌, ◌-◌, ◌<◌, ◌≤◌, true, false, List, [], ◌∷◌, ◌++◌, Option, Some, None, refl, sym, ap, ◌∙◌, ◌⊎◌, inl, inr, arith, subst}
+use Rattle.std.specs.Prelude.{find, AllPairs, Contains}
+use Rattle.std.specs.Option.{option_map, unwrap_or, SomeIff}
+use Rattle.std.proofs.lemmas.Bool.{both_ways, cases_Bool, cases_eq, eq-eqb, ne_eqb}
 use Rattle.s10_core.specs.declared.id.Id.{Id}
 use Rattle.s10_book.specs.declared.entry.Entry.{Entry}
 use Rattle.s10_book.specs.declared.range.Range.{Range}
 use Rattle.s10_book.specs.declared.issuance.Issuance.{Issuance}
-use Rattle.s10_book.specs.declared.issue.Issue.{Issue}
 use Rattle.s10_book.specs.declared.candidate.Candidate.{Candidate}
 use Rattle.s10_book.specs.Settings.{Terms}
 use Rattle.s10_book.specs.History.{ranges_of, lies_in}
 use Rattle.s10_book.specs.Issues.{issues_of, is_of, last_issuance_of, is_free_since, pick_of, id_at, serial_behind, serials_behind, size_of, pick_behind, issue_of, with_picks, candidate_after_of, last_issue_of}
 use Rattle.s10_book.specs.Rules.{IsLegal, has_free_pick}
-use Rattle.s10_book.proofs.Apart.{Apart, apart}
+use Rattle.s10_book.proofs.Apart.{Apart}
 use Rattle.s10_book.proofs.Own.{lies_at}
 use Rattle.s10_book.proofs.Free.{id_equal}
-use Rattle.s10_book.proofs.Spaced.{id_same}
 use Rattle.s10_book.proofs.Issued.{last_issuance_of-push}
-use Rattle.s10_book.proofs.Drawing.{free_last}
 use Rattle.s10_book.proofs.Ranges.{Contains-find}
 use Rattle.s10_book.proofs.Marks.{Turns, pick_turns, turns_outside, turns_inside, mark_step, one_range, turns_pick, all_at_pick}
 
@@ -55,6 +52,25 @@ behind_apart r m i j u v low high lt few (inr a) (inr b) e = omega (arith, a.0, 
 pub behind_round : (r : Range) (m k v : ℕ) → r.first ≤ m → m ≤ r.last → k ≡ size_of r → IsBehind r m k v → v ≡ m
 behind_round r m k v low high e (inl w) = absurd (omega (arith, w.1, e))
 behind_round r m k v low high e (inr w) = omega (arith, w.0, e)
+
+-- the serial so many behind, by its number
+pub behind_low : (r : Range) (m k v : ℕ) → r.first ≤ m → m ≤ r.last → k < size_of r → m + k ≤ r.last → v ≡ m + k → v ≡ serials_behind r m k
+behind_low r m k v low high few le is =
+    elim (behind r m k low high (omega (arith, few))) [
+      | inl w ↦ omega (arith, w.0, is)
+      | inr w ↦ absurd (omega (arith, w.1, le))
+    ]
+
+pub behind_high : (r : Range) (m k v : ℕ) → r.first ≤ m → m ≤ r.last → k < size_of r → r.last < m + k → v ≡ m + k - size_of r → v ≡ serials_behind r m k
+behind_high r m k v low high few lt is =
+    elim (behind r m k low high (omega (arith, few))) [
+      | inl w ↦ absurd (omega (arith, w.1, lt))
+      | inr w ↦ omega (arith, w.0, is)
+    ]
+
+pub some_value : (o : Option ℕ) (P : Type 0) (v d : ℕ) → SomeIff o P v → P → unwrap_or o d ≡ v
+some_value None P v d none holds = absurd (none holds)
+some_value (Some x) P v d some holds = some.1
 
 steps_from : (r : Range) (m k : ℕ) → serials_behind r (serial_behind r m) k ≡ serials_behind r m (suc k)
 steps_from r m zero = refl

@@ -1,5 +1,5 @@
 -- In a legal history the issues of one identifier are an interval apart.
-use Rattle.std.proofs.Common.{◌≡◌, ℕ, suc, ◌+◌, ◌-◌, ◌<◌, ◌≤◌, Bool, true, false, eqb, List, [], ◌∷◌, ◌++◌, map, Option, Some, None, refl, sym, ap, ◌∙◌, inl, inr, arith, subst, length, get_or, append-nil}
+use Rattle.std.proofs.Common.{◌≡◌, ℕ, suc, ◌+◌, ◌-◌, ◌<◌, ◌≤◌, Bool, true, false, eqb, List, [], ◌∷◌, ◌++◌, Option, Some, None, refl, sym, ap, ◌∙◌, inl, inr, arith, subst, length, get_or}
 use Rattle.std.specs.Prelude.{filter, fold, All, AllPairs, IsTrue}
 use Rattle.std.specs.List.{last_or}
 use Rattle.std.proofs.lemmas.Bool.{both_ways, cases_lt, eq-eqb, leb-true, and_from}
@@ -12,18 +12,15 @@ use Rattle.s10_core.specs.Letters.{same_letters}
 use Rattle.s10_core.specs.Id.{same_id}
 use Rattle.s10_wire.specs.Kind.{fits}
 use Rattle.s10_wire.specs.declared.body.Body.{Body}
-use Rattle.s10_wire.specs.declared.body.Body.TheVariants.{Grant, Draw, Void, Query}
 use Rattle.s10_wire.specs.declared.outcome.Outcome.{Outcome}
 use Rattle.s10_wire.specs.declared.outcome.Outcome.TheVariants.{Drawn}
 use Rattle.s10_book.specs.declared.entry.Entry.{Entry}
-use Rattle.s10_book.specs.declared.range.Range.{Range}
 use Rattle.s10_book.specs.declared.issuance.Issuance.{Issuance}
 use Rattle.s10_book.specs.Settings.{Terms}
-use Rattle.s10_book.specs.History.{day_of, ranges_held}
-use Rattle.s10_book.specs.Issues.{issues_of, is_of, last_issuance_of, is_free, is_free_since, id_at, pick_of, carried_by}
-use Rattle.s10_book.specs.Rules.{IsLegal, body_answer, outcome_of_pick, has_free_pick}
+use Rattle.s10_book.specs.History.{day_of}
+use Rattle.s10_book.specs.Issues.{issues_of, is_of, last_issuance_of, is_free, is_free_since}
+use Rattle.s10_book.specs.Rules.{IsLegal}
 use Rattle.s10_book.specs.Promises.{IsSpaced}
-use Rattle.s10_book.proofs.Ranges.{found_passes}
 use Rattle.s10_book.proofs.Carried.{made_by, after_call}
 use Rattle.s10_book.proofs.Legal.{legal_induction}
 

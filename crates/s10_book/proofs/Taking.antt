@@ -1,8 +1,8 @@
 -- A walk over ranges that takes picks from each in turn, until there are enough or no range is left.
-use Rattle.std.proofs.Common.{◌≡◌, ℕ, zero, suc, ◌+◌, ◌-◌, ◌<◌, ◌≤◌, Bool, true, false, cond, eqb, leb, ltb, List, [], ◌∷◌, ◌++◌, map, Option, Some, None, refl, sym, ap, ◌∙◌, inl, inr, arith, subst, length, append-nil, append_assoc, length-append}
-use Rattle.std.specs.Prelude.{find, filter, All, AllPairs, IsTrue, Contains}
+use Rattle.std.proofs.Common.{◌≡◌, ℕ, zero, suc, ◌-◌, ◌<◌, ◌≤◌, Bool, true, false, cond, leb, ltb, ◌&&◌, List, [], ◌∷◌, ◌++◌, map, Option, Some, None, refl, sym, ap, ◌∙◌, inl, inr, arith, subst, length, append-nil, append_assoc, length-append}
+use Rattle.std.specs.Prelude.{find, filter, AllPairs, Contains}
 use Rattle.std.specs.Option.{option_map}
-use Rattle.std.proofs.lemmas.Bool.{cases_Bool, cases_lt, leb-true, ltb-true, and_parts}
+use Rattle.std.proofs.lemmas.Bool.{cases_Bool, cases_lt, leb-true, ltb-true, ltb-false, and_parts}
 use Rattle.std.proofs.lemmas.List.{map-append}
 use Rattle.std.proofs.lemmas.List.Elements.{All-contains, filter_passes}
 use Rattle.s10_core.specs.declared.id.Id.{Id}
@@ -12,9 +12,10 @@ use Rattle.s10_book.specs.declared.issuance.Issuance.{Issuance}
 use Rattle.s10_book.specs.declared.issue.Issue.{Issue}
 use Rattle.s10_book.specs.declared.candidate.Candidate.{Candidate}
 use Rattle.s10_book.specs.Settings.{Terms}
-use Rattle.s10_book.specs.History.{ranges_of, lies_in}
-use Rattle.s10_book.specs.Issues.{issues_of, is_of, last_issuance_of, is_free_since, pick_of, id_at, serial_behind, serials_behind, size_of, candidate_after_of, last_issue_of}
-use Rattle.s10_book.specs.Rules.{IsLegal, has_free_pick}
+use Rattle.s10_book.specs.History.{ranges_of, is_held, ranges_held, lies_in}
+use Rattle.s10_book.specs.Issues.{issues_of, last_issuance_of, is_free_since, pick_of, id_at, serial_behind, serials_behind, size_of, candidate_after_of, free_pick_of}
+use Rattle.s10_book.specs.Rules.{IsLegal, has_free_pick, draws_in_a_row}
+use Rattle.std.proofs.lemmas.Option.{none-some, same_Some}
 use Rattle.s10_book.proofs.Ranges.{above, Numbered, numbered, filter_above, next_above, filter_none, Contains-find, found_passes}
 use Rattle.s10_book.proofs.Apart.{Apart, apart}
 use Rattle.s10_book.proofs.Carried.{Contains-filter}
@@ -23,7 +24,8 @@ use Rattle.s10_book.proofs.Issued.{last_issuance_of-push}
 use Rattle.s10_book.proofs.Spaced.{id_itself}
 use Rattle.s10_book.proofs.Drawing.{free_last}
 use Rattle.s10_book.proofs.Marks.{Turns, pick_turns, turns_inside, all_at_pick}
-use Rattle.s10_book.proofs.Rows.{IsBehind, behind, behind_within, behind_apart, behind_round, candidate_after_is, Ready, outside_other, ready_next, pick_outside, last_other, last_outside, free_outside, picks, picks_here, picks_past}
+use Rattle.s10_book.proofs.Alike.{alike_itself, row_is}
+use Rattle.s10_book.proofs.Rows.{IsBehind, behind, behind_within, behind_apart, behind_round, candidate_after_is, Ready, outside_other, ready_next, pick_outside, last_other, last_outside, picks, picks_here, picks_past}
 
 -- a range from which nothing was taken
 pub record Untouched (s : Range) (old is : List Issuance) : Type 0 where
@@ -258,3 +260,73 @@ at_round rs p made day n old count r k taken given all at =
           | inl yes' ↦ absurd (omega (arith, leb-true n (day - d) yes', same, given.interval))
           | inr no' ↦ no'
         ]
+
+-- an issue of the identifier on the day
+abbrev pub drawn_on : ℕ → Id → Issuance
+drawn_on day x = record { id = x; day = day; customer = 0; number = 0; arrival = 0 }
+
+-- the ranges and the issues of a legal history are as is asked
+pub given_legal : (h : List Entry) (t : Terms) (day n : ℕ) → IsLegal h t → 1 ≤ n → Given (ranges_of h) (drawn_on day) day n (issues_of h)
+given_legal h t day n legal pos = record {
+  numbers = numbered 1 h;
+  pairs = apart h t legal;
+  ready = all_at_pick h t legal;
+  same = λ x. refl;
+  same_day = λ x. refl;
+  interval = pos;
+}
+
+test_at : (b c : Bool) (y x : Id) (o : Option Id) → o ≡ cond (b && c) (Some y) None → o ≡ Some x → (b ≡ true) × (c ≡ true) × (y ≡ x)
+test_at true true y x o e is = (refl, refl, same_Some y x (sym e ∙ is))
+test_at true false y x o e is = absurd (none-some x (sym e ∙ is))
+test_at false true y x o e is = absurd (none-some x (sym e ∙ is))
+test_at false false y x o e is = absurd (none-some x (sym e ∙ is))
+
+-- the walk goes on where a pick was given
+pub at_given : (h : List Entry) (t : Terms) (p : Range → Bool) (day n count : ℕ) (r : Range) (k : ℕ) (taken : List Id) (o : Option Id) (x : Id) → IsLegal h t → 1 ≤ n → length taken < count
+    → o ≡ free_pick_of h r k day n → o ≡ Some x → IsAt (ranges_of h) p (drawn_on day) day n (issues_of h) count r k taken → IsAt (ranges_of h) p (drawn_on day) day n (issues_of h) count r (suc k) (taken ++ x ∷ [])
+at_given h t p day n count r k taken o x legal pos few e is at =
+    let c : Candidate = candidate_after_of h r k in
+    let test = test_at (ltb k (size_of r)) (is_free_since day n (option_map (λ (i : Issue). i.day) (candidate_after_of h r k).issue)) (id_at r (candidate_after_of h r k).serial) x o e is in
+    let lt : k < size_of r = ltb-true k (size_of r) test.0 in
+    let told = at_candidate h t p (drawn_on day) day n count r k taken (candidate_after_of h r k) true legal lt refl (sym test.1) at in
+    at_pick (ranges_of h) p (drawn_on day) day n (issues_of h) count r k taken x (given_legal h t day n legal pos) lt few (sym test.2 ∙ ap (id_at r) told.1) told.0 at
+
+untaken : (h : List Entry) (t : Terms) (p : Range → Bool) (day n count : ℕ) (r : Range) (k : ℕ) (taken : List Id) (b c : Bool) → IsLegal h t → 1 ≤ n → b ≡ ltb k (size_of r) → c ≡ is_free_since day n (option_map (λ (i : Issue). i.day) (candidate_after_of h r k).issue)
+    → cond (b && c) (Some (id_at r (candidate_after_of h r k).serial)) None ≡ None → IsAt (ranges_of h) p (drawn_on day) day n (issues_of h) count r k taken → has_free_pick (issues_of h ++ map (drawn_on day) taken) day n r ≡ false
+untaken h t p day n count r k taken true true legal pos e f is at = absurd (none-some (id_at r (candidate_after_of h r k).serial) (sym is))
+untaken h t p day n count r k taken true false legal pos e f is at = (at_candidate h t p (drawn_on day) day n count r k taken (candidate_after_of h r k) false legal (ltb-true k (size_of r) (sym e)) refl f at).0
+untaken h t p day n count r k taken false c legal pos e f is at =
+    at_round (ranges_of h) p (drawn_on day) day n (issues_of h) count r k taken (given_legal h t day n legal pos) (ltb-false k (size_of r) (sym e)) at
+
+-- no pick was given
+pub at_none_given : (h : List Entry) (t : Terms) (p : Range → Bool) (day n count : ℕ) (r : Range) (k : ℕ) (taken : List Id) (o : Option Id) → IsLegal h t → 1 ≤ n → o ≡ free_pick_of h r k day n → o ≡ None
+    → IsAt (ranges_of h) p (drawn_on day) day n (issues_of h) count r k taken → has_free_pick (issues_of h ++ map (drawn_on day) taken) day n r ≡ false
+at_none_given h t p day n count r k taken o legal pos e is at = untaken h t p day n count r k taken _ _ legal pos refl refl (sym e ∙ is) at
+
+pub row_of : (h : List Entry) (customer : ℕ) (s c : ℕ × ℕ) (day n count : ℕ) → draws_in_a_row h customer s c day n count ≡ picks (drawn_on day) day n (ranges_held h customer s c) (issues_of h) count
+row_of h customer s c day n count = row_is (drawn_on day) customer s c day n (λ x. refl) (λ x. refl) count h (issues_of h) (alike_itself (issues_of h))
+
+-- the walk has enough
+pub walked : (h : List Entry) (customer : ℕ) (s c : ℕ × ℕ) (day n count : ℕ) (r : Range) (k : ℕ) (taken : List Id) → count ≤ length taken
+    → IsAt (ranges_of h) (is_held customer s c) (drawn_on day) day n (issues_of h) count r k taken → Some taken ≡ draws_in_a_row h customer s c day n count
+walked h customer s c day n count r k taken enough at =
+    sym (row_of h customer s c day n count ∙ at_end (ranges_of h) (is_held customer s c) (drawn_on day) day n (issues_of h) count r k taken enough at)
+
+-- no range is left before there are enough
+pub walked_out : (h : List Entry) (t : Terms) (customer : ℕ) (s c : ℕ × ℕ) (day n count : ℕ) (r : Range) (k : ℕ) (taken : List Id) → IsLegal h t → 1 ≤ n → length taken < count
+    → has_free_pick (issues_of h ++ map (drawn_on day) taken) day n r ≡ false → find (above (is_held customer s c) r.num) (ranges_of h) ≡ None
+    → IsAt (ranges_of h) (is_held customer s c) (drawn_on day) day n (issues_of h) count r k taken → None ≡ draws_in_a_row h customer s c day n count
+walked_out h t customer s c day n count r k taken legal pos few spent none at =
+    sym (row_of h customer s c day n count
+    ∙ at_last (ranges_of h) (is_held customer s c) (drawn_on day) day n (issues_of h) count r k taken (given_legal h t day n legal pos) spent none few at)
+
+no_picks : (day n count : ℕ) (is : List Issuance) → 1 ≤ count → picks (drawn_on day) day n [] is count ≡ None
+no_picks day n zero is some = absurd (omega (arith, some))
+no_picks day n (suc k) is some = refl
+
+-- there was no range at all
+pub walked_nowhere : (h : List Entry) (customer : ℕ) (s c : ℕ × ℕ) (day n count : ℕ) → 1 ≤ count → find (above (is_held customer s c) 0) (ranges_of h) ≡ None → None ≡ draws_in_a_row h customer s c day n count
+walked_nowhere h customer s c day n count some none =
+    let empty : ranges_held h customer s c ≡ [] = sym (filter_above (is_held customer s c) 0 1 (ranges_of h) (omega arith) (numbered 1 h)) ∙ filter_none (above (is_held customer s c) 0) (ranges_of h) none in
+    sym (row_of h customer s c day n count ∙ ap (λ l. picks (drawn_on day) day n l (issues_of h) count) empty ∙ no_picks day n count (issues_of h) some)

@@ -1,5 +1,5 @@
 -- The issues of identifiers: when each was issued last, whether it is voided, and which serial a range gives next.
-use Rattle.std.specs.Prelude.{ℕ, zero, suc, ◌+◌, ◌-◌, ◌==◌, nat_le, Bool, true, false, not, if◌then◌else◌, List, [], ◌∷◌, ◌++◌, map, drop, Option, Some, None, find, filter}
+use Rattle.std.specs.Prelude.{ℕ, zero, suc, ◌+◌, ◌-◌, ◌==◌, nat_le, nat_lt, Bool, true, false, not, ◌&&◌, if◌then◌else◌, List, [], ◌∷◌, ◌++◌, map, drop, Option, Some, None, find, filter}
 use Rattle.std.specs.List.{list_any, last_or, range_with_len}
 use Rattle.std.specs.Option.{option_map, option_or, unwrap_or}
 use Rattle.s10_core.specs.declared.id.Id.{Id}
@@ -133,6 +133,13 @@ serials_behind r serial (suc count) = serial_behind r (serials_behind r serial c
 -- how many serials the range has
 abbrev pub size_of : Range → ℕ
 size_of r = r.last + 1 - r.first
+
+-- the identifier that the range gives behind so many picks of its own: none where each of its serials is among them, or
+-- where that one is not free on the day
+abbrev pub free_pick_of : List Entry → Range → ℕ → ℕ → ℕ → Option Id
+free_pick_of h r issued day interval =
+    let c = candidate_after_of h r issued in
+    if nat_lt issued (size_of r) && is_free_since day interval (option_map (λ i. i.day) c.issue) then Some (id_at r c.serial) else None
 
 -- the pick of the range and its last issue
 abbrev pub candidate_of : List Entry → Range → Candidate

@@ -1,8 +1,9 @@
--- What a report wrote, and what it did to the book's count of faults.
+-- What a report wrote, and what it did to the book's counts of faults.
 use Rattle.std.specs.Prelude.{◌≡◌, ℕ, ⊤, List, take, Option, Result, Ok, Err}
 use Rattle.std.specs.Io.KnownBytes.{Appends}
 use Rattle.s10_book.specs.declared.report_fault.ReportFault.{ReportFault}
 use Rattle.s10_book.specs.declared.report_fault.ReportFault.TheVariants.{Book, Write}
+use Rattle.s10_book.specs.declared.faults.Faults.{Faults}
 use Rattle.s10_book.specs.BookFault.{FaultCounts}
 use Rattle.s10_book.specs.Reports.{joined}
 
@@ -12,8 +13,8 @@ Reported old new lines (Ok _) = Appends old new (joined lines)
 Reported old new lines (Err (Book fault)) = (count : ℕ) × Appends old new (joined (take count lines))
 Reported old new lines (Err Write) = ⊤
 
--- the count is as before, but for a fault of the book
-abbrev pub CountsReport : {T : Type 0} → Result T ReportFault → ℕ → ℕ → Type 0
+-- the counts are as before, but for a fault of the book
+abbrev pub CountsReport : {T : Type 0} → Result T ReportFault → Faults → Faults → Type 0
 CountsReport (Ok _) before after = after ≡ before
 CountsReport (Err (Book fault)) before after = FaultCounts fault before after
 CountsReport (Err Write) before after = after ≡ before

@@ -11,15 +11,16 @@ use s10_core::{Country, Id, Serial, Service};
 ///
 /// A book may stand on something that can break, such as a disk. It is honest while that works as promised, and what is
 /// said of its history and its answers holds where it is honest as the call ends. A condition on the history is asked
-/// only where the book is honest as the call begins. What is said of its count of faults holds for every book: a call
-/// that answers Memory or Store counts one fault (the count stays at the greatest u64), any other answer none, and no
-/// call answers Full. After a fault history and settings are as before.
+/// only where the book is honest as the call begins. What is said of its counts of faults holds for every book: a call
+/// that answers Memory counts one fault of memory, a call that answers Store one of the store (a count stays at the
+/// greatest u64), any other answer none, and no call answers Full. After a fault history and settings are as before.
 pub trait Book {
     ghost use Rattle.s10_book.specs.declared.entry.Entry.{Entry};
+    ghost use Rattle.s10_book.specs.declared.faults.Faults.{Faults};
     ghost use Rattle.s10_book.specs.Settings.{Terms};
     ghost use Rattle.s10_wire.specs.Kind.{fits};
     ghost use Rattle.s10_book.specs.History.{entry_with_key, entry_at, day_of, ranges_of, is_held_above, overlaps};
-    ghost use Rattle.s10_book.specs.Issues.{last_issue_of, candidate_of};
+    ghost use Rattle.s10_book.specs.Issues.{last_issue_of, candidate_of, candidate_after_of, size_of};
     ghost use Rattle.s10_book.specs.Usage.{usage_of};
     ghost use Rattle.s10_book.specs.Rules.{MayFollow, IsLegal};
     ghost use Rattle.s10_book.specs.BookFault.{Counts};
@@ -32,8 +33,8 @@ pub trait Book {
     /// The settings.
     ghost terms: { Self → Terms };
 
-    /// How many faults there were.
-    ghost faults: { Self → ℕ };
+    /// How many faults there were, of each kind.
+    ghost faults: { Self → Faults };
 
     /// Whether what is under the book works as promised.
     ghost honest: { Self → Type 0 };
@@ -110,6 +111,15 @@ pub trait Book {
         ensures faults { Counts result (faults self.old) (faults self.new) }
         ensures keeps { Keeps history terms honest self.old self.new }
         ensures answer { honest self.new → IfOk result (λ c. c ≡ candidate_of (history self.old) range.now) };
+
+    /// The pick of one of the book's ranges behind so many issues of its own successive picks, fewer than it has serials, with
+    /// its last issue.
+    fn candidate_after(&mut self, range: &Range, issued: u8) -> Result<Candidate, BookFault>
+        requires there { honest self.old → Contains (ranges_of (history self.old)) range.now }
+        requires fewer { issued < size_of range.now }
+        ensures faults { Counts result (faults self.old) (faults self.new) }
+        ensures keeps { Keeps history terms honest self.old self.new }
+        ensures answer { honest self.new → IfOk result (λ c. c ≡ candidate_after_of (history self.old) range.now issued) };
 
     /// How many serials of one of the book's ranges were ever issued, are voided since their last issue, and are free on the greater of
     /// `day` and the day of the last kept call.

@@ -1,6 +1,6 @@
 use thiserror::Error;
 
-/// Why a book gave no answer. The call that was refused changed nothing but the count of faults.
+/// Why a book gave no answer. The call that was refused changed nothing but the counts of faults.
 #[derive(Clone, Copy, Debug, PartialEq, Eq, Error)]
 pub enum BookFault {
     /// Memory that the call needed was refused.

@@ -1,8 +1,10 @@
 //! Look-ups in the lists of a book in memory.
 
-ghost use Rattle.std.specs.Prelude.{◌≡◌, ◌==◌, find, not, count_by, false, ◌<◌, ◌^◌, ◌-◌, ◌+◌, ◌≤◌, if◌then◌else◌, option_to_list};
-ghost use Rattle.s10_book.specs.History.{has_key, entry_with_key, lies_in, range_of_grant, entry_at, is_held_above, overlaps};
-ghost use Rattle.s10_book.specs.Issues.{issues_of, issues_at, last_issue_of, candidate_of, is_of, last_issuance_of, voids, voided_after, is_issued, serial_issued_earliest, least_serial_unissued, id_at, serials, is_voided as is_voided_in, is_free as is_free_on};
+ghost use Rattle.std.specs.Prelude.{◌≡◌, ◌==◌, find, not, count_by, false, ◌<◌, ◌^◌, ◌-◌, ◌+◌, ◌≤◌, if◌then◌else◌, option_to_list, Contains};
+ghost use Rattle.s10_book.specs.History.{has_key, entry_with_key, lies_in, ranges_of, range_of_grant, entry_at, is_held_above, overlaps};
+ghost use Rattle.s10_book.specs.Settings.{Terms};
+ghost use Rattle.s10_book.specs.Rules.{IsLegal};
+ghost use Rattle.s10_book.specs.Issues.{issues_of, issues_at, last_issue_of, candidate_of, candidate_after_of, size_of, is_of, last_issuance_of, voids, voided_after, is_issued, serial_issued_earliest, least_serial_unissued, id_at, serials, is_voided as is_voided_in, is_free as is_free_on};
 ghost use Rattle.std.specs.Option.{option_map, unwrap_or};
 
 use crate::candidate::Candidate;
@@ -192,6 +194,28 @@ pub(crate) fn next_serial(entries: &[Entry], issues: &[Issuance], range: &Range)
             None => range.first,
         },
     };
+    let id = id_with(range, serial.value());
+    Candidate {
+        serial,
+        issue: last_state(entries, issues, &id),
+    }
+}
+
+// The pick behind so many of the range's own, with its last issue.
+pub(crate) fn serial_after(
+    entries: &[Entry],
+    issues: &[Issuance],
+    range: &Range,
+    issued: u8,
+) -> Candidate
+    requires issued { issues.now ≡ issues_of entries.now }
+    requires legal { (t : Terms) × IsLegal entries.now t }
+    requires there { Contains (ranges_of entries.now) range.now }
+    requires fewer { issued < size_of range.now }
+    ensures { result ≡ candidate_after_of entries.now range.now issued }
+{
+    let pick = next_serial(entries, issues, range);
+    let serial = range.serial_behind(pick.serial, issued);
     let id = id_with(range, serial.value());
     Candidate {
         serial,

@@ -3,20 +3,21 @@
 ghost use Rattle.std.specs.Prelude.{◌≡◌, ◌∷◌, ◌++◌, [], ⊤, OnOk, OnErr, IfOk, IfErr, IfSome, IsTrue, Contains, find, ◌==◌, ◌<◌, ◌+◌, vec_len, vec_capacity, option_to_list};
 ghost use Rattle.s10_wire.specs.Kind.{fits};
 ghost use Rattle.s10_book.specs.History.{ranges_of, entry_with_key, entry_at, is_held_above, overlaps};
-ghost use Rattle.s10_book.specs.Issues.{issues_of, last_issue_of, candidate_of};
+ghost use Rattle.s10_book.specs.Issues.{issues_of, last_issue_of, candidate_of, candidate_after_of, size_of};
 ghost use Rattle.s10_book.specs.Usage.{usage_of};
 ghost use Rattle.s10_book.specs.Rules.{IsLegal, MayFollow};
-ghost use Rattle.s10_book.specs.BookFault.{Counts};
+ghost use Rattle.s10_book.specs.BookFault.{Counts, no_faults};
 
 use crate::book::Book;
 use crate::book_fault::BookFault;
 use crate::candidate::Candidate;
 use crate::entry::Entry;
+use crate::faults::Faults;
 use crate::issuance::Issuance;
 use crate::issue::Issue;
 use crate::lists::{
     call_at, issue_made, kept_call, last_state, next_serial, range_after, range_made,
-    range_numbered, range_over, usage_in,
+    range_numbered, range_over, serial_after, usage_in,
 };
 use crate::range::Range;
 use crate::settings::Settings;
@@ -29,7 +30,7 @@ use std::alloc::{AllocError, Global};
 #[derive(Drop)]
 pub struct PlainBook {
     settings: Settings,
-    faults: u64,
+    faults: Faults,
     entries: Vec<Entry>,
     ranges: Vec<Range>,
     issues: Vec<Issuance>,
@@ -43,12 +44,12 @@ impl PlainBook {
     pub fn new(alloc: Global, settings: Settings) -> PlainBook
         ensures history { ⟦<PlainBook as Book>⟧.history result ≡ [] }
         ensures terms { ⟦<PlainBook as Book>⟧.terms result ≡ settings }
-        ensures faults { ⟦<PlainBook as Book>⟧.faults result ≡ 0 }
+        ensures faults { ⟦<PlainBook as Book>⟧.faults result ≡ no_faults }
         ensures honest { ⟦<PlainBook as Book>⟧.honest result }
     {
         PlainBook {
             settings,
-            faults: 0,
+            faults: Faults::none(),
             entries: Vec::new(alloc),
             ranges: Vec::new(alloc),
             issues: Vec::new(alloc),
@@ -178,6 +179,15 @@ impl Book for PlainBook {
         Ok(next_serial(&self.entries, &self.issues, range))
     }
 
+    fn candidate_after(&mut self, range: &Range, issued: u8) -> Result<Candidate, BookFault>
+        requires there { Contains (ranges_of (⟦<PlainBook as Book>⟧.history self.old)) range.now }
+        requires fewer { issued < size_of range.now }
+        ensures same { self.new ≡ self.old }
+        ensures answer { result ≡ Ok (candidate_after_of (⟦<PlainBook as Book>⟧.history self.old) range.now issued) }
+    {
+        Ok(serial_after(&self.entries, &self.issues, range, issued))
+    }
+
     fn usage(&mut self, range: &Range, day: u32) -> Result<Usage, BookFault>
         requires { Contains (ranges_of (⟦<PlainBook as Book>⟧.history self.old)) range.now }
         ensures same { self.new ≡ self.old }
@@ -199,7 +209,7 @@ impl Book for PlainBook {
         match self.add(entry) {
             Ok(()) => Ok(()),
             Err(_) => {
-                self.faults = self.faults.saturating_add(1);
+                self.faults.add(BookFault::Memory);
                 Err(BookFault::Memory)
             }
         }

@@ -18,8 +18,29 @@ pub struct Range {
 }
 
 impl Range {
-    ghost use Rattle.std.specs.Prelude.{◌≡◌};
+    ghost use Rattle.std.specs.Prelude.{◌≡◌, ◌≤◌, ◌<◌};
+    ghost use Rattle.s10_book.specs.Issues.{size_of, serials_behind};
     ghost use Rattle.s10_book.specs.History.{is_held, overlaps};
+
+    /// How many serials it has.
+    pub fn size(&self) -> u32
+        ensures { result ≡ size_of self.now }
+    {
+        (self.last.value() + 1).saturating_sub(self.first.value())
+    }
+
+    /// The serial that it gives so many behind one of its own, fewer than it has, going round: behind its last serial comes
+    /// its first again.
+    pub fn serial_behind(&self, serial: Serial, count: u8) -> Serial
+        ensures { self.now.first ≤ serial → serial ≤ self.now.last → count < size_of self.now → result ≡ serials_behind self.now serial count }
+    {
+        let next = serial.value() + u32::from(count);
+        if next <= self.last.value() {
+            Serial::new(next).unwrap_or(serial)
+        } else {
+            Serial::new(next - self.size()).unwrap_or(serial)
+        }
+    }
 
     /// Whether the customer is its holder and its identifiers are of that service indicator and
     /// country code.

@@ -190,7 +190,7 @@ fn decide_query<B: Book>(book: &mut B, customer: u32, id: &Id) -> Result<Outcome
 }
 
 /// The outcome of a request by the rules, on a day that is not before the book's. Nothing is kept. Refused with Memory
-/// or Store where a call of the book was; that it is the same of the two is not promised.
+/// or Store where a call of the book was, with the same of the two.
 pub fn decide<B: Book>(book: &mut B, request: &Request, day: u32) -> Result<Outcome, BookFault>
     requires { B.honest book.old → day_of (B.history book.old) ≤ day }
     ensures faults { Counts result (B.faults book.old) (B.faults book.new) }

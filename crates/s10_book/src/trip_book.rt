@@ -2,7 +2,7 @@
 
 ghost use Rattle.std.specs.Prelude.{◌≡◌, ◌||◌, false};
 ghost use Rattle.std.specs.Bool.{OnTrue};
-ghost use Rattle.s10_book.specs.BookFault.{trip_count};
+ghost use Rattle.s10_book.specs.BookFault.{with_trip};
 
 use crate::book::Book;
 use crate::book_fault::BookFault;
@@ -64,7 +64,7 @@ impl<B: Book> Book for TripBook<B> {
 
     ghost terms = { λ b. B.terms b.inner };
 
-    ghost faults = { λ b. trip_count b.tripped (B.faults b.inner) };
+    ghost faults = { λ b. with_trip b.tripped (B.faults b.inner) };
 
     ghost honest = { λ b. B.honest b.inner };
 
@@ -141,6 +141,13 @@ impl<B: Book> Book for TripBook<B> {
             return Err(BookFault::Store);
         }
         self.inner.candidate(range)
+    }
+
+    fn candidate_after(&mut self, range: &Range, issued: u8) -> Result<Candidate, BookFault> {
+        if self.trips() {
+            return Err(BookFault::Store);
+        }
+        self.inner.candidate_after(range, issued)
     }
 
     fn usage(&mut self, range: &Range, day: u32) -> Result<Usage, BookFault> {

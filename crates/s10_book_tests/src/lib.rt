@@ -8,6 +8,10 @@ mod books;
 #[cfg(test)]
 mod failures;
 #[cfg(test)]
+mod in_a_row;
+#[cfg(test)]
+mod ranges;
+#[cfg(test)]
 mod reads;
 #[cfg(test)]
 mod reports;

@@ -1,9 +1,9 @@
 //! Which call of a book that fails once is the one that fails.
 
 use crate::books::{OPENING, answer, empty_book, first_unlike, id};
-use s10_book::{Book, BookFault, ReportFault, TripBook, decide, write_ranges};
+use s10_book::{Book, BookFault, ReportFault, TripBook, decide, draws_in_a_row, write_ranges};
 use s10_core::Id;
-use s10_wire::{Body, Request};
+use s10_wire::{Body, Count, Request};
 use std::alloc::Global;
 use std::test::Fail;
 
@@ -18,6 +18,8 @@ enum Question {
     LastIssue,
     /// What a Draw would be given: the customer's range is looked for, and its candidate.
     Candidate,
+    /// What a sheet of one label would be given: the customer's range is looked for, and its pick behind none.
+    Sheet,
     /// The report of the ranges: range 1 is looked for, and its usage.
     Usage,
     /// A Query of the post with a new number: its key, the range of the identifier and its last issue are looked for,
@@ -26,7 +28,7 @@ enum Question {
 }
 
 /// Each question, and how many calls of the book it takes.
-const QUESTIONS: [(Question, u64); 9] = [
+const QUESTIONS: [(Question, u64); 10] = [
     (Question::Find, 1),
     (Question::Entry, 1),
     (Question::Range, 1),
@@ -34,6 +36,7 @@ const QUESTIONS: [(Question, u64); 9] = [
     (Question::Covering, 1),
     (Question::LastIssue, 1),
     (Question::Candidate, 2),
+    (Question::Sheet, 2),
     (Question::Usage, 2),
     (Question::Keep, 4),
 ];
@@ -61,6 +64,13 @@ fn report<B: Book>(alloc: Global, book: &mut B) -> Result<(), BookFault> {
         Err(ReportFault::Book(fault)) => Err(fault),
         Err(ReportFault::Write) => Err(BookFault::Memory),
     }
+}
+
+fn sheet_of_one<B: Book>(book: &mut B, id: &Id) -> Result<(), BookFault> {
+    if let Some(one) = Count::new(1) {
+        draws_in_a_row(book, 7, id.service, id.country, one, 20_000)?;
+    }
+    Ok(())
 }
 
 fn ask<B: Book>(
@@ -92,6 +102,9 @@ fn ask<B: Book>(
         Question::Candidate => {
             let day = book.day().max(20_000);
             decide(book, &asked(7, number, draw_of(id)), day)?;
+        }
+        Question::Sheet => {
+            sheet_of_one(book, id)?;
         }
         Question::Usage => {
             report(alloc, book)?;

@@ -15,7 +15,6 @@ use Rattle.s10_wire.specs.declared.request.Request.{Request}
 use Rattle.s10_wire.specs.declared.outcome.Outcome.{Outcome}
 use Rattle.s10_wire.specs.declared.outcome.Outcome.TheVariants.{Drawn}
 use Rattle.s10_wire.specs.Datagrams.{datagram, outcome_bytes, IsOutcome, Replies}
-use Rattle.s10_wire.specs.Frame.{frame_bytes}
 use Rattle.s10_wire.proofs.Replied.{one_reply}
 use Rattle.s10_book.specs.declared.entry.Entry.{Entry}
 use Rattle.s10_book.specs.Settings.{Terms}
@@ -114,7 +113,7 @@ owed_issued h asked b owed q o is place day x there =
     (spelled b q o place (day, x) is there, subst Q one.0 (has_issue h owed.0 day x call))
 
 answer_issued : (h : List Entry) (b : List ℕ) (a : Answer) → IsAnswered h b a → IsIssued h a
-answer_issued h b (Reply frame) is = owed_issued h b (frame_bytes frame) is
+answer_issued h b (Reply frame) is = owed_issued h b frame is
 answer_issued h b (Dropped f) is = tt
 answer_issued h b (Faulted f) is = tt
 

@@ -11,7 +11,6 @@ use Rattle.s10_wire.specs.declared.outcome.Outcome.{Outcome}
 use Rattle.s10_wire.specs.declared.reply.Reply.{Reply}
 use Rattle.s10_link.specs.declared.link_fault.LinkFault.{LinkFault}
 use Rattle.s10_link.specs.declared.link_fault.LinkFault.TheVariants.{Bind, Receive, Send, Spent}
-use Rattle.s10_link.specs.Packet.{packet_bytes}
 use Rattle.s10_wire.specs.Datagrams.{Replies}
 use Rattle.s10_link.specs.Trace.{after_call, after_datagram}
 use Rattle.s10_link.specs.Link.{Receives as LinkReceives}
@@ -123,7 +122,7 @@ pub unanswered_call : (t m m' : Trace) (pending : Option Request) → IsUnanswer
 unanswered_call t m m' pending u is = let P : Trace → Type 0 = λ x. IsUnanswered t x pending in subst P (sym is) u
 
 pub unanswered_datagram : (t m m' : Trace) (pending : Option Request) (from : Peer) (packet : Packet) → IsUnanswered t m pending → m' ≡ after_datagram m (from, packet)
-    → ((q : Request) → pending ≡ Some q → (o : Outcome) → ¬ (Replies (packet_bytes packet) q o)) → IsUnanswered t m' pending
+    → ((q : Request) → pending ≡ Some q → (o : Outcome) → ¬ (Replies packet q o)) → IsUnanswered t m' pending
 unanswered_datagram t m m' pending from packet u is other =
     let received : m'.received ≡ m.received + 1 = ap (λ (x : Trace). x.received) is in
     let before : t.received ≤ m.received = elim u [ inl w ↦ omega (arith, w.0) | inr w ↦ omega (arith, w.0) ] in
@@ -148,12 +147,20 @@ unaccepted c c' b NotMine r other some =
     (r.6, own)
 unaccepted c c' b (Accepted reply) r other some = absurd (other reply refl)
 
+-- so of the packet with these bytes, and of what was pending before
+pub unaccepted_packet : (c c0 : ClientState) (b : List ℕ) (packet : Packet) → c ≡ c0 → b ≡ packet → ((q : Request) → c.pending ≡ Some q → (o : Outcome) → ¬ (Replies b q o))
+    → (q : Request) → c0.pending ≡ Some q → (o : Outcome) → ¬ (Replies packet q o)
+unaccepted_packet c c0 b packet client is none =
+    let P : List ℕ → Type 0 = λ x. (q : Request) → c0.pending ≡ Some q → (o : Outcome) → ¬ (Replies x q o) in
+    let Q : ClientState → Type 0 = λ s. (q : Request) → s.pending ≡ Some q → (o : Outcome) → ¬ (Replies b q o) in
+    subst P is (subst Q client none)
+
 -- a receive in which nothing came
 pub quiet_is : (old new : Trace) (o : Option (Peer × Packet)) → LinkReceives old new (Ok o) → o ≡ None → new ≡ after_call old
 quiet_is old new o received is = let P : Option (Peer × Packet) → Type 0 = λ x. LinkReceives old new (Ok x) in subst P is received
 
 -- a datagram that was accepted is the reply to what was pending
-pub accepted_reply : (c0 c c' : ClientState) (b : List ℕ) (t : Trace) (from : Peer) (packet : Packet) (reply : Reply) → c ≡ c0 → b ≡ packet_bytes packet → Receives c b (Accepted reply) c'
+pub accepted_reply : (c0 c c' : ClientState) (b : List ℕ) (t : Trace) (from : Peer) (packet : Packet) (reply : Reply) → c ≡ c0 → b ≡ packet → Receives c b (Accepted reply) c'
     → t.taken ≡ Some (from, packet) → (c0.pending ≡ Some (request_of reply)) × (c' ≡ settled c0) × IsTakenReply t reply
 accepted_reply c0 c c' b t from packet reply client is accepted taken =
     let P : List ℕ → Type 0 = λ x. Replies x (request_of reply) (outcome_of reply) in

@@ -7,7 +7,6 @@ use Rattle.s10_wire.specs.declared.outcome.Outcome.{Outcome}
 use Rattle.s10_wire.specs.declared.wire_fault.WireFault.{WireFault}
 use Rattle.s10_wire.specs.declared.frame.Frame.{Frame}
 use Rattle.s10_wire.specs.Datagrams.{Asks, Replies}
-use Rattle.s10_wire.specs.Frame.{frame_bytes}
 use Rattle.s10_wire.specs.WireFault.{IsFirstRefusalOfRequest}
 use Rattle.s10_book.specs.declared.entry.Entry.{Entry}
 use Rattle.s10_book.specs.declared.book_fault.BookFault.{BookFault}
@@ -31,7 +30,7 @@ Served-dropped h t b day fault asks refused =
     record { once_each = ([], nothing asks none, refl); answered = ((asks, refused), tt); full = λ k d is at. absurd (not_full (Dropped fault) k (λ e. cc) at) }
 
 pub Served-reply : (h h' : List Entry) (t : Terms) (b : List ℕ) (day : ℕ) (q : Request) (o : Outcome) (frame : Frame) → Asks b q → h' ≡ applied_once h ((q, day) ∷ []) t.interval
-    → Gives (entry_with_key h' q.customer q.number) q o → Replies (frame_bytes frame) q o → Served h t ((b, day) ∷ []) (Reply frame ∷ []) h'
+    → Gives (entry_with_key h' q.customer q.number) q o → Replies frame q o → Served h t ((b, day) ∷ []) (Reply frame ∷ []) h'
 Served-reply h h' t b day q o frame asks applied gives replies =
     record { once_each = ((q, day) ∷ [], request asks none, applied); answered = ((q, o, asks, gives, replies), tt); full = λ k d is at. absurd (not_full (Reply frame) k (λ e. cc) at) }
 

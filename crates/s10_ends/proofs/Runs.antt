@@ -6,6 +6,7 @@ use Rattle.std.proofs.lemmas.List.{map-append}
 use Rattle.std.proofs.lemmas.List.Sums.{sum_by_push}
 use Rattle.s10_book.specs.declared.entry.Entry.{Entry}
 use Rattle.s10_book.specs.declared.book_fault.BookFault.TheVariants.{Memory, Store, Full}
+use Rattle.s10_book.specs.declared.faults.Faults.{Faults}
 use Rattle.s10_book.specs.Settings.{Terms}
 use Rattle.s10_book.specs.Rules.{IsLegal}
 use Rattle.s10_book.specs.BookFault.{Rises}
@@ -16,38 +17,56 @@ use Rattle.s10_ends.specs.declared.answer.Answer.{Answer}
 use Rattle.s10_ends.specs.declared.answer.Answer.TheVariants.{Reply, Dropped, Faulted}
 use Rattle.s10_ends.specs.declared.delivery.Delivery.{Delivery}
 use Rattle.s10_ends.specs.Served.{Dated, Served, CountsAnswer}
-use Rattle.s10_ends.specs.Runs.{dated, is_book_fault, CountsAll, IsKept}
+use Rattle.s10_ends.specs.Runs.{dated, is_memory, is_store, CountsEach, CountsAll, IsKept}
 use Rattle.s10_ends.proofs.Whole.{Served-push}
 
-pub CountsAll-nil : (n : ℕ) → CountsAll [] n n
-CountsAll-nil n = record { at_most = omega arith; never_falls = omega arith; each = λ _. omega arith }
+none_counted : (kind : Answer → Bool) (n : ℕ) → CountsEach kind [] n n
+none_counted kind n = record { at_most = omega arith; never_falls = omega arith; each = λ _. omega arith }
 
-more_same : (ans : List Answer) (a : Answer) (x y z : ℕ) → CountsAll ans x y → is_book_fault a ≡ false → z ≡ y → CountsAll (ans ++ a ∷ []) x z
-more_same ans a x y z counts no' same =
-    let e : count_by is_book_fault (ans ++ a ∷ []) ≡ count_by is_book_fault ans + 0 = sum_by_push _ ans a ∙ ap (λ (b : Bool). count_by is_book_fault ans + cond b 1 0) no' in
+pub CountsAll-nil : (faults : Faults) → CountsAll [] faults faults
+CountsAll-nil faults = record { memory = none_counted is_memory faults.memory; store = none_counted is_store faults.store }
+
+more_same : (kind : Answer → Bool) (ans : List Answer) (a : Answer) (x y z : ℕ) → CountsEach kind ans x y → kind a ≡ false → z ≡ y → CountsEach kind (ans ++ a ∷ []) x z
+more_same kind ans a x y z counts no' same =
+    let e : count_by kind (ans ++ a ∷ []) ≡ count_by kind ans + 0 = sum_by_push _ ans a ∙ ap (λ (b : Bool). count_by kind ans + cond b 1 0) no' in
     record { at_most = omega (arith, e, counts.at_most); never_falls = omega (arith, counts.never_falls); each = λ lt. omega (arith, e, same, counts.each (omega arith)) }
 
-more_risen : (ans : List Answer) (a : Answer) (x y z : ℕ) → CountsAll ans x y → is_book_fault a ≡ true → Rises y z → CountsAll (ans ++ a ∷ []) x z
-more_risen ans a x y z counts yes' rises =
-    let e : count_by is_book_fault (ans ++ a ∷ []) ≡ count_by is_book_fault ans + 1 = sum_by_push _ ans a ∙ ap (λ (b : Bool). count_by is_book_fault ans + cond b 1 0) yes' in
+more_risen : (kind : Answer → Bool) (ans : List Answer) (a : Answer) (x y z : ℕ) → CountsEach kind ans x y → kind a ≡ true → Rises y z → CountsEach kind (ans ++ a ∷ []) x z
+more_risen kind ans a x y z counts yes' rises =
+    let e : count_by kind (ans ++ a ∷ []) ≡ count_by kind ans + 1 = sum_by_push _ ans a ∙ ap (λ (b : Bool). count_by kind ans + cond b 1 0) yes' in
     record {
       at_most = omega (arith, e, counts.at_most, rises.by_one);
       never_falls = omega (arith, counts.never_falls, rises.never_falls);
       each = λ lt.
-          let few : count_by is_book_fault ans + x ≤ y = omega (arith, counts.each (omega (arith, rises.never_falls, lt))) in
+          let few : count_by kind ans + x ≤ y = omega (arith, counts.each (omega (arith, rises.never_falls, lt))) in
           elim (cases_lt y z) [
             | inl up ↦ omega (arith, e)
             | inr ge ↦ absurd (omega (arith, lt, rises.unless_greatest (omega (arith, rises.never_falls))))
           ];
     }
 
+neither : (ans : List Answer) (a : Answer) (x y z : Faults) → CountsAll ans x y → is_memory a ≡ false → is_store a ≡ false → z ≡ y → CountsAll (ans ++ a ∷ []) x z
+neither ans a x y z counts no_memory no_store same =
+    record {
+      memory = more_same is_memory ans a x.memory y.memory z.memory counts.memory no_memory (ap (λ (f : Faults). f.memory) same);
+      store = more_same is_store ans a x.store y.store z.store counts.store no_store (ap (λ (f : Faults). f.store) same);
+    }
+
 -- one more answer
-pub CountsAll-push : (ans : List Answer) (a : Answer) (x y z : ℕ) → CountsAll ans x y → CountsAnswer a y z → CountsAll (ans ++ a ∷ []) x z
-CountsAll-push ans (Reply frame) x y z counts step = more_same ans (Reply frame) x y z counts refl step
-CountsAll-push ans (Dropped fault) x y z counts step = more_same ans (Dropped fault) x y z counts refl step
-CountsAll-push ans (Faulted Memory) x y z counts step = more_risen ans (Faulted Memory) x y z counts refl step
-CountsAll-push ans (Faulted Store) x y z counts step = more_risen ans (Faulted Store) x y z counts refl step
-CountsAll-push ans (Faulted Full) x y z counts step = more_same ans (Faulted Full) x y z counts refl step
+pub CountsAll-push : (ans : List Answer) (a : Answer) (x y z : Faults) → CountsAll ans x y → CountsAnswer a y z → CountsAll (ans ++ a ∷ []) x z
+CountsAll-push ans (Reply frame) x y z counts step = neither ans (Reply frame) x y z counts refl refl step
+CountsAll-push ans (Dropped fault) x y z counts step = neither ans (Dropped fault) x y z counts refl refl step
+CountsAll-push ans (Faulted Memory) x y z counts step =
+    record {
+      memory = more_risen is_memory ans (Faulted Memory) x.memory y.memory z.memory counts.memory refl step.0;
+      store = more_same is_store ans (Faulted Memory) x.store y.store z.store counts.store refl step.1;
+    }
+CountsAll-push ans (Faulted Store) x y z counts step =
+    record {
+      memory = more_same is_memory ans (Faulted Store) x.memory y.memory z.memory counts.memory refl step.1;
+      store = more_risen is_store ans (Faulted Store) x.store y.store z.store counts.store refl step.0;
+    }
+CountsAll-push ans (Faulted Full) x y z counts step = neither ans (Faulted Full) x y z counts refl refl step
 
 -- one more delivery
 pub Served-map_push : (h h1 h2 : List Entry) (t t1 : Terms) (ds : List Delivery) (ans : List Answer) (d : Delivery) (a : Answer)

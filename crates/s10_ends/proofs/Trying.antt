@@ -12,7 +12,6 @@ use Rattle.std.proofs.lemmas.Option.{same_Some}
 use Rattle.s10_wire.specs.declared.body.Body.{Body}
 use Rattle.s10_wire.specs.declared.reply.Reply.{Reply}
 use Rattle.s10_wire.specs.Datagrams.{Asks}
-use Rattle.s10_wire.specs.Frame.{frame_bytes}
 use Rattle.s10_wire.specs.Reply.{request_of}
 use Rattle.s10_ends.specs.declared.call_fault.CallFault.TheVariants.{GaveUp, Link}
 use Rattle.s10_ends.specs.Client.{ClientState, next_request, after_submit, submit_fault, settled}
@@ -183,12 +182,12 @@ unanswered_again t m s t' p pending before g after =
 
 -- the reply to what is pending was accepted
 pub accepted_call : (c c1 c' : ClientState) (t m t' : Trace) (to : Peer) (body : Body) (tries k : ℕ) (frame : Frame) (q : Request) (reply : Reply)
-    → None ≡ submit_fault c → q ≡ next_request c body → Asks (frame_bytes frame) q → c1 ≡ after_submit c body → Tried t m (to, frame) k 0 → k < tries
+    → None ≡ submit_fault c → q ≡ next_request c body → Asks frame q → c1 ≡ after_submit c body → Tried t m (to, frame) k 0 → k < tries
     → Attempts c1 c' m t' (to, frame) (Ok (Some reply)) → Calls c c' t t' to body tries (Ok reply)
 accepted_call c c1 c' t m t' to body tries k frame q reply free own asks client tried few found =
     let heard : Heard found.0 t' 0 = found.2.0 in
     let pends : Some (next_request c body) ≡ Some (request_of reply) = sym (ap (λ (x : ClientState). x.pending) client) ∙ found.2.2 in
-    let P : Request → Type 0 = λ x. Asks (frame_bytes frame) x in (
+    let P : Request → Type 0 = λ x. Asks frame x in (
       record { submitted = sym free; client = found.2.3 ∙ ap settled client },
       sym (same_Some _ _ pends),
       found.2.4,
@@ -214,7 +213,7 @@ still_unanswered c1 c' t m t' p q pends before found =
 
 -- the link refused a call
 pub stopped_call : (c c1 c2 c' : ClientState) (t m t' : Trace) (to : Peer) (body : Body) (tries k : ℕ) (frame : Frame) (q : Request) (fault : LinkFault)
-    → None ≡ submit_fault c → q ≡ next_request c body → Asks (frame_bytes frame) q → c1 ≡ after_submit c body → Tried t m (to, frame) k 0 → k < tries
+    → None ≡ submit_fault c → q ≡ next_request c body → Asks frame q → c1 ≡ after_submit c body → Tried t m (to, frame) k 0 → k < tries
     → Attempts c1 c2 m t' (to, frame) (Err fault) → c' ≡ settled c2 → Calls c c' t t' to body tries (Err (Link q fault))
 stopped_call c c1 c2 c' t m t' to body tries k frame q fault free own asks client tried few (inl unsent) given_up = (
   record { submitted = sym free; client = given_up ∙ ap settled (unsent.1 ∙ client) },
@@ -233,7 +232,7 @@ stopped_call c c1 c2 c' t m t' to body tries k frame q fault free own asks clien
 
 -- no try found a reply
 pub gave_up_call : (c c1 c' : ClientState) (t t' : Trace) (to : Peer) (body : Body) (tries k : ℕ) (frame : Frame) (q : Request)
-    → None ≡ submit_fault c → q ≡ next_request c body → Asks (frame_bytes frame) q → c1 ≡ after_submit c body → Tried t t' (to, frame) k 0 → k ≡ tries
+    → None ≡ submit_fault c → q ≡ next_request c body → Asks frame q → c1 ≡ after_submit c body → Tried t t' (to, frame) k 0 → k ≡ tries
     → IsUnanswered t t' (Some (next_request c body)) → c' ≡ settled c1 → Calls c c' t t' to body tries (Err (GaveUp q))
 gave_up_call c c1 c' t t' to body tries k frame q free own asks client tried all unanswered given_up =
     let P : ℕ → Type 0 = λ n. Tried t t' (to, frame) n 0 in (

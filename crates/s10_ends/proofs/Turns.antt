@@ -7,7 +7,6 @@ use Rattle.s10_link.specs.declared.packet.Packet.{Packet}
 use Rattle.s10_wire.specs.declared.frame.Frame.{Frame}
 use Rattle.s10_link.specs.declared.link_fault.LinkFault.{LinkFault}
 use Rattle.s10_link.specs.declared.link_fault.LinkFault.TheVariants.{Bind, Receive, Send, Spent}
-use Rattle.s10_link.specs.Packet.{packet_bytes}
 use Rattle.s10_link.specs.Trace.{after_datagram, Gives, after_failure}
 use Rattle.s10_link.specs.Link.{Receives, Sends}
 use Rattle.s10_ends.specs.declared.answer.Answer.{Answer}
@@ -26,13 +25,13 @@ taken_is old new o p received is = let P : Option (Peer × Packet) → Type 0 = 
 
 -- an answer that is no reply
 pub takes : (old new : Trace) (handles : List ℕ → Answer → Type 0) (from : Peer) (packet : Packet) (b : List ℕ) (answer : Answer)
-    → new ≡ after_datagram old (from, packet) → b ≡ packet_bytes packet → handles b answer → Takes old new handles from answer
+    → new ≡ after_datagram old (from, packet) → b ≡ packet → handles b answer → Takes old new handles from answer
 takes old new handles from packet b answer taken is handled =
     let P : List ℕ → Type 0 = λ x. handles x answer in (packet, taken, subst P is handled)
 
 -- a reply that was not sent
 reply_unsent : (old mid new : Trace) (same : Type 0) (handles : List ℕ → Answer → Type 0) (from : Peer) (packet : Packet) (b : List ℕ) (frame : Frame) (fault : LinkFault)
-    → mid ≡ after_datagram old (from, packet) → b ≡ packet_bytes packet → handles b (answers.Reply frame) → Sends mid new (from, frame) (Err fault)
+    → mid ≡ after_datagram old (from, packet) → b ≡ packet → handles b (answers.Reply frame) → Sends mid new (from, frame) (Err fault)
     → ServesOne old new same handles (Err fault)
 reply_unsent old mid new same handles from packet b frame Send taken is handled sent =
     let P : List ℕ → Type 0 = λ x. handles x (answers.Reply frame) in
@@ -45,7 +44,7 @@ reply_unsent old mid new same handles from packet b frame Bind taken is handled 
 
 -- a reply
 pub reply_sent : (old mid new : Trace) (same : Type 0) (handles : List ℕ → Answer → Type 0) (from : Peer) (packet : Packet) (b : List ℕ) (frame : Frame) (result : Result Served LinkFault)
-    → mid ≡ after_datagram old (from, packet) → b ≡ packet_bytes packet → handles b (answers.Reply frame) → SendsReply mid new (from, frame) result
+    → mid ≡ after_datagram old (from, packet) → b ≡ packet → handles b (answers.Reply frame) → SendsReply mid new (from, frame) result
     → ServesOne old new same handles result
 reply_sent old mid new same handles from packet b frame (Ok served) taken is handled sent =
     let P : List ℕ → Type 0 = λ x. handles x (answers.Reply frame) in

@@ -11,8 +11,6 @@ use Rattle.s10_wire.specs.declared.frame.Frame.{Frame}
 use Rattle.s10_link.specs.declared.link_fault.LinkFault.{LinkFault}
 use Rattle.s10_link.specs.declared.link_fault.LinkFault.TheVariants.{Bind, Receive, Send, Spent}
 use Rattle.s10_wire.specs.Datagrams.{Asks, Replies}
-use Rattle.s10_wire.specs.Frame.{frame_bytes}
-use Rattle.s10_link.specs.Packet.{packet_bytes}
 use Rattle.s10_wire.specs.Reply.{request_of, outcome_of}
 use Rattle.s10_link.specs.Trace.{Gives}
 use Rattle.s10_link.specs.Link.{Sends}
@@ -23,11 +21,11 @@ use Rattle.s10_ends.specs.Client.{ClientState, next_request, after_submit, submi
 -- the datagram taken last is the reply
 abbrev pub IsTakenReply : Trace → Reply → Type 0
 IsTakenReply t reply =
-    (from : Peer) × (packet : Packet) × (t.taken ≡ Some (from, packet)) × Replies (packet_bytes packet) (request_of reply) (outcome_of reply)
+    (from : Peer) × (packet : Packet) × (t.taken ≡ Some (from, packet)) × Replies packet (request_of reply) (outcome_of reply)
 
 -- the datagram taken last is no reply to the request
 abbrev pub IsNoReply : Trace → Request → Type 0
-IsNoReply t q = (from : Peer) × (packet : Packet) × (t.taken ≡ Some (from, packet)) × ((o : Outcome) → ¬ (Replies (packet_bytes packet) q o))
+IsNoReply t q = (from : Peer) × (packet : Packet) × (t.taken ≡ Some (from, packet)) × ((o : Outcome) → ¬ (Replies packet q o))
 
 -- how many failures a fault of a link counts
 abbrev pub failures_of : LinkFault → ℕ
@@ -85,15 +83,15 @@ pub record IsOver (c c' : ClientState) (body : Body) : Type 0 where
 abbrev pub Calls : ClientState → ClientState → Trace → Trace → Peer → Body → ℕ → Result Reply CallFault → Type 0
 Calls c c' t t' to body tries (Ok reply) =
     IsOver c c' body × (request_of reply ≡ next_request c body) × IsTakenReply t' reply
-    × (frame : Frame) × Asks (frame_bytes frame) (next_request c body)
+    × (frame : Frame) × Asks frame (next_request c body)
     × (n : ℕ) × (1 ≤ n) × (n ≤ tries) × Tried t t' (to, frame) n 1
 Calls c c' t t' to body tries (Err (Submit fault)) = (submit_fault c ≡ Some fault) × (c' ≡ c) × (t' ≡ t)
 Calls c c' t t' to body tries (Err (GaveUp q)) =
     IsOver c c' body × (q ≡ next_request c body) × (t.received < t'.received → IsNoReply t' q)
-    × (frame : Frame) × Asks (frame_bytes frame) q × Tried t t' (to, frame) tries 0
+    × (frame : Frame) × Asks frame q × Tried t t' (to, frame) tries 0
 Calls c c' t t' to body tries (Err (Link q fault)) =
     IsOver c c' body × (q ≡ next_request c body)
-    × (frame : Frame) × Asks (frame_bytes frame) q × Stopped t t' (to, frame) tries fault
+    × (frame : Frame) × Asks frame q × Stopped t t' (to, frame) tries fault
 
 -- receives of one try: at most eight, with so many failures
 pub record Heard (old new : Trace) (failed : ℕ) : Type 0 where

@@ -4,7 +4,6 @@ use Rattle.s10_wire.specs.declared.body.Body.{Body}
 use Rattle.s10_wire.specs.declared.request.Request.{Request}
 use Rattle.s10_wire.specs.declared.outcome.Outcome.{Outcome}
 use Rattle.s10_wire.specs.declared.frame.Frame.{Frame}
-use Rattle.s10_wire.specs.Frame.{frame_bytes}
 use Rattle.s10_wire.specs.Datagrams.{Asks, Replies}
 use Rattle.s10_wire.specs.WireFault.{IsFirstRefusalOfReply}
 use Rattle.s10_wire.specs.Reply.{request_of, outcome_of}
@@ -65,7 +64,7 @@ abbrev pub Resends : Option Request → Option Frame → Type 0
 Resends None None = ⊤
 Resends None (Some frame) = ⊥
 Resends (Some q) None = ⊥
-Resends (Some q) (Some frame) = Asks (frame_bytes frame) q
+Resends (Some q) (Some frame) = Asks frame q
 
 -- the bytes are a reply to exactly what is pending
 abbrev pub IsOwnReply : ClientState → List ℕ → Request → Outcome → Type 0

@@ -8,10 +8,9 @@ use Rattle.s10_wire.specs.declared.outcome.Outcome.{Outcome}
 use Rattle.s10_wire.specs.declared.kind.Kind.{Kind}
 use Rattle.s10_wire.specs.Kind.{kind_of, request_length}
 use Rattle.s10_wire.specs.Datagrams.{Replies}
-use Rattle.s10_wire.specs.Frame.{frame_bytes}
 use Rattle.s10_book.specs.declared.entry.Entry.{Entry}
-use Rattle.s10_book.specs.declared.book_fault.BookFault.{BookFault}
-use Rattle.s10_book.specs.declared.book_fault.BookFault.TheVariants.{Memory, Store, Full}
+use Rattle.s10_book.specs.declared.book_fault.BookFault.TheVariants.{Memory, Store}
+use Rattle.s10_book.specs.declared.faults.Faults.{Faults}
 use Rattle.s10_book.specs.Settings.{Terms}
 use Rattle.s10_book.specs.Issues.{carried_by, issues_of}
 use Rattle.s10_book.specs.Rules.{IsLegal}
@@ -19,29 +18,32 @@ use Rattle.s10_book.specs.Promises.{IsSpaced, IsOwn, IsApart}
 use Rattle.s10_ends.specs.declared.answer.Answer.{Answer}
 use Rattle.s10_ends.specs.declared.answer.Answer.TheVariants.{Reply, Dropped, Faulted}
 use Rattle.s10_ends.specs.declared.delivery.Delivery.{Delivery}
-use Rattle.s10_link.specs.Packet.{packet_bytes}
 use Rattle.s10_ends.specs.Served.{Dated}
 
 -- the bytes of a delivery, and its day
 abbrev pub dated : Delivery → Dated
-dated d = (packet_bytes d.packet, d.day)
+dated d = (d.packet, d.day)
 
-abbrev pub is_fault : BookFault → Bool
-is_fault Memory = true
-is_fault Store = true
-is_fault Full = false
+-- whether the answer is want of memory
+abbrev pub is_memory : Answer → Bool
+is_memory (Faulted Memory) = true
+is_memory answer = false
 
--- whether the answer is a fault of the book
-abbrev pub is_book_fault : Answer → Bool
-is_book_fault (Reply frame) = false
-is_book_fault (Dropped fault) = false
-is_book_fault (Faulted fault) = is_fault fault
+-- whether the answer is a fault of the store
+abbrev pub is_store : Answer → Bool
+is_store (Faulted Store) = true
+is_store answer = false
 
--- the count of faults rises by the number of answers that are faults of the book, unless it reaches the greatest number
-pub record CountsAll (answered : List Answer) (before after : ℕ) : Type 0 where
-  pub at_most : after ≤ before + count_by is_book_fault answered
+-- a count rises by the number of answers of a kind, unless it reaches the greatest number
+pub record CountsEach (kind : Answer → Bool) (answered : List Answer) (before after : ℕ) : Type 0 where
+  pub at_most : after ≤ before + count_by kind answered
   pub never_falls : before ≤ after
-  pub each : after < 2 ^ 64 - 1 → before + count_by is_book_fault answered ≤ after
+  pub each : after < 2 ^ 64 - 1 → before + count_by kind answered ≤ after
+
+-- each of a book's counts of faults rises by the number of answers that are that fault
+pub record CountsAll (answered : List Answer) (before after : Faults) : Type 0 where
+  pub memory : CountsEach is_memory answered before.memory after.memory
+  pub store : CountsEach is_store answered before.store after.store
 
 -- what a history keeps for good: it is legal, no identifier is issued twice within the interval, each is its customer's own,
 -- and none lies in two ranges
@@ -63,7 +65,7 @@ text_at b kind place = take 13 (drop (request_length kind + 5 + 13 * place) b)
 -- where the answer is a reply, its bytes for each identifier that it carries spell that identifier, which is one of an issue
 -- in the history, on the day in the reply, to the request in the reply
 abbrev pub IsIssued : List Entry → Answer → Type 0
-IsIssued h (Reply frame) = (q : Request) (o : Outcome) → Replies (frame_bytes frame) q o → (place day : ℕ) (x : Id) → slice_get (carried_by o) place ≡ Some (day, x)
-    → Spells (text_at (frame_bytes frame) (kind_of q.body) place) x × HasIssue h x day q
+IsIssued h (Reply frame) = (q : Request) (o : Outcome) → Replies frame q o → (place day : ℕ) (x : Id) → slice_get (carried_by o) place ≡ Some (day, x)
+    → Spells (text_at frame (kind_of q.body) place) x × HasIssue h x day q
 IsIssued h (Dropped fault) = ⊤
 IsIssued h (Faulted fault) = ⊤

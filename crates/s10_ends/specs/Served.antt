@@ -5,7 +5,6 @@ use Rattle.s10_wire.specs.declared.request.Request.{Request}
 use Rattle.s10_wire.specs.declared.outcome.Outcome.{Outcome}
 use Rattle.s10_wire.specs.declared.outcome.Outcome.TheVariants.{NumberReused}
 use Rattle.s10_wire.specs.Datagrams.{Asks, Replies}
-use Rattle.s10_wire.specs.Frame.{frame_bytes}
 use Rattle.s10_wire.specs.WireFault.{IsFirstRefusalOfRequest}
 use Rattle.s10_book.specs.declared.entry.Entry.{Entry}
 use Rattle.s10_book.specs.declared.book_fault.BookFault.{BookFault}
@@ -13,7 +12,8 @@ use Rattle.s10_book.specs.declared.book_fault.BookFault.TheVariants.{Memory, Sto
 use Rattle.s10_book.specs.Settings.{Terms}
 use Rattle.s10_book.specs.History.{entry_with_key}
 use Rattle.s10_book.specs.Once.{applied_once}
-use Rattle.s10_book.specs.BookFault.{Rises}
+use Rattle.s10_book.specs.declared.faults.Faults.{Faults}
+use Rattle.s10_book.specs.BookFault.{CountsFault}
 use Rattle.s10_ends.specs.declared.answer.Answer.{Answer}
 use Rattle.s10_ends.specs.declared.answer.Answer.TheVariants.{Reply, Dropped, Faulted}
 
@@ -49,7 +49,7 @@ IsOwed h b f = (q : Request) × (o : Outcome) × Asks b q × Gives (entry_with_k
 -- the answer to bytes, by the history in the end: bytes that ask nothing are dropped with their first refusal,
 -- and bytes that ask something get the reply that is owed, unless the book failed or was full
 abbrev pub IsAnswered : List Entry → List ℕ → Answer → Type 0
-IsAnswered h b (Reply frame) = IsOwed h b (frame_bytes frame)
+IsAnswered h b (Reply frame) = IsOwed h b frame
 IsAnswered h b (Dropped fault) = AskNothing b × IsFirstRefusalOfRequest b fault
 IsAnswered h b (Faulted fault) = AskSomething b
 
@@ -77,13 +77,8 @@ abbrev pub UnlessReply : Answer → Type 0 → Type 0
 UnlessReply (Reply frame) P = ⊤
 UnlessReply answer P = P
 
--- what an answer does to the book's count of faults; Full is no fault of the book
-abbrev pub CountsFault : BookFault → ℕ → ℕ → Type 0
-CountsFault Memory before after = Rises before after
-CountsFault Store before after = Rises before after
-CountsFault Full before after = after ≡ before
-
-abbrev pub CountsAnswer : Answer → ℕ → ℕ → Type 0
+-- what an answer does to the book's counts of faults: a fault is the book's own
+abbrev pub CountsAnswer : Answer → Faults → Faults → Type 0
 CountsAnswer (Reply frame) before after = after ≡ before
 CountsAnswer (Dropped fault) before after = after ≡ before
 CountsAnswer (Faulted fault) before after = CountsFault fault before after

@@ -7,11 +7,11 @@ use Rattle.s10_wire.specs.declared.frame.Frame.{Frame}
 use Rattle.s10_wire.specs.declared.wire_fault.WireFault.{WireFault}
 use Rattle.s10_link.specs.declared.link_fault.LinkFault.{LinkFault}
 use Rattle.s10_link.specs.declared.link_fault.LinkFault.TheVariants.{Bind, Receive, Send, Spent}
-use Rattle.s10_link.specs.Packet.{packet_bytes}
 use Rattle.s10_link.specs.Trace.{after_call, after_failure, after_datagram, Gives}
 use Rattle.s10_link.specs.Link.{Sends}
 use Rattle.s10_wire.specs.WireFault.{IsFirstRefusalOfRequest}
 use Rattle.s10_book.specs.declared.entry.Entry.{Entry}
+use Rattle.s10_book.specs.declared.faults.Faults.{Faults}
 use Rattle.s10_book.specs.Settings.{Terms}
 use Rattle.s10_ends.specs.declared.answer.Answer.{Answer}
 use Rattle.s10_ends.specs.declared.answer.Answer.TheVariants as answers
@@ -20,7 +20,7 @@ use Rattle.s10_ends.specs.declared.served.Served.TheVariants.{Quiet, Dropped, Fa
 use Rattle.s10_ends.specs.Served.{AskNothing, CountsAnswer, UnlessReply, Served as IsServed}
 
 -- what handling bytes on a day makes of the server's book, and what it answers
-pub record Handles {B : Type 0} (faults : B → ℕ) (honest : B → Type 0) (terms : B → Terms) (history : B → List Entry) (old new : B) (day : ℕ) (b : List ℕ) (answer : Answer) : Type 0 where
+pub record Handles {B : Type 0} (faults : B → Faults) (honest : B → Type 0) (terms : B → Terms) (history : B → List Entry) (old new : B) (day : ℕ) (b : List ℕ) (answer : Answer) : Type 0 where
   pub counts : CountsAnswer answer (faults old) (faults new)
   pub dropped : (fault : WireFault) → (answer ≡ answers.Dropped fault) ↔ (AskNothing b × IsFirstRefusalOfRequest b fault)
   pub unasked : (fault : WireFault) → answer ≡ answers.Dropped fault → new ≡ old
@@ -31,17 +31,17 @@ pub record Handles {B : Type 0} (faults : B → ℕ) (honest : B → Type 0) (te
 
 -- the datagram from the peer was taken, and handled with that answer; nothing was sent
 abbrev pub Takes : Trace → Trace → (List ℕ → Answer → Type 0) → Peer → Answer → Type 0
-Takes old new handles from answer = (packet : Packet) × (new ≡ after_datagram old (from, packet)) × handles (packet_bytes packet) answer
+Takes old new handles from answer = (packet : Packet) × (new ≡ after_datagram old (from, packet)) × handles packet answer
 
 -- the datagram from the peer was taken, and handled with that reply, which was sent to the peer
 abbrev pub TakesAndGives : Trace → Trace → (List ℕ → Answer → Type 0) → Peer → Frame → Type 0
 TakesAndGives old new handles from frame =
-    (packet : Packet) × Gives (after_datagram old (from, packet)) new (from, frame) × handles (packet_bytes packet) (answers.Reply frame)
+    (packet : Packet) × Gives (after_datagram old (from, packet)) new (from, frame) × handles packet (answers.Reply frame)
 
 -- a datagram was taken, and handled with a reply; the send of the reply left the trace so
 abbrev pub TakesAndFails : Trace → Trace → (List ℕ → Answer → Type 0) → (Trace → Trace) → Type 0
 TakesAndFails old new handles send =
-    (from : Peer) × (packet : Packet) × (frame : Frame) × (new ≡ send (after_datagram old (from, packet))) × handles (packet_bytes packet) (answers.Reply frame)
+    (from : Peer) × (packet : Packet) × (frame : Frame) × (new ≡ send (after_datagram old (from, packet))) × handles packet (answers.Reply frame)
 
 -- the reply was sent to the peer, or refused
 abbrev pub SendsReply : Trace → Trace → Peer × Frame → Result Served LinkFault → Type 0

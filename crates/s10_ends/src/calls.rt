@@ -2,11 +2,12 @@
 
 ghost use Rattle.std.specs.Prelude.{◌≡◌, ◌≤◌, IsSome};
 ghost use Rattle.s10_ends.specs.Calls.{Calls, Attempts, Listens};
+ghost use Rattle.s10_ends.specs.Client.{Receives};
 
 use crate::call_fault::CallFault;
 use crate::client::Client;
 use crate::received::Received;
-use s10_link::{Link, LinkFault, Peer};
+use s10_link::{Link, LinkFault, Packet, Peer};
 use s10_wire::{Body, Frame, Reply, encode_request};
 
 /// Asks the server at `to`, in 1 to 100 tries. Each try sends the request, and receives until its
@@ -64,9 +65,16 @@ fn first_accepted<L: Link>(client: &mut Client, link: &mut L) -> Result<Option<R
         let Some((_, packet)) = link.receive()? else {
             return Ok(None);
         };
-        if let Received::Accepted(reply) = client.receive(packet.bytes()) {
+        if let Received::Accepted(reply) = take(client, packet) {
             return Ok(Some(reply));
         }
     }
     Ok(None)
+}
+
+// What the client makes of a packet.
+fn take(client: &mut Client, packet: Packet) -> Received
+    ensures { Receives client.old packet result client.new }
+{
+    client.receive(packet.bytes())
 }

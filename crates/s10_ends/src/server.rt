@@ -82,10 +82,9 @@ impl<B: Book> Server<B> {
 
     /// What becomes of the bytes of a datagram on a day. `Faulted(Full)` is answered where the book has as many calls
     /// as its limit allows and none with the key of the request; `Faulted(Memory)` or `Faulted(Store)` where a call of
-    /// the book was refused with one of them, though which of the two is not promised. A request that was faulted may be
-    /// handed in again.
+    /// the book was refused with the same. A request that was faulted may be handed in again.
     pub fn handle(&mut self, bytes: &[u8], day: u32) -> Answer
-        // The count of faults rises where the book failed, and nowhere else.
+        // The book's count of that fault rises where one is answered, and no count rises elsewhere.
         ensures faults { CountsAnswer result (B.faults (book_of self.old)) (B.faults (book_of self.new)) }
 
         // Bytes that ask nothing, and no others, are dropped with their first refusal, and the book is not asked.
@@ -116,7 +115,7 @@ impl<B: Book> Server<B> {
     /// What becomes of datagrams, one after another in the order in which they come. The room for the answers is
     /// reserved first.
     pub fn run(&mut self, alloc: Global, deliveries: &[Delivery]) -> Result<Vec<Answer>, AllocError>
-        // As many answers are faults of the book as its count rose, unless that reached the greatest number.
+        // As many answers are each fault of the book as its count of that fault rose, unless that reached the greatest number.
         ensures faults { IfOk result (λ answers. CountsAll answers.items (B.faults (book_of self.old)) (B.faults (book_of self.new))) }
         ensures was_honest { B.honest (book_of self.new) → B.honest (book_of self.old) }
         ensures same_terms { B.honest (book_of self.new) → B.terms (book_of self.new) ≡ B.terms (book_of self.old) }

@@ -8,7 +8,7 @@ use crate::answer::Answer;
 use crate::served::Served;
 use crate::server::Server;
 use s10_book::Book;
-use s10_link::{Link, LinkFault, Peer};
+use s10_link::{Link, LinkFault, Packet, Peer};
 use s10_wire::Frame;
 
 /// One receive and at most one send: what came is handled on this day, and a reply goes to the
@@ -26,11 +26,18 @@ pub fn serve_one<B: Book, L: Link>(
     let Some((from, packet)) = link.receive()? else {
         return Ok(Served::Quiet);
     };
-    match server.handle(packet.bytes(), day) {
+    match handle_packet(server, packet, day) {
         Answer::Reply(frame) => send_reply(link, from, frame),
         Answer::Dropped(fault) => Ok(Served::Dropped(from, fault)),
         Answer::Faulted(fault) => Ok(Served::Faulted(from, fault)),
     }
+}
+
+// What the server makes of a packet on this day.
+fn handle_packet<B: Book>(server: &mut Server<B>, packet: Packet, day: u32) -> Answer
+    ensures { Handles B.faults B.honest B.terms B.history (book_of server.old) (book_of server.new) day packet result }
+{
+    server.handle(packet.bytes(), day)
 }
 
 // Sends a reply back to the peer.

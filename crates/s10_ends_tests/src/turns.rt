@@ -52,8 +52,8 @@ fn serves(
 
 /// Whether one turn sends this reply back to the peer.
 fn replies(server: &mut Server<PlainBook>, link: &mut ScriptLink, reply: &[u8]) -> bool {
-    match serve_one(server, link, 20_000) {
-        Ok(Served::Replied(peer, frame)) => peer == PEER && frame.bytes() == reply,
+    match &serve_one(server, link, 20_000) {
+        Ok(Served::Replied(peer, frame)) => *peer == PEER && frame.bytes() == reply,
         _ => false,
     }
 }
@@ -69,8 +69,8 @@ fn has_sent(link: &ScriptLink, reply: &[u8]) -> bool {
 #[test]
 fn reply_that_was_not_sent_is_kept(rt: HostRuntime) -> Result<(), Fail> {
     let mut server = granted_server(rt.alloc(), 100)?;
-    let draw = deliver(PEER, FIRST_DRAW.0);
-    let mut link = script(rt.alloc(), &[draw, draw], &[false, true])?;
+    let receipts = [deliver(PEER, FIRST_DRAW.0), deliver(PEER, FIRST_DRAW.0)];
+    let mut link = script(rt.alloc(), &receipts, &[false, true])?;
     assert!(rt; serves(&mut server, &mut link, Err(LinkFault::Send)));
     assert!(rt; replies(&mut server, &mut link, FIRST_DRAW.1));
     assert!(rt; has_sent(&link, FIRST_DRAW.1));

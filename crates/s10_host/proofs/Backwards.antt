@@ -4,12 +4,13 @@ use Rattle.s10_link.specs.declared.trace.Trace.{Trace}
 use Rattle.s10_link.specs.declared.link_fault.LinkFault.{LinkFault}
 use Rattle.s10_link.specs.declared.link_fault.LinkFault.TheVariants.{Bind, Receive, Send, Spent}
 use Rattle.s10_book.specs.declared.entry.Entry.{Entry}
+use Rattle.s10_book.specs.declared.faults.Faults.{Faults}
 use Rattle.s10_book.specs.Settings.{Terms}
 use Rattle.s10_ends.specs.declared.served.Served.{Served}
 use Rattle.s10_ends.specs.declared.served.Served.TheVariants.{Quiet, Dropped, Faulted, Replied}
 use Rattle.s10_jobs.specs.Serving.{IsTurn, Lead}
 
-module _ {B : Type 0} (faults : B → ℕ) (honest : B → Type 0) (terms : B → Terms) (history : B → List Entry) (given : Option ℕ) where
+module _ {B : Type 0} (faults : B → Faults) (honest : B → Type 0) (terms : B → Terms) (history : B → List Entry) (given : Option ℕ) where
   before_turn : (old new : Trace × B) (turn : Result Served LinkFault) → IsTurn faults honest terms history given old turn new → honest new.1 → honest old.1
   before_turn old new (Ok Quiet) (day, is, (link, same)) kept = subst honest same kept
   before_turn old new (Ok (Dropped from fault)) (day, is, (packet, link, handles)) kept = handles.was_honest kept

@@ -19,6 +19,7 @@ use Rattle.sqlite_disk.specs.declared.start.Start as start
 use Rattle.sqlite_wal.specs.Files.{image_at}
 use Rattle.sqlite.specs.Files.{file_state, over_files, AreFoundIn}
 use Rattle.sqlite.specs.Closing.{IsCopied}
+use Rattle.s10_book.specs.BookFault.{no_faults}
 use Rattle.s10_book.specs.Settings.{Terms}
 use Rattle.s10_ledger.specs.Ledger.{Ledger, IsLedger, IsHonest, history_in}
 use Rattle.s10_statements.specs.Settled.{WasSound}
@@ -77,9 +78,9 @@ module _ {D : Type 0} {g : Ghosts D} where
       (λ book opened honest empty clean. let sound = honest clean (opened clean) in record { honest = sound; empty = empty sound }) made kept opened honest empty is
 
   pub kept_terms : {E F : Type 0} (terms : Terms) (made : Result (Ledger (FileStore D g)) E) (kept : Result (Ledger (FileStore D g)) F)
-      → IfOk made (λ book. (book.terms ≡ terms) × (book.faults ≡ 0)) → IfOk kept (λ book. made ≡ Ok book) → IfOk kept (λ book. book.terms ≡ terms)
+      → IfOk made (λ book. (book.terms ≡ terms) × (book.faults ≡ no_faults)) → IfOk kept (λ book. made ≡ Ok book) → IfOk kept (λ book. book.terms ≡ terms)
   kept_terms terms made kept new is =
-      IfOk-weaker kept (λ book. made ≡ Ok book) (λ book. book.terms ≡ terms) (λ book same. let has = subst (λ r. IfOk r (λ b. (b.terms ≡ terms) × (b.faults ≡ 0))) same new in has.0) is
+      IfOk-weaker kept (λ book. made ≡ Ok book) (λ book. book.terms ≡ terms) (λ book same. let has = subst (λ r. IfOk r (λ b. (b.terms ≡ terms) × (b.faults ≡ no_faults))) same new in has.0) is
 
   -- what the opening of a ledger says of the connection that it was handed, and of the book
   pub record Opening (was : Held (FileStore D g)) (book : Ledger (FileStore D g)) : Type 0 where

@@ -3,10 +3,10 @@
 ghost use Rattle.std.specs.Prelude.{◌≡◌, ◌∷◌, ◌++◌, [], ⊤, OnOk, OnErr, IfOk, IfErr, IfSome, IsTrue, Contains, find, ◌==◌, ◌<◌, count_by, vec_len, vec_capacity};
 ghost use Rattle.s10_wire.specs.Kind.{fits};
 ghost use Rattle.s10_book.specs.History.{ranges_of, entry_with_key, entry_at, is_held_above, overlaps};
-ghost use Rattle.s10_book.specs.Issues.{issues_of, last_issue_of, candidate_of, is_issued, is_voided as is_voided_in, is_free as is_free_on, id_at, serials};
+ghost use Rattle.s10_book.specs.Issues.{issues_of, last_issue_of, candidate_of, candidate_after_of, size_of, pick_of, is_issued, is_voided as is_voided_in, is_free as is_free_on, id_at, serials};
 ghost use Rattle.s10_book.specs.Usage.{usage_of};
 ghost use Rattle.s10_book.specs.Rules.{IsLegal, MayFollow};
-ghost use Rattle.s10_book.specs.BookFault.{Counts};
+ghost use Rattle.s10_book.specs.BookFault.{Counts, no_faults};
 ghost use Rattle.s10_ranges.specs.Mirror.{Mirrors};
 ghost use Rattle.s10_index.specs.Places.{HasPlaces};
 ghost use Rattle.s10_index.specs.LastIssues.{HasIssues};
@@ -14,7 +14,7 @@ ghost use Rattle.s10_index.specs.LastIssues.{HasIssues};
 use crate::last_issues::{note_issue, noted_issue};
 use crate::places::{kept_call, note_place};
 use crate::tally::{count_if, id_with, is_free, is_voided};
-use s10_book::{Book, BookFault, Candidate, Entry, Issue, Range, Settings, Usage};
+use s10_book::{Book, BookFault, Candidate, Entry, Faults, Issue, Range, Settings, Usage};
 use s10_core::{Country, Id, Serial, Service};
 use s10_ranges::Ranges;
 use std::alloc::{AllocError, Global};
@@ -26,7 +26,7 @@ use std::collections::HashMap;
 #[derive(Drop)]
 pub struct IndexedBook {
     settings: Settings,
-    faults: u64,
+    faults: Faults,
     pub(crate) entries: Vec<Entry>,
     pub(crate) ranges: Ranges,
     places: HashMap<(u32, u32), u32>,
@@ -42,12 +42,12 @@ impl IndexedBook {
     pub fn new(alloc: Global, settings: Settings) -> IndexedBook
         ensures history { ⟦<IndexedBook as Book>⟧.history result ≡ [] }
         ensures terms { ⟦<IndexedBook as Book>⟧.terms result ≡ settings }
-        ensures faults { ⟦<IndexedBook as Book>⟧.faults result ≡ 0 }
+        ensures faults { ⟦<IndexedBook as Book>⟧.faults result ≡ no_faults }
         ensures honest { ⟦<IndexedBook as Book>⟧.honest result }
     {
         IndexedBook {
             settings,
-            faults: 0,
+            faults: Faults::none(),
             entries: Vec::new(alloc),
             ranges: Ranges::new(alloc),
             places: HashMap::new(alloc),
@@ -80,6 +80,17 @@ impl IndexedBook {
         ensures { result ≡ last_issue_of self.now.entries.items id.now }
     {
         noted_issue(&self.issues, id)
+    }
+
+    // The serial that the range gives next.
+    fn pick(&self, range: &Range) -> Serial
+        requires { Contains (ranges_of self.now.entries.items) range.now }
+        ensures { result ≡ pick_of (issues_of self.now.entries.items) range.now }
+    {
+        match self.ranges.mark(range.num) {
+            None => range.first,
+            Some(mark) => mark.serial,
+        }
     }
 
     // How many serials of the range were issued, are voided, and are free on the day.
@@ -204,10 +215,23 @@ impl Book for IndexedBook {
         ensures same { self.new ≡ self.old }
         ensures answer { result ≡ Ok (candidate_of (⟦<IndexedBook as Book>⟧.history self.old) range.now) }
     {
-        let serial = match self.ranges.mark(range.num) {
-            None => range.first,
-            Some(mark) => mark.serial,
+        let serial = self.pick(range);
+        let id = Id {
+            service: range.service,
+            serial,
+            country: range.country,
         };
+        let issue = self.last_state(&id);
+        Ok(Candidate { serial, issue })
+    }
+
+    fn candidate_after(&mut self, range: &Range, issued: u8) -> Result<Candidate, BookFault>
+        requires there { Contains (ranges_of (⟦<IndexedBook as Book>⟧.history self.old)) range.now }
+        requires fewer { issued < size_of range.now }
+        ensures same { self.new ≡ self.old }
+        ensures answer { result ≡ Ok (candidate_after_of (⟦<IndexedBook as Book>⟧.history self.old) range.now issued) }
+    {
+        let serial = range.serial_behind(self.pick(range), issued);
         let id = Id {
             service: range.service,
             serial,
@@ -237,7 +261,7 @@ impl Book for IndexedBook {
         match self.add(entry) {
             Ok(()) => Ok(()),
             Err(_) => {
-                self.faults = self.faults.saturating_add(1);
+                self.faults.add(BookFault::Memory);
                 Err(BookFault::Memory)
             }
         }

@@ -2,7 +2,6 @@
 use Rattle.std.specs.Prelude.{ℕ, List, ◌++◌, codes}
 use Rattle.std.specs.List.{flat_map}
 use Rattle.hex.specs.Hex.{encode_lower}
-use Rattle.s10_wire.specs.Frame.{frame_bytes}
 use Rattle.s10_ends.specs.declared.answer.Answer.{Answer}
 use Rattle.s10_ends.specs.declared.answer.Answer.TheVariants.{Reply, Dropped, Faulted}
 use Rattle.s10_wire.specs.Lines.{line_of}
@@ -10,7 +9,7 @@ use Rattle.s10_jobs.specs.Words.{wire_fault_words, book_fault_words}
 
 -- the reply in hex, or why there is none
 abbrev pub answer_line : Answer → List ℕ
-answer_line (Reply frame) = encode_lower (frame_bytes frame) ++ codes "\n"
+answer_line (Reply frame) = encode_lower frame ++ codes "\n"
 answer_line (Dropped fault) = line_of (codes "dropped") (wire_fault_words fault)
 answer_line (Faulted fault) = line_of (codes "faulted") (book_fault_words fault)
 

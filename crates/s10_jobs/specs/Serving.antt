@@ -6,6 +6,7 @@ use Rattle.s10_link.specs.declared.trace.Trace.{Trace}
 use Rattle.s10_link.specs.declared.link_fault.LinkFault.{LinkFault}
 use Rattle.s10_wire.specs.declared.write_fault.WriteFault.{WriteFault}
 use Rattle.s10_book.specs.declared.entry.Entry.{Entry}
+use Rattle.s10_book.specs.declared.faults.Faults.{Faults}
 use Rattle.s10_book.specs.Settings.{Terms}
 use Rattle.s10_ends.specs.declared.served.Served.{Served}
 use Rattle.s10_ends.specs.Turn.{Handles, ServesOne}
@@ -18,7 +19,7 @@ abbrev pub IsDay : Option ℕ → ℕ → Type 0
 IsDay given day = (d : ℕ) → given ≡ Some d → day ≡ d
 
 -- one turn on such a day, from a link's trace and a server's book to those afterwards
-abbrev pub IsTurn : {B : Type 0} → (B → ℕ) → (B → Type 0) → (B → Terms) → (B → List Entry) → Option ℕ → Trace × B → Result Served LinkFault → Trace × B → Type 0
+abbrev pub IsTurn : {B : Type 0} → (B → Faults) → (B → Type 0) → (B → Terms) → (B → List Entry) → Option ℕ → Trace × B → Result Served LinkFault → Trace × B → Type 0
 IsTurn faults honest terms history given old turn new =
     (day : ℕ) × IsDay given day × ServesOne old.0 new.0 (new.1 ≡ old.1) (Handles faults honest terms history old.1 new.1 day) turn
 

@@ -1,7 +1,6 @@
 -- The output lines of a server's turns.
 use Rattle.std.specs.Prelude.{ℕ, List, ◌++◌, codes, Result, Ok, Err}
 use Rattle.hex.specs.Hex.{encode_lower}
-use Rattle.s10_wire.specs.Frame.{frame_bytes}
 use Rattle.s10_wire.specs.Lines.{line_of}
 use Rattle.s10_link.specs.declared.link_fault.LinkFault.{LinkFault}
 use Rattle.s10_ends.specs.declared.served.Served.{Served}
@@ -16,5 +15,5 @@ abbrev pub turn_line : Result Served LinkFault → List ℕ
 turn_line (Ok Quiet) = codes "quiet\n"
 turn_line (Ok (Dropped from fault)) = line_of (codes "dropped") (wire_fault_words fault)
 turn_line (Ok (Faulted from fault)) = line_of (codes "faulted") (book_fault_words fault)
-turn_line (Ok (Replied to frame)) = replied_line (frame_bytes frame)
+turn_line (Ok (Replied to frame)) = replied_line frame
 turn_line (Err fault) = line_of (codes "link") (link_fault_words fault)

@@ -2,7 +2,6 @@
 ghost use Rattle.std.specs.Prelude.{◌++◌, OnOk, codes};
 ghost use Rattle.std.specs.Io.KnownBytes.{Appends};
 ghost use Rattle.hex.specs.Hex.{encode_lower};
-ghost use Rattle.s10_wire.specs.Frame.{frame_bytes};
 ghost use Rattle.s10_wire.specs.Lines.{line_of};
 ghost use Rattle.s10_jobs.specs.Words.{wire_fault_words, book_fault_words};
 ghost use Rattle.s10_jobs.specs.AnswerLines.{answer_line};
@@ -26,7 +25,7 @@ pub fn write_answer<W: Write>(answer: &Answer, out: &mut W) -> Result<(), WriteF
 
 /// Writes a frame in lower-case hex, and ends the line.
 pub fn write_hex<W: Write>(frame: &Frame, out: &mut W) -> Result<(), WriteFault>
-    ensures { OnOk result (Appends (W.contents out.old) (W.contents out.new) (encode_lower (frame_bytes frame.now) ++ codes "\n")) }
+    ensures { OnOk result (Appends (W.contents out.old) (W.contents out.new) (encode_lower frame.now ++ codes "\n")) }
 {
     // A frame has at most 256 bytes, and a byte two digits.
     let mut room = [0u8; 512];

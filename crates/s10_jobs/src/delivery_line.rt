@@ -4,7 +4,6 @@ ghost use Rattle.std.specs.List.{list_all};
 ghost use Rattle.std.specs.Option.{option_map};
 ghost use Rattle.std.specs.Char.{IsAsciiDigit, is_ascii_digit};
 ghost use Rattle.s10_core.specs.Serial.{number_of};
-ghost use Rattle.s10_link.specs.Packet.{packet_bytes};
 ghost use Rattle.s10_ends.specs.Runs.{dated};
 ghost use Rattle.s10_jobs.specs.InputLines.{without_return, day_in, bytes_in, delivery_in};
 
@@ -56,7 +55,7 @@ fn read_day(text: &[u8]) -> Option<u32>
 
 /// Reads the bytes of a datagram: an even number of hexadecimal digits, at most 1024, also none.
 pub fn read_bytes(text: &[u8]) -> Option<Packet>
-    ensures { option_map packet_bytes result ≡ bytes_in text.now }
+    ensures { result ≡ bytes_in text.now }
 {
     if text.len() > 1024 {
         return None;

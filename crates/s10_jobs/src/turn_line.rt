@@ -2,7 +2,6 @@
 
 ghost use Rattle.std.specs.Prelude.{OnOk};
 ghost use Rattle.std.specs.Io.KnownBytes.{Appends};
-ghost use Rattle.s10_wire.specs.Frame.{frame_bytes};
 ghost use Rattle.s10_jobs.specs.TurnLines.{turn_line, replied_line};
 
 use crate::answer_line::{write_dropped, write_faulted, write_hex};
@@ -27,7 +26,7 @@ pub fn write_turn<W: Write>(turn: &Result<Served, LinkFault>, out: &mut W) -> Re
 }
 
 fn write_replied<W: Write>(frame: &Frame, out: &mut W) -> Result<(), WriteFault>
-    ensures { OnOk result (Appends (W.contents out.old) (W.contents out.new) (replied_line (frame_bytes frame.now))) }
+    ensures { OnOk result (Appends (W.contents out.old) (W.contents out.new) (replied_line frame.now)) }
 {
     write_text(b"replied ", out)?;
     write_hex(frame, out)

@@ -68,6 +68,7 @@ fn is_asked_once(
 #[test]
 fn what_came_of_a_call_is_printed(rt: HostRuntime) -> Result<(), Fail> {
     let drawn = delivered(DRAWN);
+    let drawn_late = delivered(DRAWN);
     let none_free = delivered(NONE_FREE);
     let cases: [(&[Receipt], &[bool], Status, &str); 7] = [
         (
@@ -77,7 +78,7 @@ fn what_came_of_a_call_is_printed(rt: HostRuntime) -> Result<(), Fail> {
             "reply draw customer 7 number 1 RA GB done day 20000 RA000000005GB\n",
         ),
         (
-            &[Receipt::Nothing, drawn],
+            &[Receipt::Nothing, drawn_late],
             &[true, true],
             Status::Done,
             "reply draw customer 7 number 1 RA GB done day 20000 RA000000005GB\n",

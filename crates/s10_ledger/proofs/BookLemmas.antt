@@ -16,6 +16,7 @@ use Rattle.s10_book.specs.History.{day_of}
 use Rattle.s10_book.specs.Rules.{MayFollow}
 use Rattle.s10_book.proofs.Push.{IsLegal-push}
 use Rattle.s10_book.specs.Book.{Keeps}
+use Rattle.s10_book.specs.declared.faults.Faults.{Faults}
 use Rattle.s10_book.specs.Settings.{Terms}
 use Rattle.s10_ranges.specs.declared.ranges.Ranges.{Ranges}
 use Rattle.s10_ranges.specs.Mirror.{Mirrors}
@@ -51,7 +52,7 @@ module _ {S : Type 0} (g : Ghosts S) (old new : Held S) (t : Terms) (len day : �
   still_mirrored ranges mirrored clean opened =
       subst (λ (d : Database). Mirrors ranges (history_in d)) (sym (same_tables clean opened)) (mirrored (omega (arith, leaves.clean)) (leaves.was_open clean opened))
 
-pub read_keeps : {S : Type 0} (g : Ghosts S) (old : Ledger S) (conn : Held S) (faults : ℕ) → Leaves g old.conn conn → IsSettled g old.conn → IsKept g old.conn old.terms old.len old.day
+pub read_keeps : {S : Type 0} (g : Ghosts S) (old : Ledger S) (conn : Held S) (faults : Faults) → Leaves g old.conn conn → IsSettled g old.conn → IsKept g old.conn old.terms old.len old.day
     → Keeps (history_of g) (λ (l : Ledger S). l.terms) (IsHonest g) old (record old { conn = conn; faults = faults })
 read_keeps g old conn faults leaves settled kept = record {
   was_honest = λ h. record {

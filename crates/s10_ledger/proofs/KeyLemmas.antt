@@ -1,6 +1,6 @@
 -- The rows after a call is kept are those of the longer history.
 use Rattle.std.proofs.Common.{◌≡◌, ◌⊎◌, inl, inr, ℕ, suc, ◌+◌, ◌≤◌, ℤ, pos, Bool, true, false, ◌&&◌, cond, List, [], ◌∷◌, ◌++◌, map, length, filter, All, Option, Some, None, refl, sym, ap, subst, ◌∙◌, arith, int_eq, int_le}
-use Rattle.std.specs.Prelude.{IfSome, option_to_list}
+use Rattle.std.specs.Prelude.{option_to_list}
 use Rattle.std.proofs.Math.Logic.{∥∥₁_map, ∥∥₁_elim, ∥∥₁_prop}
 use Rattle.std.proofs.lemmas.Int.{ints}
 use Rattle.std.proofs.lemmas.List.Elements.{All-contains}
@@ -18,7 +18,7 @@ use Rattle.s10_rows.specs.declared.serial_write.SerialWrite.{SerialWrite}
 use Rattle.s10_rows.specs.CallRow.{StoredCall}
 use Rattle.s10_rows.specs.Replies.{reply_bytes}
 use Rattle.s10_rows.specs.Tables.{HaveSameRows, tables_of, pair_of, call_row, call_rows_from, call_rows, range_rows, serial_row, serial_rows}
-use Rattle.s10_rows.specs.Kept.{is_at, row_of, with_range, with_serial, Makes}
+use Rattle.s10_rows.specs.Kept.{FindAtMostOne, is_at, row_of, with_ranges, with_serials, Makes}
 use Rattle.s10_rows.specs.Selected.{IsCall, IsIssuance}
 use Rattle.s10_statements.specs.Shown.{HasTables, StandsFor, shown_range, shown_serial}
 use Rattle.s10_statements.proofs.GoneLemmas.{same_int}
@@ -92,9 +92,10 @@ few_rows h calls pair serial = go (none_or_one (λ j. is_at pair serial (row j))
         subst (λ s. length (filter (is_at pair s) (map row lasts)) ≤ 1) (same_int (pos i.id.serial) serial both.1)
         (subst (λ p. length (filter (is_at p (pos i.id.serial)) (map row lasts)) ≤ 1) (same_int (pos (pair_of i.id.service i.id.country)) pair both.0) one)
 
-pub few_of : (h : List Entry) → All IsCall h → (made : Option SerialWrite) → IfSome made (λ w. length (filter (is_at (row_of w).pair (row_of w).serial) (serial_rows h)) ≤ 1)
+-- so a call that writes one serial at most finds at most one
+pub few_of : (h : List Entry) → All IsCall h → (made : Option SerialWrite) → FindAtMostOne (option_to_list made) (serial_rows h)
 few_of h calls None = tt
-few_of h calls (Some w) = few_rows h calls (row_of w).pair (row_of w).serial
+few_of h calls (Some w) = (few_rows h calls (row_of w).pair (row_of w).serial, tt)
 
 call_rows_more : (at : ℕ) (h : List Entry) (e : Entry) → call_rows_from at (h ++ e ∷ []) ≡ call_rows_from at h ++ call_row (at + length h) e ∷ []
 call_rows_more at [] e = ap (λ n. call_row n e ∷ []) (omega arith)
@@ -105,9 +106,9 @@ shown_same : {X Y : Type 0} (shown : X → Y) (xs ys : List X) (vs : List Y) →
 shown_same shown xs ys vs p q = ∥∥₁_elim p ∥∥₁_prop (λ a. ∥∥₁_map q (λ b. IsPermutation-trans _ _ _ (IsPermutation-sym _ _ (IsPermutation-map shown xs ys b)) a))
 
 -- with the rows that a call makes, the tables stand for the longer history
-pub stands_after : (db : Database) (h : List Entry) (t : Terms) (e : Entry) (row : StoredCall) (range : Option RangeWrite) (serial : Option SerialWrite) → row ≡ call_row (length h + 1) e → Makes h e range serial
-    → HasTables db (record (tables_of h t) { calls = call_rows h ++ row ∷ []; ranges = with_range range (range_rows h); serials = with_serial serial (serial_rows h) }) → StandsFor db (h ++ e ∷ []) t
-stands_after db h t e row range serial is makes held =
+pub stands_after : (db : Database) (h : List Entry) (t : Terms) (e : Entry) (row : StoredCall) (ranges : List RangeWrite) (serials : List SerialWrite) → row ≡ call_row (length h + 1) e → Makes h e ranges serials
+    → HasTables db (record (tables_of h t) { calls = call_rows h ++ row ∷ []; ranges = with_ranges ranges (range_rows h); serials = with_serials serials (serial_rows h) }) → StandsFor db (h ++ e ∷ []) t
+stands_after db h t e row ranges serials is makes held =
     let longer : call_rows h ++ row ∷ [] ≡ call_rows (h ++ e ∷ []) = ap (λ c. call_rows h ++ c ∷ []) (is ∙ ap (λ n. call_row n e) (omega arith)) ∙ sym (call_rows_more 1 h e) in
     record {
       schema = held.schema;

@@ -10,6 +10,7 @@ use Rattle.sqlite.specs.Effect.{Database}
 use Rattle.sqlite.specs.State.{HasCleanDisk}
 use Rattle.sqlite.specs.Held.{Held, held_code, state}
 use Rattle.s10_book.specs.declared.entry.Entry.{Entry}
+use Rattle.s10_book.specs.declared.faults.Faults.{Faults}
 use Rattle.s10_book.specs.Settings.{Terms}
 use Rattle.s10_book.specs.History.{day_of}
 use Rattle.s10_book.specs.Rules.{IsLegal}
@@ -57,14 +58,17 @@ pub record Ledger (S : Type 0) : Type 0 where
   pub terms : Terms
   pub len : ℕ
   pub day : ℕ
-  pub faults : ℕ
+  pub faults : Faults
 
 abbrev pub terms_code : Coded Terms
 terms_code = code_by (ℕ × ℕ) (coded× coded_ℕ coded_ℕ) (λ t. (t.interval, t.limit)) (λ p. record { interval = p.0; limit = p.1 }) (λ _. refl)
 
+abbrev pub faults_code : Coded Faults
+faults_code = code_by (ℕ × ℕ) (coded× coded_ℕ coded_ℕ) (λ f. (f.memory, f.store)) (λ p. record { memory = p.0; store = p.1 }) (λ _. refl)
+
 abbrev pub ledger_code : {S : Type 0} → Coded S → Coded (Ledger S)
 ledger_code {S} store =
-    code_by (Held S × (Terms × (ℕ × (ℕ × ℕ)))) (coded× (held_code store) (coded× terms_code (coded× coded_ℕ (coded× coded_ℕ coded_ℕ))))
+    code_by (Held S × (Terms × (ℕ × (ℕ × Faults)))) (coded× (held_code store) (coded× terms_code (coded× coded_ℕ (coded× coded_ℕ faults_code))))
     (λ l. (l.conn, (l.terms, (l.len, (l.day, l.faults))))) (λ p. record { conn = p.0; terms = p.1.0; len = p.1.1.0; day = p.1.1.1.0; faults = p.1.1.1.1 }) (λ _. refl)
 
 -- the tables stand for a history, whose length and last day are known

@@ -1,6 +1,6 @@
 //! A call is kept.
 
-ghost use Rattle.std.specs.Prelude.{◌≡◌, ◌≢◌, ◌⊎◌, ℕ, ◌≤◌, ◌<◌, ◌+◌, ◌^◌, ◌++◌, ◌∷◌, [], List, length, filter, All, Err, IfOk, IfSome, IsOk, IsTrue, OnOk, OnErr};
+ghost use Rattle.std.specs.Prelude.{◌≡◌, ◌≢◌, ◌⊎◌, ℕ, ◌≤◌, ◌<◌, ◌+◌, ◌^◌, ◌++◌, ◌∷◌, [], List, length, filter, option_to_list, All, Err, IfOk, IfSome, IsOk, IsTrue, OnOk, OnErr};
 ghost use Rattle.sqlite_trees.specs.Tree.{Trees};
 ghost use Rattle.sqlite_trees.specs.View.{doubt};
 ghost use Rattle.sqlite.specs.Held.{state};
@@ -23,11 +23,14 @@ use crate::faults::fault_of;
 use s10_book::{BookFault, Entry};
 use s10_core::Id;
 use s10_ranges::{Ranges, Turn};
-use s10_rows::{Issued, Made, drawn_rows, granted_row, pair_number, voided_row};
+use s10_rows::{
+    Issued, Made, RangeWrite, SerialWrite, drawn_rows, granted_row, pair_number, voided_row,
+};
 use s10_statements::{keep_rows, serials_within};
 use s10_wire::{Body, Outcome, Reply, encode_reply};
 use sqlite::{Alter, Connection};
 use std::alloc::Global;
+use std::slice;
 
 // Whether the identifier at a mark was issued before.
 fn issued_in(turn: Turn) -> Issued
@@ -44,7 +47,7 @@ fn drawn_made(ranges: &Ranges, arrival: u32, entry: &Entry, id: &Id) -> Result<M
     ensures fault { result ≢ Err Full }
     ensures done { (h : List Entry) (t : Terms) (day : ℕ) → IsLegal h t → MayFollow h t entry.now → Mirrors ranges.now h → entry.now.outcome ≡ Drawn day id.now → IsOk result }
     ensures answer { (h : List Entry) (t : Terms) (day : ℕ) → IsLegal h t → MayFollow h t entry.now → All IsCall h → IsCall entry.now → Mirrors ranges.now h
-        → entry.now.outcome ≡ Drawn day id.now → arrival ≡ length h + 1 → IfOk result (λ made. Makes h entry.now made.range made.serial) }
+        → entry.now.outcome ≡ Drawn day id.now → arrival ≡ length h + 1 → IfOk result (λ made. Makes h entry.now (option_to_list made.range) (option_to_list made.serial)) }
 {
     let found = ranges.over(id.service, id.country, id.serial, id.serial);
     let Some(range) = found else {
@@ -67,7 +70,7 @@ fn voided_made<S: Alter>(
     ensures leaves { Leaves S.Store conn.old conn.new }
     ensures fault { result ≢ Err Full }
     ensures answer { HasCleanDisk (state S.Store conn.new) → (h : List Entry) (t : Terms) → IsLegal h t → MayFollow h t entry.now → All IsCall h → IsCall entry.now → StandsFor (state S.Store conn.old).now h t
-        → entry.now.outcome ≡ Voided → IfOk result (λ made. Makes h entry.now made.range made.serial) }
+        → entry.now.outcome ≡ Voided → IfOk result (λ made. Makes h entry.now (option_to_list made.range) (option_to_list made.serial)) }
 {
     let body = entry.request.body;
     let Body::Void { id } = body else {
@@ -94,7 +97,7 @@ fn rows_made<S: Alter>(
     ensures leaves { Leaves S.Store conn.old conn.new }
     ensures fault { result ≢ Err Full }
     ensures answer { HasCleanDisk (state S.Store conn.new) → (h : List Entry) (t : Terms) → IsLegal h t → MayFollow h t entry.now → All IsCall h → IsCall entry.now → StandsFor (state S.Store conn.old).now h t
-        → Mirrors ranges.now h → arrival ≡ length h + 1 → IfOk result (λ made. Makes h entry.now made.range made.serial) }
+        → Mirrors ranges.now h → arrival ≡ length h + 1 → IfOk result (λ made. Makes h entry.now (option_to_list made.range) (option_to_list made.serial)) }
 {
     match entry.outcome {
         Outcome::Granted { .. } => Ok(granted_row(entry)),
@@ -104,6 +107,26 @@ fn rows_made<S: Alter>(
             range: None,
             serial: None,
         }),
+    }
+}
+
+// The writes of ranges among what a call makes.
+fn range_writes(made: &Made) -> &[RangeWrite]
+    ensures { result.now ≡ option_to_list made.now.range }
+{
+    match &made.range {
+        Some(write) => slice::from_ref(write),
+        None => &[],
+    }
+}
+
+// The writes of serials among what a call makes.
+fn serial_writes(made: &Made) -> &[SerialWrite]
+    ensures { result.now ≡ option_to_list made.now.serial }
+{
+    match &made.serial {
+        Some(write) => slice::from_ref(write),
+        None => &[],
     }
 }
 
@@ -140,8 +163,8 @@ pub(crate) fn keep_call<S: Alter>(
         arrival,
         entry,
         frame.bytes(),
-        &made.range,
-        &made.serial,
+        range_writes(&made),
+        serial_writes(&made),
     ) {
         Ok(()) => Ok(()),
         Err(error) => Err(fault_of(error)),

@@ -8,7 +8,7 @@ ghost use Rattle.s10_book.specs.declared.entry.Entry.{Entry};
 ghost use Rattle.s10_book.specs.declared.book_fault.BookFault.TheVariants.{Full};
 ghost use Rattle.s10_book.specs.Settings.{Terms};
 ghost use Rattle.s10_book.specs.History.{entry_with_key, entry_at, day_of, ranges_of};
-ghost use Rattle.s10_book.specs.Issues.{issues_of, last_issue_of, candidate_of};
+ghost use Rattle.s10_book.specs.Issues.{issues_of, last_issue_of, candidate_after_of, size_of};
 ghost use Rattle.s10_ranges.specs.declared.mark.Mark.{Mark as RangeMark};
 ghost use Rattle.s10_ranges.specs.Turns.{mark_of};
 ghost use Rattle.s10_book.specs.Usage.{usage_of};
@@ -111,23 +111,25 @@ pub(crate) fn new_serial(mark: &Option<Mark>) -> Option<Serial>
     }
 }
 
-// The mark of a range with the last issue of its identifier. A fault of the store where there is no mark.
+// The serial so many behind the mark of a range, with the last issue of its identifier. A fault of the store where there
+// is no mark.
 pub(crate) fn candidate_in<S: Alter>(
     alloc: Global,
     conn: &mut Connection<S>,
     range: &Range,
     mark: Option<Mark>,
+    issued: u8,
 ) -> Result<Candidate, BookFault>
     ensures leaves { Leaves S.Store conn.old conn.new }
     ensures opened { HasCleanDisk (state S.Store conn.new) → OnOk result (IsTrue (state S.Store conn.new).is_open) }
     ensures fault { result ≢ Err Full }
     ensures answer { HasCleanDisk (state S.Store conn.new) → (h : List Entry) (t : Terms) → IsLegal h t → All IsCall h → StandsFor (state S.Store conn.old).now h t
-        → mark ≡ Some (mark_of (issues_of h) range.now) → IfOk result (λ answer. answer ≡ candidate_of h range.now) }
+        → Contains (ranges_of h) range.now → issued < size_of range.now → mark ≡ Some (mark_of (issues_of h) range.now) → IfOk result (λ answer. answer ≡ candidate_after_of h range.now issued) }
 {
     let Some(mark) = mark else {
         return Err(BookFault::Store);
     };
-    let serial = mark.serial;
+    let serial = range.serial_behind(mark.serial, issued);
     let id = Id {
         service: range.service,
         serial,

@@ -50,6 +50,7 @@ impl<S: Alter> SqlBook<S> {
     ghost use Rattle.sqlite.specs.Held.{state};
     ghost use Rattle.sqlite.specs.State.{HasCleanDisk};
     ghost use Rattle.s10_book.specs.Settings.{Terms, AreTerms};
+    ghost use Rattle.s10_book.specs.BookFault.{no_faults};
     ghost use Rattle.s10_statements.specs.Settled.{WasSound};
     ghost use Rattle.s10_ledger.specs.Ledger.{IsLedger, IsHonest};
     ghost use Rattle.s10_ledger.specs.Refusals.{IsOpeningRefusal};
@@ -62,7 +63,7 @@ impl<S: Alter> SqlBook<S> {
     /// tables as they are.
     pub fn open(alloc: Global, mut conn: Connection<S>) -> Result<SqlBook<S>, Refused<S>>
         requires idle { conn.in_transaction ≡ false }
-        ensures new { IfOk result (λ b. b.faults ≡ 0) }
+        ensures new { IfOk result (λ b. b.faults ≡ no_faults) }
         ensures idle { IfOk result (λ b. b.conn.in_transaction ≡ false) }
         ensures opened { IfOk result (λ b. HasCleanDisk (state S.Store b.conn) → IsTrue (state S.Store b.conn).is_open) }
         ensures was { IfOk result (λ b. WasSound S.Store conn b.conn) }

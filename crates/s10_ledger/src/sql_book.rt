@@ -2,7 +2,7 @@
 
 ghost use Rattle.std.specs.Prelude.{◌≡◌, ◌≢◌, Err};
 ghost use Rattle.s10_book.specs.declared.book_fault.BookFault.TheVariants.{Full};
-ghost use Rattle.s10_book.specs.BookFault.{Counts};
+ghost use Rattle.s10_book.specs.BookFault.{Counts, no_faults};
 ghost use Rattle.sqlite.specs.Held.{state};
 ghost use Rattle.s10_ledger.specs.Ledger.{history_in, IsHonest};
 
@@ -10,7 +10,7 @@ use crate::faults::opening_fault;
 use crate::keeping::keep_followed;
 use crate::lookups::{call_at, call_with_key, candidate_in, issue_of, new_serial, usage_in};
 use crate::refused::Refused;
-use s10_book::{Book, BookFault, Candidate, Entry, Issue, Range, Settings, Usage};
+use s10_book::{Book, BookFault, Candidate, Entry, Faults, Issue, Range, Settings, Usage};
 use s10_core::{Country, Id, Serial, Service};
 use s10_ranges::Ranges;
 use s10_rows::OpenFault;
@@ -26,7 +26,7 @@ pub struct SqlBook<S: Alter> {
     settings: Settings,
     len: u32,
     day: u32,
-    faults: u64,
+    faults: Faults,
     ranges: Ranges,
     // Whether the connection answered the last statement.
     answered: bool,
@@ -66,7 +66,7 @@ impl<S: Alter> SqlBook<S> {
         settings: Settings,
     ) -> Result<SqlBook<S>, Refused<S>>
         requires idle { conn.in_transaction ≡ false }
-        ensures new { IfOk result (λ b. (b.terms ≡ settings) × (b.faults ≡ 0)) }
+        ensures new { IfOk result (λ b. (b.terms ≡ settings) × (b.faults ≡ no_faults)) }
         ensures fresh { IfOk result (λ _. ¬ HasOneOfTheNames (state S.Store conn).now.schema) }
         ensures idle { IfOk result (λ b. b.conn.in_transaction ≡ false) }
         ensures opened { IfOk result (λ b. HasCleanDisk (state S.Store b.conn) → IsTrue (state S.Store b.conn).is_open) }
@@ -94,7 +94,7 @@ impl<S: Alter> SqlBook<S> {
             settings,
             len: 0,
             day: 0,
-            faults: 0,
+            faults: Faults::none(),
             ranges: Ranges::new(alloc),
             answered: true,
         })
@@ -114,7 +114,7 @@ impl<S: Alter> SqlBook<S> {
         requires ledger { HasCleanDisk (state S.Store conn) → IsTrue (state S.Store conn).is_open → IsLedger (state S.Store conn).now settings len day }
         requires mirrored { IsMirrored S.Store conn ranges }
         requires opened { HasCleanDisk (state S.Store conn) → IsTrue (state S.Store conn).is_open }
-        ensures { let book : Ledger S = record { conn = conn; terms = settings; len = len; day = day; faults = 0 } in result ≡ book }
+        ensures { let book : Ledger S = record { conn = conn; terms = settings; len = len; day = day; faults = no_faults } in result ≡ book }
     {
         SqlBook {
             alloc,
@@ -122,7 +122,7 @@ impl<S: Alter> SqlBook<S> {
             settings,
             len,
             day,
-            faults: 0,
+            faults: Faults::none(),
             ranges,
             answered: true,
         }
@@ -170,7 +170,7 @@ impl SqlBook<MemStore> {
     /// Makes an empty ledger with these settings in memory. Refused with Memory, and with Store
     /// where a statement failed.
     pub fn in_memory(alloc: Global, settings: Settings) -> Result<SqlBook<MemStore>, OpenFault>
-        ensures new { IfOk result (λ b. (b.terms ≡ settings) × (b.faults ≡ 0)) }
+        ensures new { IfOk result (λ b. (b.terms ≡ settings) × (b.faults ≡ no_faults)) }
         ensures idle { IfOk result (λ b. b.conn.in_transaction ≡ false) }
         ensures committed { IfOk result (λ b. (state over_memory b.conn).committed ≡ (state over_memory b.conn).now) }
         ensures honest { IfOk result (IsHonest over_memory) }
@@ -193,14 +193,14 @@ impl SqlBook<MemStore> {
     }
 }
 
-// Counts an answer that is a fault.
-fn counted<T>(faults: &mut u64, answer: Result<T, BookFault>) -> Result<T, BookFault>
+// Counts an answer that is a fault, under its own name.
+fn counted<T>(faults: &mut Faults, answer: Result<T, BookFault>) -> Result<T, BookFault>
     requires { answer ≢ Err Full }
     ensures same { result ≡ answer }
     ensures faults { Counts result faults.old faults.new }
 {
-    if answer.is_err() {
-        *faults = faults.saturating_add(1);
+    if let Err(fault) = &answer {
+        faults.add(*fault);
     }
     answer
 }
@@ -236,7 +236,7 @@ impl<S: Alter> Book for SqlBook<S> {
     ghost use Rattle.sqlite.specs.State.{HasCleanDisk};
     ghost use Rattle.s10_wire.specs.Kind.{fits};
     ghost use Rattle.s10_book.specs.History.{entry_with_key, entry_at, ranges_of, is_held_above, overlaps};
-    ghost use Rattle.s10_book.specs.Issues.{last_issue_of, candidate_of};
+    ghost use Rattle.s10_book.specs.Issues.{last_issue_of, candidate_of, candidate_after_of, size_of};
     ghost use Rattle.s10_book.specs.Usage.{usage_of};
     ghost use Rattle.s10_book.specs.Rules.{MayFollow};
     ghost use Rattle.s10_book.specs.Book.{Keeps};
@@ -369,7 +369,27 @@ impl<S: Alter> Book for SqlBook<S> {
                 issue: None,
             });
         }
-        let found = candidate_in(self.alloc, &mut self.conn, range, mark);
+        let found = candidate_in(self.alloc, &mut self.conn, range, mark, 0);
+        let answered = found.is_ok();
+        self.answered = answered;
+        counted(&mut self.faults, found)
+    }
+
+    fn candidate_after(&mut self, range: &Range, issued: u8) -> Result<Candidate, BookFault>
+        requires there { IsHonest S.Store self.old → Contains (ranges_of (history_of S.Store self.old)) range.now }
+        requires fewer { issued < size_of range.now }
+        ensures faults { Counts result self.old.faults self.new.faults }
+        ensures keeps { Keeps (history_of S.Store) (λ b. b.terms) (IsHonest S.Store) self.old self.new }
+        ensures opened { HasCleanDisk (state S.Store self.new.conn) → OnOk result (IsTrue (state S.Store self.new.conn).is_open) }
+        ensures answer { IsHonest S.Store self.new → IfOk result (λ c. c ≡ candidate_after_of (history_of S.Store self.old) range.now issued) }
+    {
+        let found = candidate_in(
+            self.alloc,
+            &mut self.conn,
+            range,
+            self.ranges.mark(range.num),
+            issued,
+        );
         let answered = found.is_ok();
         self.answered = answered;
         counted(&mut self.faults, found)

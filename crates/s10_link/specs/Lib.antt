@@ -1,4 +1,3 @@
-pub mod Packet
 pub mod Peer
 pub mod Trace
 pub mod Link

@@ -1,20 +1,37 @@
 ghost use Rattle.std.specs.Prelude.{◌≡◌, ◌≤◌, take, length};
 
-/// A datagram that came: its first 512 bytes.
+use std::marker::Model;
+
+/// A datagram that came: its first 512 bytes. Packets of the same bytes are the same packet.
 #[derive(Clone, Copy, Debug, PartialEq, Eq)]
 pub struct Packet {
+    // zeros behind the bytes, so that equal bytes are equal in every field
     room: [u8; 512],
     len: usize,
-    ghost fits: { len ≤ 512 },
+}
+
+impl Model for Packet {
+    ghost use Rattle.std.specs.Prelude.{ℕ, List, take, length};
+    ghost use Rattle.std.proofs.Common.{sym};
+    ghost use Rattle.s10_wire.specs.Room.{IsRoomed, roomed};
+
+    ghost Value = { List ℕ };
+
+    ghost view = { λ packet. take packet.len packet.room };
+
+    ghost invariant = { λ packet. IsRoomed 512 packet.room packet.len };
+
+    ghost inverse = { λ bytes. record { room = roomed 512 bytes; len = length bytes } };
+
+    ghost inverse_ok = { λ packet known i. record { room = sym known.rest i; len = known.long i } };
 }
 
 impl Packet {
-    ghost use Rattle.std.specs.Prelude.{◌≡◌, take};
-    ghost use Rattle.s10_link.specs.Packet.{packet_bytes};
+    ghost use Rattle.std.specs.Prelude.{◌≡◌, ◌≤◌, take, length};
 
     /// Keeps the first 512 bytes; what a datagram has beyond them is left out.
     pub fn new(datagram: &[u8]) -> Packet
-        ensures { packet_bytes result ≡ take 512 datagram.now }
+        ensures { result ≡ take 512 datagram.now }
     {
         let kept = front(datagram, 512);
         let len = kept.len();
@@ -25,7 +42,8 @@ impl Packet {
 
     /// The bytes that were kept.
     pub fn bytes(&self) -> &[u8]
-        ensures { result.now ≡ packet_bytes self.now }
+        ensures bytes { result.now ≡ self.now }
+        ensures few { length self.now ≤ 512 }
     {
         &self.room[..self.len]
     }

@@ -172,13 +172,13 @@ unissued_rows h x calls right never =
     ∙ ap (map (row_in h)) (all_left (is_of x) (last_issues (issues_of h)) (last_of (issues_of h) x ∙ ap (λ (is : List Issuance). option_to_list (last_or None is)) (none_filter (is_of x) (issues_of h) never)))
 
 with_issue : (h : List Entry) (x : Id) (issued : Issued) (row : SerialRow) → All IsCall h → IsId x → (row.pair ≡ pos (pair_of x.service x.country)) × (row.serial ≡ pos x.serial) → (issued ≡ Never → is_issued (issues_of h) x ≡ false)
-    → with_serial (Some (write_of issued row)) (serial_rows h) ≡ filter (λ s. not (is_at (pos (pair_of x.service x.country)) (pos x.serial) s)) (serial_rows h) ++ row ∷ []
+    → with_serial (write_of issued row) (serial_rows h) ≡ filter (λ s. not (is_at (pos (pair_of x.service x.country)) (pos x.serial) s)) (serial_rows h) ++ row ∷ []
 with_issue h x Never row calls right at never = ap (λ (l : List SerialRow). l ++ row ∷ []) (sym (unissued_rows h x calls right (never refl)))
 with_issue h x Before row calls right at never = ap₂ (λ (p s : ℤ). filter (λ r. not (is_at p s r)) (serial_rows h) ++ row ∷ []) at.0 at.1
 
 pub draw_makes : (h : List Entry) (t : Terms) (e : Entry) (day : ℕ) (x : Id) (r : Range) (issued : Issued) → IsLegal h t → MayFollow h t e → All IsCall h → IsCall e → e.outcome ≡ Drawn day x → Contains (ranges_of h) r → lies_in r x ≡ true
     → (issued ≡ Never → is_issued (issues_of h) x ≡ false)
-    → Makes h e (Some (Mark (pos r.num) (pos (next_of r x.serial)))) (Some (write_of issued (serial_row false (made_by e (1 + length h) (day, x)))))
+    → Makes h e (Mark (pos r.num) (pos (next_of r x.serial)) ∷ []) (write_of issued (serial_row false (made_by e (1 + length h) (day, x))) ∷ [])
 draw_makes h t e day x r issued legal may calls call done there lies never =
     let out : IsOutcome (Drawn day x) = subst IsOutcome done call.outcome in
     let row : SerialRow = serial_row false (made_by e (1 + length h) (day, x)) in

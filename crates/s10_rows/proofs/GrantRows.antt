@@ -37,7 +37,7 @@ made_range h customer day interval num (Grant holder s c first last) o r is done
 made_range h customer day interval num b o r is done made = absurd cc
 
 pub grant_makes : (h : List Entry) (t : Terms) (e : Entry) (num : ℕ) (r : Range) → IsLegal h t → MayFollow h t e → e.outcome ≡ Granted num → range_of_grant num e.request.body (Granted num) ≡ Some r
-    → Makes h e (Some (New (range_row r.first r))) None
+    → Makes h e (New (range_row r.first r) ∷ []) []
 grant_makes h t e num r legal may done makes =
     let made : range_of_grant (length (ranges_of h) + 1) e.request.body e.outcome ≡ Some r =
     made_range h e.request.customer e.day t.interval num e.request.body e.outcome r may.right done makes in

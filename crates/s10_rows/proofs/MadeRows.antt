@@ -82,7 +82,7 @@ none_voided x (Void id) Voided other = absurd (other refl)
 none_voided x b o other = refl
 
 -- another call makes no row
-pub others_make_none : (h : List Entry) (e : Entry) → ((num : ℕ) → ¬ (e.outcome ≡ Granted num)) → ((day : ℕ) (id : Id) → ¬ (e.outcome ≡ Drawn day id)) → ¬ (e.outcome ≡ Voided) → Makes h e None None
+pub others_make_none : (h : List Entry) (e : Entry) → ((num : ℕ) → ¬ (e.outcome ≡ Granted num)) → ((day : ℕ) (id : Id) → ¬ (e.outcome ≡ Drawn day id)) → ¬ (e.outcome ≡ Voided) → Makes h e [] []
 others_make_none h e not_granted not_drawn not_voided =
     let carried = none_carried e.outcome not_drawn in
     record {

@@ -63,7 +63,7 @@ voids_is : (e : Entry) (x y : Id) → e.request.body ≡ Void x → e.outcome �
 voids_is e x y asks done = ap₂ (λ (b : Body) (o : Outcome). voids_by y b o) asks done
 
 void_makes : (h : List Entry) (t : Terms) (e : Entry) (x : Id) (i : Issuance) → IsLegal h t → All IsCall h → IsCall e → e.request.body ≡ Void x → e.outcome ≡ Voided → last_issuance_of (issues_of h) x ≡ Some i
-    → Makes h e None (Some (Again (serial_row true i)))
+    → Makes h e [] (Again (serial_row true i) ∷ [])
 void_makes h t e x i legal calls call asks done last =
     let body : IsBody (Void x) = subst IsBody asks call.request.2 in
     let carried : carried_by e.outcome ≡ [] = ap carried_by done in
@@ -93,7 +93,7 @@ void_makes h t e x i legal calls call asks done last =
 -- the one row is that of the last issue, and it is made anew as voided
 pub voided_one : (rows : List SerialRow) (h : List Entry) (t : Terms) (e : Entry) (x : Id) → IsLegal h t → MayFollow h t e → All IsCall h → IsCall e → e.request.body ≡ Void x → e.outcome ≡ Voided
     → HaveSameRows (filter (is_within (pos (pair_of x.service x.country)) (pos x.serial) (pos x.serial)) (serial_rows h)) rows
-    → (i : Issuance) × (rows ≡ row_in h i ∷ []) × Makes h e None (Some (Again (serial_row true i)))
+    → (i : Issuance) × (rows ≡ row_in h i ∷ []) × Makes h e [] (Again (serial_row true i) ∷ [])
 voided_one rows h t e x legal may calls call asks done same =
     let last = void_issued h t e x may asks done in
     let body : IsBody (Void x) = subst IsBody asks call.request.2 in

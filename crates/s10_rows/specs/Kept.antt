@@ -1,5 +1,5 @@
 -- What keeping a call makes of the rows.
-use Rattle.std.specs.Prelude.{ℤ, Bool, not, ◌&&◌, if◌then◌else◌, List, [], ◌∷◌, ◌++◌, map, filter, Option, Some, None}
+use Rattle.std.specs.Prelude.{⊤, ◌≤◌, ℤ, Bool, not, ◌&&◌, if◌then◌else◌, List, [], ◌∷◌, ◌++◌, map, length, filter}
 use Rattle.std.specs.Ordering.{int_eq}
 use Rattle.s10_book.specs.declared.entry.Entry.{Entry}
 use Rattle.s10_rows.specs.declared.issued.Issued.{Issued}
@@ -24,29 +24,42 @@ marked num mark r = if has_num num r then record r { mark = mark } else r
 abbrev pub is_at : ℤ → ℤ → SerialRow → Bool
 is_at pair serial r = int_eq r.pair pair && int_eq r.serial serial
 
--- the rows behind what a call makes of the ranges
-abbrev pub with_range : Option RangeWrite → List RangeRow → List RangeRow
-with_range None rows = rows
-with_range (Some (NewRange row)) rows = rows ++ row ∷ []
-with_range (Some (Mark num mark)) rows = map (marked num mark) rows
+-- the rows behind one write of a range
+abbrev pub with_range : RangeWrite → List RangeRow → List RangeRow
+with_range (NewRange row) rows = rows ++ row ∷ []
+with_range (Mark num mark) rows = map (marked num mark) rows
 
--- the rows behind what a call makes of the serials
-abbrev pub with_serial : Option SerialWrite → List SerialRow → List SerialRow
-with_serial None rows = rows
-with_serial (Some (NewSerial row)) rows = rows ++ row ∷ []
-with_serial (Some (Again row)) rows = filter (λ r. not (is_at row.pair row.serial r)) rows ++ row ∷ []
+-- the rows behind one write of a serial
+abbrev pub with_serial : SerialWrite → List SerialRow → List SerialRow
+with_serial (NewSerial row) rows = rows ++ row ∷ []
+with_serial (Again row) rows = filter (λ r. not (is_at row.pair row.serial r)) rows ++ row ∷ []
+
+-- the rows behind what a call makes of the ranges, write by write
+abbrev pub with_ranges : List RangeWrite → List RangeRow → List RangeRow
+with_ranges [] rows = rows
+with_ranges (w ∷ ws) rows = with_ranges ws (with_range w rows)
+
+-- the rows behind what a call makes of the serials, write by write
+abbrev pub with_serials : List SerialWrite → List SerialRow → List SerialRow
+with_serials [] rows = rows
+with_serials (w ∷ ws) rows = with_serials ws (with_serial w rows)
 
 -- the row that is written
 abbrev pub row_of : SerialWrite → SerialRow
 row_of (NewSerial row) = row
 row_of (Again row) = row
 
+-- each write finds at most one row of its pair and serial, of those that the writes before it leave
+abbrev pub FindAtMostOne : List SerialWrite → List SerialRow → Type 0
+FindAtMostOne [] rows = ⊤
+FindAtMostOne (w ∷ ws) rows = (length (filter (is_at (row_of w).pair (row_of w).serial) rows) ≤ 1) × FindAtMostOne ws (with_serial w rows)
+
 -- the write of an issue, by whether its identifier was issued before
 abbrev pub write_of : Issued → SerialRow → SerialWrite
 write_of Never row = NewSerial row
 write_of Before row = Again row
 
--- the call behind the history makes these rows, at most one of each table
-pub record Makes (h : List Entry) (e : Entry) (range : Option RangeWrite) (serial : Option SerialWrite) : Type 0 where
-  pub ranges : HaveSameRows (with_range range (range_rows h)) (range_rows (h ++ e ∷ []))
-  pub serials : HaveSameRows (with_serial serial (serial_rows h)) (serial_rows (h ++ e ∷ []))
+-- the call behind the history makes these rows
+pub record Makes (h : List Entry) (e : Entry) (made_ranges : List RangeWrite) (made_serials : List SerialWrite) : Type 0 where
+  pub ranges : HaveSameRows (with_ranges made_ranges (range_rows h)) (range_rows (h ++ e ∷ []))
+  pub serials : HaveSameRows (with_serials made_serials (serial_rows h)) (serial_rows (h ++ e ∷ []))

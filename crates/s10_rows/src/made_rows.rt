@@ -1,6 +1,6 @@
 //! The rows that a kept call makes.
 
-ghost use Rattle.std.specs.Prelude.{◌≡◌, ℕ, ◌+◌, ◌==◌, pos, false, true, if◌then◌else◌, List, length, filter, All, Contains, None, IfOk, IfErr, IsOk, IsSome};
+ghost use Rattle.std.specs.Prelude.{◌≡◌, ℕ, ◌+◌, ◌==◌, pos, false, true, if◌then◌else◌, List, [], length, filter, option_to_list, All, Contains, None, IfOk, IfErr, IsOk, IsSome};
 ghost use Rattle.s10_core.specs.declared.id.Id.{Id};
 ghost use Rattle.s10_wire.specs.declared.body.Body.TheVariants.{Void};
 ghost use Rattle.s10_wire.specs.declared.outcome.Outcome.TheVariants.{Granted, Drawn, Voided};
@@ -81,7 +81,7 @@ fn issue_write(issued: Issued, row: SerialRow) -> SerialWrite
 // The row of the range that a Grant makes where it is Done. None for another call.
 fn new_range_row(entry: &Entry) -> Option<RangeWrite>
     ensures row { (h : List Entry) (t : Terms) (n : ℕ) → IsLegal h t → MayFollow h t entry.now → entry.now.outcome ≡ Granted n
-        → Makes h entry.now result None }
+        → Makes h entry.now (option_to_list result) [] }
 {
     let Outcome::Granted { range: num } = entry.outcome else {
         return None;
@@ -110,7 +110,7 @@ fn new_range_row(entry: &Entry) -> Option<RangeWrite>
 /// What a Done Grant makes: the row of its range, whose first serial is the mark.
 pub fn granted_row(entry: &Entry) -> Made
     ensures { (h : List Entry) (t : Terms) (n : ℕ) → IsLegal h t → MayFollow h t entry.now → entry.now.outcome ≡ Granted n
-        → Makes h entry.now result.range result.serial }
+        → Makes h entry.now (option_to_list result.range) (option_to_list result.serial) }
 {
     Made {
         range: new_range_row(entry),
@@ -124,7 +124,7 @@ pub fn drawn_rows(range: &Range, issued: Issued, arrival: u32, entry: &Entry, id
     ensures rows { IsSome result.range × IsSome result.serial }
     ensures makes { (h : List Entry) (t : Terms) (day : ℕ) → IsLegal h t → MayFollow h t entry.now → All IsCall h → IsCall entry.now → entry.now.outcome ≡ Drawn day id.now
         → arrival ≡ length h + 1 → Contains (ranges_of h) range.now → lies_in range.now id.now ≡ true
-        → (issued ≡ Issued.Never → is_issued (issues_of h) id.now ≡ false) → Makes h entry.now result.range result.serial }
+        → (issued ≡ Issued.Never → is_issued (issues_of h) id.now ≡ false) → Makes h entry.now (option_to_list result.range) (option_to_list result.serial) }
 {
     let mark = serial_behind(range, id.serial);
     Made {
@@ -147,7 +147,7 @@ pub fn voided_row(rows: &[SerialRow]) -> Result<Made, BookFault>
     ensures row { IfOk result (λ made. (made.range ≡ None) × IsSome made.serial) }
     ensures makes { (h : List Entry) (t : Terms) (e : Entry) (id : Id) → IsLegal h t → MayFollow h t e → All IsCall h → IsCall e → e.request.body ≡ Void id → e.outcome ≡ Voided
         → HaveSameRows (filter (is_within (pos (pair_of id.service id.country)) (pos id.serial) (pos id.serial)) (serial_rows h)) rows.now
-        → IfOk result (λ made. Makes h e made.range made.serial) }
+        → IfOk result (λ made. Makes h e (option_to_list made.range) (option_to_list made.serial)) }
     ensures done { (h : List Entry) (t : Terms) (e : Entry) (id : Id) → IsLegal h t → MayFollow h t e → All IsCall h → IsCall e → e.request.body ≡ Void id → e.outcome ≡ Voided
         → HaveSameRows (filter (is_within (pos (pair_of id.service id.country)) (pos id.serial) (pos id.serial)) (serial_rows h)) rows.now
         → IsOk result }
@@ -164,5 +164,5 @@ pub fn voided_row(rows: &[SerialRow]) -> Result<Made, BookFault>
 /// A call that was no Done Grant, no Done Draw and no Done Void makes no row of a range or of an identifier.
 pub fn other_calls_make_no_row()
     ensures { (h : List Entry) (e : Entry) → ((num : ℕ) → ¬ (e.outcome ≡ Granted num)) → ((day : ℕ) (id : Id) → ¬ (e.outcome ≡ Drawn day id))
-        → ¬ (e.outcome ≡ Voided) → Makes h e None None }
+        → ¬ (e.outcome ≡ Voided) → Makes h e [] [] }
 {}

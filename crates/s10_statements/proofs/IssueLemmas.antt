@@ -337,7 +337,7 @@ one_changed (Some n) h = ap Some (sym h)
 
 -- the typed rows after the write
 typed_after : (serials : List SerialRow) (r : SerialRow) (old new : Trees) → Upserted old new r → IsPermutation (map shown_serial serials) (map serial_columns (old 4))
-    → IsPermutation (map shown_serial (with_serial (Some (Again r)) serials)) (map serial_columns (new 4))
+    → IsPermutation (map shown_serial (with_serial (Again r) serials)) (map serial_columns (new 4))
 typed_after serials r old new it p =
     let left : filter (λ v. not (at_key r v)) (map shown_serial serials) ≡ map shown_serial (filter (λ x. not (is_at r.pair r.serial x)) serials) =
     filter-map (λ v. not (at_key r v)) shown_serial serials ∙ ap (map shown_serial) (filter_each (λ x. not (at_key r (shown_serial x))) (λ x. not (is_at r.pair r.serial x)) (λ x. ap not (key_typed r x)) serials) in
@@ -366,7 +366,7 @@ numbered_after : (r : SerialRow) (old new : Trees) → Upserted old new r → Al
 numbered_after r old new it all = all_moved IsNumbered (it.row ∷ others r (old 4)) (new 4) it.put (it.is_numbered, all_kept IsNumbered (λ x. not (at_key r (serial_columns x))) (old 4) all)
 
 pub issues : (old new : State) (r : SerialRow) (tables : Tables) → HasTables old.now tables → length (filter (is_at r.pair r.serial) tables.serials) ≤ 1
-    → Executes again_text (shown_serial r) old new (Ok 1) → HasTables new.now (record tables { serials = with_serial (Some (Again r)) tables.serials })
+    → Executes again_text (shown_serial r) old new (Ok 1) → HasTables new.now (record tables { serials = with_serial (Again r) tables.serials })
 issues old new r tables held few h =
     let params = shown_serial r in
     let has = held.schema.is in

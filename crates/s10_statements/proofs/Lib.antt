@@ -17,3 +17,4 @@ pub mod AddLemmas
 pub mod MarkLemmas
 pub mod Apart
 pub mod CrashLemmas
+pub mod WriteLemmas

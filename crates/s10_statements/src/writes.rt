@@ -1,6 +1,6 @@
 //! The writes of a kept call.
 
-ghost use Rattle.std.specs.Prelude.{◌≡◌, ◌≤◌, ◌⊎◌, ◌++◌, ◌∷◌, [], pos, true, IsTrue, List, length, filter, IfSome, OnOk, OnErr};
+ghost use Rattle.std.specs.Prelude.{◌≡◌, ◌≤◌, ◌⊎◌, ◌++◌, ◌∷◌, [], pos, true, IsTrue, List, length, filter, OnOk, OnErr};
 ghost use Rattle.sqlite_trees.specs.Tree.{Trees};
 ghost use Rattle.sqlite_trees.specs.View.{doubt};
 ghost use Rattle.sqlite.specs.Held.{state};
@@ -9,8 +9,7 @@ ghost use Rattle.s10_rows.specs.CallRow.{StoredCall};
 ghost use Rattle.s10_rows.specs.Tables.{Tables};
 ghost use Rattle.s10_statements.specs.Shown.{HasTables};
 ghost use Rattle.s10_statements.specs.Settled.{IsSettled};
-ghost use Rattle.s10_rows.specs.Kept.{is_at, row_of, with_range, with_serial};
-ghost use Rattle.std.specs.Prelude.{Some};
+ghost use Rattle.s10_rows.specs.Kept.{FindAtMostOne, is_at, row_of, with_range, with_ranges, with_serial, with_serials};
 
 use s10_book::Entry;
 use s10_rows::{RangeRow, RangeWrite, SerialRow, SerialWrite};
@@ -49,7 +48,7 @@ fn put_call<S: Alter>(
 fn add_range<S: Alter>(tx: &mut Transaction<'_, S>, range: &RangeRow) -> Result<(), Error>
     ensures same_reference { tx.new.conn.ghost_name ≡ tx.old.conn.ghost_name }
     ensures made { HasCleanDisk (state S.Store tx.new.conn.now) → IsTrue (state S.Store tx.old.conn.now).in_transaction → OnOk result ((tables : Tables) → HasTables (state S.Store tx.old.conn.now).now tables
-        → HasTables (state S.Store tx.new.conn.now).now (record tables { ranges = with_range (Some (RangeWrite.New range.now)) tables.ranges })) }
+        → HasTables (state S.Store tx.new.conn.now).now (record tables { ranges = with_range (RangeWrite.New range.now) tables.ranges })) }
     ensures inside { HasCleanDisk (state S.Store tx.new.conn.now) → IsTrue (state S.Store tx.old.conn.now).in_transaction
         → OnOk result (Shows (state S.Store tx.old.conn.now) (state S.Store tx.new.conn.now) (state S.Store tx.new.conn.now).now (state S.Store tx.old.conn.now).committed true) }
     ensures kept { HasCleanDisk (state S.Store tx.new.conn.now) → IsTrue (state S.Store tx.old.conn.now).in_transaction → KeepsCommit (state S.Store tx.old.conn.now) (state S.Store tx.new.conn.now) }
@@ -74,7 +73,7 @@ fn add_range<S: Alter>(tx: &mut Transaction<'_, S>, range: &RangeRow) -> Result<
 fn set_mark<S: Alter>(tx: &mut Transaction<'_, S>, num: i64, mark: i64) -> Result<(), Error>
     ensures same_reference { tx.new.conn.ghost_name ≡ tx.old.conn.ghost_name }
     ensures made { HasCleanDisk (state S.Store tx.new.conn.now) → IsTrue (state S.Store tx.old.conn.now).in_transaction → OnOk result ((tables : Tables) → HasTables (state S.Store tx.old.conn.now).now tables
-        → HasTables (state S.Store tx.new.conn.now).now (record tables { ranges = with_range (Some (RangeWrite.Mark num mark)) tables.ranges })) }
+        → HasTables (state S.Store tx.new.conn.now).now (record tables { ranges = with_range (RangeWrite.Mark num mark) tables.ranges })) }
     ensures inside { HasCleanDisk (state S.Store tx.new.conn.now) → IsTrue (state S.Store tx.old.conn.now).in_transaction
         → OnOk result (Shows (state S.Store tx.old.conn.now) (state S.Store tx.new.conn.now) (state S.Store tx.new.conn.now).now (state S.Store tx.old.conn.now).committed true) }
     ensures kept { HasCleanDisk (state S.Store tx.new.conn.now) → IsTrue (state S.Store tx.old.conn.now).in_transaction → KeepsCommit (state S.Store tx.old.conn.now) (state S.Store tx.new.conn.now) }
@@ -95,7 +94,7 @@ fn set_mark<S: Alter>(tx: &mut Transaction<'_, S>, num: i64, mark: i64) -> Resul
 fn put_range<S: Alter>(tx: &mut Transaction<'_, S>, write: &RangeWrite) -> Result<(), Error>
     ensures same_reference { tx.new.conn.ghost_name ≡ tx.old.conn.ghost_name }
     ensures made { HasCleanDisk (state S.Store tx.new.conn.now) → IsTrue (state S.Store tx.old.conn.now).in_transaction → OnOk result ((tables : Tables) → HasTables (state S.Store tx.old.conn.now).now tables
-        → HasTables (state S.Store tx.new.conn.now).now (record tables { ranges = with_range (Some write.now) tables.ranges })) }
+        → HasTables (state S.Store tx.new.conn.now).now (record tables { ranges = with_range write.now tables.ranges })) }
     ensures inside { HasCleanDisk (state S.Store tx.new.conn.now) → IsTrue (state S.Store tx.old.conn.now).in_transaction
         → OnOk result (Shows (state S.Store tx.old.conn.now) (state S.Store tx.new.conn.now) (state S.Store tx.new.conn.now).now (state S.Store tx.old.conn.now).committed true) }
     ensures kept { HasCleanDisk (state S.Store tx.new.conn.now) → IsTrue (state S.Store tx.old.conn.now).in_transaction → KeepsCommit (state S.Store tx.old.conn.now) (state S.Store tx.new.conn.now) }
@@ -111,7 +110,7 @@ fn put_range<S: Alter>(tx: &mut Transaction<'_, S>, write: &RangeWrite) -> Resul
 fn add_serial<S: Alter>(tx: &mut Transaction<'_, S>, serial: &SerialRow) -> Result<(), Error>
     ensures same_reference { tx.new.conn.ghost_name ≡ tx.old.conn.ghost_name }
     ensures made { HasCleanDisk (state S.Store tx.new.conn.now) → IsTrue (state S.Store tx.old.conn.now).in_transaction → OnOk result ((tables : Tables) → HasTables (state S.Store tx.old.conn.now).now tables
-        → HasTables (state S.Store tx.new.conn.now).now (record tables { serials = with_serial (Some (SerialWrite.New serial.now)) tables.serials })) }
+        → HasTables (state S.Store tx.new.conn.now).now (record tables { serials = with_serial (SerialWrite.New serial.now) tables.serials })) }
     ensures inside { HasCleanDisk (state S.Store tx.new.conn.now) → IsTrue (state S.Store tx.old.conn.now).in_transaction
         → OnOk result (Shows (state S.Store tx.old.conn.now) (state S.Store tx.new.conn.now) (state S.Store tx.new.conn.now).now (state S.Store tx.old.conn.now).committed true) }
     ensures kept { HasCleanDisk (state S.Store tx.new.conn.now) → IsTrue (state S.Store tx.old.conn.now).in_transaction → KeepsCommit (state S.Store tx.old.conn.now) (state S.Store tx.new.conn.now) }
@@ -137,7 +136,7 @@ fn add_serial<S: Alter>(tx: &mut Transaction<'_, S>, serial: &SerialRow) -> Resu
 fn replace_serial<S: Alter>(tx: &mut Transaction<'_, S>, serial: &SerialRow) -> Result<(), Error>
     ensures same_reference { tx.new.conn.ghost_name ≡ tx.old.conn.ghost_name }
     ensures made { HasCleanDisk (state S.Store tx.new.conn.now) → IsTrue (state S.Store tx.old.conn.now).in_transaction → OnOk result ((tables : Tables) → HasTables (state S.Store tx.old.conn.now).now tables
-        → length (filter (is_at serial.now.pair serial.now.serial) tables.serials) ≤ 1 → HasTables (state S.Store tx.new.conn.now).now (record tables { serials = with_serial (Some (SerialWrite.Again serial.now)) tables.serials })) }
+        → length (filter (is_at serial.now.pair serial.now.serial) tables.serials) ≤ 1 → HasTables (state S.Store tx.new.conn.now).now (record tables { serials = with_serial (SerialWrite.Again serial.now) tables.serials })) }
     ensures inside { HasCleanDisk (state S.Store tx.new.conn.now) → IsTrue (state S.Store tx.old.conn.now).in_transaction
         → OnOk result (Shows (state S.Store tx.old.conn.now) (state S.Store tx.new.conn.now) (state S.Store tx.new.conn.now).now (state S.Store tx.old.conn.now).committed true) }
     ensures kept { HasCleanDisk (state S.Store tx.new.conn.now) → IsTrue (state S.Store tx.old.conn.now).in_transaction → KeepsCommit (state S.Store tx.old.conn.now) (state S.Store tx.new.conn.now) }
@@ -167,7 +166,7 @@ fn replace_serial<S: Alter>(tx: &mut Transaction<'_, S>, serial: &SerialRow) -> 
 fn put_serial<S: Alter>(tx: &mut Transaction<'_, S>, write: &SerialWrite) -> Result<(), Error>
     ensures same_reference { tx.new.conn.ghost_name ≡ tx.old.conn.ghost_name }
     ensures made { HasCleanDisk (state S.Store tx.new.conn.now) → IsTrue (state S.Store tx.old.conn.now).in_transaction → OnOk result ((tables : Tables) → HasTables (state S.Store tx.old.conn.now).now tables
-        → length (filter (is_at (row_of write.now).pair (row_of write.now).serial) tables.serials) ≤ 1 → HasTables (state S.Store tx.new.conn.now).now (record tables { serials = with_serial (Some write.now) tables.serials })) }
+        → length (filter (is_at (row_of write.now).pair (row_of write.now).serial) tables.serials) ≤ 1 → HasTables (state S.Store tx.new.conn.now).now (record tables { serials = with_serial write.now tables.serials })) }
     ensures inside { HasCleanDisk (state S.Store tx.new.conn.now) → IsTrue (state S.Store tx.old.conn.now).in_transaction
         → OnOk result (Shows (state S.Store tx.old.conn.now) (state S.Store tx.new.conn.now) (state S.Store tx.new.conn.now).now (state S.Store tx.old.conn.now).committed true) }
     ensures kept { HasCleanDisk (state S.Store tx.new.conn.now) → IsTrue (state S.Store tx.old.conn.now).in_transaction → KeepsCommit (state S.Store tx.old.conn.now) (state S.Store tx.new.conn.now) }
@@ -179,42 +178,38 @@ fn put_serial<S: Alter>(tx: &mut Transaction<'_, S>, write: &SerialWrite) -> Res
     }
 }
 
-fn put_range_made<S: Alter>(
-    tx: &mut Transaction<'_, S>,
-    range: &Option<RangeWrite>,
-) -> Result<(), Error>
+/// Makes of the ranges what a call makes of them, write by write.
+fn put_ranges<S: Alter>(tx: &mut Transaction<'_, S>, ranges: &[RangeWrite]) -> Result<(), Error>
     ensures same_reference { tx.new.conn.ghost_name ≡ tx.old.conn.ghost_name }
     ensures made { HasCleanDisk (state S.Store tx.new.conn.now) → IsTrue (state S.Store tx.old.conn.now).in_transaction → OnOk result ((tables : Tables) → HasTables (state S.Store tx.old.conn.now).now tables
-        → HasTables (state S.Store tx.new.conn.now).now (record tables { ranges = with_range range.now tables.ranges })) }
+        → HasTables (state S.Store tx.new.conn.now).now (record tables { ranges = with_ranges ranges.now tables.ranges })) }
     ensures inside { HasCleanDisk (state S.Store tx.new.conn.now) → IsTrue (state S.Store tx.old.conn.now).in_transaction
         → OnOk result (IsTrue (state S.Store tx.new.conn.now).in_transaction) }
     ensures kept { HasCleanDisk (state S.Store tx.new.conn.now) → IsTrue (state S.Store tx.old.conn.now).in_transaction → KeepsCommit (state S.Store tx.old.conn.now) (state S.Store tx.new.conn.now) }
     ensures survives { Survives (state S.Store tx.old.conn.now) (state S.Store tx.new.conn.now) (λ _. ⊥) }
     ensures clean { doubt (state S.Store tx.old.conn.now).is_clean ≤ doubt (state S.Store tx.new.conn.now).is_clean }
 {
-    match range {
-        None => Ok(()),
-        Some(write) => put_range(tx, write),
+    for write in ranges {
+        put_range(tx, write)?;
     }
+    Ok(())
 }
 
-fn put_serial_made<S: Alter>(
-    tx: &mut Transaction<'_, S>,
-    serial: &Option<SerialWrite>,
-) -> Result<(), Error>
+/// Makes of the serials what a call makes of them, write by write.
+fn put_serials<S: Alter>(tx: &mut Transaction<'_, S>, serials: &[SerialWrite]) -> Result<(), Error>
     ensures same_reference { tx.new.conn.ghost_name ≡ tx.old.conn.ghost_name }
     ensures made { HasCleanDisk (state S.Store tx.new.conn.now) → IsTrue (state S.Store tx.old.conn.now).in_transaction → OnOk result ((tables : Tables) → HasTables (state S.Store tx.old.conn.now).now tables
-        → IfSome serial.now (λ w. length (filter (is_at (row_of w).pair (row_of w).serial) tables.serials) ≤ 1) → HasTables (state S.Store tx.new.conn.now).now (record tables { serials = with_serial serial.now tables.serials })) }
+        → FindAtMostOne serials.now tables.serials → HasTables (state S.Store tx.new.conn.now).now (record tables { serials = with_serials serials.now tables.serials })) }
     ensures inside { HasCleanDisk (state S.Store tx.new.conn.now) → IsTrue (state S.Store tx.old.conn.now).in_transaction
         → OnOk result (IsTrue (state S.Store tx.new.conn.now).in_transaction) }
     ensures kept { HasCleanDisk (state S.Store tx.new.conn.now) → IsTrue (state S.Store tx.old.conn.now).in_transaction → KeepsCommit (state S.Store tx.old.conn.now) (state S.Store tx.new.conn.now) }
     ensures survives { Survives (state S.Store tx.old.conn.now) (state S.Store tx.new.conn.now) (λ _. ⊥) }
     ensures clean { doubt (state S.Store tx.old.conn.now).is_clean ≤ doubt (state S.Store tx.new.conn.now).is_clean }
 {
-    match serial {
-        None => Ok(()),
-        Some(write) => put_serial(tx, write),
+    for write in serials {
+        put_serial(tx, write)?;
     }
+    Ok(())
 }
 
 /// Writes the row of a call and those that it makes, in one transaction: all of them, or none.
@@ -223,28 +218,28 @@ pub fn keep_rows<S: Alter>(
     arrival: u32,
     entry: &Entry,
     reply: &[u8],
-    range: &Option<RangeWrite>,
-    serial: &Option<SerialWrite>,
+    ranges: &[RangeWrite],
+    serials: &[SerialWrite],
 ) -> Result<(), Error>
     requires settled { IsSettled S.Store conn.old }
     ensures settled { IsSettled S.Store conn.new }
     ensures opened { HasCleanDisk (state S.Store conn.new) → OnOk result (IsTrue (state S.Store conn.new).is_open) }
     ensures all { let row : StoredCall = record { arrival = pos arrival; customer = pos entry.now.request.customer; number = pos entry.now.request.number; day = pos entry.now.day; reply = reply.now } in
         HasCleanDisk (state S.Store conn.new) → OnOk result ((tables : Tables) → HasTables (state S.Store conn.old).now tables
-        → IfSome serial.now (λ w. length (filter (is_at (row_of w).pair (row_of w).serial) tables.serials) ≤ 1)
-        → HasTables (state S.Store conn.new).now (record tables { calls = tables.calls ++ row ∷ []; ranges = with_range range.now tables.ranges; serials = with_serial serial.now tables.serials })) }
+        → FindAtMostOne serials.now tables.serials
+        → HasTables (state S.Store conn.new).now (record tables { calls = tables.calls ++ row ∷ []; ranges = with_ranges ranges.now tables.ranges; serials = with_serials serials.now tables.serials })) }
     ensures none { HasCleanDisk (state S.Store conn.new) → IsTrue (state S.Store conn.new).is_open → OnErr result ((state S.Store conn.new).now ≡ (state S.Store conn.old).now) }
     ensures was_open { HasCleanDisk (state S.Store conn.new) → IsTrue (state S.Store conn.new).is_open → IsTrue (state S.Store conn.old).is_open }
     ensures clean { doubt (state S.Store conn.old).is_clean ≤ doubt (state S.Store conn.new).is_clean }
     ensures crash { let row : StoredCall = record { arrival = pos arrival; customer = pos entry.now.request.customer; number = pos entry.now.request.number; day = pos entry.now.day; reply = reply.now } in
         HasCleanDisk (state S.Store conn.new) → (db : Trees) → (state S.Store conn.new).may_leave db
         → (state S.Store conn.old).may_leave db ⊎ (IsTrue (state S.Store conn.old).is_open × ((tables : Tables) → HasTables (state S.Store conn.old).now tables
-        → IfSome serial.now (λ w. length (filter (is_at (row_of w).pair (row_of w).serial) tables.serials) ≤ 1)
-        → HasTables (record (state S.Store conn.old).now { trees = db }) (record tables { calls = tables.calls ++ row ∷ []; ranges = with_range range.now tables.ranges; serials = with_serial serial.now tables.serials }))) }
+        → FindAtMostOne serials.now tables.serials
+        → HasTables (record (state S.Store conn.old).now { trees = db }) (record tables { calls = tables.calls ++ row ∷ []; ranges = with_ranges ranges.now tables.ranges; serials = with_serials serials.now tables.serials }))) }
 {
     let mut tx = conn.transaction();
     put_call(&mut tx, arrival, entry, reply)?;
-    put_range_made(&mut tx, range)?;
-    put_serial_made(&mut tx, serial)?;
+    put_ranges(&mut tx, ranges)?;
+    put_serials(&mut tx, serials)?;
     tx.commit()
 }

@@ -1,5 +1,6 @@
+pub mod Ids
 pub mod Datagrams
-pub mod Frame
+pub mod Room
 pub mod Kind
 pub mod Reply
 pub mod WireFault

@@ -6,7 +6,6 @@ ghost use Rattle.s10_core.specs.Serial.{IsSerial};
 ghost use Rattle.s10_core.specs.Id.{IsId, spelling_of};
 ghost use Rattle.s10_wire.specs.Kind.{kind_of};
 ghost use Rattle.s10_wire.specs.Datagrams.{u32_bytes, fields, datagram, outcome_bytes, status_bytes, IsU32, IsBody, IsRequest, IsStatus, IsOutcome, Asks, Replies};
-ghost use Rattle.s10_wire.specs.Frame.{frame_bytes};
 ghost use Rattle.s10_wire.specs.Reply.{request_of, outcome_of};
 
 use crate::body::Body;
@@ -26,9 +25,9 @@ fn put_grant(
     first: Serial,
     last: Serial,
 )
-    requires { frame.old.len ≤ 12 }
-    ensures bytes { frame_bytes frame.new ≡ frame_bytes frame.old ++ fields (Body.Grant holder service country first last) }
-    ensures len { frame.new.len ≡ frame.old.len + 16 }
+    requires { length frame.old ≤ 12 }
+    ensures bytes { frame.new ≡ frame.old ++ fields (Body.Grant holder service country first last) }
+    ensures len { length frame.new ≡ length frame.old + 16 }
     ensures in_range { IsBody (Body.Grant holder service country first last) }
 {
     frame.put(&holder.to_be_bytes());
@@ -37,9 +36,9 @@ fn put_grant(
 }
 
 fn put_serials(frame: &mut Frame, first: Serial, last: Serial)
-    requires { frame.old.len ≤ 128 }
-    ensures bytes { frame_bytes frame.new ≡ frame_bytes frame.old ++ (u32_bytes first ++ u32_bytes last) }
-    ensures len { frame.new.len ≡ frame.old.len + 8 }
+    requires { length frame.old ≤ 128 }
+    ensures bytes { frame.new ≡ frame.old ++ (u32_bytes first ++ u32_bytes last) }
+    ensures len { length frame.new ≡ length frame.old + 8 }
     ensures in_range { IsSerial first × IsSerial last }
 {
     frame.put(&first.value().to_be_bytes());
@@ -47,9 +46,9 @@ fn put_serials(frame: &mut Frame, first: Serial, last: Serial)
 }
 
 fn put_draw(frame: &mut Frame, service: Service, country: Country)
-    requires { frame.old.len ≤ 128 }
-    ensures bytes { frame_bytes frame.new ≡ frame_bytes frame.old ++ fields (Body.Draw service country) }
-    ensures len { frame.new.len ≡ frame.old.len + 4 }
+    requires { length frame.old ≤ 128 }
+    ensures bytes { frame.new ≡ frame.old ++ fields (Body.Draw service country) }
+    ensures len { length frame.new ≡ length frame.old + 4 }
     ensures in_range { AreCapitals service × AreCapitals country }
 {
     frame.put(&service.bytes());
@@ -57,18 +56,18 @@ fn put_draw(frame: &mut Frame, service: Service, country: Country)
 }
 
 fn put_id(frame: &mut Frame, id: &Id)
-    requires { frame.old.len ≤ 128 }
-    ensures bytes { frame_bytes frame.new ≡ frame_bytes frame.old ++ spelling_of id.now }
-    ensures len { frame.new.len ≡ frame.old.len + 13 }
+    requires { length frame.old ≤ 128 }
+    ensures bytes { frame.new ≡ frame.old ++ spelling_of id.now }
+    ensures len { length frame.new ≡ length frame.old + 13 }
     ensures in_range { IsId id.now }
 {
     frame.put(&id.write());
 }
 
 fn put_body(frame: &mut Frame, body: &Body)
-    requires { frame.old.len ≤ 12 }
-    ensures bytes { frame_bytes frame.new ≡ frame_bytes frame.old ++ fields body.now }
-    ensures len { frame.new.len ≤ frame.old.len + 16 }
+    requires { length frame.old ≤ 12 }
+    ensures bytes { frame.new ≡ frame.old ++ fields body.now }
+    ensures len { length frame.new ≤ length frame.old + 16 }
     ensures in_range { IsBody body.now }
 {
     match *body {
@@ -88,8 +87,8 @@ fn put_body(frame: &mut Frame, body: &Body)
 /// A request's bytes, with mark added to the kind byte.
 fn request_frame(request: &Request, mark: u8) -> Frame
     requires { mark ≤ 128 }
-    ensures bytes { frame_bytes result ≡ datagram mark request.now }
-    ensures len { result.len ≤ 28 }
+    ensures bytes { result ≡ datagram mark request.now }
+    ensures len { length result ≤ 28 }
     ensures in_range { IsRequest request.now }
 {
     let mut frame = Frame::new();
@@ -103,16 +102,16 @@ fn request_frame(request: &Request, mark: u8) -> Frame
 
 /// The datagram of a request.
 pub fn encode_request(request: &Request) -> Frame
-    ensures { Asks (frame_bytes result) request.now }
+    ensures { Asks result request.now }
 {
     request_frame(request, 0)
 }
 
 /// A code and a number behind it.
 fn put_coded(frame: &mut Frame, code: u8, number: u32)
-    requires { frame.old.len ≤ 128 }
-    ensures bytes { frame_bytes frame.new ≡ frame_bytes frame.old ++ code ∷ u32_bytes number }
-    ensures len { frame.new.len ≡ frame.old.len + 5 }
+    requires { length frame.old ≤ 128 }
+    ensures bytes { frame.new ≡ frame.old ++ code ∷ u32_bytes number }
+    ensures len { length frame.new ≡ length frame.old + 5 }
     ensures in_range { IsU32 number }
 {
     frame.put(&[code]);
@@ -120,8 +119,8 @@ fn put_coded(frame: &mut Frame, code: u8, number: u32)
 }
 
 fn put_status(frame: &mut Frame, status: &Status)
-    requires { frame.old.len ≤ 128 }
-    ensures bytes { frame_bytes frame.new ≡ frame_bytes frame.old ++ status_bytes status.now }
+    requires { length frame.old ≤ 128 }
+    ensures bytes { frame.new ≡ frame.old ++ status_bytes status.now }
     ensures in_range { IsStatus status.now }
 {
     match *status {
@@ -133,8 +132,8 @@ fn put_status(frame: &mut Frame, status: &Status)
 }
 
 fn put_drawn(frame: &mut Frame, day: u32, id: Id)
-    requires { frame.old.len ≤ 28 }
-    ensures bytes { frame_bytes frame.new ≡ frame_bytes frame.old ++ outcome_bytes (Outcome.Drawn day id) }
+    requires { length frame.old ≤ 28 }
+    ensures bytes { frame.new ≡ frame.old ++ outcome_bytes (Outcome.Drawn day id) }
     ensures in_range { IsOutcome (Outcome.Drawn day id) }
 {
     put_coded(frame, 0, day);
@@ -143,8 +142,8 @@ fn put_drawn(frame: &mut Frame, day: u32, id: Id)
 
 /// The outcome byte, and what stands behind it.
 fn put_outcome(frame: &mut Frame, outcome: &Outcome)
-    requires { frame.old.len ≤ 28 }
-    ensures bytes { frame_bytes frame.new ≡ frame_bytes frame.old ++ outcome_bytes outcome.now }
+    requires { length frame.old ≤ 28 }
+    ensures bytes { frame.new ≡ frame.old ++ outcome_bytes outcome.now }
     ensures in_range { IsOutcome outcome.now }
 {
     match *outcome {
@@ -169,7 +168,7 @@ fn put_outcome(frame: &mut Frame, outcome: &Outcome)
 
 /// The datagram of a reply.
 pub fn encode_reply(reply: &Reply) -> Frame
-    ensures { Replies (frame_bytes result) (request_of reply.now) (outcome_of reply.now) }
+    ensures { Replies result (request_of reply.now) (outcome_of reply.now) }
 {
     let mut frame = request_frame(&reply.request(), 0x80);
     put_outcome(&mut frame, &reply.outcome());

@@ -1,28 +1,44 @@
-ghost use Rattle.std.specs.Prelude.{◌≤◌};
+use std::marker::Model;
 
-/// A datagram to be sent: at most 256 bytes.
+/// A datagram to be sent: at most 256 bytes. Frames of the same bytes are the same frame.
 #[derive(Clone, Copy, Debug, PartialEq, Eq)]
 pub struct Frame {
+    // zeros behind the bytes, so that equal bytes are equal in every field
     room: [u8; 256],
     len: usize,
-    ghost fits: { len ≤ 256 },
+}
+
+impl Model for Frame {
+    ghost use Rattle.std.specs.Prelude.{ℕ, List, take, length};
+    ghost use Rattle.std.proofs.Common.{sym};
+    ghost use Rattle.s10_wire.specs.Room.{IsRoomed, roomed};
+
+    ghost Value = { List ℕ };
+
+    ghost view = { λ frame. take frame.len frame.room };
+
+    ghost invariant = { λ frame. IsRoomed 256 frame.room frame.len };
+
+    ghost inverse = { λ bytes. record { room = roomed 256 bytes; len = length bytes } };
+
+    ghost inverse_ok = { λ frame known i. record { room = sym known.rest i; len = known.long i } };
 }
 
 impl Frame {
-    ghost use Rattle.std.specs.Prelude.{◌≡◌, ◌+◌, ◌++◌, [], length};
-    ghost use Rattle.s10_wire.specs.Frame.{frame_bytes};
+    ghost use Rattle.std.specs.Prelude.{◌≡◌, ◌+◌, ◌≤◌, ◌++◌, [], length};
 
     /// The bytes that are sent.
     pub fn bytes(&self) -> &[u8]
-        ensures { result.now ≡ frame_bytes self.now }
+        ensures bytes { result.now ≡ self.now }
+        ensures few { length self.now ≤ 256 }
     {
         &self.room[..self.len]
     }
 
     /// No bytes.
     pub(crate) fn new() -> Frame
-        ensures bytes { frame_bytes result ≡ [] }
-        ensures len { result.len ≡ 0 }
+        ensures bytes { result ≡ [] }
+        ensures len { length result ≡ 0 }
     {
         Frame {
             room: [0; 256],
@@ -32,9 +48,9 @@ impl Frame {
 
     /// Adds bytes at the end.
     pub(crate) fn put(&mut self, bytes: &[u8])
-        requires { self.old.len + length bytes.now ≤ 256 }
-        ensures bytes { frame_bytes self.new ≡ frame_bytes self.old ++ bytes.now }
-        ensures len { self.new.len ≡ self.old.len + length bytes.now }
+        requires { length self.old + length bytes.now ≤ 256 }
+        ensures bytes { self.new ≡ self.old ++ bytes.now }
+        ensures len { length self.new ≡ length self.old + length bytes.now }
     {
         let end = self.len + bytes.len();
         self.room[self.len..end].copy_from_slice(bytes);

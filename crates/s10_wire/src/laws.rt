@@ -6,7 +6,6 @@ ghost use Rattle.s10_core.specs.Id.{Spells};
 ghost use Rattle.s10_wire.specs.declared.request.Request.{Request};
 ghost use Rattle.s10_wire.specs.declared.outcome.Outcome.{Outcome};
 ghost use Rattle.s10_wire.specs.Datagrams.{Asks, Replies};
-ghost use Rattle.s10_wire.specs.Frame.{frame_bytes};
 ghost use Rattle.s10_wire.specs.Reply.{request_of, outcome_of};
 ghost use Rattle.s10_wire.specs.declared.wire_fault.WireFault.{WireFault};
 ghost use Rattle.s10_wire.specs.WireFault.{is_spelling, IsFirstRefusalOfRequest, IsFirstRefusalOfReply};
@@ -59,7 +58,7 @@ pub fn encoded_reply_decodes(reply: &Reply) -> Result<Reply, WireFault>
 
 /// The request that is read of bytes is written as these bytes.
 pub fn decoded_request_encodes(bytes: &[u8]) -> Result<Frame, WireFault>
-    ensures same { IfOk result (λ frame. frame_bytes frame ≡ bytes.now) }
+    ensures same { IfOk result (λ frame. frame ≡ bytes.now) }
     ensures asked { (q : Request) → Asks bytes.now q → IsOk result }
 {
     match decode_request(bytes) {
@@ -70,7 +69,7 @@ pub fn decoded_request_encodes(bytes: &[u8]) -> Result<Frame, WireFault>
 
 /// The reply that is read of bytes is written as these bytes.
 pub fn decoded_reply_encodes(bytes: &[u8]) -> Result<Frame, WireFault>
-    ensures same { IfOk result (λ frame. frame_bytes frame ≡ bytes.now) }
+    ensures same { IfOk result (λ frame. frame ≡ bytes.now) }
     ensures replied { (q : Request) (o : Outcome) → Replies bytes.now q o → IsOk result }
 {
     match decode_reply(bytes) {

@@ -2,9 +2,11 @@
 #![tactic(auto)]
 
 mod body;
+mod count;
 mod encoders;
 mod fields;
 mod frame;
+mod ids;
 mod kind;
 mod laws;
 mod lines;
@@ -20,8 +22,10 @@ mod words;
 mod write_fault;
 
 pub use body::Body;
+pub use count::Count;
 pub use encoders::{encode_reply, encode_request};
 pub use frame::Frame;
+pub use ids::Ids;
 pub use laws::{
     datagrams_are_short, decoded_reply_encodes, decoded_request_encodes, encoded_reply_decodes,
     encoded_request_decodes, identifier_fields_are_spellings, one_datagram_each,

@@ -4,10 +4,14 @@
 #[cfg(test)]
 mod datagrams;
 #[cfg(test)]
+mod frames;
+#[cfg(test)]
 mod lines;
 #[cfg(test)]
 mod messages;
 #[cfg(test)]
 mod refusals;
+#[cfg(test)]
+mod sheets;
 #[cfg(test)]
 mod vectors;

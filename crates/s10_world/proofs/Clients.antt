@@ -4,7 +4,6 @@ use Rattle.std.specs.Prelude.{slice_get, slice_set, is_some, take, Result, Ok, E
 use Rattle.std.proofs.lemmas.Option.{slice_get_within, slice_get-get_or, get_or_from_slice_get}
 use Rattle.s10_wire.specs.declared.body.Body.{Body}
 use Rattle.s10_wire.specs.declared.request.Request.{Request}
-use Rattle.s10_link.specs.Packet.{packet_bytes}
 use Rattle.s10_book.specs.Settings.{Terms}
 use Rattle.s10_ends.specs.declared.submit_fault.SubmitFault.{SubmitFault}
 use Rattle.s10_ends.specs.Client.{ClientState, next_request, after_submit, submit_fault, settled}
@@ -93,7 +92,7 @@ step_same t w w' (Submit k body) is = made w w' _ is (submit_same w k body (slic
 step_same t w w' (Resend k) is = resends_same w w' (slice_get w.clients k) is
 step_same t w w' (GiveUp k) is = made w w' _ is (give_up_same w k (slice_get w.clients k) refl)
 step_same t w w' (ToServer index day) is = request_same t w w' (slice_get w.asked index) day is
-step_same t w w' (Strange packet day) is = reaches_same t w w' (packet_bytes packet) day is
+step_same t w w' (Strange packet day) is = reaches_same t w w' packet day is
 step_same t w w' (ToClient k index) is = reply_same w w' k (slice_get w.clients k) (slice_get w.replied index) refl is
 
 steps_same : (t : Terms) (w w' : WorldState) (es : List Event) → Steps t w es w' → AreSame w.clients w'.clients

@@ -12,9 +12,9 @@ use Rattle.s10_wire.specs.declared.body.Body.{Body}
 use Rattle.s10_wire.specs.declared.request.Request.{Request}
 use Rattle.s10_wire.specs.declared.outcome.Outcome.{Outcome}
 use Rattle.s10_wire.specs.Datagrams.{Replies}
-use Rattle.s10_link.specs.Packet.{packet_bytes}
 use Rattle.s10_wire.proofs.Replied.{one_reply}
 use Rattle.s10_book.specs.declared.entry.Entry.{Entry}
+use Rattle.s10_book.specs.declared.faults.Faults.{Faults}
 use Rattle.s10_book.specs.Settings.{Terms}
 use Rattle.s10_book.specs.History.{has_key, entry_with_key}
 use Rattle.s10_book.specs.Once.{applied_once}
@@ -141,7 +141,7 @@ sound_asked : (w : WorldState) (asked : List (List ℕ)) → IsSound w → IsSou
 sound_asked w asked sound =
     record { replied = sound.replied; taken = sound.taken; in_turn = sound.in_turn; awaited = sound.awaited; submitted = sound.submitted; accepted_in_turn = sound.accepted_in_turn; given = sound.given }
 
-sound_faults : (w : WorldState) (faults : ℕ) → IsSound w → IsSound (record w { faults = faults })
+sound_faults : (w : WorldState) (faults : Faults) → IsSound w → IsSound (record w { faults = faults })
 sound_faults w faults sound =
     record { replied = sound.replied; taken = sound.taken; in_turn = sound.in_turn; awaited = sound.awaited; submitted = sound.submitted; accepted_in_turn = sound.accepted_in_turn; given = sound.given }
 
@@ -238,7 +238,7 @@ step_sound t w w' (Submit k body) is sound = sound_same (after_submit_by w k bod
 step_sound t w w' (Resend k) is sound = sound_resends w w' (slice_get w.clients k) is sound
 step_sound t w w' (GiveUp k) is sound = sound_same (after_give_up_by w k (slice_get w.clients k)) w' is (sound_give_up_by w k (slice_get w.clients k) refl sound)
 step_sound t w w' (ToServer index day) is sound = sound_request t w w' (slice_get w.asked index) day is sound
-step_sound t w w' (Strange packet day) is sound = sound_reaches t w w' (packet_bytes packet) day is sound
+step_sound t w w' (Strange packet day) is sound = sound_reaches t w w' packet day is sound
 step_sound t w w' (ToClient k index) is sound = sound_reply w w' k index (slice_get w.clients k) (slice_get w.replied index) refl refl is sound
 
 pub steps_sound : (t : Terms) (w w' : WorldState) (es : List Event) → Steps t w es w' → IsSound w → IsSound w'

@@ -5,7 +5,6 @@ use Rattle.std.proofs.lemmas.List.Elements.{All-nil, All-same}
 use Rattle.std.proofs.lemmas.Option.{none-some}
 use Rattle.s10_wire.specs.declared.body.Body.{Body}
 use Rattle.s10_wire.specs.declared.request.Request.{Request}
-use Rattle.s10_link.specs.Packet.{packet_bytes}
 use Rattle.s10_book.specs.declared.entry.Entry.{Entry}
 use Rattle.s10_book.specs.Settings.{Terms}
 use Rattle.s10_book.specs.History.{entry_with_key, day_of}
@@ -104,7 +103,7 @@ step_legal t w w' (Submit k body) is legal = legal_same t w w' (ap (λ (v : Worl
 step_legal t w w' (Resend k) is legal = legal_same t w w' (resends_history w w' (slice_get w.clients k) is) legal
 step_legal t w w' (GiveUp k) is legal = legal_same t w w' (ap (λ (v : WorldState). v.history) is ∙ give_up_history w k (slice_get w.clients k)) legal
 step_legal t w w' (ToServer index day) is legal = legal_request t w w' (slice_get w.asked index) day is legal
-step_legal t w w' (Strange packet day) is legal = legal_reaches t w w' (packet_bytes packet) day is legal
+step_legal t w w' (Strange packet day) is legal = legal_reaches t w w' packet day is legal
 step_legal t w w' (ToClient k index) is legal = legal_same t w w' (reply_history w w' k (slice_get w.clients k) (slice_get w.replied index) is) legal
 
 pub steps_legal : (t : Terms) (w w' : WorldState) (es : List Event) → Steps t w es w' → IsLegal w.history t → IsLegal w'.history t

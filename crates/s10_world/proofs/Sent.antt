@@ -2,20 +2,20 @@
 use Rattle.std.proofs.Common.{◌≡◌, ◌∙◌, ℕ, ◌≤◌, cond, List, [], ◌∷◌, ◌++◌, map, length, Option, Some, None, refl, sym, ap, subst, inl, inr}
 use Rattle.std.specs.Prelude.{slice_get, slice_set, is_some}
 use Rattle.std.proofs.lemmas.List.{map-append}
-use Rattle.std.specs.Option.{option_map}
-use Rattle.std.proofs.lemmas.Option.{slice_get-map, none-some, same_Some}
+use Rattle.std.proofs.lemmas.Option.{none-some, same_Some}
 use Rattle.s10_wire.specs.declared.body.Body.{Body}
 use Rattle.s10_wire.specs.declared.request.Request.{Request}
 use Rattle.s10_wire.specs.declared.outcome.Outcome.{Outcome}
 use Rattle.s10_wire.specs.declared.reply.Reply.{Reply}
 use Rattle.s10_wire.specs.declared.frame.Frame.{Frame}
-use Rattle.s10_wire.specs.Frame.{frame_bytes}
 use Rattle.s10_wire.specs.Reply.{request_of, outcome_of}
 use Rattle.s10_wire.specs.Datagrams.{Asks}
 use Rattle.s10_wire.proofs.Replied.{one_reply}
 use Rattle.s10_book.specs.declared.entry.Entry.{Entry}
 use Rattle.s10_book.specs.declared.book_fault.BookFault.{BookFault}
 use Rattle.s10_book.specs.declared.book_fault.BookFault.TheVariants.{Memory, Store, Full}
+use Rattle.s10_book.specs.declared.faults.Faults.{Faults}
+use Rattle.s10_book.specs.BookFault.{CountsFault}
 use Rattle.s10_book.specs.Settings.{Terms}
 use Rattle.s10_book.specs.History.{entry_with_key}
 use Rattle.s10_book.specs.Once.{applied, applied_once}
@@ -23,7 +23,7 @@ use Rattle.s10_ends.specs.declared.answer.Answer.TheVariants.{Reply as replied_w
 use Rattle.s10_ends.specs.declared.submit_fault.SubmitFault.{SubmitFault}
 use Rattle.s10_ends.specs.declared.received.Received.{Received}
 use Rattle.s10_ends.specs.declared.received.Received.TheVariants.{Malformed, Idle, NotMine, Accepted}
-use Rattle.s10_ends.specs.Served.{AskNothing, IsOwed, IsFullFor, Served, CountsFault}
+use Rattle.s10_ends.specs.Served.{AskNothing, IsOwed, IsFullFor, Served}
 use Rattle.s10_ends.specs.Client.{ClientState, next_request, after_submit, submit_fault, IsOwnReply, Receives, Resends as ResendsBy}
 use Rattle.s10_world.specs.World.{Acceptance, WorldState, after_submit_by, Sends, Resends, ReachesServer, DeliversReply}
 use Rattle.s10_world.specs.Parts.{acceptance}
@@ -46,21 +46,21 @@ submit_taken w k body c c' q submitted there free next asks sub =
     now ∙ sym (ap (after_submit_by w k body) there ∙ ap (λ (o : Option SubmitFault). cond (is_some o) w (record w { submitted = w.submitted ++ (k, next_request c body) ∷ []; clients = slice_set w.clients k (after_submit c body) })) (sym free))
 
 sends : (w : WorldState) (pending : Option Request) (frame : Frame) (asked : List (List ℕ)) → ResendsBy pending (Some frame)
-    → asked ≡ w.asked ++ frame_bytes frame ∷ [] → Sends w pending (record w { asked = asked })
+    → asked ≡ w.asked ++ frame ∷ [] → Sends w pending (record w { asked = asked })
 sends w None frame asked is grown = absurd is
-sends w (Some q) frame asked is grown = (frame_bytes frame, is, ap (λ (l : List (List ℕ)). record w { asked = l }) grown)
+sends w (Some q) frame asked is grown = (frame, is, ap (λ (l : List (List ℕ)). record w { asked = l }) grown)
 
 -- what a list shows once one was pushed, room being made first
 pub one_more : {X Y : Type 0} (f : X → Y) (xs reserved pushed : List X) (x : X) → pushed ≡ reserved ++ x ∷ [] → reserved ≡ xs → map f pushed ≡ map f xs ++ f x ∷ []
 one_more f xs reserved pushed x grown same = ap (map f) (grown ∙ ap (λ l. l ++ x ∷ []) same) ∙ map-append f xs (x ∷ [])
 
 pub resent : (w : WorldState) (k : ℕ) (c : ClientState) (frame : Frame) (asked : List (List ℕ))
-    → slice_get w.clients k ≡ Some c → ResendsBy c.pending (Some frame) → asked ≡ w.asked ++ frame_bytes frame ∷ []
+    → slice_get w.clients k ≡ Some c → ResendsBy c.pending (Some frame) → asked ≡ w.asked ++ frame ∷ []
     → Resends w (slice_get w.clients k) (record w { asked = asked })
 resent w k c frame asked there is grown = rw there (sends w c.pending frame asked is grown)
 
-pub reached_reply : (w : WorldState) (t : Terms) (b : List ℕ) (day : ℕ) (frame : Frame) (h : List Entry) (faults : ℕ) (replied : List (List ℕ))
-    → Served w.history t ((b, day) ∷ []) (replied_with frame ∷ []) h → length h ≤ t.limit → faults ≡ w.faults → replied ≡ w.replied ++ frame_bytes frame ∷ []
+pub reached_reply : (w : WorldState) (t : Terms) (b : List ℕ) (day : ℕ) (frame : Frame) (h : List Entry) (faults : Faults) (replied : List (List ℕ))
+    → Served w.history t ((b, day) ∷ []) (replied_with frame ∷ []) h → length h ≤ t.limit → faults ≡ w.faults → replied ≡ w.replied ++ frame ∷ []
     → ReachesServer t w b day (record w { history = h; faults = faults; replied = replied })
 reached_reply w t b day frame h faults replied served few same grown =
     let q : Request = served.answered.0.0 in
@@ -69,25 +69,22 @@ reached_reply w t b day frame h faults replied served few same grown =
     served.once_each.2 ∙ ap (λ l. applied_once w.history l t.interval) (one_asked b day served.once_each.0 q asks served.once_each.1) in
     let short : length (cond (is_some (entry_with_key w.history q.customer q.number)) w.history (applied t.interval w.history (q, day))) ≤ t.limit =
     subst (λ (l : List Entry). length l ≤ t.limit) (once ∙ once_one w.history q day t.interval) few in
-    let owed : IsOwed (applied_once w.history ((q, day) ∷ []) t.interval) b (frame_bytes frame) = subst (λ (l : List Entry). IsOwed l b (frame_bytes frame)) once served.answered.0 in
-    inr (q, asks, inr (inr (room_at (entry_with_key w.history q.customer q.number) w.history _ t.limit short, frame_bytes frame, owed, rw (once, same, grown) refl)))
+    let owed : IsOwed (applied_once w.history ((q, day) ∷ []) t.interval) b frame = subst (λ (l : List Entry). IsOwed l b frame) once served.answered.0 in
+    inr (q, asks, inr (inr (room_at (entry_with_key w.history q.customer q.number) w.history _ t.limit short, frame, owed, rw (once, same, grown) refl)))
 
-pub reached_nothing : (w : WorldState) (t : Terms) (b : List ℕ) (day : ℕ) (h : List Entry) (faults : ℕ)
+pub reached_nothing : (w : WorldState) (t : Terms) (b : List ℕ) (day : ℕ) (h : List Entry) (faults : Faults)
     → AskNothing b → h ≡ w.history → faults ≡ w.faults → ReachesServer t w b day (record w { history = h; faults = faults })
 reached_nothing w t b day h faults nothing same count = inl (nothing, rw (same, count) refl)
 
-pub reached_fault : (w : WorldState) (t : Terms) (b : List ℕ) (day : ℕ) (fault : BookFault) (h : List Entry) (faults : ℕ)
+pub reached_fault : (w : WorldState) (t : Terms) (b : List ℕ) (day : ℕ) (fault : BookFault) (h : List Entry) (faults : Faults)
     → Served w.history t ((b, day) ∷ []) (Faulted fault ∷ []) h → h ≡ w.history → CountsFault fault w.faults faults
     → ReachesServer t w b day (record w { history = h; faults = faults })
-reached_fault w t b day Memory h faults served same rises = inr (served.answered.0.0, served.answered.0.1, inl (rises, rw same refl))
-reached_fault w t b day Store h faults served same rises = inr (served.answered.0.0, served.answered.0.1, inl (rises, rw same refl))
+reached_fault w t b day Memory h faults served same rises = inr (served.answered.0.0, served.answered.0.1, inl (inl rises, rw same refl))
+reached_fault w t b day Store h faults served same rises = inr (served.answered.0.0, served.answered.0.1, inl (inr rises, rw same refl))
 reached_fault w t b day Full h faults served same count =
     let full = served.full 0 (b, day) refl refl in
     let was : full.0 ≡ w.history = full.2.2 ∙ ap (λ l. applied_once w.history l t.interval) (none_asked full.2.0 full.2.1) in
     inr (full.1, full.3, inr (inl (subst (λ (l : List Entry). IsFullFor l t full.1) was full.4, rw (same, count) refl)))
-
-pub mapped : {X Y : Type 0} (f : X → Y) (xs : List X) (i : ℕ) (x : X) → slice_get xs i ≡ Some x → slice_get (map f xs) i ≡ Some (f x)
-mapped f xs i x there = slice_get-map f xs i ∙ ap (option_map f) there
 
 pub accepts : (w : WorldState) (k i : ℕ) (c c' : ClientState) (b : List ℕ) (reply : Reply) (accepted : List Acceptance)
     → slice_get w.clients k ≡ Some c → slice_get w.replied i ≡ Some b → Receives c b (Accepted reply) c' → accepted ≡ w.accepted ++ acceptance (k, reply) ∷ []

@@ -3,9 +3,9 @@ use Rattle.std.specs.Prelude.{ℕ, List, map}
 use Rattle.s10_wire.specs.declared.request.Request.{Request}
 use Rattle.s10_wire.specs.declared.reply.Reply.{Reply}
 use Rattle.s10_wire.specs.declared.frame.Frame.{Frame}
-use Rattle.s10_wire.specs.Frame.{frame_bytes}
 use Rattle.s10_wire.specs.Reply.{request_of, outcome_of}
 use Rattle.s10_book.specs.declared.entry.Entry.{Entry}
+use Rattle.s10_book.specs.declared.faults.Faults.{Faults}
 use Rattle.s10_ends.specs.declared.server.Server.{Server}
 use Rattle.s10_ends.specs.Server.{book_of}
 use Rattle.s10_ends.specs.Client.{ClientState}
@@ -40,14 +40,14 @@ accepted_of w = w.accepted.items
 abbrev pub acceptance : ℕ × Reply → Acceptance
 acceptance a = record { client = a.0; request = request_of a.1; outcome = outcome_of a.1 }
 
--- the state of a world, by what its book's history and count of faults are
-abbrev pub state_of : {B : Type 0} → (B → List Entry) → (B → ℕ) → Network B → WorldState
+-- the state of a world, by what its book's history and counts of faults are
+abbrev pub state_of : {B : Type 0} → (B → List Entry) → (B → Faults) → Network B → WorldState
 state_of history faults w =
     record {
       history = history (book_in w);
       faults = faults (book_in w);
-      asked = map frame_bytes (asked_of w);
-      replied = map frame_bytes (replied_of w);
+      asked = asked_of w;
+      replied = replied_of w;
       submitted = submitted_of w;
       accepted = map acceptance (accepted_of w);
       clients = clients_of w;

@@ -4,12 +4,12 @@ use Rattle.s10_wire.specs.declared.body.Body.{Body}
 use Rattle.s10_wire.specs.declared.request.Request.{Request}
 use Rattle.s10_wire.specs.declared.outcome.Outcome.{Outcome}
 use Rattle.s10_wire.specs.Datagrams.{Asks}
-use Rattle.s10_link.specs.Packet.{packet_bytes}
 use Rattle.s10_book.specs.declared.entry.Entry.{Entry}
 use Rattle.s10_book.specs.Settings.{Terms}
 use Rattle.s10_book.specs.History.{entry_with_key}
 use Rattle.s10_book.specs.Once.{applied_once}
-use Rattle.s10_book.specs.BookFault.{Rises}
+use Rattle.s10_book.specs.declared.faults.Faults.{Faults}
+use Rattle.s10_book.specs.BookFault.{MemoryRises, StoreRises}
 use Rattle.s10_ends.specs.Served.{AskNothing, IsOwed, IsFullFor}
 use Rattle.s10_ends.specs.Client.{ClientState, next_request, after_submit, submit_fault, settled, IsOwnReply}
 use Rattle.s10_world.specs.declared.event.Event.{Event}
@@ -21,11 +21,11 @@ pub record Acceptance : Type 0 where
   pub request : Request
   pub outcome : Outcome
 
--- the server's history and its book's count of faults, the bytes of every request and of every reply that was sent,
+-- the server's history and its book's counts of faults, the bytes of every request and of every reply that was sent,
 -- the submitted requests, each with the place of its client, the accepted replies, and the clients
 pub record WorldState : Type 0 where
   pub history : List Entry
-  pub faults : ℕ
+  pub faults : Faults
   pub asked : List (List ℕ)
   pub replied : List (List ℕ)
   pub submitted : List (ℕ × Request)
@@ -54,9 +54,9 @@ abbrev pub after_give_up_by : WorldState → ℕ → Option ClientState → Worl
 after_give_up_by w k None = w
 after_give_up_by w k (Some c) = record w { clients = slice_set w.clients k (settled c) }
 
--- a fault of the book: its count rises, or is the greatest number
-abbrev pub Faults : WorldState → WorldState → Type 0
-Faults w w' = Rises w.faults w'.faults × (w' ≡ record w { faults = w'.faults })
+-- a fault of the book: one of its counts rises, or is the greatest number
+abbrev pub Fails : WorldState → WorldState → Type 0
+Fails w w' = (MemoryRises w.faults w'.faults ⊎ StoreRises w.faults w'.faults) × (w' ≡ record w { faults = w'.faults })
 
 -- there are fewer calls than the limit allows, or one has the key of the request
 abbrev pub HasRoomFor : List Entry → Terms → Request → Type 0
@@ -70,7 +70,7 @@ RepliesTo t w b q day w' =
 
 -- a request reaches the server on a day
 abbrev pub Serves : Terms → WorldState → List ℕ → Request → ℕ → WorldState → Type 0
-Serves t w b q day w' = Faults w w' ⊎ ((IsFullFor w.history t q × (w' ≡ w)) ⊎ RepliesTo t w b q day w')
+Serves t w b q day w' = Fails w w' ⊎ ((IsFullFor w.history t q × (w' ≡ w)) ⊎ RepliesTo t w b q day w')
 
 -- bytes reach the server on a day
 abbrev pub ReachesServer : Terms → WorldState → List ℕ → ℕ → WorldState → Type 0
@@ -98,7 +98,7 @@ Step t w (Submit k body) w' = w' ≡ after_submit_by w k body (slice_get w.clien
 Step t w (Resend k) w' = Resends w (slice_get w.clients k) w'
 Step t w (GiveUp k) w' = w' ≡ after_give_up_by w k (slice_get w.clients k)
 Step t w (ToServer index day) w' = DeliversRequest t w (slice_get w.asked index) day w'
-Step t w (Strange packet day) w' = ReachesServer t w (packet_bytes packet) day w'
+Step t w (Strange packet day) w' = ReachesServer t w packet day w'
 Step t w (ToClient k index) w' = DeliversReply w k (slice_get w.clients k) (slice_get w.replied index) w'
 
 -- the steps of the world, one event after another

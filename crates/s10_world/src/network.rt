@@ -19,8 +19,7 @@ pub struct Network<B> {
 }
 
 impl<B: Book> Network<B> {
-    ghost use Rattle.std.specs.Prelude.{◌≡◌, ◌<◌, length, map, take, slice_get, OnOk, OnErr, IfErr};
-    ghost use Rattle.s10_wire.specs.Frame.{frame_bytes};
+    ghost use Rattle.std.specs.Prelude.{◌≡◌, ◌<◌, length, take, slice_get, OnOk, OnErr, IfErr};
     ghost use Rattle.s10_world.specs.World.{Step, Steps, Resends, ReachesServer, DeliversRequest, DeliversReply, after_submit_by, after_give_up_by};
     ghost use Rattle.s10_world.specs.Parts.{server_of, book_in, clients_of, asked_of, replied_of, state_of, place_of};
 
@@ -128,7 +127,7 @@ impl<B: Book> Network<B> {
     fn deliver_request(&mut self, index: usize, day: u32) -> Result<(), AllocError>
         ensures was_honest { B.honest (book_in self.new) → B.honest (book_in self.old) }
         ensures same_terms { B.honest (book_in self.new) → B.terms (book_in self.new) ≡ B.terms (book_in self.old) }
-        ensures ok { B.honest (book_in self.new) → OnOk result (DeliversRequest (B.terms (book_in self.old)) (state_of B.history B.faults self.old) (slice_get (map frame_bytes (asked_of self.old)) index) day (state_of B.history B.faults self.new)) }
+        ensures ok { B.honest (book_in self.new) → OnOk result (DeliversRequest (B.terms (book_in self.old)) (state_of B.history B.faults self.old) (slice_get (asked_of self.old) index) day (state_of B.history B.faults self.new)) }
         ensures err { OnErr result ((server_of self.new ≡ server_of self.old) × (state_of B.history B.faults self.new ≡ state_of B.history B.faults self.old)) }
     {
         let Some(frame) = self.asked.get(index) else {
@@ -140,7 +139,7 @@ impl<B: Book> Network<B> {
 
     fn deliver_reply(&mut self, client: u32, index: usize) -> Result<(), AllocError>
         ensures server { server_of self.new ≡ server_of self.old }
-        ensures ok { OnOk result (DeliversReply (state_of B.history B.faults self.old) client (slice_get (clients_of self.old) client) (slice_get (map frame_bytes (replied_of self.old)) index) (state_of B.history B.faults self.new)) }
+        ensures ok { OnOk result (DeliversReply (state_of B.history B.faults self.old) client (slice_get (clients_of self.old) client) (slice_get (replied_of self.old) index) (state_of B.history B.faults self.new)) }
         ensures err { OnErr result (state_of B.history B.faults self.new ≡ state_of B.history B.faults self.old) }
     {
         self.accepted.reserve(1)?;

@@ -31,7 +31,6 @@ impl<B: Book> Model for World<B> {
 
 impl<B: Book> World<B> {
     ghost use Rattle.std.specs.Prelude.{◌≡◌, ◌<◌, ◌^◌, ℕ, [], length, map, take, slice_get, All, OnOk, OnErr, IfErr};
-    ghost use Rattle.s10_wire.specs.Frame.{frame_bytes};
     ghost use Rattle.s10_ends.specs.Client.{IsNew};
     ghost use Rattle.s10_ends.specs.Runs.{IsKept};
     ghost use Rattle.s10_world.specs.World.{Steps};

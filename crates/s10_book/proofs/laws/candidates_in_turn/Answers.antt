@@ -1,6 +1,4 @@
 use Rattle.s10_book.proofs.Rows.{candidate_after_is}
-use Rattle.s10_book.proofs.Taking.{at_first}
-use Rattle.s10_book.proofs.Alike.{row_is}
 use Rattle.s10_book.proofs.laws.candidates_in_turn.Goals as goal
 
 pub returns : goal.returns

@@ -1,4 +1,4 @@
-use Rattle.std.proofs.Common.{◌≡◌, ◌∙◌, sym, ap, true, false}
+use Rattle.std.proofs.Common.{◌≡◌, ◌∙◌, sym, ap, true}
 use Rattle.std.specs.List.{list_any}
 use Rattle.s10_wire.specs.declared.outcome.Outcome.TheVariants.{Told}
 use Rattle.s10_book.specs.History.{ranges_of, is_own}

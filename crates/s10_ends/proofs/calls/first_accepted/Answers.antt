@@ -4,9 +4,8 @@ use Rattle.s10_link.specs.declared.trace.Trace.{Trace}
 use Rattle.s10_wire.specs.declared.request.Request.{Request}
 use Rattle.s10_wire.specs.declared.outcome.Outcome.{Outcome}
 use Rattle.s10_wire.specs.Datagrams.{Replies}
-use Rattle.s10_link.specs.Packet.{packet_bytes}
 use Rattle.s10_ends.proofs.Turns.{same_error, taken_is}
-use Rattle.s10_ends.proofs.Listening.{hearing_none, hearing_datagram, heard, heard_quiet, heard_refused, took_all, took_all_refused, unanswered_call, unanswered_datagram, unaccepted, quiet_is, accepted_reply, receive_not_bind, receive_not_send}
+use Rattle.s10_ends.proofs.Listening.{unaccepted_packet, hearing_none, hearing_datagram, heard, heard_quiet, heard_refused, took_all, took_all_refused, unanswered_call, unanswered_datagram, unaccepted, quiet_is, accepted_reply, receive_not_bind, receive_not_send}
 use Rattle.s10_ends.proofs.calls.first_accepted.Goals as goal
 
 pub loop-read-init : goal.loop-read-init
@@ -31,17 +30,17 @@ pub returns-in-Accepted : goal.returns-in-Accepted
 returns-in-Accepted g c =
     let taken = taken_is (g.L.Link.trace_of c.loop-read.link) (g.L.Link.trace_of c.receive.new.self) c.in_ok-packet.field-0 (c.in-Some.field-0-0, c.in-Some.packet) c.in_ok-packet.ensures c.in-Some.is in
     let h = hearing_datagram (g.L.Link.trace_of c.args.link.now) (g.L.Link.trace_of c.loop-read.link) (g.L.Link.trace_of c.receive.new.self) c.loop-read._read _ c.loop-read.invariant.hearing taken in
-    let own = accepted_reply c.args.client.now c.loop-read.client c.receive-in-loop-read.new.self c.bytes.result.now (g.L.Link.trace_of c.receive.new.self) c.in-Some.field-0-0 c.in-Some.packet c.in-Accepted.reply
-    c.loop-read.invariant.client c.bytes.ensures c.in-Accepted.ensures (ap (λ (x : Trace). x.taken) taken) in
+    let own = accepted_reply c.args.client.now c.loop-read.client c.take.new.client _ (g.L.Link.trace_of c.receive.new.self) c.in-Some.field-0-0 c.in-Some.packet c.in-Accepted.reply
+    c.loop-read.invariant.client (cc) c.in-Accepted.ensures (ap (λ (x : Trace). x.taken) taken) in
     (heard (g.L.Link.trace_of c.args.link.now) (g.L.Link.trace_of c.receive.new.self) _ h (omega arith), omega (arith, h.calls), own.0, own.1, own.2, took_all (g.L.Link.trace_of c.args.link.now) (g.L.Link.trace_of c.receive.new.self) _ h)
 
 pub loop-read-preserved : goal.loop-read-preserved
 loop-read-preserved g c =
     let taken = taken_is (g.L.Link.trace_of c.loop-read.link) (g.L.Link.trace_of c.receive.new.self) c.in_ok-packet.field-0 (c.in-Some.field-0-0, c.in-Some.packet) c.in_ok-packet.ensures c.in-Some.is in
     let pends : IsSome c.loop-read.client.pending = rw c.loop-read.invariant.client c.requires in
-    let kept = unaccepted c.loop-read.client c.receive-in-loop-read.new.self c.bytes.result.now c.receive-in-loop-read.result c.receive-in-loop-read.ensures c.in_default-receive.not-Accepted pends in
-    let other : (q : Request) → c.args.client.now.pending ≡ Some q → (o : Outcome) → ¬ (Replies (packet_bytes c.in-Some.packet) q o) =
-    rw (← c.bytes.ensures, ← c.loop-read.invariant.client) kept.1 in
+    let kept = unaccepted c.loop-read.client c.take.new.client _ c.take.result c.take.ensures c.in_default-take.not-Accepted pends in
+    let other : (q : Request) → c.args.client.now.pending ≡ Some q → (o : Outcome) → ¬ (Replies c.in-Some.packet q o) =
+    unaccepted_packet c.loop-read.client c.args.client.now _ c.in-Some.packet c.loop-read.invariant.client (cc) kept.1 in
     record {
       hearing = hearing_datagram (g.L.Link.trace_of c.args.link.now) (g.L.Link.trace_of c.loop-read.link) (g.L.Link.trace_of c.receive.new.self) c.loop-read._read _ c.loop-read.invariant.hearing taken;
       client = kept.0 ∙ c.loop-read.invariant.client;

@@ -84,7 +84,7 @@ loop-done-preserved g c =
             one_more (g.B.Book.history c.args.server.now.book) (g.B.Book.history c.loop-done.server.book) (g.B.Book.history w.handle-answer.new.self.book) (g.B.Book.terms c.args.server.now.book)
             (g.R.Read.remaining c.args.input.now) (g.R.Read.remaining c.loop-done.input) (g.R.Read.remaining c.read_line.new.input) (g.W.Write.contents c.args.output.now) (g.W.Write.contents c.loop-done.output) (g.W.Write.contents w.write_answer.new.out)
             c.read_line.new.buffer c.in-Whole.len c.loop-done.done c.loop-done.count (dated w.in-Some.delivery) w.handle-answer.result
-            (before.replayed h0) read short (omega arith) (sym w.in-Some.ensures) (subst Q w.bytes.ensures (subst P (before.same_terms h0) served)) w.in-Ok-write_answer.ensures;
+            (before.replayed h0) read short (omega arith) (sym w.in-Some.ensures) (subst Q w.bytes.ensures.bytes (subst P (before.same_terms h0) served)) w.in-Ok-write_answer.ensures;
       })
       | in-None+else-not-is_empty w ↦ rw (w.server-is, w.output-is, w.count-is) (record {
         few = omega (arith, before.few);

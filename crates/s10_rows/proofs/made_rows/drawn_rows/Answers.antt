@@ -1,4 +1,4 @@
-use Rattle.std.proofs.Common.{◌≡◌, ℕ, ◌+◌, length, pos, sym, ap, ◌∙◌, subst, arith, Some, false}
+use Rattle.std.proofs.Common.{◌≡◌, ℕ, ◌+◌, length, pos, sym, ap, ◌∙◌, subst, arith, [], ◌∷◌, false}
 use Rattle.s10_wire.specs.declared.outcome.Outcome.TheVariants.{Drawn}
 use Rattle.s10_book.specs.declared.entry.Entry.{Entry}
 use Rattle.s10_book.specs.declared.range.Range.{Range}
@@ -21,6 +21,6 @@ returns-clause-makes c = λ h t day legal may calls call is at there lies never.
     let place : c.args.arrival ≡ 1 + length h = omega (arith, at) in
     let range_is = c.mark_write.ensures ∙ ap (λ (mark : ℕ). Mark (pos r.num) (pos mark)) c.serial_behind-mark.ensures in
     let serial_is = c.issue_write.ensures ∙ ap (write_of c.args.issued) (c.issue_row.ensures ∙ ap (λ (n : ℕ). serial_row false (made_by e n (e.day, id))) place) in
-    let P : RangeWrite → Type 0 = λ w. Makes h e (Some w) (Some (write_of c.args.issued (serial_row false (made_by e (1 + length h) (e.day, id))))) in
-    let Q : SerialWrite → Type 0 = λ w. Makes h e (Some c.mark_write.result) (Some w) in
+    let P : RangeWrite → Type 0 = λ w. Makes h e (w ∷ []) (write_of c.args.issued (serial_row false (made_by e (1 + length h) (e.day, id))) ∷ []) in
+    let Q : SerialWrite → Type 0 = λ w. Makes h e (c.mark_write.result ∷ []) (w ∷ []) in
     subst Q (sym serial_is) (subst P (sym range_is) makes)

@@ -1,4 +1,4 @@
-use Rattle.std.proofs.Common.{◌≡◌, ℕ, sym, ap, ◌∙◌, subst, Some, None}
+use Rattle.std.proofs.Common.{◌≡◌, ℕ, sym, ap, ◌∙◌, subst, [], ◌∷◌}
 use Rattle.s10_wire.specs.declared.body.Body.{Body}
 use Rattle.s10_wire.specs.declared.outcome.Outcome.TheVariants.{Granted}
 use Rattle.s10_book.specs.declared.range.Range.{Range}
@@ -17,6 +17,6 @@ returns c = record {
       let n : ℕ = c.in-Granted.num in
       let r : Range = record { num = n; holder = g.holder; service = g.service; country = g.country; first = g.first; last = g.last } in
       let row : range_row r.first r ≡ c.of.result = sym (c.of.ensures ∙ ap (λ (mark : ℕ). range_row mark r) c.value.ensures.value) in
-      let P : RangeRow → Type 0 = λ s. Makes h c.args.entry.now (Some (New s)) None in
+      let P : RangeRow → Type 0 = λ s. Makes h c.args.entry.now (New s ∷ []) [] in
       subst P row (grant_makes h t c.args.entry.now n r legal may c.in-Granted.is (ap (λ (b : Body). range_of_grant n b (Granted n)) g.is));
 }

@@ -1,4 +1,4 @@
-use Rattle.std.proofs.Common.{length, ap, subst, arith, Some, None}
+use Rattle.std.proofs.Common.{length, ap, subst, arith, [], ◌∷◌}
 use Rattle.s10_rows.specs.declared.serial_row.SerialRow.{SerialRow}
 use Rattle.s10_rows.specs.declared.serial_write.SerialWrite.TheVariants.{Again}
 use Rattle.s10_rows.specs.Kept.{Makes}
@@ -8,7 +8,7 @@ use Rattle.s10_rows.proofs.made_rows.voided_row.Goals as goal
 pub returns-in-len1-clause-makes : goal.returns-in-len1-clause-makes
 returns-in-len1-clause-makes c = λ h t e id legal may calls call asks done same.
     let one = voided_one c.args.rows.now h t e id legal may calls call asks done same in
-    let P : SerialRow → Type 0 = λ row. Makes h e None (Some (Again row)) in
+    let P : SerialRow → Type 0 = λ row. Makes h e [] (Again row ∷ []) in
     subst P (row_voided c.args.rows.now h one.0 _ c.as_voided.result one.1 c.as_voided.ensures) one.2
 
 pub returns-in_default-clause-done : goal.returns-in_default-clause-done

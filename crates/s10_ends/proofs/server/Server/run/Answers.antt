@@ -47,7 +47,7 @@ loop-delivery-preserved g c =
           rw (all, c.push_reserved.ensures.items)
           (Served-map_push (g.B.Book.history c.args.self.now.book) (g.B.Book.history c.loop-delivery.self.book) (g.B.Book.history c.handle-answer.new.self.book) (g.B.Book.terms c.args.self.now.book) (g.B.Book.terms c.loop-delivery.self.book)
           (take c.loop-delivery.delivery-index c.args.deliveries.now) c.loop-delivery.answers.items c.delivery-item.result c.handle-answer.result
-          (before.served h0) (before.same_terms h0) (subst P c.bytes.ensures one));
+          (before.served h0) (before.same_terms h0) (subst P c.bytes.ensures.bytes one));
     }
 
 pub returns-clause-kept : goal.returns-clause-kept

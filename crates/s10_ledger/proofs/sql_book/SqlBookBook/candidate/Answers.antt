@@ -1,4 +1,4 @@
-use Rattle.std.proofs.Common.{◌∙◌, refl, sym}
+use Rattle.std.proofs.Common.{◌∙◌, refl, sym, arith}
 use Rattle.std.proofs.lemmas.Option.{same_Some}
 use base.Stored.{Coded-set}
 use Rattle.s10_book.specs.contracts.candidate.Candidate.{the_row}
@@ -6,6 +6,7 @@ use Rattle.sqlite.specs.Held.{state}
 use Rattle.s10_book.specs.Issues.{issues_of, candidate_of}
 use Rattle.s10_ranges.specs.Turns.{mark_of}
 use Rattle.s10_ledger.specs.Ledger.{Ledger, history_in}
+use Rattle.s10_book.proofs.Marks.{all_at_pick}
 use Rattle.s10_ranges.proofs.Marked.{mark_above, mark_held}
 use Rattle.s10_ranges.proofs.Turning.{candidate_new}
 use Rattle.s10_ledger.proofs.BookLemmas.{still_kept, still_mirrored, if_answered, was_ledger, read_keeps, answered}
@@ -29,8 +30,9 @@ returns-clause-answer g c honest =
     let m = c.self.invariant.3 past.clean past.is_open in
     let marked = c.mark-mark.ensures.some (mark_above c.self.inside.ranges (history_in (state g.S.Store c.self.inside.conn).now) c.args.range.now c.self.inside.ranges.sound m has)
     ∙ mark_held c.self.inside.ranges (history_in (state g.S.Store c.self.inside.conn).now) c.args.range.now c.self.inside.ranges.sound m has in
+    let turns = all_at_pick (history_in (state g.S.Store c.self.inside.conn).now) c.self.inside.settings was.legal c.args.range.now has in
     rw (c.counted.ensures.same, ← c.self.view_is) (answered (Coded-set the_row.coded) c.candidate_in-found.result (candidate_of (history_in (state g.S.Store c.self.inside.conn).now) c.args.range.now) was.held
-    (λ h. c.candidate_in-found.ensures.answer honest.clean (history_in (state g.S.Store c.self.inside.conn).now) c.self.inside.settings was.legal h.calls h.tables marked))
+    (λ h. c.candidate_in-found.ensures.answer honest.clean (history_in (state g.S.Store c.self.inside.conn).now) c.self.inside.settings was.legal h.calls h.tables has (omega (arith, turns.low, turns.high)) marked))
 
 pub returns-in-Some-clause-answer : goal.returns-in-Some-clause-answer
 returns-in-Some-clause-answer g c =

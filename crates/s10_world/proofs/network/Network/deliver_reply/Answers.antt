@@ -2,11 +2,10 @@ use Rattle.std.proofs.Common.{◌≡◌, ℕ, ap, refl, Some, List, map, subst}
 use Rattle.std.specs.Prelude.{slice_get}
 use Rattle.std.specs.Slice.{IsItemAt}
 use Rattle.s10_wire.specs.declared.frame.Frame.{Frame}
-use Rattle.s10_wire.specs.Frame.{frame_bytes}
 use Rattle.s10_ends.specs.Client.{Receives}
 use Rattle.s10_world.specs.Parts.{clients_of, replied_of, accepted_of, acceptance, state_of}
 use Rattle.s10_world.proofs.Places.{lent, lent_mut}
-use Rattle.s10_world.proofs.Sent.{mapped, one_more, accepts, leaves}
+use Rattle.s10_world.proofs.Sent.{one_more, accepts, leaves}
 use Rattle.s10_world.proofs.network.Network.deliver_reply.Goals as goal
 
 pub returns-in_default-receive : goal.returns-in_default-receive
@@ -17,10 +16,10 @@ returns-in_default-receive g c =
     lent (replied_of c.args.self.now) c.args.index c.in-Some.frame (subst (λ (l : List Frame). IsItemAt l c.args.index (Some c.in-Some.frame)) c.deref.ensures.value c.in-Some.ensures.lookup) in
     record {
       server = refl;
-      ok = leaves old c.args.client c.args.index c.in-Some-get_mut.caller.now c.receive.new.self (frame_bytes frame) c.receive.result _
+      ok = leaves old c.args.client c.args.index c.in-Some-get_mut.caller.now c.receive.new.self frame c.receive.result _
           (lent_mut (clients_of c.args.self.now) c.args.client c.in-Some-get_mut.caller c.in-Some-get_mut.ensures.item)
-          (mapped frame_bytes (replied_of c.args.self.now) c.args.index frame there)
-          (subst (λ (b : List ℕ). Receives c.in-Some-get_mut.caller.now b c.receive.result c.receive.new.self) c.bytes.ensures c.receive.ensures)
+          there
+          (subst (λ (b : List ℕ). Receives c.in-Some-get_mut.caller.now b c.receive.result c.receive.new.self) c.bytes.ensures.bytes c.receive.ensures)
           c.in_default-receive.not-Accepted (ap (map acceptance) c.in_ok-reserve.ensures.items);
       err = tt;
     }
@@ -32,8 +31,8 @@ returns-clause-ok g c =
     let there : slice_get (replied_of c.args.self.now) c.args.index ≡ Some frame =
     lent (replied_of c.args.self.now) c.args.index c.in-Some.frame (subst (λ (l : List Frame). IsItemAt l c.args.index (Some c.in-Some.frame)) c.deref.ensures.value c.in-Some.ensures.lookup) in
     let reply = c.in-Accepted.reply in
-    accepts old c.args.client c.args.index c.in-Some-get_mut.caller.now c.receive.new.self (frame_bytes frame) reply _
+    accepts old c.args.client c.args.index c.in-Some-get_mut.caller.now c.receive.new.self frame reply _
     (lent_mut (clients_of c.args.self.now) c.args.client c.in-Some-get_mut.caller c.in-Some-get_mut.ensures.item)
-    (mapped frame_bytes (replied_of c.args.self.now) c.args.index frame there)
-    (rw (← c.bytes.ensures) c.in-Accepted.ensures)
+    there
+    (rw (← c.bytes.ensures.bytes) c.in-Accepted.ensures)
     (one_more acceptance (accepted_of c.args.self.now) c.reserve.new.self.items c.push_reserved.new.self.items (c.args.client, reply) c.push_reserved.ensures.items c.in_ok-reserve.ensures.items)

@@ -1,9 +1,9 @@
-use Rattle.std.proofs.Common.{◌≤◌, length, subst}
-use Rattle.s10_wire.specs.Frame.{frame_bytes}
+use Rattle.std.proofs.Common.{◌≤◌, List, [], ◌∷◌, ◌++◌, length, ap, ◌∙◌, subst}
+use Rattle.s10_wire.specs.declared.frame.Frame.{Frame}
 use Rattle.s10_book.specs.Settings.{Terms}
 use Rattle.s10_ends.specs.Server.{book_of}
-use Rattle.s10_world.specs.Parts.{server_of, replied_of, state_of}
-use Rattle.s10_world.proofs.Sent.{one_more, reached_reply, reached_fault}
+use Rattle.s10_world.specs.Parts.{server_of, state_of}
+use Rattle.s10_world.proofs.Sent.{reached_reply, reached_fault}
 use Rattle.s10_world.proofs.network.Network.reach_server.Goals as goal
 
 pub returns-in-Reply-clause-ok : goal.returns-in-Reply-clause-ok
@@ -14,7 +14,7 @@ returns-in-Reply-clause-ok g c = λ h.
     subst (λ (t : Terms). length (g.B.Book.history now) ≤ t.limit) (c.in-Reply.ensures.same_terms h) (g.met.B.Book.legal now h).few in
     reached_reply (state_of g.B.Book.history g.B.Book.faults c.args.self.now) (g.B.Book.terms book) c.args.bytes.now c.args.day c.in-Reply.frame (g.B.Book.history now) (g.B.Book.faults now) _
     (c.in-Reply.ensures.served h) few c.in-Reply.ensures.faults
-    (one_more frame_bytes (replied_of c.args.self.now) c.reserve.new.self.items c.push_reserved.new.self.items c.in-Reply.frame c.push_reserved.ensures.items c.in_ok-reserve.ensures.items)
+    (c.push_reserved.ensures.items ∙ ap (λ (l : List Frame). l ++ c.in-Reply.frame ∷ []) c.in_ok-reserve.ensures.items)
 
 pub returns-in-Faulted-clause-ok : goal.returns-in-Faulted-clause-ok
 returns-in-Faulted-clause-ok g c = λ h.

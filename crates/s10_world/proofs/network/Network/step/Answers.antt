@@ -1,4 +1,4 @@
 use Rattle.s10_world.proofs.network.Network.step.Goals as goal
 
 pub returns-in-Strange-clause-ok : goal.returns-in-Strange-clause-ok
-returns-in-Strange-clause-ok g c = λ h. rw (c.in-Strange.is, ← c.bytes.ensures) (c.reach_server.ensures.ok h)
+returns-in-Strange-clause-ok g c = λ h. rw (c.in-Strange.is, ← c.bytes.ensures.bytes) (c.reach_server.ensures.ok h)

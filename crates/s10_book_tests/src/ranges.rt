@@ -1,0 +1,67 @@
+//! How many serials a range has, and which it gives in turn.
+
+use crate::books::{gb, ra, serial};
+use s10_book::Range;
+use std::test::Fail;
+
+fn range(first: u32, last: u32) -> Result<Range, &'static str> {
+    Ok(Range {
+        num: 1,
+        holder: 7,
+        service: ra()?,
+        country: gb()?,
+        first: serial(first)?,
+        last: serial(last)?,
+    })
+}
+
+/// The serial so many behind that one, where the range has that one and more serials than so many.
+fn behind(range: &Range, from: u32, count: u8) -> Result<Option<u32>, &'static str> {
+    let from = serial(from)?;
+    let is_own = range.first.value() <= from.value() && from.value() <= range.last.value();
+    if is_own && u32::from(count) < range.size() {
+        Ok(Some(range.serial_behind(from, count).value()))
+    } else {
+        Ok(None)
+    }
+}
+
+#[test]
+fn a_range_has_its_last_serial_too(rt: HostRuntime) -> Result<(), Fail> {
+    for (first, last, size) in [
+        (5, 5, 1),
+        (4, 6, 3),
+        (0, 99_999_999, 100_000_000),
+        (99_999_999, 99_999_999, 1),
+    ] {
+        assert_eq!(rt; range(first, last)?.size(), size, "{first} to {last}");
+    }
+    Ok(())
+}
+
+#[test]
+fn behind_its_last_serial_a_range_gives_its_first(rt: HostRuntime) -> Result<(), Fail> {
+    for (first, last, from, count, serial) in [
+        (5, 5, 5, 0, 5),
+        (4, 6, 4, 0, 4),
+        (4, 6, 4, 1, 5),
+        (4, 6, 4, 2, 6),
+        (4, 6, 5, 2, 4),
+        (4, 6, 6, 0, 6),
+        (4, 6, 6, 1, 4),
+        (4, 6, 6, 2, 5),
+        (0, 255, 0, 255, 255),
+        (0, 255, 1, 255, 0),
+        (0, 255, 255, 255, 254),
+        (0, 99_999_999, 99_999_998, 1, 99_999_999),
+        (0, 99_999_999, 99_999_999, 1, 0),
+        (0, 99_999_999, 99_999_999, 255, 254),
+    ] {
+        assert_eq!(rt;
+            behind(&range(first, last)?, from, count)?,
+            Some(serial),
+            "{count} behind {from} of {first} to {last}"
+        );
+    }
+    Ok(())
+}

@@ -1,0 +1,22 @@
+-- How many identifiers a sheet of labels has, and the identifiers themselves.
+use Rattle.std.specs.Prelude.{◌≡◌, ℕ, ◌-◌, ◌≤◌, List, [], ◌∷◌, ◌++◌, length, take, replicate}
+use Rattle.s10_core.specs.declared.id.Id.{Id}
+
+-- 1 to 16
+abbrev pub IsCount : ℕ → Type 0
+IsCount n = (1 ≤ n) × (n ≤ 16)
+
+-- the first of them
+abbrev pub first_id : List Id → Id
+first_id [] = record { service = (65, 65); serial = 0; country = (65, 65) }
+first_id (id ∷ ids) = id
+
+-- the identifiers in a room for sixteen, the rest of which is the first of them again
+abbrev pub roomed : List Id → List Id
+roomed ids = ids ++ replicate (16 - length ids) (first_id ids)
+
+-- the room holds so many
+pub record AreRoomed (room : List Id) (len : ℕ) : Type 0 where
+  pub count : IsCount len
+  pub long : length (take len room) ≡ len
+  pub rest : room ≡ roomed (take len room)
