@@ -22,4 +22,3 @@ pub mod Granting
 pub mod Counting
 pub mod Determined
 pub mod Overlapping
-pub mod Reporting

@@ -406,7 +406,7 @@ carries_none num (Grant holder s c first last) (Granted n) r made = refl
 carries_none num b o r made = absurd (none-some r made)
 
 -- the serial that is picked in a range is its mark
-picked_mark : (g : List Entry) (t : Terms) (customer day n : ℕ) (is : List Issuance) (c : ℕ × Id) (r : Range) → IsLegal g t → IsPicked (ranges_of g) customer day n is c → Contains (ranges_of g) r → lies_in r c.1 ≡ true → c.1.serial ≡ pick_of is r
+pub picked_mark : (g : List Entry) (t : Terms) (customer day n : ℕ) (is : List Issuance) (c : ℕ × Id) (r : Range) → IsLegal g t → IsPicked (ranges_of g) customer day n is c → Contains (ranges_of g) r → lies_in r c.1 ≡ true → c.1.serial ≡ pick_of is r
 picked_mark g t customer day n is c r legal from there lies =
     let same : from.range ≡ r = one_range (ranges_of g) from.range r c.1 (apart g t legal) from.there there (lies_picked g t customer day n is c legal from) lies in
     sym (ap (λ (y : Id). y.serial) from.picked) ∙ ap (λ (s : Range). pick_of is s) same

@@ -127,10 +127,10 @@ granted-push h new rs rs' made count e are grown counted is after =
     ∙ sym (ranges_from-push 1 h e) ∙ ap ranges_of (sym grown)
 
 -- and the kept issues
-pub issued-push : (h new : List Entry) (is is' : List Issuance) (made : Option Issuance) (count : ℕ) (e : Entry) → is ≡ issues_of h → new ≡ h ++ e ∷ [] → count ≡ length h
-    → option_to_list made ≡ issues_at (count + 1) e → is' ≡ is ++ option_to_list made → is' ≡ issues_of new
-issued-push h new is is' made count e are grown counted made-is after =
+pub issued-push : (h new : List Entry) (is is' : List Issuance) (count : ℕ) (e : Entry) → is ≡ issues_of h → new ≡ h ++ e ∷ [] → count ≡ length h
+    → is' ≡ is ++ issues_at (count + 1) e → is' ≡ issues_of new
+issued-push h new is is' count e are grown counted after =
     let num : count + 1 ≡ 1 + length h = omega (arith, counted) in
-    after ∙ ap (λ l. l ++ option_to_list made) are
-    ∙ ap (λ l. issues_of h ++ l) (made-is ∙ ap (λ n. issues_at n e) num)
+    after ∙ ap (λ l. l ++ issues_at (count + 1) e) are
+    ∙ ap (λ n. issues_of h ++ issues_at n e) num
     ∙ sym (issues_from-push 1 h e) ∙ ap issues_of (sym grown)

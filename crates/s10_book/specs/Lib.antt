@@ -7,5 +7,3 @@ pub mod BookFault
 pub mod Book
 pub mod Promises
 pub mod Once
-pub mod Reports
-pub mod ReportFault

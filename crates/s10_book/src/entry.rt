@@ -1,3 +1,7 @@
+ghost use Rattle.std.specs.Prelude.{◌≡◌, length, slice_get};
+ghost use Rattle.s10_book.specs.Issues.{carried_by, issues_at};
+
+use crate::issuance::Issuance;
 use s10_wire::{Outcome, Request};
 
 /// A kept call: what was asked, the day it was executed on, and what came of it.
@@ -9,4 +13,33 @@ pub struct Entry {
     pub day: u32,
     /// The outcome by the rules, a refusal too.
     pub outcome: Outcome,
+}
+
+impl Entry {
+    /// How many issues this call made.
+    pub fn issued(&self) -> usize
+        ensures { result ≡ length (carried_by self.now.outcome) }
+    {
+        match self.outcome {
+            Outcome::Drawn { .. } => 1,
+            _ => 0,
+        }
+    }
+
+    /// The issue at a place, counted from 0, among those that this call made as call number `arrival`, or
+    /// `None` where these end before it.
+    pub fn issue(&self, arrival: u32, place: usize) -> Option<Issuance>
+        ensures { result ≡ slice_get (issues_at arrival self.now) place }
+    {
+        match self.outcome {
+            Outcome::Drawn { day, id } if place == 0 => Some(Issuance {
+                id,
+                day,
+                customer: self.request.customer,
+                number: self.request.number,
+                arrival,
+            }),
+            _ => None,
+        }
+    }
 }

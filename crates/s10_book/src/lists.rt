@@ -1,10 +1,10 @@
 //! Look-ups in the lists of a book in memory.
 
-ghost use Rattle.std.specs.Prelude.{◌≡◌, ◌==◌, find, not, count_by, false, ◌<◌, ◌^◌, ◌-◌, ◌+◌, ◌≤◌, if◌then◌else◌, option_to_list, Contains};
+ghost use Rattle.std.specs.Prelude.{◌≡◌, ◌==◌, find, not, count_by, false, ◌<◌, ◌^◌, ◌-◌, ◌+◌, ◌≤◌, if◌then◌else◌, Contains};
 ghost use Rattle.s10_book.specs.History.{has_key, entry_with_key, lies_in, ranges_of, range_of_grant, entry_at, is_held_above, overlaps};
 ghost use Rattle.s10_book.specs.Settings.{Terms};
 ghost use Rattle.s10_book.specs.Rules.{IsLegal};
-ghost use Rattle.s10_book.specs.Issues.{issues_of, issues_at, last_issue_of, candidate_of, candidate_after_of, size_of, is_of, last_issuance_of, voids, voided_after, is_issued, serial_issued_earliest, least_serial_unissued, id_at, serials, is_voided as is_voided_in, is_free as is_free_on};
+ghost use Rattle.s10_book.specs.Issues.{issues_of, last_issue_of, candidate_of, candidate_after_of, size_of, is_of, last_issuance_of, voids, voided_after, is_issued, serial_issued_earliest, least_serial_unissued, id_at, serials, is_voided as is_voided_in, is_free as is_free_on};
 ghost use Rattle.std.specs.Option.{option_map, unwrap_or};
 
 use crate::candidate::Candidate;
@@ -282,22 +282,6 @@ pub(crate) fn range_made(count: usize, entry: &Entry) -> Option<Range>
             }),
             _ => None,
         },
-        _ => None,
-    }
-}
-
-pub(crate) fn issue_made(count: usize, entry: &Entry) -> Option<Issuance>
-    requires { count < 2 ^ 32 - 1 }
-    ensures { option_to_list result ≡ issues_at (count + 1) entry.now }
-{
-    match entry.outcome {
-        Outcome::Drawn { day, id } => Some(Issuance {
-            id,
-            day,
-            customer: entry.request.customer,
-            number: entry.request.number,
-            arrival: count as u32 + 1,
-        }),
         _ => None,
     }
 }

@@ -1,9 +1,9 @@
 //! The book in memory.
 
-ghost use Rattle.std.specs.Prelude.{◌≡◌, ◌∷◌, ◌++◌, [], ⊤, OnOk, OnErr, IfOk, IfErr, IfSome, IsTrue, Contains, find, ◌==◌, ◌<◌, ◌+◌, vec_len, vec_capacity, option_to_list};
+ghost use Rattle.std.specs.Prelude.{◌≡◌, ◌∷◌, ◌++◌, [], ⊤, OnOk, OnErr, IfOk, IfErr, IfSome, IsTrue, Contains, find, ◌==◌, ◌<◌, ◌≤◌, ◌+◌, vec_len, vec_capacity, length, option_to_list};
 ghost use Rattle.s10_wire.specs.Kind.{fits};
 ghost use Rattle.s10_book.specs.History.{ranges_of, entry_with_key, entry_at, is_held_above, overlaps};
-ghost use Rattle.s10_book.specs.Issues.{issues_of, last_issue_of, candidate_of, candidate_after_of, size_of};
+ghost use Rattle.s10_book.specs.Issues.{issues_of, issues_at, last_issue_of, candidate_of, candidate_after_of, size_of};
 ghost use Rattle.s10_book.specs.Usage.{usage_of};
 ghost use Rattle.s10_book.specs.Rules.{IsLegal, MayFollow};
 ghost use Rattle.s10_book.specs.BookFault.{Counts, no_faults};
@@ -16,8 +16,8 @@ use crate::faults::Faults;
 use crate::issuance::Issuance;
 use crate::issue::Issue;
 use crate::lists::{
-    call_at, issue_made, kept_call, last_state, next_serial, range_after, range_made,
-    range_numbered, range_over, serial_after, usage_in,
+    call_at, kept_call, last_state, next_serial, range_after, range_made, range_numbered,
+    range_over, serial_after, usage_in,
 };
 use crate::range::Range;
 use crate::settings::Settings;
@@ -66,12 +66,12 @@ impl PlainBook {
     {
         let _limit = self.settings.limit();
         self.ranges.reserve(1)?;
-        self.issues.reserve(1)?;
+        self.issues.reserve(entry.issued())?;
         self.entries.reserve(1)?;
         let made = range_made(self.ranges.len(), &entry);
-        let issued = issue_made(self.entries.len(), &entry);
+        let kept = self.entries.len();
         push_made(&mut self.ranges, made);
-        push_made(&mut self.issues, issued);
+        push_issues(&mut self.issues, kept as u32 + 1, &entry);
         push_made(&mut self.entries, Some(entry));
         Ok(())
     }
@@ -84,6 +84,18 @@ fn push_made<T: Copy>(list: &mut Vec<T>, made: Option<T>)
 {
     if let Some(item) = made {
         let _ = list.push(item);
+    }
+}
+
+// Adds the issues of a call, for which there is room.
+fn push_issues(list: &mut Vec<Issuance>, arrival: u32, entry: &Entry)
+    requires { vec_len list.old + length (issues_at arrival entry.now) ≤ vec_capacity list.old }
+    ensures { list.new.items ≡ list.old.items ++ issues_at arrival entry.now }
+{
+    for place in 0..entry.issued() {
+        if let Some(issuance) = entry.issue(arrival, place) {
+            let _ = list.push(issuance);
+        }
     }
 }
 

@@ -1,5 +1,5 @@
 use crate::books::{Asked, NINE_CALLS, book_after, first_unlike, gb, id, ra, request, serial};
-use s10_book::{Book, Candidate, Entry, Issue, PlainBook, Range, Usage};
+use s10_book::{Book, Candidate, Entry, Issuance, Issue, PlainBook, Range, Usage};
 use s10_wire::Outcome;
 use std::test::Fail;
 
@@ -139,5 +139,30 @@ fn reads_answer_from_the_kept_calls(rt: HostRuntime) -> Result<(), Fail> {
     }
     assert!(rt; was_last_issued(&mut book, issue(20030, false, 8))?);
     assert!(rt; gives_next(&mut book, 2, issue(20000, false, 5))?);
+    Ok(())
+}
+
+/// The issues that a call made as call number 6, and what stands behind the last of them.
+fn issues_as_sixth(entry: &Entry) -> (usize, Option<Issuance>, Option<Issuance>) {
+    let count = entry.issued();
+    (count, entry.issue(6, 0), entry.issue(6, count))
+}
+
+#[test]
+fn a_done_draw_made_one_issue_and_a_refused_one_none(rt: HostRuntime) -> Result<(), Fail> {
+    let drawn = sixth()?;
+    let refused = Entry {
+        outcome: Outcome::NoneFree,
+        ..drawn
+    };
+    let issuance = Issuance {
+        id: id(2)?,
+        day: 20000,
+        customer: 7,
+        number: 5,
+        arrival: 6,
+    };
+    assert_eq!(rt; issues_as_sixth(&drawn), (1, Some(issuance), None));
+    assert_eq!(rt; issues_as_sixth(&refused), (0, None, None));
     Ok(())
 }

@@ -1,7 +1,8 @@
 //! The two reports.
 
 use crate::books::{NINE_CALLS, OPENING, book_after};
-use s10_book::{Book, BookFault, PlainBook, ReportFault, TripBook, write_issues, write_ranges};
+use s10_book::{Book, BookFault, PlainBook, TripBook};
+use s10_reports::{ReportFault, write_issues, write_ranges};
 use std::alloc::Global;
 use std::io;
 use std::io::Write;

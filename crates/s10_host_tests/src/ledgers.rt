@@ -1,13 +1,14 @@
 //! The worked ledger of nine calls in tables: its replies and reports, and audits of it.
 
 use crate::refusing::Refusing;
-use s10_book::{Book, PlainBook, Settings, write_issues, write_ranges};
+use s10_book::{Book, PlainBook, Settings};
 use s10_core::{Country, Id, Serial, Service};
 use s10_ends::{Answer, Delivery, Server};
 use s10_host::run_audit;
 use s10_jobs::{Status, write_answer};
 use s10_ledger::{OpenFault, SqlBook};
 use s10_link::Packet;
+use s10_reports::{write_issues, write_ranges};
 use s10_wire::{Body, Request, WriteFault, encode_request};
 use sqlite::{Connection, MemStore};
 use std::alloc::{AllocError, Global};

@@ -1,6 +1,6 @@
 -- The last issue of an identifier behind one more call.
 use Rattle.std.proofs.Common.{◌≡◌, ◌∙◌, ℕ, zero, suc, ◌+◌, ◌≤◌, Bool, true, false, cond, ◌||◌, List, [], ◌∷◌, ◌++◌, map, Option, Some, None, length, refl, sym, ap, ap₂, subst, arith, append-nil, length-append}
-use Rattle.std.specs.Prelude.{filter, All}
+use Rattle.std.specs.Prelude.{filter, All, slice_get}
 use Rattle.std.specs.List.{list_any, last_or}
 use Rattle.std.specs.Option.{option_map, unwrap_or}
 use Rattle.std.proofs.lemmas.Bool.{or_left, or_right, eqb-true, eq-eqb, and_parts, and_from}
@@ -14,13 +14,13 @@ use Rattle.s10_core.specs.Id.{IsId, same_id}
 use Rattle.s10_wire.specs.declared.body.Body.{Body}
 use Rattle.s10_wire.specs.declared.body.Body.TheVariants.{Void}
 use Rattle.s10_wire.specs.declared.outcome.Outcome.{Outcome}
-use Rattle.s10_wire.specs.declared.outcome.Outcome.TheVariants.{Drawn, Voided}
+use Rattle.s10_wire.specs.declared.outcome.Outcome.TheVariants.{Voided}
 use Rattle.s10_book.specs.declared.entry.Entry.{Entry}
 use Rattle.s10_book.specs.declared.issue.Issue.{Issue}
 use Rattle.s10_book.specs.declared.issuance.Issuance.{Issuance}
 use Rattle.s10_book.specs.Settings.{Terms}
 use Rattle.s10_book.specs.Rules.{IsLegal}
-use Rattle.s10_book.specs.Issues.{issues_of, is_of, carried_by, voids, voids_by, voided_after, last_issuance_of, last_issue_of}
+use Rattle.s10_book.specs.Issues.{issues_of, issues_at, is_of, carried_by, voids, voids_by, voided_after, last_issuance_of, last_issue_of}
 use Rattle.s10_book.proofs.Push.{issues_from-push}
 use Rattle.s10_book.proofs.Issued.{last_issuance_of-push}
 use Rattle.s10_book.proofs.Own.{IsOwned, owned}
@@ -30,7 +30,8 @@ use Rattle.s10_book.proofs.Spaced.{id_same}
 use Rattle.s10_ranges.specs.Keys.{pair_of}
 use Rattle.s10_ranges.proofs.Pairs.{one_pair}
 use Rattle.s10_index.specs.Keys.{same_key, id_key}
-use Rattle.s10_index.specs.LastIssues.{voided_issue}
+use Rattle.s10_ranges.proofs.Carrying.{issues_upto, upto_next, carried_at}
+use Rattle.s10_index.specs.LastIssues.{as_issue, told, voided_issue}
 
 -- ---- keys
 
@@ -79,10 +80,6 @@ none_voided : (x : Id) (b : Body) (o : Outcome) → ((y : Id) → b ≡ Void y �
 none_voided x (Void id) Voided other = absurd (other id refl refl)
 none_voided x b o other = refl
 
-none_carried : (o : Outcome) → ((day : ℕ) (x : Id) → o ≡ Drawn day x → ⊥) → carried_by o ≡ []
-none_carried (Drawn day id) other = absurd (other day id refl)
-none_carried o other = refl
-
 -- a call that carries no identifier leaves the issues
 same_issues : (h : List Entry) (e : Entry) → carried_by e.outcome ≡ [] → issues_of (h ++ e ∷ []) ≡ issues_of h
 same_issues h e none =
@@ -90,58 +87,50 @@ same_issues h e none =
 
 -- ---- the last issue
 
--- what is told of an issue among those of a history
-abbrev told : List Entry → Id → Issuance → Issue
-told h x i = record { day = i.day; voided = voided_after i.arrival h x; customer = i.customer; number = i.number }
-
 told_is : (h : List Entry) (x : Id) (o : Option Issuance)
     → option_map (λ (i : Issuance). record { day = i.day; voided = unwrap_or (option_map (λ (j : Issuance). voided_after j.arrival h x) o) false; customer = i.customer; number = i.number }) o ≡ option_map (told h x) o
 told_is h x None = refl
 told_is h x (Some i) = refl
 
-last_told : (h : List Entry) (x : Id) → last_issue_of h x ≡ option_map (told h x) (last_issuance_of (issues_of h) x)
+pub last_told : (h : List Entry) (x : Id) → last_issue_of h x ≡ option_map (told h x) (last_issuance_of (issues_of h) x)
 last_told h x = told_is h x (last_issuance_of (issues_of h) x)
-
-abbrev with_voided : Issuance → Bool → Issue
-with_voided i b = record { day = i.day; voided = b; customer = i.customer; number = i.number }
 
 told_same : (h : List Entry) (e : Entry) (x : Id) (o : Option Issuance) → voids x e ≡ false → option_map (told (h ++ e ∷ []) x) o ≡ option_map (told h x) o
 told_same h e x None none = refl
 told_same h e x (Some i) none = let f : Bool → Option Issue = λ b. Some (record { day = i.day; voided = b; customer = i.customer; number = i.number }) in ap f (same_voided i.arrival h e x none)
 
+-- a call that voids nothing leaves what is told of the issues before it
+pub told_before : (h : List Entry) (e : Entry) (x : Id) → ((y : Id) → e.request.body ≡ Void y → e.outcome ≡ Voided → ⊥)
+    → option_map (told (h ++ e ∷ []) x) (last_issuance_of (issues_of h) x) ≡ option_map (told h x) (last_issuance_of (issues_of h) x)
+told_before h e x no_void = told_same h e x (last_issuance_of (issues_of h) x) (none_voided x e.request.body e.outcome no_void)
+
 -- a call that issues nothing and voids nothing leaves each last issue
-pub last_left : (h : List Entry) (e : Entry) (x : Id) → ((day : ℕ) (y : Id) → e.outcome ≡ Drawn day y → ⊥) → ((y : Id) → e.request.body ≡ Void y → e.outcome ≡ Voided → ⊥)
+pub last_left : (h : List Entry) (e : Entry) (x : Id) → carried_by e.outcome ≡ [] → ((y : Id) → e.request.body ≡ Void y → e.outcome ≡ Voided → ⊥)
     → last_issue_of (h ++ e ∷ []) x ≡ last_issue_of h x
-last_left h e x no_draw no_void =
+last_left h e x no_issue no_void =
     last_told (h ++ e ∷ []) x
-    ∙ ap (λ (is : List Issuance). option_map (told (h ++ e ∷ []) x) (last_issuance_of is x)) (same_issues h e (none_carried e.outcome no_draw))
-    ∙ told_same h e x (last_issuance_of (issues_of h) x) (none_voided x e.request.body e.outcome no_void)
+    ∙ ap (λ (is : List Issuance). option_map (told (h ++ e ∷ []) x) (last_issuance_of is x)) (same_issues h e no_issue)
+    ∙ told_before h e x no_void
     ∙ sym (last_told h x)
 
-pub not_both : (day : ℕ) (y : Id) (o : Outcome) → o ≡ Drawn day y → o ≡ Voided → ⊥
-not_both day y o p q = cc
+-- no Void stands behind an issue that the last call made
+new_told : (h : List Entry) (e : Entry) (x : Id) (y : Issuance) (b : Bool) (o : Option Issuance) → y.arrival ≡ 1 + length h
+    → option_map (told (h ++ e ∷ []) x) (cond b (Some y) o) ≡ cond b (Some (as_issue y false)) (option_map (told (h ++ e ∷ []) x) o)
+new_told h e x y true o at = ap (λ v. Some (as_issue y v)) (ap (λ n. voided_after n (h ++ e ∷ []) x) at ∙ none_behind h e x)
+new_told h e x y false o at = refl
 
--- the issue that a Done Draw makes
-abbrev pub drawn_issue : Entry → ℕ → Issue
-drawn_issue e day = record { day = day; voided = false; customer = e.request.customer; number = e.request.number }
-
-new_or_old : (h : List Entry) (e : Entry) (x : Id) (y : Issuance) (b : Bool) (o : Option Issuance) → y.arrival ≡ 1 + length h → voids x e ≡ false
-    → option_map (told (h ++ e ∷ []) x) (cond b (Some y) o) ≡ cond b (Some (with_voided y false)) (option_map (told h x) o)
-new_or_old h e x y true o at none =
-    ap (λ v. Some (with_voided y v)) (ap (λ n. voided_after n (h ++ e ∷ []) x) at ∙ none_behind h e x)
-new_or_old h e x y false o at none = told_same h e x o none
-
-pub last_drawn : (h : List Entry) (e : Entry) (x : Id) (day : ℕ) (id : Id) → e.outcome ≡ Drawn day id
-    → last_issue_of (h ++ e ∷ []) x ≡ cond (same_id id x) (Some (drawn_issue e day)) (last_issue_of h x)
-last_drawn h e x day id done =
-    let y : Issuance = made_by e (1 + length h) (day, id) in
-    let issues : issues_of (h ++ e ∷ []) ≡ issues_of h ++ y ∷ [] =
-    issues_from-push 1 h e ∙ ap (λ (o : Outcome). issues_of h ++ map (made_by e (1 + length h)) (carried_by o)) done in
-    last_told (h ++ e ∷ []) x
-    ∙ ap (λ (is : List Issuance). option_map (told (h ++ e ∷ []) x) (last_issuance_of is x)) issues
-    ∙ ap (option_map (told (h ++ e ∷ []) x)) (last_issuance_of-push (issues_of h) y x)
-    ∙ new_or_old h e x y (same_id id x) (last_issuance_of (issues_of h) x) refl (none_voided x e.request.body e.outcome (λ z _ is. not_both day id e.outcome done is))
-    ∙ ap (cond (same_id id x) (Some (drawn_issue e day))) (sym (last_told h x))
+-- what is told of the last issue before the next place of a call
+pub told_upto : (h : List Entry) (e : Entry) (x : Id) (place : ℕ) (i : Issuance) → slice_get (issues_at 0 e) place ≡ Some i
+    → option_map (told (h ++ e ∷ []) x) (last_issuance_of (issues_upto h e (place + 1)) x) ≡ cond (same_id i.id x) (Some (as_issue i false)) (option_map (told (h ++ e ∷ []) x) (last_issuance_of (issues_upto h e place) x))
+told_upto h e x place i at =
+    let found = carried_at e 0 place i at in
+    let c : ℕ × Id = found.0 in
+    let y : Issuance = made_by e (1 + length h) c in
+    let o : Option Issuance = last_issuance_of (issues_upto h e place) x in
+    ap (λ (is : List Issuance). option_map (told (h ++ e ∷ []) x) (last_issuance_of is x)) (upto_next h e place c found.1)
+    ∙ ap (option_map (told (h ++ e ∷ []) x)) (last_issuance_of-push (issues_upto h e place) y x)
+    ∙ new_told h e x y (same_id c.1 x) o refl
+    ∙ ap (λ (j : Issuance). cond (same_id j.id x) (Some (as_issue j false)) (option_map (told (h ++ e ∷ []) x) o)) found.2
 
 -- what holds of each issue holds of the last
 last_has : (P : Issuance → Type 0) (p : Issuance → Bool) (o : Option Issuance) (is : List Issuance) (l : Issuance) → All P is → ((m : Issuance) → o ≡ Some m → P m) → last_or o (filter p is) ≡ Some l → P l
@@ -156,7 +145,7 @@ last_has P p o (i ∷ is) l all before last =
 void_or_not : (h : List Entry) (e : Entry) (x : Id) (b : Bool) (o : Option Issuance) → voids x e ≡ b → ((i : Issuance) → o ≡ Some i → i.arrival ≤ length h)
     → option_map (told (h ++ e ∷ []) x) o ≡ cond b (option_map voided_issue (option_map (told h x) o)) (option_map (told h x) o)
 void_or_not h e x true None does few = refl
-void_or_not h e x true (Some i) does few = ap (λ v. Some (with_voided i v)) (now_voided i.arrival h e x (few i refl) does)
+void_or_not h e x true (Some i) does few = ap (λ v. Some (as_issue i v)) (now_voided i.arrival h e x (few i refl) does)
 void_or_not h e x false o none few = told_same h e x o none
 
 -- a Done Void voids the last issue of its identifier
@@ -165,7 +154,7 @@ pub last_voided : (h : List Entry) (t : Terms) (e : Entry) (x id : Id) → IsLeg
 last_voided h t e x id legal asks done =
     let is : voids x e ≡ same_id id x = ap₂ (λ (b : Body) (o : Outcome). voids_by x b o) asks done in
     last_told (h ++ e ∷ []) x
-    ∙ ap (λ (is : List Issuance). option_map (told (h ++ e ∷ []) x) (last_issuance_of is x)) (same_issues h e (none_carried e.outcome (λ day y drawn. not_both day y e.outcome drawn done)))
+    ∙ ap (λ (is : List Issuance). option_map (told (h ++ e ∷ []) x) (last_issuance_of is x)) (same_issues h e (ap carried_by done))
     ∙ void_or_not h e x (same_id id x) (last_issuance_of (issues_of h) x) is
     (λ i last. (last_has (IsOwned h) (is_of x) None (issues_of h) i (owned h t legal) (λ m none. absurd (none-some m none)) last).1)
     ∙ ap (λ (o : Option Issue). cond (same_id id x) (option_map voided_issue o) o) (sym (last_told h x))

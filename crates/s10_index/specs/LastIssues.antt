@@ -1,17 +1,34 @@
 -- The last issue of each identifier.
-use Rattle.std.specs.Prelude.{◌≡◌, ℕ, List, if◌then◌else◌, true}
+use Rattle.std.specs.Prelude.{◌≡◌, ℕ, Bool, List, Some, if◌then◌else◌, true}
 use Rattle.std.specs.Option.{option_map}
 use Rattle.std.specs.HashMap.{HashMap, get}
 use Rattle.s10_core.specs.declared.id.Id.{Id}
 use Rattle.s10_core.specs.Id.{IsId}
 use Rattle.s10_book.specs.declared.entry.Entry.{Entry}
 use Rattle.s10_book.specs.declared.issue.Issue.{Issue}
-use Rattle.s10_book.specs.Issues.{last_issue_of}
+use Rattle.s10_book.specs.declared.issuance.Issuance.{Issuance}
+use Rattle.s10_book.specs.Issues.{last_issuance_of, last_issue_of, voided_after}
 use Rattle.s10_index.specs.Keys.{same_key, id_key}
 
 -- at the key of each identifier the map has its last issue
 abbrev pub HasIssues : {S : Type 0} → HashMap (ℕ × ℕ) Issue S → List Entry → Type 0
 HasIssues issues h = (x : Id) → IsId x → get same_key issues (id_key x) ≡ last_issue_of h x
+
+-- an issue as it is noted, voided or not
+abbrev pub as_issue : Issuance → Bool → Issue
+as_issue i voided = record { day = i.day; voided = voided; customer = i.customer; number = i.number }
+
+-- what the history tells of an issue of the identifier
+abbrev pub told : List Entry → Id → Issuance → Issue
+told h x i = as_issue i (voided_after i.arrival h x)
+
+-- at the key of each identifier the map has what the history tells of the last of these issues that is of it
+abbrev pub HasLast : {S : Type 0} → HashMap (ℕ × ℕ) Issue S → List Entry → List Issuance → Type 0
+HasLast issues h is = (x : Id) → IsId x → get same_key issues (id_key x) ≡ option_map (told h x) (last_issuance_of is x)
+
+-- the map has the issue at that key, and the others as they were
+abbrev pub Notes : {S : Type 0} → ℕ × ℕ → Issue → HashMap (ℕ × ℕ) Issue S → HashMap (ℕ × ℕ) Issue S → Type 0
+Notes key issue old new = (q : ℕ × ℕ) → get same_key new q ≡ (if same_key key q then Some issue else get same_key old q)
 
 -- the issue, voided
 abbrev pub voided_issue : Issue → Issue

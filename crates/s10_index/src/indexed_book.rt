@@ -11,7 +11,7 @@ ghost use Rattle.s10_ranges.specs.Mirror.{Mirrors};
 ghost use Rattle.s10_index.specs.Places.{HasPlaces};
 ghost use Rattle.s10_index.specs.LastIssues.{HasIssues};
 
-use crate::last_issues::{note_issue, noted_issue};
+use crate::last_issues::{note_call, noted_issue};
 use crate::places::{kept_call, note_place};
 use crate::tally::{count_if, id_with, is_free, is_voided};
 use s10_book::{Book, BookFault, Candidate, Entry, Faults, Issue, Range, Settings, Usage};
@@ -66,11 +66,11 @@ impl IndexedBook {
         let place = self.len();
         self.ranges.reserve()?;
         self.places.reserve(1)?;
-        self.issues.reserve(1)?;
+        self.issues.reserve(entry.issued())?;
         self.entries.reserve(1)?;
         self.ranges.follow(&entry);
         note_place(&mut self.places, &entry, place);
-        note_issue(&mut self.issues, &entry);
+        note_call(&mut self.issues, &entry);
         push_item(&mut self.entries, entry);
         Ok(())
     }

@@ -1,16 +1,17 @@
 //! The last issue of each identifier.
 
-ghost use Rattle.std.specs.Prelude.{◌≡◌, ◌<◌, ◌++◌, ◌∷◌, [], List};
+ghost use Rattle.std.specs.Prelude.{◌≡◌, ◌<◌, ◌≤◌, ◌+◌, ◌++◌, ◌∷◌, [], List, length, false};
 ghost use Rattle.std.specs.HashMap.{get, spare};
 ghost use Rattle.s10_core.specs.Id.{IsId};
 ghost use Rattle.s10_book.specs.declared.entry.Entry.{Entry};
 ghost use Rattle.s10_book.specs.Settings.{Terms};
+ghost use Rattle.s10_book.specs.Issues.{issues_of, carried_by};
 ghost use Rattle.s10_book.specs.Rules.{IsLegal};
 ghost use Rattle.s10_index.specs.Keys.{same_key, id_key};
-ghost use Rattle.s10_index.specs.LastIssues.{HasIssues, Voids};
+ghost use Rattle.s10_index.specs.LastIssues.{HasIssues, HasLast, Notes, Voids, as_issue};
 
 use crate::id_key::key_of;
-use s10_book::{Entry, Issue};
+use s10_book::{Entry, Issuance, Issue};
 use s10_core::Id;
 use s10_wire::{Body, Outcome};
 use std::collections::HashMap;
@@ -22,28 +23,48 @@ pub(crate) fn noted_issue(issues: &HashMap<(u32, u32), Issue>, id: &Id) -> Optio
     issues.get(&key_of(id)).copied()
 }
 
-// Notes what a kept call makes of the last issue of its identifier. There is room for one more.
-pub(crate) fn note_issue(issues: &mut HashMap<(u32, u32), Issue>, entry: &Entry)
-    requires room { 0 < spare issues.old }
+// Notes what a kept call makes of the last issues of its identifiers. There is room for all that it issued.
+pub(crate) fn note_call(issues: &mut HashMap<(u32, u32), Issue>, entry: &Entry)
+    requires room { length (carried_by entry.now.outcome) ≤ spare issues.old }
     ensures { (h : List Entry) (t : Terms) → IsLegal h t → HasIssues issues.old h → HasIssues issues.new (h ++ entry.now ∷ []) }
 {
     match entry.outcome {
-        Outcome::Drawn { day, id } => {
-            let issue = Issue {
-                day,
-                voided: false,
-                customer: entry.request.customer,
-                number: entry.request.number,
-            };
-            let _ = issues.insert(key_of(&id), issue);
-        }
         Outcome::Voided => {
             if let Body::Void { id } = entry.request.body {
                 note_void(issues, &id);
             }
         }
-        _ => {}
+        _ => note_issues(issues, entry),
     }
+}
+
+// Notes each issue of the call, one after another. There is room for all of them.
+fn note_issues(issues: &mut HashMap<(u32, u32), Issue>, entry: &Entry)
+    requires room { length (carried_by entry.now.outcome) ≤ spare issues.old }
+    ensures { (h : List Entry) → HasLast issues.old (h ++ entry.now ∷ []) (issues_of h) → HasLast issues.new (h ++ entry.now ∷ []) (issues_of (h ++ entry.now ∷ [])) }
+{
+    for place in 0..entry.issued() {
+        // Which arrival the issues have is no matter to what is noted.
+        if let Some(issuance) = entry.issue(0, place) {
+            note_issue(issues, &issuance);
+        }
+    }
+}
+
+// Notes an issue. There is room for one more.
+fn note_issue(issues: &mut HashMap<(u32, u32), Issue>, issuance: &Issuance)
+    requires room { 0 < spare issues.old }
+    ensures notes { Notes (id_key issuance.now.id) (as_issue issuance.now false) issues.old issues.new }
+    ensures spare { spare issues.old ≤ spare issues.new + 1 }
+    ensures parts { IsId issuance.now.id }
+{
+    let issue = Issue {
+        day: issuance.day,
+        voided: false,
+        customer: issuance.customer,
+        number: issuance.number,
+    };
+    let _ = issues.insert(key_of(&issuance.id), issue);
 }
 
 fn note_void(issues: &mut HashMap<(u32, u32), Issue>, id: &Id)

@@ -1,44 +1,57 @@
 //! The rows of a ledger's tables that the history of a book makes.
 
-ghost use Rattle.std.specs.Prelude.{◌≡◌, ◌++◌, ◌+◌, ◌<◌, ℕ, List, IfOk, Some, slice_get, option_to_list};
+ghost use Rattle.std.specs.Prelude.{◌≡◌, ◌++◌, ◌∷◌, ◌+◌, ◌<◌, ◌≤◌, List, IfOk, OnOk, Some, slice_get, option_to_list};
 ghost use Rattle.s10_book.specs.declared.entry.Entry.{Entry};
+ghost use Rattle.s10_book.specs.declared.issuance.Issuance.{Issuance};
 ghost use Rattle.s10_book.specs.Settings.{Terms};
+ghost use Rattle.s10_book.specs.Issues.{issues_of};
 ghost use Rattle.s10_book.specs.Rules.{IsLegal};
 ghost use Rattle.s10_ranges.specs.Mirror.{Mirrors};
 ghost use Rattle.s10_rows.specs.Tables.{range_rows, serial_rows};
 ghost use Rattle.s10_index.specs.LastIssues.{HasIssues};
-ghost use Rattle.s10_index.specs.RowsBehind.{rows_behind};
+ghost use Rattle.s10_index.specs.RowsBehind.{last_rows, rows_behind};
 
 use crate::indexed_book::IndexedBook;
 use crate::last_issues::noted_issue;
 use s10_book::{Book, Entry, Issuance, Issue};
 use s10_ranges::Ranges;
 use s10_rows::{RangeRow, SerialRow};
-use s10_wire::Outcome;
 use std::alloc::{AllocError, Global};
 use std::collections::HashMap;
 
-// The row of the issue that a call made, where it is the last one of its identifier. The first call has place 0.
-fn last_row(issues: &HashMap<(u32, u32), Issue>, entry: &Entry, place: u32) -> Option<SerialRow>
-    requires { place < 4294967295 }
-    ensures { (h : List Entry) (t : Terms) → IsLegal h t → HasIssues issues.now h → slice_get h place ≡ Some entry.now
-        → option_to_list result ++ rows_behind h (place + 1) ≡ rows_behind h place }
+// The row of an issue of the history, where it is the last one of its identifier: where the noted one is on its day, since
+// no identifier is issued twice on one day.
+fn last_row(issues: &HashMap<(u32, u32), Issue>, issuance: &Issuance) -> Option<SerialRow>
+    ensures { (h : List Entry) (t : Terms) (before behind : List Issuance) → IsLegal h t → 1 ≤ t.interval → HasIssues issues.now h
+        → issues_of h ≡ before ++ issuance.now ∷ behind
+        → option_to_list result ++ last_rows h behind ≡ last_rows h (issuance.now ∷ behind) }
 {
-    let Outcome::Drawn { day, id } = entry.outcome else {
-        return None;
-    };
-    let last = noted_issue(issues, &id)?;
-    if last.customer != entry.request.customer || last.number != entry.request.number {
+    let last = noted_issue(issues, &issuance.id)?;
+    if last.day != issuance.day {
         return None;
     }
-    let issue = Issuance {
-        id,
-        day,
-        customer: last.customer,
-        number: last.number,
-        arrival: place + 1,
-    };
-    Some(SerialRow::of(&issue, last.voided))
+    Some(SerialRow::of(issuance, last.voided))
+}
+
+// Adds the rows of the issues that a call made, of each that is the last one of its identifier. The first call has place 0.
+fn push_rows(
+    rows: &mut Vec<SerialRow>,
+    issues: &HashMap<(u32, u32), Issue>,
+    entry: &Entry,
+    place: u32,
+) -> Result<(), AllocError>
+    requires { place < 4294967295 }
+    ensures { OnOk result ((h : List Entry) (t : Terms) → IsLegal h t → 1 ≤ t.interval → HasIssues issues.now h → slice_get h place ≡ Some entry.now
+        → rows.new.items ++ rows_behind h (place + 1) ≡ rows.old.items ++ rows_behind h place) }
+{
+    for at in 0..entry.issued() {
+        if let Some(issuance) = entry.issue(place + 1, at) {
+            if let Some(row) = last_row(issues, &issuance) {
+                rows.push(row)?;
+            }
+        }
+    }
+    Ok(())
 }
 
 impl IndexedBook {
@@ -59,13 +72,13 @@ impl IndexedBook {
     pub fn serial_rows(&self, alloc: Global) -> Result<Vec<SerialRow>, AllocError>
         ensures { IfOk result (λ rows. rows.items ≡ serial_rows self.now.entries.items) }
     {
+        // At least 1, so that no identifier is issued twice on one day.
+        let _interval = self.settings().interval();
         let len = self.len();
         let mut rows = Vec::new(alloc);
         for place in 0..len {
             let entry = &self.entries[place as usize];
-            if let Some(row) = last_row(&self.issues, entry, place) {
-                rows.push(row)?;
-            }
+            push_rows(&mut rows, &self.issues, entry, place)?;
         }
         Ok(rows)
     }

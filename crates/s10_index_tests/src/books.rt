@@ -1,7 +1,8 @@
 //! Books, and what they answer.
 
-use s10_book::{Book, BookFault, Entry, PlainBook, Settings, decide, write_issues, write_ranges};
+use s10_book::{Book, BookFault, Entry, PlainBook, Settings, decide};
 use s10_index::IndexedBook;
+use s10_reports::{write_issues, write_ranges};
 use s10_wire::{Outcome, Request};
 use std::alloc::Global;
 use std::process::Abort;

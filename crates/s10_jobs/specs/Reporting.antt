@@ -5,7 +5,7 @@ use Rattle.s10_wire.specs.Lines.{line_of}
 use Rattle.s10_book.specs.declared.entry.Entry.{Entry}
 use Rattle.s10_book.specs.declared.book_fault.BookFault.{BookFault}
 use Rattle.s10_book.specs.Settings.{Terms}
-use Rattle.s10_book.specs.Reports.{joined, ranges_report, issues_report}
+use Rattle.s10_reports.specs.Reports.{joined, ranges_report, issues_report}
 use Rattle.s10_jobs.specs.declared.reporting.Report.{Report}
 use Rattle.s10_jobs.specs.declared.reporting.Report.TheVariants.{Ranges, Issues}
 use Rattle.s10_jobs.specs.declared.status.Status.{Status}

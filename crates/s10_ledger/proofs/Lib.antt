@@ -6,3 +6,4 @@ pub mod NewLedger
 pub mod KeyLemmas
 pub mod WholeLemmas
 pub mod RefusalLemmas
+pub mod IssueLemmas

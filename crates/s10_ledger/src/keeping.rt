@@ -1,11 +1,11 @@
 //! A call is kept.
 
-ghost use Rattle.std.specs.Prelude.{◌≡◌, ◌≢◌, ◌⊎◌, ℕ, ◌≤◌, ◌<◌, ◌+◌, ◌^◌, ◌++◌, ◌∷◌, [], List, length, filter, option_to_list, All, Err, IfOk, IfSome, IsOk, IsTrue, OnOk, OnErr};
+ghost use Rattle.std.specs.Prelude.{◌≡◌, ◌≢◌, ◌⊎◌, ℕ, ◌≤◌, ◌<◌, ◌+◌, ◌^◌, ◌++◌, ◌∷◌, [], List, length, filter, All, Err, IfOk, IfSome, IsTrue, OnOk, OnErr};
 ghost use Rattle.sqlite_trees.specs.Tree.{Trees};
 ghost use Rattle.sqlite_trees.specs.View.{doubt};
 ghost use Rattle.sqlite.specs.Held.{state};
 ghost use Rattle.sqlite.specs.State.{HasCleanDisk};
-ghost use Rattle.s10_wire.specs.declared.outcome.Outcome.TheVariants.{Drawn, Voided};
+ghost use Rattle.s10_wire.specs.declared.outcome.Outcome.TheVariants.{Granted, Voided};
 ghost use Rattle.s10_book.specs.declared.entry.Entry.{Entry};
 ghost use Rattle.s10_book.specs.declared.book_fault.BookFault.TheVariants.{Full};
 ghost use Rattle.s10_book.specs.Settings.{Terms};
@@ -20,44 +20,28 @@ ghost use Rattle.s10_statements.specs.Settled.{IsSettled, Spares};
 ghost use Rattle.s10_statements.specs.Statements.{Leaves};
 
 use crate::faults::fault_of;
+use crate::issuing::issues_made;
+use crate::made::Made;
 use s10_book::{BookFault, Entry};
-use s10_core::Id;
-use s10_ranges::{Ranges, Turn};
-use s10_rows::{
-    Issued, Made, RangeWrite, SerialWrite, drawn_rows, granted_row, pair_number, voided_row,
-};
+use s10_ranges::Ranges;
+use s10_rows::{granted_row, pair_number, voided_row};
 use s10_statements::{keep_rows, serials_within};
 use s10_wire::{Body, Outcome, Reply, encode_reply};
 use sqlite::{Alter, Connection};
 use std::alloc::Global;
-use std::slice;
 
-// Whether the identifier at a mark was issued before.
-fn issued_in(turn: Turn) -> Issued
-    ensures { result ≡ Issued.Never → turn ≡ Turn.First }
-{
-    match turn {
-        Turn::First => Issued::Never,
-        Turn::Later => Issued::Before,
-    }
-}
-
-// What a Done Draw makes, by the range of its identifier. A fault of the store where no range has it.
-fn drawn_made(ranges: &Ranges, arrival: u32, entry: &Entry, id: &Id) -> Result<Made, BookFault>
+// What a Done Grant makes.
+fn granted_made(alloc: Global, entry: &Entry) -> Result<Made, BookFault>
     ensures fault { result ≢ Err Full }
-    ensures done { (h : List Entry) (t : Terms) (day : ℕ) → IsLegal h t → MayFollow h t entry.now → Mirrors ranges.now h → entry.now.outcome ≡ Drawn day id.now → IsOk result }
-    ensures answer { (h : List Entry) (t : Terms) (day : ℕ) → IsLegal h t → MayFollow h t entry.now → All IsCall h → IsCall entry.now → Mirrors ranges.now h
-        → entry.now.outcome ≡ Drawn day id.now → arrival ≡ length h + 1 → IfOk result (λ made. Makes h entry.now (option_to_list made.range) (option_to_list made.serial)) }
+    ensures answer { (h : List Entry) (t : Terms) (n : ℕ) → IsLegal h t → MayFollow h t entry.now → entry.now.outcome ≡ Granted n
+        → IfOk result (λ made. Makes h entry.now made.ranges.items made.serials.items) }
 {
-    let found = ranges.over(id.service, id.country, id.serial, id.serial);
-    let Some(range) = found else {
+    let Some(write) = granted_row(entry) else {
         return Err(BookFault::Store);
     };
-    let Some(mark) = ranges.mark(range.num) else {
-        return Err(BookFault::Store);
-    };
-    let issued = issued_in(mark.turn);
-    Ok(drawn_rows(&range, issued, arrival, entry, id))
+    let mut made = Made::new(alloc);
+    made.add_range(write)?;
+    Ok(made)
 }
 
 // What a Done Void makes, by the row of its identifier.
@@ -70,7 +54,7 @@ fn voided_made<S: Alter>(
     ensures leaves { Leaves S.Store conn.old conn.new }
     ensures fault { result ≢ Err Full }
     ensures answer { HasCleanDisk (state S.Store conn.new) → (h : List Entry) (t : Terms) → IsLegal h t → MayFollow h t entry.now → All IsCall h → IsCall entry.now → StandsFor (state S.Store conn.old).now h t
-        → entry.now.outcome ≡ Voided → IfOk result (λ made. Makes h entry.now (option_to_list made.range) (option_to_list made.serial)) }
+        → entry.now.outcome ≡ Voided → IfOk result (λ made. Makes h entry.now made.ranges.items made.serials.items) }
 {
     let body = entry.request.body;
     let Body::Void { id } = body else {
@@ -82,7 +66,10 @@ fn voided_made<S: Alter>(
         Ok(rows) => rows,
         Err(error) => return Err(fault_of(error)),
     };
-    voided_row(&rows)
+    let write = voided_row(&rows)?;
+    let mut made = Made::new(alloc);
+    made.add_serial(write)?;
+    Ok(made)
 }
 
 // The rows of ranges and of serials that the call makes behind the history that the tables stand for.
@@ -97,36 +84,12 @@ fn rows_made<S: Alter>(
     ensures leaves { Leaves S.Store conn.old conn.new }
     ensures fault { result ≢ Err Full }
     ensures answer { HasCleanDisk (state S.Store conn.new) → (h : List Entry) (t : Terms) → IsLegal h t → MayFollow h t entry.now → All IsCall h → IsCall entry.now → StandsFor (state S.Store conn.old).now h t
-        → Mirrors ranges.now h → arrival ≡ length h + 1 → IfOk result (λ made. Makes h entry.now (option_to_list made.range) (option_to_list made.serial)) }
+        → Mirrors ranges.now h → arrival ≡ length h + 1 → IfOk result (λ made. Makes h entry.now made.ranges.items made.serials.items) }
 {
     match entry.outcome {
-        Outcome::Granted { .. } => Ok(granted_row(entry)),
-        Outcome::Drawn { id, .. } => drawn_made(ranges, arrival, entry, &id),
+        Outcome::Granted { .. } => granted_made(alloc, entry),
         Outcome::Voided => voided_made(alloc, conn, entry),
-        _ => Ok(Made {
-            range: None,
-            serial: None,
-        }),
-    }
-}
-
-// The writes of ranges among what a call makes.
-fn range_writes(made: &Made) -> &[RangeWrite]
-    ensures { result.now ≡ option_to_list made.now.range }
-{
-    match &made.range {
-        Some(write) => slice::from_ref(write),
-        None => &[],
-    }
-}
-
-// The writes of serials among what a call makes.
-fn serial_writes(made: &Made) -> &[SerialWrite]
-    ensures { result.now ≡ option_to_list made.now.serial }
-{
-    match &made.serial {
-        Some(write) => slice::from_ref(write),
-        None => &[],
+        _ => issues_made(alloc, ranges, arrival, entry),
     }
 }
 
@@ -163,8 +126,8 @@ pub(crate) fn keep_call<S: Alter>(
         arrival,
         entry,
         frame.bytes(),
-        range_writes(&made),
-        serial_writes(&made),
+        &made.ranges,
+        &made.serials,
     ) {
         Ok(()) => Ok(()),
         Err(error) => Err(fault_of(error)),

@@ -3,8 +3,10 @@
 
 mod all_rows;
 mod faults;
+mod issuing;
 mod keeping;
 mod lookups;
+mod made;
 mod opening;
 mod refused;
 mod remade;

@@ -1,9 +1,9 @@
 //! The rows that calls make.
 
-use s10_book::{BookFault, Entry, Range};
+use s10_book::{BookFault, Entry, Issuance, Range};
 use s10_core::{Country, Id, Serial, Service};
 use s10_rows::{
-    Issued, Made, RangeRow, RangeWrite, SerialRow, SerialWrite, drawn_rows, granted_row, voided_row,
+    Issued, RangeRow, RangeWrite, SerialRow, SerialWrite, granted_row, issue_rows, voided_row,
 };
 use s10_wire::{Body, Outcome, Request};
 use std::process::Abort;
@@ -33,23 +33,6 @@ fn id(rt: &impl Abort, value: u32) -> Id {
         service,
         serial: serial(rt, value),
         country,
-    }
-}
-
-/// A Done Draw of customer 7, whose request has that number.
-fn draw(rt: &impl Abort, number: u32, day: u32, value: u32) -> Entry {
-    let (service, country) = letters(rt);
-    Entry {
-        request: Request {
-            customer: 7,
-            number,
-            body: Body::Draw { service, country },
-        },
-        day,
-        outcome: Outcome::Drawn {
-            day,
-            id: id(rt, value),
-        },
     }
 }
 
@@ -108,11 +91,7 @@ fn new_range_gives_its_first_serial_next(rt: HostRuntime) {
         day: 20000,
         outcome: Outcome::Granted { range: 1 },
     };
-    let made = Made {
-        range: Some(RangeWrite::New(new_range())),
-        serial: None,
-    };
-    assert_eq!(rt; granted_row(&grant), made);
+    assert_eq!(rt; granted_row(&grant), Some(RangeWrite::New(new_range())));
 }
 
 // Each drawn serial, its arrival, day and request number, and the mark behind it.
@@ -125,7 +104,13 @@ fn mark_goes_on_by_one_and_back_behind_the_last(rt: HostRuntime) {
         (0, 8, 20030, 7, 1),
         (1, 9, 20030, 8, 2),
     ] {
-        let drawn = draw(&rt, number, day, value);
+        let issuance = Issuance {
+            id: id(&rt, value),
+            day,
+            customer: 7,
+            number,
+            arrival,
+        };
         let row = serial_row(
             i64::from(value),
             i64::from(arrival),
@@ -137,13 +122,9 @@ fn mark_goes_on_by_one_and_back_behind_the_last(rt: HostRuntime) {
             (Issued::Never, SerialWrite::New(row)),
             (Issued::Before, SerialWrite::Again(row)),
         ] {
-            let made = Made {
-                range: Some(RangeWrite::Mark { num: 1, mark }),
-                serial: Some(serial),
-            };
             assert_eq!(rt;
-                drawn_rows(&first_range(&rt), issued, arrival, &drawn, &id(&rt, value)),
-                made,
+                issue_rows(&first_range(&rt), issued, &issuance),
+                (RangeWrite::Mark { num: 1, mark }, serial),
                 "at {arrival}"
             );
         }
@@ -152,10 +133,7 @@ fn mark_goes_on_by_one_and_back_behind_the_last(rt: HostRuntime) {
 
 #[test]
 fn void_keeps_the_row_and_marks_it_as_voided(rt: HostRuntime) {
-    let made = Made {
-        range: None,
-        serial: Some(SerialWrite::Again(serial_row(1, 3, 20000, 2, 1))),
-    };
-    assert_eq!(rt; voided_row(&[serial_row(1, 3, 20000, 2, 0)]), Ok(made));
+    let write = SerialWrite::Again(serial_row(1, 3, 20000, 2, 1));
+    assert_eq!(rt; voided_row(&[serial_row(1, 3, 20000, 2, 0)]), Ok(write));
     assert_eq!(rt; voided_row(&[]), Err(BookFault::Store));
 }

@@ -1,6 +1,6 @@
 -- What a kept call makes of the ranges that are held.
 use Rattle.std.proofs.Common.{append-nil, ◌≡◌, ◌∙◌, ℕ, zero, suc, ◌+◌, ◌-◌, ◌<◌, ◌≤◌, Bool, true, false, cond, List, [], ◌∷◌, ◌++◌, map, set, Option, Some, None, length, get_or, refl, sym, ap, ap₂, subst, arith, inl, inr}
-use Rattle.std.specs.Prelude.{find, option_to_list, slice_get}
+use Rattle.std.specs.Prelude.{find, option_to_list, slice_get, Contains}
 use Rattle.std.proofs.lemmas.Bool.{and_parts, leb-true, and_from, cases_order, false_from_ne_true, le-leb}
 use Rattle.std.proofs.lemmas.Option.{none-some, same_Some}
 use Rattle.std.proofs.lemmas.List.{map-append}
@@ -8,27 +8,31 @@ use Rattle.s10_core.specs.declared.id.Id.{Id}
 use Rattle.s10_wire.specs.declared.body.Body.{Body}
 use Rattle.s10_wire.specs.declared.body.Body.TheVariants.{Grant}
 use Rattle.s10_wire.specs.declared.outcome.Outcome.{Outcome}
-use Rattle.s10_wire.specs.declared.outcome.Outcome.TheVariants.{Granted, Drawn, NotThePost, BadGrant, Overlap}
+use Rattle.s10_wire.specs.declared.outcome.Outcome.TheVariants.{Granted, NotThePost, BadGrant, Overlap}
 use Rattle.s10_book.specs.declared.entry.Entry.{Entry}
 use Rattle.s10_book.specs.declared.range.Range.{Range}
+use Rattle.s10_book.specs.declared.issuance.Issuance.{Issuance}
 use Rattle.s10_book.specs.Settings.{Terms}
 use Rattle.s10_book.specs.History.{ranges_of, range_of_grant, overlaps, lies_in}
-use Rattle.s10_book.specs.Issues.{issues_of}
+use Rattle.s10_book.specs.Issues.{issues_of, issues_at}
 use Rattle.s10_book.specs.Rules.{IsLegal, MayFollow, body_answer}
 use Rattle.s10_book.proofs.Ranges.{Contains-find, found_passes}
 use Rattle.s10_book.proofs.Push.{ranges_from-push, length-ranges_from}
-use Rattle.s10_book.proofs.Own.{new_ordered, drawn_from, lies_picked}
+use Rattle.s10_book.proofs.Own.{new_ordered, lies_picked}
+use Rattle.s10_book.proofs.Carried.{made_by, IsPicked}
+use Rattle.s10_book.proofs.Marks.{picked_mark}
 use Rattle.s10_book.proofs.Apart.{none_pass, apart}
 use Rattle.s10_ranges.specs.declared.mark.Mark.{Mark}
 use Rattle.s10_ranges.specs.declared.ranges.Ranges.{Ranges}
 use Rattle.s10_ranges.specs.declared.turn.Turn.TheVariants.{First}
-use Rattle.s10_ranges.specs.Mirror.{Mirrors}
+use Rattle.s10_ranges.specs.Mirror.{Mirrors, MirrorsAt}
 use Rattle.s10_ranges.specs.Turns.{turn_of, mark_of, mark_behind}
 use Rattle.s10_ranges.specs.Sound.{AreSound}
 use Rattle.s10_ranges.proofs.Found.{find_none, find_first}
-use Rattle.s10_ranges.proofs.Marked.{mark_held}
+use Rattle.s10_ranges.proofs.Marked.{mark_at_issues}
 use Rattle.s10_ranges.proofs.Orders.{at_place}
-use Rattle.s10_ranges.proofs.Turning.{mark_new, mark_drawn, mark_left}
+use Rattle.s10_ranges.proofs.Carrying.{issues_upto, upto_next, picked_at, carried_at}
+use Rattle.s10_ranges.proofs.Turning.{AtPicks, at_picks, in_order, none_granted, mark_new, mark_inside, mark_outside}
 
 -- a range that is found has a number of the list
 pub found_number : (p : Range → Bool) (rs : List Range) (r : Range) → AreSound rs → find p rs ≡ Some r → (0 < r.num) × (r.num ≤ length rs)
@@ -104,21 +108,12 @@ grant_ranges h e r next =
     let turned : 1 + length (ranges_of h) ≡ length (ranges_of h) + 1 = omega arith in
     ranges_from-push 1 h e ∙ ap (λ (o : Option Range). ranges_of h ++ option_to_list o) (ap (λ (n : ℕ). range_of_grant n e.request.body e.outcome) turned ∙ next.made)
 
-not_drawn : (num day : ℕ) (x : Id) (o : Outcome) → o ≡ Granted num → o ≡ Drawn day x → ⊥
-not_drawn num day x o p q = cc
-
 pub grant_marks : (h : List Entry) (t : Terms) (e : Entry) (num : ℕ) (r : Range) → IsLegal h t → MayFollow h t e → e.outcome ≡ Granted num → IsNext h e r
     → map (mark_of (issues_of (h ++ e ∷ []))) (ranges_of (h ++ e ∷ [])) ≡ map (mark_of (issues_of h)) (ranges_of h) ++ first_mark r ∷ []
 grant_marks h t e num r legal may done next =
     let f : Range → Mark = mark_of (issues_of (h ++ e ∷ [])) in
-    let old : map f (ranges_of h) ≡ map (mark_of (issues_of h)) (ranges_of h) =
-    same_map f (mark_of (issues_of h)) (ranges_of h) (λ k d lt. mark_left h t e legal may (get_or (ranges_of h) k d) (k, lt, same_at (ranges_of h) k d lt) (λ day x is _. not_drawn num day x e.outcome done is)) in
+    let old : map f (ranges_of h) ≡ map (mark_of (issues_of h)) (ranges_of h) = ap (λ is. map (mark_of is) (ranges_of h)) (none_granted h e num done) in
     ap (map f) (grant_ranges h e r next) ∙ map-append f (ranges_of h) (r ∷ []) ∙ ap₂ (λ (l : List Mark) (m : Mark). l ++ m ∷ []) old (mark_new h t e num r legal may done next.made)
-  where
-    same_at : (xs : List Range) (k : ℕ) (d : Range) → k < length xs → get_or xs k (get_or xs k d) ≡ get_or xs k d
-    same_at [] k d lt = absurd (omega arith)
-    same_at (x ∷ xs) zero d lt = refl
-    same_at (x ∷ xs) (suc k) d lt = same_at xs k d (omega arith)
 
 -- a call that is no Done Grant makes no range
 none_made : (n : ℕ) (b : Body) (o : Outcome) → ((m : ℕ) → o ≡ Granted m → ⊥) → range_of_grant n b o ≡ None
@@ -134,15 +129,11 @@ again [] k d lt = absurd (omega arith)
 again (x ∷ xs) zero d lt = refl
 again (x ∷ xs) (suc k) d lt = again xs k d (omega arith)
 
--- a call that is no Done Grant and no Done Draw leaves ranges and marks
-pub other_mirrors : (r : Ranges) (h : List Entry) (t : Terms) (e : Entry) → IsLegal h t → MayFollow h t e → ((m : ℕ) → e.outcome ≡ Granted m → ⊥) → ((day : ℕ) (x : Id) → e.outcome ≡ Drawn day x → ⊥)
-    → Mirrors r h → Mirrors r (h ++ e ∷ [])
-other_mirrors r h t e legal may no_grant no_draw m =
-    let ranges = same_ranges h e no_grant in
-    let f : Range → Mark = mark_of (issues_of (h ++ e ∷ [])) in
-    let old : map (mark_of (issues_of h)) (ranges_of h) ≡ map f (ranges_of h) =
-    same_map (mark_of (issues_of h)) f (ranges_of h) (λ k d lt. sym (mark_left h t e legal may (get_or (ranges_of h) k d) (k, lt, again (ranges_of h) k d lt) (λ day x is _. no_draw day x is))) in
-    record { ranges = m.ranges ∙ sym ranges; marks = m.marks ∙ old ∙ ap (map f) (sym ranges) }
+-- where the marks are those behind a call that is no Done Grant, all is as behind it
+pub other_mirrors : (r : Ranges) (h : List Entry) (e : Entry) → ((m : ℕ) → e.outcome ≡ Granted m → ⊥) → MirrorsAt (ranges_of h) (issues_of (h ++ e ∷ [])) r → Mirrors r (h ++ e ∷ [])
+other_mirrors r h e no_grant m =
+    let P : List Range → Type 0 = λ rs. MirrorsAt rs (issues_of (h ++ e ∷ [])) r in
+    subst P (sym (same_ranges h e no_grant)) m
 
 -- a Done Grant adds its range, whose mark is its first serial
 pub grant_mirrors : (old new : Ranges) (h : List Entry) (t : Terms) (e : Entry) (num : ℕ) (r : Range) → IsLegal h t → MayFollow h t e → length h < 4294967295 → Mirrors old h
@@ -159,9 +150,6 @@ grant_mirrors old new h t e num r legal may few m done made pushed =
       marks = both.1 ∙ ap (λ (l : List Mark). l ++ first_mark r ∷ []) m.marks ∙ sym (grant_marks h t e num r legal may done next);
     }
 
-drawn_same : (a b : ℕ) (x y : Id) → Drawn a x ≡ Drawn b y → x ≡ y
-drawn_same a b x y e = cc
-
 -- two places with the identifier are one
 one_place : (h : List Entry) (t : Terms) (x : Id) (i k : ℕ) (d : Range) → IsLegal h t → i < length (ranges_of h) → k < length (ranges_of h)
     → lies_in (get_or (ranges_of h) i d) x ≡ true → lies_in (get_or (ranges_of h) k d) x ≡ true → i ≡ k
@@ -174,42 +162,59 @@ one_place h t x i k d legal lt lt' li lk =
       ]
     ]
 
--- a Done Draw turns the mark of the range of its identifier
-pub draw_mirrors : (old new : Ranges) (h : List Entry) (t : Terms) (e : Entry) (day : ℕ) (x : Id) → IsLegal h t → MayFollow h t e → AreSound old.ranges.items → Mirrors old h
-    → e.outcome ≡ Drawn day x → new.ranges.items ≡ old.ranges.items
-    → ((r : Range) (m : Mark) → find (overlaps x.service x.country x.serial x.serial) old.ranges.items ≡ Some r → slice_get old.marks.items (r.num - 1) ≡ Some m
-    → new.marks.items ≡ set old.marks.items (r.num - 1) (mark_behind r m.turn x.serial))
-    → Mirrors new (h ++ e ∷ [])
-draw_mirrors old new h t e day x legal may sound m done kept turned =
+-- an issue of a pick turns the mark of its range
+pub issue_mirrors : (old new : Ranges) (h : List Entry) (t : Terms) (e : Entry) (arrival : ℕ) (is : List Issuance) (c : ℕ × Id) → IsLegal h t → AreSound old.ranges.items → AtPicks (ranges_of h) is
+    → IsPicked (ranges_of h) e.request.customer e.day t.interval is c → MirrorsAt (ranges_of h) is old → new.ranges.items ≡ old.ranges.items
+    → ((r : Range) (m : Mark) → find (overlaps c.1.service c.1.country c.1.serial c.1.serial) old.ranges.items ≡ Some r → slice_get old.marks.items (r.num - 1) ≡ Some m
+    → new.marks.items ≡ set old.marks.items (r.num - 1) (mark_behind r m.turn c.1.serial))
+    → MirrorsAt (ranges_of h) (is ++ made_by e arrival c ∷ []) new
+issue_mirrors old new h t e arrival is c legal sound turns from m kept turned =
     let rs : List Range = ranges_of h in
-    let from = drawn_from h e.request.customer e.day t.interval day e.request.body x (sym may.right ∙ done) in
+    let x : Id = c.1 in
+    let y : Issuance = made_by e arrival c in
     let r : Range = from.range in
-    let lies : lies_in r x ≡ true = lies_picked h t e.request.customer e.day t.interval (issues_of h) (day, x) legal from in
+    let lies : lies_in r x ≡ true = lies_picked h t e.request.customer e.day t.interval is c legal from in
     let k : ℕ = from.there.0 in
     let lt : k < length rs = from.there.1 in
-    let is : get_or rs k r ≡ r = from.there.2 in
-    let at : (d : Range) → get_or rs k d ≡ r = λ d. at_place rs k d r lt is in
-    let lies_there : (d : Range) → lies_in (get_or rs k d) x ≡ true = λ d. ap (λ (y : Range). lies_in y x) (at d) ∙ lies in
+    let own : get_or rs k r ≡ r = from.there.2 in
+    let at : (d : Range) → get_or rs k d ≡ r = λ d. at_place rs k d r lt own in
+    let lies_there : (d : Range) → lies_in (get_or rs k d) x ≡ true = λ d. ap (λ (s : Range). lies_in s x) (at d) ∙ lies in
     let hit : overlaps x.service x.country x.serial x.serial r ≡ true = and_from _ _ lies (le-leb x.serial x.serial (omega arith)) in
     let found : find (overlaps x.service x.country x.serial x.serial) rs ≡ Some r =
-    find_first (overlaps x.service x.country x.serial x.serial) rs k r lt is hit
+    find_first (overlaps x.service x.country x.serial x.serial) rs k r lt own hit
     (λ i d below. false_from_ne_true (overlaps x.service x.country x.serial x.serial (get_or rs i d)) (λ also.
     let both = and_parts _ _ also in
     let e' : i ≡ k = one_place h t x i k d legal (omega (arith, below, lt)) lt both.0 (lies_there d) in omega (arith, e', below))) in
     let sound' : AreSound rs = subst AreSound m.ranges sound in
     let num = sound' k r lt in
-    let place : r.num - 1 ≡ k = omega (arith, num.num, ap (λ (y : Range). y.num) is) in
-    let v : Mark = mark_behind r (turn_of (issues_of h) r) x.serial in
-    let f : Range → Mark = mark_of (issues_of (h ++ e ∷ [])) in
-    let drawn : f r ≡ v = mark_drawn h t e legal may r from.there day x done lies in
-    let ranges : ranges_of (h ++ e ∷ []) ≡ rs = same_ranges h e (λ n is'. not_drawn n day x e.outcome is' done) in
-    let moved : set (map (mark_of (issues_of h)) rs) k v ≡ map f rs =
-    set_map (mark_of (issues_of h)) f rs k v lt (λ d. ap f (at d) ∙ drawn)
-    (λ i d in' ne. sym (mark_left h t e legal may (get_or rs i d) (i, in', again rs i d in') (λ day' x' is' lies'.
-    let same : x' ≡ x = drawn_same day' day x' x (sym is' ∙ done) in
-    ne (one_place h t x i k d legal in' lt (ap (λ (y : Id). lies_in (get_or rs i d) y) (sym same) ∙ lies') (lies_there d))))) in
+    let place : r.num - 1 ≡ k = omega (arith, num.num, ap (λ (s : Range). s.num) own) in
+    let v : Mark = mark_behind r (turn_of is r) x.serial in
+    let f : Range → Mark = mark_of (is ++ y ∷ []) in
+    let moved_one : f r ≡ v = mark_inside r is y (turns r from.there) lies (picked_mark h t e.request.customer e.day t.interval is c r legal from from.there lies) in
+    let moved : set (map (mark_of is) rs) k v ≡ map f rs =
+    set_map (mark_of is) f rs k v lt (λ d. ap f (at d) ∙ moved_one)
+    (λ i d in' ne.
+    let s : Range = get_or rs i d in
+    let there : Contains rs s = (i, in', again rs i d in') in
+    sym (mark_outside s is y (in_order h t s legal there) (turns s there) (false_from_ne_true (lies_in s x) (λ also. ne (one_place h t x i k d legal in' lt also (lies_there d)))))) in
     record {
-      ranges = kept ∙ m.ranges ∙ sym ranges;
-      marks = turned r (mark_of (issues_of h) r) (ap (find (overlaps x.service x.country x.serial x.serial)) m.ranges ∙ found) (mark_held old h r sound m from.there)
-          ∙ ap₂ (λ (l : List Mark) (n : ℕ). set l n v) m.marks place ∙ moved ∙ ap (map f) (sym ranges);
+      ranges = kept ∙ m.ranges;
+      marks = turned r (mark_of is r) (ap (find (overlaps x.service x.country x.serial x.serial)) m.ranges ∙ found) (mark_at_issues old rs is r sound m from.there)
+          ∙ ap₂ (λ (l : List Mark) (n : ℕ). set l n v) m.marks place ∙ moved;
     }
+
+-- so does the issue at a place of a call
+pub turned_mirrors : (old new : Ranges) (h : List Entry) (t : Terms) (e : Entry) (place : ℕ) (i : Issuance) → IsLegal h t → MayFollow h t e → AreSound old.ranges.items
+    → slice_get (issues_at 0 e) place ≡ Some i → MirrorsAt (ranges_of h) (issues_upto h e place) old → new.ranges.items ≡ old.ranges.items
+    → ((r : Range) (m : Mark) → find (overlaps i.id.service i.id.country i.id.serial i.id.serial) old.ranges.items ≡ Some r → slice_get old.marks.items (r.num - 1) ≡ Some m
+    → new.marks.items ≡ set old.marks.items (r.num - 1) (mark_behind r m.turn i.id.serial))
+    → MirrorsAt (ranges_of h) (issues_upto h e (place + 1)) new
+turned_mirrors old new h t e place i legal may sound at m kept turned =
+    let found = carried_at e 0 place i at in
+    let c : ℕ × Id = found.0 in
+    let T : Issuance → Type 0 =
+    λ j. (r : Range) (m : Mark) → find (overlaps j.id.service j.id.country j.id.serial j.id.serial) old.ranges.items ≡ Some r → slice_get old.marks.items (r.num - 1) ≡ Some m
+    → new.marks.items ≡ set old.marks.items (r.num - 1) (mark_behind r m.turn j.id.serial) in
+    let Q : List Issuance → Type 0 = λ is. MirrorsAt (ranges_of h) is new in
+    subst Q (sym (upto_next h e place c found.1))
+    (issue_mirrors old new h t e (1 + length h) (issues_upto h e place) c legal sound (at_picks h t e place legal may) (picked_at h t e place c may found.1) m kept (subst T (sym found.2) turned))

@@ -5,6 +5,7 @@ pub mod Holding
 pub mod Placing
 pub mod Pushing
 pub mod Leasts
+pub mod Carrying
 pub mod Turning
 pub mod Marked
 pub mod Following

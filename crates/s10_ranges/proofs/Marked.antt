@@ -3,11 +3,12 @@ use Rattle.std.proofs.Common.{◌≡◌, ◌∙◌, ℕ, zero, suc, ◌+◌, ◌
 use Rattle.std.specs.Prelude.{Contains, slice_get}
 use Rattle.s10_book.specs.declared.entry.Entry.{Entry}
 use Rattle.s10_book.specs.declared.range.Range.{Range}
+use Rattle.s10_book.specs.declared.issuance.Issuance.{Issuance}
 use Rattle.s10_book.specs.History.{ranges_of}
 use Rattle.s10_book.specs.Issues.{issues_of}
 use Rattle.s10_ranges.specs.declared.mark.Mark.{Mark}
 use Rattle.s10_ranges.specs.declared.ranges.Ranges.{Ranges}
-use Rattle.s10_ranges.specs.Mirror.{Mirrors}
+use Rattle.s10_ranges.specs.Mirror.{Mirrors, MirrorsAt}
 use Rattle.s10_ranges.specs.Turns.{mark_of}
 use Rattle.s10_ranges.specs.Sound.{AreSound}
 
@@ -17,19 +18,23 @@ get_map f (x ∷ xs) zero d lt = refl
 get_map f (x ∷ xs) (suc k) d lt = get_map f xs k d (omega arith)
 
 -- its number is one more than its place
-numbered : (r : Ranges) (h : List Entry) (range : Range) → AreSound r.ranges.items → Mirrors r h → (there : Contains (ranges_of h) range) → range.num ≡ there.0 + 1
-numbered r h range sound m there =
+numbered : (r : Ranges) (rs : List Range) (is : List Issuance) (range : Range) → AreSound r.ranges.items → MirrorsAt rs is r → (there : Contains rs range) → range.num ≡ there.0 + 1
+numbered r rs is range sound m there =
     let at = subst AreSound m.ranges sound there.0 range there.1 in
-    let e : (get_or (ranges_of h) there.0 range).num ≡ range.num = ap (λ (x : Range). x.num) there.2 in
+    let e : (get_or rs there.0 range).num ≡ range.num = ap (λ (x : Range). x.num) there.2 in
     omega (arith, at.num, e)
 
 pub mark_above : (r : Ranges) (h : List Entry) (range : Range) → AreSound r.ranges.items → Mirrors r h → Contains (ranges_of h) range → 0 < range.num
-mark_above r h range sound m there = let num = numbered r h range sound m there in omega (arith, num)
+mark_above r h range sound m there = let num = numbered r (ranges_of h) (issues_of h) range sound m there in omega (arith, num)
 
--- the mark is that of the history
-pub mark_held : (r : Ranges) (h : List Entry) (range : Range) → AreSound r.ranges.items → Mirrors r h → Contains (ranges_of h) range → slice_get r.marks.items (range.num - 1) ≡ Some (mark_of (issues_of h) range)
-mark_held r h range sound m there =
-    let num = numbered r h range sound m there in
-    let f : Range → Mark = mark_of (issues_of h) in
+-- the mark is that behind the issues
+pub mark_at_issues : (r : Ranges) (rs : List Range) (is : List Issuance) (range : Range) → AreSound r.ranges.items → MirrorsAt rs is r → Contains rs range → slice_get r.marks.items (range.num - 1) ≡ Some (mark_of is range)
+mark_at_issues r rs is range sound m there =
+    let num = numbered r rs is range sound m there in
+    let f : Range → Mark = mark_of is in
     let place : range.num - 1 ≡ there.0 = omega (arith, num) in
-    ap₂ slice_get m.marks place ∙ get_map f (ranges_of h) there.0 range there.1 ∙ ap (λ (x : Range). Some (f x)) there.2
+    ap₂ slice_get m.marks place ∙ get_map f rs there.0 range there.1 ∙ ap (λ (x : Range). Some (f x)) there.2
+
+-- and of a history the history's
+pub mark_held : (r : Ranges) (h : List Entry) (range : Range) → AreSound r.ranges.items → Mirrors r h → Contains (ranges_of h) range → slice_get r.marks.items (range.num - 1) ≡ Some (mark_of (issues_of h) range)
+mark_held r h range sound m there = mark_at_issues r (ranges_of h) (issues_of h) range sound m there

@@ -1,15 +1,15 @@
 -- Which turn a range is in, and how its mark moves.
 use Rattle.std.proofs.Common.{◌≡◌, ◌∙◌, ℕ, ◌+◌, ◌-◌, ◌≤◌, Bool, true, false, cond, not, eqb, ◌||◌, List, [], ◌∷◌, ◌++◌, map, Option, Some, None, length, get_or, refl, sym, ap, ap₂, subst, arith, inl, inr, append-nil}
-use Rattle.std.specs.Prelude.{filter, All, IsTrue, Contains}
+use Rattle.std.specs.Prelude.{filter, All, Contains}
 use Rattle.std.specs.List.{list_any, last_or}
 use Rattle.std.specs.Option.{option_map, option_or, unwrap_or}
-use Rattle.std.proofs.lemmas.Bool.{both_ways, cases_eq, eq-eqb, ne_eqb, or_left, or_from, or_parts, false_from_ne_true, not_from_false}
+use Rattle.std.proofs.lemmas.Bool.{both_ways, cases_eq, eq-eqb, ne_eqb, or_left, or_parts, false_from_ne_true, not_from_false}
 use Rattle.std.proofs.lemmas.List.Folds.{list_any-append, list_any_none, list_any_at}
 use Rattle.std.proofs.lemmas.List.Elements.{All-nil, All-push, All-weaker, All-contains}
 use Rattle.s10_core.specs.declared.id.Id.{Id}
 use Rattle.s10_core.specs.Id.{same_id}
 use Rattle.s10_wire.specs.declared.outcome.Outcome.{Outcome}
-use Rattle.s10_wire.specs.declared.outcome.Outcome.TheVariants.{Granted, Drawn}
+use Rattle.s10_wire.specs.declared.outcome.Outcome.TheVariants.{Granted}
 use Rattle.s10_book.specs.declared.candidate.Candidate.{Candidate}
 use Rattle.s10_book.specs.declared.entry.Entry.{Entry}
 use Rattle.s10_book.specs.declared.range.Range.{Range}
@@ -17,14 +17,14 @@ use Rattle.s10_book.specs.declared.issue.Issue.{Issue}
 use Rattle.s10_book.specs.declared.issuance.Issuance.{Issuance}
 use Rattle.s10_book.specs.Settings.{Terms}
 use Rattle.s10_book.specs.History.{ranges_of, range_of_grant, lies_in}
-use Rattle.s10_book.specs.Issues.{issues_of, carried_by, is_of, is_issued, id_at, serials, least_serial_unissued, serial_issued_earliest, pick_of, is_voided, last_issue_of, candidate_of}
+use Rattle.s10_book.specs.Issues.{issues_of, carried_by, is_of, is_issued, id_at, serials, least_serial_unissued, serial_issued_earliest, pick_of, serial_behind, pick_behind, is_voided, last_issue_of, candidate_of}
 use Rattle.s10_book.specs.Rules.{IsLegal, MayFollow}
-use Rattle.s10_book.proofs.Apart.{apart, new_apart}
+use Rattle.s10_book.proofs.Apart.{new_apart}
 use Rattle.s10_book.proofs.Carried.{made_by, IsPicked, after_call}
 use Rattle.s10_book.proofs.Free.{id_equal, id_within, none_within}
 use Rattle.s10_book.proofs.Legal.{legal_induction}
-use Rattle.s10_book.proofs.Marks.{one_range, pick_new, pick_drawn, pick_left}
-use Rattle.s10_book.proofs.Own.{ordered, lies_at, lies_picked, new_ordered, drawn_from}
+use Rattle.s10_book.proofs.Marks.{Turns, turns_inside, turns_outside, pick_turns, turns_pick, mark_step, picked_mark, all_at_pick, pick_new}
+use Rattle.s10_book.proofs.Own.{ordered, lies_at, lies_picked, new_ordered}
 use Rattle.s10_book.proofs.Push.{ranges_from-push, issues_from-push}
 use Rattle.s10_book.proofs.Ranges.{found_passes}
 use Rattle.s10_book.proofs.Spaced.{id_same}
@@ -32,14 +32,16 @@ use Rattle.s10_ranges.specs.declared.mark.Mark.{Mark}
 use Rattle.s10_ranges.specs.declared.turn.Turn.{Turn}
 use Rattle.s10_ranges.specs.declared.turn.Turn.TheVariants.{First, Later}
 use Rattle.s10_ranges.specs.Turns.{turn_of, mark_of, mark_behind}
+use Rattle.s10_ranges.proofs.Carrying.{issues_upto, upto_holds}
 
 abbrev mark_at : ℕ → Turn → Mark
 mark_at serial turn = record { serial = serial; turn = turn }
 
-in_order : (h : List Entry) (t : Terms) (r : Range) → IsLegal h t → Contains (ranges_of h) r → r.first ≤ r.last
+-- a range of a legal history has a serial
+pub in_order : (h : List Entry) (t : Terms) (r : Range) → IsLegal h t → Contains (ranges_of h) r → r.first ≤ r.last
 in_order h t r legal there = All-contains (λ s. s.first ≤ s.last) (ranges_of h) r (ordered h t legal) there
 
--- ---- behind a Draw of the range
+-- ---- behind an issue in the range
 
 turned : (b c : Bool) → cond (b || (c || false)) Later First ≡ cond c Later (cond b Later First)
 turned true true = refl
@@ -54,46 +56,48 @@ is_last r x lies =
       | inr ne ↦ false_from_ne_true (same_id x (id_at r r.last)) (λ is. ne (ap (λ (y : Id). y.serial) (id_equal x (id_at r r.last) is))) ∙ sym (ne_eqb x.serial r.last ne)
     ]
 
-turn_drawn : (h : List Entry) (e : Entry) (r : Range) (day : ℕ) (x : Id) → e.outcome ≡ Drawn day x → lies_in r x ≡ true
-    → turn_of (issues_of (h ++ e ∷ [])) r ≡ cond (eqb x.serial r.last) Later (turn_of (issues_of h) r)
-turn_drawn h e r day x done lies =
-    let y : Issuance = made_by e (1 + length h) (day, x) in
-    let issues : issues_of (h ++ e ∷ []) ≡ issues_of h ++ y ∷ [] =
-    issues_from-push 1 h e ∙ ap (λ (o : Outcome). issues_of h ++ map (made_by e (1 + length h)) (carried_by o)) done in
-    ap (λ (is : List Issuance). turn_of is r) issues
-    ∙ ap (λ (b : Bool). cond b Later First) (list_any-append (is_of (id_at r r.last)) (issues_of h) (y ∷ []))
-    ∙ turned (is_issued (issues_of h) (id_at r r.last)) (same_id x (id_at r r.last))
-    ∙ ap (λ (b : Bool). cond b Later (turn_of (issues_of h) r)) (is_last r x lies)
+turn_inside : (r : Range) (is : List Issuance) (y : Issuance) → lies_in r y.id ≡ true → turn_of (is ++ y ∷ []) r ≡ cond (eqb y.id.serial r.last) Later (turn_of is r)
+turn_inside r is y lies =
+    ap (λ (b : Bool). cond b Later First) (list_any-append (is_of (id_at r r.last)) is (y ∷ []))
+    ∙ turned (is_issued is (id_at r r.last)) (same_id y.id (id_at r r.last))
+    ∙ ap (λ (b : Bool). cond b Later (turn_of is r)) (is_last r y.id lies)
 
-pub mark_drawn : (h : List Entry) (t : Terms) (e : Entry) → IsLegal h t → MayFollow h t e → (r : Range) → Contains (ranges_of h) r → (day : ℕ) (x : Id) → e.outcome ≡ Drawn day x → lies_in r x ≡ true
-    → mark_of (issues_of (h ++ e ∷ [])) r ≡ mark_behind r (turn_of (issues_of h) r) x.serial
-mark_drawn h t e legal may r there day x done lies = ap₂ mark_at (pick_drawn h t e legal may r there day x done lies) (turn_drawn h e r day x done lies)
+pub mark_inside : (r : Range) (is : List Issuance) (y : Issuance) → Turns r is (pick_of is r) → lies_in r y.id ≡ true → y.id.serial ≡ pick_of is r
+    → mark_of (is ++ y ∷ []) r ≡ mark_behind r (turn_of is r) y.id.serial
+mark_inside r is y turns lies at =
+    ap₂ mark_at (pick_turns r (is ++ y ∷ []) (serial_behind r (pick_of is r)) (turns_inside r is y (pick_of is r) lies at turns) ∙ ap (serial_behind r) (sym at)) (turn_inside r is y lies)
 
--- ---- behind another call
+-- ---- behind an issue outside the range
 
-or_false : (b : Bool) → (b || false) ≡ b
+or_false : (b : Bool) → (b || (false || false)) ≡ b
 or_false true = refl
 or_false false = refl
 
-none_last : (r : Range) (e : Entry) (n : ℕ) (o : Outcome) → r.first ≤ r.last → ((day : ℕ) (x : Id) → o ≡ Drawn day x → ¬ (IsTrue (lies_in r x))) → list_any (is_of (id_at r r.last)) (map (made_by e n) (carried_by o)) ≡ false
-none_last r e n (Drawn day x) order other =
-    let P : Id → Type 0 = λ y. lies_in r y ≡ true in
+turn_outside : (r : Range) (is : List Issuance) (y : Issuance) → r.first ≤ r.last → lies_in r y.id ≡ false → turn_of (is ++ y ∷ []) r ≡ turn_of is r
+turn_outside r is y order out =
+    let P : Id → Type 0 = λ x. lies_in r x ≡ true in
     let last : lies_in r (id_at r r.last) ≡ true = lies_at r r.last (record { low = order; high = omega arith }) in
-    or_from (same_id x (id_at r r.last)) false
-    (false_from_ne_true (same_id x (id_at r r.last)) (λ is. other day x refl (subst P (sym (id_equal x (id_at r r.last) is)) last))) refl
-none_last r e n o order other = refl
+    let other : same_id y.id (id_at r r.last) ≡ false =
+    false_from_ne_true (same_id y.id (id_at r r.last)) (λ is. both_ways (lies_in r y.id) out (subst P (sym (id_equal y.id (id_at r r.last) is)) last)) in
+    ap (λ (b : Bool). cond b Later First)
+    (list_any-append (is_of (id_at r r.last)) is (y ∷ []) ∙ ap (λ (b : Bool). is_issued is (id_at r r.last) || (b || false)) other ∙ or_false (is_issued is (id_at r r.last)))
 
-turn_left : (h : List Entry) (e : Entry) (r : Range) → r.first ≤ r.last → ((day : ℕ) (x : Id) → e.outcome ≡ Drawn day x → ¬ (IsTrue (lies_in r x))) → turn_of (issues_of (h ++ e ∷ [])) r ≡ turn_of (issues_of h) r
-turn_left h e r order other =
-    let made : List Issuance = map (made_by e (1 + length h)) (carried_by e.outcome) in
-    ap (λ (is : List Issuance). turn_of is r) (issues_from-push 1 h e)
-    ∙ ap (λ (b : Bool). cond b Later First)
-    (list_any-append (is_of (id_at r r.last)) (issues_of h) made ∙ ap (λ (b : Bool). is_issued (issues_of h) (id_at r r.last) || b) (none_last r e (1 + length h) e.outcome order other)
-    ∙ or_false (is_issued (issues_of h) (id_at r r.last)))
+pub mark_outside : (r : Range) (is : List Issuance) (y : Issuance) → r.first ≤ r.last → Turns r is (pick_of is r) → lies_in r y.id ≡ false → mark_of (is ++ y ∷ []) r ≡ mark_of is r
+mark_outside r is y order turns out = ap₂ mark_at (pick_turns r (is ++ y ∷ []) (pick_of is r) (turns_outside r is y (pick_of is r) out turns)) (turn_outside r is y order out)
 
-pub mark_left : (h : List Entry) (t : Terms) (e : Entry) → IsLegal h t → MayFollow h t e → (r : Range) → Contains (ranges_of h) r → ((day : ℕ) (x : Id) → e.outcome ≡ Drawn day x → ¬ (IsTrue (lies_in r x)))
-    → mark_of (issues_of (h ++ e ∷ [])) r ≡ mark_of (issues_of h) r
-mark_left h t e legal may r there other = ap₂ mark_at (pick_left h t e legal may r there other) (turn_left h e r (in_order h t r legal there) other)
+-- ---- while a call's issues are made
+
+-- the pick of each of the ranges is its mark
+abbrev pub AtPicks : List Range → List Issuance → Type 0
+AtPicks rs is = (r : Range) → Contains rs r → Turns r is (pick_of is r)
+
+-- so it is before each place of a call that may follow
+pub at_picks : (h : List Entry) (t : Terms) (e : Entry) (place : ℕ) → IsLegal h t → MayFollow h t e → AtPicks (ranges_of h) (issues_upto h e place)
+at_picks h t e place legal may =
+    upto_holds (AtPicks (ranges_of h)) h t e place may (all_at_pick h t legal)
+    (λ is c picked before r there.
+    let y : Issuance = made_by e (1 + length h) c in
+    turns_pick r (is ++ y ∷ []) (pick_behind r (pick_of is r) c.1, mark_step r is y (pick_of is r) (picked_mark h t e.request.customer e.day t.interval is c r legal picked there) (before r there)))
 
 -- ---- behind the Grant of the range
 
@@ -134,13 +138,16 @@ last_new h t e r num legal may made =
     (list_any_none (λ s. lies_in s i.id) (ranges_of h) (λ k d lt. false_from_ne_true (lies_in (get_or (ranges_of h) k d) i.id) (λ old. parted k d lt i.id old (subst P (sym (id_equal i.id (id_at r r.last) is)) last)))) c))
     (issues_of h) (covered h t legal))
 
+-- a Done Grant issues nothing
+pub none_granted : (h : List Entry) (e : Entry) (num : ℕ) → e.outcome ≡ Granted num → issues_of (h ++ e ∷ []) ≡ issues_of h
+none_granted h e num done =
+    issues_from-push 1 h e ∙ ap (λ (o : Outcome). issues_of h ++ map (made_by e (1 + length h)) (carried_by o)) done ∙ append-nil (issues_of h)
+
 pub mark_new : (h : List Entry) (t : Terms) (e : Entry) (num : ℕ) (r : Range) → IsLegal h t → MayFollow h t e → e.outcome ≡ Granted num → range_of_grant (length (ranges_of h) + 1) e.request.body e.outcome ≡ Some r
     → mark_of (issues_of (h ++ e ∷ [])) r ≡ mark_at r.first First
 mark_new h t e num r legal may done made =
-    let none : issues_of (h ++ e ∷ []) ≡ issues_of h =
-    issues_from-push 1 h e ∙ ap (λ (o : Outcome). issues_of h ++ map (made_by e (1 + length h)) (carried_by o)) done ∙ append-nil (issues_of h) in
     ap₂ mark_at (pick_new h t e legal may r made)
-    (ap (λ (is : List Issuance). turn_of is r) none ∙ ap (λ (b : Bool). cond b Later First) (last_new h t e r (length (ranges_of h) + 1) legal may made))
+    (ap (λ (is : List Issuance). turn_of is r) (none_granted h e num done) ∙ ap (λ (b : Bool). cond b Later First) (last_new h t e r (length (ranges_of h) + 1) legal may made))
 
 -- ---- the serial at the mark in the first turn
 
@@ -185,13 +192,3 @@ candidate_new h t r m legal there is first =
     let none : last_issue_of h x ≡ None =
     ap (λ (is : List Issuance). option_map told (last_or None is)) (none_passes (is_of x) (issues_of h) (pick_unissued (issues_of h) r (in_order h t r legal there) turn)) in
     ap₂ new_candidate serial (sym none)
-
--- and what is drawn was never issued
-pub drawn_new : (h : List Entry) (t : Terms) (e : Entry) (day : ℕ) (x : Id) (r : Range) (m : Mark) → IsLegal h t → MayFollow h t e → e.outcome ≡ Drawn day x → Contains (ranges_of h) r → lies_in r x ≡ true
-    → m ≡ mark_of (issues_of h) r → m.turn ≡ First → is_issued (issues_of h) x ≡ false
-drawn_new h t e day x r m legal may done there lies is first =
-    let from = drawn_from h e.request.customer e.day t.interval day e.request.body x (sym may.right ∙ done) in
-    let same : from.range ≡ r = one_range (ranges_of h) from.range r x (apart h t legal) from.there there (lies_picked h t e.request.customer e.day t.interval (issues_of h) (day, x) legal from) lies in
-    let turn : turn_of (issues_of h) r ≡ First = sym (ap (λ (k : Mark). k.turn) is) ∙ first in
-    let P : Id → Type 0 = λ y. is_issued (issues_of h) y ≡ false in
-    subst P (ap (λ (s : Range). id_at s (pick_of (issues_of h) s)) (sym same) ∙ from.picked) (pick_unissued (issues_of h) r (in_order h t r legal there) turn)

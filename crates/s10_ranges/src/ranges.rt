@@ -39,8 +39,10 @@ impl Ranges {
     ghost use Rattle.s10_book.specs.declared.range.Range.{Range};
     ghost use Rattle.s10_ranges.specs.declared.mark.Mark.{Mark};
     ghost use Rattle.s10_book.specs.Settings.{Terms};
+    ghost use Rattle.s10_book.specs.History.{ranges_of};
+    ghost use Rattle.s10_book.specs.Issues.{issues_of};
     ghost use Rattle.s10_book.specs.Rules.{IsLegal, MayFollow};
-    ghost use Rattle.s10_ranges.specs.Mirror.{Mirrors};
+    ghost use Rattle.s10_ranges.specs.Mirror.{Mirrors, MirrorsAt};
     ghost use Rattle.s10_ranges.specs.Room.{HasRoom};
 
     /// No ranges.
@@ -143,9 +145,22 @@ impl Ranges {
         self.set_mark(range.num, next);
     }
 
-    /// Adds what a kept call makes: the range of a Done Grant, the mark behind a Done Draw. Where the
-    /// ranges are not those of a legal history that the call may follow, a range that is not the next
-    /// one, or overlaps another, is left out.
+    // Turns the mark of the range of each identifier that a call issued, one after another.
+    fn turn_all(&mut self, entry: &Entry)
+        ensures { (h : List Entry) (t : Terms) → IsLegal h t → MayFollow h t entry.now → MirrorsAt (ranges_of h) (issues_of h) self.old
+            → MirrorsAt (ranges_of h) (issues_of (h ++ entry.now ∷ [])) self.new }
+    {
+        for place in 0..entry.issued() {
+            // Which arrival the issues have is no matter to a mark.
+            if let Some(issuance) = entry.issue(0, place) {
+                self.turn(&issuance.id);
+            }
+        }
+    }
+
+    /// Adds what a kept call makes: the range of a Done Grant, and the marks behind each issue of another
+    /// call. Where the ranges are not those of a legal history that the call may follow, a range that is
+    /// not the next one, or overlaps another, is left out.
     pub fn follow(&mut self, entry: &Entry)
         requires room { HasRoom self.old }
         ensures { (h : List Entry) (t : Terms) → IsLegal h t → MayFollow h t entry.now → length h < 4294967295 → Mirrors self.old h → Mirrors self.new (h ++ entry.now ∷ []) }
@@ -160,8 +175,7 @@ impl Ranges {
                     self.push_next(range, mark);
                 }
             }
-            Outcome::Drawn { id, .. } => self.turn(&id),
-            _ => {}
+            _ => self.turn_all(entry),
         }
     }
 

@@ -1,5 +1,5 @@
 -- The row that a Done Grant makes.
-use Rattle.std.proofs.Common.{◌≡◌, ℕ, ◌+◌, Bool, true, false, cond, List, [], ◌∷◌, ◌++◌, map, length, Option, Some, None, sym, ap, ap₂, ◌∙◌, arith}
+use Rattle.std.proofs.Common.{◌≡◌, ℕ, ◌+◌, Bool, true, false, cond, List, [], ◌∷◌, ◌++◌, map, length, Option, Some, sym, ap, ap₂, ◌∙◌, arith}
 use Rattle.std.specs.Prelude.{option_to_list}
 use Rattle.std.proofs.lemmas.List.{map-append}
 use Rattle.s10_wire.specs.declared.body.Body.{Body}
@@ -54,4 +54,5 @@ grant_makes h t e num r legal may done makes =
     record {
       ranges = same_rows (range_rows h ++ range_row r.first r ∷ []) (range_rows (h ++ e ∷ [])) (sym rows);
       serials = same_rows (serial_rows h) (serial_rows (h ++ e ∷ [])) (same_serial_rows h e carried (λ x. none_voided x e.request.body e.outcome (voided e.outcome done)));
+      few = tt;
     }

@@ -16,5 +16,6 @@ pub mod Compared
 pub mod Replaced
 pub mod MadeRows
 pub mod GrantRows
-pub mod DrawRows
+pub mod CallIssues
+pub mod IssueRows
 pub mod VoidRows

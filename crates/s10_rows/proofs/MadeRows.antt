@@ -9,20 +9,17 @@ use Rattle.s10_core.specs.declared.id.Id.{Id}
 use Rattle.s10_wire.specs.declared.body.Body.{Body}
 use Rattle.s10_wire.specs.declared.body.Body.TheVariants.{Grant, Void}
 use Rattle.s10_wire.specs.declared.outcome.Outcome.{Outcome}
-use Rattle.s10_wire.specs.declared.outcome.Outcome.TheVariants.{Granted, Drawn, Voided}
+use Rattle.s10_wire.specs.declared.outcome.Outcome.TheVariants.{Granted, Voided}
 use Rattle.s10_book.specs.declared.entry.Entry.{Entry}
 use Rattle.s10_book.specs.declared.range.Range.{Range}
 use Rattle.s10_book.specs.declared.issuance.Issuance.{Issuance}
 use Rattle.s10_book.specs.History.{ranges_of, range_of_grant}
 use Rattle.s10_book.specs.Issues.{issues_of, carried_by, last_issues, voids, voids_by, voided_after, pick_of}
+use Rattle.s10_book.proofs.Carried.{made_by}
 use Rattle.s10_book.proofs.Push.{ranges_from-push, issues_from-push}
 use Rattle.s10_rows.specs.Tables.{range_row, range_rows, serial_row, serial_rows}
-use Rattle.s10_rows.specs.Kept.{Makes}
 use Rattle.s10_rows.specs.declared.serial_row.SerialRow.{SerialRow}
-use Rattle.s10_rows.proofs.Replaced.{same_images, same_rows}
-
-abbrev pub made_by : Entry → ℕ → ℕ × Id → Issuance
-made_by e arrival c = record { id = c.1; day = c.0; customer = e.request.customer; number = e.request.number; arrival = arrival }
+use Rattle.s10_rows.proofs.Replaced.{same_images}
 
 -- a call that carries no identifier leaves the issues
 pub same_issues : (h : List Entry) (e : Entry) → carried_by e.outcome ≡ [] → issues_of (h ++ e ∷ []) ≡ issues_of h
@@ -69,10 +66,6 @@ same_serial_rows h e none unvoided =
     same_images (row_in h) (row_in (h ++ e ∷ [])) (same_row_in h e unvoided) (last_issues (issues_of h))
     ∙ sym (ap (λ (is : List Issuance). map (row_in (h ++ e ∷ [])) (last_issues is)) (same_issues h e none))
 
-pub none_carried : (o : Outcome) → ((day : ℕ) (id : Id) → ¬ (o ≡ Drawn day id)) → carried_by o ≡ []
-none_carried (Drawn day id) other = absurd (other day id refl)
-none_carried o other = refl
-
 pub none_made : (num : ℕ) (b : Body) (o : Outcome) → ((n : ℕ) → ¬ (o ≡ Granted n)) → range_of_grant num b o ≡ None
 none_made num (Grant holder service country first last) (Granted n) other = absurd (other n refl)
 none_made num b o other = refl
@@ -80,12 +73,3 @@ none_made num b o other = refl
 pub none_voided : (x : Id) (b : Body) (o : Outcome) → ¬ (o ≡ Voided) → voids_by x b o ≡ false
 none_voided x (Void id) Voided other = absurd (other refl)
 none_voided x b o other = refl
-
--- another call makes no row
-pub others_make_none : (h : List Entry) (e : Entry) → ((num : ℕ) → ¬ (e.outcome ≡ Granted num)) → ((day : ℕ) (id : Id) → ¬ (e.outcome ≡ Drawn day id)) → ¬ (e.outcome ≡ Voided) → Makes h e [] []
-others_make_none h e not_granted not_drawn not_voided =
-    let carried = none_carried e.outcome not_drawn in
-    record {
-      ranges = same_rows (range_rows h) (range_rows (h ++ e ∷ [])) (same_range_rows h e carried (none_made (1 + length (ranges_of h)) e.request.body e.outcome not_granted));
-      serials = same_rows (serial_rows h) (serial_rows (h ++ e ∷ [])) (same_serial_rows h e carried (λ x. none_voided x e.request.body e.outcome not_voided));
-    }

@@ -25,16 +25,19 @@ use Rattle.s10_rows.proofs.Pairs.{one_pair, one_number}
 use Rattle.s10_rows.proofs.SameRows.{no_rows, one_row}
 use Rattle.s10_rows.proofs.LastIssues.{last_of, All-last_issues}
 
+-- the issues of a call whose parts are in their ranges have theirs in them too
+pub issues_at_fit : (arrival : ℕ) (e : Entry) → IsCall e → All IsIssuance (issues_at arrival e)
+issues_at_fit arrival e call =
+    issued_at IsIssuance e.request.customer e.request.number arrival e.outcome
+    (λ d x is. let out : IsOutcome (Drawn d x) = subst IsOutcome is call.outcome in record { id = out.1; day = out.0; customer = call.request.0; number = call.request.1 })
+
 issues_fit : (arrival : ℕ) (es : List Entry) → All IsCall es → All IsIssuance (issues_from arrival es)
 issues_fit arrival [] calls = All-nil IsIssuance
 issues_fit arrival (e ∷ es) calls =
-    let call = All-head IsCall e es calls in
     All-append IsIssuance (issues_at arrival e) (issues_from (arrival + 1) es)
-    (issued_at IsIssuance e.request.customer e.request.number arrival e.outcome
-    (λ d x is. let out : IsOutcome (Drawn d x) = subst IsOutcome is call.outcome in record { id = out.1; day = out.0; customer = call.request.0; number = call.request.1 }))
-    (issues_fit (arrival + 1) es (All-tail IsCall e es calls))
+    (issues_at_fit arrival e (All-head IsCall e es calls)) (issues_fit (arrival + 1) es (All-tail IsCall e es calls))
 
--- the issues of calls whose parts are in their ranges have theirs in them too
+-- and so have those of a history
 pub issues_of_fit : (h : List Entry) → All IsCall h → All IsIssuance (issues_of h)
 issues_of_fit h calls = issues_fit 1 h calls
 

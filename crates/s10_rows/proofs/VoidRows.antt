@@ -32,7 +32,7 @@ use Rattle.s10_rows.proofs.LastIssues.{last_of, All-last_issues}
 use Rattle.s10_rows.proofs.SerialRows.{issues_of_fit, row_of_is, filter_image, last_passes}
 use Rattle.s10_rows.proofs.Replaced.{replaced, same_rows}
 use Rattle.s10_rows.proofs.MadeRows.{row_in, same_issues, same_range_rows, same_voided, now_voided, none_made}
-use Rattle.s10_rows.proofs.DrawRows.{rows_but_at}
+use Rattle.s10_rows.proofs.IssueRows.{few_at, rows_but_at}
 
 -- a Done Void has an issue behind it
 issued_at : (f : Issuance → Issue) (own : Bool) (o : Option Issuance) → cond own (void_issue (option_map f o)) NotYours ≡ Voided → (i : Issuance) × (o ≡ Some i)
@@ -66,6 +66,7 @@ void_makes : (h : List Entry) (t : Terms) (e : Entry) (x : Id) (i : Issuance) �
     → Makes h e [] (Again (serial_row true i) ∷ [])
 void_makes h t e x i legal calls call asks done last =
     let body : IsBody (Void x) = subst IsBody asks call.request.2 in
+    let fit : All IsIssuance (issues_of h) = issues_of_fit h calls in
     let carried : carried_by e.outcome ≡ [] = ap carried_by done in
     let other : (n : ℕ) → ¬ (e.outcome ≡ Granted n) = λ n is. not_both n (sym done ∙ is) in
     let new : Issuance → SerialRow = row_in (h ++ e ∷ []) in
@@ -78,13 +79,14 @@ void_makes h t e x i legal calls call asks done last =
     let moved : HaveSameRows (map (row_in h) (filter (λ j. not (is_of x j)) lasts) ++ new i ∷ []) (map new lasts) =
     replaced (is_of x) (row_in h) new lasts i (last_of (issues_of h) x ∙ ap option_to_list last) (λ k d lt. left (get_or lasts k d)) in
     let front : map (row_in h) (filter (λ j. not (is_of x j)) lasts) ++ new i ∷ [] ≡ filter (λ row. not (is_at (pos (pair_of x.service x.country)) (pos x.serial) row)) (serial_rows h) ++ serial_row true i ∷ [] =
-    ap₂ (λ (l : List SerialRow) (row : SerialRow). l ++ row ∷ []) (sym (rows_but_at h x calls body)) voided in
+    ap₂ (λ (l : List SerialRow) (row : SerialRow). l ++ row ∷ []) (sym (rows_but_at h (issues_of h) x fit body)) voided in
     let P : List SerialRow → Type 0 = λ l. HaveSameRows l (map new lasts) in
     let Q : List Issuance → Type 0 = λ is. HaveSameRows (filter (λ row. not (is_at (pos (pair_of x.service x.country)) (pos x.serial) row)) (serial_rows h) ++ serial_row true i ∷ []) (map new (last_issues is)) in
     let R : Id → Type 0 = λ y. HaveSameRows (filter (λ row. not (is_at (pos (pair_of y.service y.country)) (pos y.serial) row)) (serial_rows h) ++ serial_row true i ∷ []) (serial_rows (h ++ e ∷ [])) in
     record {
       ranges = same_rows (range_rows h) (range_rows (h ++ e ∷ [])) (same_range_rows h e carried (none_made (1 + length (ranges_of h)) e.request.body e.outcome other));
       serials = subst R (sym here.1) (subst Q (sym (same_issues h e carried)) (subst P front moved));
+      few = (few_at h (issues_of h) i.id fit (subst IsId (sym here.1) body), tt);
     }
   where
     not_both : (n : ℕ) → Voided ≡ Granted n → ⊥

@@ -1,7 +1,10 @@
 -- What keeping a call makes of the rows.
-use Rattle.std.specs.Prelude.{⊤, ◌≤◌, ℤ, Bool, not, ◌&&◌, if◌then◌else◌, List, [], ◌∷◌, ◌++◌, map, length, filter}
+use Rattle.std.specs.Prelude.{◌≡◌, ⊤, ℕ, ◌+◌, ◌≤◌, ℤ, Bool, not, ◌&&◌, if◌then◌else◌, List, [], ◌∷◌, ◌++◌, map, length, filter, take}
 use Rattle.std.specs.Ordering.{int_eq}
 use Rattle.s10_book.specs.declared.entry.Entry.{Entry}
+use Rattle.s10_book.specs.declared.issuance.Issuance.{Issuance}
+use Rattle.s10_book.specs.History.{ranges_of}
+use Rattle.s10_book.specs.Issues.{issues_at, issues_of, last_issues, voided_after, pick_of}
 use Rattle.s10_rows.specs.declared.issued.Issued.{Issued}
 use Rattle.s10_rows.specs.declared.issued.Issued.TheVariants.{Never, Before}
 use Rattle.s10_rows.specs.declared.range_row.RangeRow.{RangeRow}
@@ -10,7 +13,7 @@ use Rattle.s10_rows.specs.declared.range_write.RangeWrite.TheVariants.{New as Ne
 use Rattle.s10_rows.specs.declared.serial_row.SerialRow.{SerialRow}
 use Rattle.s10_rows.specs.declared.serial_write.SerialWrite.{SerialWrite}
 use Rattle.s10_rows.specs.declared.serial_write.SerialWrite.TheVariants.{New as NewSerial, Again}
-use Rattle.s10_rows.specs.Tables.{HaveSameRows, range_rows, serial_rows}
+use Rattle.s10_rows.specs.Tables.{HaveSameRows, range_row, range_rows, serial_row, serial_rows}
 
 -- whether the row is the one of the range with that number
 abbrev pub has_num : ℤ → RangeRow → Bool
@@ -59,7 +62,18 @@ abbrev pub write_of : Issued → SerialRow → SerialWrite
 write_of Never row = NewSerial row
 write_of Before row = Again row
 
+-- the issues of a history, and those that the call behind it makes before a place
+abbrev pub issues_before : ℕ → List Entry → Entry → List Issuance
+issues_before place h e = issues_of h ++ take place (issues_at (1 + length h) e)
+
+-- what the call behind the history issues before a place makes these rows
+pub record IssuesMake (h : List Entry) (e : Entry) (place : ℕ) (made_ranges : List RangeWrite) (made_serials : List SerialWrite) : Type 0 where
+  pub ranges : with_ranges made_ranges (range_rows h) ≡ map (λ r. range_row (pick_of (issues_before place h e) r) r) (ranges_of h)
+  pub serials : with_serials made_serials (serial_rows h) ≡ map (λ i. serial_row (voided_after i.arrival h i.id) i) (last_issues (issues_before place h e))
+  pub few : FindAtMostOne made_serials (serial_rows h)
+
 -- the call behind the history makes these rows
 pub record Makes (h : List Entry) (e : Entry) (made_ranges : List RangeWrite) (made_serials : List SerialWrite) : Type 0 where
   pub ranges : HaveSameRows (with_ranges made_ranges (range_rows h)) (range_rows (h ++ e ∷ []))
   pub serials : HaveSameRows (with_serials made_serials (serial_rows h)) (serial_rows (h ++ e ∷ []))
+  pub few : FindAtMostOne made_serials (serial_rows h)

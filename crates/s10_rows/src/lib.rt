@@ -25,7 +25,7 @@ pub use column::pair_number;
 pub use head_reading::settings_in;
 pub use head_row::HeadRow;
 pub use issued::Issued;
-pub use made_rows::{Made, drawn_rows, granted_row, other_calls_make_no_row, voided_row};
+pub use made_rows::{granted_row, issue_rows, issues_make_the_rows, voided_row};
 pub use open_fault::OpenFault;
 pub use opened::Opened;
 pub use range_row::RangeRow;

@@ -4,12 +4,12 @@ use Rattle.sqlite.specs.State.{HasCleanDisk}
 use Rattle.sqlite.specs.Held.{state}
 use Rattle.s10_wire.specs.Datagrams.{Replies}
 use Rattle.s10_rows.specs.CallRow.{StoredCall}
-use Rattle.s10_rows.specs.Tables.{tables_of, call_row, serial_rows}
-use Rattle.s10_rows.specs.Kept.{FindAtMostOne, Makes}
+use Rattle.s10_rows.specs.Tables.{tables_of, call_row}
+use Rattle.s10_rows.specs.Kept.{Makes}
 use Rattle.s10_rows.specs.Selected.{IsCall}
 use Rattle.s10_statements.specs.Shown.{StandsFor}
 use Rattle.s10_rows.proofs.Replies.{reply_replies}
-use Rattle.s10_ledger.proofs.KeyLemmas.{few_of, stands_after, row_is}
+use Rattle.s10_ledger.proofs.KeyLemmas.{stands_after, row_is}
 use Rattle.s10_statements.proofs.CrashLemmas.{either, tables_left}
 use Rattle.s10_ledger.proofs.keeping.keep_call.Goals as goal
 
@@ -21,11 +21,10 @@ returns-in-Ok-clause-ok g c clean opened h t legal follows calls stands m arriva
     let mid : HasCleanDisk (state g.S.Store c.rows_made.new.conn) = omega (arith, c.keep_rows.ensures.clean) in
     let still : StandsFor (state g.S.Store c.rows_made.new.conn).now h t =
     subst (λ (d : Database). StandsFor d h t) (sym (c.rows_made.ensures.leaves.now mid (c.keep_rows.ensures.was_open clean opened) c.requires.settled stands.schema)) stands in
-    let makes : Makes h e c.range_writes.result.now c.serial_writes.result.now = rw (c.range_writes.ensures, c.serial_writes.ensures) (c.in_ok-made.ensures.answer mid h t legal follows calls call stands m arrival) in
-    let few : FindAtMostOne c.serial_writes.result.now (serial_rows h) = rw c.serial_writes.ensures (few_of h calls c.in_ok-made.made.serial) in
+    let makes : Makes h e c.deref.result.now c.deref-2.result.now = rw (c.deref.ensures.value, c.deref-2.ensures.value) (c.in_ok-made.ensures.answer mid h t legal follows calls call stands m arrival) in
     let row : StoredCall = record { arrival = pos c.args.arrival; customer = pos e.request.customer; number = pos e.request.number; day = pos e.day; reply = c.bytes.result.now } in
     let is : row ≡ call_row (length h + 1) e = row_is c.args.arrival (length h + 1) e c.bytes.result.now arrival (c.bytes.ensures.bytes ∙ reply_replies e.request e.outcome c.encode_reply-frame.result replies) in
-    (call, stands_after (state g.S.Store c.keep_rows.new.conn).now h t e row c.range_writes.result.now c.serial_writes.result.now is makes (c.in-Ok.ensures.all clean (tables_of h t) still few))
+    (call, stands_after (state g.S.Store c.keep_rows.new.conn).now h t e row c.deref.result.now c.deref-2.result.now is makes (c.in-Ok.ensures.all clean (tables_of h t) still makes.few))
 
 pub returns-in-Ok-clause-crash : goal.returns-in-Ok-clause-crash
 returns-in-Ok-clause-crash g c clean has db left =
@@ -37,15 +36,14 @@ returns-in-Ok-clause-crash g c clean has db left =
     let row : StoredCall = record { arrival = pos c.args.arrival; customer = pos e.request.customer; number = pos e.request.number; day = pos e.day; reply = c.bytes.result.now } in
     either (c.keep_rows.ensures.crash clean db left) (c.rows_made.ensures.spares mid has db) (λ f h t legal follows calls stands m arrival.
     let still : StandsFor before h t = subst (λ (d : Database). StandsFor d h t) (sym (c.rows_made.ensures.leaves.now mid f.0 c.requires.settled stands.schema)) stands in
-    let makes : Makes h e c.range_writes.result.now c.serial_writes.result.now = rw (c.range_writes.ensures, c.serial_writes.ensures) (c.in_ok-made.ensures.answer mid h t legal follows calls call stands m arrival) in
-    let few : FindAtMostOne c.serial_writes.result.now (serial_rows h) = rw c.serial_writes.ensures (few_of h calls c.in_ok-made.made.serial) in
+    let makes : Makes h e c.deref.result.now c.deref-2.result.now = rw (c.deref.ensures.value, c.deref-2.ensures.value) (c.in_ok-made.ensures.answer mid h t legal follows calls call stands m arrival) in
     let is : row ≡ call_row (length h + 1) e = row_is c.args.arrival (length h + 1) e c.bytes.result.now arrival (c.bytes.ensures.bytes ∙ reply_replies e.request e.outcome c.encode_reply-frame.result replies) in
     let found : Database = record before { trees = db } in
-    let kept = stands_after found h t e row c.range_writes.result.now c.serial_writes.result.now is makes (f.1 (tables_of h t) still few) in
+    let kept = stands_after found h t e row c.deref.result.now c.deref-2.result.now is makes (f.1 (tables_of h t) still makes.few) in
     (call, tables_left found c.args.conn.now.schema db (tables_of (h ++ e ∷ []) t) stands.schema refl kept))
 
-pub returns-in-Err-clause-crash : goal.returns-in-Err-clause-crash
-returns-in-Err-clause-crash g c clean has db left =
+pub returns-clause-crash : goal.returns-clause-crash
+returns-clause-crash g c clean has db left =
     let e = c.args.entry.now in
     let replies : Replies c.encode_reply-frame.result e.request e.outcome = rw (c.in-Some.ensures.parts.0, c.in-Some.ensures.parts.1) at c.encode_reply-frame.ensures in
     let call : IsCall e = record { request = replies.0; outcome = replies.1; fitting = replies.2; day = search rules } in
@@ -54,9 +52,8 @@ returns-in-Err-clause-crash g c clean has db left =
     let row : StoredCall = record { arrival = pos c.args.arrival; customer = pos e.request.customer; number = pos e.request.number; day = pos e.day; reply = c.bytes.result.now } in
     either (c.keep_rows.ensures.crash clean db left) (c.rows_made.ensures.spares mid has db) (λ f h t legal follows calls stands m arrival.
     let still : StandsFor before h t = subst (λ (d : Database). StandsFor d h t) (sym (c.rows_made.ensures.leaves.now mid f.0 c.requires.settled stands.schema)) stands in
-    let makes : Makes h e c.range_writes.result.now c.serial_writes.result.now = rw (c.range_writes.ensures, c.serial_writes.ensures) (c.in_ok-made.ensures.answer mid h t legal follows calls call stands m arrival) in
-    let few : FindAtMostOne c.serial_writes.result.now (serial_rows h) = rw c.serial_writes.ensures (few_of h calls c.in_ok-made.made.serial) in
+    let makes : Makes h e c.deref.result.now c.deref-2.result.now = rw (c.deref.ensures.value, c.deref-2.ensures.value) (c.in_ok-made.ensures.answer mid h t legal follows calls call stands m arrival) in
     let is : row ≡ call_row (length h + 1) e = row_is c.args.arrival (length h + 1) e c.bytes.result.now arrival (c.bytes.ensures.bytes ∙ reply_replies e.request e.outcome c.encode_reply-frame.result replies) in
     let found : Database = record before { trees = db } in
-    let kept = stands_after found h t e row c.range_writes.result.now c.serial_writes.result.now is makes (f.1 (tables_of h t) still few) in
+    let kept = stands_after found h t e row c.deref.result.now c.deref-2.result.now is makes (f.1 (tables_of h t) still makes.few) in
     (call, tables_left found c.args.conn.now.schema db (tables_of (h ++ e ∷ []) t) stands.schema refl kept))

@@ -41,6 +41,6 @@ invariant_of-self-2 c =
     record {
       mirrored = subst (Mirrors c.follow.new.self) (sym grown) (c.follow.ensures h t c.args.self.now.legal c.requires few mirrored);
       placed = subst (HasPlaces c.note_place.new.places) (sym grown) (c.note_place.ensures h placed count c.requires.new_key);
-      issued = subst (HasIssues c.note_issue.new.issues) (sym grown) (c.note_issue.ensures h t c.args.self.now.legal issued);
+      issued = subst (HasIssues c.note_call.new.issues) (sym grown) (c.note_call.ensures h t c.args.self.now.legal issued);
       legal = rw grown (IsLegal-push h t c.args.entry c.args.self.now.legal c.requires);
     }

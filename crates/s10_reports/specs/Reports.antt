@@ -1,0 +1,60 @@
+-- The two reports of a ledger: a header, then a line for each range, or for each issue.
+use Rattle.std.specs.Prelude.{ℕ, ◌==◌, Bool, ◌&&◌, if◌then◌else◌, List, [], ◌∷◌, map, codes, decimal, Option, Some, None}
+use Rattle.std.specs.List.{flat_map}
+use Rattle.s10_core.specs.Letters.{letters_of}
+use Rattle.s10_core.specs.Serial.{digits_of}
+use Rattle.s10_core.specs.Id.{spelling_of}
+use Rattle.s10_wire.specs.Lines.{line_of}
+use Rattle.s10_book.specs.declared.entry.Entry.{Entry}
+use Rattle.s10_book.specs.declared.range.Range.{Range}
+use Rattle.s10_book.specs.declared.usage.Usage.{Usage}
+use Rattle.s10_book.specs.declared.issue.Issue.{Issue}
+use Rattle.s10_book.specs.declared.issuance.Issuance.{Issuance}
+use Rattle.s10_book.specs.History.{ranges_of}
+use Rattle.s10_book.specs.Issues.{issues_of, last_issue_of}
+use Rattle.s10_book.specs.Usage.{usage_of}
+
+-- lines as one text
+abbrev pub joined : List (List ℕ) → List ℕ
+joined lines = flat_map (λ line. line) lines
+
+-- a range and how its serials were used
+unfoldable pub range_line : Range → Usage → List ℕ
+range_line r usage =
+    line_of (decimal r.num)
+    (decimal r.holder ∷ letters_of r.service ∷ letters_of r.country ∷ digits_of r.first ∷ digits_of r.last
+    ∷ decimal usage.used ∷ decimal usage.voided ∷ decimal usage.free ∷ [])
+
+abbrev pub ranges_header : List ℕ
+ranges_header = codes "range customer service country first last used voided free\n"
+
+-- the report of the ranges, in order of their numbers, on a day
+abbrev pub ranges_report : List Entry → ℕ → ℕ → List (List ℕ)
+ranges_report h day interval = ranges_header ∷ map (λ r. range_line r (usage_of h r day interval)) (ranges_of h)
+
+-- whether the identifier's last issue is that of the call
+abbrev pub is_last : Issuance → Issue → Bool
+is_last i last = (last.customer == i.customer) && (last.number == i.number)
+
+-- what became of an issue, by the last issue of its identifier
+abbrev pub state_of : Issuance → Option Issue → List ℕ
+state_of i None = codes "reissued"
+state_of i (Some last) =
+    if is_last i last then (if last.voided then codes "voided" else codes "issued") else codes "reissued"
+
+-- an issue and what became of it
+unfoldable pub issue_line : Issuance → Option Issue → List ℕ
+issue_line i last =
+    line_of (decimal i.arrival)
+    (decimal i.day ∷ decimal i.customer ∷ decimal i.number ∷ spelling_of i.id ∷ state_of i last ∷ [])
+
+abbrev pub issues_header : List ℕ
+issues_header = codes "arrival day customer number identifier state\n"
+
+-- a line for each of these issues, with what became of it in the history
+abbrev pub issue_lines : List Entry → List Issuance → List (List ℕ)
+issue_lines h is = map (λ i. issue_line i (last_issue_of h i.id)) is
+
+-- the report of the issues, in order of arrival
+abbrev pub issues_report : List Entry → List (List ℕ)
+issues_report h = issues_header ∷ issue_lines h (issues_of h)

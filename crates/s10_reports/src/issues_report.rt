@@ -1,0 +1,83 @@
+//! The report of the issues.
+
+ghost use Rattle.std.specs.Prelude.{◌≡◌, OnOk};
+ghost use Rattle.std.specs.Io.KnownBytes.{Appends};
+ghost use Rattle.s10_book.specs.Book.{Keeps};
+ghost use Rattle.s10_book.specs.Issues.{issues_at};
+ghost use Rattle.s10_reports.specs.Reports.{issue_line, issue_lines, issues_report, state_of};
+ghost use Rattle.s10_reports.specs.ReportFault.{Reported, CountsReport};
+
+use crate::report_fault::ReportFault;
+use s10_book::{Book, Entry, Issuance, Issue};
+use s10_wire::{WriteFault, write_decimal, write_first_decimal, write_id, write_text, write_word};
+use std::io::Write;
+
+/// Writes a header and a line for each issue, in order of arrival, with its state: `issued` or
+/// `voided` where this is the identifier's last issue, else `reissued`. Each line is read before
+/// it goes out.
+pub fn write_issues<B: Book, W: Write>(book: &mut B, out: &mut W) -> Result<(), ReportFault>
+    ensures faults { CountsReport result (B.faults book.old) (B.faults book.new) }
+    ensures keeps { Keeps B.history B.terms B.honest book.old book.new }
+    ensures written { B.honest book.new
+        → Reported (W.contents out.old) (W.contents out.new) (issues_report (B.history book.old)) result }
+{
+    write_text(b"arrival day customer number identifier state\n", out)?;
+    for done in 0..book.len() {
+        let entry = match book.entry(done + 1)? {
+            None => return Ok(()),
+            Some(entry) => entry,
+        };
+        write_call(book, done + 1, &entry, out)?;
+    }
+    Ok(())
+}
+
+// Writes a line for each issue of a call, in the order of its reply.
+fn write_call<B: Book, W: Write>(
+    book: &mut B,
+    arrival: u32,
+    entry: &Entry,
+    out: &mut W,
+) -> Result<(), ReportFault>
+    ensures faults { CountsReport result (B.faults book.old) (B.faults book.new) }
+    ensures keeps { Keeps B.history B.terms B.honest book.old book.new }
+    ensures written { B.honest book.new
+        → Reported (W.contents out.old) (W.contents out.new) (issue_lines (B.history book.old) (issues_at arrival entry.now)) result }
+{
+    for place in 0..entry.issued() {
+        let issuance = match entry.issue(arrival, place) {
+            None => return Ok(()),
+            Some(issuance) => issuance,
+        };
+        let last = book.last_issue(&issuance.id)?;
+        write_issue(&issuance, &last, out)?;
+    }
+    Ok(())
+}
+
+fn write_issue<W: Write>(
+    issuance: &Issuance,
+    last: &Option<Issue>,
+    out: &mut W,
+) -> Result<(), WriteFault>
+    ensures { OnOk result (Appends (W.contents out.old) (W.contents out.new) (issue_line issuance.now last.now)) }
+{
+    write_first_decimal(issuance.arrival, out)?;
+    write_decimal(issuance.day, out)?;
+    write_decimal(issuance.customer, out)?;
+    write_decimal(issuance.number, out)?;
+    write_id(&issuance.id, out)?;
+    write_word(state(issuance, last), out)?;
+    write_text(b"\n", out)
+}
+
+fn state(issuance: &Issuance, last: &Option<Issue>) -> &'static [u8]
+    ensures { result.now ≡ state_of issuance.now last.now }
+{
+    match last {
+        Some(last) if last.customer == issuance.customer && last.number == issuance.number => {
+            if last.voided { b"voided" } else { b"issued" }
+        }
+        _ => b"reissued",
+    }
+}

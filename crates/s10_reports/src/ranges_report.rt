@@ -1,0 +1,63 @@
+//! The report of the ranges.
+
+ghost use Rattle.std.specs.Prelude.{[], ◌∷◌, decimal, OnOk};
+ghost use Rattle.std.specs.Io.KnownBytes.{Appends};
+ghost use Rattle.s10_wire.specs.Lines.{spaced};
+ghost use Rattle.s10_book.specs.Book.{Keeps};
+ghost use Rattle.s10_reports.specs.Reports.{range_line, ranges_report};
+ghost use Rattle.s10_reports.specs.ReportFault.{Reported, CountsReport};
+
+use crate::report_fault::ReportFault;
+use s10_book::{Book, Range, Usage};
+use s10_wire::{
+    WriteFault, write_decimal, write_first_decimal, write_letters, write_serials, write_text,
+};
+use std::io::Write;
+
+/// Writes a header and a line for each range, in order of their numbers: what it is, and how many
+/// of its serials were ever issued, are voided, and are free on the greater of `day` and the
+/// book's day. Each line is read before it goes out.
+pub fn write_ranges<B: Book, W: Write>(
+    book: &mut B,
+    day: u32,
+    out: &mut W,
+) -> Result<(), ReportFault>
+    ensures faults { CountsReport result (B.faults book.old) (B.faults book.new) }
+    ensures keeps { Keeps B.history B.terms B.honest book.old book.new }
+    ensures written { B.honest book.new → Reported (W.contents out.old) (W.contents out.new)
+        (ranges_report (B.history book.old) day (B.terms book.old).interval) result }
+{
+    write_text(
+        b"range customer service country first last used voided free\n",
+        out,
+    )?;
+    for done in 0..book.len() {
+        let range = match book.range(done + 1)? {
+            None => return Ok(()),
+            Some(range) => range,
+        };
+        let usage = book.usage(&range, day)?;
+        write_range(&range, &usage, out)?;
+    }
+    Ok(())
+}
+
+fn write_range<W: Write>(range: &Range, usage: &Usage, out: &mut W) -> Result<(), WriteFault>
+    ensures { OnOk result (Appends (W.contents out.old) (W.contents out.new) (range_line range.now usage.now)) }
+{
+    write_first_decimal(range.num, out)?;
+    write_decimal(range.holder, out)?;
+    write_letters(range.service, range.country, out)?;
+    write_serials(range.first, range.last, out)?;
+    write_usage(usage, out)?;
+    write_text(b"\n", out)
+}
+
+fn write_usage<W: Write>(usage: &Usage, out: &mut W) -> Result<(), WriteFault>
+    ensures { OnOk result (Appends (W.contents out.old) (W.contents out.new)
+        (spaced (decimal usage.now.used ∷ decimal usage.now.voided ∷ decimal usage.now.free ∷ []))) }
+{
+    write_decimal(usage.used, out)?;
+    write_decimal(usage.voided, out)?;
+    write_decimal(usage.free, out)
+}
