@@ -111,7 +111,7 @@ def look_in(room):
             came = room.type(f"{command}; echo status $?")
             if came[-1] != "status 0" or (shown and came[:-1] != shown) or ("SELECT num" in command and len(came) < 2):
                 raise Other("\n".join([command, *came]))
-    compare("an audit beside a table of the office's own", ["ledger ok 5"], room.type("s10 audit --ledger ledger"))
+    compare("an audit beside a table of the office's own", ["ledger ok 7"], room.type("s10 audit --ledger ledger"))
     return typed
 
 
@@ -130,7 +130,7 @@ def operate(room):
     page = blocks("docs/OPERATING.md")
     log = next(it for it in page if "$ rm copy-wal" in it)
     client = next(it for it in page if "import socket, struct, sys" in it)
-    run = next(it for it in page if "$ python3 draw.py 5" in it)
+    run = next(it for it in page if "$ python3 draw.py 5 1" in it)
     day = next(it for it in page if any("max(day)" in line for line in it))
     prepare(room, 5)
     room.stop(signal.SIGKILL)

@@ -21,7 +21,8 @@ HERE = Path(__file__).resolve().parent
 PROGRAM = str(Path(sys.argv[1] if len(sys.argv) > 1 else HERE / "../crates/s10/out/s10").resolve())
 
 # The post grants RA GB 0 to 2 to customer 7, who draws serials 0 and 1, voids 1 twice, draws serial 2 and is told that none is
-# free; 30 days after it draws 0 and 1 again. The tenth call draws 2 again.
+# free; 30 days after it draws 0 and 1 again. The tenth call draws 2 again. A sheet of three in the place of these three draws has
+# all of them.
 GRANT = "53310101000000000000000100000007524147420000000000000002"
 VOID = "52413030303030303031344742"
 
@@ -35,6 +36,11 @@ LATER = [draw(7), draw(8)]
 SETTINGS = ["--interval", "30", "--limit", "1000"]
 TENTH = draw(9)
 TENTH_REPLY = "533101820000000700000009524147420000004e3e52413030303030303032384742"
+SHEET = "5331020500000007000000075241474203"
+SHEET_REPLY = (
+    "53310285000000070000000752414742030000004e3e"
+    "524130303030303030303547425241303030303030303134474252413030303030303032384742"
+)
 
 
 class Failed(Exception):
@@ -171,7 +177,11 @@ def refuse_memory(room):
 
     each_refusal("requests for memory of audit", room, refusals, look)
 
-    for what, kept, day, datagrams in (("seven calls", [], 20000, FIRST), ("two calls behind seven", [(20000, FIRST)], 20030, LATER)):
+    for what, kept, day, datagrams in (
+        ("seven calls", [], 20000, FIRST),
+        ("two calls behind seven", [(20000, FIRST)], 20030, LATER),
+        ("a sheet behind seven", [(20000, FIRST)], 20030, [SHEET]),
+    ):
         base = make(f"{room}/{what}", kept)
         told = [(then, it) for then, those in kept for it in those]
 
@@ -182,9 +192,11 @@ def refuse_memory(room):
         each_refusal(f"requests for memory of a server of {what}", room, refusals, answer)
 
 
-def stop_disk(room):
-    closed = make(f"{room}/closed", [(20000, FIRST), (20030, LATER)])
-    killed = copied(closed, f"{room}/killed")
+def stop_server(room, what, calls, asked, reply):
+    """Stops the disk of a server that is asked on day 20030, over the ledger of these calls as it was closed, and as it was killed."""
+    kept = sum(len(datagrams) for _, datagrams in calls)
+    closed = make(f"{room}/{what} closed", calls)
+    killed = copied(closed, f"{room}/{what} killed")
     kill_server(killed)
     for state, base in (("closed", closed), ("killed", killed)):
         for file in ("ledger", "ledger-wal"):
@@ -194,19 +206,23 @@ def stop_disk(room):
 
             def answer(name, here, env, base=base):
                 ledger = copied(base, here)
-                replies = serve(ledger, 20030, [TENTH], env)
-                if replies.get(TENTH, TENTH_REPLY) != TENTH_REPLY:
+                replies = serve(ledger, 20030, [asked], env)
+                if replies.get(asked, reply) != reply:
                     fail(f"{name}: another reply")
                 found = audit(ledger)
-                if found != "ledger ok 10" and (found != "ledger ok 9" or replies):
+                if found != f"ledger ok {kept + 1}" and (found != f"ledger ok {kept}" or replies):
                     fail(f"{name}: {found} with {len(replies)} replies")
-                if serve(ledger, 20030, [TENTH]).get(TENTH) != TENTH_REPLY:
+                if serve(ledger, 20030, [asked]).get(asked) != reply:
                     fail(f"{name}: asked again, another reply")
-                if audit(ledger) != "ledger ok 10":
+                if audit(ledger) != f"ledger ok {kept + 1}":
                     fail(f"{name}: {audit(ledger)} in the end")
 
-            each_refusal(f"changes of {file} by a server of a {state} ledger", room, refusals, answer)
+            each_refusal(f"changes of {file} by {what} over a {state} ledger", room, refusals, answer)
 
+
+def stop_disk(room):
+    stop_server(room, "a Draw", [(20000, FIRST), (20030, LATER)], TENTH, TENTH_REPLY)
+    stop_server(room, "a sheet of three", [(20000, FIRST)], SHEET, SHEET_REPLY)
     for file in ("ledger", "ledger-wal"):
 
         def refusals(at, here, file=file):

@@ -18,7 +18,7 @@ _s10() {
         create) options='--ledger --interval --limit --help' values='--interval --limit' files='--ledger' ;;
         serve) options='--ledger --bind --count --day --help' values='--bind --count --day' files='--ledger' ;;
         grant) options='--to --number --holder --service --country --first --last --tries --help' values='--to --number --holder --service --country --first --last --tries' files='' ;;
-        draw) options='--to --customer --number --service --country --tries --help' values='--to --customer --number --service --country --tries' files='' ;;
+        draw) options='--to --customer --number --service --country --count --tries --help' values='--to --customer --number --service --country --count --tries' files='' ;;
         void) options='--to --customer --number --id --tries --help' values='--to --customer --number --id --tries' files='' ;;
         query) options='--to --customer --number --id --tries --help' values='--to --customer --number --id --tries' files='' ;;
         report) options='--ledger --issues --day --help' values='--day' files='--ledger' ;;

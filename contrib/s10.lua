@@ -1,14 +1,15 @@
--- A Wireshark dissector of s10 datagrams, version 1: requests and replies.
+-- A Wireshark dissector of s10 datagrams, versions 1 and 2: requests and replies.
 --
 --   tshark -X lua_script:s10.lua -r FILE
 --
--- The Info column is the line that `s10 show` prints for the bytes. UDP datagrams that begin as version 1 does are
+-- The Info column is the line that `s10 show` prints for the bytes. UDP datagrams that begin as a version does are
 -- found at any port; with -d udp.port==PORT,s10 every datagram of a port is read, and the refusals are shown too.
 
 local s10 = Proto("s10", "S10 item identifiers")
 
-local KINDS = { [1] = "grant", [2] = "draw", [3] = "void", [4] = "query" }
-local LENGTHS = { [1] = 28, [2] = 16, [3] = 25, [4] = 25 }
+local KINDS = { [1] = "grant", [2] = "draw", [3] = "void", [4] = "query", [5] = "draw-many" }
+local VERSIONS = { [1] = 1, [2] = 1, [3] = 1, [4] = 1, [5] = 2 }
+local LENGTHS = { [1] = 28, [2] = 16, [3] = 25, [4] = 25, [5] = 17 }
 local DONE_LENGTHS = { [1] = 33, [2] = 34, [3] = 26, [4] = 31 }
 local OUTCOMES = {
     [0] = "done", "not-the-post", "bad-grant", "overlap", "no-range", "none-free", "not-yours", "not-issued",
@@ -19,11 +20,13 @@ local FITS = {
     [2] = { [4] = true, [5] = true, [9] = true },
     [3] = { [6] = true, [7] = true, [8] = true, [9] = true },
     [4] = { [6] = true, [9] = true },
+    [5] = { [4] = true, [5] = true, [9] = true },
 }
 local STATUSES = { [0] = "unknown", "never", "issued", "voided" }
 local WEIGHTS = { 8, 6, 4, 2, 3, 5, 9, 7 }
 local REPLY = 0x80
 local LONGEST = 512
+local MOST = 16
 
 local f = {
     magic = ProtoField.string("s10.magic", "Magic"),
@@ -35,6 +38,7 @@ local f = {
     holder = ProtoField.uint32("s10.holder", "Holder"),
     service = ProtoField.string("s10.service", "Service indicator"),
     country = ProtoField.string("s10.country", "Country code"),
+    count = ProtoField.uint8("s10.count", "Count"),
     first = ProtoField.uint32("s10.first", "First serial"),
     last = ProtoField.uint32("s10.last", "Last serial"),
     id = ProtoField.string("s10.id", "Identifier"),
@@ -49,7 +53,7 @@ local f = {
     repeat_of = ProtoField.framenum("s10.repeat_of", "Repeat of", base.NONE, frametype.RETRANS_PREV),
 }
 s10.fields = f
-local refused = ProtoExpert.new("s10.refused", "This is no datagram of version 1", expert.group.MALFORMED,
+local refused = ProtoExpert.new("s10.refused", "This is no datagram of s10", expert.group.MALFORMED,
     expert.severity.ERROR)
 s10.experts = { refused }
 
@@ -84,14 +88,15 @@ local function read(bytes)
     local is_reply = length >= 4 and u8(3) >= REPLY
     if length < 12 then return nil, "short" end
     if text(0, 2) ~= "S1" then return nil, "magic" end
-    if u8(2) ~= 1 then return nil, "version" end
+    if u8(2) ~= 1 and u8(2) ~= 2 then return nil, "version" end
     local kind = is_reply and u8(3) - REPLY or u8(3)
-    if not KINDS[kind] then return nil, "kind" end
+    if VERSIONS[kind] ~= u8(2) then return nil, "kind" end
     local at = LENGTHS[kind]
     if not is_reply and length ~= at then return nil, "length" end
     if is_reply then
         if length <= at then return nil, "length" end
-        if length ~= (u8(at) == 0 and DONE_LENGTHS[kind] or at + 1) then return nil, "length" end
+        local done_length = kind == 5 and 22 + 13 * u8(16) or DONE_LENGTHS[kind]
+        if length ~= (u8(at) == 0 and done_length or at + 1) then return nil, "length" end
     end
 
     local words = { is_reply and "reply" or "request", KINDS[kind], "customer", u32(4), "number", u32(8) }
@@ -102,10 +107,12 @@ local function read(bytes)
         if not is_serial(u32(20)) then return nil, "field 20" end
         if not is_serial(u32(24)) then return nil, "field 24" end
         say("holder", u32(12), text(16, 2), text(18, 2), ("%08d"):format(u32(20)), ("%08d"):format(u32(24)))
-    elseif kind == 2 then
+    elseif kind == 2 or kind == 5 then
         if not is_letters(text(12, 2)) then return nil, "field 12" end
         if not is_letters(text(14, 2)) then return nil, "field 14" end
+        if kind == 5 and (u8(16) < 1 or u8(16) > MOST) then return nil, "field 16" end
         say(text(12, 2), text(14, 2))
+        if kind == 5 then say(u8(16)) end
     else
         if not is_id(text(12, 13)) then return nil, "field 12" end
         say(text(12, 13))
@@ -119,6 +126,12 @@ local function read(bytes)
         elseif outcome == 0 and kind == 2 then
             if not is_id(text(21, 13)) then return nil, "field 21" end
             say("day", u32(17), text(21, 13))
+        elseif outcome == 0 and kind == 5 then
+            say("day", u32(18))
+            for place = 22, length - 1, 13 do
+                if not is_id(text(place, 13)) then return nil, "field " .. place end
+                say(text(place, 13))
+            end
         elseif outcome == 0 and kind == 4 then
             local status, day = u8(26), u32(27)
             if status > 3 then return nil, "field 26" end
@@ -154,9 +167,10 @@ local function show(tree, range, found)
         tree:add(f.country, range(18, 2))
         tree:add(f.first, range(20, 4))
         tree:add(f.last, range(24, 4))
-    elseif kind == 2 then
+    elseif kind == 2 or kind == 5 then
         tree:add(f.service, range(12, 2))
         tree:add(f.country, range(14, 2))
+        if kind == 5 then tree:add(f.count, range(16, 1)) end
     else
         tree:add(f.id, range(12, 13))
     end
@@ -168,6 +182,9 @@ local function show(tree, range, found)
     elseif kind == 2 then
         add_day(tree, range(17, 4))
         tree:add(f.drawn, range(21, 13))
+    elseif kind == 5 then
+        add_day(tree, range(18, 4))
+        for place = 22, range:len() - 1, 13 do tree:add(f.drawn, range(place, 13)) end
     elseif kind == 4 then
         tree:add(f.status, range(26, 1))
         if range(26, 1):uint() >= 2 then add_day(tree, range(27, 4)) end
@@ -215,10 +232,10 @@ function s10.dissector(buffer, pinfo, tree)
     return buffer:len()
 end
 
--- Datagrams at any port that begin with the magic, version 1 and a kind.
+-- Datagrams at any port that begin with the magic, a version and a kind of it.
 s10:register_heuristic("udp", function(buffer, pinfo, tree)
-    if buffer:len() < 12 or buffer(0, 3):raw() ~= "S1\1" then return false end
-    if not KINDS[buffer(3, 1):uint() % REPLY] then return false end
+    if buffer:len() < 12 or buffer(0, 2):raw() ~= "S1" then return false end
+    if VERSIONS[buffer(3, 1):uint() % REPLY] ~= buffer(2, 1):uint() then return false end
     s10.dissector(buffer, pinfo, tree)
     return true
 end)

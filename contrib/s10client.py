@@ -1,4 +1,4 @@
-"""A client of an s10 server, of Python's standard library alone. It speaks version 1 of the datagrams.
+"""A client of an s10 server, of Python's standard library alone. It speaks versions 1 and 2 of the datagrams.
 
     from s10client import Client, make_notes
 
@@ -8,6 +8,8 @@
         if client.is_open:
             print(client.again())           # what the last request of the run before came to
         print(client.draw("RA", "GB").identifier)
+        for drawn in client.draw_many("RA", "GB", 16):              # a sheet of labels, all or none
+            print(drawn.identifier)
 
 A request is written down with its number before it is sent, so that it is never asked again under
 another number. Where no reply comes, `GaveUp` is raised and the request stays open: `again` asks
@@ -33,13 +35,15 @@ __all__ = [
     "AlreadyVoid", "NumberReused", "check_digit",
 ]
 
-GRANT, DRAW, VOID, QUERY = 1, 2, 3, 4
+GRANT, DRAW, VOID, QUERY, DRAW_MANY = 1, 2, 3, 4, 5
 POST = 0
 LAST_NUMBER = 0xFFFFFFFF
 LAST_SERIAL = 99_999_999
+MOST = 16
 
 _HEADER = struct.Struct(">2sBBII")
-_MAGIC, _VERSION, _REPLY = b"S1", 1, 0x80
+_MAGIC, _REPLY = b"S1", 0x80
+_VERSIONS = {GRANT: 1, DRAW: 1, VOID: 1, QUERY: 1, DRAW_MANY: 2}
 _STATUSES = ("unknown", "never", "issued", "voided")
 _LONGEST = 512
 
@@ -81,7 +85,7 @@ class NoRange(Refused):
 
 
 class NoneFree(Refused):
-    """No serial of the customer's ranges is free on that day."""
+    """No serial of the customer's ranges is free on that day, or fewer than the sheet has."""
 
 
 class NotYours(Refused):
@@ -105,12 +109,12 @@ _REFUSALS = {
     1: (NotThePost, {GRANT}),
     2: (BadGrant, {GRANT}),
     3: (Overlap, {GRANT}),
-    4: (NoRange, {DRAW}),
-    5: (NoneFree, {DRAW}),
+    4: (NoRange, {DRAW, DRAW_MANY}),
+    5: (NoneFree, {DRAW, DRAW_MANY}),
     6: (NotYours, {VOID, QUERY}),
     7: (NotIssued, {VOID}),
     8: (AlreadyVoid, {VOID}),
-    9: (NumberReused, {GRANT, DRAW, VOID, QUERY}),
+    9: (NumberReused, {GRANT, DRAW, VOID, QUERY, DRAW_MANY}),
 }
 
 
@@ -199,6 +203,12 @@ class Client:
         """Draws the next free identifier of a service and country: a `Drawn`."""
         return self._ask(DRAW, _letters(service, "service") + _letters(country, "country"))
 
+    def draw_many(self, service, country, count):
+        """Draws a sheet of 1 to 16 identifiers of a service and country, all or none: a list of `Drawn`."""
+        if not (isinstance(count, int) and 1 <= count <= MOST):
+            raise ValueError(f"a sheet has 1 to {MOST} identifiers, not {count!r}")
+        return self._ask(DRAW_MANY, _letters(service, "service") + _letters(country, "country") + bytes([count]))
+
     def void(self, identifier):
         """Gives an identifier up."""
         self._ask(VOID, _identifier(identifier))
@@ -228,7 +238,7 @@ class Client:
             raise Unanswered(f"request {self.number_of_request} has no reply yet")
         if self.number > self.last:
             raise NumbersSpent(f"number {self.last} was the last one")
-        request = _HEADER.pack(_MAGIC, _VERSION, kind, self.customer, self.number) + body
+        request = _HEADER.pack(_MAGIC, _VERSIONS[kind], kind, self.customer, self.number) + body
         self._write_down(request)
         self.number += 1
         self.request, self.is_open = request, True
@@ -272,6 +282,9 @@ def _read_reply(request, datagram):
         return 0, int.from_bytes(rest, "big")
     if kind == DRAW and len(rest) == 17 and _is_identifier(rest[4:]):
         return 0, Drawn(rest[4:].decode("ascii"), int.from_bytes(rest[:4], "big"))
+    if kind == DRAW_MANY and len(rest) == 4 + 13 * request[16]:
+        day, texts = int.from_bytes(rest[:4], "big"), [rest[at:at + 13] for at in range(4, len(rest), 13)]
+        return (0, [Drawn(text.decode("ascii"), day) for text in texts]) if all(map(_is_identifier, texts)) else None
     if kind == VOID and not rest:
         return 0, None
     if kind == QUERY and len(rest) == 5 and rest[0] < len(_STATUSES):

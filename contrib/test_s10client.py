@@ -154,6 +154,18 @@ class Calls(ServedTest):
         self.assertEqual(seven.query("RA000000028GB"), Told("never", 0))
         self.assertEqual(post.query("RA000000031GB"), Told("unknown", 0))
 
+    def test_a_sheet_is_drawn_whole_or_not_at_all(self):
+        post, seven = self.client(0), self.client(7)
+        post.grant(7, "RA", "GB", 0, 2)
+        sheet = [Drawn("RA000000005GB", DAY), Drawn("RA000000014GB", DAY)]
+        self.assertEqual(seven.draw_many("RA", "GB", 2), sheet)
+        self.assertEqual(seven.again(), sheet)
+        with self.assertRaises(NoneFree):
+            seven.draw_many("RA", "GB", 2)
+        self.assertEqual(seven.draw_many("RA", "GB", 1), [Drawn("RA000000028GB", DAY)])
+        with self.assertRaises(NoRange):
+            seven.draw_many("RB", "GB", 16)
+
     def test_refusals_are_raised(self):
         post, seven = self.client(0), self.client(7)
         post.grant(7, "RA", "GB", 0, 1)
@@ -189,7 +201,8 @@ class Calls(ServedTest):
         for call in (lambda: seven.draw("ra", "GB"), lambda: seven.draw("RA", "GBR"),
                      lambda: seven.void("RA000000006GB"), lambda: seven.query("RÄ000000005GB"),
                      lambda: seven.grant(7, "RA", "GB", 0, 100_000_000),
-                     lambda: seven.grant(-1, "RA", "GB", 0, 1)):
+                     lambda: seven.grant(-1, "RA", "GB", 0, 1),
+                     lambda: seven.draw_many("RA", "GB", 0), lambda: seven.draw_many("RA", "GB", 17)):
             with self.assertRaises(ValueError):
                 call()
         self.assertEqual((seven.number, seven.noted), (1, []))
@@ -300,6 +313,7 @@ class Loss(ServedTest):
         seven.draw("RA", "GB")
         for client, ask in ((post, lambda: post.grant(8, "RA", "GB", 10, 19)),
                             (seven, lambda: seven.draw("RA", "GB")),
+                            (seven, lambda: seven.draw_many("RA", "GB", 2)),
                             (seven, lambda: seven.void("RA000000005GB")),
                             (seven, lambda: seven.query("RA000000005GB"))):
             ask()
@@ -323,6 +337,7 @@ class Loss(ServedTest):
         seven.draw("RA", "GB")
         seven.void("RA000000005GB")
         seven.query("RA000000005GB")
+        seven.draw_many("RA", "GB", 3)
         requests += seven.noted
         choose = random.Random(4)
         link = socket.socket(socket.AF_INET, socket.SOCK_DGRAM)
@@ -441,7 +456,8 @@ class Datagrams(unittest.TestCase):
 
         with Client(("127.0.0.1", 9), 7, 1, stop) as client:
             for call in (lambda: client.grant(7, "RA", "GB", 0, 2), lambda: client.draw("RA", "GB"),
-                         lambda: client.void("RA000000014GB"), lambda: client.query("RA000000014GB")):
+                         lambda: client.void("RA000000014GB"), lambda: client.query("RA000000014GB"),
+                         lambda: client.draw_many("RA", "GB", 2)):
                 with self.assertRaises(InterruptedError):
                     call()
         self.assertEqual(noted, [
@@ -449,6 +465,7 @@ class Datagrams(unittest.TestCase):
             "53310102000000070000000152414742",
             "533101030000000700000001" "52413030303030303031344742",
             "533101040000000700000001" "52413030303030303031344742",
+            "533102050000000700000001" "52414742" "02",
         ])
 
 

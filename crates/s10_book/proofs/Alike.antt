@@ -13,7 +13,7 @@ use Rattle.s10_book.specs.Issues.{issues_of, is_of, last_issuance_of, is_issued,
 use Rattle.s10_book.specs.Rules.{has_free_pick, outcome_of_pick, draw_done, then_drawn, draws_in_a_row}
 use Rattle.s10_book.proofs.Earliest.{earliest_cons}
 use Rattle.s10_book.proofs.Push.{ranges_from-push, issues_from-push}
-use Rattle.s10_book.proofs.Rows.{then_found, then_same, picks}
+use Rattle.s10_book.proofs.Picking.{then_found, then_same, picks}
 
 -- the issues have the same identifiers, on the same days
 abbrev pub Alike : List Issuance → List Issuance → Type 0
@@ -26,7 +26,7 @@ pub alike_itself : (is : List Issuance) → Alike is is
 alike_itself [] = tt
 alike_itself (i ∷ is) = (refl, refl, alike_itself is)
 
-alike_push : (is js : List Issuance) (i j : Issuance) → Alike is js → i.id ≡ j.id → i.day ≡ j.day → Alike (is ++ i ∷ []) (js ++ j ∷ [])
+pub alike_push : (is js : List Issuance) (i j : Issuance) → Alike is js → i.id ≡ j.id → i.day ≡ j.day → Alike (is ++ i ∷ []) (js ++ j ∷ [])
 alike_push [] [] i j alike id day = (id, day, tt)
 alike_push [] (y ∷ ys) i j alike id day = absurd alike
 alike_push (x ∷ xs) [] i j alike id day = absurd alike
@@ -38,7 +38,7 @@ issued_alike [] (j ∷ js) x alike = absurd alike
 issued_alike (i ∷ is) [] x alike = absurd alike
 issued_alike (i ∷ is) (j ∷ js) x alike = ap₂ (λ (a b : Bool). a || b) (ap (λ (z : Id). same_id z x) alike.0) (issued_alike is js x alike.2)
 
-find_same : {A : Type 0} (p q : A → Bool) (xs : List A) → ((x : A) → p x ≡ q x) → find p xs ≡ find q xs
+pub find_same : {A : Type 0} (p q : A → Bool) (xs : List A) → ((x : A) → p x ≡ q x) → find p xs ≡ find q xs
 find_same p q [] same = refl
 find_same p q (x ∷ xs) same = rw (same x, find_same p q xs same) refl
 
@@ -53,7 +53,7 @@ earliest_alike r (i ∷ is) (j ∷ js) alike =
     ∙ ap (λ (o : Option ℕ). cond (lies_in r j.id && not (is_issued js j.id)) (Some j.id.serial) o) (earliest_alike r is js alike.2)
     ∙ sym (earliest_cons r j js)
 
-pick_alike : (r : Range) (is js : List Issuance) → Alike is js → pick_of is r ≡ pick_of js r
+pub pick_alike : (r : Range) (is js : List Issuance) → Alike is js → pick_of is r ≡ pick_of js r
 pick_alike r is js alike =
     ap₂ (λ (f o : Option ℕ). unwrap_or (option_or f o) r.first)
     (find_same (λ serial. not (is_issued is (id_at r serial))) (λ serial. not (is_issued js (id_at r serial))) (serials r) (λ s. ap not (issued_alike is js (id_at r s) alike)))
@@ -74,7 +74,7 @@ last_alike (i ∷ is) (j ∷ js) x o u alike e = at (is_of x i) (is_of x j) (ap 
     at true false same taken past = cc
     at false true same taken past = cc
 
-free_alike : (is js : List Issuance) (day n : ℕ) (r : Range) → Alike is js → has_free_pick is day n r ≡ has_free_pick js day n r
+pub free_alike : (is js : List Issuance) (day n : ℕ) (r : Range) → Alike is js → has_free_pick is day n r ≡ has_free_pick js day n r
 free_alike is js day n r alike =
     ap (λ s. is_free_since day n (day_in (last_issuance_of is (id_at r s)))) (pick_alike r is js alike)
     ∙ ap (is_free_since day n) (last_alike is js (id_at r (pick_of js r)) None None alike refl)

@@ -1,24 +1,28 @@
 -- The identifiers that a call carries, each over the issues with those before it.
-use Rattle.std.proofs.Common.{◌≡◌, ℕ, ◌+◌, Bool, true, false, List, [], ◌∷◌, ◌++◌, map, Option, Some, None, refl, sym, subst, length, append-nil, append_assoc}
+use Rattle.std.proofs.Common.{◌≡◌, ℕ, zero, suc, ◌+◌, Bool, true, false, List, [], ◌∷◌, ◌++◌, map, Option, Some, None, refl, sym, ◌∙◌, subst, length, append-nil, append_assoc}
 use Rattle.std.specs.Prelude.{find, filter, All, IsTrue, Contains}
+use Rattle.std.specs.Option.{option_map}
 use Rattle.std.proofs.lemmas.Bool.{both_ways, eqb-true, and_parts}
-use Rattle.std.proofs.lemmas.List.Elements.{All-nil, All-cons, All-contains, All-filter, All-contains_itself, filter_passes}
+use Rattle.std.proofs.lemmas.Option.{none-some, same_Some}
+use Rattle.std.proofs.lemmas.List.Elements.{All-nil, All-cons, All-head, All-tail, All-contains, All-filter, All-contains_itself, filter_passes}
 use Rattle.s10_core.specs.declared.id.Id.{Id}
 use Rattle.s10_wire.specs.Kind.{fits}
 use Rattle.s10_wire.specs.declared.body.Body.{Body}
-use Rattle.s10_wire.specs.declared.body.Body.TheVariants.{Grant, Draw, Void, Query}
+use Rattle.s10_wire.specs.declared.body.Body.TheVariants.{Grant, Draw, Void, Query, DrawMany}
 use Rattle.s10_wire.specs.declared.outcome.Outcome.{Outcome}
-use Rattle.s10_wire.specs.declared.outcome.Outcome.TheVariants.{Drawn}
+use Rattle.s10_wire.specs.declared.outcome.Outcome.TheVariants.{Drawn, DrawnMany}
 use Rattle.s10_book.specs.declared.entry.Entry.{Entry}
 use Rattle.s10_book.specs.declared.range.Range.{Range}
 use Rattle.s10_book.specs.declared.issuance.Issuance.{Issuance}
 use Rattle.s10_book.specs.Settings.{Terms}
 use Rattle.s10_book.specs.History.{ranges_of, is_held, ranges_held}
 use Rattle.s10_book.specs.Issues.{issues_of, carried_by, is_free, id_at, pick_of}
-use Rattle.s10_book.specs.Rules.{MayFollow, body_answer, outcome_of_pick, has_free_pick}
+use Rattle.s10_book.specs.Rules.{MayFollow, body_answer, outcome_of_pick, outcome_of_row, draws_in_a_row, has_free_pick}
 use Rattle.s10_book.proofs.Ranges.{Contains-find, found_passes}
 use Rattle.s10_book.proofs.Push.{issues_from-push}
 use Rattle.s10_book.proofs.Fitting.{answer_fits}
+use Rattle.s10_book.proofs.Picking.{then_found, picks}
+use Rattle.s10_book.proofs.Alike.{alike_itself, row_is}
 
 -- the issue of what a call carries
 abbrev pub made_by : Entry → ℕ → ℕ × Id → Issuance
@@ -70,33 +74,74 @@ carried_at rs customer day n s c is made (y ∷ ys) None found = tt
 carried_at rs customer day n s c is made [] (Some r) found = (picked_from rs customer day n s c is r found, tt)
 carried_at rs customer day n s c is made (y ∷ ys) (Some r) found = (picked_from rs customer day n s c is r found, tt)
 
+-- the picks of so many Draws in a row
+row_carried : (rs : List Range) (customer day n : ℕ) (s c : ℕ × ℕ) (made : ℕ × Id → Issuance) (count : ℕ) (is : List Issuance) (ids : List Id)
+    → picks (λ x. made (day, x)) day n (filter (is_held customer s c) rs) is count ≡ Some ids → InTurn (IsPicked rs customer day n) made is (map (λ x. (day, x)) ids)
+row_carried rs customer day n s c made zero is ids e = let P : List Id → Type 0 = λ l. InTurn (IsPicked rs customer day n) made is (map (λ x. (day, x)) l) in subst P (same_Some [] ids e) tt
+row_carried rs customer day n s c made (suc k) is ids e = found_at (find (has_free_pick is day n) (filter (is_held customer s c) rs)) refl e (row_carried rs customer day n s c made k)
+  where
+    found_at : (o : Option Range) → find (has_free_pick is day n) (filter (is_held customer s c) rs) ≡ o
+        → then_found o (λ r. option_map (λ xs. id_at r (pick_of is r) ∷ xs) (picks (λ x. made (day, x)) day n (filter (is_held customer s c) rs) (is ++ made (day, id_at r (pick_of is r)) ∷ []) k)) ≡ Some ids
+        → ((js : List Issuance) (xs : List Id) → picks (λ x. made (day, x)) day n (filter (is_held customer s c) rs) js k ≡ Some xs → InTurn (IsPicked rs customer day n) made js (map (λ x. (day, x)) xs))
+        → InTurn (IsPicked rs customer day n) made is (map (λ x. (day, x)) ids)
+    found_at None found e' next = absurd (none-some ids e')
+    found_at (Some r) found e' next = mapped (picks (λ x. made (day, x)) day n (filter (is_held customer s c) rs) (is ++ made (day, id_at r (pick_of is r)) ∷ []) k) refl e'
+      where
+        mapped : (u : Option (List Id)) → picks (λ x. made (day, x)) day n (filter (is_held customer s c) rs) (is ++ made (day, id_at r (pick_of is r)) ∷ []) k ≡ u
+            → option_map (λ xs. id_at r (pick_of is r) ∷ xs) u ≡ Some ids → InTurn (IsPicked rs customer day n) made is (map (λ x. (day, x)) ids)
+        mapped None rest is' = absurd (none-some ids is')
+        mapped (Some xs) rest is' =
+            let P : List Id → Type 0 = λ l. InTurn (IsPicked rs customer day n) made is (map (λ x. (day, x)) l) in
+            subst P (same_Some (id_at r (pick_of is r) ∷ xs) ids is') (picked_from rs customer day n s c is r found, next (is ++ made (day, id_at r (pick_of is r)) ∷ []) xs rest)
+
+row_at : (rs held : List Range) (customer day n : ℕ) (made : ℕ × Id → Issuance) (is : List Issuance) (row : Option (List Id))
+    → ((ids : List Id) → row ≡ Some ids → InTurn (IsPicked rs customer day n) made is (map (λ x. (day, x)) ids)) → InTurn (IsPicked rs customer day n) made is (carried_by (outcome_of_row day held row))
+row_at rs [] customer day n made is row turn = tt
+row_at rs (x ∷ xs) customer day n made is None turn = tt
+row_at rs (x ∷ xs) customer day n made is (Some ids) turn = turn ids refl
+
 -- an outcome that fits no Draw carries none
-pub none_carried : (b : Body) (o : Outcome) → ((d : ℕ) (x : Id) → fits b (Drawn d x) ≡ false) → IsTrue (fits b o) → carried_by o ≡ []
-none_carried b (Drawn d x) other fit = absurd (both_ways (fits b (Drawn d x)) (other d x) fit)
-none_carried b o other fit = refl
+none_carried : (b : Body) (o : Outcome) → ((d : ℕ) (x : Id) → fits b (Drawn d x) ≡ false) → ((d : ℕ) (ids : List Id) → fits b (DrawnMany d ids) ≡ false) → IsTrue (fits b o) → carried_by o ≡ []
+none_carried b (Drawn d x) other many fit = absurd (both_ways (fits b (Drawn d x)) (other d x) fit)
+none_carried b (DrawnMany d ids) other many fit = absurd (both_ways (fits b (DrawnMany d ids)) (many d ids) fit)
+none_carried b o other many fit = refl
 
 in_turn_none : (P : List Issuance → ℕ × Id → Type 0) (made : ℕ × Id → Issuance) (is : List Issuance) (cs : List (ℕ × Id)) → cs ≡ [] → InTurn P made is cs
 in_turn_none P made is cs e = let Q : List (ℕ × Id) → Type 0 = InTurn P made is in subst Q (sym e) tt
 
 -- what the answer of the rules carries was picked, one after another
-pub carried : (g : List Entry) (customer day n : ℕ) (b : Body) (made : ℕ × Id → Issuance) → InTurn (IsPicked (ranges_of g) customer day n) made (issues_of g) (carried_by (body_answer g customer b day n))
-carried g customer day n (Draw s c) made = carried_at (ranges_of g) customer day n s c (issues_of g) made (ranges_held g customer s c) _ refl
-carried g customer day n (Grant holder s c first last) made =
-    let b = Grant holder s c first last in in_turn_none _ made (issues_of g) _ (none_carried b _ (λ d x. refl) (answer_fits g customer b day n))
-carried g customer day n (Void x) made = in_turn_none _ made (issues_of g) _ (none_carried (Void x) _ (λ d y. refl) (answer_fits g customer (Void x) day n))
-carried g customer day n (Query x) made = in_turn_none _ made (issues_of g) _ (none_carried (Query x) _ (λ d y. refl) (answer_fits g customer (Query x) day n))
+carried : (g : List Entry) (customer day n : ℕ) (b : Body) (made : ℕ × Id → Issuance) → ((c : ℕ × Id) → (made c).id ≡ c.1) → ((c : ℕ × Id) → (made c).day ≡ c.0)
+    → InTurn (IsPicked (ranges_of g) customer day n) made (issues_of g) (carried_by (body_answer g customer b day n))
+carried g customer day n (Draw s c) made same on = carried_at (ranges_of g) customer day n s c (issues_of g) made (ranges_held g customer s c) _ refl
+carried g customer day n (Grant holder s c first last) made same on =
+    let b = Grant holder s c first last in in_turn_none _ made (issues_of g) _ (none_carried b _ (λ d x. refl) (λ d ids. refl) (answer_fits g customer b day n))
+carried g customer day n (Void x) made same on = in_turn_none _ made (issues_of g) _ (none_carried (Void x) _ (λ d y. refl) (λ d ids. refl) (answer_fits g customer (Void x) day n))
+carried g customer day n (Query x) made same on = in_turn_none _ made (issues_of g) _ (none_carried (Query x) _ (λ d y. refl) (λ d ids. refl) (answer_fits g customer (Query x) day n))
+carried g customer day n (DrawMany s c count) made same on =
+    row_at (ranges_of g) (ranges_held g customer s c) customer day n made (issues_of g) (draws_in_a_row g customer s c day n count)
+    (λ ids e. row_carried (ranges_of g) customer day n s c made count (issues_of g) ids
+    (sym (row_is (λ x. made (day, x)) customer s c day n (λ x. same (day, x)) (λ x. on (day, x)) count g (issues_of g) (alike_itself (issues_of g))) ∙ e))
 
 -- what holds of each issue that an outcome makes holds of all of them
 pub issued_at : (P : Issuance → Type 0) (customer number arrival : ℕ) (o : Outcome) → ((d : ℕ) (x : Id) → o ≡ Drawn d x → P (record { id = x; day = d; customer = customer; number = number; arrival = arrival }))
+    → ((d : ℕ) (ids : List Id) → o ≡ DrawnMany d ids → All (λ x. P (record { id = x; day = d; customer = customer; number = number; arrival = arrival })) ids)
     → All P (map (λ (c : ℕ × Id). record { id = c.1; day = c.0; customer = customer; number = number; arrival = arrival }) (carried_by o))
-issued_at P customer number arrival (Drawn d x) new = All-cons P _ [] (new d x refl) (All-nil P)
-issued_at P customer number arrival o new = All-nil P
+issued_at P customer number arrival (Drawn d x) new many = All-cons P _ [] (new d x refl) (All-nil P)
+issued_at P customer number arrival (DrawnMany d ids) new many = all_made ids (many d ids refl)
+  where
+    all_made : (xs : List Id) → All (λ x. P (record { id = x; day = d; customer = customer; number = number; arrival = arrival })) xs
+        → All P (map (λ (c : ℕ × Id). record { id = c.1; day = c.0; customer = customer; number = number; arrival = arrival }) (map (λ x. (d, x)) xs))
+    all_made [] holds = All-nil P
+    all_made (x ∷ xs) holds =
+        let Q : Id → Type 0 = λ x. P (record { id = x; day = d; customer = customer; number = number; arrival = arrival }) in
+        All-cons P _ _ (All-head Q x xs holds) (all_made xs (All-tail Q x xs holds))
+issued_at P customer number arrival o new many = All-nil P
 
 -- what a call carries was picked, one after another
 pub carried_call : (g : List Entry) (t : Terms) (e : Entry) → MayFollow g t e → InTurn (IsPicked (ranges_of g) e.request.customer e.day t.interval) (made_by e (1 + length g)) (issues_of g) (carried_by e.outcome)
 carried_call g t e may =
     let T : Outcome → Type 0 = λ o. InTurn (IsPicked (ranges_of g) e.request.customer e.day t.interval) (made_by e (1 + length g)) (issues_of g) (carried_by o) in
-    subst T (sym may.right) (carried g e.request.customer e.day t.interval e.request.body (made_by e (1 + length g)))
+    subst T (sym may.right) (carried g e.request.customer e.day t.interval e.request.body (made_by e (1 + length g)) (λ c. refl) (λ c. refl))
 
 -- what holds of the issues of a history, and is kept by each pick, holds behind one more call
 pub after_call : (Q : List Issuance → Type 0) (g : List Entry) (t : Terms) (e : Entry) → MayFollow g t e → Q (issues_of g)

@@ -8,6 +8,8 @@ pub mod Serials
 pub mod Fitting
 pub mod Legal
 pub mod Apart
+pub mod Picking
+pub mod Alike
 pub mod Carried
 pub mod Spaced
 pub mod Own
@@ -15,10 +17,14 @@ pub mod Free
 pub mod Marks
 pub mod Rows
 pub mod Taking
-pub mod Alike
+pub mod Fewer
+pub mod Twice
+pub mod Singles
+pub mod Larger
 pub mod Owning
 pub mod Numbers
 pub mod Granting
 pub mod Counting
 pub mod Determined
+pub mod Making
 pub mod Overlapping

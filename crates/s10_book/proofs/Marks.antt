@@ -493,15 +493,16 @@ pick_drawn h t e legal may r there day x is lies =
     pick_turned h t e legal may r there ∙ ap (λ (o : Outcome). marks r (pick_of (issues_of h) r) (carried_by o)) is
     ∙ ap (λ (b : Bool). cond b (serial_behind r x.serial) (pick_of (issues_of h) r)) lies
 
-left_at : (r : Range) (m : ℕ) (o : Outcome) → ((d : ℕ) (x : Id) → o ≡ Drawn d x → ¬ (IsTrue (lies_in r x))) → marks r m (carried_by o) ≡ m
-left_at r m (Drawn d x) other =
-    elim (cases_Bool (lies_in r x)) [
-      | inl in' ↦ absurd (other d x refl in')
-      | inr out ↦ rw out refl
+left_at : (r : Range) (m : ℕ) (cs : List (ℕ × Id)) → All (λ c. ¬ (IsTrue (lies_in r c.1))) cs → marks r m cs ≡ m
+left_at r m [] other = refl
+left_at r m (c ∷ cs) other =
+    let P : ℕ × Id → Type 0 = λ x. ¬ (IsTrue (lies_in r x.1)) in
+    elim (cases_Bool (lies_in r c.1)) [
+      | inl in' ↦ absurd (All-head P c cs other in')
+      | inr out ↦ rw out (left_at r m cs (All-tail P c cs other))
     ]
-left_at r m o other = refl
 
--- every other call leaves it
-pub pick_left : (h : List Entry) (t : Terms) (e : Entry) → IsLegal h t → MayFollow h t e → (r : Range) → Contains (ranges_of h) r → ((day : ℕ) (x : Id) → e.outcome ≡ Drawn day x → ¬ (IsTrue (lies_in r x)))
+-- a call that issues none of its identifiers leaves it
+pub pick_left : (h : List Entry) (t : Terms) (e : Entry) → IsLegal h t → MayFollow h t e → (r : Range) → Contains (ranges_of h) r → All (λ c. ¬ (IsTrue (lies_in r c.1))) (carried_by e.outcome)
     → pick_of (issues_of (h ++ e ∷ [])) r ≡ pick_of (issues_of h) r
-pick_left h t e legal may r there other = pick_turned h t e legal may r there ∙ left_at r (pick_of (issues_of h) r) e.outcome other
+pick_left h t e legal may r there other = pick_turned h t e legal may r there ∙ left_at r (pick_of (issues_of h) r) (carried_by e.outcome) other

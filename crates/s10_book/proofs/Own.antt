@@ -11,13 +11,13 @@ use Rattle.s10_core.specs.declared.id.Id.{Id}
 use Rattle.s10_wire.specs.declared.body.Body.{Body}
 use Rattle.s10_wire.specs.declared.body.Body.TheVariants.{Grant}
 use Rattle.s10_wire.specs.declared.outcome.Outcome.{Outcome}
-use Rattle.s10_wire.specs.declared.outcome.Outcome.TheVariants.{Granted, Drawn, NotThePost, BadGrant, Overlap}
+use Rattle.s10_wire.specs.declared.outcome.Outcome.TheVariants.{Granted, NotThePost, BadGrant, Overlap}
 use Rattle.s10_book.specs.declared.entry.Entry.{Entry}
 use Rattle.s10_book.specs.declared.range.Range.{Range}
 use Rattle.s10_book.specs.declared.issuance.Issuance.{Issuance}
 use Rattle.s10_book.specs.Settings.{Terms}
 use Rattle.s10_book.specs.History.{ranges_of, range_of_grant, lies_in, is_own}
-use Rattle.s10_book.specs.Issues.{issues_of, is_issued, serial_issued_earliest, pick_of, id_at, carried_by}
+use Rattle.s10_book.specs.Issues.{issues_of, is_issued, serial_issued_earliest, pick_of, id_at}
 use Rattle.s10_book.specs.Rules.{IsLegal, body_answer}
 use Rattle.s10_book.specs.Promises.{IsOwn}
 use Rattle.s10_book.proofs.Ranges.{chosen, find_cases}
@@ -27,7 +27,7 @@ use Rattle.s10_book.proofs.Earliest.{earliest_cons}
 use Rattle.s10_book.proofs.Legal.{legal_induction}
 use Rattle.s10_book.proofs.Apart.{within}
 use Rattle.s10_book.proofs.Spaced.{letters_itself}
-use Rattle.s10_book.proofs.Carried.{made_by, InTurn, IsPicked, carried, after_call}
+use Rattle.s10_book.proofs.Carried.{made_by, IsPicked, after_call}
 
 -- a serial of a range
 pub record IsSerialOf (r : Range) (s : ℕ) : Type 0 where
@@ -102,13 +102,6 @@ own_picked g t customer day n is c legal from =
     let P : Range → Type 0 = λ r. is_own customer c.1 r ≡ true in
     list_any_at (is_own customer c.1) (ranges_of g) from.there.0 from.range from.there.1
     (subst P (sym from.there.2) (and_from (eqb from.range.holder customer) (lies_in from.range c.1) (eq-eqb _ _ from.holder) (lies_picked g t customer day n is c legal from)))
-
--- what a Draw that is Done issues was picked
-pub drawn_from : (g : List Entry) (customer day n d : ℕ) (b : Body) (x : Id) → body_answer g customer b day n ≡ Drawn d x → IsPicked (ranges_of g) customer day n (issues_of g) (d, x)
-drawn_from g customer day n d b x is =
-    let made : ℕ × Id → Issuance = λ c. record { id = c.1; day = c.0; customer = customer; number = 0; arrival = 0 } in
-    let P : Outcome → Type 0 = λ o. InTurn (IsPicked (ranges_of g) customer day n) made (issues_of g) (carried_by o) in
-    (subst P is (carried g customer day n b made)).0
 
 -- what each legal history has: an issue is made by one of its calls, from a range of those before
 abbrev pub IsOwned : List Entry → Issuance → Type 0

@@ -12,6 +12,7 @@ use Rattle.s10_book.specs.Settings.{Terms}
 use Rattle.s10_book.specs.History.{ranges_of, lies_in}
 use Rattle.s10_book.specs.Issues.{issues_of, is_of, last_issuance_of, is_free_since, pick_of, id_at, serial_behind, serials_behind, size_of, pick_behind, issue_of, with_picks, candidate_after_of, last_issue_of}
 use Rattle.s10_book.specs.Rules.{IsLegal, has_free_pick}
+use Rattle.s10_book.proofs.Picking.{then_same, picks}
 use Rattle.s10_book.proofs.Apart.{Apart}
 use Rattle.s10_book.proofs.Own.{lies_at}
 use Rattle.s10_book.proofs.Free.{id_equal}
@@ -141,21 +142,6 @@ pub free_outside : (r : Range) (is : List Issuance) (y : Issuance) (day n : ℕ)
 free_outside r is y day n turns out =
     ap (λ s. is_free_since day n (option_map (λ (i : Issuance). i.day) (last_issuance_of (is ++ y ∷ []) (id_at r s)))) (pick_outside r is y turns out)
     ∙ ap (λ o. is_free_since day n (option_map (λ (i : Issuance). i.day) o)) (last_outside r is y (id_at r (pick_of is r)) out (lies_mark r is (pick_of is r) turns))
-
--- what follows the range that was found
-abbrev pub then_found : Option Range → (Range → Option (List Id)) → Option (List Id)
-then_found None next = None
-then_found (Some r) next = next r
-
-pub then_same : (o : Option Range) (f g : Range → Option (List Id)) → ((r : Range) → o ≡ Some r → f r ≡ g r) → then_found o f ≡ then_found o g
-then_same None f g same = refl
-then_same (Some r) f g same = same r refl
-
--- the picks of so many Draws in a row from the ranges, each over the issues with those before it
-abbrev pub picks : (Id → Issuance) → ℕ → ℕ → List Range → List Issuance → ℕ → Option (List Id)
-picks made day n rs is zero = Some []
-picks made day n rs is (suc k) =
-    then_found (find (has_free_pick is day n) rs) (λ r. option_map (λ xs. id_at r (pick_of is r) ∷ xs) (picks made day n rs (is ++ made (id_at r (pick_of is r)) ∷ []) k))
 
 -- the first range gives its pick where that is free
 pub picks_here : (made : Id → Issuance) (day n : ℕ) (r : Range) (rs : List Range) (is : List Issuance) (k : ℕ) → has_free_pick is day n r ≡ true

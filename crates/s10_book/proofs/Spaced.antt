@@ -1,6 +1,6 @@
 -- In a legal history the issues of one identifier are an interval apart.
 use Rattle.std.proofs.Common.{◌≡◌, ℕ, suc, ◌+◌, ◌-◌, ◌<◌, ◌≤◌, Bool, true, false, eqb, List, [], ◌∷◌, ◌++◌, Option, Some, None, refl, sym, ap, ◌∙◌, inl, inr, arith, subst, length, get_or}
-use Rattle.std.specs.Prelude.{filter, fold, All, AllPairs, IsTrue}
+use Rattle.std.specs.Prelude.{filter, fold, All, AllPairs}
 use Rattle.std.specs.List.{last_or}
 use Rattle.std.proofs.lemmas.Bool.{both_ways, cases_lt, eq-eqb, leb-true, and_from}
 use Rattle.std.proofs.lemmas.Option.{none-some, same_Some}
@@ -10,10 +10,6 @@ use Rattle.std.specs.Option.{option_map}
 use Rattle.s10_core.specs.declared.id.Id.{Id}
 use Rattle.s10_core.specs.Letters.{same_letters}
 use Rattle.s10_core.specs.Id.{same_id}
-use Rattle.s10_wire.specs.Kind.{fits}
-use Rattle.s10_wire.specs.declared.body.Body.{Body}
-use Rattle.s10_wire.specs.declared.outcome.Outcome.{Outcome}
-use Rattle.s10_wire.specs.declared.outcome.Outcome.TheVariants.{Drawn}
 use Rattle.s10_book.specs.declared.entry.Entry.{Entry}
 use Rattle.s10_book.specs.declared.issuance.Issuance.{Issuance}
 use Rattle.s10_book.specs.Settings.{Terms}
@@ -96,13 +92,6 @@ id_itself x = and_from _ _ (and_from _ _ (letters_itself x.service) (eq-eqb x.se
 pub id_same : (x y : Id) → x ≡ y → same_id x y ≡ true
 id_same x y e = let P : Id → Type 0 = λ z. same_id x z ≡ true in subst P e (id_itself x)
 
-pub drawn_parts : (d d' : ℕ) (x x' : Id) → Drawn d x ≡ Drawn d' x' → (d ≡ d') × (x ≡ x')
-drawn_parts d d' x x' e = let a : d ≡ d' = cc in let b : x ≡ x' = cc in (a, b)
-
--- no other request is answered so
-pub other_kind : (b : Body) (o : Outcome) (d : ℕ) (x : Id) → fits b (Drawn d x) ≡ false → IsTrue (fits b o) → o ≡ Drawn d x → ⊥
-other_kind b o d x no' yes' is = both_ways (fits b (Drawn d x)) no' (let P : Outcome → Type 0 = λ y. IsTrue (fits b y) in subst P is yes')
-
 -- what each legal history has
 pub record IsSound (is : List Issuance) (day n : ℕ) : Type 0 where
   pub days : AllPairs (λ i j. i.day ≤ j.day) is
@@ -110,7 +99,7 @@ pub record IsSound (is : List Issuance) (day n : ℕ) : Type 0 where
   pub spaced : AllPairs (λ i j. i.id ≡ j.id → i.day + n ≤ j.day) is
 
 -- one more issue of an identifier that is free
-sound_more : (is : List Issuance) (y : Issuance) (day n : ℕ) → y.day ≡ day → is_free is y.id day n ≡ true → IsSound is day n → IsSound (is ++ y ∷ []) day n
+pub sound_more : (is : List Issuance) (y : Issuance) (day n : ℕ) → y.day ≡ day → is_free is y.id day n ≡ true → IsSound is day n → IsSound (is ++ y ∷ []) day n
 sound_more is y day n same free sound =
     let since : All (λ i. is_of y.id i ≡ true → i.day + n ≤ day) is =
     elim (cases_lt 0 n) [
@@ -124,7 +113,7 @@ sound_more is y day n same free sound =
     }
 
 -- the same on a later day
-sound_later : (is : List Issuance) (before day n : ℕ) → before ≤ day → IsSound is before n → IsSound is day n
+pub sound_later : (is : List Issuance) (before day n : ℕ) → before ≤ day → IsSound is before n → IsSound is day n
 sound_later is before day n le sound = record { days = sound.days; upto = All-weaker (λ i. i.day ≤ before) (λ i. i.day ≤ day) (λ i h. omega arith) is sound.upto; spaced = sound.spaced }
 
 day_push : (a : ℕ) (g : List Entry) (e : Entry) → fold (λ d x. x.day) a (g ++ e ∷ []) ≡ e.day

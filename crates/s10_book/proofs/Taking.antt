@@ -25,7 +25,8 @@ use Rattle.s10_book.proofs.Spaced.{id_itself}
 use Rattle.s10_book.proofs.Drawing.{free_last}
 use Rattle.s10_book.proofs.Marks.{Turns, pick_turns, turns_inside, all_at_pick}
 use Rattle.s10_book.proofs.Alike.{alike_itself, row_is}
-use Rattle.s10_book.proofs.Rows.{IsBehind, behind, behind_within, behind_apart, behind_round, candidate_after_is, Ready, outside_other, ready_next, pick_outside, last_other, last_outside, picks, picks_here, picks_past}
+use Rattle.s10_book.proofs.Rows.{IsBehind, behind, behind_within, behind_apart, behind_round, candidate_after_is, Ready, outside_other, ready_next, pick_outside, last_other, last_outside, picks_here, picks_past}
+use Rattle.s10_book.proofs.Picking.{picks}
 
 -- a range from which nothing was taken
 pub record Untouched (s : Range) (old is : List Issuance) : Type 0 where
@@ -106,7 +107,7 @@ behind_one : (taken : List Id) (x : Id) (o : Option (List Id)) → option_map (�
 behind_one taken x None = refl
 behind_one taken x (Some xs) = ap Some (sym (append_assoc taken (x ∷ []) xs))
 
-last_here : (is : List Issuance) (y : Issuance) (x : Id) → y.id ≡ x → last_issuance_of (is ++ y ∷ []) x ≡ Some y
+pub last_here : (is : List Issuance) (y : Issuance) (x : Id) → y.id ≡ x → last_issuance_of (is ++ y ∷ []) x ≡ Some y
 last_here is y x e =
     let P : Id → Type 0 = λ z. last_issuance_of (is ++ y ∷ []) z ≡ Some y in
     subst P e (last_issuance_of-push is y y.id ∙ rw (id_itself y.id) refl)
@@ -321,7 +322,7 @@ walked_out h t customer s c day n count r k taken legal pos few spent none at =
     sym (row_of h customer s c day n count
     ∙ at_last (ranges_of h) (is_held customer s c) (drawn_on day) day n (issues_of h) count r k taken (given_legal h t day n legal pos) spent none few at)
 
-no_picks : (day n count : ℕ) (is : List Issuance) → 1 ≤ count → picks (drawn_on day) day n [] is count ≡ None
+pub no_picks : (day n count : ℕ) (is : List Issuance) → 1 ≤ count → picks (drawn_on day) day n [] is count ≡ None
 no_picks day n zero is some = absurd (omega (arith, some))
 no_picks day n (suc k) is some = refl
 

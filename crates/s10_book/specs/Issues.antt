@@ -7,7 +7,7 @@ use Rattle.s10_core.specs.Id.{same_id}
 use Rattle.s10_wire.specs.declared.body.Body.{Body}
 use Rattle.s10_wire.specs.declared.body.Body.TheVariants.{Void}
 use Rattle.s10_wire.specs.declared.outcome.Outcome.{Outcome}
-use Rattle.s10_wire.specs.declared.outcome.Outcome.TheVariants.{Drawn, Voided}
+use Rattle.s10_wire.specs.declared.outcome.Outcome.TheVariants.{Drawn, DrawnMany, Voided}
 use Rattle.s10_book.specs.declared.entry.Entry.{Entry}
 use Rattle.s10_book.specs.declared.range.Range.{Range}
 use Rattle.s10_book.specs.declared.issue.Issue.{Issue}
@@ -18,6 +18,7 @@ use Rattle.s10_book.specs.History.{lies_in}
 -- the identifiers that an outcome issues, with their day
 abbrev pub carried_by : Outcome → List (ℕ × Id)
 carried_by (Drawn day id) = (day, id) ∷ []
+carried_by (DrawnMany day ids) = map (λ id. (day, id)) ids
 carried_by outcome = []
 
 -- the issues of one call

@@ -24,6 +24,10 @@ IsApart h = AllPairs (λ r s. (x : Id) → IsTrue (lies_in r x) → ¬ (IsTrue (
 abbrev pub request_on_day : Entry → Request × ℕ
 request_on_day e = (e.request, e.day)
 
+-- the call but for its number
+abbrev pub without_number : Entry → Entry
+without_number e = record { request = record { customer = e.request.customer; number = 0; body = e.request.body }; day = e.day; outcome = e.outcome }
+
 -- an identifier of the range is of that service and country, and its serial is one of first to last
 pub record IsInCommon (r : Range) (service country : ℕ × ℕ) (first last : ℕ) (x : Id) : Type 0 where
   pub in_range : IsTrue (lies_in r x)

@@ -1,22 +1,22 @@
 -- The rules: the outcome of each request, and the histories that keep them.
-use Rattle.std.specs.Prelude.{◌≡◌, ℕ, zero, suc, ◌+◌, ◌==◌, nat_lt, ◌<◌, ◌≤◌, Bool, not, ◌||◌, if◌then◌else◌, List, [], ◌∷◌, ◌++◌, length, Option, Some, None, find, slice_get, take, All, AllPairs, IsTrue}
+use Rattle.std.specs.Prelude.{◌≡◌, ℕ, zero, suc, ◌+◌, ◌==◌, nat_lt, ◌<◌, ◌≤◌, Bool, not, ◌||◌, if◌then◌else◌, List, [], ◌∷◌, ◌++◌, length, Option, Some, None, find, slice_get, take, All, AllPairs, IsTrue, count_by}
 use Rattle.std.specs.List.{list_any}
 use Rattle.std.specs.Option.{option_map}
 use Rattle.s10_core.specs.declared.id.Id.{Id}
 use Rattle.s10_wire.specs.declared.body.Body.{Body}
-use Rattle.s10_wire.specs.declared.body.Body.TheVariants.{Grant, Draw, Void, Query}
+use Rattle.s10_wire.specs.declared.body.Body.TheVariants.{Grant, Draw, Void, Query, DrawMany}
 use Rattle.s10_wire.specs.declared.request.Request.{Request}
 use Rattle.s10_wire.specs.declared.status.Status.{Status}
 use Rattle.s10_wire.specs.declared.status.Status.TheVariants.{Unknown, Never, Issued, Voided as StatusVoided}
 use Rattle.s10_wire.specs.declared.outcome.Outcome.{Outcome}
-use Rattle.s10_wire.specs.declared.outcome.Outcome.TheVariants.{Granted, Drawn, Voided, Told, NotThePost, BadGrant, Overlap, NoRange, NoneFree, NotYours, NotIssued, AlreadyVoid}
+use Rattle.s10_wire.specs.declared.outcome.Outcome.TheVariants.{Granted, Drawn, DrawnMany, Voided, Told, NotThePost, BadGrant, Overlap, NoRange, NoneFree, NotYours, NotIssued, AlreadyVoid}
 use Rattle.s10_book.specs.declared.entry.Entry.{Entry}
 use Rattle.s10_book.specs.declared.range.Range.{Range}
 use Rattle.s10_book.specs.declared.issue.Issue.{Issue}
 use Rattle.s10_book.specs.declared.issuance.Issuance.{Issuance}
 use Rattle.s10_book.specs.Settings.{Terms}
 use Rattle.s10_book.specs.History.{has_key, entry_with_key, day_of, ranges_of, lies_in, is_own, overlaps, ranges_held}
-use Rattle.s10_book.specs.Issues.{issues_of, last_issue_of, pick_of, id_at, is_free}
+use Rattle.s10_book.specs.Issues.{issues_of, last_issue_of, pick_of, id_at, serials, is_free}
 
 -- the outcome of a Grant: the post alone makes ranges, and no two of them have a serial in common
 abbrev pub grant_answer : List Entry → ℕ → ℕ → ℕ × ℕ → ℕ × ℕ → ℕ → ℕ → Outcome
@@ -58,6 +58,26 @@ draws_in_a_row h customer service country day interval (suc count) =
     then_drawn (draw_answer h customer service country day interval)
     (λ x. draws_in_a_row (h ++ draw_done customer service country day x ∷ []) customer service country day interval count)
 
+-- what comes of so many Draws in a row from the ranges: all their identifiers, or none
+abbrev pub outcome_of_row : ℕ → List Range → Option (List Id) → Outcome
+outcome_of_row day [] row = NoRange
+outcome_of_row day (r ∷ rs) None = NoneFree
+outcome_of_row day (r ∷ rs) (Some ids) = DrawnMany day ids
+
+-- the outcome of a DrawMany: that of so many single Draws in a row
+abbrev pub draw_many_answer : List Entry → ℕ → ℕ × ℕ → ℕ × ℕ → ℕ → ℕ → ℕ → Outcome
+draw_many_answer h customer service country count day interval =
+    outcome_of_row day (ranges_held h customer service country) (draws_in_a_row h customer service country day interval count)
+
+-- how many serials of the ranges are free on the day
+abbrev pub free_serials : List Issuance → ℕ → ℕ → List Range → ℕ
+free_serials is day interval [] = 0
+free_serials is day interval (r ∷ rs) = count_by (λ serial. is_free is (id_at r serial) day interval) (serials r) + free_serials is day interval rs
+
+-- fewer serials than that of the customer's ranges of that service and country are free on the day
+abbrev pub FewFree : List Entry → ℕ → ℕ × ℕ → ℕ × ℕ → ℕ → ℕ → ℕ → Type 0
+FewFree h customer service country count day interval = free_serials (issues_of h) day interval (ranges_held h customer service country) < count
+
 -- no serial of the customer's ranges of that service and country is free on the day
 abbrev pub NothingFree : List Entry → ℕ → ℕ × ℕ → ℕ × ℕ → ℕ → ℕ → Type 0
 NothingFree h customer service country day interval =
@@ -94,6 +114,7 @@ body_answer h customer (Grant holder service country first last) day interval = 
 body_answer h customer (Draw service country) day interval = draw_answer h customer service country day interval
 body_answer h customer (Void x) day interval = void_answer h customer x
 body_answer h customer (Query x) day interval = query_answer h customer x
+body_answer h customer (DrawMany service country count) day interval = draw_many_answer h customer service country count day interval
 
 -- the answer of the rules: the outcome of a request on a day, over the calls kept before it
 abbrev pub answer_of : List Entry → Request → ℕ → ℕ → Outcome

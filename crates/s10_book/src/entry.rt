@@ -2,6 +2,7 @@ ghost use Rattle.std.specs.Prelude.{◌≡◌, length, slice_get};
 ghost use Rattle.s10_book.specs.Issues.{carried_by, issues_at};
 
 use crate::issuance::Issuance;
+use s10_core::Id;
 use s10_wire::{Outcome, Request};
 
 /// A kept call: what was asked, the day it was executed on, and what came of it.
@@ -22,6 +23,7 @@ impl Entry {
     {
         match self.outcome {
             Outcome::Drawn { .. } => 1,
+            Outcome::DrawnMany { ids, .. } => ids.len(),
             _ => 0,
         }
     }
@@ -31,14 +33,28 @@ impl Entry {
     pub fn issue(&self, arrival: u32, place: usize) -> Option<Issuance>
         ensures { result ≡ slice_get (issues_at arrival self.now) place }
     {
-        match self.outcome {
-            Outcome::Drawn { day, id } if place == 0 => Some(Issuance {
+        match self.carried(place) {
+            None => None,
+            Some((day, id)) => Some(Issuance {
                 id,
                 day,
                 customer: self.request.customer,
                 number: self.request.number,
                 arrival,
             }),
+        }
+    }
+
+    // The day and the identifier of the issue at a place.
+    fn carried(&self, place: usize) -> Option<(u32, Id)>
+        ensures { result ≡ slice_get (carried_by self.now.outcome) place }
+    {
+        match self.outcome {
+            Outcome::Drawn { day, id } if place == 0 => Some((day, id)),
+            Outcome::DrawnMany { day, ids } => match ids.get(place) {
+                None => None,
+                Some(id) => Some((day, id)),
+            },
             _ => None,
         }
     }

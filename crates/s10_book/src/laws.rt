@@ -1,6 +1,6 @@
 //! What every legal history keeps.
 
-ghost use Rattle.std.specs.Prelude.{◌≡◌, ℕ, ◌+◌, ◌≤◌, List, [], ◌∷◌, ◌++◌, length, map, fold, Some, Contains, IsTrue};
+ghost use Rattle.std.specs.Prelude.{◌≡◌, ◌≢◌, ℕ, ◌+◌, ◌≤◌, List, [], ◌∷◌, ◌++◌, length, map, take, slice_get, fold, Some, All, AllPairs, Contains, IsTrue};
 ghost use Rattle.s10_book.specs.declared.entry.Entry.{Entry};
 ghost use Rattle.s10_book.specs.Settings.{Terms};
 ghost use Rattle.s10_core.specs.declared.id.Id.{Id};
@@ -8,8 +8,8 @@ ghost use Rattle.s10_book.specs.declared.range.Range.{Range};
 ghost use Rattle.s10_book.specs.declared.candidate.Candidate.{Candidate};
 ghost use Rattle.s10_book.specs.History.{day_of, lies_in, ranges_of, range_of_grant, overlaps};
 ghost use Rattle.s10_book.specs.Issues.{issues_of, carried_by, is_free, pick_of, serial_behind, serials_behind, pick_behind, id_at, last_issue_of, candidate_after_of};
-ghost use Rattle.s10_book.specs.Rules.{IsLegal, MayFollow, has_free_pick, draw_answer, NothingFree};
-ghost use Rattle.s10_book.specs.Promises.{IsSpaced, IsOwn, IsApart, IsInCommon, request_on_day};
+ghost use Rattle.s10_book.specs.Rules.{IsLegal, MayFollow, has_free_pick, draw_answer, draw_done, draw_many_answer, NothingFree, FewFree};
+ghost use Rattle.s10_book.specs.Promises.{IsSpaced, IsOwn, IsApart, IsInCommon, request_on_day, without_number};
 
 use s10_wire::Outcome;
 
@@ -40,8 +40,34 @@ pub fn free_picks()
         → draw_answer h customer service country day t.interval ≡ Outcome.NoneFree → NothingFree h customer service country day t.interval }
 {}
 
+/// In a legal history NoneFree is answered to a DrawMany only where fewer serials than it asks for are free in the
+/// sender's ranges of that service and country.
+pub fn few_free()
+    ensures { (h : List Entry) (t : Terms) → IsLegal h t → 1 ≤ t.interval → (customer : ℕ) (service country : ℕ × ℕ) (count day : ℕ) → day_of h ≤ day
+        → draw_many_answer h customer service country count day t.interval ≡ Outcome.NoneFree → FewFree h customer service country count day t.interval }
+{}
+
+/// A larger draw gives what so many single Draws in a row on its day would give. Where a customer's Draws stand in a legal
+/// history one behind the other, of one day and all of them Done, a DrawMany of so many in their place would have had their
+/// identifiers. And each identifier of a DrawMany is what a single Draw would give behind the Draws of those before it.
+pub fn larger_draws_are_draws_in_a_row()
+    ensures drawn { (h es : List Entry) (t : Terms) (customer : ℕ) (service country : ℕ × ℕ) (day : ℕ) (ids : List Id) → IsLegal (h ++ es) t → 1 ≤ length es
+        → map without_number es ≡ map (draw_done customer service country day) ids
+        → draw_many_answer h customer service country (length es) day t.interval ≡ Outcome.DrawnMany day ids }
+    ensures each { (h : List Entry) (customer : ℕ) (service country : ℕ × ℕ) (count day interval : ℕ) (ids : List Id)
+        → draw_many_answer h customer service country count day interval ≡ Outcome.DrawnMany day ids → (k : ℕ) (x : Id) → slice_get ids k ≡ Some x
+        → draw_answer (h ++ map (draw_done customer service country day) (take k ids)) customer service country day interval ≡ Outcome.Drawn day x }
+{}
+
+/// No identifier stands twice in the reply to a DrawMany.
+pub fn never_twice()
+    ensures { (h : List Entry) (t : Terms) (e : Entry) → IsLegal h t → 1 ≤ t.interval → MayFollow h t e → (day : ℕ) (ids : List Id)
+        → e.outcome ≡ Outcome.DrawnMany day ids → AllPairs (λ x y. x ≢ y) ids }
+{}
+
 /// The pick of a range in a legal history: its first serial as the range is made, after a Done Draw from it the next
-/// serial, or its first one behind its last. Every other call leaves it.
+/// serial, or its first one behind its last. After a Done DrawMany it is what the single Draws of it, one by one, would
+/// leave. A call that issues no identifier of the range leaves it.
 pub fn picks_in_turn()
     ensures made { (h : List Entry) (t : Terms) (e : Entry) → IsLegal h t → MayFollow h t e → (r : Range)
         → range_of_grant (length (ranges_of h) + 1) e.request.body e.outcome ≡ Some r → pick_of (issues_of (h ++ e ∷ [])) r ≡ r.first }
@@ -50,8 +76,10 @@ pub fn picks_in_turn()
     ensures drawn { (h : List Entry) (t : Terms) (e : Entry) → IsLegal h t → MayFollow h t e → (r : Range) → Contains (ranges_of h) r
         → (day : ℕ) (x : Id) → e.outcome ≡ Outcome.Drawn day x → IsTrue (lies_in r x)
         → pick_of (issues_of (h ++ e ∷ [])) r ≡ serial_behind r x.serial }
+    ensures drawn_many { (h : List Entry) (e : Entry) (customer : ℕ) (service country : ℕ × ℕ) (day : ℕ) (ids : List Id) → e.outcome ≡ Outcome.DrawnMany day ids
+        → (r : Range) → pick_of (issues_of (h ++ e ∷ [])) r ≡ pick_of (issues_of (h ++ map (draw_done customer service country day) ids)) r }
     ensures left { (h : List Entry) (t : Terms) (e : Entry) → IsLegal h t → MayFollow h t e → (r : Range) → Contains (ranges_of h) r
-        → ((day : ℕ) (x : Id) → e.outcome ≡ Outcome.Drawn day x → ¬ (IsTrue (lies_in r x)))
+        → All (λ c. ¬ (IsTrue (lies_in r c.1))) (carried_by e.outcome)
         → pick_of (issues_of (h ++ e ∷ [])) r ≡ pick_of (issues_of h) r }
 {}
 

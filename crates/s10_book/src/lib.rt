@@ -28,7 +28,8 @@ pub use in_a_row::draws_in_a_row;
 pub use issuance::Issuance;
 pub use issue::Issue;
 pub use laws::{
-    candidates_in_turn, free_picks, legal_histories, overlaps_are_common_serials, picks_in_turn,
+    candidates_in_turn, few_free, free_picks, larger_draws_are_draws_in_a_row, legal_histories,
+    never_twice, overlaps_are_common_serials, picks_in_turn,
 };
 pub use plain_book::PlainBook;
 pub use range::Range;

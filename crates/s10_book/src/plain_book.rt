@@ -80,7 +80,8 @@ impl PlainBook {
 // Adds what was made, for which there is room.
 fn push_made<T: Copy>(list: &mut Vec<T>, made: Option<T>)
     requires { vec_len list.old < vec_capacity list.old }
-    ensures { list.new.items ≡ list.old.items ++ option_to_list made }
+    ensures items { list.new.items ≡ list.old.items ++ option_to_list made }
+    ensures room { vec_capacity list.old ≤ vec_capacity list.new }
 {
     if let Some(item) = made {
         let _ = list.push(item);
@@ -93,9 +94,7 @@ fn push_issues(list: &mut Vec<Issuance>, arrival: u32, entry: &Entry)
     ensures { list.new.items ≡ list.old.items ++ issues_at arrival entry.now }
 {
     for place in 0..entry.issued() {
-        if let Some(issuance) = entry.issue(arrival, place) {
-            let _ = list.push(issuance);
-        }
+        push_made(list, entry.issue(arrival, place));
     }
 }
 

@@ -4,7 +4,7 @@ ghost use Rattle.std.specs.Prelude.{ℕ, ◌≡◌, ◌≤◌, ◌+◌, length, 
 ghost use Rattle.std.specs.List.{list_any};
 ghost use Rattle.std.specs.Option.{option_map};
 ghost use Rattle.s10_book.specs.History.{day_of, ranges_of, is_own};
-ghost use Rattle.s10_book.specs.Rules.{grant_answer, draw_answer, void_answer, status_of, status_of_issue, query_answer, answer_of, NothingFree};
+ghost use Rattle.s10_book.specs.Rules.{grant_answer, draw_answer, draw_many_answer, void_answer, status_of, status_of_issue, query_answer, answer_of, NothingFree, FewFree};
 ghost use Rattle.s10_wire.specs.Kind.{fits};
 ghost use Rattle.s10_book.specs.Issues.{last_issue_of, is_free_since};
 ghost use Rattle.s10_book.specs.BookFault.{Counts};
@@ -12,9 +12,10 @@ ghost use Rattle.s10_book.specs.Book.{Keeps};
 
 use crate::book::Book;
 use crate::book_fault::BookFault;
+use crate::in_a_row::draws_in_a_row;
 use crate::issue::Issue;
 use s10_core::{Country, Id, Serial, Service};
-use s10_wire::{Body, Outcome, Request, Status};
+use s10_wire::{Body, Count, Outcome, Request, Status};
 
 pub(crate) fn is_free(issue: &Option<Issue>, day: u32, interval: u32) -> bool
     ensures { result ≡ is_free_since day interval (option_map (λ i. i.day) issue.now) }
@@ -56,6 +57,31 @@ fn decide_draw<B: Book>(
         Ok(Outcome::NoRange)
     } else {
         Ok(Outcome::NoneFree)
+    }
+}
+
+// The outcome of a DrawMany: the identifiers of so many single Draws in a row, or why there are none.
+fn decide_draw_many<B: Book>(
+    book: &mut B,
+    customer: u32,
+    service: Service,
+    country: Country,
+    count: Count,
+    day: u32,
+) -> Result<Outcome, BookFault>
+    ensures faults { Counts result (B.faults book.old) (B.faults book.new) }
+    ensures keeps { Keeps B.history B.terms B.honest book.old book.new }
+    ensures answer { B.honest book.new → IfOk result (λ o. o ≡ draw_many_answer (B.history book.old) customer service country count day (B.terms book.old).interval) }
+    ensures fits { IfOk result (λ o. IsTrue (fits (Body.DrawMany service country count) o)) }
+{
+    let held = book.next_range(customer, service, country, 0)?;
+    if held.is_none() {
+        return Ok(Outcome::NoRange);
+    }
+    let drawn = draws_in_a_row(book, customer, service, country, count, day)?;
+    match drawn {
+        None => Ok(Outcome::NoneFree),
+        Some(ids) => Ok(Outcome::DrawnMany { day, ids }),
     }
 }
 
@@ -198,6 +224,7 @@ pub fn decide<B: Book>(book: &mut B, request: &Request, day: u32) -> Result<Outc
     ensures answer { B.honest book.new → IfOk result (λ o. o ≡ answer_of (B.history book.old) request.now day (B.terms book.old).interval) }
     ensures fits { IfOk result (λ o. IsTrue (fits request.now.body o)) }
     ensures none_free { B.honest book.new → (service country : ℕ × ℕ) → request.now.body ≡ Body.Draw service country → result ≡ Ok Outcome.NoneFree → NothingFree (B.history book.old) request.now.customer service country day (B.terms book.old).interval }
+    ensures few_free { B.honest book.new → (service country : ℕ × ℕ) (count : ℕ) → request.now.body ≡ Body.DrawMany service country count → result ≡ Ok Outcome.NoneFree → FewFree (B.history book.old) request.now.customer service country count day (B.terms book.old).interval }
 {
     match request.body {
         Body::Grant {
@@ -217,6 +244,15 @@ pub fn decide<B: Book>(book: &mut B, request: &Request, day: u32) -> Result<Outc
         ),
         Body::Draw { service, country } => {
             decide_draw(book, request.customer, service, country, day)
+        }
+        Body::DrawMany {
+            service,
+            country,
+            count,
+        } => {
+            // At least 1, so an identifier is free once in a reply.
+            let _interval = book.settings().interval();
+            decide_draw_many(book, request.customer, service, country, count, day)
         }
         Body::Void { id } => decide_void(book, request.customer, &id),
         Body::Query { id } => decide_query(book, request.customer, &id),

@@ -1,5 +1,5 @@
-use crate::books::Answered::{Drawn, Full, Other};
-use crate::books::Asked::{Draw, DrawOfRb, Grant, GrantOfRb, Query, QueryOfUs, Void};
+use crate::books::Answered::{Drawn, DrawnMany, Full, Other};
+use crate::books::Asked::{Draw, DrawMany, DrawOfRb, Grant, GrantOfRb, Query, QueryOfUs, Void};
 use crate::books::{OPENING, book_after};
 use s10_wire::{Outcome, Status};
 use std::test::Fail;
@@ -179,6 +179,74 @@ fn grants_and_refusals_are_answered_as_worked_by_hand(rt: HostRuntime) -> Result
                 20001,
                 Other(Outcome::Told(Status::Voided { day: 20000 })),
             ),
+        ],
+    )?;
+    Ok(())
+}
+
+#[test]
+fn larger_draws_are_answered_as_worked_by_hand(rt: HostRuntime) -> Result<(), Fail> {
+    book_after(
+        &rt,
+        "all that are asked for or none, and nothing is issued for none",
+        100,
+        &[
+            OPENING,
+            (7, 1, DrawMany(2), 20000, DrawnMany(20000, (0, 2), (0, 0))),
+            (7, 1, DrawMany(2), 20001, DrawnMany(20000, (0, 2), (0, 0))),
+            (7, 1, DrawMany(1), 20001, Other(Outcome::NumberReused)),
+            (7, 1, Draw, 20001, Other(Outcome::NumberReused)),
+            (7, 2, DrawMany(2), 20000, Other(Outcome::NoneFree)),
+            (7, 3, Draw, 20000, Drawn(20000, 2)),
+            (7, 4, DrawMany(3), 20030, DrawnMany(20030, (0, 3), (0, 0))),
+            (7, 5, DrawMany(1), 20030, Other(Outcome::NoneFree)),
+            (8, 1, DrawMany(1), 20030, Other(Outcome::NoRange)),
+            (8, 2, DrawMany(16), 20030, Other(Outcome::NoRange)),
+            (
+                7,
+                6,
+                Query(1),
+                20030,
+                Other(Outcome::Told(Status::Issued { day: 20030 })),
+            ),
+            (7, 7, Void(1), 20030, Other(Outcome::Voided)),
+            (7, 8, DrawMany(1), 20059, Other(Outcome::NoneFree)),
+            (7, 9, DrawMany(1), 20060, DrawnMany(20060, (0, 1), (0, 0))),
+        ],
+    )?;
+    book_after(
+        &rt,
+        "one range after the other, and no more than they have",
+        100,
+        &[
+            OPENING,
+            (
+                0,
+                2,
+                Grant(7, 4, 5),
+                20000,
+                Other(Outcome::Granted { range: 2 }),
+            ),
+            (7, 9, DrawMany(6), 20000, Other(Outcome::NoneFree)),
+            (7, 1, DrawMany(5), 20000, DrawnMany(20000, (0, 3), (4, 6))),
+            (7, 2, Draw, 20000, Other(Outcome::NoneFree)),
+        ],
+    )?;
+    book_after(
+        &rt,
+        "a sheet of sixteen, and one that goes round",
+        100,
+        &[
+            (
+                0,
+                1,
+                Grant(7, 0, 15),
+                20000,
+                Other(Outcome::Granted { range: 1 }),
+            ),
+            (7, 1, Draw, 20000, Drawn(20000, 0)),
+            (7, 2, DrawMany(16), 20029, Other(Outcome::NoneFree)),
+            (7, 3, DrawMany(16), 20030, DrawnMany(20030, (1, 16), (0, 1))),
         ],
     )?;
     Ok(())

@@ -2,7 +2,7 @@
 
 use s10_book::{Book, BookFault, Entry, PlainBook, Settings, decide};
 use s10_core::{Country, Id, Serial, Service};
-use s10_wire::{Body, Outcome, Request};
+use s10_wire::{Body, Count, Ids, Outcome, Request};
 use std::alloc::Global;
 use std::process::Abort;
 use std::test::Fail;
@@ -15,16 +15,23 @@ pub enum Asked {
     GrantOfRb(u32, u32, u32),
     Draw,
     DrawOfRb,
+    /// For so many identifiers.
+    DrawMany(u8),
     Void(u32),
     Query(u32),
     QueryOfUs(u32),
 }
+
+/// Serials from the first up to the second, which is not one of them.
+pub type Run = (u32, u32);
 
 /// What is answered.
 #[derive(Clone, Copy)]
 pub enum Answered {
     /// The day, and the serial of RA GB.
     Drawn(u32, u32),
+    /// The day, and the serials of RA GB in the order of the reply: one run, and then another.
+    DrawnMany(u32, Run, Run),
     Other(Outcome),
     Full,
 }
@@ -118,12 +125,21 @@ fn draw(service: Service) -> Result<Body, &'static str> {
     })
 }
 
+fn draw_many(count: u8) -> Result<Body, &'static str> {
+    Ok(Body::DrawMany {
+        service: ra()?,
+        country: gb()?,
+        count: Count::new(count).ok_or("count")?,
+    })
+}
+
 fn body(asked: Asked) -> Result<Body, &'static str> {
     match asked {
         Asked::Grant(holder, first, last) => grant(ra()?, holder, first, last),
         Asked::GrantOfRb(holder, first, last) => grant(rb()?, holder, first, last),
         Asked::Draw => draw(ra()?),
         Asked::DrawOfRb => draw(rb()?),
+        Asked::DrawMany(count) => draw_many(count),
         Asked::Void(value) => Ok(Body::Void { id: id(value)? }),
         Asked::Query(value) => Ok(Body::Query { id: id(value)? }),
         Asked::QueryOfUs(value) => Ok(Body::Query {
@@ -167,6 +183,35 @@ pub(crate) fn answer<B: Book>(
     Ok(outcome)
 }
 
+/// The place behind a run of serials of RA GB that stands at this place among the identifiers, or
+/// `None` where it does not stand there.
+fn behind_run(ids: Ids, place: usize, run: Run) -> Result<Option<usize>, &'static str> {
+    let mut at = place;
+    for value in run.0..run.1 {
+        if ids.get(at) != Some(id(value)?) {
+            return Ok(None);
+        }
+        at = at.saturating_add(1);
+    }
+    Ok(Some(at))
+}
+
+/// Whether these are the identifiers of RA GB with the serials of one run, and then of another.
+fn are_runs(ids: Ids, first: Run, second: Run) -> Result<bool, &'static str> {
+    let Some(middle) = behind_run(ids, 0, first)? else {
+        return Ok(false);
+    };
+    Ok(behind_run(ids, middle, second)? == Some(ids.len()))
+}
+
+/// Whether the outcome is a sheet of RA GB on that day, with the serials of one run, and then of another.
+fn is_sheet(outcome: &Outcome, on: u32, first: Run, second: Run) -> Result<bool, &'static str> {
+    match outcome {
+        Outcome::DrawnMany { day, ids } => Ok(*day == on && are_runs(*ids, first, second)?),
+        _ => Ok(false),
+    }
+}
+
 /// Whether the answer is as the row says.
 pub(crate) fn is_as_answered(
     answer: Result<Outcome, BookFault>,
@@ -179,6 +224,9 @@ pub(crate) fn is_as_answered(
                     day,
                     id: id(value)?,
                 }
+        }
+        (Ok(outcome), Answered::DrawnMany(on, first, second)) => {
+            is_sheet(&outcome, on, first, second)?
         }
         (Ok(outcome), Answered::Other(other)) => outcome == other,
         (Err(fault), Answered::Full) => fault == BookFault::Full,

@@ -1,8 +1,11 @@
 //! The two reports.
 
+use crate::books::Answered::{DrawnMany, Other};
+use crate::books::Asked::{DrawMany, Void};
 use crate::books::{NINE_CALLS, OPENING, book_after};
 use s10_book::{Book, BookFault, PlainBook, TripBook};
 use s10_reports::{ReportFault, write_issues, write_ranges};
+use s10_wire::Outcome;
 use std::alloc::Global;
 use std::io;
 use std::io::Write;
@@ -30,6 +33,15 @@ const ISSUES: &[u8] = b"arrival day customer number identifier state\n\
 6 20000 7 5 RA000000028GB issued\n\
 8 20030 7 7 RA000000005GB issued\n\
 9 20030 7 8 RA000000014GB issued\n";
+
+const SHEETS_RANGES: &[u8] = b"range customer service country first last used voided free\n\
+1 7 RA GB 00000000 00000002 3 1 1\n";
+
+const SHEETS_ISSUES: &[u8] = b"arrival day customer number identifier state\n\
+2 20000 7 1 RA000000005GB reissued\n\
+2 20000 7 1 RA000000014GB issued\n\
+3 20030 7 2 RA000000028GB issued\n\
+3 20030 7 2 RA000000005GB voided\n";
 
 /// A book of one range of three serials, each drawn, two of them drawn again on the thirtieth day.
 fn book_of_nine_calls<R: Abort + AllocGlobal>(rt: &R) -> Result<PlainBook, Fail> {
@@ -61,6 +73,20 @@ fn a_voided_identifier_is_counted_and_named(rt: HostRuntime) -> Result<(), Fail>
     let mut book = book_after(&rt, "six calls", 100, &NINE_CALLS[..6])?;
     assert!(rt; reports_ranges(rt.alloc(), &mut book, 20000, SIX_CALLS_RANGES));
     assert!(rt; reports_issues(rt.alloc(), &mut book, SIX_CALLS_ISSUES));
+    Ok(())
+}
+
+#[test]
+fn a_sheet_has_a_line_for_each_identifier(rt: HostRuntime) -> Result<(), Fail> {
+    let steps = [
+        OPENING,
+        (7, 1, DrawMany(2), 20000, DrawnMany(20000, (0, 2), (0, 0))),
+        (7, 2, DrawMany(2), 20030, DrawnMany(20030, (2, 3), (0, 1))),
+        (7, 3, Void(0), 20030, Other(Outcome::Voided)),
+    ];
+    let mut book = book_after(&rt, "two sheets", 100, &steps)?;
+    assert!(rt; reports_ranges(rt.alloc(), &mut book, 20030, SHEETS_RANGES));
+    assert!(rt; reports_issues(rt.alloc(), &mut book, SHEETS_ISSUES));
     Ok(())
 }
 

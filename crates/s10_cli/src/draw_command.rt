@@ -1,8 +1,9 @@
 //! The subcommand `draw`.
 use crate::builders::{named, with};
-use crate::found::{number_of, text_of, tries_of};
+use crate::found::{count_of, number_of, text_of, tries_of};
 use crate::options::{
-    country_option, customer_option, request_option, service_option, to_option, tries_option,
+    count_option, country_option, customer_option, request_option, service_option, to_option,
+    tries_option,
 };
 use clap::{ArgMatches, Command};
 use s10_jobs::{BodyWords, Job, Question};
@@ -13,7 +14,7 @@ pub fn draw_command<'a>(alloc: Global) -> Result<Command<'a>, AllocError> {
     let command = named(
         alloc,
         "draw",
-        "Ask a server for the next identifier of a service and a country",
+        "Ask a server for the next identifier of a service and a country, or for a sheet of them",
         DRAW_EXAMPLES,
     );
     let command = with(command, to_option(alloc))?;
@@ -21,6 +22,7 @@ pub fn draw_command<'a>(alloc: Global) -> Result<Command<'a>, AllocError> {
     let command = with(command, request_option(alloc))?;
     let command = with(command, service_option(alloc))?;
     let command = with(command, country_option(alloc))?;
+    let command = with(command, count_option(alloc))?;
     with(command, tries_option(alloc))
 }
 
@@ -28,19 +30,29 @@ const DRAW_EXAMPLES: &str = "\
 Prints the reply: the request and `done day D ID`, with exit status 0, or why there is no identifier,
 with status 1: `no-range` where the customer has no range of that service and country, `none-free`
 where no serial number of them is free on that day, `number-reused` where the customer has asked for
-something else under this number. `refused peer`, `refused service` or `refused country`, also with
-status 1, say that nothing was asked. With status 3, `gave-up` says that no reply came, and
-`link FAULT` that the socket failed; the same words again ask again, and draw once at most.
+something else under this number. With --count the reply has so many identifiers one behind the other,
+and `none-free` says that fewer serial numbers are free: none is issued then. `refused peer`,
+`refused service` or `refused country`, also with status 1, say that nothing was asked. With status 3,
+`gave-up` says that no reply came, and `link FAULT` that the socket failed; the same words again ask
+again, and draw once at most.
 
 Example:
   s10 draw --to 127.0.0.1:4711 --customer 7 --number 1 --service RA --country GB
-  reply draw customer 7 number 1 RA GB done day 20000 RA000000005GB";
+  reply draw customer 7 number 1 RA GB done day 20000 RA000000005GB
+  s10 draw --to 127.0.0.1:4711 --customer 7 --number 2 --service RA --country GB --count 2
+  reply draw-many customer 7 number 2 RA GB 2 done day 20000 RA000000014GB RA000000028GB";
 
 /// The request that the words ask.
 pub fn draw_job<'a>(found: &ArgMatches<'a>) -> Option<Job<'a>> {
-    let body = BodyWords::Draw {
-        service: text_of(found, "service")?,
-        country: text_of(found, "country")?,
+    let service = text_of(found, "service")?;
+    let country = text_of(found, "country")?;
+    let body = match count_of(found) {
+        None => BodyWords::Draw { service, country },
+        Some(count) => BodyWords::DrawMany {
+            service,
+            country,
+            count,
+        },
     };
     Some(Job::Ask(Question {
         to: text_of(found, "to")?,

@@ -2,6 +2,7 @@
 use clap::ArgMatches;
 use s10_book::Settings;
 use s10_jobs::Tries;
+use s10_wire::Count;
 
 /// The text of an option.
 pub fn text_of<'a>(found: &ArgMatches<'a>, name: &str) -> Option<&'a str> {
@@ -19,6 +20,12 @@ pub fn settings_of(found: &ArgMatches<'_>) -> Option<Settings> {
     let interval = number_of(found, "interval")?;
     let limit = number_of(found, "limit")?;
     Settings::new(interval, limit)
+}
+
+/// How many identifiers a sheet has, where one is asked for.
+pub fn count_of(found: &ArgMatches<'_>) -> Option<Count> {
+    let count = number_of(found, "count")?;
+    Count::new(u8::try_from(count).ok()?)
 }
 
 /// How often a question is asked at most.

@@ -93,6 +93,17 @@ pub fn id_option<'a>(alloc: Global) -> Arg<'a> {
     )
 }
 
+/// How many identifiers are drawn in one request.
+pub fn count_option<'a>(alloc: Global) -> Arg<'a> {
+    option(
+        alloc,
+        "count",
+        "N",
+        "Draw a sheet of so many identifiers, 1 to 16, all of them or none; without it one",
+    )
+    .value_parser(value_parser!(u32).range(1..=16))
+}
+
 /// How often a call is tried.
 pub fn tries_option<'a>(alloc: Global) -> Arg<'a> {
     option(

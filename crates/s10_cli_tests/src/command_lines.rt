@@ -219,6 +219,11 @@ fn show_names_the_parts_of_a_request(rt: HostRuntime) {
                 "request draw customer 7 number 1 RA GB\n",
             ),
             (
+                &["s10", "show", "5331020500000007000000015241474202"],
+                0,
+                "request draw-many customer 7 number 1 RA GB 2\n",
+            ),
+            (
                 &[
                     "s10",
                     "show",
@@ -271,6 +276,16 @@ fn show_names_the_outcome_of_a_reply(rt: HostRuntime) {
                 ],
                 0,
                 "reply draw customer 7 number 1 RA GB done day 20000 RA000000005GB\n",
+            ),
+            (
+                &[
+                    "s10",
+                    "show",
+                    "53310285000000070000000152414742020000004e2052413030303030303030354742\
+                    52413030303030303031344742",
+                ],
+                0,
+                "reply draw-many customer 7 number 1 RA GB 2 done day 20000 RA000000005GB RA000000014GB\n",
             ),
             (
                 &["s10", "show", "5331018200000007000000045241474205"],

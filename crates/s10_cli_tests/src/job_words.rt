@@ -126,7 +126,26 @@ fn what_needs_files_or_sockets_is_left_to_the_program(rt: HostRuntime) -> Result
 
 #[test]
 fn options_that_may_be_left_out_are_read(rt: HostRuntime) -> Result<(), Fail> {
-    let cases: [(&[&str], &str); 4] = [
+    let cases: [(&[&str], &str); 5] = [
+        (
+            &[
+                "s10",
+                "draw",
+                "--count",
+                "16",
+                "--to",
+                "127.0.0.1:4711",
+                "--customer",
+                "7",
+                "--number",
+                "1",
+                "--service",
+                "RA",
+                "--country",
+                "GB",
+            ],
+            r#"Some(Ask(Question { to: "127.0.0.1:4711", customer: 7, number: 1, body: DrawMany { service: "RA", country: "GB", count: Count { value: 16 } }, tries: Tries { count: 5 } }))"#,
+        ),
         (
             &[
                 "s10",
@@ -306,10 +325,13 @@ fn numbers_out_of_their_ranges_are_no_command_line(rt: HostRuntime) -> Result<()
 }
 
 #[test]
-fn tries_and_days_out_of_their_ranges_are_no_command_line(rt: HostRuntime) -> Result<(), Fail> {
-    let cases: [(&[&str], &[&str]); 7] = [
+fn tries_counts_and_days_out_of_their_ranges_are_no_command_line(
+    rt: HostRuntime,
+) -> Result<(), Fail> {
+    let cases: [(&[&str], &[&str]); 8] = [
         (LINES[2], &["--tries=0", "--tries=101"]),
         (LINES[3], &["--tries=0", "--tries=101"]),
+        (LINES[3], &["--count=0", "--count=17"]),
         (LINES[4], &["--tries=0", "--tries=101"]),
         (LINES[5], &["--tries=0", "--tries=101"]),
         (LINES[1], &["--day=4294967296"]),

@@ -1,19 +1,20 @@
 -- The identifiers that outcomes and replies carry, and their issues.
-use Rattle.std.proofs.Common.{◌≡◌, ◌∙◌, ℕ, zero, suc, ◌+◌, Bool, List, [], ◌∷◌, ◌++◌, map, Option, Some, None, refl, sym, ap, inl, inr, arith, subst}
+use Rattle.std.proofs.Common.{◌≡◌, ◌∙◌, ℕ, zero, suc, ◌+◌, ◌*◌, Bool, List, [], ◌∷◌, ◌++◌, map, take, drop, Option, Some, None, refl, sym, ap, inl, inr, arith, subst}
 use Rattle.std.specs.Prelude.{find, All, IsTrue, Contains, slice_get}
 use Rattle.std.specs.List.{AllZip}
 use Rattle.std.proofs.lemmas.Bool.{false≢true}
 use Rattle.std.proofs.lemmas.Option.{none-some, same_Some, slice_get_within, get_or_from_slice_get}
-use Rattle.std.proofs.lemmas.List.{length-map, get_or-map}
-use Rattle.std.proofs.lemmas.List.Elements.{All-nil, All-cons, Contains-append_left, Contains-append_right}
+use Rattle.std.proofs.lemmas.List.{length-map, get_or-map, drop-drop}
+use Rattle.std.proofs.lemmas.List.Elements.{All-nil, All-cons, All-head, All-tail, Contains-append_left, Contains-append_right}
 use Rattle.s10_core.specs.declared.id.Id.{Id}
-use Rattle.s10_core.specs.Id.{spelling_of, Spells}
+use Rattle.s10_core.specs.Id.{IsId, spelling_of, Spells}
 use Rattle.s10_wire.specs.Kind.{kind_of, fits}
 use Rattle.s10_wire.specs.declared.body.Body.{Body}
-use Rattle.s10_wire.specs.declared.body.Body.TheVariants.{Draw}
+use Rattle.s10_wire.specs.declared.body.Body.TheVariants.{Draw, DrawMany}
 use Rattle.s10_wire.specs.declared.request.Request.{Request}
 use Rattle.s10_wire.specs.declared.outcome.Outcome.{Outcome}
-use Rattle.s10_wire.specs.declared.outcome.Outcome.TheVariants.{Drawn}
+use Rattle.s10_wire.specs.declared.outcome.Outcome.TheVariants.{Drawn, DrawnMany}
+use Rattle.s10_wire.specs.Ids.{spellings_of}
 use Rattle.s10_wire.specs.Datagrams.{datagram, outcome_bytes, IsOutcome, Replies}
 use Rattle.s10_wire.proofs.Replied.{one_reply}
 use Rattle.s10_book.specs.declared.entry.Entry.{Entry}
@@ -86,6 +87,17 @@ has_issue h q day x call =
     let P : Request → Type 0 = λ r. Contains (issues_of h) (record { id = x; day = day; customer = r.customer; number = r.number; arrival = issue.0 }) in
     (issue.0, subst P call.own issue.1)
 
+-- the text at a place among texts one behind the other
+spelled_among : (day : ℕ) (ids : List Id) (place : ℕ) (c : ℕ × Id) → slice_get (map (λ x. (day, x)) ids) place ≡ Some c → All IsId ids → Spells (take 13 (drop (13 * place) (spellings_of ids))) c.1
+spelled_among day [] place c there ok = absurd (none-some c there)
+spelled_among day (x ∷ xs) zero c there ok =
+    let P : ℕ × Id → Type 0 = λ d. Spells (spelling_of x) d.1 in
+    subst P (same_Some (day, x) c there) (record { in_range = All-head IsId x xs ok; spelled = refl })
+spelled_among day (x ∷ xs) (suc k) c there ok =
+    let next : 13 * suc k ≡ 13 + 13 * k = omega arith in
+    let P : List ℕ → Type 0 = λ l. Spells (take 13 l) c.1 in
+    subst P (sym (ap (λ (n : ℕ). drop n (spellings_of (x ∷ xs))) next ∙ sym (drop-drop (13 * k) 13 (spellings_of (x ∷ xs))))) (spelled_among day xs k c there (All-tail IsId x xs ok))
+
 -- where the text of what a reply carries stands in its bytes
 text_of : (customer number : ℕ) (body : Body) (o : Outcome) (place : ℕ) (c : ℕ × Id) → IsTrue (fits body o) → IsOutcome o → slice_get (carried_by o) place ≡ Some c
     → Spells (text_at (datagram 0x80 (record { customer = customer; number = number; body = body }) ++ outcome_bytes o) (kind_of body) place) c.1
@@ -93,7 +105,12 @@ text_of customer number (Draw s t) (Drawn day x) zero c fit in' there =
     let P : ℕ × Id → Type 0 = λ d. Spells (spelling_of x) d.1 in
     subst P (same_Some (day, x) c there) (record { in_range = in'.1; spelled = refl })
 text_of customer number (Draw s t) (Drawn day x) (suc place) c fit in' there = absurd (none-some c there)
+text_of customer number (DrawMany s t count) (DrawnMany day ids) place c fit in' there =
+    let b : List ℕ = datagram 0x80 (record { customer = customer; number = number; body = DrawMany s t count }) ++ outcome_bytes (DrawnMany day ids) in
+    let P : List ℕ → Type 0 = λ l. Spells (take 13 l) c.1 in
+    subst P (drop-drop (13 * place) 22 b) (spelled_among day ids place c there in'.1.1)
 text_of customer number body (Drawn day x) place c fit in' there = absurd (false≢true fit)
+text_of customer number body (DrawnMany day ids) place c fit in' there = absurd (false≢true fit)
 text_of customer number body o place c fit in' there = absurd (none-some c there)
 
 spelled : (b : List ℕ) (q : Request) (o : Outcome) (place : ℕ) (c : ℕ × Id) → Replies b q o → slice_get (carried_by o) place ≡ Some c → Spells (text_at b (kind_of q.body) place) c.1

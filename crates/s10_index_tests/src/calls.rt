@@ -1,7 +1,7 @@
 //! Requests of RA GB.
 
 use s10_core::{Country, Id, Serial, Service};
-use s10_wire::{Body, Request};
+use s10_wire::{Body, Count, Request};
 use std::process::Abort;
 
 fn service(rt: &impl Abort) -> Service {
@@ -47,6 +47,17 @@ pub(crate) fn draw(rt: &impl Abort) -> Body {
     Body::Draw {
         service: service(rt),
         country: country(rt),
+    }
+}
+
+pub(crate) fn draw_many(rt: &impl Abort, count: u8) -> Body {
+    Body::DrawMany {
+        service: service(rt),
+        country: country(rt),
+        count: match Count::new(count) {
+            Some(count) => count,
+            None => panic!(rt),
+        },
     }
 }
 

@@ -3,7 +3,7 @@
 ghost use Rattle.std.specs.Prelude.{◌≤◌, ◌<◌};
 
 use crate::books::{answer, entry_is_alike, new_books, report_alike};
-use crate::calls::{draw, grant, query, request, void};
+use crate::calls::{draw, draw_many, grant, query, request, void};
 use s10_book::Book;
 use s10_wire::{Outcome, Request};
 use std::process::Abort;
@@ -72,6 +72,13 @@ fn reused_call(rt: &impl Abort, round: u32) -> Request
     request(void.customer, void.number, draw(rt))
 }
 
+// A sheet of two for customers 1 to 4 in turn.
+fn sheet_call(rt: &impl Abort, round: u32) -> Request
+    requires { round ≤ 1000 }
+{
+    request(1 + (round + 3) % 4, 10 * round + 8, draw_many(rt, 2))
+}
+
 fn call(rt: &impl Abort, round: u32, turn: u32) -> Request
     requires { round ≤ 1000 }
 {
@@ -85,6 +92,7 @@ fn call(rt: &impl Abort, round: u32, turn: u32) -> Request
         6 => bad_call(rt, round),
         7 => post_call(rt, round),
         8 => draw_call(rt, round, 3),
+        9 => sheet_call(rt, round),
         _ => reused_call(rt, round),
     }
 }
@@ -101,7 +109,7 @@ fn day(round: u32, turn: u32) -> u32
 }
 
 fn kind(outcome: &Outcome) -> usize
-    ensures { result < 13 }
+    ensures { result < 14 }
 {
     match outcome {
         Outcome::Granted { .. } => 0,
@@ -117,6 +125,7 @@ fn kind(outcome: &Outcome) -> usize
         Outcome::NotIssued => 10,
         Outcome::AlreadyVoid => 11,
         Outcome::NumberReused => 12,
+        Outcome::DrawnMany { .. } => 13,
     }
 }
 
@@ -140,17 +149,17 @@ fn common_answer<R: Abort, A: Book, B: Book>(
     }
 }
 
-// Whether both books answer the ten calls of the round alike; the kinds of their answers are noted.
+// Whether both books answer the eleven calls of the round alike; the kinds of their answers are noted.
 fn round_is_alike<R: Abort, A: Book, B: Book>(
     rt: &R,
     one: &mut A,
     other: &mut B,
     round: u32,
-    seen: &mut [bool; 13],
+    seen: &mut [bool; 14],
 ) -> bool
     requires { round ≤ 1000 }
 {
-    for turn in 0..10u32 {
+    for turn in 0..11u32 {
         match common_answer(rt, one, other, round, turn) {
             None => return false,
             Some(outcome) => seen[kind(&outcome)] = true,
@@ -164,8 +173,8 @@ fn rounds_alike<R: Abort, A: Book, B: Book>(
     rt: &R,
     one: &mut A,
     other: &mut B,
-) -> (u32, [bool; 13]) {
-    let mut seen = [false; 13];
+) -> (u32, [bool; 14]) {
+    let mut seen = [false; 14];
     for round in 0..ROUNDS {
         if !round_is_alike(rt, one, other, round, &mut seen) {
             return (round, seen);
@@ -176,7 +185,7 @@ fn rounds_alike<R: Abort, A: Book, B: Book>(
 
 // Whether both books have kept the same calls.
 fn entries_are_alike<A: Book, B: Book>(one: &mut A, other: &mut B) -> bool {
-    for at in 0..=10 * ROUNDS {
+    for at in 0..=11 * ROUNDS {
         if !entry_is_alike(one, other, at) {
             return false;
         }
@@ -189,7 +198,7 @@ fn mixed_calls_are_answered_alike(rt: HostRuntime) {
     let (mut plain, mut indexed) = new_books(&rt);
     assert_eq!(rt;
         rounds_alike(&rt, &mut plain, &mut indexed),
-        (ROUNDS, [true; 13])
+        (ROUNDS, [true; 14])
     );
     assert!(rt; entries_are_alike(&mut plain, &mut indexed));
     assert!(rt; report_alike(&rt, rt.alloc(), &mut plain, &mut indexed, 20_100));

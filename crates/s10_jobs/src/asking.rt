@@ -65,9 +65,11 @@ fn status_of(outcome: &Outcome) -> Status
     ensures { result ≡ outcome_status outcome.now }
 {
     match outcome {
-        Outcome::Granted { .. } | Outcome::Drawn { .. } | Outcome::Voided | Outcome::Told(_) => {
-            Status::Done
-        }
+        Outcome::Granted { .. }
+        | Outcome::Drawn { .. }
+        | Outcome::DrawnMany { .. }
+        | Outcome::Voided
+        | Outcome::Told(_) => Status::Done,
         _ => Status::Refused,
     }
 }

@@ -8,7 +8,7 @@ ghost use Rattle.s10_jobs.specs.Questions.{IsPairRefusal, IsIdRefusal};
 use crate::parts::{read_country, read_service};
 use crate::refusal::Refusal;
 use s10_core::{Country, Id, Serial, Service};
-use s10_wire::Body;
+use s10_wire::{Body, Count};
 
 /// What is asked, its texts as they were given.
 #[derive(Clone, Copy, Debug, PartialEq, Eq)]
@@ -23,6 +23,11 @@ pub enum BodyWords<'a> {
     Draw {
         service: &'a str,
         country: &'a str,
+    },
+    DrawMany {
+        service: &'a str,
+        country: &'a str,
+        count: Count,
     },
     Void {
         id: &'a str,
@@ -62,6 +67,18 @@ impl BodyWords<'_> {
             BodyWords::Draw { service, country } => {
                 let (service, country) = read_pair(service, country)?;
                 Ok(Body::Draw { service, country })
+            }
+            BodyWords::DrawMany {
+                service,
+                country,
+                count,
+            } => {
+                let (service, country) = read_pair(service, country)?;
+                Ok(Body::DrawMany {
+                    service,
+                    country,
+                    count,
+                })
             }
             BodyWords::Void { id } => Ok(Body::Void { id: read_id(id)? }),
             BodyWords::Query { id } => Ok(Body::Query { id: read_id(id)? }),

@@ -101,7 +101,7 @@ fn small_inputs_are_read_as_lines(rt: HostRuntime) -> Result<(), Fail> {
             "dropped short\ndropped short\n",
         ),
         (
-            b"1 533001020000000700000001\n1 533102020000000700000001\n1 533101050000000700000001\n",
+            b"1 533001020000000700000001\n1 533103020000000700000001\n1 533101050000000700000001\n",
             Ok(3),
             "dropped magic\ndropped version\ndropped kind\n",
         ),

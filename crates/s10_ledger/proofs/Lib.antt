@@ -6,4 +6,5 @@ pub mod NewLedger
 pub mod KeyLemmas
 pub mod WholeLemmas
 pub mod RefusalLemmas
+pub mod Earlier
 pub mod IssueLemmas

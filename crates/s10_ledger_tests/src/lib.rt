@@ -20,6 +20,10 @@ mod readings;
 #[cfg(test)]
 mod rows;
 #[cfg(test)]
+mod sheet_tables;
+#[cfg(test)]
+mod sheets;
+#[cfg(test)]
 mod tables;
 #[cfg(test)]
 mod verdicts;

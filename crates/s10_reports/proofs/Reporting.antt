@@ -4,7 +4,7 @@ use Rattle.std.specs.Prelude.{find, slice_get, ◌==◌, Result, Ok, Err, IsErrA
 use Rattle.std.specs.Io.KnownBytes.{Appends}
 use Rattle.std.proofs.lemmas.Bool.{cases_order, eqb-true, eqb-false}
 use Rattle.std.proofs.Math.Seq.{take-append-add}
-use Rattle.std.proofs.lemmas.Option.{none-some, slice_get_within, get_or_from_slice_get}
+use Rattle.std.proofs.lemmas.Option.{none-some, same_Some, slice_get_within, get_or_from_slice_get}
 use Rattle.std.proofs.lemmas.List.{append-nil, take_all, take_more, take-append-drop, take-append-le, length-take-le, map-append}
 use Rattle.std.proofs.lemmas.Grind.{flat_map-append, common_steps}
 use Rattle.s10_wire.proofs.Writing.{Appends-then}
@@ -155,6 +155,18 @@ call_lines h k o e is some =
     ∙ ap (λ (l : List (List ℕ)). l ++ map f (issues_at (k + 1) e)) (sym (front_lines h k f)) in
     take_header issues_header all (issued_by h (k + 1)) ∙ ap (λ (l : List (List ℕ)). issues_header ∷ l) lines
     ∙ ap (λ (l : List (List ℕ)). l ++ map f (issues_at (k + 1) e)) (sym (take_header issues_header all (issued_by h k)))
+
+next_line : (f : Issuance → List ℕ) (is : List Issuance) (k : ℕ) (i : Issuance) → slice_get is k ≡ Some i → take (suc k) (map f is) ≡ take k (map f is) ++ f i ∷ []
+next_line f [] k i found = absurd (none-some i found)
+next_line f (x ∷ is) zero i found = ap (λ (y : Issuance). f y ∷ []) (same_Some x i found)
+next_line f (x ∷ is) (suc k) i found = ap (λ (l : List (List ℕ)). f x ∷ l) (next_line f is k i found)
+
+-- the line of the next issue of a call
+pub issue_next : (h : List Entry) (is : List Issuance) (k : ℕ) (i : Issuance) → slice_get is k ≡ Some i
+    → take (k + 1) (issue_lines h is) ≡ take k (issue_lines h is) ++ issue_line i (last_issue_of h i.id) ∷ []
+issue_next h is k i found =
+    let on : k + 1 ≡ suc k = omega arith in
+    ap (λ (m : ℕ). take m (issue_lines h is)) on ∙ next_line (λ x. issue_line x (last_issue_of h x.id)) is k i found
 
 -- the lines of the calls so far, and those of the next call
 pub call_written : (u v w : Option (List ℕ)) (front part all : List (List ℕ)) → all ≡ front ++ part → Appends u v (joined front) → Appends v w (joined part) → Appends u w (joined all)

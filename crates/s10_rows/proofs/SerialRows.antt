@@ -5,10 +5,10 @@ use Rattle.std.specs.Option.{option_map, unwrap_or}
 use Rattle.std.proofs.lemmas.Bool.{and_parts, and_from, leb-true, le-leb}
 use Rattle.std.proofs.lemmas.Bool.Decides.{same_from_decides, Decides-int_eq}
 use Rattle.std.proofs.lemmas.Option.{none-some}
-use Rattle.std.proofs.lemmas.List.Elements.{All-nil, All-head, All-tail, All-append, All-filter, filter_passes}
+use Rattle.std.proofs.lemmas.List.Elements.{All-nil, All-head, All-tail, All-append, All-filter, All-weaker, filter_passes}
 use Rattle.s10_core.specs.declared.id.Id.{Id}
 use Rattle.s10_core.specs.Id.{IsId}
-use Rattle.s10_wire.specs.declared.outcome.Outcome.TheVariants.{Drawn}
+use Rattle.s10_wire.specs.declared.outcome.Outcome.TheVariants.{Drawn, DrawnMany}
 use Rattle.s10_wire.specs.Datagrams.{IsOutcome}
 use Rattle.s10_book.specs.declared.entry.Entry.{Entry}
 use Rattle.s10_book.specs.declared.issue.Issue.{Issue}
@@ -30,6 +30,10 @@ pub issues_at_fit : (arrival : ℕ) (e : Entry) → IsCall e → All IsIssuance 
 issues_at_fit arrival e call =
     issued_at IsIssuance e.request.customer e.request.number arrival e.outcome
     (λ d x is. let out : IsOutcome (Drawn d x) = subst IsOutcome is call.outcome in record { id = out.1; day = out.0; customer = call.request.0; number = call.request.1 })
+    (λ d ids is.
+    let out : IsOutcome (DrawnMany d ids) = subst IsOutcome is call.outcome in
+    let made : Id → Issuance = λ x. record { id = x; day = d; customer = e.request.customer; number = e.request.number; arrival = arrival } in
+    All-weaker IsId (λ x. IsIssuance (made x)) (λ x right. record { id = right; day = out.0; customer = call.request.0; number = call.request.1 }) ids out.1.1)
 
 issues_fit : (arrival : ℕ) (es : List Entry) → All IsCall es → All IsIssuance (issues_from arrival es)
 issues_fit arrival [] calls = All-nil IsIssuance

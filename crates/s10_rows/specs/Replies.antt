@@ -1,14 +1,14 @@
 -- What the bytes of a reply say, by their offsets. Where they are the datagram of a reply, these are its request and its outcome.
-use Rattle.std.specs.Prelude.{ℕ, ◌+◌, ◌==◌, if◌then◌else◌, List, ◌++◌, take, drop}
+use Rattle.std.specs.Prelude.{ℕ, zero, suc, ◌+◌, ◌/◌, ◌==◌, if◌then◌else◌, List, [], ◌∷◌, ◌++◌, length, take, drop}
 use Rattle.s10_core.specs.declared.id.Id.{Id}
 use Rattle.s10_core.specs.Serial.{number_of}
 use Rattle.s10_wire.specs.declared.body.Body.{Body}
-use Rattle.s10_wire.specs.declared.body.Body.TheVariants.{Grant, Draw, Void, Query}
+use Rattle.s10_wire.specs.declared.body.Body.TheVariants.{Grant, Draw, Void, Query, DrawMany}
 use Rattle.s10_wire.specs.declared.request.Request.{Request}
 use Rattle.s10_wire.specs.declared.status.Status.{Status}
 use Rattle.s10_wire.specs.declared.status.Status.TheVariants as statuses
 use Rattle.s10_wire.specs.declared.outcome.Outcome.{Outcome}
-use Rattle.s10_wire.specs.declared.outcome.Outcome.TheVariants.{Granted, Drawn, Voided, Told, NotThePost, BadGrant, Overlap, NoRange, NoneFree, NotYours, NotIssued, AlreadyVoid, NumberReused}
+use Rattle.s10_wire.specs.declared.outcome.Outcome.TheVariants.{Granted, Drawn, DrawnMany, Voided, Told, NotThePost, BadGrant, Overlap, NoRange, NoneFree, NotYours, NotIssued, AlreadyVoid, NumberReused}
 use Rattle.s10_wire.specs.declared.kind.Kind.{Kind}
 use Rattle.s10_wire.specs.declared.kind.Kind.TheVariants as kinds
 use Rattle.s10_wire.specs.Kind.{kind_of, request_length}
@@ -21,6 +21,11 @@ pair_in b at = (byte b at, byte b (at + 1))
 abbrev pub id_in : List ℕ → ℕ → Id
 id_in b at = record { service = pair_in b at; serial = number_of (take 8 (drop (at + 2) b)); country = pair_in b (at + 11) }
 
+-- so many identifiers, one behind the other
+abbrev pub ids_in : ℕ → List ℕ → List Id
+ids_in zero b = []
+ids_in (suc count) b = id_in b 0 ∷ ids_in count (drop 13 b)
+
 -- the body, by the kind byte of the reply
 unfoldable pub body_in : List ℕ → Body
 body_in b =
@@ -28,6 +33,7 @@ body_in b =
     if code == 0x81 then Grant (number b 12) (pair_in b 16) (pair_in b 18) (number b 20) (number b 24)
     else if code == 0x82 then Draw (pair_in b 12) (pair_in b 14)
     else if code == 0x83 then Void (id_in b 12)
+    else if code == 0x85 then DrawMany (pair_in b 12) (pair_in b 14) (byte b 16)
     else Query (id_in b 12)
 
 abbrev pub request_in : List ℕ → Request
@@ -41,6 +47,7 @@ status_in code day =
 abbrev pub done_in : Kind → List ℕ → Outcome
 done_in kinds.Grant rest = Granted (number rest 1)
 done_in kinds.Draw rest = Drawn (number rest 1) (id_in rest 5)
+done_in kinds.DrawMany rest = DrawnMany (number rest 1) (ids_in (length rest / 13) (drop 5 rest))
 done_in kinds.Void rest = Voided
 done_in kinds.Query rest = Told (status_in (byte rest 1) (number rest 2))
 

@@ -11,7 +11,7 @@ ghost use Rattle.s10_rows.specs.Selected.{IsCall};
 use crate::call_row::CallRow;
 use crate::open_fault::OpenFault;
 use s10_book::{Book, BookFault, Entry, decide};
-use s10_wire::Outcome;
+use s10_wire::same_outcome;
 
 // Whether the row is call number `arrival`, with the key of the call.
 fn has_columns(row: &CallRow, arrival: u32, call: &Entry) -> bool
@@ -20,12 +20,6 @@ fn has_columns(row: &CallRow, arrival: u32, call: &Entry) -> bool
     row.arrival() == i64::from(arrival)
         && row.customer() == i64::from(call.request.customer)
         && row.number() == i64::from(call.request.number)
-}
-
-fn is_same(outcome: &Outcome, other: &Outcome) -> bool
-    ensures { IsTrue result ↔ (outcome.now ≡ other.now) }
-{
-    *outcome == *other
 }
 
 // Whether no call of the book has the key of the call.
@@ -64,7 +58,7 @@ fn right_call<B: Book>(book: &mut B, row: &CallRow) -> Result<Option<Entry>, Boo
         return Ok(None);
     }
     let outcome = decide(book, &call.request, call.day)?;
-    if is_same(&outcome, &call.outcome) {
+    if same_outcome(&outcome, &call.outcome) {
         Ok(Some(call))
     } else {
         Ok(None)

@@ -10,13 +10,14 @@ use Rattle.s10_core.specs.Serial.{number_of}
 use Rattle.s10_core.proofs.Decimals.{number_of-digits_of}
 use Rattle.s10_wire.proofs.Identifiers.{capital_passes, spelling_passes}
 use Rattle.s10_wire.specs.declared.body.Body.{Body}
-use Rattle.s10_wire.specs.declared.body.Body.TheVariants.{Grant, Draw, Void, Query}
+use Rattle.s10_wire.specs.declared.body.Body.TheVariants.{Grant, Draw, Void, Query, DrawMany}
 use Rattle.s10_wire.specs.declared.request.Request.{Request}
 use Rattle.s10_wire.specs.declared.wire_fault.WireFault.{WireFault}
 use Rattle.s10_wire.specs.declared.kind.Kind.{Kind}
 use Rattle.s10_wire.specs.Datagrams.{u32_bytes, fields, datagram, IsBody, IsRequest, Asks}
+use Rattle.s10_wire.specs.Ids.{IsCount}
 use Rattle.s10_wire.specs.Kind.{kind_of, code_of, version_of, request_length}
-use Rattle.s10_wire.specs.WireFault.{byte, number, request_fields, request_refusals, first_refusal}
+use Rattle.s10_wire.specs.WireFault.{byte, number, is_count, request_fields, request_refusals, first_refusal}
 
 -- what was read of bytes that are no longer is what they ask
 pub is_asked : (b : List ℕ) (k : Kind) (r : Result Request WireFault)
@@ -44,7 +45,8 @@ body_in code b =
     if code == 1 then Grant (number b 12) (pair_in b 16) (pair_in b 18) (number b 20) (number b 24)
     else if code == 2 then Draw (pair_in b 12) (pair_in b 14)
     else if code == 3 then Void (id_in b 12)
-    else Query (id_in b 12)
+    else if code == 4 then Query (id_in b 12)
+    else DrawMany (pair_in b 12) (pair_in b 14) (byte b 16)
 
 serial_fits : (n : ℕ) → n < 10 ^ 8 → n < 2 ^ 32
 serial_fits n lt = omega arith
@@ -57,9 +59,13 @@ body_again mark customer number (Grant holder service country first last) rest o
 body_again mark customer number (Draw service country) rest ok = refl
 body_again mark customer number (Void id) rest ok = rw (number_of-digits_of id.serial ok.serial) refl
 body_again mark customer number (Query id) rest ok = rw (number_of-digits_of id.serial ok.serial) refl
+body_again mark customer number (DrawMany service country count) rest ok = refl
 
 serial_passes : (n : ℕ) → n < 10 ^ 8 → nat_lt n 100000000 ≡ true
 serial_passes n ok = grind (arith, common_steps)
+
+count_passes : (n : ℕ) → IsCount n → is_count n ≡ true
+count_passes n ok = grind (arith, common_steps)
 
 pub right_fields : (mark customer number : ℕ) (body : Body) (rest : List ℕ) → IsBody body
     → first_refusal (request_fields (kind_of body) (0x53 ∷ 0x31 ∷ version_of (kind_of body) ∷ (code_of (kind_of body) + mark) ∷ (u32_bytes customer ++ u32_bytes number ++ fields body ++ rest))) ≡ None
@@ -69,12 +75,15 @@ right_fields mark customer number (Draw service country) rest ok =
     rw (capital_passes service.0 ok.0.0, capital_passes service.1 ok.0.1, capital_passes country.0 ok.1.0, capital_passes country.1 ok.1.1) refl
 right_fields mark customer number (Void id) rest ok = rw (spelling_passes id ok) refl
 right_fields mark customer number (Query id) rest ok = rw (spelling_passes id ok) refl
+right_fields mark customer number (DrawMany service country count) rest ok =
+    rw (capital_passes service.0 ok.0.0, capital_passes service.1 ok.0.1, capital_passes country.0 ok.1.0, capital_passes country.1 ok.1.1, count_passes count ok.2) refl
 
 not_refused_of : (customer number : ℕ) (body : Body) → IsBody body → first_refusal (request_refusals (datagram 0 (record { customer = customer; number = number; body = body }))) ≡ None
 not_refused_of customer number (Grant holder service country first last) ok = right_fields 0 customer number (Grant holder service country first last) [] ok
 not_refused_of customer number (Draw service country) ok = right_fields 0 customer number (Draw service country) [] ok
 not_refused_of customer number (Void id) ok = right_fields 0 customer number (Void id) [] ok
 not_refused_of customer number (Query id) ok = right_fields 0 customer number (Query id) [] ok
+not_refused_of customer number (DrawMany service country count) ok = right_fields 0 customer number (DrawMany service country count) [] ok
 
 pub not_refused : (q : Request) → IsRequest q → first_refusal (request_refusals (datagram 0 q)) ≡ None
 not_refused q ok = not_refused_of q.customer q.number q.body ok.2

@@ -2,7 +2,9 @@ pub mod Rooms
 pub mod Identifiers
 pub mod Refusals
 pub mod Asked
+pub mod Many
 pub mod Room
 pub mod Replied
 pub mod Writing
 pub mod Lengths
+pub mod SameIds

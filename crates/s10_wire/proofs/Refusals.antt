@@ -1,9 +1,11 @@
 -- Refusals in order, one list of them behind another.
-use Rattle.std.proofs.Common.{◌≡◌, ℕ, Bool, true, false, List, [], ◌∷◌, ◌++◌, Option, Some, None, refl, sym, ap, ◌∙◌}
+use Rattle.std.proofs.Common.{◌≡◌, ◌≢◌, ℕ, Bool, true, false, not, cond, eqb, List, [], ◌∷◌, ◌++◌, Option, Some, None, refl, sym, ap, ◌∙◌}
 use Rattle.s10_wire.specs.declared.wire_fault.WireFault.{WireFault}
+use Rattle.s10_wire.specs.declared.wire_fault.WireFault.TheVariants.{Outcome}
+use Rattle.std.proofs.lemmas.Bool.{ne_eqb}
 use Rattle.s10_wire.specs.declared.kind.Kind.{Kind}
-use Rattle.s10_wire.specs.Kind.{is_reply_long}
-use Rattle.s10_wire.specs.WireFault.{first_refusal, kind_named, of_kind, header_refusals, request_fields, outcome_refusals, reply_refusals, refusals_behind_reply}
+use Rattle.s10_wire.specs.Kind.{request_length, is_reply_long}
+use Rattle.s10_wire.specs.WireFault.{byte, code_fits, done_fields, first_refusal, kind_named, of_kind, header_refusals, request_fields, outcome_refusals, reply_refusals, refusals_behind_reply}
 
 passed_over : (applies : Bool) (fault : WireFault) (r s : List (Bool × WireFault)) → (first_refusal r ≡ None → first_refusal (r ++ s) ≡ first_refusal s)
     → first_refusal ((applies, fault) ∷ r) ≡ None → first_refusal ((applies, fault) ∷ (r ++ s)) ≡ first_refusal s
@@ -31,3 +33,14 @@ pub fields_decide : (b : List ℕ) (kind : Kind) → None ≡ first_refusal (hea
 fields_decide b kind passed named long =
     second_decides (header_refusals 0x80 b) (of_kind (kind_named 0x80 b) (refusals_behind_reply b)) (sym passed)
     ∙ ap (λ (named : Option Kind). first_refusal (of_kind named (refusals_behind_reply b))) named ∙ rw long refl
+
+one_decides : (fit : Bool) → cond fit None (Some Outcome) ≡ first_refusal ((not fit, Outcome) ∷ [])
+one_decides true = refl
+one_decides false = refl
+
+-- an outcome byte that is not that of a Done reply is refused where it does not fit
+pub not_done : (b : List ℕ) (kind : Kind) (code : ℕ) → code ≢ 0 → code ≡ byte b (request_length kind) → cond (code_fits kind code) None (Some Outcome) ≡ first_refusal (outcome_refusals kind b)
+not_done b kind code other is =
+    one_decides (code_fits kind code)
+    ∙ ap (λ (t : Bool). first_refusal (cond t (done_fields kind b) ((not (code_fits kind code), Outcome) ∷ []))) (sym (ne_eqb code 0 other))
+    ∙ ap (λ (n : ℕ). first_refusal (cond (eqb n 0) (done_fields kind b) ((not (code_fits kind n), Outcome) ∷ []))) is

@@ -1,26 +1,30 @@
 -- A datagram has one reply, and none of a reply is refused.
-use Rattle.std.proofs.Common.{true, ◌≡◌, ℕ, List, ◌++◌, drop, None, Result, Ok, Err, refl, sym, ap, ◌∙◌}
+use Rattle.std.proofs.Common.{Bool, true, cond, Some, ltb, eqb, ◌≡◌, ℕ, ◌+◌, ◌*◌, ◌/◌, List, [], ◌++◌, length, drop, None, Result, Ok, Err, refl, sym, ap, ◌∙◌, arith, append-nil}
 use Rattle.std.specs.Prelude.{IfOk, IfErr, IsOkAnd, if◌then◌else◌, ◌==◌}
 use Rattle.std.specs.Result.{result_err}
 use Rattle.std.proofs.lemmas.Nat.{from_be_bytes-to_be_bytes_4}
 use Rattle.s10_core.proofs.Decimals.{number_of-digits_of}
 use Rattle.s10_wire.specs.declared.body.Body.{Body}
-use Rattle.s10_wire.specs.declared.body.Body.TheVariants.{Grant, Draw, Void, Query}
+use Rattle.s10_wire.specs.declared.body.Body.TheVariants.{Grant, Draw, Void, Query, DrawMany}
 use Rattle.s10_wire.specs.declared.request.Request.{Request}
 use Rattle.s10_wire.specs.declared.status.Status.{Status}
 use Rattle.s10_wire.specs.declared.status.Status.TheVariants as statuses
 use Rattle.s10_wire.specs.declared.outcome.Outcome.{Outcome}
-use Rattle.s10_wire.specs.declared.outcome.Outcome.TheVariants.{Granted, Drawn, Voided, Told, NotThePost, BadGrant, Overlap, NoRange, NoneFree, NotYours, NotIssued, AlreadyVoid, NumberReused}
+use Rattle.s10_wire.specs.declared.outcome.Outcome.TheVariants.{Granted, Drawn, DrawnMany, Voided, Told, NotThePost, BadGrant, Overlap, NoRange, NoneFree, NotYours, NotIssued, AlreadyVoid, NumberReused}
 use Rattle.s10_wire.specs.declared.wire_fault.WireFault.{WireFault}
+use Rattle.s10_wire.specs.declared.wire_fault.WireFault.TheVariants.{Short}
 use Rattle.s10_wire.specs.declared.reply.Reply.{Reply}
 use Rattle.s10_wire.specs.declared.kind.Kind.{Kind}
 use Rattle.s10_wire.specs.declared.kind.Kind.TheVariants as kinds
-use Rattle.s10_wire.specs.Kind.{kind_of, request_length, fits}
+use Rattle.s10_wire.specs.Ids.{spellings_of}
+use Rattle.s10_wire.specs.Kind.{kind_of, request_length, is_reply_long, fits}
 use Rattle.s10_wire.specs.Datagrams.{datagram, outcome_bytes, IsBody, IsOutcome, Replies}
 use Rattle.s10_wire.specs.Reply.{request_of, outcome_of}
-use Rattle.s10_wire.specs.WireFault.{byte, number, first_refusal, request_fields, outcome_refusals, reply_refusals}
+use Rattle.s10_wire.specs.WireFault.{byte, number, first_refusal, identifier_fields, header_refusals, request_fields, outcome_refusals, reply_refusals}
 use Rattle.s10_wire.proofs.Identifiers.{spelling_passes}
-use Rattle.s10_wire.proofs.Refusals.{second_decides}
+use Rattle.s10_wire.proofs.Refusals.{second_decides, fields_decide}
+use Rattle.std.proofs.lemmas.Bool.{and_from, lt-ltb, le-ltb, eq-eqb, eqb-true}
+use Rattle.s10_wire.proofs.Many.{length-spellings, ids_in, ids_again, identifiers_pass}
 use Rattle.s10_wire.proofs.Asked.{right_fields, same_requests, id_in}
 
 -- the outcome that stands behind a request of a kind
@@ -40,6 +44,7 @@ done_in kinds.Grant b = Granted (number b 1)
 done_in kinds.Draw b = Drawn (number b 1) (id_in b 5)
 done_in kinds.Void b = Voided
 done_in kinds.Query b = Told (status_in (byte b 1) (number b 2))
+done_in kinds.DrawMany b = DrawnMany (number b 1) (ids_in (length b / 13) (drop 5 b))
 
 outcome_in : Kind → List ℕ → Outcome
 outcome_in k b = if byte b 0 == 0 then done_in k b else code_outcome (byte b 0)
@@ -66,6 +71,13 @@ outcome_again (Void asked) AlreadyVoid ok fit = refl
 outcome_again (Void asked) NumberReused ok fit = refl
 outcome_again (Query asked) NotYours ok fit = refl
 outcome_again (Query asked) NumberReused ok fit = refl
+outcome_again (DrawMany s t count) (DrawnMany day ids) ok fit =
+    let n : length (outcome_bytes (DrawnMany day ids)) / 13 ≡ length ids = omega (arith, length-spellings ids) in
+    ap (λ (d : ℕ). DrawnMany d (ids_in (length (outcome_bytes (DrawnMany day ids)) / 13) (spellings_of ids))) (from_be_bytes-to_be_bytes_4 day ok.0)
+    ∙ ap (λ (k : ℕ). DrawnMany day (ids_in k (spellings_of ids))) n ∙ ap (DrawnMany day) (ids_again ids ok.1.1)
+outcome_again (DrawMany s t count) NoRange ok fit = refl
+outcome_again (DrawMany s t count) NoneFree ok fit = refl
+outcome_again (DrawMany s t count) NumberReused ok fit = refl
 outcome_again body o ok fit = absurd cc
 
 -- what stands behind the request's bytes
@@ -77,6 +89,7 @@ behind k mark q rest e = rw e (behind_body mark q.customer q.number q.body rest)
     behind_body mark customer number (Draw service country) rest = refl
     behind_body mark customer number (Void id) rest = refl
     behind_body mark customer number (Query id) rest = refl
+    behind_body mark customer number (DrawMany service country count) rest = refl
 
 -- one reply for each datagram
 pub one_reply : (b : List ℕ) (p q : Request) (u o : Outcome) → Replies b p u → Replies b q o → (p ≡ q) × (u ≡ o)
@@ -119,6 +132,19 @@ reply_behind c n (Void asked) AlreadyVoid ok out fit = (refl, refl)
 reply_behind c n (Void asked) NumberReused ok out fit = (refl, refl)
 reply_behind c n (Query asked) NotYours ok out fit = (refl, refl)
 reply_behind c n (Query asked) NumberReused ok out fit = (refl, refl)
+reply_behind c n (DrawMany s t count) (DrawnMany day ids) ok out fit =
+    let b : List ℕ = datagram 0x80 (asked_by c n (DrawMany s t count)) ++ outcome_bytes (DrawnMany day ids) in
+    let same : length ids ≡ count = eqb-true (length ids) count fit in
+    let long : length (spellings_of ids) ≡ 13 * count = length-spellings ids ∙ ap (λ (k : ℕ). 13 * k) same in
+    let right : first_refusal (identifier_fields 22 count b) ≡ None =
+    ap (λ (k : ℕ). first_refusal (identifier_fields 22 k b)) (sym same) ∙ identifiers_pass 22 b ids [] out.1.1 (sym (append-nil (spellings_of ids))) in
+    let header : None ≡ first_refusal (header_refusals 0x80 b) = ap (λ (t : Bool). cond t (Some Short) None) (sym (le-ltb (length b) 12 (omega arith))) in
+    let said : is_reply_long kinds.DrawMany b ≡ true =
+    and_from (ltb 17 (length b)) (eqb (length b) (22 + 13 * count)) (lt-ltb 17 (length b) (omega arith)) (eq-eqb (length b) (22 + 13 * count) (omega (arith, long))) in
+    (fields_decide b kinds.DrawMany header refl said, right)
+reply_behind c n (DrawMany s t count) NoRange ok out fit = (refl, refl)
+reply_behind c n (DrawMany s t count) NoneFree ok out fit = (refl, refl)
+reply_behind c n (DrawMany s t count) NumberReused ok out fit = (refl, refl)
 reply_behind c n body o ok out fit = absurd cc
 
 -- a reply of given parts isn't refused

@@ -1,5 +1,5 @@
 -- Texts that are written one after another.
-use Rattle.std.proofs.Common.{◌≡◌, ℕ, List, [], ◌∷◌, ◌++◌, Option, Some, None, refl, sym, ap, subst, ◌∙◌, append_assoc}
+use Rattle.std.proofs.Common.{◌≡◌, ℕ, List, [], ◌∷◌, ◌++◌, Option, Some, None, refl, sym, ap, subst, ◌∙◌, append_assoc, append-nil}
 use Rattle.std.specs.Io.KnownBytes.{Appends}
 use Rattle.std.specs.Prelude.{OnOk, codes, Result, Ok, Err}
 use Rattle.s10_wire.specs.Lines.{spaced, line_of}
@@ -38,3 +38,9 @@ pub line_follows : {T E : Type 0} (u v w x : Option (List ℕ)) (first : List �
 line_follows u v w x first words (Ok done) a b c =
     Appends-then u w x (first ++ spaced words) (codes "\n") (Appends-then u v w first (spaced words) a b) c
 line_follows u v w x first words (Err fault) a b c = tt
+
+-- no word
+pub Appends-nothing : (u : Option (List ℕ)) → Appends u u (spaced [])
+unfolding spaced
+Appends-nothing None = tt
+Appends-nothing (Some xs) = sym (append-nil xs)

@@ -5,12 +5,13 @@ use Rattle.s10_core.specs.Letters.{AreCapitals, letters_of}
 use Rattle.s10_core.specs.Serial.{IsSerial}
 use Rattle.s10_core.specs.Id.{IsId, spelling_of}
 use Rattle.s10_wire.specs.declared.body.Body.{Body}
-use Rattle.s10_wire.specs.declared.body.Body.TheVariants.{Grant, Draw, Void, Query}
+use Rattle.s10_wire.specs.declared.body.Body.TheVariants.{Grant, Draw, Void, Query, DrawMany}
 use Rattle.s10_wire.specs.declared.request.Request.{Request}
 use Rattle.s10_wire.specs.declared.status.Status.{Status}
 use Rattle.s10_wire.specs.declared.status.Status.TheVariants.{Unknown, Never, Issued, Voided as StatusVoided}
 use Rattle.s10_wire.specs.declared.outcome.Outcome.{Outcome}
-use Rattle.s10_wire.specs.declared.outcome.Outcome.TheVariants.{Granted, Drawn, Voided, Told, NotThePost, BadGrant, Overlap, NoRange, NoneFree, NotYours, NotIssued, AlreadyVoid, NumberReused}
+use Rattle.s10_wire.specs.declared.outcome.Outcome.TheVariants.{Granted, Drawn, DrawnMany, Voided, Told, NotThePost, BadGrant, Overlap, NoRange, NoneFree, NotYours, NotIssued, AlreadyVoid, NumberReused}
+use Rattle.s10_wire.specs.Ids.{IsCount, AreIds, spellings_of}
 use Rattle.s10_wire.specs.Kind.{kind_of, code_of, version_of, fits}
 
 -- a number in four bytes
@@ -24,6 +25,7 @@ fields (Grant holder service country first last) =
 fields (Draw service country) = letters_of service ++ letters_of country
 fields (Void id) = spelling_of id
 fields (Query id) = spelling_of id
+fields (DrawMany service country count) = letters_of service ++ letters_of country ++ count ∷ []
 
 -- the bytes of a request, where mark is added to the kind byte
 abbrev pub datagram : ℕ → Request → List ℕ
@@ -41,6 +43,7 @@ IsBody (Grant holder service country first last) =
 IsBody (Draw service country) = AreCapitals service × AreCapitals country
 IsBody (Void id) = IsId id
 IsBody (Query id) = IsId id
+IsBody (DrawMany service country count) = AreCapitals service × AreCapitals country × IsCount count
 
 abbrev pub IsRequest : Request → Type 0
 IsRequest q = IsU32 q.customer × IsU32 q.number × IsBody q.body
@@ -59,6 +62,7 @@ IsStatus (StatusVoided day) = IsU32 day
 abbrev pub IsOutcome : Outcome → Type 0
 IsOutcome (Granted range) = IsU32 range
 IsOutcome (Drawn day id) = IsU32 day × IsId id
+IsOutcome (DrawnMany day ids) = IsU32 day × AreIds ids
 IsOutcome (Told status) = IsStatus status
 IsOutcome outcome = ⊤
 
@@ -73,6 +77,7 @@ status_bytes (StatusVoided day) = 3 ∷ u32_bytes day
 abbrev pub outcome_bytes : Outcome → List ℕ
 outcome_bytes (Granted range) = 0 ∷ u32_bytes range
 outcome_bytes (Drawn day id) = 0 ∷ u32_bytes day ++ spelling_of id
+outcome_bytes (DrawnMany day ids) = 0 ∷ u32_bytes day ++ spellings_of ids
 outcome_bytes Voided = 0 ∷ []
 outcome_bytes (Told status) = 0 ∷ status_bytes status
 outcome_bytes NotThePost = 1 ∷ []

@@ -1,10 +1,16 @@
 -- How many identifiers a sheet of labels has, and the identifiers themselves.
-use Rattle.std.specs.Prelude.{◌≡◌, ℕ, ◌-◌, ◌≤◌, List, [], ◌∷◌, ◌++◌, length, take, replicate}
+use Rattle.std.specs.Prelude.{◌≡◌, ℕ, ◌-◌, ◌≤◌, List, [], ◌∷◌, ◌++◌, length, take, replicate, All}
+use Rattle.std.specs.List.{flat_map}
 use Rattle.s10_core.specs.declared.id.Id.{Id}
+use Rattle.s10_core.specs.Id.{IsId, spelling_of}
 
 -- 1 to 16
 abbrev pub IsCount : ℕ → Type 0
 IsCount n = (1 ≤ n) × (n ≤ 16)
+
+-- the identifiers are so many, and their parts are in their ranges
+abbrev pub AreIds : List Id → Type 0
+AreIds ids = IsCount (length ids) × All IsId ids
 
 -- the first of them
 abbrev pub first_id : List Id → Id
@@ -20,3 +26,7 @@ pub record AreRoomed (room : List Id) (len : ℕ) : Type 0 where
   pub count : IsCount len
   pub long : length (take len room) ≡ len
   pub rest : room ≡ roomed (take len room)
+
+-- their texts, one behind the other
+abbrev pub spellings_of : List Id → List ℕ
+spellings_of ids = flat_map spelling_of ids

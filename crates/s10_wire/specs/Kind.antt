@@ -1,11 +1,11 @@
 -- The kinds of calls, and the outcomes that fit each.
-use Rattle.std.specs.Prelude.{ℕ, ◌+◌, ◌==◌, Bool, ◌&&◌, List, nat_lt, length, slice_index, true, false, if◌then◌else◌, Option, Some, None}
+use Rattle.std.specs.Prelude.{ℕ, ◌+◌, ◌*◌, ◌==◌, Bool, ◌&&◌, List, nat_lt, length, slice_index, true, false, if◌then◌else◌, Option, Some, None}
 use Rattle.s10_wire.specs.declared.kind.Kind.{Kind}
 use Rattle.s10_wire.specs.declared.kind.Kind.TheVariants as kinds
 use Rattle.s10_wire.specs.declared.body.Body.{Body}
-use Rattle.s10_wire.specs.declared.body.Body.TheVariants.{Grant, Draw, Void, Query}
+use Rattle.s10_wire.specs.declared.body.Body.TheVariants.{Grant, Draw, Void, Query, DrawMany}
 use Rattle.s10_wire.specs.declared.outcome.Outcome.{Outcome}
-use Rattle.s10_wire.specs.declared.outcome.Outcome.TheVariants.{Granted, Drawn, Voided, Told, NotThePost, BadGrant, Overlap, NoRange, NoneFree, NotYours, NotIssued, AlreadyVoid, NumberReused}
+use Rattle.s10_wire.specs.declared.outcome.Outcome.TheVariants.{Granted, Drawn, DrawnMany, Voided, Told, NotThePost, BadGrant, Overlap, NoRange, NoneFree, NotYours, NotIssued, AlreadyVoid, NumberReused}
 
 -- the kind of what is asked
 abbrev pub kind_of : Body → Kind
@@ -13,6 +13,7 @@ kind_of (Grant holder service country first last) = kinds.Grant
 kind_of (Draw service country) = kinds.Draw
 kind_of (Void id) = kinds.Void
 kind_of (Query id) = kinds.Query
+kind_of (DrawMany service country count) = kinds.DrawMany
 
 -- the kind byte of a request
 abbrev pub code_of : Kind → ℕ
@@ -20,6 +21,7 @@ code_of kinds.Grant = 1
 code_of kinds.Draw = 2
 code_of kinds.Void = 3
 code_of kinds.Query = 4
+code_of kinds.DrawMany = 5
 
 -- the version byte of a kind
 abbrev pub version_of : Kind → ℕ
@@ -27,6 +29,7 @@ version_of kinds.Grant = 1
 version_of kinds.Draw = 1
 version_of kinds.Void = 1
 version_of kinds.Query = 1
+version_of kinds.DrawMany = 2
 
 -- the kind with this version byte and this kind byte
 abbrev pub kind_of_codes : ℕ → ℕ → Option Kind
@@ -35,6 +38,7 @@ kind_of_codes version code =
     else if version == 1 && code == 2 then Some kinds.Draw
     else if version == 1 && code == 3 then Some kinds.Void
     else if version == 1 && code == 4 then Some kinds.Query
+    else if version == 2 && code == 5 then Some kinds.DrawMany
     else None
 
 -- how long a request is, and so where the outcome byte of its reply stands
@@ -43,6 +47,7 @@ request_length kinds.Grant = 28
 request_length kinds.Draw = 16
 request_length kinds.Void = 25
 request_length kinds.Query = 25
+request_length kinds.DrawMany = 17
 
 -- how long a Done reply with these bytes is
 abbrev pub done_length : Kind → List ℕ → ℕ
@@ -50,6 +55,7 @@ done_length kinds.Grant b = 33
 done_length kinds.Draw b = 34
 done_length kinds.Void b = 26
 done_length kinds.Query b = 31
+done_length kinds.DrawMany b = 22 + 13 * slice_index b 16
 
 -- how long a reply with these bytes is, by its outcome byte
 abbrev pub reply_length : Kind → List ℕ → ℕ
@@ -75,5 +81,8 @@ fits (Void id) NotIssued = true
 fits (Void id) AlreadyVoid = true
 fits (Query id) (Told status) = true
 fits (Query id) NotYours = true
+fits (DrawMany service country count) (DrawnMany day ids) = length ids == count
+fits (DrawMany service country count) NoRange = true
+fits (DrawMany service country count) NoneFree = true
 fits body NumberReused = true
 fits body outcome = false

@@ -1,15 +1,15 @@
 -- Requests and replies as lines of words.
-use Rattle.std.specs.Prelude.{ℕ, List, [], ◌∷◌, ◌++◌, codes, decimal}
+use Rattle.std.specs.Prelude.{ℕ, List, [], ◌∷◌, ◌++◌, map, codes, decimal}
 use Rattle.s10_core.specs.Letters.{letters_of}
 use Rattle.s10_core.specs.Serial.{digits_of}
 use Rattle.s10_core.specs.Id.{spelling_of}
 use Rattle.s10_wire.specs.declared.body.Body.{Body}
-use Rattle.s10_wire.specs.declared.body.Body.TheVariants.{Grant, Draw, Void, Query}
+use Rattle.s10_wire.specs.declared.body.Body.TheVariants.{Grant, Draw, Void, Query, DrawMany}
 use Rattle.s10_wire.specs.declared.request.Request.{Request}
 use Rattle.s10_wire.specs.declared.status.Status.{Status}
 use Rattle.s10_wire.specs.declared.status.Status.TheVariants.{Unknown, Never, Issued, Voided as StatusVoided}
 use Rattle.s10_wire.specs.declared.outcome.Outcome.{Outcome}
-use Rattle.s10_wire.specs.declared.outcome.Outcome.TheVariants.{Granted, Drawn, Voided, Told, NotThePost, BadGrant, Overlap, NoRange, NoneFree, NotYours, NotIssued, AlreadyVoid, NumberReused}
+use Rattle.s10_wire.specs.declared.outcome.Outcome.TheVariants.{Granted, Drawn, DrawnMany, Voided, Told, NotThePost, BadGrant, Overlap, NoRange, NoneFree, NotYours, NotIssued, AlreadyVoid, NumberReused}
 
 -- words with a space before each
 unfoldable pub spaced : List (List ℕ) → List ℕ
@@ -27,12 +27,14 @@ body_words (Grant holder service country first last) =
 body_words (Draw service country) = letters_of service ∷ letters_of country ∷ []
 body_words (Void id) = spelling_of id ∷ []
 body_words (Query id) = spelling_of id ∷ []
+body_words (DrawMany service country count) = letters_of service ∷ letters_of country ∷ decimal count ∷ []
 
 abbrev pub kind_word : Body → List ℕ
 kind_word (Grant holder service country first last) = codes "grant"
 kind_word (Draw service country) = codes "draw"
 kind_word (Void id) = codes "void"
 kind_word (Query id) = codes "query"
+kind_word (DrawMany service country count) = codes "draw-many"
 
 -- a request
 abbrev pub request_words : Request → List (List ℕ)
@@ -49,6 +51,7 @@ status_words (StatusVoided day) = codes "voided" ∷ decimal day ∷ []
 abbrev pub outcome_words : Outcome → List (List ℕ)
 outcome_words (Granted range) = codes "done" ∷ codes "range" ∷ decimal range ∷ []
 outcome_words (Drawn day id) = codes "done" ∷ codes "day" ∷ decimal day ∷ spelling_of id ∷ []
+outcome_words (DrawnMany day ids) = codes "done" ∷ codes "day" ∷ decimal day ∷ map spelling_of ids
 outcome_words Voided = codes "done" ∷ []
 outcome_words (Told status) = codes "done" ∷ status_words status
 outcome_words NotThePost = codes "not-the-post" ∷ []

@@ -1,5 +1,5 @@
 -- Why bytes are no request, or no reply: conditions in order, each on the bytes alone.
-use Rattle.std.specs.Prelude.{◌≡◌, ℕ, ◌+◌, ◌-◌, ◌==◌, nat_le, nat_lt, Bool, not, ◌&&◌, ◌||◌, if◌then◌else◌, List, [], ◌∷◌, ◌++◌, length, take, drop, slice_index, Option, Some, None, is_none}
+use Rattle.std.specs.Prelude.{◌≡◌, ℕ, zero, suc, ◌+◌, ◌-◌, ◌==◌, nat_le, nat_lt, Bool, not, ◌&&◌, ◌||◌, if◌then◌else◌, List, [], ◌∷◌, ◌++◌, length, take, drop, slice_index, Option, Some, None, is_none}
 use Rattle.std.specs.Int.{w32, from_be_bytes}
 use Rattle.std.specs.Char.{is_ascii_digit}
 use Rattle.std.specs.List.{list_all}
@@ -7,7 +7,7 @@ use Rattle.s10_core.specs.Serial.{number_of, check_digit_of, character_of}
 use Rattle.s10_wire.specs.declared.wire_fault.WireFault.{WireFault}
 use Rattle.s10_wire.specs.declared.wire_fault.WireFault.TheVariants.{Short, Magic, Version, Kind as KindFault, Length, Field, Outcome}
 use Rattle.s10_wire.specs.declared.kind.Kind.{Kind}
-use Rattle.s10_wire.specs.declared.kind.Kind.TheVariants.{Grant, Draw, Void, Query}
+use Rattle.s10_wire.specs.declared.kind.Kind.TheVariants.{Grant, Draw, Void, Query, DrawMany}
 use Rattle.s10_wire.specs.Kind.{kind_of_codes, request_length, is_reply_long}
 
 -- of refusals in order, each behind its condition, the first whose condition holds
@@ -45,6 +45,10 @@ is_spelling text =
 abbrev pub is_identifier : List ℕ → ℕ → Bool
 is_identifier b at = is_spelling (take 13 (drop at b))
 
+-- from 1 to 16
+abbrev pub is_count : ℕ → Bool
+is_count n = nat_le 1 n && nat_le n 16
+
 -- the kind that the header names, where mark is added to the kind byte
 abbrev pub kind_named : ℕ → List ℕ → Option Kind
 kind_named mark b = kind_of_codes (byte b 2) (byte b 3 - mark)
@@ -54,7 +58,7 @@ abbrev pub header_refusals : ℕ → List ℕ → List (Bool × WireFault)
 header_refusals mark b =
     (nat_lt (length b) 12, Short)
     ∷ (not (byte b 0 == 0x53 && byte b 1 == 0x31), Magic)
-    ∷ (not (byte b 2 == 1), Version)
+    ∷ (not (byte b 2 == 1 || byte b 2 == 2), Version)
     ∷ (is_none (kind_named mark b), KindFault) ∷ []
 
 -- the refusals behind a header, by the kind that it names
@@ -70,6 +74,13 @@ request_fields Grant b =
 request_fields Draw b = (not (are_letters b 12), Field 12) ∷ (not (are_letters b 14), Field 14) ∷ []
 request_fields Void b = (not (is_identifier b 12), Field 12) ∷ []
 request_fields Query b = (not (is_identifier b 12), Field 12) ∷ []
+request_fields DrawMany b =
+    (not (are_letters b 12), Field 12) ∷ (not (are_letters b 14), Field 14) ∷ (not (is_count (byte b 16)), Field 16) ∷ []
+
+-- so many identifiers one behind the other, from an offset on
+abbrev pub identifier_fields : ℕ → ℕ → List ℕ → List (Bool × WireFault)
+identifier_fields at zero b = []
+identifier_fields at (suc count) b = (not (is_identifier b at), Field at) ∷ identifier_fields (at + 13) count b
 
 -- the fields behind the outcome byte of a Done reply that can be wrong, from left to right
 abbrev pub done_fields : Kind → List ℕ → List (Bool × WireFault)
@@ -78,6 +89,7 @@ done_fields Draw b = (not (is_identifier b 21), Field 21) ∷ []
 done_fields Void b = []
 done_fields Query b =
     (nat_lt 3 (byte b 26), Field 26) ∷ (nat_lt (byte b 26) 2 && not (number b 27 == 0), Field 27) ∷ []
+done_fields DrawMany b = identifier_fields 22 (byte b 16) b
 
 -- whether the outcome byte fits the kind
 abbrev pub code_fits : Kind → ℕ → Bool
@@ -85,6 +97,7 @@ code_fits Grant code = nat_le code 3 || code == 9
 code_fits Draw code = code == 0 || code == 4 || code == 5 || code == 9
 code_fits Void code = code == 0 || code == 6 || code == 7 || code == 8 || code == 9
 code_fits Query code = code == 0 || code == 6 || code == 9
+code_fits DrawMany code = code == 0 || code == 4 || code == 5 || code == 9
 
 -- the refusals of the outcome byte, and of the fields behind it
 abbrev pub outcome_refusals : Kind → List ℕ → List (Bool × WireFault)

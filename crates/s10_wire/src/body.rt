@@ -1,6 +1,7 @@
+use crate::count::Count;
 use s10_core::{Country, Id, Serial, Service};
 
-/// What is asked, by kind. The four kinds are this project's own choice, see docs/DATAGRAMS.md.
+/// What is asked, by kind. The kinds are this project's own choice, see docs/DATAGRAMS.md.
 #[derive(Clone, Copy, Debug, PartialEq, Eq)]
 pub enum Body {
     /// The post gives a range of serial numbers, both ends included, to a holder.
@@ -24,5 +25,11 @@ pub enum Body {
     /// A customer, or the post, asks what became of an identifier.
     Query {
         id: Id,
+    },
+    /// A customer asks for so many identifiers of this service and country, all of them or none.
+    DrawMany {
+        service: Service,
+        country: Country,
+        count: Count,
     },
 }

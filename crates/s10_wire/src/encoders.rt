@@ -1,15 +1,18 @@
 //! Requests and replies as datagrams.
 
-ghost use Rattle.std.specs.Prelude.{◌≡◌, ◌+◌, ◌≤◌, ◌++◌, ◌∷◌, length};
+ghost use Rattle.std.specs.Prelude.{◌≡◌, ◌+◌, ◌*◌, ◌≤◌, ◌++◌, ◌∷◌, length, All};
 ghost use Rattle.s10_core.specs.Letters.{AreCapitals};
 ghost use Rattle.s10_core.specs.Serial.{IsSerial};
 ghost use Rattle.s10_core.specs.Id.{IsId, spelling_of};
+ghost use Rattle.s10_wire.specs.Ids.{spellings_of};
 ghost use Rattle.s10_wire.specs.Kind.{kind_of};
 ghost use Rattle.s10_wire.specs.Datagrams.{u32_bytes, fields, datagram, outcome_bytes, status_bytes, IsU32, IsBody, IsRequest, IsStatus, IsOutcome, Asks, Replies};
 ghost use Rattle.s10_wire.specs.Reply.{request_of, outcome_of};
 
 use crate::body::Body;
+use crate::count::Count;
 use crate::frame::Frame;
+use crate::ids::Ids;
 use crate::kind::Kind;
 use crate::outcome::Outcome;
 use crate::reply::Reply;
@@ -56,12 +59,22 @@ fn put_draw(frame: &mut Frame, service: Service, country: Country)
 }
 
 fn put_id(frame: &mut Frame, id: &Id)
-    requires { length frame.old ≤ 128 }
+    requires { length frame.old ≤ 243 }
     ensures bytes { frame.new ≡ frame.old ++ spelling_of id.now }
     ensures len { length frame.new ≡ length frame.old + 13 }
     ensures in_range { IsId id.now }
 {
     frame.put(&id.write());
+}
+
+fn put_draw_many(frame: &mut Frame, service: Service, country: Country, count: Count)
+    requires { length frame.old ≤ 128 }
+    ensures bytes { frame.new ≡ frame.old ++ fields (Body.DrawMany service country count) }
+    ensures len { length frame.new ≡ length frame.old + 5 }
+    ensures in_range { IsBody (Body.DrawMany service country count) }
+{
+    put_draw(frame, service, country);
+    frame.put(&[count.value()]);
 }
 
 fn put_body(frame: &mut Frame, body: &Body)
@@ -81,6 +94,11 @@ fn put_body(frame: &mut Frame, body: &Body)
         Body::Draw { service, country } => put_draw(frame, service, country),
         Body::Void { id } => put_id(frame, &id),
         Body::Query { id } => put_id(frame, &id),
+        Body::DrawMany {
+            service,
+            country,
+            count,
+        } => put_draw_many(frame, service, country, count),
     }
 }
 
@@ -140,6 +158,25 @@ fn put_drawn(frame: &mut Frame, day: u32, id: Id)
     put_id(frame, &id);
 }
 
+fn put_ids(frame: &mut Frame, ids: &[Id])
+    requires { length frame.old + 13 * length ids.now ≤ 256 }
+    ensures bytes { frame.new ≡ frame.old ++ spellings_of ids.now }
+    ensures in_range { All IsId ids.now }
+{
+    for id in ids {
+        put_id(frame, id);
+    }
+}
+
+fn put_drawn_many(frame: &mut Frame, day: u32, ids: &Ids)
+    requires { length frame.old ≤ 28 }
+    ensures bytes { frame.new ≡ frame.old ++ outcome_bytes (Outcome.DrawnMany day ids.now) }
+    ensures in_range { IsOutcome (Outcome.DrawnMany day ids.now) }
+{
+    put_coded(frame, 0, day);
+    put_ids(frame, ids.as_slice());
+}
+
 /// The outcome byte, and what stands behind it.
 fn put_outcome(frame: &mut Frame, outcome: &Outcome)
     requires { length frame.old ≤ 28 }
@@ -149,6 +186,7 @@ fn put_outcome(frame: &mut Frame, outcome: &Outcome)
     match *outcome {
         Outcome::Granted { range } => put_coded(frame, 0, range),
         Outcome::Drawn { day, id } => put_drawn(frame, day, id),
+        Outcome::DrawnMany { day, ids } => put_drawn_many(frame, day, &ids),
         Outcome::Voided => frame.put(&[0]),
         Outcome::Told(status) => {
             frame.put(&[0]);

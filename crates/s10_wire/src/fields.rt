@@ -1,12 +1,14 @@
 //! The fields of a datagram, each at its offset.
 
-ghost use Rattle.std.specs.Prelude.{◌≡◌, ℕ, ◌+◌, ◌<◌, ◌≤◌, ◌^◌, ◌++◌, Bool, true, false, length, take, drop, IfOk, IfErr};
+ghost use Rattle.std.specs.Prelude.{◌≡◌, ℕ, ◌+◌, ◌<◌, ◌≤◌, ◌^◌, ◌++◌, ◌∷◌, Bool, true, false, length, take, drop, IfOk, IfErr};
 ghost use Rattle.s10_core.specs.Serial.{IsSerial};
 ghost use Rattle.s10_wire.specs.Datagrams.{u32_bytes};
 ghost use Rattle.s10_core.specs.Letters.{AreCapitals, letters_of};
 ghost use Rattle.s10_core.specs.Id.{IsId, spelling_of};
-ghost use Rattle.s10_wire.specs.WireFault.{are_letters, is_serial, is_identifier, number};
+ghost use Rattle.s10_wire.specs.Ids.{IsCount};
+ghost use Rattle.s10_wire.specs.WireFault.{are_letters, is_serial, is_identifier, is_count, byte, number};
 
+use crate::count::Count;
 use crate::wire_fault::WireFault;
 use s10_core::{Country, Id, Serial, Service};
 
@@ -73,5 +75,18 @@ pub fn id_at(bytes: &[u8], at: u16) -> Result<Id, WireFault>
     match Id::read(text) {
         Ok(id) => Ok(id),
         Err(_) => Err(WireFault::Field(at)),
+    }
+}
+
+/// The count at an offset.
+pub fn count_at(bytes: &[u8], at: u16) -> Result<Count, WireFault>
+    requires { at + 1 ≤ length bytes.now }
+    ensures ok { IfOk result (λ n. is_count (byte bytes.now at) ≡ true) }
+    ensures read { IfOk result (λ n. IsCount n × (drop at bytes.now ≡ n ∷ drop (at + 1) bytes.now)) }
+    ensures err { IfErr result (λ f. (f ≡ WireFault.Field at) × (is_count (byte bytes.now at) ≡ false)) }
+{
+    match Count::new(bytes[at as usize]) {
+        Some(count) => Ok(count),
+        None => Err(WireFault::Field(at)),
     }
 }

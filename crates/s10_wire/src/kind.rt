@@ -1,6 +1,6 @@
 //! The kinds of calls.
 
-ghost use Rattle.std.specs.Prelude.{◌≡◌};
+ghost use Rattle.std.specs.Prelude.{◌≡◌, ◌≤◌, length};
 ghost use Rattle.s10_wire.specs.Kind.{kind_of, code_of, version_of, kind_of_codes, request_length, done_length, is_reply_long};
 
 use crate::body::Body;
@@ -12,6 +12,7 @@ pub enum Kind {
     Draw,
     Void,
     Query,
+    DrawMany,
 }
 
 impl Kind {
@@ -24,6 +25,7 @@ impl Kind {
             Body::Draw { .. } => Kind::Draw,
             Body::Void { .. } => Kind::Void,
             Body::Query { .. } => Kind::Query,
+            Body::DrawMany { .. } => Kind::DrawMany,
         }
     }
 
@@ -36,6 +38,7 @@ impl Kind {
             (1, 2) => Some(Kind::Draw),
             (1, 3) => Some(Kind::Void),
             (1, 4) => Some(Kind::Query),
+            (2, 5) => Some(Kind::DrawMany),
             _ => None,
         }
     }
@@ -49,6 +52,7 @@ impl Kind {
             Kind::Draw => 2,
             Kind::Void => 3,
             Kind::Query => 4,
+            Kind::DrawMany => 5,
         }
     }
 
@@ -58,6 +62,7 @@ impl Kind {
     {
         match self {
             Kind::Grant | Kind::Draw | Kind::Void | Kind::Query => 1,
+            Kind::DrawMany => 2,
         }
     }
 
@@ -69,18 +74,21 @@ impl Kind {
             Kind::Grant => 28,
             Kind::Draw => 16,
             Kind::Void | Kind::Query => 25,
+            Kind::DrawMany => 17,
         }
     }
 
     /// How long a Done reply with these bytes is.
-    fn done_length(self, _bytes: &[u8]) -> usize
-        ensures { result ≡ done_length self _bytes.now }
+    fn done_length(self, bytes: &[u8]) -> usize
+        requires { 17 ≤ length bytes.now }
+        ensures { result ≡ done_length self bytes.now }
     {
         match self {
             Kind::Grant => 33,
             Kind::Draw => 34,
             Kind::Void => 26,
             Kind::Query => 31,
+            Kind::DrawMany => 22 + 13 * bytes[16] as usize,
         }
     }
 

@@ -33,10 +33,10 @@ pub fn one_datagram_each()
         → Replies b q o → ¬ (IsFirstRefusalOfReply b fault) }
 {}
 
-/// A request has 28 bytes at most, and a reply 34.
+/// A request has 28 bytes at most, and a reply 230.
 pub fn datagrams_are_short()
     ensures request { (b : List ℕ) (q : Request) → Asks b q → length b ≤ 28 }
-    ensures reply { (b : List ℕ) (q : Request) (o : Outcome) → Replies b q o → length b ≤ 34 }
+    ensures reply { (b : List ℕ) (q : Request) (o : Outcome) → Replies b q o → length b ≤ 230 }
 {}
 
 /// The datagram of a request is read as this request.

@@ -36,7 +36,7 @@ pub use reply::Reply;
 pub use reply_decoder::decode_reply;
 pub use request::Request;
 pub use request_decoder::decode_request;
-pub use sameness::same_request;
+pub use sameness::{same_outcome, same_request};
 pub use status::Status;
 pub use wire_fault::WireFault;
 pub use words::{

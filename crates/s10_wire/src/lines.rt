@@ -1,12 +1,15 @@
 //! Requests and replies as lines that a person reads.
 
-ghost use Rattle.std.specs.Prelude.{◌≡◌, [], ◌∷◌, ◌++◌, codes, decimal, OnOk};
+ghost use Rattle.std.specs.Prelude.{◌≡◌, [], ◌∷◌, ◌++◌, map, codes, decimal, OnOk};
 ghost use Rattle.std.specs.Io.KnownBytes.{Appends};
+ghost use Rattle.s10_core.specs.Id.{spelling_of};
 ghost use Rattle.s10_wire.specs.declared.body.Body.TheVariants as bodies;
 ghost use Rattle.s10_wire.specs.Lines.{spaced, body_words, kind_word, request_words, status_words, outcome_words, request_line, reply_line};
 ghost use Rattle.s10_wire.specs.Reply.{request_of, outcome_of};
 
 use crate::body::Body;
+use crate::count::Count;
+use crate::ids::Ids;
 use crate::outcome::Outcome;
 use crate::reply::Reply;
 use crate::request::Request;
@@ -53,6 +56,7 @@ fn kind_name(body: &Body) -> &'static [u8]
         Body::Draw { .. } => b"draw",
         Body::Void { .. } => b"void",
         Body::Query { .. } => b"query",
+        Body::DrawMany { .. } => b"draw-many",
     }
 }
 
@@ -78,6 +82,11 @@ fn write_body<W: Write>(body: &Body, out: &mut W) -> Result<(), WriteFault>
         Body::Draw { service, country } => write_letters(service, country, out),
         Body::Void { id } => write_id(&id, out),
         Body::Query { id } => write_id(&id, out),
+        Body::DrawMany {
+            service,
+            country,
+            count,
+        } => write_draw_many(service, country, count, out),
     }
 }
 
@@ -97,12 +106,26 @@ fn write_grant<W: Write>(
     write_serials(first, last, out)
 }
 
+fn write_draw_many<W: Write>(
+    service: Service,
+    country: Country,
+    count: Count,
+    out: &mut W,
+) -> Result<(), WriteFault>
+    ensures { OnOk result (Appends (W.contents out.old) (W.contents out.new)
+        (spaced (body_words (bodies.DrawMany service country count)))) }
+{
+    write_letters(service, country, out)?;
+    write_decimal(u32::from(count.value()), out)
+}
+
 fn write_outcome<W: Write>(outcome: &Outcome, out: &mut W) -> Result<(), WriteFault>
     ensures { OnOk result (Appends (W.contents out.old) (W.contents out.new) (spaced (outcome_words outcome.now))) }
 {
     match *outcome {
         Outcome::Granted { range } => write_granted(range, out),
         Outcome::Drawn { day, id } => write_drawn(day, &id, out),
+        Outcome::DrawnMany { day, ids } => write_drawn_many(day, &ids, out),
         Outcome::Voided => write_word(b"done", out),
         Outcome::Told(status) => write_told(&status, out),
         Outcome::NotThePost => write_word(b"not-the-post", out),
@@ -132,6 +155,25 @@ fn write_drawn<W: Write>(day: u32, id: &Id, out: &mut W) -> Result<(), WriteFaul
     write_word(b"done", out)?;
     write_named(b"day", day, out)?;
     write_id(id, out)
+}
+
+// Identifiers, each as a word.
+fn write_ids<W: Write>(ids: &[Id], out: &mut W) -> Result<(), WriteFault>
+    ensures { OnOk result (Appends (W.contents out.old) (W.contents out.new) (spaced (map spelling_of ids.now))) }
+{
+    for id in ids {
+        write_id(id, out)?;
+    }
+    Ok(())
+}
+
+fn write_drawn_many<W: Write>(day: u32, ids: &Ids, out: &mut W) -> Result<(), WriteFault>
+    ensures { OnOk result (Appends (W.contents out.old) (W.contents out.new)
+        (spaced (outcome_words (Outcome.DrawnMany day ids.now)))) }
+{
+    write_word(b"done", out)?;
+    write_named(b"day", day, out)?;
+    write_ids(ids.as_slice(), out)
 }
 
 fn write_told<W: Write>(status: &Status, out: &mut W) -> Result<(), WriteFault>

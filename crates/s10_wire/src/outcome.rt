@@ -1,13 +1,16 @@
+use crate::ids::Ids;
 use crate::status::Status;
 use s10_core::Id;
 
-/// What came of a call. The first four say that it was done, one for each kind of request.
+/// What came of a call. The first five say that it was done, one for each kind of request.
 #[derive(Clone, Copy, Debug, PartialEq, Eq)]
 pub enum Outcome {
     /// A Grant made the range of this number, counted from 1.
     Granted { range: u32 },
     /// A Draw issued the identifier, on this day of the ledger.
     Drawn { day: u32, id: Id },
+    /// A larger Draw issued the identifiers, on this day of the ledger.
+    DrawnMany { day: u32, ids: Ids },
     /// A Void was done.
     Voided,
     /// The answer to a Query.

@@ -69,6 +69,10 @@ fn fits(body: &Body, outcome: &Outcome) -> bool
             Outcome::Voided | Outcome::NotYours | Outcome::NotIssued | Outcome::AlreadyVoid,
         ) => true,
         (Body::Query { .. }, Outcome::Told(_) | Outcome::NotYours) => true,
+        (Body::DrawMany { count, .. }, Outcome::DrawnMany { ids, .. }) => {
+            ids.len() == count.value() as usize
+        }
+        (Body::DrawMany { .. }, Outcome::NoRange | Outcome::NoneFree) => true,
         _ => false,
     }
 }

@@ -1,17 +1,20 @@
 //! Replies are read.
 
-ghost use Rattle.std.specs.Prelude.{◌≡◌, ◌≢◌, ℕ, ◌+◌, ◌<◌, ◌≤◌, ◌∷◌, [], ◌++◌, ◌==◌, if◌then◌else◌, Bool, true, None, Some, length, drop, slice_index, IfOk, IfErr, IsTrue, IsOkAnd, Ok};
+ghost use Rattle.std.specs.Prelude.{◌≡◌, ◌≢◌, ℕ, ◌+◌, ◌*◌, ◌<◌, ◌≤◌, ◌∷◌, [], ◌++◌, ◌==◌, if◌then◌else◌, Bool, true, None, Some, length, drop, slice_index, IfOk, IfErr, IsTrue, IsOkAnd, Ok};
 ghost use Rattle.std.specs.Result.{result_err};
 ghost use Rattle.s10_wire.specs.declared.kind.Kind.TheVariants as kinds;
 ghost use Rattle.s10_wire.specs.declared.request.Request.{Request};
 ghost use Rattle.s10_wire.specs.declared.outcome.Outcome.{Outcome};
 ghost use Rattle.s10_wire.specs.Kind.{kind_of, code_of, version_of, request_length, done_length, is_reply_long, fits};
-ghost use Rattle.s10_wire.specs.Datagrams.{outcome_bytes, status_bytes, IsOutcome, IsStatus, Replies};
+ghost use Rattle.s10_wire.specs.Datagrams.{fields, outcome_bytes, status_bytes, IsOutcome, IsStatus, Replies};
+ghost use Rattle.s10_wire.specs.Ids.{AreIds, spellings_of};
 ghost use Rattle.s10_wire.specs.Reply.{request_of, outcome_of};
-ghost use Rattle.s10_wire.specs.WireFault.{first_refusal, done_fields, code_fits, outcome_refusals, reply_refusals, IsFirstRefusalOfReply};
+ghost use Rattle.s10_wire.specs.WireFault.{first_refusal, identifier_fields, done_fields, code_fits, outcome_refusals, reply_refusals, IsFirstRefusalOfReply};
 
 use crate::body::Body;
+use crate::count::Count;
 use crate::fields::{id_at, number_at};
+use crate::ids::Ids;
 use crate::kind::Kind;
 use crate::outcome::Outcome;
 use crate::reply::Reply;
@@ -37,10 +40,25 @@ fn status_at(bytes: &[u8]) -> Result<Status, WireFault>
     }
 }
 
+/// The identifiers, so many, that stand one behind the other from byte 22 on.
+fn ids_at(bytes: &[u8], count: Count) -> Result<Ids, WireFault>
+    requires { 22 + 13 * count ≤ length bytes.now }
+    ensures read { IfOk result (λ ids. AreIds ids × (length ids ≡ count) × (drop 22 bytes.now ≡ spellings_of ids ++ drop (22 + 13 * count) bytes.now)) }
+    ensures refused { result_err result ≡ first_refusal (identifier_fields 22 count bytes.now) }
+{
+    let count = count.value() as usize;
+    let mut room = [id_at(bytes, 22)?; 16];
+    for place in 1..count {
+        room[place] = id_at(bytes, 22 + 13 * place as u16)?;
+    }
+    Ok(Ids::new(&room[..count]).unwrap())
+}
+
 /// What was done, where the outcome byte behind the request is 0.
 fn done_at(body: &Body, bytes: &[u8]) -> Result<Outcome, WireFault>
     requires long { done_length (kind_of body.now) bytes.now ≤ length bytes.now }
     requires done { slice_index bytes.now (request_length (kind_of body.now)) ≡ 0 }
+    requires begins { drop 12 bytes.now ≡ fields body.now ++ drop (request_length (kind_of body.now)) bytes.now }
     ensures fits { IfOk result (λ outcome. IsTrue (fits body.now outcome)) }
     ensures read { IfOk result (λ outcome. IsOutcome outcome
         × (drop (request_length (kind_of body.now)) bytes.now
@@ -55,6 +73,11 @@ fn done_at(body: &Body, bytes: &[u8]) -> Result<Outcome, WireFault>
             let day = number_at(bytes, 17);
             let id = id_at(bytes, 21)?;
             Ok(Outcome::Drawn { day, id })
+        }
+        Body::DrawMany { count, .. } => {
+            let day = number_at(bytes, 18);
+            let ids = ids_at(bytes, *count)?;
+            Ok(Outcome::DrawnMany { day, ids })
         }
         Body::Void { .. } => Ok(Outcome::Voided),
         Body::Query { .. } => {
@@ -77,8 +100,8 @@ fn refusal_of(body: &Body, code: u8) -> Result<Outcome, WireFault>
         (Body::Grant { .. }, 1) => Ok(Outcome::NotThePost),
         (Body::Grant { .. }, 2) => Ok(Outcome::BadGrant),
         (Body::Grant { .. }, 3) => Ok(Outcome::Overlap),
-        (Body::Draw { .. }, 4) => Ok(Outcome::NoRange),
-        (Body::Draw { .. }, 5) => Ok(Outcome::NoneFree),
+        (Body::Draw { .. } | Body::DrawMany { .. }, 4) => Ok(Outcome::NoRange),
+        (Body::Draw { .. } | Body::DrawMany { .. }, 5) => Ok(Outcome::NoneFree),
         (Body::Void { .. } | Body::Query { .. }, 6) => Ok(Outcome::NotYours),
         (Body::Void { .. }, 7) => Ok(Outcome::NotIssued),
         (Body::Void { .. }, 8) => Ok(Outcome::AlreadyVoid),
@@ -88,7 +111,8 @@ fn refusal_of(body: &Body, code: u8) -> Result<Outcome, WireFault>
 
 /// The outcome behind the request.
 fn outcome_at(body: &Body, bytes: &[u8]) -> Result<Outcome, WireFault>
-    requires { IsTrue (is_reply_long (kind_of body.now) bytes.now) }
+    requires long { IsTrue (is_reply_long (kind_of body.now) bytes.now) }
+    requires begins { drop 12 bytes.now ≡ fields body.now ++ drop (request_length (kind_of body.now)) bytes.now }
     ensures fits { IfOk result (λ outcome. IsTrue (fits body.now outcome)) }
     ensures read { IfOk result (λ outcome. IsOutcome outcome
         × (drop (request_length (kind_of body.now)) bytes.now ≡ outcome_bytes outcome)) }

@@ -9,7 +9,7 @@ ghost use Rattle.s10_wire.specs.Datagrams.{u32_bytes, fields, IsBody, IsRequest,
 ghost use Rattle.s10_wire.specs.WireFault.{first_refusal, kind_named, header_refusals, request_fields, request_refusals, IsFirstRefusalOfRequest};
 
 use crate::body::Body;
-use crate::fields::{country_at, id_at, number_at, serial_at, service_at};
+use crate::fields::{count_at, country_at, id_at, number_at, serial_at, service_at};
 use crate::kind::Kind;
 use crate::request::Request;
 use crate::wire_fault::WireFault;
@@ -27,7 +27,7 @@ pub fn kind_at(bytes: &[u8], mark: u8) -> Result<Kind, WireFault>
     if !(bytes[0] == 0x53 && bytes[1] == 0x31) {
         return Err(WireFault::Magic);
     }
-    if bytes[2] != 1 {
+    if bytes[2] != 1 && bytes[2] != 2 {
         return Err(WireFault::Version);
     }
     match Kind::of_codes(bytes[2], bytes[3].saturating_sub(mark)) {
@@ -91,6 +91,23 @@ fn query_at(bytes: &[u8]) -> Result<Body, WireFault>
     Ok(Body::Query { id })
 }
 
+/// The body of a DrawMany.
+fn draw_many_at(bytes: &[u8]) -> Result<Body, WireFault>
+    requires { 17 ≤ length bytes.now }
+    ensures kind { IfOk result (λ body. kind_of body ≡ kinds.DrawMany) }
+    ensures read { IfOk result (λ body. IsBody body × (drop 12 bytes.now ≡ fields body ++ drop 17 bytes.now)) }
+    ensures refused { result_err result ≡ first_refusal (request_fields kinds.DrawMany bytes.now) }
+{
+    let service = service_at(bytes, 12)?;
+    let country = country_at(bytes, 14)?;
+    let count = count_at(bytes, 16)?;
+    Ok(Body::DrawMany {
+        service,
+        country,
+        count,
+    })
+}
+
 /// The body of a call of this kind.
 fn body_at(kind: Kind, bytes: &[u8]) -> Result<Body, WireFault>
     requires { request_length kind ≤ length bytes.now }
@@ -103,6 +120,7 @@ fn body_at(kind: Kind, bytes: &[u8]) -> Result<Body, WireFault>
         Kind::Draw => draw_at(bytes),
         Kind::Void => void_at(bytes),
         Kind::Query => query_at(bytes),
+        Kind::DrawMany => draw_many_at(bytes),
     }
 }
 
@@ -113,6 +131,7 @@ pub fn request_at(kind: Kind, bytes: &[u8]) -> Result<Request, WireFault>
     ensures in_range { IfOk result IsRequest }
     ensures read { IfOk result (λ q. drop 4 bytes.now
         ≡ u32_bytes q.customer ++ u32_bytes q.number ++ fields q.body ++ drop (request_length kind) bytes.now) }
+    ensures begins { IfOk result (λ q. drop 12 bytes.now ≡ fields q.body ++ drop (request_length kind) bytes.now) }
     ensures refused { result_err result ≡ first_refusal (request_fields kind bytes.now) }
 {
     let customer = number_at(bytes, 4);

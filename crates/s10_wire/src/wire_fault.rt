@@ -9,8 +9,8 @@ pub enum WireFault {
     /// The first two bytes are not 53 31, the letters S1.
     #[error("a datagram begins with the bytes 53 31")]
     Magic,
-    /// The version byte is not 01.
-    #[error("the version is not 1")]
+    /// The version byte is neither 01 nor 02.
+    #[error("the version is neither 1 nor 2")]
     Version,
     /// The kind byte names no request, or no reply, whichever is read.
     #[error("no such kind")]

@@ -1,6 +1,6 @@
 //! The datagrams: read, written, cut short and changed.
 
-use crate::vectors::{REPLIES, REQUESTS, replies, reply, requests};
+use crate::vectors::{REPLIES, REQUESTS, draw_many, drawn_many, replies, reply, request, requests};
 use s10_wire::{WireFault, decode_reply, decode_request, encode_reply, encode_request};
 use std::process::Abort;
 
@@ -45,7 +45,7 @@ fn cut_at(end: usize) -> WireFault {
     }
 }
 
-/// How many of all changes of one byte are still read; each is written again as it was changed.
+/// How many of all changes of one byte of a request are still read; each is written again as it was changed.
 fn changes_read(rt: &impl Abort, bytes: &mut [u8]) -> u32 {
     let mut count: u32 = 0;
     for at in 0..bytes.len() {
@@ -68,6 +68,25 @@ fn changes_read(rt: &impl Abort, bytes: &mut [u8]) -> u32 {
     count
 }
 
+/// The same of a reply.
+fn reply_changes_read(rt: &impl Abort, bytes: &mut [u8]) -> u32 {
+    let mut count: u32 = 0;
+    for at in 0..bytes.len() {
+        let right = bytes[at];
+        for changed in 0..=255u8 {
+            bytes[at] = changed;
+            if changed != right
+                && let Ok(reply) = decode_reply(bytes)
+            {
+                assert_eq!(rt; encode_reply(&reply).bytes(), &*bytes, "{changed} at {at}");
+                count = count.saturating_add(1);
+            }
+        }
+        bytes[at] = right;
+    }
+    count
+}
+
 #[test]
 fn changed_bytes_are_refused_or_written_again(rt: HostRuntime) {
     let mut draw = *b"S1\x01\x02\x00\x00\x00\x07\x00\x00\x00\x01RAGB";
@@ -76,4 +95,44 @@ fn changed_bytes_are_refused_or_written_again(rt: HostRuntime) {
     assert_eq!(rt; changes_read(&rt, &mut draw), 2_140);
     assert_eq!(rt; changes_read(&rt, &mut void), 2_141);
     assert_eq!(rt; changes_read(&rt, &mut query), 2_148);
+}
+
+#[test]
+fn changed_bytes_of_a_larger_draw_are_refused_or_written_again(rt: HostRuntime) {
+    let mut asked = *b"S1\x02\x05\x00\x00\x00\x07\x00\x00\x00\x01RAGB\x02";
+    let mut done =
+        *b"S1\x02\x85\x00\x00\x00\x07\x00\x00\x00\x01RAGB\x02\x00\x00\x00\x4e\x20RA000000005GBRA000000014GB";
+    let mut refused = *b"S1\x02\x85\x00\x00\x00\x07\x00\x00\x00\x02RAGB\x02\x05";
+    assert_eq!(rt; changes_read(&rt, &mut asked), 2_155);
+    assert_eq!(rt; reply_changes_read(&rt, &mut done), 3_367);
+    assert_eq!(rt; reply_changes_read(&rt, &mut refused), 2_157);
+}
+
+#[test]
+fn a_sheet_of_sixteen_is_the_longest_reply(rt: HostRuntime) {
+    let bytes: &[u8] =
+        b"S1\x02\x85\x00\x00\x00\x07\x00\x00\x00\x01RAGB\x10\x00\x00\x00\x4e\x20RA000000005GBRA000000014GBRA000000028GBRA000000031GBRA000000045GBRA000000059GBRA000000062GBRA000000076GBRA000000080GBRA000000093GBRA000000102GBRA000000116GBRA000000120GBRA000000133GBRA000000147GBRA000000155GB";
+    let texts: [&[u8]; 16] = [
+        b"RA000000005GB",
+        b"RA000000014GB",
+        b"RA000000028GB",
+        b"RA000000031GB",
+        b"RA000000045GB",
+        b"RA000000059GB",
+        b"RA000000062GB",
+        b"RA000000076GB",
+        b"RA000000080GB",
+        b"RA000000093GB",
+        b"RA000000102GB",
+        b"RA000000116GB",
+        b"RA000000120GB",
+        b"RA000000133GB",
+        b"RA000000147GB",
+        b"RA000000155GB",
+    ];
+    let request = request(7, 1, draw_many(&rt, 16));
+    let reply = reply(&rt, request, drawn_many(&rt, 20_000, &texts));
+    assert_eq!(rt; bytes.len(), 230);
+    assert_eq!(rt; encode_reply(&reply).bytes(), bytes);
+    assert_eq!(rt; decode_reply(bytes), Ok(reply));
 }

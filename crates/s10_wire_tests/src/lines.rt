@@ -1,13 +1,13 @@
 //! Requests and replies as lines.
 
-use crate::vectors::{draw, drawn, grant, query, reply, request, void};
+use crate::vectors::{draw, draw_many, drawn, drawn_many, grant, query, reply, request, void};
 use s10_wire::{Outcome, Reply, Request, Status, WriteFault, write_reply_line, write_request_line};
 use std::alloc::Global;
 use std::io;
 use std::io::Write;
 use std::process::Abort;
 
-fn request_lines(rt: &impl Abort) -> [(Request, &'static [u8]); 4] {
+fn request_lines(rt: &impl Abort) -> [(Request, &'static [u8]); 5] {
     [
         (
             request(0, 1, grant(rt, 7, 0, 2)),
@@ -25,10 +25,14 @@ fn request_lines(rt: &impl Abort) -> [(Request, &'static [u8]); 4] {
             request(u32::MAX, 0, query(rt, b"RA473124829US")),
             b"request query customer 4294967295 number 0 RA473124829US\n",
         ),
+        (
+            request(7, 1, draw_many(rt, 16)),
+            b"request draw-many customer 7 number 1 RA GB 16\n",
+        ),
     ]
 }
 
-fn reply_lines(rt: &impl Abort) -> [(Request, Outcome, &'static [u8]); 20] {
+fn reply_lines(rt: &impl Abort) -> [(Request, Outcome, &'static [u8]); 24] {
     [
         (
             request(0, 1, grant(rt, 7, 0, 2)),
@@ -129,6 +133,26 @@ fn reply_lines(rt: &impl Abort) -> [(Request, Outcome, &'static [u8]); 20] {
             request(7, 4, query(rt, b"RA000000005GB")),
             Outcome::NumberReused,
             b"reply query customer 7 number 4 RA000000005GB number-reused\n",
+        ),
+        (
+            request(7, 1, draw_many(rt, 2)),
+            drawn_many(rt, 20_000, &[b"RA000000005GB", b"RA000000014GB"]),
+            b"reply draw-many customer 7 number 1 RA GB 2 done day 20000 RA000000005GB RA000000014GB\n",
+        ),
+        (
+            request(7, 2, draw_many(rt, 2)),
+            Outcome::NoRange,
+            b"reply draw-many customer 7 number 2 RA GB 2 no-range\n",
+        ),
+        (
+            request(7, 2, draw_many(rt, 2)),
+            Outcome::NoneFree,
+            b"reply draw-many customer 7 number 2 RA GB 2 none-free\n",
+        ),
+        (
+            request(7, 2, draw_many(rt, 2)),
+            Outcome::NumberReused,
+            b"reply draw-many customer 7 number 2 RA GB 2 number-reused\n",
         ),
     ]
 }

@@ -1,9 +1,9 @@
 //! Replies and requests as values.
 
-use crate::vectors::{draw, drawn, grant, query, request, void};
+use crate::vectors::{draw, draw_many, drawn, drawn_many, grant, query, request, void};
 use s10_wire::{Outcome, Reply, Status, same_request};
 
-// The outcomes that fit Grant, Draw, Void and Query, a row for each outcome.
+// The outcomes that fit Grant, Draw, Void, Query and a DrawMany of two, a row for each outcome.
 #[test]
 fn a_reply_is_made_of_an_outcome_that_fits(rt: HostRuntime) {
     let bodies = [
@@ -11,21 +11,41 @@ fn a_reply_is_made_of_an_outcome_that_fits(rt: HostRuntime) {
         draw(&rt),
         void(&rt, b"RA000000005GB"),
         query(&rt, b"RA000000005GB"),
+        draw_many(&rt, 2),
     ];
+    let one = drawn_many(&rt, 1, &[b"RA000000005GB"]);
+    let two = drawn_many(&rt, 1, &[b"RA000000005GB", b"RA000000014GB"]);
+    let three = drawn_many(
+        &rt,
+        1,
+        &[b"RA000000005GB", b"RA000000014GB", b"RA000000028GB"],
+    );
     let fitting = [
-        (Outcome::Granted { range: 1 }, [true, false, false, false]),
-        (drawn(&rt, 1, b"RA000000005GB"), [false, true, false, false]),
-        (Outcome::Voided, [false, false, true, false]),
-        (Outcome::Told(Status::Never), [false, false, false, true]),
-        (Outcome::NotThePost, [true, false, false, false]),
-        (Outcome::BadGrant, [true, false, false, false]),
-        (Outcome::Overlap, [true, false, false, false]),
-        (Outcome::NoRange, [false, true, false, false]),
-        (Outcome::NoneFree, [false, true, false, false]),
-        (Outcome::NotYours, [false, false, true, true]),
-        (Outcome::NotIssued, [false, false, true, false]),
-        (Outcome::AlreadyVoid, [false, false, true, false]),
-        (Outcome::NumberReused, [true, true, true, true]),
+        (
+            Outcome::Granted { range: 1 },
+            [true, false, false, false, false],
+        ),
+        (
+            drawn(&rt, 1, b"RA000000005GB"),
+            [false, true, false, false, false],
+        ),
+        (one, [false, false, false, false, false]),
+        (two, [false, false, false, false, true]),
+        (three, [false, false, false, false, false]),
+        (Outcome::Voided, [false, false, true, false, false]),
+        (
+            Outcome::Told(Status::Never),
+            [false, false, false, true, false],
+        ),
+        (Outcome::NotThePost, [true, false, false, false, false]),
+        (Outcome::BadGrant, [true, false, false, false, false]),
+        (Outcome::Overlap, [true, false, false, false, false]),
+        (Outcome::NoRange, [false, true, false, false, true]),
+        (Outcome::NoneFree, [false, true, false, false, true]),
+        (Outcome::NotYours, [false, false, true, true, false]),
+        (Outcome::NotIssued, [false, false, true, false, false]),
+        (Outcome::AlreadyVoid, [false, false, true, false, false]),
+        (Outcome::NumberReused, [true, true, true, true, true]),
     ];
     for (outcome, fits) in fitting {
         for (body, fit) in bodies.iter().zip(fits.iter()) {
@@ -43,6 +63,7 @@ fn requests_differ_by_any_field(rt: HostRuntime) {
         request(8, 1, draw(&rt)),
         request(7, 2, draw(&rt)),
         request(7, 1, query(&rt, b"RA000000005GB")),
+        request(7, 1, draw_many(&rt, 1)),
     ] {
         assert!(rt; !same_request(&one, &other));
     }

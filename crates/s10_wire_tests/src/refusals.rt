@@ -76,11 +76,161 @@ fn a_reply_is_refused_for_the_first_thing_wrong(rt: HostRuntime) {
 }
 
 #[test]
+fn a_larger_draw_is_refused_for_the_first_thing_wrong(rt: HostRuntime) {
+    let refused: [(&[u8], WireFault); 16] = [
+        (
+            b"S1\x02\x05\x00\x00\x00\x07\x00\x00\x00\x01RAGB",
+            WireFault::Length,
+        ),
+        (
+            b"S1\x02\x05\x00\x00\x00\x07\x00\x00\x00\x01RAGB\x02\x00",
+            WireFault::Length,
+        ),
+        (
+            b"S1\x03\x05\x00\x00\x00\x07\x00\x00\x00\x01RAGB\x02",
+            WireFault::Version,
+        ),
+        (
+            b"S1\x00\x02\x00\x00\x00\x07\x00\x00\x00\x01RAGB",
+            WireFault::Version,
+        ),
+        (
+            b"S1\x01\x05\x00\x00\x00\x07\x00\x00\x00\x01RAGB\x02",
+            WireFault::Kind,
+        ),
+        (
+            b"S1\x02\x01\x00\x00\x00\x00\x00\x00\x00\x01\x00\x00\x00\x07RAGB\x00\x00\x00\x00\x00\x00\x00\x02",
+            WireFault::Kind,
+        ),
+        (
+            b"S1\x02\x02\x00\x00\x00\x07\x00\x00\x00\x01RAGB",
+            WireFault::Kind,
+        ),
+        (
+            b"S1\x02\x03\x00\x00\x00\x07\x00\x00\x00\x01RA000000014GB",
+            WireFault::Kind,
+        ),
+        (
+            b"S1\x02\x04\x00\x00\x00\x07\x00\x00\x00\x01RA000000014GB",
+            WireFault::Kind,
+        ),
+        (
+            b"S1\x02\x06\x00\x00\x00\x07\x00\x00\x00\x01RAGB\x02",
+            WireFault::Kind,
+        ),
+        (
+            b"S1\x02\x85\x00\x00\x00\x07\x00\x00\x00\x01RAGB\x02",
+            WireFault::Kind,
+        ),
+        (
+            b"S1\x02\x05\x00\x00\x00\x07\x00\x00\x00\x01rAGB\x00",
+            WireFault::Field(12),
+        ),
+        (
+            b"S1\x02\x05\x00\x00\x00\x07\x00\x00\x00\x01RAgb\x00",
+            WireFault::Field(14),
+        ),
+        (
+            b"S1\x02\x05\x00\x00\x00\x07\x00\x00\x00\x01RAGB\x00",
+            WireFault::Field(16),
+        ),
+        (
+            b"S1\x02\x05\x00\x00\x00\x07\x00\x00\x00\x01RAGB\x11",
+            WireFault::Field(16),
+        ),
+        (
+            b"S1\x02\x05\x00\x00\x00\x07\x00\x00\x00\x01RAGB\xff",
+            WireFault::Field(16),
+        ),
+    ];
+    for (bytes, fault) in refused {
+        assert_eq!(rt; decode_request(bytes), Err(fault), "{bytes:?}");
+    }
+}
+
+#[test]
+fn a_reply_to_a_larger_draw_is_refused_for_the_first_thing_wrong(rt: HostRuntime) {
+    let refused: [(&[u8], WireFault); 17] = [
+        (
+            b"S1\x02\x85\x00\x00\x00\x07\x00\x00\x00\x01RAGB\x02",
+            WireFault::Length,
+        ),
+        (
+            b"S1\x02\x85\x00\x00\x00\x07\x00\x00\x00\x01RAGB\x02\x00\x00\x00\x4e\x20RA000000005GB",
+            WireFault::Length,
+        ),
+        (
+            b"S1\x02\x85\x00\x00\x00\x07\x00\x00\x00\x01RAGB\x02\x00\x00\x00\x4e\x20RA000000005GBRA000000014GBRA000000005GB",
+            WireFault::Length,
+        ),
+        (
+            b"S1\x02\x85\x00\x00\x00\x07\x00\x00\x00\x01RAGB\x03\x00\x00\x00\x4e\x20RA000000005GBRA000000014GB",
+            WireFault::Length,
+        ),
+        (
+            b"S1\x02\x85\x00\x00\x00\x07\x00\x00\x00\x01RAGB\x02\x05\x00",
+            WireFault::Length,
+        ),
+        (
+            b"S1\x01\x85\x00\x00\x00\x07\x00\x00\x00\x01RAGB\x02\x05",
+            WireFault::Kind,
+        ),
+        (
+            b"S1\x02\x82\x00\x00\x00\x07\x00\x00\x00\x01RAGB\x05",
+            WireFault::Kind,
+        ),
+        (
+            b"S1\x02\x81\x00\x00\x00\x00\x00\x00\x00\x01\x00\x00\x00\x07RAGB\x00\x00\x00\x00\x00\x00\x00\x02\x01",
+            WireFault::Kind,
+        ),
+        (
+            b"S1\x02\x05\x00\x00\x00\x07\x00\x00\x00\x01RAGB\x02\x05",
+            WireFault::Kind,
+        ),
+        (
+            b"S1\x02\x85\x00\x00\x00\x07\x00\x00\x00\x01RAgB\x00\x06",
+            WireFault::Field(14),
+        ),
+        (
+            b"S1\x02\x85\x00\x00\x00\x07\x00\x00\x00\x01RAGB\x00\x00\x00\x00\x4e\x20",
+            WireFault::Field(16),
+        ),
+        (
+            b"S1\x02\x85\x00\x00\x00\x07\x00\x00\x00\x01RAGB\x11\x05",
+            WireFault::Field(16),
+        ),
+        (
+            b"S1\x02\x85\x00\x00\x00\x07\x00\x00\x00\x01RAGB\x02\x06",
+            WireFault::Outcome,
+        ),
+        (
+            b"S1\x02\x85\x00\x00\x00\x07\x00\x00\x00\x01RAGB\x02\x01",
+            WireFault::Outcome,
+        ),
+        (
+            b"S1\x02\x85\x00\x00\x00\x07\x00\x00\x00\x01RAGB\x02\x0a",
+            WireFault::Outcome,
+        ),
+        (
+            b"S1\x02\x85\x00\x00\x00\x07\x00\x00\x00\x01RAGB\x02\x00\x00\x00\x4e\x20RA000000006GBRA000000015GB",
+            WireFault::Field(22),
+        ),
+        (
+            b"S1\x02\x85\x00\x00\x00\x07\x00\x00\x00\x01RAGB\x02\x00\x00\x00\x4e\x20RA000000005GBRA000000014gB",
+            WireFault::Field(35),
+        ),
+    ];
+    for (bytes, fault) in refused {
+        assert_eq!(rt; decode_reply(bytes), Err(fault), "{bytes:?}");
+    }
+}
+
+#[test]
 fn faults_say_what_is_wrong(rt: HostRuntime) -> Result<(), Fail> {
     for (fault, text) in [
         (WireFault::Short, "a datagram has at least 12 bytes"),
         (WireFault::Magic, "a datagram begins with the bytes 53 31"),
-        (WireFault::Version, "the version is not 1"),
+        (WireFault::Version, "the version is neither 1 nor 2"),
         (WireFault::Kind, "no such kind"),
         (WireFault::Length, "the length is not that of the kind"),
         (WireFault::Field(12), "the field at 12 is wrong"),

@@ -1,11 +1,11 @@
 //! Datagrams as they stand in a dump, and what they say.
 
 use s10_core::{Country, Id, Serial, Service};
-use s10_wire::{Body, Outcome, Reply, Request, Status};
+use s10_wire::{Body, Count, Ids, Outcome, Reply, Request, Status};
 use std::process::Abort;
 
 /// Requests.
-pub const REQUESTS: [&[u8]; 8] = [
+pub const REQUESTS: [&[u8]; 9] = [
     b"S1\x01\x01\x00\x00\x00\x00\x00\x00\x00\x01\x00\x00\x00\x07RAGB\x00\x00\x00\x00\x00\x00\x00\x02",
     b"S1\x01\x02\x00\x00\x00\x07\x00\x00\x00\x01RAGB",
     b"S1\x01\x02\x00\x00\x00\x07\x00\x00\x00\x02RAGB",
@@ -14,10 +14,11 @@ pub const REQUESTS: [&[u8]; 8] = [
     b"S1\x01\x02\x00\x00\x00\x07\x00\x00\x00\x05RAGB",
     b"S1\x01\x03\x00\x00\x00\x07\x00\x00\x00\x03RA000000014GB",
     b"S1\x01\x04\x00\x00\x00\x07\x00\x00\x00\x01RA000000005GB",
+    b"S1\x02\x05\x00\x00\x00\x07\x00\x00\x00\x01RAGB\x02",
 ];
 
 /// Replies.
-pub const REPLIES: [&[u8]; 12] = [
+pub const REPLIES: [&[u8]; 15] = [
     b"S1\x01\x81\x00\x00\x00\x00\x00\x00\x00\x01\x00\x00\x00\x07RAGB\x00\x00\x00\x00\x00\x00\x00\x02\x00\x00\x00\x00\x01",
     b"S1\x01\x82\x00\x00\x00\x07\x00\x00\x00\x01RAGB\x00\x00\x00\x4e\x20RA000000005GB",
     b"S1\x01\x82\x00\x00\x00\x07\x00\x00\x00\x02RAGB\x00\x00\x00\x4e\x20RA000000014GB",
@@ -30,9 +31,12 @@ pub const REPLIES: [&[u8]; 12] = [
     b"S1\x01\x84\x00\x00\x00\x07\x00\x00\x00\x09RA000000014GB\x00\x02\x00\x00\x4e\x3e",
     b"S1\x01\x84\x00\x00\x00\x00\x00\x00\x00\x02RA473124829US\x00\x00\x00\x00\x00\x00",
     b"S1\x01\x81\x00\x00\x00\x00\x00\x00\x00\x02\x00\x00\x00\x08RAGB\x00\x00\x00\x02\x00\x00\x00\x05\x03",
+    b"S1\x02\x85\x00\x00\x00\x07\x00\x00\x00\x01RAGB\x02\x00\x00\x00\x4e\x20RA000000005GBRA000000014GB",
+    b"S1\x02\x85\x00\x00\x00\x07\x00\x00\x00\x02RAGB\x02\x05",
+    b"S1\x02\x85\x00\x00\x00\x07\x00\x00\x00\x04RAGB\x03\x00\x00\x00\x4e\x3eRA000000005GBRA000000014GBRA000000028GB",
 ];
 
-pub(crate) fn requests(rt: &impl Abort) -> [Request; 8] {
+pub(crate) fn requests(rt: &impl Abort) -> [Request; 9] {
     [
         request(0, 1, grant(rt, 7, 0, 2)),
         request(7, 1, draw(rt)),
@@ -42,10 +46,11 @@ pub(crate) fn requests(rt: &impl Abort) -> [Request; 8] {
         request(7, 5, draw(rt)),
         request(7, 3, void(rt, b"RA000000014GB")),
         request(7, 1, query(rt, b"RA000000005GB")),
+        request(7, 1, draw_many(rt, 2)),
     ]
 }
 
-pub(crate) fn replies(rt: &impl Abort) -> [(Request, Outcome); 12] {
+pub(crate) fn replies(rt: &impl Abort) -> [(Request, Outcome); 15] {
     [
         (
             request(0, 1, grant(rt, 7, 0, 2)),
@@ -74,6 +79,19 @@ pub(crate) fn replies(rt: &impl Abort) -> [(Request, Outcome); 12] {
             Outcome::Told(Status::Unknown),
         ),
         (request(0, 2, grant(rt, 8, 2, 5)), Outcome::Overlap),
+        (
+            request(7, 1, draw_many(rt, 2)),
+            drawn_many(rt, 20_000, &[b"RA000000005GB", b"RA000000014GB"]),
+        ),
+        (request(7, 2, draw_many(rt, 2)), Outcome::NoneFree),
+        (
+            request(7, 4, draw_many(rt, 3)),
+            drawn_many(
+                rt,
+                20_030,
+                &[b"RA000000005GB", b"RA000000014GB", b"RA000000028GB"],
+            ),
+        ),
     ]
 }
 
@@ -110,10 +128,34 @@ pub(crate) fn query(rt: &impl Abort, text: &[u8]) -> Body {
     Body::Query { id: id(rt, text) }
 }
 
+pub(crate) fn draw_many(rt: &impl Abort, labels: u8) -> Body {
+    match Count::new(labels) {
+        Some(count) => Body::DrawMany {
+            service: service(rt),
+            country: country(rt),
+            count,
+        },
+        None => panic!(rt; "{labels} labels"),
+    }
+}
+
 pub(crate) fn drawn(rt: &impl Abort, day: u32, text: &[u8]) -> Outcome {
     Outcome::Drawn {
         day,
         id: id(rt, text),
+    }
+}
+
+/// The sheet of the identifiers with these texts.
+pub(crate) fn drawn_many(rt: &impl Abort, day: u32, texts: &[&[u8]]) -> Outcome {
+    let mut room = [id(rt, b"RA000000005GB"); 16];
+    let labels = texts.len().min(16);
+    for place in 0..labels {
+        room[place] = id(rt, texts[place]);
+    }
+    match Ids::new(&room[..labels]) {
+        Some(ids) => Outcome::DrawnMany { day, ids },
+        None => panic!(rt; "a sheet without labels"),
     }
 }
 

@@ -4,8 +4,9 @@ use Rattle.std.specs.Prelude.{Contains, IsTrue, slice_get, find}
 use Rattle.std.proofs.lemmas.Bool.{cases_order, and_from, and_parts, eq-eqb, eqb-true}
 use Rattle.std.proofs.lemmas.List.Elements.{All-weaker}
 use Rattle.std.proofs.lemmas.Option.{none-some, same_Some, slice_get_within, slice_get-get_or, get_or_from_slice_get}
+use Rattle.s10_core.specs.declared.id.Id.{Id}
 use Rattle.s10_wire.specs.declared.body.Body.{Body}
-use Rattle.s10_wire.specs.declared.body.Body.TheVariants.{Grant, Draw, Void, Query}
+use Rattle.s10_wire.specs.declared.body.Body.TheVariants.{Grant, Draw, Void, Query, DrawMany}
 use Rattle.s10_wire.specs.declared.request.Request.{Request}
 use Rattle.s10_wire.specs.declared.outcome.Outcome.{Outcome}
 use Rattle.s10_wire.specs.declared.outcome.Outcome.TheVariants.{Granted, Voided, Told, NotThePost, BadGrant, Overlap, NotYours, AlreadyVoid, NumberReused}
@@ -16,7 +17,7 @@ use Rattle.s10_book.specs.declared.issue.Issue.{Issue}
 use Rattle.s10_book.specs.declared.issuance.Issuance.{Issuance}
 use Rattle.s10_book.specs.Settings.{Terms}
 use Rattle.s10_book.specs.History.{has_key, entry_with_key}
-use Rattle.s10_book.specs.Rules.{IsLegal, answer_of, outcome_of_pick, void_issue}
+use Rattle.s10_book.specs.Rules.{IsLegal, answer_of, outcome_of_pick, outcome_of_row, void_issue}
 use Rattle.s10_ends.specs.Served.{Gives}
 use Rattle.s10_world.specs.World.{Acceptance, WorldState}
 use Rattle.s10_world.specs.Agreement.{HasOutcome, HasOther, IsOutcomeIn, Agrees, IsExecutedAtMostOnce, TellsExecution, IsAtMostOnce}
@@ -102,6 +103,11 @@ pick_not is day rs (Some r) = λ e. cc
 pick_not is day [] None = λ e. cc
 pick_not is day (r ∷ rs) None = λ e. cc
 
+row_not : (day : ℕ) (rs : List Range) (row : Option (List Id)) → outcome_of_row day rs row ≢ NumberReused
+row_not day [] row = λ e. cc
+row_not day (r ∷ rs) None = λ e. cc
+row_not day (r ∷ rs) (Some ids) = λ e. cc
+
 void_not : (issue : Option Issue) → void_issue issue ≢ NumberReused
 void_not None = λ e. cc
 void_not (Some i) = cond_not i.voided AlreadyVoid Voided (λ e. cc) (λ e. cc)
@@ -116,6 +122,7 @@ answer_not : (h : List Entry) (q : Request) (body : Body) (day interval : ℕ) �
 answer_not h q (Grant holder service country first lst) day interval =
     cond_not _ NotThePost _ (λ e. cc) (cond_not _ BadGrant _ (λ e. cc) (cond_not _ Overlap _ (λ e. cc) (granted_not _)))
 answer_not h q (Draw service country) day interval = pick_not _ day _ _
+answer_not h q (DrawMany service country count) day interval = row_not day _ _
 answer_not h q (Void x) day interval = cond_not _ _ NotYours (void_not _) (λ e. cc)
 answer_not h q (Query x) day interval = cond_not _ _ NotYours (told_not _) (λ e. cc)
 

@@ -29,3 +29,13 @@ returns-in_err-outcome-clause-refused c =
     ∙ sym c.in_err-outcome.ensures.refused) in
     let p = err_from_is_err_and c.from_residual-in_err-outcome.result c.from_residual-in_err-outcome.ensures.1 in
     rw (p.1, p.2) refused
+
+pub returns-clause-refused : goal.returns-clause-refused
+returns-clause-refused c =
+    let b = c.args.bytes.now in
+    let kind : Kind = c.in_ok-kind.kind in
+    let long : is_reply_long kind b ≡ true = sym c.is_reply_long.ensures ∙ c.if-not-is_reply_long.false in
+    sym (fields_decide b kind c.in_ok-kind.ensures.refused c.in_ok-kind.ensures.named long
+    ∙ second_decides (request_fields kind b) (outcome_refusals kind b) (sym c.in_ok-request.ensures.refused)
+    ∙ ap (λ (k : Kind). first_refusal (outcome_refusals k b)) (sym c.in_ok-request.ensures.kind)
+    ∙ sym c.in_ok-outcome.ensures.refused)
