@@ -38,7 +38,8 @@ name() {
         return
     fi
     { mapfile -d '' -t words <"/proc/${key%/*}/cmdline"; } 2>/dev/null || return
-    [ "${words[0]##*/}" = rattle ] || return
+    command=${words[0]:-}
+    [ "${command##*/}" = rattle ] || return
     kinds[$key]=$(kind_of "${words[@]:1}")
     crates[$key]=$(crate_of "${words[@]:1}")
 }
