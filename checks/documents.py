@@ -111,7 +111,7 @@ def look_in(room):
             came = room.type(f"{command}; echo status $?")
             if came[-1] != "status 0" or (shown and came[:-1] != shown) or ("SELECT num" in command and len(came) < 2):
                 raise Other("\n".join([command, *came]))
-    compare("an audit beside a table of the office's own", ["ledger ok 7"], room.type("s10 audit --ledger ledger"))
+    compare("an audit beside a table of the office's own", ["ledger ok 9"], room.type("s10 audit --ledger ledger"))
     return typed
 
 

@@ -7,10 +7,12 @@ would have got.
   python3 checks/refused_program.py [PROGRAM]
 """
 
+import contextlib
 import os
 import select
 import shutil
 import socket
+import sqlite3
 import subprocess
 import sys
 import tempfile
@@ -21,8 +23,8 @@ HERE = Path(__file__).resolve().parent
 PROGRAM = str(Path(sys.argv[1] if len(sys.argv) > 1 else HERE / "../crates/s10/out/s10").resolve())
 
 # The post grants RA GB 0 to 2 to customer 7, who draws serials 0 and 1, voids 1 twice, draws serial 2 and is told that none is
-# free; 30 days after it draws 0 and 1 again. The tenth call draws 2 again. A sheet of three in the place of these three draws has
-# all of them.
+# free; 30 days after it draws 0 and 1 again. The tenth call draws 2 again, or the post withdraws the range. A sheet of three in the
+# place of these three draws has all of them.
 GRANT = "53310101000000000000000100000007524147420000000000000002"
 VOID = "52413030303030303031344742"
 
@@ -36,6 +38,8 @@ LATER = [draw(7), draw(8)]
 SETTINGS = ["--interval", "30", "--limit", "1000"]
 TENTH = draw(9)
 TENTH_REPLY = "533101820000000700000009524147420000004e3e52413030303030303032384742"
+WITHDRAW = "53310206000000000000000200000001"
+WITHDRAW_REPLY = "5331028600000000000000020000000100"
 SHEET = "5331020500000007000000075241474203"
 SHEET_REPLY = (
     "53310285000000070000000752414742030000004e3e"
@@ -111,6 +115,24 @@ def copied(ledger, into):
     return f"{into}/ledger"
 
 
+def forget_closed(ledger):
+    """Makes a ledger with no range withdrawn one of the build that knew no withdrawals."""
+    with contextlib.closing(sqlite3.connect(ledger)) as tables:
+        tables.execute("DROP TABLE closed")
+        tables.commit()
+    return ledger
+
+
+def check_completing(name, ledger, env):
+    """An audit of a ledger of an earlier build, refused something, leaves one that another audit finds right."""
+    found = run(["audit", "--ledger", ledger], env)
+    if (found.returncode, found.stdout) != (0, "ledger ok 9\n") and found.returncode != 3:
+        fail(f"{name}: {found.stdout.strip()}")
+    for _ in range(2):
+        if audit(ledger) != "ledger ok 9":
+            fail(f"{name}: {audit(ledger)} in the end")
+
+
 def check_serving(name, ledger, before, day, datagrams, replies):
     """The calls before, and those of these that were answered, and no other, are kept; handed in again, each gets its reply."""
     answered = [it for it in datagrams if it in replies]
@@ -177,10 +199,18 @@ def refuse_memory(room):
 
     each_refusal("requests for memory of audit", room, refusals, look)
 
+    earlier = forget_closed(copied(nine, f"{room}/earlier"))
+
+    def complete(name, here, env):
+        check_completing(name, copied(earlier, here), env)
+
+    each_refusal("requests for memory of audit of an earlier build's", room, refusals, complete)
+
     for what, kept, day, datagrams in (
         ("seven calls", [], 20000, FIRST),
         ("two calls behind seven", [(20000, FIRST)], 20030, LATER),
         ("a sheet behind seven", [(20000, FIRST)], 20030, [SHEET]),
+        ("a withdrawal and a draw behind seven", [(20000, FIRST)], 20030, [WITHDRAW, draw(7)]),
     ):
         base = make(f"{room}/{what}", kept)
         told = [(then, it) for then, those in kept for it in those]
@@ -223,6 +253,8 @@ def stop_server(room, what, calls, asked, reply):
 def stop_disk(room):
     stop_server(room, "a Draw", [(20000, FIRST), (20030, LATER)], TENTH, TENTH_REPLY)
     stop_server(room, "a sheet of three", [(20000, FIRST)], SHEET, SHEET_REPLY)
+    stop_server(room, "a withdrawal", [(20000, FIRST), (20030, LATER)], WITHDRAW, WITHDRAW_REPLY)
+    earlier = forget_closed(make(f"{room}/earlier of nine", [(20000, FIRST), (20030, LATER)]))
     for file in ("ledger", "ledger-wal"):
 
         def refusals(at, here, file=file):
@@ -235,6 +267,11 @@ def stop_disk(room):
                 fail(f"{name}: {made.stdout.strip()}, then {found}")
 
         each_refusal(f"changes of {file} by create", room, refusals, create)
+
+        def complete(name, here, env):
+            check_completing(name, copied(earlier, here), env)
+
+        each_refusal(f"changes of {file} by audit of an earlier build's", room, refusals, complete)
 
 
 def kill_server(ledger):

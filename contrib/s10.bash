@@ -3,13 +3,13 @@ _s10() {
     local word=${COMP_WORDS[COMP_CWORD]} before=${COMP_WORDS[COMP_CWORD - 1]} options values files one
     COMPREPLY=()
     if ((COMP_CWORD == 1)); then
-        options='check make show replay create serve grant draw void query report audit loop help'
+        options='check make show replay create serve grant draw void query withdraw report audit loop help'
         [[ $word != -* ]] || options='--help --version'
         mapfile -t COMPREPLY < <(compgen -W "$options" -- "$word")
         return
     fi
     case ${COMP_WORDS[1]} in
-        help) ((COMP_CWORD == 2)) && mapfile -t COMPREPLY < <(compgen -W 'check make show replay create serve grant draw void query report audit loop' -- "$word")
+        help) ((COMP_CWORD == 2)) && mapfile -t COMPREPLY < <(compgen -W 'check make show replay create serve grant draw void query withdraw report audit loop' -- "$word")
             return ;;
         check) options='--label --help' values='' files='' ;;
         make) options='--help' values='' files='' ;;
@@ -21,6 +21,7 @@ _s10() {
         draw) options='--to --customer --number --service --country --count --tries --help' values='--to --customer --number --service --country --count --tries' files='' ;;
         void) options='--to --customer --number --id --tries --help' values='--to --customer --number --id --tries' files='' ;;
         query) options='--to --customer --number --id --tries --help' values='--to --customer --number --id --tries' files='' ;;
+        withdraw) options='--to --number --range --tries --help' values='--to --number --range --tries' files='' ;;
         report) options='--ledger --issues --day --help' values='--day' files='--ledger' ;;
         audit) options='--ledger --help' values='' files='--ledger' ;;
         loop) options='--day --help' values='--day' files='' ;;

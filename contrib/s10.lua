@@ -7,13 +7,13 @@
 
 local s10 = Proto("s10", "S10 item identifiers")
 
-local KINDS = { [1] = "grant", [2] = "draw", [3] = "void", [4] = "query", [5] = "draw-many" }
-local VERSIONS = { [1] = 1, [2] = 1, [3] = 1, [4] = 1, [5] = 2 }
-local LENGTHS = { [1] = 28, [2] = 16, [3] = 25, [4] = 25, [5] = 17 }
-local DONE_LENGTHS = { [1] = 33, [2] = 34, [3] = 26, [4] = 31 }
+local KINDS = { [1] = "grant", [2] = "draw", [3] = "void", [4] = "query", [5] = "draw-many", [6] = "withdraw" }
+local VERSIONS = { [1] = 1, [2] = 1, [3] = 1, [4] = 1, [5] = 2, [6] = 2 }
+local LENGTHS = { [1] = 28, [2] = 16, [3] = 25, [4] = 25, [5] = 17, [6] = 16 }
+local DONE_LENGTHS = { [1] = 33, [2] = 34, [3] = 26, [4] = 31, [6] = 17 }
 local OUTCOMES = {
     [0] = "done", "not-the-post", "bad-grant", "overlap", "no-range", "none-free", "not-yours", "not-issued",
-    "already-void", "number-reused",
+    "already-void", "number-reused", "no-such-range", "closed",
 }
 local FITS = {
     [1] = { [1] = true, [2] = true, [3] = true, [9] = true },
@@ -21,6 +21,7 @@ local FITS = {
     [3] = { [6] = true, [7] = true, [8] = true, [9] = true },
     [4] = { [6] = true, [9] = true },
     [5] = { [4] = true, [5] = true, [9] = true },
+    [6] = { [1] = true, [9] = true, [10] = true, [11] = true },
 }
 local STATUSES = { [0] = "unknown", "never", "issued", "voided" }
 local WEIGHTS = { 8, 6, 4, 2, 3, 5, 9, 7 }
@@ -113,6 +114,8 @@ local function read(bytes)
         if kind == 5 and (u8(16) < 1 or u8(16) > MOST) then return nil, "field 16" end
         say(text(12, 2), text(14, 2))
         if kind == 5 then say(u8(16)) end
+    elseif kind == 6 then
+        say(u32(12))
     else
         if not is_id(text(12, 13)) then return nil, "field 12" end
         say(text(12, 13))
@@ -171,6 +174,8 @@ local function show(tree, range, found)
         tree:add(f.service, range(12, 2))
         tree:add(f.country, range(14, 2))
         if kind == 5 then tree:add(f.count, range(16, 1)) end
+    elseif kind == 6 then
+        tree:add(f.range, range(12, 4))
     else
         tree:add(f.id, range(12, 13))
     end

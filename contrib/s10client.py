@@ -32,10 +32,10 @@ from typing import NamedTuple
 __all__ = [
     "Client", "make_notes", "Drawn", "Told", "S10Error", "GaveUp", "Unanswered", "NumbersSpent",
     "Refused", "NotThePost", "BadGrant", "Overlap", "NoRange", "NoneFree", "NotYours", "NotIssued",
-    "AlreadyVoid", "NumberReused", "check_digit",
+    "AlreadyVoid", "NumberReused", "NoSuchRange", "Closed", "check_digit",
 ]
 
-GRANT, DRAW, VOID, QUERY, DRAW_MANY = 1, 2, 3, 4, 5
+GRANT, DRAW, VOID, QUERY, DRAW_MANY, WITHDRAW = 1, 2, 3, 4, 5, 6
 POST = 0
 LAST_NUMBER = 0xFFFFFFFF
 LAST_SERIAL = 99_999_999
@@ -43,7 +43,7 @@ MOST = 16
 
 _HEADER = struct.Struct(">2sBBII")
 _MAGIC, _REPLY = b"S1", 0x80
-_VERSIONS = {GRANT: 1, DRAW: 1, VOID: 1, QUERY: 1, DRAW_MANY: 2}
+_VERSIONS = {GRANT: 1, DRAW: 1, VOID: 1, QUERY: 1, DRAW_MANY: 2, WITHDRAW: 2}
 _STATUSES = ("unknown", "never", "issued", "voided")
 _LONGEST = 512
 
@@ -69,7 +69,7 @@ class Refused(S10Error):
 
 
 class NotThePost(Refused):
-    """Another than the post asked for a grant."""
+    """Another than the post asked for a grant or a withdrawal."""
 
 
 class BadGrant(Refused):
@@ -81,11 +81,11 @@ class Overlap(Refused):
 
 
 class NoRange(Refused):
-    """The customer has no range of the service and country."""
+    """The customer has no open range of the service and country."""
 
 
 class NoneFree(Refused):
-    """No serial of the customer's ranges is free on that day, or fewer than the sheet has."""
+    """No serial of the customer's open ranges is free on that day, or fewer than the sheet has."""
 
 
 class NotYours(Refused):
@@ -100,13 +100,21 @@ class AlreadyVoid(Refused):
     """The identifier was voided before."""
 
 
+class NoSuchRange(Refused):
+    """No range has the number."""
+
+
+class Closed(Refused):
+    """The range was withdrawn before."""
+
+
 class NumberReused(Refused):
     """The customer has used the number for another request. This one was not executed."""
 
 
 # The refusals by outcome byte, and the kinds of request that each fits.
 _REFUSALS = {
-    1: (NotThePost, {GRANT}),
+    1: (NotThePost, {GRANT, WITHDRAW}),
     2: (BadGrant, {GRANT}),
     3: (Overlap, {GRANT}),
     4: (NoRange, {DRAW, DRAW_MANY}),
@@ -114,7 +122,9 @@ _REFUSALS = {
     6: (NotYours, {VOID, QUERY}),
     7: (NotIssued, {VOID}),
     8: (AlreadyVoid, {VOID}),
-    9: (NumberReused, {GRANT, DRAW, VOID, QUERY, DRAW_MANY}),
+    9: (NumberReused, {GRANT, DRAW, VOID, QUERY, DRAW_MANY, WITHDRAW}),
+    10: (NoSuchRange, {WITHDRAW}),
+    11: (Closed, {WITHDRAW}),
 }
 
 
@@ -198,6 +208,10 @@ class Client:
         body = struct.pack(">I2s2sII", _u32(holder, "holder"), _letters(service, "service"),
                            _letters(country, "country"), _serial(first), _serial(last))
         return self._ask(GRANT, body)
+
+    def withdraw(self, range_number):
+        """Closes a range for ever, as the post, by the number that its grant was answered with."""
+        self._ask(WITHDRAW, _u32(range_number, "range").to_bytes(4, "big"))
 
     def draw(self, service, country):
         """Draws the next free identifier of a service and country: a `Drawn`."""
@@ -285,7 +299,7 @@ def _read_reply(request, datagram):
     if kind == DRAW_MANY and len(rest) == 4 + 13 * request[16]:
         day, texts = int.from_bytes(rest[:4], "big"), [rest[at:at + 13] for at in range(4, len(rest), 13)]
         return (0, [Drawn(text.decode("ascii"), day) for text in texts]) if all(map(_is_identifier, texts)) else None
-    if kind == VOID and not rest:
+    if kind in (VOID, WITHDRAW) and not rest:
         return 0, None
     if kind == QUERY and len(rest) == 5 and rest[0] < len(_STATUSES):
         day = int.from_bytes(rest[1:], "big")

@@ -26,15 +26,15 @@ ID, OTHER_ID = b"RA000000014GB", b"RA000000005GB"
 def right_ones():
     """Each kind of request, and each reply with each outcome that fits it."""
     def head(kind, customer=7, number=1):
-        return struct.pack(">2sBBII", b"S1", 2 if kind & 0x7f == 5 else 1, kind, customer, number)
+        return struct.pack(">2sBBII", b"S1", 2 if kind & 0x7f >= 5 else 1, kind, customer, number)
 
     number = struct.Struct(">I").pack
     bodies = {1: number(7) + b"RAGB" + number(0) + number(99999999), 2: b"RAGB", 3: ID, 4: ID,
-              5: b"RAGB\2"}
-    refusals = {1: (1, 2, 3, 9), 2: (4, 5, 9), 3: (6, 7, 8, 9), 4: (6, 9), 5: (4, 5, 9)}
+              5: b"RAGB\2", 6: number(1)}
+    refusals = {1: (1, 2, 3, 9), 2: (4, 5, 9), 3: (6, 7, 8, 9), 4: (6, 9), 5: (4, 5, 9), 6: (1, 9, 10, 11)}
     done = {1: [number(1), number(2**32 - 1)], 2: [number(20000) + OTHER_ID], 3: [b""],
             4: [b"\0" + number(0), b"\1" + number(0), b"\2" + number(20030), b"\3" + number(2**32 - 1)],
-            5: [number(20000) + OTHER_ID + ID]}
+            5: [number(20000) + OTHER_ID + ID], 6: [b""]}
     found = []
     for kind, body in bodies.items():
         found.append(head(kind) + body)

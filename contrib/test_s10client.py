@@ -18,8 +18,8 @@ import time
 import unittest
 
 import s10client
-from s10client import (AlreadyVoid, BadGrant, Client, Drawn, GaveUp, NoneFree, NoRange, NotIssued,
-                       NotThePost, NotYours, NumberReused, NumbersSpent, Overlap, Told, Unanswered,
+from s10client import (AlreadyVoid, BadGrant, Client, Closed, Drawn, GaveUp, NoneFree, NoRange, NoSuchRange,
+                       NotIssued, NotThePost, NotYours, NumberReused, NumbersSpent, Overlap, Told, Unanswered,
                        make_notes)
 
 PROGRAM = os.environ.get("S10") or shutil.which("s10")
@@ -166,6 +166,22 @@ class Calls(ServedTest):
         with self.assertRaises(NoRange):
             seven.draw_many("RB", "GB", 16)
 
+    def test_a_range_is_withdrawn_for_ever(self):
+        post, seven = self.client(0), self.client(7)
+        post.grant(7, "RA", "GB", 0, 2)
+        seven.draw("RA", "GB")
+        self.assertIsNone(post.withdraw(1))
+        self.assertIsNone(post.again())
+        for refusal, call in ((Closed, lambda: post.withdraw(1)), (NoSuchRange, lambda: post.withdraw(2)),
+                              (NotThePost, lambda: seven.withdraw(1)), (NoRange, lambda: seven.draw("RA", "GB")),
+                              (NoRange, lambda: seven.draw_many("RA", "GB", 1)),
+                              (Overlap, lambda: post.grant(8, "RA", "GB", 0, 2))):
+            with self.assertRaises(refusal):
+                call()
+        self.assertIsNone(seven.void("RA000000005GB"))
+        self.assertEqual(seven.query("RA000000005GB"), Told("voided", DAY))
+        self.assertEqual(post.grant(8, "RA", "GB", 3, 3), 2)
+
     def test_refusals_are_raised(self):
         post, seven = self.client(0), self.client(7)
         post.grant(7, "RA", "GB", 0, 1)
@@ -202,7 +218,8 @@ class Calls(ServedTest):
                      lambda: seven.void("RA000000006GB"), lambda: seven.query("RÄ000000005GB"),
                      lambda: seven.grant(7, "RA", "GB", 0, 100_000_000),
                      lambda: seven.grant(-1, "RA", "GB", 0, 1),
-                     lambda: seven.draw_many("RA", "GB", 0), lambda: seven.draw_many("RA", "GB", 17)):
+                     lambda: seven.draw_many("RA", "GB", 0), lambda: seven.draw_many("RA", "GB", 17),
+                     lambda: seven.withdraw(2**32)):
             with self.assertRaises(ValueError):
                 call()
         self.assertEqual((seven.number, seven.noted), (1, []))
@@ -315,7 +332,8 @@ class Loss(ServedTest):
                             (seven, lambda: seven.draw("RA", "GB")),
                             (seven, lambda: seven.draw_many("RA", "GB", 2)),
                             (seven, lambda: seven.void("RA000000005GB")),
-                            (seven, lambda: seven.query("RA000000005GB"))):
+                            (seven, lambda: seven.query("RA000000005GB")),
+                            (post, lambda: post.withdraw(1))):
             ask()
             request = client.request
             link.sendto(request, self.server.address)
@@ -333,12 +351,12 @@ class Loss(ServedTest):
     def test_the_same_bytes_are_read_as_the_program_reads_them(self):
         post, seven = self.client(0), self.client(7)
         post.grant(7, "RA", "GB", 0, 9)
-        requests = list(post.noted)
         seven.draw("RA", "GB")
         seven.void("RA000000005GB")
         seven.query("RA000000005GB")
         seven.draw_many("RA", "GB", 3)
-        requests += seven.noted
+        post.withdraw(1)
+        requests = post.noted + seven.noted
         choose = random.Random(4)
         link = socket.socket(socket.AF_INET, socket.SOCK_DGRAM)
         self.addCleanup(link.close)
@@ -457,7 +475,7 @@ class Datagrams(unittest.TestCase):
         with Client(("127.0.0.1", 9), 7, 1, stop) as client:
             for call in (lambda: client.grant(7, "RA", "GB", 0, 2), lambda: client.draw("RA", "GB"),
                          lambda: client.void("RA000000014GB"), lambda: client.query("RA000000014GB"),
-                         lambda: client.draw_many("RA", "GB", 2)):
+                         lambda: client.draw_many("RA", "GB", 2), lambda: client.withdraw(3)):
                 with self.assertRaises(InterruptedError):
                     call()
         self.assertEqual(noted, [
@@ -466,6 +484,7 @@ class Datagrams(unittest.TestCase):
             "533101030000000700000001" "52413030303030303031344742",
             "533101040000000700000001" "52413030303030303031344742",
             "533102050000000700000001" "52414742" "02",
+            "533102060000000700000001" "00000003",
         ])
 
 

@@ -1,5 +1,5 @@
 -- A pick looks at the identifiers of the issues and at their days alone, so Draws in a row are picks in a row.
-use Rattle.std.proofs.Common.{◌≡◌, ℕ, zero, suc, ◌+◌, Bool, true, false, cond, not, ◌&&◌, ◌||◌, List, [], ◌∷◌, ◌++◌, Option, Some, None, refl, sym, ap, ap₂, ◌∙◌, subst, length, append-nil}
+use Rattle.std.proofs.Common.{◌≡◌, ℕ, zero, suc, ◌+◌, Bool, true, false, cond, not, ◌&&◌, ◌||◌, List, [], ◌∷◌, ◌++◌, Option, Some, None, refl, sym, ap, ap₂, ◌∙◌, subst, length}
 use Rattle.std.specs.Prelude.{find, filter}
 use Rattle.std.specs.List.{last_or}
 use Rattle.std.specs.Option.{option_map, option_or, unwrap_or}
@@ -8,11 +8,12 @@ use Rattle.s10_core.specs.Id.{same_id}
 use Rattle.s10_book.specs.declared.entry.Entry.{Entry}
 use Rattle.s10_book.specs.declared.range.Range.{Range}
 use Rattle.s10_book.specs.declared.issuance.Issuance.{Issuance}
-use Rattle.s10_book.specs.History.{ranges_of, is_held, ranges_held, lies_in}
+use Rattle.s10_book.specs.History.{ranges_open, lies_in}
 use Rattle.s10_book.specs.Issues.{issues_of, is_of, last_issuance_of, is_issued, is_free_since, serial_issued_earliest, serials, pick_of, id_at}
 use Rattle.s10_book.specs.Rules.{has_free_pick, outcome_of_pick, draw_done, then_drawn, draws_in_a_row}
 use Rattle.s10_book.proofs.Earliest.{earliest_cons}
-use Rattle.s10_book.proofs.Push.{ranges_from-push, issues_from-push}
+use Rattle.s10_book.proofs.Push.{issues_from-push}
+use Rattle.s10_book.proofs.Closing.{draw_open}
 use Rattle.s10_book.proofs.Picking.{then_found, then_same, picks}
 
 -- the issues have the same identifiers, on the same days
@@ -87,27 +88,27 @@ drawn_then is day (x ∷ rs) (Some r) next = refl
 
 -- Draws in a row give the picks in a row
 pub row_is : (made : Id → Issuance) (customer : ℕ) (s c : ℕ × ℕ) (day n : ℕ) → ((x : Id) → (made x).id ≡ x) → ((x : Id) → (made x).day ≡ day) → (count : ℕ) (h : List Entry) (is : List Issuance) → Alike (issues_of h) is
-    → draws_in_a_row h customer s c day n count ≡ picks made day n (ranges_held h customer s c) is count
+    → draws_in_a_row h customer s c day n count ≡ picks made day n (ranges_open h customer s c) is count
 row_is made customer s c day n same on zero h is alike = refl
 row_is made customer s c day n same on (suc k) h is alike =
-    let rs : List Range = ranges_held h customer s c in
-    drawn_then (issues_of h) day (ranges_held h customer s c) (find (has_free_pick (issues_of h) day n) (ranges_held h customer s c)) (λ x. draws_in_a_row (h ++ draw_done customer s c day x ∷ []) customer s c day n k)
+    let rs : List Range = ranges_open h customer s c in
+    drawn_then (issues_of h) day (ranges_open h customer s c) (find (has_free_pick (issues_of h) day n) (ranges_open h customer s c)) (λ x. draws_in_a_row (h ++ draw_done customer s c day x ∷ []) customer s c day n k)
     ∙ ap (λ o. then_found o (λ r. option_map (λ xs. id_at r (pick_of (issues_of h) r) ∷ xs) (draws_in_a_row (h ++ draw_done customer s c day (id_at r (pick_of (issues_of h) r)) ∷ []) customer s c day n k)))
-    (find_same (has_free_pick (issues_of h) day n) (has_free_pick is day n) (ranges_held h customer s c) (λ r. free_alike (issues_of h) is day n r alike))
-    ∙ then_same (find (has_free_pick is day n) (ranges_held h customer s c)) _ _ (λ r _. each r (row_is made customer s c day n same on k))
+    (find_same (has_free_pick (issues_of h) day n) (has_free_pick is day n) (ranges_open h customer s c) (λ r. free_alike (issues_of h) is day n r alike))
+    ∙ then_same (find (has_free_pick is day n) (ranges_open h customer s c)) _ _ (λ r _. each r (row_is made customer s c day n same on k))
   where
-    each : (r : Range) → ((g : List Entry) (js : List Issuance) → Alike (issues_of g) js → draws_in_a_row g customer s c day n k ≡ picks made day n (ranges_held g customer s c) js k) → option_map (λ xs. id_at r (pick_of (issues_of h) r) ∷ xs) (draws_in_a_row (h ++ draw_done customer s c day (id_at r (pick_of (issues_of h) r)) ∷ []) customer s c day n k)
-        ≡ option_map (λ xs. id_at r (pick_of is r) ∷ xs) (picks made day n (ranges_held h customer s c) (is ++ made (id_at r (pick_of is r)) ∷ []) k)
+    each : (r : Range) → ((g : List Entry) (js : List Issuance) → Alike (issues_of g) js → draws_in_a_row g customer s c day n k ≡ picks made day n (ranges_open g customer s c) js k) → option_map (λ xs. id_at r (pick_of (issues_of h) r) ∷ xs) (draws_in_a_row (h ++ draw_done customer s c day (id_at r (pick_of (issues_of h) r)) ∷ []) customer s c day n k)
+        ≡ option_map (λ xs. id_at r (pick_of is r) ∷ xs) (picks made day n (ranges_open h customer s c) (is ++ made (id_at r (pick_of is r)) ∷ []) k)
     each r behind =
         let x : Id = id_at r (pick_of is r) in
         let e : Entry = draw_done customer s c day (id_at r (pick_of is r)) in
         let grown : issues_of (h ++ draw_done customer s c day (id_at r (pick_of is r)) ∷ []) ≡ issues_of h ++ record { id = id_at r (pick_of is r); day = day; customer = customer; number = 0; arrival = 1 + length h } ∷ [] =
         issues_from-push 1 h (draw_done customer s c day (id_at r (pick_of is r))) in
-        let ranges : ranges_of (h ++ draw_done customer s c day (id_at r (pick_of is r)) ∷ []) ≡ ranges_of h = ranges_from-push 1 h (draw_done customer s c day (id_at r (pick_of is r))) ∙ append-nil (ranges_of h) in
+        let same_open : ranges_open (h ++ draw_done customer s c day (id_at r (pick_of is r)) ∷ []) customer s c ≡ ranges_open h customer s c = draw_open h (draw_done customer s c day (id_at r (pick_of is r))) customer s c day (id_at r (pick_of is r)) refl in
         let A : List Issuance → Type 0 = λ l. Alike l (is ++ made (id_at r (pick_of is r)) ∷ []) in
         let next : Alike (issues_of (h ++ draw_done customer s c day (id_at r (pick_of is r)) ∷ [])) (is ++ made (id_at r (pick_of is r)) ∷ []) =
         subst A (sym grown) (alike_push (issues_of h) is _ (made (id_at r (pick_of is r))) alike (sym (same (id_at r (pick_of is r)))) (sym (on (id_at r (pick_of is r))))) in
         ap (λ v. option_map (λ xs. id_at r v ∷ xs) (draws_in_a_row (h ++ draw_done customer s c day (id_at r v) ∷ []) customer s c day n k)) (pick_alike r (issues_of h) is alike)
         ∙ ap (option_map (λ xs. id_at r (pick_of is r) ∷ xs))
         (behind (h ++ draw_done customer s c day (id_at r (pick_of is r)) ∷ []) (is ++ made (id_at r (pick_of is r)) ∷ []) next
-        ∙ ap (λ l. picks made day n (filter (is_held customer s c) l) (is ++ made (id_at r (pick_of is r)) ∷ []) k) ranges)
+        ∙ ap (λ l. picks made day n l (is ++ made (id_at r (pick_of is r)) ∷ []) k) same_open)

@@ -8,14 +8,14 @@ use Rattle.std.proofs.lemmas.List.Elements.{All-nil, All-cons, All-head, All-tai
 use Rattle.s10_core.specs.declared.id.Id.{Id}
 use Rattle.s10_wire.specs.Kind.{fits}
 use Rattle.s10_wire.specs.declared.body.Body.{Body}
-use Rattle.s10_wire.specs.declared.body.Body.TheVariants.{Grant, Draw, Void, Query, DrawMany}
+use Rattle.s10_wire.specs.declared.body.Body.TheVariants.{Grant, Draw, Void, Query, DrawMany, Withdraw}
 use Rattle.s10_wire.specs.declared.outcome.Outcome.{Outcome}
 use Rattle.s10_wire.specs.declared.outcome.Outcome.TheVariants.{Drawn, DrawnMany}
 use Rattle.s10_book.specs.declared.entry.Entry.{Entry}
 use Rattle.s10_book.specs.declared.range.Range.{Range}
 use Rattle.s10_book.specs.declared.issuance.Issuance.{Issuance}
 use Rattle.s10_book.specs.Settings.{Terms}
-use Rattle.s10_book.specs.History.{ranges_of, is_held, ranges_held}
+use Rattle.s10_book.specs.History.{ranges_of, is_open, ranges_open}
 use Rattle.s10_book.specs.Issues.{issues_of, carried_by, is_free, id_at, pick_of}
 use Rattle.s10_book.specs.Rules.{MayFollow, body_answer, outcome_of_pick, outcome_of_row, draws_in_a_row, has_free_pick}
 use Rattle.s10_book.proofs.Ranges.{Contains-find, found_passes}
@@ -53,52 +53,55 @@ pub Contains-filter : {A : Type 0} (p : A → Bool) (xs : List A) (x : A) → Co
 Contains-filter {A} p xs x in' = let P : A → Type 0 = Contains xs in All-contains P (filter p xs) x (All-filter p P xs (All-contains_itself xs)) in'
 
 -- the range of a pick that is free is the customer's
-pub picked_from : (rs : List Range) (customer day n : ℕ) (s c : ℕ × ℕ) (is : List Issuance) (r : Range) → find (has_free_pick is day n) (filter (is_held customer s c) rs) ≡ Some r
+unfoldable pub picked_from : (g : List Entry) (rs : List Range) (customer day n : ℕ) (s c : ℕ × ℕ) (is : List Issuance) (r : Range) → find (has_free_pick is day n) (filter (is_open g customer s c) rs) ≡ Some r
     → IsPicked rs customer day n is (day, id_at r (pick_of is r))
-picked_from rs customer day n s c is r found =
-    let at : Contains (filter (is_held customer s c) rs) r = Contains-find (has_free_pick is day n) (filter (is_held customer s c) rs) r found in
-    let passes : is_held customer s c r ≡ true = All-contains (λ y. is_held customer s c y ≡ true) (filter (is_held customer s c) rs) r (filter_passes (is_held customer s c) rs) at in
+picked_from g rs customer day n s c is r found =
+    let at : Contains (filter (is_open g customer s c) rs) r = Contains-find (has_free_pick is day n) (filter (is_open g customer s c) rs) r found in
+    let passes : is_open g customer s c r ≡ true = All-contains (λ y. is_open g customer s c y ≡ true) (filter (is_open g customer s c) rs) r (filter_passes (is_open g customer s c) rs) at in
     record {
       same_day = refl;
-      free = found_passes (has_free_pick is day n) (filter (is_held customer s c) rs) r found;
+      free = found_passes (has_free_pick is day n) (filter (is_open g customer s c) rs) r found;
       range = r;
-      there = Contains-filter (is_held customer s c) rs r at;
-      holder = eqb-true r.holder customer (and_parts _ _ (and_parts _ _ passes).0).0;
+      there = Contains-filter (is_open g customer s c) rs r at;
+      holder = eqb-true r.holder customer (and_parts _ _ (and_parts _ _ (and_parts _ _ passes).0).0).0;
       picked = refl;
     }
 
-carried_at : (rs : List Range) (customer day n : ℕ) (s c : ℕ × ℕ) (is : List Issuance) (made : ℕ × Id → Issuance) (held : List Range) (o : Option Range) → find (has_free_pick is day n) (filter (is_held customer s c) rs) ≡ o
-    → InTurn (IsPicked rs customer day n) made is (carried_by (outcome_of_pick is day held o))
-carried_at rs customer day n s c is made [] None found = tt
-carried_at rs customer day n s c is made (y ∷ ys) None found = tt
-carried_at rs customer day n s c is made [] (Some r) found = (picked_from rs customer day n s c is r found, tt)
-carried_at rs customer day n s c is made (y ∷ ys) (Some r) found = (picked_from rs customer day n s c is r found, tt)
+-- what holds of each pick that is found among the ranges holds of what a Draw carries
+carried_at : (P : List Issuance → ℕ × Id → Type 0) (day n : ℕ) (among : List Range) (is : List Issuance) (made : ℕ × Id → Issuance) (held : List Range) (o : Option Range) → find (has_free_pick is day n) among ≡ o
+    → ((js : List Issuance) (r : Range) → find (has_free_pick js day n) among ≡ Some r → P js (day, id_at r (pick_of js r)))
+    → InTurn P made is (carried_by (outcome_of_pick is day held o))
+carried_at P day n among is made [] None found holds = tt
+carried_at P day n among is made (y ∷ ys) None found holds = tt
+carried_at P day n among is made [] (Some r) found holds = (holds is r found, tt)
+carried_at P day n among is made (y ∷ ys) (Some r) found holds = (holds is r found, tt)
 
 -- the picks of so many Draws in a row
-row_carried : (rs : List Range) (customer day n : ℕ) (s c : ℕ × ℕ) (made : ℕ × Id → Issuance) (count : ℕ) (is : List Issuance) (ids : List Id)
-    → picks (λ x. made (day, x)) day n (filter (is_held customer s c) rs) is count ≡ Some ids → InTurn (IsPicked rs customer day n) made is (map (λ x. (day, x)) ids)
-row_carried rs customer day n s c made zero is ids e = let P : List Id → Type 0 = λ l. InTurn (IsPicked rs customer day n) made is (map (λ x. (day, x)) l) in subst P (same_Some [] ids e) tt
-row_carried rs customer day n s c made (suc k) is ids e = found_at (find (has_free_pick is day n) (filter (is_held customer s c) rs)) refl e (row_carried rs customer day n s c made k)
+row_carried : (P : List Issuance → ℕ × Id → Type 0) (day n : ℕ) (among : List Range) (made : ℕ × Id → Issuance)
+    → ((js : List Issuance) (r : Range) → find (has_free_pick js day n) among ≡ Some r → P js (day, id_at r (pick_of js r)))
+    → (count : ℕ) (is : List Issuance) (ids : List Id) → picks (λ x. made (day, x)) day n among is count ≡ Some ids → InTurn P made is (map (λ x. (day, x)) ids)
+row_carried P day n among made holds zero is ids e = let T : List Id → Type 0 = λ l. InTurn P made is (map (λ x. (day, x)) l) in subst T (same_Some [] ids e) tt
+row_carried P day n among made holds (suc k) is ids e = found_at (find (has_free_pick is day n) among) refl e (row_carried P day n among made holds k)
   where
-    found_at : (o : Option Range) → find (has_free_pick is day n) (filter (is_held customer s c) rs) ≡ o
-        → then_found o (λ r. option_map (λ xs. id_at r (pick_of is r) ∷ xs) (picks (λ x. made (day, x)) day n (filter (is_held customer s c) rs) (is ++ made (day, id_at r (pick_of is r)) ∷ []) k)) ≡ Some ids
-        → ((js : List Issuance) (xs : List Id) → picks (λ x. made (day, x)) day n (filter (is_held customer s c) rs) js k ≡ Some xs → InTurn (IsPicked rs customer day n) made js (map (λ x. (day, x)) xs))
-        → InTurn (IsPicked rs customer day n) made is (map (λ x. (day, x)) ids)
+    found_at : (o : Option Range) → find (has_free_pick is day n) among ≡ o
+        → then_found o (λ r. option_map (λ xs. id_at r (pick_of is r) ∷ xs) (picks (λ x. made (day, x)) day n among (is ++ made (day, id_at r (pick_of is r)) ∷ []) k)) ≡ Some ids
+        → ((js : List Issuance) (xs : List Id) → picks (λ x. made (day, x)) day n among js k ≡ Some xs → InTurn P made js (map (λ x. (day, x)) xs))
+        → InTurn P made is (map (λ x. (day, x)) ids)
     found_at None found e' next = absurd (none-some ids e')
-    found_at (Some r) found e' next = mapped (picks (λ x. made (day, x)) day n (filter (is_held customer s c) rs) (is ++ made (day, id_at r (pick_of is r)) ∷ []) k) refl e'
+    found_at (Some r) found e' next = mapped (picks (λ x. made (day, x)) day n among (is ++ made (day, id_at r (pick_of is r)) ∷ []) k) refl e'
       where
-        mapped : (u : Option (List Id)) → picks (λ x. made (day, x)) day n (filter (is_held customer s c) rs) (is ++ made (day, id_at r (pick_of is r)) ∷ []) k ≡ u
-            → option_map (λ xs. id_at r (pick_of is r) ∷ xs) u ≡ Some ids → InTurn (IsPicked rs customer day n) made is (map (λ x. (day, x)) ids)
+        mapped : (u : Option (List Id)) → picks (λ x. made (day, x)) day n among (is ++ made (day, id_at r (pick_of is r)) ∷ []) k ≡ u
+            → option_map (λ xs. id_at r (pick_of is r) ∷ xs) u ≡ Some ids → InTurn P made is (map (λ x. (day, x)) ids)
         mapped None rest is' = absurd (none-some ids is')
         mapped (Some xs) rest is' =
-            let P : List Id → Type 0 = λ l. InTurn (IsPicked rs customer day n) made is (map (λ x. (day, x)) l) in
-            subst P (same_Some (id_at r (pick_of is r) ∷ xs) ids is') (picked_from rs customer day n s c is r found, next (is ++ made (day, id_at r (pick_of is r)) ∷ []) xs rest)
+            let T : List Id → Type 0 = λ l. InTurn P made is (map (λ x. (day, x)) l) in
+            subst T (same_Some (id_at r (pick_of is r) ∷ xs) ids is') (holds is r found, next (is ++ made (day, id_at r (pick_of is r)) ∷ []) xs rest)
 
-row_at : (rs held : List Range) (customer day n : ℕ) (made : ℕ × Id → Issuance) (is : List Issuance) (row : Option (List Id))
-    → ((ids : List Id) → row ≡ Some ids → InTurn (IsPicked rs customer day n) made is (map (λ x. (day, x)) ids)) → InTurn (IsPicked rs customer day n) made is (carried_by (outcome_of_row day held row))
-row_at rs [] customer day n made is row turn = tt
-row_at rs (x ∷ xs) customer day n made is None turn = tt
-row_at rs (x ∷ xs) customer day n made is (Some ids) turn = turn ids refl
+row_at : (P : List Issuance → ℕ × Id → Type 0) (held : List Range) (day : ℕ) (made : ℕ × Id → Issuance) (is : List Issuance) (row : Option (List Id))
+    → ((ids : List Id) → row ≡ Some ids → InTurn P made is (map (λ x. (day, x)) ids)) → InTurn P made is (carried_by (outcome_of_row day held row))
+row_at P [] day made is row turn = tt
+row_at P (x ∷ xs) day made is None turn = tt
+row_at P (x ∷ xs) day made is (Some ids) turn = turn ids refl
 
 -- an outcome that fits no Draw carries none
 none_carried : (b : Body) (o : Outcome) → ((d : ℕ) (x : Id) → fits b (Drawn d x) ≡ false) → ((d : ℕ) (ids : List Id) → fits b (DrawnMany d ids) ≡ false) → IsTrue (fits b o) → carried_by o ≡ []
@@ -109,17 +112,19 @@ none_carried b o other many fit = refl
 in_turn_none : (P : List Issuance → ℕ × Id → Type 0) (made : ℕ × Id → Issuance) (is : List Issuance) (cs : List (ℕ × Id)) → cs ≡ [] → InTurn P made is cs
 in_turn_none P made is cs e = let Q : List (ℕ × Id) → Type 0 = InTurn P made is in subst Q (sym e) tt
 
--- what the answer of the rules carries was picked, one after another
-carried : (g : List Entry) (customer day n : ℕ) (b : Body) (made : ℕ × Id → Issuance) → ((c : ℕ × Id) → (made c).id ≡ c.1) → ((c : ℕ × Id) → (made c).day ≡ c.0)
-    → InTurn (IsPicked (ranges_of g) customer day n) made (issues_of g) (carried_by (body_answer g customer b day n))
-carried g customer day n (Draw s c) made same on = carried_at (ranges_of g) customer day n s c (issues_of g) made (ranges_held g customer s c) _ refl
-carried g customer day n (Grant holder s c first last) made same on =
+-- what holds of each pick that is found among a customer's open ranges holds of what the answer of the rules carries, one after another
+pub carried : (P : List Issuance → ℕ × Id → Type 0) (g : List Entry) (customer day n : ℕ) (b : Body) (made : ℕ × Id → Issuance) → ((c : ℕ × Id) → (made c).id ≡ c.1) → ((c : ℕ × Id) → (made c).day ≡ c.0)
+    → ((s c : ℕ × ℕ) (js : List Issuance) (r : Range) → find (has_free_pick js day n) (ranges_open g customer s c) ≡ Some r → P js (day, id_at r (pick_of js r)))
+    → InTurn P made (issues_of g) (carried_by (body_answer g customer b day n))
+carried P g customer day n (Draw s c) made same on holds = carried_at P day n (ranges_open g customer s c) (issues_of g) made (ranges_open g customer s c) _ refl (holds s c)
+carried P g customer day n (Grant holder s c first last) made same on holds =
     let b = Grant holder s c first last in in_turn_none _ made (issues_of g) _ (none_carried b _ (λ d x. refl) (λ d ids. refl) (answer_fits g customer b day n))
-carried g customer day n (Void x) made same on = in_turn_none _ made (issues_of g) _ (none_carried (Void x) _ (λ d y. refl) (λ d ids. refl) (answer_fits g customer (Void x) day n))
-carried g customer day n (Query x) made same on = in_turn_none _ made (issues_of g) _ (none_carried (Query x) _ (λ d y. refl) (λ d ids. refl) (answer_fits g customer (Query x) day n))
-carried g customer day n (DrawMany s c count) made same on =
-    row_at (ranges_of g) (ranges_held g customer s c) customer day n made (issues_of g) (draws_in_a_row g customer s c day n count)
-    (λ ids e. row_carried (ranges_of g) customer day n s c made count (issues_of g) ids
+carried P g customer day n (Void x) made same on holds = in_turn_none _ made (issues_of g) _ (none_carried (Void x) _ (λ d y. refl) (λ d ids. refl) (answer_fits g customer (Void x) day n))
+carried P g customer day n (Query x) made same on holds = in_turn_none _ made (issues_of g) _ (none_carried (Query x) _ (λ d y. refl) (λ d ids. refl) (answer_fits g customer (Query x) day n))
+carried P g customer day n (Withdraw range) made same on holds = in_turn_none _ made (issues_of g) _ (none_carried (Withdraw range) _ (λ d y. refl) (λ d ids. refl) (answer_fits g customer (Withdraw range) day n))
+carried P g customer day n (DrawMany s c count) made same on holds =
+    row_at P (ranges_open g customer s c) day made (issues_of g) (draws_in_a_row g customer s c day n count)
+    (λ ids e. row_carried P day n (ranges_open g customer s c) made (holds s c) count (issues_of g) ids
     (sym (row_is (λ x. made (day, x)) customer s c day n (λ x. same (day, x)) (λ x. on (day, x)) count g (issues_of g) (alike_itself (issues_of g))) ∙ e))
 
 -- what holds of each issue that an outcome makes holds of all of them
@@ -141,7 +146,9 @@ issued_at P customer number arrival o new many = All-nil P
 pub carried_call : (g : List Entry) (t : Terms) (e : Entry) → MayFollow g t e → InTurn (IsPicked (ranges_of g) e.request.customer e.day t.interval) (made_by e (1 + length g)) (issues_of g) (carried_by e.outcome)
 carried_call g t e may =
     let T : Outcome → Type 0 = λ o. InTurn (IsPicked (ranges_of g) e.request.customer e.day t.interval) (made_by e (1 + length g)) (issues_of g) (carried_by o) in
-    subst T (sym may.right) (carried g e.request.customer e.day t.interval e.request.body (made_by e (1 + length g)) (λ c. refl) (λ c. refl))
+    subst T (sym may.right)
+    (carried (IsPicked (ranges_of g) e.request.customer e.day t.interval) g e.request.customer e.day t.interval e.request.body (made_by e (1 + length g)) (λ c. refl) (λ c. refl)
+    (λ s c. picked_from g (ranges_of g) e.request.customer e.day t.interval s c))
 
 -- what holds of the issues of a history, and is kept by each pick, holds behind one more call
 pub after_call : (Q : List Issuance → Type 0) (g : List Entry) (t : Terms) (e : Entry) → MayFollow g t e → Q (issues_of g)

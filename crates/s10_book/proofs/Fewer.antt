@@ -16,7 +16,7 @@ use Rattle.s10_wire.specs.declared.outcome.Outcome.TheVariants.{NoneFree}
 use Rattle.s10_book.specs.declared.book_fault.BookFault.{BookFault}
 use Rattle.s10_book.specs.declared.entry.Entry.{Entry}
 use Rattle.s10_book.specs.Settings.{Terms}
-use Rattle.s10_book.specs.History.{day_of, ranges_of, is_held, ranges_held, lies_in}
+use Rattle.s10_book.specs.History.{day_of, ranges_of, is_open, ranges_open, lies_in}
 use Rattle.s10_book.specs.Issues.{issues_of, last_issuance_of, is_free, is_free_since, serials, pick_of, id_at}
 use Rattle.s10_book.specs.Rules.{IsLegal, has_free_pick, free_serials, draws_in_a_row, outcome_of_row, draw_many_answer, FewFree}
 use Rattle.s10_book.proofs.Apart.{Apart, apart}
@@ -195,10 +195,10 @@ no_row day (r ∷ rs) (Some ids) is = cc
 -- NoneFree is answered only where fewer serials than that are free
 pub few_free : (h : List Entry) (t : Terms) → IsLegal h t → 1 ≤ t.interval → (customer : ℕ) (s c : ℕ × ℕ) (count day : ℕ) → day_of h ≤ day → draw_many_answer h customer s c count day t.interval ≡ NoneFree → FewFree h customer s c count day t.interval
 few_free h t legal pos customer s c count day le is =
-    let none : draws_in_a_row h customer s c day t.interval count ≡ None = no_row day (ranges_held h customer s c) (draws_in_a_row h customer s c day t.interval count) is in
+    let none : draws_in_a_row h customer s c day t.interval count ≡ None = no_row day (ranges_open h customer s c) (draws_in_a_row h customer s c day t.interval count) is in
     let known = sound h t legal in
-    fewer_free (drawn_on day) day t.interval (ranges_held h customer s c) (λ x. refl) (λ x. refl) pos (AllPairs-filter Apart (is_held customer s c) (ranges_of h) (apart h t legal)) count (issues_of h)
-    (λ r in_r. all_at_pick h t legal r (Contains-filter (is_held customer s c) (ranges_of h) r in_r)) known.days
+    fewer_free (drawn_on day) day t.interval (ranges_open h customer s c) (λ x. refl) (λ x. refl) pos (AllPairs-filter Apart (is_open h customer s c) (ranges_of h) (apart h t legal)) count (issues_of h)
+    (λ r in_r. all_at_pick h t legal r (Contains-filter (is_open h customer s c) (ranges_of h) r in_r)) known.days
     (All-weaker (λ i. i.day ≤ day_of h) (λ i. i.day ≤ day) (λ i up. omega arith) (issues_of h) known.upto)
     (sym (row_of h customer s c day t.interval count) ∙ none)
 

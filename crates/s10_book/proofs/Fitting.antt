@@ -1,20 +1,20 @@
 -- The outcome of the rules fits the request.
 use Rattle.std.proofs.Common.{◌≡◌, ℕ, zero, suc, ◌+◌, Bool, true, false, cond, not, eqb, ltb, ◌||◌, List, [], ◌∷◌, ◌++◌, Option, Some, None, refl, sym, ap, ◌∙◌, inl, inr, length, take}
-use Rattle.std.specs.Prelude.{find, IsTrue, IfSome, slice_get}
+use Rattle.std.specs.Prelude.{◌==◌, find, is_none, IsTrue, IfSome, slice_get}
 use Rattle.std.specs.List.{list_any}
 use Rattle.std.specs.Option.{option_map}
 use Rattle.s10_wire.specs.Kind.{fits}
 use Rattle.s10_core.specs.declared.id.Id.{Id}
 use Rattle.s10_wire.specs.declared.body.Body.{Body}
-use Rattle.s10_wire.specs.declared.body.Body.TheVariants.{Grant, Draw, Void, Query, DrawMany}
+use Rattle.s10_wire.specs.declared.body.Body.TheVariants.{Grant, Draw, Void, Query, DrawMany, Withdraw}
 use Rattle.s10_wire.specs.declared.outcome.Outcome.{Outcome}
-use Rattle.s10_wire.specs.declared.outcome.Outcome.TheVariants.{Granted, Drawn, Voided, Told, NotThePost, BadGrant, Overlap, NotYours, AlreadyVoid}
+use Rattle.s10_wire.specs.declared.outcome.Outcome.TheVariants.{Granted, Drawn, Voided, Told, Withdrawn, NotThePost, BadGrant, Overlap, NotYours, AlreadyVoid, NoSuchRange, Closed}
 use Rattle.s10_book.specs.declared.entry.Entry.{Entry}
 use Rattle.s10_book.specs.declared.range.Range.{Range}
 use Rattle.s10_book.specs.declared.issue.Issue.{Issue}
 use Rattle.s10_book.specs.declared.issuance.Issuance.{Issuance}
 use Rattle.s10_book.specs.Settings.{Terms}
-use Rattle.s10_book.specs.History.{has_key, entry_with_key, ranges_of, ranges_held, is_own, overlaps}
+use Rattle.s10_book.specs.History.{has_key, entry_with_key, ranges_of, ranges_open, is_own, overlaps, is_closed}
 use Rattle.s10_book.specs.Issues.{issues_of, last_issue_of}
 use Rattle.s10_book.specs.Rules.{IsLegal, body_answer, outcome_of_pick, outcome_of_row, then_drawn, draw_answer, draw_done, draws_in_a_row, void_issue, status_of}
 use Rattle.s10_book.proofs.Ranges.{find_cases}
@@ -65,7 +65,13 @@ answer_fits h customer (Grant holder service country first last) day interval =
 answer_fits h customer (Draw service country) day interval = drawn_fits service country (issues_of h) day _ _
 answer_fits h customer (Void x) day interval = either (Void x) (list_any (is_own customer x) (ranges_of h)) (void_issue (last_issue_of h x)) NotYours (void_fits x (last_issue_of h x)) refl
 answer_fits h customer (Query x) day interval = either (Query x) (eqb customer 0 || list_any (is_own customer x) (ranges_of h)) (Told (status_of h x)) NotYours refl refl
-answer_fits h customer (DrawMany s c count) day interval = row_fits s c count day (ranges_held h customer s c) (draws_in_a_row h customer s c day interval count) (row_length h customer s c day interval count)
+answer_fits h customer (Withdraw range) day interval =
+    let body = Withdraw range in
+    let once = cond (is_closed h range) Closed Withdrawn in
+    let there = cond (is_none (find (λ r. r.num == range) (ranges_of h))) NoSuchRange once in
+    either body (not (eqb customer 0)) NotThePost there refl
+    (either body (is_none (find (λ r. r.num == range) (ranges_of h))) NoSuchRange once refl (either body (is_closed h range) Closed Withdrawn refl refl))
+answer_fits h customer (DrawMany s c count) day interval = row_fits s c count day (ranges_open h customer s c) (draws_in_a_row h customer s c day interval count) (row_length h customer s c day interval count)
 
 found_place : {A : Type 0} (p : A → Bool) (xs : List A) (x : A) → find p xs ≡ Some x → (k : ℕ) × (slice_get xs k ≡ Some x)
 found_place p [] x found = absurd (none-some x found)

@@ -18,7 +18,7 @@ use Rattle.s10_book.specs.declared.entry.Entry.{Entry}
 use Rattle.s10_book.specs.declared.range.Range.{Range}
 use Rattle.s10_book.specs.declared.issuance.Issuance.{Issuance}
 use Rattle.s10_book.specs.Settings.{Terms}
-use Rattle.s10_book.specs.History.{day_of, lies_in, ranges_held}
+use Rattle.s10_book.specs.History.{day_of, lies_in, ranges_open}
 use Rattle.s10_book.specs.Issues.{issues_of, is_of, last_issuance_of, is_issued, serial_issued_earliest, serials, pick_of, id_at, is_free, is_free_since}
 use Rattle.s10_book.specs.Rules.{IsLegal, draw_answer, outcome_of_pick, has_free_pick, NothingFree}
 use Rattle.s10_book.proofs.Ranges.{found_passes}
@@ -192,12 +192,12 @@ none_drawn is day (x ∷ xs) (Some r) e = cc
 
 -- NoneFree is answered only where no serial of the customer's ranges of that service and country is free
 pub none_free : (h : List Entry) (t : Terms) → IsLegal h t → (customer : ℕ) (service country : ℕ × ℕ) (day : ℕ) → day_of h ≤ day → draw_answer h customer service country day t.interval ≡ NoneFree
-    → All (λ r. (x : Id) → IsTrue (lies_in r x) → ¬ (IsTrue (is_free (issues_of h) x day t.interval))) (ranges_held h customer service country)
+    → All (λ r. (x : Id) → IsTrue (lies_in r x) → ¬ (IsTrue (is_free (issues_of h) x day t.interval))) (ranges_open h customer service country)
 none_free h t legal customer service country day le is =
     let P : Range → Type 0 = λ r. has_free_pick (issues_of h) day t.interval r ≡ false in
     let Q : Range → Type 0 = λ r. (x : Id) → IsTrue (lies_in r x) → ¬ (IsTrue (is_free (issues_of h) x day t.interval)) in
-    All-weaker P Q (λ r f x lies free. both_ways (has_free_pick (issues_of h) day t.interval r) f (free_pick h t legal r x day le lies free)) (ranges_held h customer service country)
-    (none_all (has_free_pick (issues_of h) day t.interval) (ranges_held h customer service country) (none_drawn (issues_of h) day (ranges_held h customer service country) _ is))
+    All-weaker P Q (λ r f x lies free. both_ways (has_free_pick (issues_of h) day t.interval r) f (free_pick h t legal r x day le lies free)) (ranges_open h customer service country)
+    (none_all (has_free_pick (issues_of h) day t.interval) (ranges_open h customer service country) (none_drawn (issues_of h) day (ranges_open h customer service country) _ is))
 
 -- the same of an answer that was given
 pub nothing_free : (h : List Entry) (t : Terms) → IsLegal h t → (customer : ℕ) (service country : ℕ × ℕ) (day : ℕ) → day_of h ≤ day → (result : Result Outcome BookFault) (s c : ℕ × ℕ)

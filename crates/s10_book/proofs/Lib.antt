@@ -4,6 +4,7 @@ pub mod Calls
 pub mod Issued
 pub mod Earliest
 pub mod Push
+pub mod Closing
 pub mod Serials
 pub mod Fitting
 pub mod Legal
@@ -15,6 +16,7 @@ pub mod Spaced
 pub mod Own
 pub mod Free
 pub mod Marks
+pub mod Withdrawn
 pub mod Rows
 pub mod Taking
 pub mod Fewer

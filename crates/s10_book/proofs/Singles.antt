@@ -1,6 +1,6 @@
 -- A larger draw beside the single Draws of its identifiers.
 use Rattle.std.proofs.Common.{◌≡◌, ℕ, zero, suc, ◌+◌, ◌≤◌, List, [], ◌∷◌, ◌++◌, map, take, drop, Option, Some, None, refl, sym, ap, ◌∙◌, arith, subst, length, append-nil, append_assoc}
-use Rattle.std.specs.Prelude.{find, filter, slice_get, option_to_list}
+use Rattle.std.specs.Prelude.{find, slice_get}
 use Rattle.std.specs.Option.{option_map}
 use Rattle.std.proofs.lemmas.Option.{none-some, same_Some}
 use Rattle.s10_core.specs.declared.id.Id.{Id}
@@ -10,11 +10,12 @@ use Rattle.s10_book.specs.declared.entry.Entry.{Entry}
 use Rattle.s10_book.specs.declared.range.Range.{Range}
 use Rattle.s10_book.specs.declared.issuance.Issuance.{Issuance}
 use Rattle.s10_book.specs.Settings.{Terms}
-use Rattle.s10_book.specs.History.{ranges_of, range_of_grant, is_held, ranges_held}
+use Rattle.s10_book.specs.History.{ranges_open}
 use Rattle.s10_book.specs.Issues.{issues_of, issues_at, carried_by, pick_of, id_at}
 use Rattle.s10_book.specs.Rules.{IsLegal, answer_of, body_answer, draw_answer, draw_done, draw_many_answer, draws_in_a_row, then_drawn, has_free_pick, outcome_of_pick, outcome_of_row}
 use Rattle.s10_book.specs.Promises.{without_number}
-use Rattle.s10_book.proofs.Push.{ranges_from-push, issues_from-push}
+use Rattle.s10_book.proofs.Push.{issues_from-push}
+use Rattle.s10_book.proofs.Closing.{draw_open}
 use Rattle.s10_book.proofs.Carried.{made_by}
 use Rattle.s10_book.proofs.Picking.{picks}
 use Rattle.s10_book.proofs.Alike.{Alike, alike_itself, alike_push, pick_alike, find_same, free_alike}
@@ -55,18 +56,13 @@ pick_alike_answer is js day (q ∷ rs) None alike = refl
 pick_alike_answer is js day [] (Some r) alike = ap (λ (v : ℕ). Drawn day (id_at r v)) (pick_alike r is js alike)
 pick_alike_answer is js day (q ∷ rs) (Some r) alike = ap (λ (v : ℕ). Drawn day (id_at r v)) (pick_alike r is js alike)
 
-answer_alike : (g m : List Entry) (customer : ℕ) (s c : ℕ × ℕ) (day n : ℕ) → ranges_of g ≡ ranges_of m → Alike (issues_of g) (issues_of m) → draw_answer g customer s c day n ≡ draw_answer m customer s c day n
-answer_alike g m customer s c day n ranges alike =
-    let rs : List Range = ranges_held m customer s c in
-    ap (λ (l : List Range). outcome_of_pick (issues_of g) day (filter (is_held customer s c) l) (find (has_free_pick (issues_of g) day n) (filter (is_held customer s c) l))) ranges
-    ∙ ap (λ (o : Option Range). outcome_of_pick (issues_of g) day (ranges_held m customer s c) o)
-    (find_same (has_free_pick (issues_of g) day n) (has_free_pick (issues_of m) day n) (ranges_held m customer s c) (λ r. free_alike (issues_of g) (issues_of m) day n r alike))
-    ∙ pick_alike_answer (issues_of g) (issues_of m) day (ranges_held m customer s c) (find (has_free_pick (issues_of m) day n) (ranges_held m customer s c)) alike
-
--- a Done Draw makes no range
-draw_ranges : (g : List Entry) (e : Entry) (customer : ℕ) (s c : ℕ × ℕ) (day : ℕ) (x : Id) → without_number e ≡ draw_done customer s c day x → ranges_of (g ++ e ∷ []) ≡ ranges_of g
-draw_ranges g e customer s c day x is =
-    ranges_from-push 1 g e ∙ ap (λ (f : Entry). ranges_of g ++ option_to_list (range_of_grant (1 + length (ranges_of g)) f.request.body f.outcome)) is ∙ append-nil (ranges_of g)
+answer_alike : (g m : List Entry) (customer : ℕ) (s c : ℕ × ℕ) (day n : ℕ) → ranges_open g customer s c ≡ ranges_open m customer s c → Alike (issues_of g) (issues_of m) → draw_answer g customer s c day n ≡ draw_answer m customer s c day n
+answer_alike g m customer s c day n same_open alike =
+    let rs : List Range = ranges_open m customer s c in
+    ap (λ (l : List Range). outcome_of_pick (issues_of g) day l (find (has_free_pick (issues_of g) day n) l)) same_open
+    ∙ ap (λ (o : Option Range). outcome_of_pick (issues_of g) day (ranges_open m customer s c) o)
+    (find_same (has_free_pick (issues_of g) day n) (has_free_pick (issues_of m) day n) (ranges_open m customer s c) (λ r. free_alike (issues_of g) (issues_of m) day n r alike))
+    ∙ pick_alike_answer (issues_of g) (issues_of m) day (ranges_open m customer s c) (find (has_free_pick (issues_of m) day n) (ranges_open m customer s c)) alike
 
 draw_issues : (g : List Entry) (e : Entry) (customer : ℕ) (s c : ℕ × ℕ) (day : ℕ) (x : Id) → without_number e ≡ draw_done customer s c day x → issues_of (g ++ e ∷ []) ≡ issues_of g ++ made_by e (1 + length g) (day, x) ∷ []
 draw_issues g e customer s c day x is = issues_from-push 1 g e ∙ ap (λ (f : Entry). issues_of g ++ map (made_by e (1 + length g)) (carried_by f.outcome)) is
@@ -86,20 +82,20 @@ draw_told g e es t customer s c day x legal is =
     ∙ ap (λ (l : List Entry). answer_of l e.request e.day t.interval) (calls_before g (e ∷ es))
     ∙ ap (λ (f : Entry). body_answer g f.request.customer f.request.body f.day t.interval) is
 
-singles_row : (t : Terms) (customer : ℕ) (s c : ℕ × ℕ) (day : ℕ) (es : List Entry) (ids : List Id) (g m : List Entry) → IsLegal (g ++ es) t → ranges_of g ≡ ranges_of m → Alike (issues_of g) (issues_of m) → map without_number es ≡ map (draw_done customer s c day) ids
+singles_row : (t : Terms) (customer : ℕ) (s c : ℕ × ℕ) (day : ℕ) (es : List Entry) (ids : List Id) (g m : List Entry) → IsLegal (g ++ es) t → ranges_open g customer s c ≡ ranges_open m customer s c → Alike (issues_of g) (issues_of m) → map without_number es ≡ map (draw_done customer s c day) ids
     → draws_in_a_row m customer s c day t.interval (length es) ≡ Some ids
-singles_row t customer s c day [] [] g m legal ranges alike same = refl
-singles_row t customer s c day [] (x ∷ xs) g m legal ranges alike same = absurd (omega (arith, ap length same))
-singles_row t customer s c day (e ∷ es) [] g m legal ranges alike same = absurd (omega (arith, ap length same))
-singles_row t customer s c day (e ∷ es) (x ∷ xs) g m legal ranges alike same =
+singles_row t customer s c day [] [] g m legal same_open alike same = refl
+singles_row t customer s c day [] (x ∷ xs) g m legal same_open alike same = absurd (omega (arith, ap length same))
+singles_row t customer s c day (e ∷ es) [] g m legal same_open alike same = absurd (omega (arith, ap length same))
+singles_row t customer s c day (e ∷ es) (x ∷ xs) g m legal same_open alike same =
     let n : ℕ = t.interval in
     let first : without_number e ≡ draw_done customer s c day x = same_Some (without_number e) (draw_done customer s c day x) (ap (λ (l : List Entry). slice_get l 0) same) in
     let rest : map without_number es ≡ map (draw_done customer s c day) xs = ap (drop 1) same in
-    let told : draw_answer m customer s c day t.interval ≡ Drawn day x = sym (draw_told g e es t customer s c day x legal first ∙ answer_alike g m customer s c day t.interval ranges alike) in
+    let told : draw_answer m customer s c day t.interval ≡ Drawn day x = sym (draw_told g e es t customer s c day x legal first ∙ answer_alike g m customer s c day t.interval same_open alike) in
     let L : List Entry → Type 0 = λ l. IsLegal l t in
     let grown : IsLegal ((g ++ e ∷ []) ++ es) t = subst L (sym (append_assoc g (e ∷ []) es)) legal in
-    let one : ranges_of (g ++ e ∷ []) ≡ ranges_of (m ++ draw_done customer s c day x ∷ []) =
-    draw_ranges g e customer s c day x first ∙ ranges ∙ sym (draw_ranges m (draw_done customer s c day x) customer s c day x refl) in
+    let one : ranges_open (g ++ e ∷ []) customer s c ≡ ranges_open (m ++ draw_done customer s c day x ∷ []) customer s c =
+    draw_open g e customer s c day x first ∙ same_open ∙ sym (draw_open m (draw_done customer s c day x) customer s c day x refl) in
     let A : List Issuance → Type 0 = λ l. Alike l (issues_of (m ++ draw_done customer s c day x ∷ [])) in
     let B : List Issuance → Type 0 = λ l. Alike (issues_of g ++ made_by e (1 + length g) (day, x) ∷ []) l in
     let next : Alike (issues_of (g ++ e ∷ [])) (issues_of (m ++ draw_done customer s c day x ∷ [])) =
@@ -117,7 +113,7 @@ row_given day n count is (r ∷ rs) row ids some e found = ap (outcome_of_row da
 pub singles_many : (h es : List Entry) (t : Terms) (customer : ℕ) (s c : ℕ × ℕ) (day : ℕ) (ids : List Id) → IsLegal (h ++ es) t → 1 ≤ length es → map without_number es ≡ map (draw_done customer s c day) ids
     → draw_many_answer h customer s c (length es) day t.interval ≡ DrawnMany day ids
 singles_many h es t customer s c day ids legal some same =
-    row_given day t.interval (length es) (issues_of h) (ranges_held h customer s c) (draws_in_a_row h customer s c day t.interval (length es)) ids some (row_of h customer s c day t.interval (length es))
+    row_given day t.interval (length es) (issues_of h) (ranges_open h customer s c) (draws_in_a_row h customer s c day t.interval (length es)) ids some (row_of h customer s c day t.interval (length es))
     (singles_row t customer s c day es ids h h legal refl (alike_itself (issues_of h)) same)
 
 on_day : (is : List Issuance) (day : ℕ) (rs : List Range) (o : Option Range) (d : ℕ) (x : Id) → outcome_of_pick is day rs o ≡ Drawn d x → d ≡ day
@@ -130,7 +126,7 @@ given_at : (h : List Entry) (customer : ℕ) (s c : ℕ × ℕ) (day n d : ℕ) 
     → ((j : ℕ) (x : Id) → slice_get xs j ≡ Some x → draw_answer ((h ++ draw_done customer s c day y ∷ []) ++ map (draw_done customer s c day) (take j xs)) customer s c day n ≡ Drawn day x)
     → (k : ℕ) (x : Id) → slice_get (y ∷ xs) k ≡ Some x → draw_answer (h ++ map (draw_done customer s c day) (take k (y ∷ xs))) customer s c day n ≡ Drawn day x
 given_at h customer s c day n d y xs first rest zero x at =
-    let on : d ≡ day = on_day (issues_of h) day (ranges_held h customer s c) (find (has_free_pick (issues_of h) day n) (ranges_held h customer s c)) d y first in
+    let on : d ≡ day = on_day (issues_of h) day (ranges_open h customer s c) (find (has_free_pick (issues_of h) day n) (ranges_open h customer s c)) d y first in
     ap (λ (l : List Entry). draw_answer l customer s c day n) (append-nil h) ∙ first ∙ ap (λ (e : ℕ). Drawn e y) on ∙ ap (λ (z : Id). Drawn day z) (same_Some y x at)
 given_at h customer s c day n d y xs first rest (suc j) x at =
     ap (λ (l : List Entry). draw_answer l customer s c day n) (sym (append_assoc h (draw_done customer s c day y ∷ []) (map (draw_done customer s c day) (take j xs)))) ∙ rest j x at
@@ -164,4 +160,4 @@ row_done day (r ∷ rs) (Some xs) ids is = let same : xs ≡ ids = cc in ap Some
 pub many_singles : (h : List Entry) (customer : ℕ) (s c : ℕ × ℕ) (count day n : ℕ) (ids : List Id) → draw_many_answer h customer s c count day n ≡ DrawnMany day ids
     → (k : ℕ) (x : Id) → slice_get ids k ≡ Some x → draw_answer (h ++ map (draw_done customer s c day) (take k ids)) customer s c day n ≡ Drawn day x
 many_singles h customer s c count day n ids is =
-    row_singles h customer s c day n count ids (row_done day (ranges_held h customer s c) (draws_in_a_row h customer s c day n count) ids is)
+    row_singles h customer s c day n count ids (row_done day (ranges_open h customer s c) (draws_in_a_row h customer s c day n count) ids is)

@@ -12,7 +12,7 @@ use Rattle.s10_book.specs.declared.issuance.Issuance.{Issuance}
 use Rattle.s10_book.specs.declared.issue.Issue.{Issue}
 use Rattle.s10_book.specs.declared.candidate.Candidate.{Candidate}
 use Rattle.s10_book.specs.Settings.{Terms}
-use Rattle.s10_book.specs.History.{ranges_of, is_held, ranges_held, lies_in}
+use Rattle.s10_book.specs.History.{ranges_of, is_open, ranges_open, lies_in}
 use Rattle.s10_book.specs.Issues.{issues_of, last_issuance_of, is_free_since, pick_of, id_at, serial_behind, serials_behind, size_of, candidate_after_of, free_pick_of}
 use Rattle.s10_book.specs.Rules.{IsLegal, has_free_pick, draws_in_a_row}
 use Rattle.std.proofs.lemmas.Option.{none-some, same_Some}
@@ -305,29 +305,29 @@ pub at_none_given : (h : List Entry) (t : Terms) (p : Range → Bool) (day n cou
     → IsAt (ranges_of h) p (drawn_on day) day n (issues_of h) count r k taken → has_free_pick (issues_of h ++ map (drawn_on day) taken) day n r ≡ false
 at_none_given h t p day n count r k taken o legal pos e is at = untaken h t p day n count r k taken _ _ legal pos refl refl (sym e ∙ is) at
 
-pub row_of : (h : List Entry) (customer : ℕ) (s c : ℕ × ℕ) (day n count : ℕ) → draws_in_a_row h customer s c day n count ≡ picks (drawn_on day) day n (ranges_held h customer s c) (issues_of h) count
+pub row_of : (h : List Entry) (customer : ℕ) (s c : ℕ × ℕ) (day n count : ℕ) → draws_in_a_row h customer s c day n count ≡ picks (drawn_on day) day n (ranges_open h customer s c) (issues_of h) count
 row_of h customer s c day n count = row_is (drawn_on day) customer s c day n (λ x. refl) (λ x. refl) count h (issues_of h) (alike_itself (issues_of h))
 
 -- the walk has enough
 pub walked : (h : List Entry) (customer : ℕ) (s c : ℕ × ℕ) (day n count : ℕ) (r : Range) (k : ℕ) (taken : List Id) → count ≤ length taken
-    → IsAt (ranges_of h) (is_held customer s c) (drawn_on day) day n (issues_of h) count r k taken → Some taken ≡ draws_in_a_row h customer s c day n count
+    → IsAt (ranges_of h) (is_open h customer s c) (drawn_on day) day n (issues_of h) count r k taken → Some taken ≡ draws_in_a_row h customer s c day n count
 walked h customer s c day n count r k taken enough at =
-    sym (row_of h customer s c day n count ∙ at_end (ranges_of h) (is_held customer s c) (drawn_on day) day n (issues_of h) count r k taken enough at)
+    sym (row_of h customer s c day n count ∙ at_end (ranges_of h) (is_open h customer s c) (drawn_on day) day n (issues_of h) count r k taken enough at)
 
 -- no range is left before there are enough
 pub walked_out : (h : List Entry) (t : Terms) (customer : ℕ) (s c : ℕ × ℕ) (day n count : ℕ) (r : Range) (k : ℕ) (taken : List Id) → IsLegal h t → 1 ≤ n → length taken < count
-    → has_free_pick (issues_of h ++ map (drawn_on day) taken) day n r ≡ false → find (above (is_held customer s c) r.num) (ranges_of h) ≡ None
-    → IsAt (ranges_of h) (is_held customer s c) (drawn_on day) day n (issues_of h) count r k taken → None ≡ draws_in_a_row h customer s c day n count
+    → has_free_pick (issues_of h ++ map (drawn_on day) taken) day n r ≡ false → find (above (is_open h customer s c) r.num) (ranges_of h) ≡ None
+    → IsAt (ranges_of h) (is_open h customer s c) (drawn_on day) day n (issues_of h) count r k taken → None ≡ draws_in_a_row h customer s c day n count
 walked_out h t customer s c day n count r k taken legal pos few spent none at =
     sym (row_of h customer s c day n count
-    ∙ at_last (ranges_of h) (is_held customer s c) (drawn_on day) day n (issues_of h) count r k taken (given_legal h t day n legal pos) spent none few at)
+    ∙ at_last (ranges_of h) (is_open h customer s c) (drawn_on day) day n (issues_of h) count r k taken (given_legal h t day n legal pos) spent none few at)
 
 pub no_picks : (day n count : ℕ) (is : List Issuance) → 1 ≤ count → picks (drawn_on day) day n [] is count ≡ None
 no_picks day n zero is some = absurd (omega (arith, some))
 no_picks day n (suc k) is some = refl
 
 -- there was no range at all
-pub walked_nowhere : (h : List Entry) (customer : ℕ) (s c : ℕ × ℕ) (day n count : ℕ) → 1 ≤ count → find (above (is_held customer s c) 0) (ranges_of h) ≡ None → None ≡ draws_in_a_row h customer s c day n count
+pub walked_nowhere : (h : List Entry) (customer : ℕ) (s c : ℕ × ℕ) (day n count : ℕ) → 1 ≤ count → find (above (is_open h customer s c) 0) (ranges_of h) ≡ None → None ≡ draws_in_a_row h customer s c day n count
 walked_nowhere h customer s c day n count some none =
-    let empty : ranges_held h customer s c ≡ [] = sym (filter_above (is_held customer s c) 0 1 (ranges_of h) (omega arith) (numbered 1 h)) ∙ filter_none (above (is_held customer s c) 0) (ranges_of h) none in
+    let empty : ranges_open h customer s c ≡ [] = sym (filter_above (is_open h customer s c) 0 1 (ranges_of h) (omega arith) (numbered 1 h)) ∙ filter_none (above (is_open h customer s c) 0) (ranges_of h) none in
     sym (row_of h customer s c day n count ∙ ap (λ l. picks (drawn_on day) day n l (issues_of h) count) empty ∙ no_picks day n count (issues_of h) some)

@@ -1,11 +1,12 @@
 -- The history of a ledger: its kept calls in order of arrival, and the ranges that it grants.
-use Rattle.std.specs.Prelude.{ℕ, zero, suc, ◌+◌, ◌==◌, nat_le, nat_lt, Bool, ◌&&◌, List, [], ◌∷◌, Option, Some, None, find, fold, filter, slice_get}
+use Rattle.std.specs.Prelude.{ℕ, zero, suc, ◌+◌, ◌==◌, nat_le, nat_lt, Bool, false, not, ◌&&◌, List, [], ◌∷◌, Option, Some, None, find, fold, filter, slice_get}
+use Rattle.std.specs.List.{list_any}
 use Rattle.s10_core.specs.declared.id.Id.{Id}
 use Rattle.s10_core.specs.Letters.{same_letters}
 use Rattle.s10_wire.specs.declared.body.Body.{Body}
-use Rattle.s10_wire.specs.declared.body.Body.TheVariants.{Grant}
+use Rattle.s10_wire.specs.declared.body.Body.TheVariants.{Grant, Withdraw}
 use Rattle.s10_wire.specs.declared.outcome.Outcome.{Outcome}
-use Rattle.s10_wire.specs.declared.outcome.Outcome.TheVariants.{Granted}
+use Rattle.s10_wire.specs.declared.outcome.Outcome.TheVariants.{Granted, Withdrawn}
 use Rattle.s10_book.specs.declared.entry.Entry.{Entry}
 use Rattle.s10_book.specs.declared.range.Range.{Range}
 
@@ -61,6 +62,23 @@ is_held customer service country r =
 abbrev pub is_held_above : ℕ → ℕ → ℕ × ℕ → ℕ × ℕ → Range → Bool
 is_held_above after customer service country r = nat_lt after r.num && is_held customer service country r
 
+-- whether a call with this body and this outcome is a Done Withdraw of the range of that number
+abbrev pub withdraws : ℕ → Body → Outcome → Bool
+withdraws num (Withdraw range) Withdrawn = range == num
+withdraws num body outcome = false
+
+-- whether the range of that number is closed: a Done Withdraw of it stands in the history
+abbrev pub is_closed : List Entry → ℕ → Bool
+is_closed h num = list_any (λ e. withdraws num e.request.body e.outcome) h
+
+-- whether the range is the customer's, of that service and country, and not closed
+abbrev pub is_open : List Entry → ℕ → ℕ × ℕ → ℕ × ℕ → Range → Bool
+is_open h customer service country r = is_held customer service country r && not (is_closed h r.num)
+
+-- whether the range is such a one, with a number above another
+abbrev pub is_open_above : List Entry → ℕ → ℕ → ℕ × ℕ → ℕ × ℕ → Range → Bool
+is_open_above h after customer service country r = nat_lt after r.num && is_open h customer service country r
+
 -- whether the range has a serial in common with first to last of that service and country: neither ends before the
 -- other begins, and first to last is not empty (a range that a Grant made never is)
 abbrev pub overlaps : ℕ × ℕ → ℕ × ℕ → ℕ → ℕ → Range → Bool
@@ -72,6 +90,6 @@ overlaps service country first last r =
 abbrev pub is_own : ℕ → Id → Range → Bool
 is_own customer x r = (r.holder == customer) && lies_in r x
 
--- the customer's ranges of that service and country, in order of their numbers
-abbrev pub ranges_held : List Entry → ℕ → ℕ × ℕ → ℕ × ℕ → List Range
-ranges_held h customer service country = filter (is_held customer service country) (ranges_of h)
+-- the customer's open ranges of that service and country, in order of their numbers
+abbrev pub ranges_open : List Entry → ℕ → ℕ × ℕ → ℕ × ℕ → List Range
+ranges_open h customer service country = filter (is_open h customer service country) (ranges_of h)

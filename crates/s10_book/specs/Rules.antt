@@ -1,21 +1,21 @@
 -- The rules: the outcome of each request, and the histories that keep them.
-use Rattle.std.specs.Prelude.{◌≡◌, ℕ, zero, suc, ◌+◌, ◌==◌, nat_lt, ◌<◌, ◌≤◌, Bool, not, ◌||◌, if◌then◌else◌, List, [], ◌∷◌, ◌++◌, length, Option, Some, None, find, slice_get, take, All, AllPairs, IsTrue, count_by}
+use Rattle.std.specs.Prelude.{◌≡◌, ℕ, zero, suc, ◌+◌, ◌==◌, nat_lt, ◌<◌, ◌≤◌, Bool, not, ◌||◌, if◌then◌else◌, List, [], ◌∷◌, ◌++◌, length, Option, Some, None, is_none, find, slice_get, take, All, AllPairs, IsTrue, count_by}
 use Rattle.std.specs.List.{list_any}
 use Rattle.std.specs.Option.{option_map}
 use Rattle.s10_core.specs.declared.id.Id.{Id}
 use Rattle.s10_wire.specs.declared.body.Body.{Body}
-use Rattle.s10_wire.specs.declared.body.Body.TheVariants.{Grant, Draw, Void, Query, DrawMany}
+use Rattle.s10_wire.specs.declared.body.Body.TheVariants.{Grant, Draw, Void, Query, DrawMany, Withdraw}
 use Rattle.s10_wire.specs.declared.request.Request.{Request}
 use Rattle.s10_wire.specs.declared.status.Status.{Status}
 use Rattle.s10_wire.specs.declared.status.Status.TheVariants.{Unknown, Never, Issued, Voided as StatusVoided}
 use Rattle.s10_wire.specs.declared.outcome.Outcome.{Outcome}
-use Rattle.s10_wire.specs.declared.outcome.Outcome.TheVariants.{Granted, Drawn, DrawnMany, Voided, Told, NotThePost, BadGrant, Overlap, NoRange, NoneFree, NotYours, NotIssued, AlreadyVoid}
+use Rattle.s10_wire.specs.declared.outcome.Outcome.TheVariants.{Granted, Drawn, DrawnMany, Voided, Told, Withdrawn, NotThePost, BadGrant, Overlap, NoRange, NoneFree, NotYours, NotIssued, AlreadyVoid, NoSuchRange, Closed}
 use Rattle.s10_book.specs.declared.entry.Entry.{Entry}
 use Rattle.s10_book.specs.declared.range.Range.{Range}
 use Rattle.s10_book.specs.declared.issue.Issue.{Issue}
 use Rattle.s10_book.specs.declared.issuance.Issuance.{Issuance}
 use Rattle.s10_book.specs.Settings.{Terms}
-use Rattle.s10_book.specs.History.{has_key, entry_with_key, day_of, ranges_of, lies_in, is_own, overlaps, ranges_held}
+use Rattle.s10_book.specs.History.{has_key, entry_with_key, day_of, ranges_of, lies_in, is_own, overlaps, is_closed, ranges_open}
 use Rattle.s10_book.specs.Issues.{issues_of, last_issue_of, pick_of, id_at, serials, is_free}
 
 -- the outcome of a Grant: the post alone makes ranges, and no two of them have a serial in common
@@ -36,10 +36,10 @@ outcome_of_pick is day rs (Some r) = Drawn day (id_at r (pick_of is r))
 outcome_of_pick is day [] None = NoRange
 outcome_of_pick is day (r ∷ rs) None = NoneFree
 
--- the outcome of a Draw: the pick of the first of the customer's ranges whose pick is free
+-- the outcome of a Draw: the pick of the first of the customer's open ranges whose pick is free
 abbrev pub draw_answer : List Entry → ℕ → ℕ × ℕ → ℕ × ℕ → ℕ → ℕ → Outcome
 draw_answer h customer service country day interval =
-    let rs = ranges_held h customer service country in outcome_of_pick (issues_of h) day rs (find (has_free_pick (issues_of h) day interval) rs)
+    let rs = ranges_open h customer service country in outcome_of_pick (issues_of h) day rs (find (has_free_pick (issues_of h) day interval) rs)
 
 -- the call of a Draw that issued the identifier on the day; no rule looks at its number
 abbrev pub draw_done : ℕ → ℕ × ℕ → ℕ × ℕ → ℕ → Id → Entry
@@ -67,22 +67,22 @@ outcome_of_row day (r ∷ rs) (Some ids) = DrawnMany day ids
 -- the outcome of a DrawMany: that of so many single Draws in a row
 abbrev pub draw_many_answer : List Entry → ℕ → ℕ × ℕ → ℕ × ℕ → ℕ → ℕ → ℕ → Outcome
 draw_many_answer h customer service country count day interval =
-    outcome_of_row day (ranges_held h customer service country) (draws_in_a_row h customer service country day interval count)
+    outcome_of_row day (ranges_open h customer service country) (draws_in_a_row h customer service country day interval count)
 
 -- how many serials of the ranges are free on the day
 abbrev pub free_serials : List Issuance → ℕ → ℕ → List Range → ℕ
 free_serials is day interval [] = 0
 free_serials is day interval (r ∷ rs) = count_by (λ serial. is_free is (id_at r serial) day interval) (serials r) + free_serials is day interval rs
 
--- fewer serials than that of the customer's ranges of that service and country are free on the day
+-- fewer serials than that of the customer's open ranges of that service and country are free on the day
 abbrev pub FewFree : List Entry → ℕ → ℕ × ℕ → ℕ × ℕ → ℕ → ℕ → ℕ → Type 0
-FewFree h customer service country count day interval = free_serials (issues_of h) day interval (ranges_held h customer service country) < count
+FewFree h customer service country count day interval = free_serials (issues_of h) day interval (ranges_open h customer service country) < count
 
--- no serial of the customer's ranges of that service and country is free on the day
+-- no serial of the customer's open ranges of that service and country is free on the day
 abbrev pub NothingFree : List Entry → ℕ → ℕ × ℕ → ℕ × ℕ → ℕ → ℕ → Type 0
 NothingFree h customer service country day interval =
     All (λ r. (x : Id) → IsTrue (lies_in r x) → ¬ (IsTrue (is_free (issues_of h) x day interval)))
-    (ranges_held h customer service country)
+    (ranges_open h customer service country)
 
 -- what comes of a Void of an identifier with that last issue
 abbrev pub void_issue : Option Issue → Outcome
@@ -108,6 +108,13 @@ abbrev pub query_answer : List Entry → ℕ → Id → Outcome
 query_answer h customer x =
     if (customer == 0) || list_any (is_own customer x) (ranges_of h) then Told (status_of h x) else NotYours
 
+-- the outcome of a Withdraw: the post alone closes a range, once
+abbrev pub withdraw_answer : List Entry → ℕ → ℕ → Outcome
+withdraw_answer h customer num =
+    if not (customer == 0) then NotThePost
+    else if is_none (find (λ r. r.num == num) (ranges_of h)) then NoSuchRange
+    else if is_closed h num then Closed else Withdrawn
+
 -- the outcome of what a customer asks on a day
 abbrev pub body_answer : List Entry → ℕ → Body → ℕ → ℕ → Outcome
 body_answer h customer (Grant holder service country first last) day interval = grant_answer h customer holder service country first last
@@ -115,6 +122,7 @@ body_answer h customer (Draw service country) day interval = draw_answer h custo
 body_answer h customer (Void x) day interval = void_answer h customer x
 body_answer h customer (Query x) day interval = query_answer h customer x
 body_answer h customer (DrawMany service country count) day interval = draw_many_answer h customer service country count day interval
+body_answer h customer (Withdraw range) day interval = withdraw_answer h customer range
 
 -- the answer of the rules: the outcome of a request on a day, over the calls kept before it
 abbrev pub answer_of : List Entry → Request → ℕ → ℕ → Outcome

@@ -19,7 +19,7 @@ pub trait Book {
     ghost use Rattle.s10_book.specs.declared.faults.Faults.{Faults};
     ghost use Rattle.s10_book.specs.Settings.{Terms};
     ghost use Rattle.s10_wire.specs.Kind.{fits};
-    ghost use Rattle.s10_book.specs.History.{entry_with_key, entry_at, day_of, ranges_of, is_held_above, overlaps};
+    ghost use Rattle.s10_book.specs.History.{entry_with_key, entry_at, day_of, ranges_of, is_closed, is_open_above, overlaps};
     ghost use Rattle.s10_book.specs.Issues.{last_issue_of, candidate_of, candidate_after_of, size_of};
     ghost use Rattle.s10_book.specs.Usage.{usage_of};
     ghost use Rattle.s10_book.specs.Rules.{MayFollow, IsLegal};
@@ -73,7 +73,13 @@ pub trait Book {
         ensures keeps { Keeps history terms honest self.old self.new }
         ensures answer { honest self.new → IfOk result (λ r. r ≡ find (λ x. x.num == num) (ranges_of (history self.old))) };
 
-    /// The range of least number above `after` with that holder, service and country, if there is one.
+    /// Whether the range of that number is closed. No range is where there is none of that number.
+    fn closed(&mut self, num: u32) -> Result<bool, BookFault>
+        ensures faults { Counts result (faults self.old) (faults self.new) }
+        ensures keeps { Keeps history terms honest self.old self.new }
+        ensures answer { honest self.new → IfOk result (λ b. b ≡ is_closed (history self.old) num) };
+
+    /// The open range of least number above `after` with that holder, service and country, if there is one.
     fn next_range(
         &mut self,
         customer: u32,
@@ -84,7 +90,7 @@ pub trait Book {
         ensures faults { Counts result (faults self.old) (faults self.new) }
         ensures keeps { Keeps history terms honest self.old self.new }
         ensures above { IfOk result (λ found. IfSome found (λ r. after < r.num)) }
-        ensures answer { honest self.new → IfOk result (λ found. found ≡ find (is_held_above after customer service country) (ranges_of (history self.old))) };
+        ensures answer { honest self.new → IfOk result (λ found. found ≡ find (is_open_above (history self.old) after customer service country) (ranges_of (history self.old))) };
 
     /// The range of least number of that service and country that has a serial in common with `first` to `last`, if
     /// there is one. Where `first` is above `last` there is none.

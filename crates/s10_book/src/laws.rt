@@ -6,12 +6,12 @@ ghost use Rattle.s10_book.specs.Settings.{Terms};
 ghost use Rattle.s10_core.specs.declared.id.Id.{Id};
 ghost use Rattle.s10_book.specs.declared.range.Range.{Range};
 ghost use Rattle.s10_book.specs.declared.candidate.Candidate.{Candidate};
-ghost use Rattle.s10_book.specs.History.{day_of, lies_in, ranges_of, range_of_grant, overlaps};
+ghost use Rattle.s10_book.specs.History.{day_of, lies_in, ranges_of, range_of_grant, is_closed, overlaps};
 ghost use Rattle.s10_book.specs.Issues.{issues_of, carried_by, is_free, pick_of, serial_behind, serials_behind, pick_behind, id_at, last_issue_of, candidate_after_of};
-ghost use Rattle.s10_book.specs.Rules.{IsLegal, MayFollow, has_free_pick, draw_answer, draw_done, draw_many_answer, NothingFree, FewFree};
+ghost use Rattle.s10_book.specs.Rules.{IsLegal, MayFollow, has_free_pick, grant_answer, draw_answer, draw_done, draw_many_answer, void_answer, query_answer, NothingFree, FewFree};
 ghost use Rattle.s10_book.specs.Promises.{IsSpaced, IsOwn, IsApart, IsInCommon, request_on_day, without_number};
 
-use s10_wire::Outcome;
+use s10_wire::{Body, Outcome};
 
 /// In a legal history no identifier goes to two requests within the interval, each is issued from a range that its
 /// customer holds by an earlier call, and none lies in two ranges. Each outcome follows from what stands before it: the
@@ -63,6 +63,21 @@ pub fn larger_draws_are_draws_in_a_row()
 pub fn never_twice()
     ensures { (h : List Entry) (t : Terms) (e : Entry) → IsLegal h t → 1 ≤ t.interval → MayFollow h t e → (day : ℕ) (ids : List Id)
         → e.outcome ≡ Outcome.DrawnMany day ids → AllPairs (λ x y. x ≢ y) ids }
+{}
+
+/// A range that was withdrawn is closed for good: no identifier of it is issued behind that. Its withdrawal changes no
+/// answer to a Grant, a Void or a Query, so it bars the serials that it barred, and what was issued from it can be voided
+/// and asked for as before.
+pub fn withdrawn_ranges()
+    ensures closed { (h : List Entry) (e : Entry) (num : ℕ) → IsTrue (is_closed h num) → IsTrue (is_closed (h ++ e ∷ []) num) }
+    ensures none_issued { (h : List Entry) (t : Terms) (e : Entry) → IsLegal h t → MayFollow h t e → (r : Range) → Contains (ranges_of h) r → IsTrue (is_closed h r.num)
+        → All (λ c. ¬ (IsTrue (lies_in r c.1))) (carried_by e.outcome) }
+    ensures grants { (h : List Entry) (e : Entry) (num : ℕ) → e.request.body ≡ Body.Withdraw num → e.outcome ≡ Outcome.Withdrawn → (customer holder : ℕ) (service country : ℕ × ℕ) (first last : ℕ)
+        → grant_answer (h ++ e ∷ []) customer holder service country first last ≡ grant_answer h customer holder service country first last }
+    ensures voids { (h : List Entry) (e : Entry) (num : ℕ) → e.request.body ≡ Body.Withdraw num → e.outcome ≡ Outcome.Withdrawn → (customer : ℕ) (x : Id)
+        → void_answer (h ++ e ∷ []) customer x ≡ void_answer h customer x }
+    ensures queries { (h : List Entry) (e : Entry) (num : ℕ) → e.request.body ≡ Body.Withdraw num → e.outcome ≡ Outcome.Withdrawn → (customer : ℕ) (x : Id)
+        → query_answer (h ++ e ∷ []) customer x ≡ query_answer h customer x }
 {}
 
 /// The pick of a range in a legal history: its first serial as the range is made, after a Done Draw from it the next

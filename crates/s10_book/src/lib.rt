@@ -29,7 +29,7 @@ pub use issuance::Issuance;
 pub use issue::Issue;
 pub use laws::{
     candidates_in_turn, few_free, free_picks, larger_draws_are_draws_in_a_row, legal_histories,
-    never_twice, overlaps_are_common_serials, picks_in_turn,
+    never_twice, overlaps_are_common_serials, picks_in_turn, withdrawn_ranges,
 };
 pub use plain_book::PlainBook;
 pub use range::Range;

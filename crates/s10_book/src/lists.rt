@@ -1,7 +1,7 @@
 //! Look-ups in the lists of a book in memory.
 
 ghost use Rattle.std.specs.Prelude.{◌≡◌, ◌==◌, find, not, count_by, false, ◌<◌, ◌^◌, ◌-◌, ◌+◌, ◌≤◌, if◌then◌else◌, Contains};
-ghost use Rattle.s10_book.specs.History.{has_key, entry_with_key, lies_in, ranges_of, range_of_grant, entry_at, is_held_above, overlaps};
+ghost use Rattle.s10_book.specs.History.{has_key, entry_with_key, lies_in, ranges_of, range_of_grant, entry_at, withdraws as withdraws_of, is_closed, is_open_above, overlaps};
 ghost use Rattle.s10_book.specs.Settings.{Terms};
 ghost use Rattle.s10_book.specs.Rules.{IsLegal};
 ghost use Rattle.s10_book.specs.Issues.{issues_of, last_issue_of, candidate_of, candidate_after_of, size_of, is_of, last_issuance_of, voids, voided_after, is_issued, serial_issued_earliest, least_serial_unissued, id_at, serials, is_voided as is_voided_in, is_free as is_free_on};
@@ -41,18 +41,38 @@ pub(crate) fn range_numbered(ranges: &[Range], num: u32) -> Option<Range>
     ranges.iter().find(|r| r.num == num).copied()
 }
 
+fn withdraws(entry: &Entry, num: u32) -> bool
+    ensures { result ≡ withdraws_of num entry.now.request.body entry.now.outcome }
+{
+    match (entry.request.body, entry.outcome) {
+        (Body::Withdraw { range }, Outcome::Withdrawn) => range == num,
+        _ => false,
+    }
+}
+
+pub(crate) fn is_closed_in(entries: &[Entry], num: u32) -> bool
+    ensures { result ≡ is_closed entries.now num }
+{
+    entries.iter().any(|e| withdraws(e, num))
+}
+
 pub(crate) fn range_after(
+    entries: &[Entry],
     ranges: &[Range],
     customer: u32,
     service: Service,
     country: Country,
     after: u32,
 ) -> Option<Range>
-    ensures { result ≡ find (is_held_above after customer service country) ranges.now }
+    ensures { result ≡ find (is_open_above entries.now after customer service country) ranges.now }
 {
     ranges
         .iter()
-        .find(|r| after < r.num && r.is_held_by(customer, service, country))
+        .find(|r| {
+            after < r.num
+                && r.is_held_by(customer, service, country)
+                && !is_closed_in(entries, r.num)
+        })
         .copied()
 }
 

@@ -2,7 +2,7 @@
 
 ghost use Rattle.std.specs.Prelude.{◌≡◌, ◌∷◌, ◌++◌, [], ⊤, OnOk, OnErr, IfOk, IfErr, IfSome, IsTrue, Contains, find, ◌==◌, ◌<◌, ◌≤◌, ◌+◌, vec_len, vec_capacity, length, option_to_list};
 ghost use Rattle.s10_wire.specs.Kind.{fits};
-ghost use Rattle.s10_book.specs.History.{ranges_of, entry_with_key, entry_at, is_held_above, overlaps};
+ghost use Rattle.s10_book.specs.History.{ranges_of, entry_with_key, entry_at, is_closed, is_open_above, overlaps};
 ghost use Rattle.s10_book.specs.Issues.{issues_of, issues_at, last_issue_of, candidate_of, candidate_after_of, size_of};
 ghost use Rattle.s10_book.specs.Usage.{usage_of};
 ghost use Rattle.s10_book.specs.Rules.{IsLegal, MayFollow};
@@ -16,8 +16,8 @@ use crate::faults::Faults;
 use crate::issuance::Issuance;
 use crate::issue::Issue;
 use crate::lists::{
-    call_at, kept_call, last_state, next_serial, range_after, range_made, range_numbered,
-    range_over, serial_after, usage_in,
+    call_at, is_closed_in, kept_call, last_state, next_serial, range_after, range_made,
+    range_numbered, range_over, serial_after, usage_in,
 };
 use crate::range::Range;
 use crate::settings::Settings;
@@ -148,6 +148,13 @@ impl Book for PlainBook {
         Ok(range_numbered(&self.ranges, num))
     }
 
+    fn closed(&mut self, num: u32) -> Result<bool, BookFault>
+        ensures same { self.new ≡ self.old }
+        ensures answer { result ≡ Ok (is_closed (⟦<PlainBook as Book>⟧.history self.old) num) }
+    {
+        Ok(is_closed_in(&self.entries, num))
+    }
+
     fn next_range(
         &mut self,
         customer: u32,
@@ -156,10 +163,17 @@ impl Book for PlainBook {
         after: u32,
     ) -> Result<Option<Range>, BookFault>
         ensures same { self.new ≡ self.old }
-        ensures answer { result ≡ Ok (find (is_held_above after customer service country) (ranges_of (⟦<PlainBook as Book>⟧.history self.old))) }
+        ensures answer { result ≡ Ok (find (is_open_above (⟦<PlainBook as Book>⟧.history self.old) after customer service country) (ranges_of (⟦<PlainBook as Book>⟧.history self.old))) }
         ensures above { IfOk result (λ found. IfSome found (λ r. after < r.num)) }
     {
-        Ok(range_after(&self.ranges, customer, service, country, after))
+        Ok(range_after(
+            &self.entries,
+            &self.ranges,
+            customer,
+            service,
+            country,
+            after,
+        ))
     }
 
     fn covering(

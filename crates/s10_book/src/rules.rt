@@ -4,7 +4,7 @@ ghost use Rattle.std.specs.Prelude.{ℕ, ◌≡◌, ◌≤◌, ◌+◌, length, 
 ghost use Rattle.std.specs.List.{list_any};
 ghost use Rattle.std.specs.Option.{option_map};
 ghost use Rattle.s10_book.specs.History.{day_of, ranges_of, is_own};
-ghost use Rattle.s10_book.specs.Rules.{grant_answer, draw_answer, draw_many_answer, void_answer, status_of, status_of_issue, query_answer, answer_of, NothingFree, FewFree};
+ghost use Rattle.s10_book.specs.Rules.{grant_answer, draw_answer, draw_many_answer, void_answer, withdraw_answer, status_of, status_of_issue, query_answer, answer_of, NothingFree, FewFree};
 ghost use Rattle.s10_wire.specs.Kind.{fits};
 ghost use Rattle.s10_book.specs.Issues.{last_issue_of, is_free_since};
 ghost use Rattle.s10_book.specs.BookFault.{Counts};
@@ -26,7 +26,7 @@ pub(crate) fn is_free(issue: &Option<Issue>, day: u32, interval: u32) -> bool
     }
 }
 
-// The outcome of a Draw: the pick of the lowest-numbered range of the sender whose pick is free.
+// The outcome of a Draw: the pick of the lowest-numbered open range of the sender whose pick is free.
 fn decide_draw<B: Book>(
     book: &mut B,
     customer: u32,
@@ -215,6 +215,25 @@ fn decide_query<B: Book>(book: &mut B, customer: u32, id: &Id) -> Result<Outcome
     Ok(Outcome::Told(status))
 }
 
+// The outcome of a Withdraw.
+fn decide_withdraw<B: Book>(book: &mut B, sender: u32, num: u32) -> Result<Outcome, BookFault>
+    ensures faults { Counts result (B.faults book.old) (B.faults book.new) }
+    ensures keeps { Keeps B.history B.terms B.honest book.old book.new }
+    ensures answer { B.honest book.new → IfOk result (λ o. o ≡ withdraw_answer (B.history book.old) sender num) }
+    ensures fits { IfOk result (λ o. IsTrue (fits (Body.Withdraw num) o)) }
+{
+    if sender != 0 {
+        return Ok(Outcome::NotThePost);
+    }
+    if book.range(num)?.is_none() {
+        return Ok(Outcome::NoSuchRange);
+    }
+    if book.closed(num)? {
+        return Ok(Outcome::Closed);
+    }
+    Ok(Outcome::Withdrawn)
+}
+
 /// The outcome of a request by the rules, on a day that is not before the book's. Nothing is kept. Refused with Memory
 /// or Store where a call of the book was, with the same of the two.
 pub fn decide<B: Book>(book: &mut B, request: &Request, day: u32) -> Result<Outcome, BookFault>
@@ -256,5 +275,6 @@ pub fn decide<B: Book>(book: &mut B, request: &Request, day: u32) -> Result<Outc
         }
         Body::Void { id } => decide_void(book, request.customer, &id),
         Body::Query { id } => decide_query(book, request.customer, &id),
+        Body::Withdraw { range } => decide_withdraw(book, request.customer, range),
     }
 }

@@ -103,6 +103,13 @@ impl<B: Book> Book for TripBook<B> {
         self.inner.range(num)
     }
 
+    fn closed(&mut self, num: u32) -> Result<bool, BookFault> {
+        if self.trips() {
+            return Err(BookFault::Store);
+        }
+        self.inner.closed(num)
+    }
+
     fn next_range(
         &mut self,
         customer: u32,

@@ -20,6 +20,8 @@ pub enum Asked {
     Void(u32),
     Query(u32),
     QueryOfUs(u32),
+    /// The range with this number.
+    Withdraw(u32),
 }
 
 /// Serials from the first up to the second, which is not one of them.
@@ -145,6 +147,7 @@ fn body(asked: Asked) -> Result<Body, &'static str> {
         Asked::QueryOfUs(value) => Ok(Body::Query {
             id: id_of(value, us()?)?,
         }),
+        Asked::Withdraw(range) => Ok(Body::Withdraw { range }),
     }
 }
 

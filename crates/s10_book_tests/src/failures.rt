@@ -108,6 +108,56 @@ const QUERIES: [Step; 3] = [
     ),
 ];
 
+/// Withdraws, each behind the first Grant: of its range, of none, and by a customer.
+const WITHDRAWS: [Step; 3] = [
+    (
+        0,
+        2,
+        Asked::Withdraw(1),
+        20000,
+        Answered::Other(Outcome::Withdrawn),
+    ),
+    (
+        0,
+        2,
+        Asked::Withdraw(2),
+        20000,
+        Answered::Other(Outcome::NoSuchRange),
+    ),
+    (
+        7,
+        1,
+        Asked::Withdraw(1),
+        20000,
+        Answered::Other(Outcome::NotThePost),
+    ),
+];
+
+/// A second Withdraw of the range.
+const SECOND_WITHDRAW: Step = (
+    0,
+    3,
+    Asked::Withdraw(1),
+    20000,
+    Answered::Other(Outcome::Closed),
+);
+
+// A Withdraw looks for its key, by the post for the range too and, where there is one, for whether it is closed, and
+// is kept.
+#[test]
+fn a_failed_withdrawal_is_made_good_by_a_repeat(rt: HostRuntime) -> Result<(), Fail> {
+    let grant = 3;
+    for (withdraw, calls) in WITHDRAWS.iter().zip([4u64, 3, 2]) {
+        assert_eq!(rt;
+            calls_of(rt.alloc(), &[OPENING, *withdraw])?,
+            Some(grant + calls)
+        );
+    }
+    let twice = [OPENING, WITHDRAWS[0], SECOND_WITHDRAW];
+    assert_eq!(rt; calls_of(rt.alloc(), &twice)?, Some(grant + 4 + 4));
+    Ok(())
+}
+
 // A Query looks for its key, once for the range of the identifier and, where that is the sender's or the
 // sender is the post, for its last issue, and is kept.
 #[test]

@@ -1,7 +1,7 @@
 //! The identifiers of single Draws in a row, beside the Draws themselves.
 
 use crate::books::Answered::{Drawn, Other};
-use crate::books::Asked::{Draw, Grant};
+use crate::books::Asked::{Draw, Grant, Withdraw};
 use crate::books::{OPENING, Step, answer, empty_book, first_unlike, gb, id, ra, request};
 use s10_book::{PlainBook, draws_in_a_row};
 use s10_core::Id;
@@ -141,6 +141,35 @@ fn a_sheet_goes_on_in_the_next_range(rt: HostRuntime) -> Result<(), Fail> {
             20000,
             Some(&[6, 7, 8, 9, 10, 11, 12, 13, 14, 15, 16, 17, 18, 19, 20, 21][..]),
         ),
+    ];
+    assert_eq!(rt; first_wrong(rt.alloc(), &steps, &rows)?, None);
+    Ok(())
+}
+
+#[test]
+fn a_sheet_passes_over_a_closed_range(rt: HostRuntime) -> Result<(), Fail> {
+    let steps = [
+        OPENING,
+        (
+            0,
+            2,
+            Grant(7, 4, 5),
+            20000,
+            Other(Outcome::Granted { range: 2 }),
+        ),
+        (
+            0,
+            3,
+            Grant(7, 8, 9),
+            20000,
+            Other(Outcome::Granted { range: 3 }),
+        ),
+        (0, 4, Withdraw(2), 20000, Other(Outcome::Withdrawn)),
+    ];
+    let rows = [
+        (7, 3, 20000, Some(&[0, 1, 2][..])),
+        (7, 5, 20000, Some(&[0, 1, 2, 8, 9][..])),
+        (7, 6, 20000, None),
     ];
     assert_eq!(rt; first_wrong(rt.alloc(), &steps, &rows)?, None);
     Ok(())

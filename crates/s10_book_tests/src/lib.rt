@@ -17,3 +17,5 @@ mod reads;
 mod reports;
 #[cfg(test)]
 mod trips;
+#[cfg(test)]
+mod withdrawals;

@@ -1,7 +1,7 @@
 //! The two reports.
 
-use crate::books::Answered::{DrawnMany, Other};
-use crate::books::Asked::{DrawMany, Void};
+use crate::books::Answered::{Drawn, DrawnMany, Other};
+use crate::books::Asked::{Draw, DrawMany, Grant, Void, Withdraw};
 use crate::books::{NINE_CALLS, OPENING, book_after};
 use s10_book::{Book, BookFault, PlainBook, TripBook};
 use s10_reports::{ReportFault, write_issues, write_ranges};
@@ -36,6 +36,10 @@ const ISSUES: &[u8] = b"arrival day customer number identifier state\n\
 
 const SHEETS_RANGES: &[u8] = b"range customer service country first last used voided free\n\
 1 7 RA GB 00000000 00000002 3 1 1\n";
+
+const CLOSED_RANGES: &[u8] = b"range customer service country first last used voided free\n\
+1 7 RA GB 00000000 00000002 1 1 2 closed\n\
+2 8 RA GB 00000003 00000003 0 0 1\n";
 
 const SHEETS_ISSUES: &[u8] = b"arrival day customer number identifier state\n\
 2 20000 7 1 RA000000005GB reissued\n\
@@ -91,6 +95,26 @@ fn a_sheet_has_a_line_for_each_identifier(rt: HostRuntime) -> Result<(), Fail> {
 }
 
 #[test]
+fn the_line_of_a_closed_range_says_so(rt: HostRuntime) -> Result<(), Fail> {
+    let steps = [
+        OPENING,
+        (7, 1, Draw, 20000, Drawn(20000, 0)),
+        (0, 2, Withdraw(1), 20000, Other(Outcome::Withdrawn)),
+        (7, 2, Void(0), 20000, Other(Outcome::Voided)),
+        (
+            0,
+            3,
+            Grant(8, 3, 3),
+            20000,
+            Other(Outcome::Granted { range: 2 }),
+        ),
+    ];
+    let mut book = book_after(&rt, "a closed range", 100, &steps)?;
+    assert!(rt; reports_ranges(rt.alloc(), &mut book, 20000, CLOSED_RANGES));
+    Ok(())
+}
+
+#[test]
 fn an_empty_ledger_has_headers_alone(rt: HostRuntime) -> Result<(), Fail> {
     let mut book = book_after(&rt, "empty", 100, &[])?;
     assert!(rt; reports_ranges(rt.alloc(), &mut book, 20000, NO_RANGES));
@@ -126,13 +150,13 @@ fn a_book_that_fails_leaves_whole_lines(rt: HostRuntime) -> Result<(), Fail> {
         let book = book_of_nine_calls(&rt)?;
         assert!(rt; stops_in_issues(rt.alloc(), book, at), "at {at}");
     }
-    for at in 0..3u64 {
+    for at in 0..4u64 {
         let book = book_of_nine_calls(&rt)?;
         assert!(rt; stops_in_ranges(rt.alloc(), book, at), "at {at}");
     }
     // So many calls of the book the reports make, and no more.
     assert!(rt; !stops_in_issues(rt.alloc(), book_of_nine_calls(&rt)?, 14));
-    assert!(rt; !stops_in_ranges(rt.alloc(), book_of_nine_calls(&rt)?, 3));
+    assert!(rt; !stops_in_ranges(rt.alloc(), book_of_nine_calls(&rt)?, 4));
     Ok(())
 }
 

@@ -14,6 +14,7 @@ enum Question {
     Find,
     Entry,
     Range,
+    Closed,
     NextRange,
     Covering,
     LastIssue,
@@ -21,24 +22,28 @@ enum Question {
     Candidate,
     /// What a sheet of one label would be given: the customer's range is looked for, and its pick behind none.
     Sheet,
-    /// The report of the ranges: range 1 is looked for, and its usage.
+    /// The report of the ranges: range 1 is looked for, its usage, and whether it is closed.
     Usage,
+    /// What a Withdraw would be answered: the range is looked for, and whether it is closed.
+    Withdraw,
     /// A Query of the post with a new number: its key, the range of the identifier and its last issue are looked for,
     /// and it is kept.
     Keep,
 }
 
 /// Each question, and how many calls of the book it takes.
-const QUESTIONS: [(Question, u64); 10] = [
+const QUESTIONS: [(Question, u64); 12] = [
     (Question::Find, 1),
     (Question::Entry, 1),
     (Question::Range, 1),
+    (Question::Closed, 1),
     (Question::NextRange, 1),
     (Question::Covering, 1),
     (Question::LastIssue, 1),
     (Question::Candidate, 2),
     (Question::Sheet, 2),
-    (Question::Usage, 2),
+    (Question::Usage, 3),
+    (Question::Withdraw, 2),
     (Question::Keep, 4),
 ];
 
@@ -91,6 +96,9 @@ fn ask<B: Book>(
         Question::Range => {
             book.range(1)?;
         }
+        Question::Closed => {
+            book.closed(1)?;
+        }
         Question::NextRange => {
             book.next_range(7, id.service, id.country, 0)?;
         }
@@ -109,6 +117,10 @@ fn ask<B: Book>(
         }
         Question::Usage => {
             report(alloc, book)?;
+        }
+        Question::Withdraw => {
+            let day = book.day().max(20_000);
+            decide(book, &asked(0, number, Body::Withdraw { range: 1 }), day)?;
         }
         Question::Keep => {
             answer(book, &asked(0, number, Body::Query { id: *id }), 20_000)?;

@@ -13,6 +13,7 @@ use crate::report_command::report_command;
 use crate::serve_command::serve_command;
 use crate::show_command::show_command;
 use crate::void_command::void_command;
+use crate::withdraw_command::withdraw_command;
 use clap::{ArgMatches, Command, Error};
 use std::alloc::{AllocError, Global};
 use std::convert::AsStr;
@@ -36,6 +37,7 @@ pub fn command<'a>(alloc: Global) -> Result<Command<'a>, AllocError> {
     let command = with_subcommand(command, draw_command(alloc)?)?;
     let command = with_subcommand(command, void_command(alloc)?)?;
     let command = with_subcommand(command, query_command(alloc)?)?;
+    let command = with_subcommand(command, withdraw_command(alloc)?)?;
     let command = with_subcommand(command, report_command(alloc)?)?;
     let command = with_subcommand(command, audit_command(alloc)?)?;
     with_subcommand(command, loop_command(alloc)?)

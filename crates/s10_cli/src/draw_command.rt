@@ -1,10 +1,8 @@
 //! The subcommand `draw`.
 use crate::builders::{named, with};
 use crate::found::{count_of, number_of, text_of, tries_of};
-use crate::options::{
-    count_option, country_option, customer_option, request_option, service_option, to_option,
-    tries_option,
-};
+use crate::options::{count_option, country_option, service_option, tries_option};
+use crate::questions::with_asker;
 use clap::{ArgMatches, Command};
 use s10_jobs::{BodyWords, Job, Question};
 use std::alloc::{AllocError, Global};
@@ -17,9 +15,7 @@ pub fn draw_command<'a>(alloc: Global) -> Result<Command<'a>, AllocError> {
         "Ask a server for the next identifier of a service and a country, or for a sheet of them",
         DRAW_EXAMPLES,
     );
-    let command = with(command, to_option(alloc))?;
-    let command = with(command, customer_option(alloc))?;
-    let command = with(command, request_option(alloc))?;
+    let command = with_asker(alloc, command)?;
     let command = with(command, service_option(alloc))?;
     let command = with(command, country_option(alloc))?;
     let command = with(command, count_option(alloc))?;
@@ -28,13 +24,13 @@ pub fn draw_command<'a>(alloc: Global) -> Result<Command<'a>, AllocError> {
 
 const DRAW_EXAMPLES: &str = "\
 Prints the reply: the request and `done day D ID`, with exit status 0, or why there is no identifier,
-with status 1: `no-range` where the customer has no range of that service and country, `none-free`
-where no serial number of them is free on that day, `number-reused` where the customer has asked for
-something else under this number. With --count the reply has so many identifiers one behind the other,
-and `none-free` says that fewer serial numbers are free: none is issued then. `refused peer`,
-`refused service` or `refused country`, also with status 1, say that nothing was asked. With status 3,
-`gave-up` says that no reply came, and `link FAULT` that the socket failed; the same words again ask
-again, and draw once at most.
+with status 1: `no-range` where the customer has no open range of that service and country,
+`none-free` where no serial number of them is free on that day, `number-reused` where the customer
+has asked for something else under this number. With --count the reply has so many identifiers one
+behind the other, and `none-free` says that fewer serial numbers are free: none is issued then.
+`refused peer`, `refused service` or `refused country`, also with status 1, say that nothing was
+asked. With status 3, `gave-up` says that no reply came, and `link FAULT` that the socket failed; the
+same words again ask again, and draw once at most.
 
 Example:
   s10 draw --to 127.0.0.1:4711 --customer 7 --number 1 --service RA --country GB

@@ -4,6 +4,9 @@ use s10_book::Settings;
 use s10_jobs::Tries;
 use s10_wire::Count;
 
+/// The customer number of the post, which alone can grant and withdraw.
+pub const POST: u32 = 0;
+
 /// The text of an option.
 pub fn text_of<'a>(found: &ArgMatches<'a>, name: &str) -> Option<&'a str> {
     found.get_str(name)

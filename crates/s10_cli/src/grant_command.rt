@@ -1,14 +1,12 @@
 //! The subcommand `grant`.
 use crate::builders::{named, number_option, serial_option, with};
-use crate::found::{number_of, text_of, tries_of};
-use crate::options::{country_option, request_option, service_option, to_option, tries_option};
+use crate::found::{POST, number_of, text_of, tries_of};
+use crate::options::{country_option, service_option, tries_option};
+use crate::questions::with_request;
 use clap::{ArgMatches, Command};
 use s10_core::Serial;
 use s10_jobs::{BodyWords, Job, Question};
 use std::alloc::{AllocError, Global};
-
-/// The customer number of the post, which alone can grant.
-const POST: u32 = 0;
 
 /// What `grant` may say.
 pub fn grant_command<'a>(alloc: Global) -> Result<Command<'a>, AllocError> {
@@ -18,8 +16,7 @@ pub fn grant_command<'a>(alloc: Global) -> Result<Command<'a>, AllocError> {
         "Ask a server, as the post, to grant a range of serial numbers to a customer",
         GRANT_EXAMPLES,
     );
-    let command = with(command, to_option(alloc))?;
-    let command = with(command, request_option(alloc))?;
+    let command = with_request(alloc, command)?;
     let command = with(
         command,
         number_option(alloc, "holder", "The number of the customer to grant to"),

@@ -9,6 +9,7 @@ use crate::query_command::query_job;
 use crate::report_command::report_job;
 use crate::serve_command::serve_job;
 use crate::void_command::void_job;
+use crate::withdraw_command::withdraw_job;
 use s10_jobs::Job;
 use std::alloc::Global;
 use std::convert::AsStr;
@@ -25,6 +26,7 @@ pub fn parse_job<'a, S: AsStr>(alloc: Global, words: &'a [S]) -> Option<Job<'a>>
         "draw" => draw_job(found),
         "void" => void_job(found),
         "query" => query_job(found),
+        "withdraw" => withdraw_job(found),
         "report" => report_job(found),
         "audit" => audit_job(found),
         "loop" => Some(loop_job(found)),

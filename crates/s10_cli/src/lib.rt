@@ -15,11 +15,13 @@ mod loop_command;
 mod make_command;
 mod options;
 mod query_command;
+mod questions;
 mod replay_command;
 mod report_command;
 mod serve_command;
 mod show_command;
 mod void_command;
+mod withdraw_command;
 
 pub use command_line::{run_buffered, run_line};
 pub use job_words::parse_job;

@@ -1,7 +1,8 @@
 //! The subcommand `query`.
 use crate::builders::{named, with};
 use crate::found::{number_of, text_of, tries_of};
-use crate::options::{customer_option, id_option, request_option, to_option, tries_option};
+use crate::options::{id_option, tries_option};
+use crate::questions::with_asker;
 use clap::{ArgMatches, Command};
 use s10_jobs::{BodyWords, Job, Question};
 use std::alloc::{AllocError, Global};
@@ -14,9 +15,7 @@ pub fn query_command<'a>(alloc: Global) -> Result<Command<'a>, AllocError> {
         "Ask a server what became of an identifier",
         QUERY_EXAMPLES,
     );
-    let command = with(command, to_option(alloc))?;
-    let command = with(command, customer_option(alloc))?;
-    let command = with(command, request_option(alloc))?;
+    let command = with_asker(alloc, command)?;
     let command = with(command, id_option(alloc))?;
     with(command, tries_option(alloc))
 }

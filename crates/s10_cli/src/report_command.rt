@@ -35,10 +35,11 @@ pub fn report_command<'a>(alloc: Global) -> Result<Command<'a>, AllocError> {
 const REPORT_EXAMPLES: &str = "\
 Prints a line of headings, and a line for each range in order of their numbers: its serial numbers
 ever issued, those that are void, and those that are free on the day, or on the ledger's last day
-where that is later. With --issues, a line for each identifier issued, in order of arrival: `issued`
-or `voided` where it was not issued again, else `reissued`. The exit status is 0. With status 3,
-`ledger FAULT` says that the ledger could not be opened, `faulted FAULT` or `output` that the report
-ends early, and `clock` that the clock gives no day.
+where that is later; the line of a withdrawn range ends with `closed`. With --issues, a line for each
+identifier issued, in order of arrival: `issued` or `voided` where it was not issued again, else
+`reissued`. The exit status is 0. With status 3, `ledger FAULT` says that the ledger could not be
+opened, `faulted FAULT` or `output` that the report ends early, and `clock` that the clock gives no
+day.
 
 Example:
   s10 report --ledger post.db --day 20030

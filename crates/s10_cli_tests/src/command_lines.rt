@@ -224,6 +224,11 @@ fn show_names_the_parts_of_a_request(rt: HostRuntime) {
                 "request draw-many customer 7 number 1 RA GB 2\n",
             ),
             (
+                &["s10", "show", "53310206000000000000000200000001"],
+                0,
+                "request withdraw customer 0 number 2 1\n",
+            ),
+            (
                 &[
                     "s10",
                     "show",
@@ -342,6 +347,51 @@ fn show_names_the_outcome_of_a_reply(rt: HostRuntime) {
 }
 
 #[test]
+fn show_names_the_outcome_of_a_withdrawal(rt: HostRuntime) {
+    run_cases(
+        &rt,
+        &[
+            (
+                &["s10", "show", "5331028600000000000000020000000100"],
+                0,
+                "reply withdraw customer 0 number 2 1 done\n",
+            ),
+            (
+                &["s10", "show", "5331028600000000000000020000000101"],
+                0,
+                "reply withdraw customer 0 number 2 1 not-the-post\n",
+            ),
+            (
+                &["s10", "show", "5331028600000000000000020000000109"],
+                0,
+                "reply withdraw customer 0 number 2 1 number-reused\n",
+            ),
+            (
+                &["s10", "show", "533102860000000000000002000000010a"],
+                0,
+                "reply withdraw customer 0 number 2 1 no-such-range\n",
+            ),
+            (
+                &["s10", "show", "533102860000000000000002000000010b"],
+                0,
+                "reply withdraw customer 0 number 2 1 closed\n",
+            ),
+            // What a withdrawal never comes to: an overlap, and a code behind the last one.
+            (
+                &["s10", "show", "5331028600000000000000020000000103"],
+                1,
+                "refused outcome\n",
+            ),
+            (
+                &["s10", "show", "533102860000000000000002000000010c"],
+                1,
+                "refused outcome\n",
+            ),
+        ],
+    );
+}
+
+#[test]
 fn show_names_what_is_wrong_with_a_datagram(rt: HostRuntime) {
     run_cases(
         &rt,
@@ -363,8 +413,19 @@ fn show_names_what_is_wrong_with_a_datagram(rt: HostRuntime) {
                 1,
                 "refused kind\n",
             ),
+            // Withdrawals are of version 2.
+            (
+                &["s10", "show", "53310106000000000000000200000001"],
+                1,
+                "refused kind\n",
+            ),
             (
                 &["s10", "show", "533101020000000700000001524147"],
+                1,
+                "refused length\n",
+            ),
+            (
+                &["s10", "show", "533102060000000000000002000000"],
                 1,
                 "refused length\n",
             ),
@@ -507,7 +568,7 @@ fn prints_at_first<R: Eprint + AllocGlobal>(rt: &R, words: &[&str], start: &str)
 
 #[test]
 fn help_and_the_version_are_printed_where_they_are_asked_for(rt: HostRuntime) {
-    let asked: [(&[&str], &str); 9] = [
+    let asked: [(&[&str], &str); 11] = [
         (&["s10", "--version"], "s10 "),
         (&["s10", "--help"], "Issue S10 identifiers"),
         (&["s10", "help"], "Issue S10 identifiers"),
@@ -517,6 +578,14 @@ fn help_and_the_version_are_printed_where_they_are_asked_for(rt: HostRuntime) {
         (&["s10", "make", "-h"], "Write the identifier"),
         (&["s10", "show", "--help"], "Show the request or the reply"),
         (&["s10", "help", "replay"], "Answer the datagrams"),
+        (
+            &["s10", "help", "withdraw"],
+            "Ask a server, as the post, to close a range for ever",
+        ),
+        (
+            &["s10", "withdraw", "--help"],
+            "Ask a server, as the post, to close a range for ever",
+        ),
     ];
     for (words, start) in asked {
         assert!(rt; prints_at_first(&rt, words, start), "{words:?}");

@@ -20,7 +20,7 @@ const DRAW: [&'static str; 12] = [
 ];
 
 /// Each subcommand of the program with its required options alone.
-const LINES: [&'static [&'static str]; 9] = [
+const LINES: [&'static [&'static str]; 10] = [
     &[
         "s10",
         "create",
@@ -84,19 +84,30 @@ const LINES: [&'static [&'static str]; 9] = [
         "--id",
         "RA000000005GB",
     ],
+    &[
+        "s10",
+        "withdraw",
+        "--to",
+        "127.0.0.1:4711",
+        "--number",
+        "5",
+        "--range",
+        "1",
+    ],
     &["s10", "report", "--ledger", "a.db"],
     &["s10", "audit", "--ledger", "a.db"],
     &["s10", "loop"],
 ];
 
 /// What they ask, as it is shown for debugging.
-const JOBS: [&'static str; 9] = [
+const JOBS: [&'static str; 10] = [
     r#"Some(Create { ledger: "a.db", settings: Settings { interval: 30, limit: 100 } })"#,
     r#"Some(Serve { ledger: "a.db", bind: "0.0.0.0:0", count: 3, day: None })"#,
     r#"Some(Ask(Question { to: "127.0.0.1:4711", customer: 0, number: 1, body: Grant { holder: 7, service: "RA", country: "GB", first: Serial { value: 0 }, last: Serial { value: 2 } }, tries: Tries { count: 5 } }))"#,
     r#"Some(Ask(Question { to: "127.0.0.1:4711", customer: 7, number: 1, body: Draw { service: "RA", country: "GB" }, tries: Tries { count: 5 } }))"#,
     r#"Some(Ask(Question { to: "127.0.0.1:4711", customer: 7, number: 3, body: Void { id: "RA000000005GB" }, tries: Tries { count: 5 } }))"#,
     r#"Some(Ask(Question { to: "127.0.0.1:4711", customer: 7, number: 4, body: Query { id: "RA000000005GB" }, tries: Tries { count: 5 } }))"#,
+    r#"Some(Ask(Question { to: "127.0.0.1:4711", customer: 0, number: 5, body: Withdraw { range: 1 }, tries: Tries { count: 5 } }))"#,
     r#"Some(Report { ledger: "a.db", is_of_issues: false, day: None })"#,
     r#"Some(Audit { ledger: "a.db" })"#,
     "Some(Loop { day: None })",
@@ -180,7 +191,7 @@ fn options_that_may_be_left_out_are_read(rt: HostRuntime) -> Result<(), Fail> {
 
 #[test]
 fn numbers_are_read_up_to_their_limits(rt: HostRuntime) -> Result<(), Fail> {
-    let cases: [(&[&str], &str); 2] = [
+    let cases: [(&[&str], &str); 4] = [
         (
             &[
                 "s10",
@@ -216,6 +227,22 @@ fn numbers_are_read_up_to_their_limits(rt: HostRuntime) -> Result<(), Fail> {
                 "post",
             ],
             r#"Some(Ask(Question { to: "post", customer: 0, number: 4294967295, body: Grant { holder: 4294967295, service: "", country: "gb", first: Serial { value: 99999998 }, last: Serial { value: 99999999 } }, tries: Tries { count: 100 } }))"#,
+        ),
+        (
+            &[
+                "s10", "withdraw", "--tries", "1", "--range", "0", "--number", "0", "--to", "",
+            ],
+            r#"Some(Ask(Question { to: "", customer: 0, number: 0, body: Withdraw { range: 0 }, tries: Tries { count: 1 } }))"#,
+        ),
+        (
+            &[
+                "s10",
+                "withdraw",
+                "--range=4294967295",
+                "--number=4294967295",
+                "--to=post",
+            ],
+            r#"Some(Ask(Question { to: "post", customer: 0, number: 4294967295, body: Withdraw { range: 4294967295 }, tries: Tries { count: 5 } }))"#,
         ),
     ];
     for (words, job) in cases {
@@ -303,7 +330,7 @@ fn is_refused_before<'a, R: Eprint + AllocGlobal>(
 
 #[test]
 fn numbers_out_of_their_ranges_are_no_command_line(rt: HostRuntime) -> Result<(), Fail> {
-    let cases: [(&[&str], &str, &[&str]); 10] = [
+    let cases: [(&[&str], &str, &[&str]); 12] = [
         (LINES[0], "--interval", &["0", "3651", "-1", "", "x"]),
         (LINES[0], "--limit", &["0", "1000000001", "4294967297"]),
         (LINES[1], "--count", &["4294967296", "-1", "1.5"]),
@@ -314,6 +341,8 @@ fn numbers_out_of_their_ranges_are_no_command_line(rt: HostRuntime) -> Result<()
         (LINES[3], "--number", &["4294967296", "0x1"]),
         (LINES[4], "--number", &["-1"]),
         (LINES[5], "--customer", &[""]),
+        (LINES[6], "--number", &["4294967296"]),
+        (LINES[6], "--range", &["4294967296", "-1", "", "RA"]),
     ];
     for (words, option, values) in cases {
         assert!(rt;
@@ -328,15 +357,16 @@ fn numbers_out_of_their_ranges_are_no_command_line(rt: HostRuntime) -> Result<()
 fn tries_counts_and_days_out_of_their_ranges_are_no_command_line(
     rt: HostRuntime,
 ) -> Result<(), Fail> {
-    let cases: [(&[&str], &[&str]); 8] = [
+    let cases: [(&[&str], &[&str]); 9] = [
         (LINES[2], &["--tries=0", "--tries=101"]),
         (LINES[3], &["--tries=0", "--tries=101"]),
         (LINES[3], &["--count=0", "--count=17"]),
         (LINES[4], &["--tries=0", "--tries=101"]),
         (LINES[5], &["--tries=0", "--tries=101"]),
+        (LINES[6], &["--tries=0", "--tries=101"]),
         (LINES[1], &["--day=4294967296"]),
-        (LINES[6], &["--day=4294967296"]),
-        (LINES[8], &["--day=4294967296"]),
+        (LINES[7], &["--day=4294967296"]),
+        (LINES[9], &["--day=4294967296"]),
     ];
     for (words, options) in cases {
         for option in options {
@@ -345,6 +375,23 @@ fn tries_counts_and_days_out_of_their_ranges_are_no_command_line(
                 "{words:?} {option}"
             );
         }
+    }
+    Ok(())
+}
+
+#[test]
+fn what_the_post_alone_asks_names_no_customer(rt: HostRuntime) -> Result<(), Fail> {
+    for words in [LINES[2], LINES[6]] {
+        assert!(rt; is_refused_before(&rt, words, "--customer=0")?, "{words:?}");
+    }
+    Ok(())
+}
+
+#[test]
+fn a_withdrawal_is_of_a_whole_range_by_its_number(rt: HostRuntime) -> Result<(), Fail> {
+    let options = ["--range=2", "--first=0", "--id=RA000000005GB", "1"];
+    for option in options {
+        assert!(rt; is_refused_before(&rt, LINES[6], option)?, "{option}");
     }
     Ok(())
 }

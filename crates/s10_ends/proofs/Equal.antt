@@ -3,7 +3,7 @@ use Rattle.std.proofs.Common.{◌≡◌, ◌≢◌, ◌∙◌, ◌⊎◌, inl, i
 use Rattle.std.proofs.lemmas.Bool.Decides.{eqb_tells}
 use Rattle.s10_core.specs.declared.id.Id.{Id}
 use Rattle.s10_wire.specs.declared.body.Body.{Body}
-use Rattle.s10_wire.specs.declared.body.Body.TheVariants.{Grant, Draw, Void, Query, DrawMany}
+use Rattle.s10_wire.specs.declared.body.Body.TheVariants.{Grant, Draw, Void, Query, DrawMany, Withdraw}
 use Rattle.s10_wire.specs.declared.request.Request.{Request}
 
 same_or_not : (xs ys : List ℕ) → (xs ≡ ys) ⊎ (xs ≢ ys)
@@ -43,6 +43,7 @@ body_numbers (Draw service country) = 1 ∷ service.0 ∷ service.1 ∷ country.
 body_numbers (Void x) = 2 ∷ id_numbers x
 body_numbers (Query x) = 3 ∷ id_numbers x
 body_numbers (DrawMany service country count) = 4 ∷ service.0 ∷ service.1 ∷ country.0 ∷ country.1 ∷ count ∷ []
+body_numbers (Withdraw range) = 5 ∷ range ∷ []
 
 body_one : (a b : Body) → body_numbers a ≡ body_numbers b → a ≡ b
 body_one (Grant h s c f l) (Grant h' s' c' f' l') same =
@@ -59,6 +60,7 @@ body_one (DrawMany s c n) (DrawMany s' c' n') same =
     let service : s ≡ s' = pair_one s s' (cc) (cc) in
     let country : c ≡ c' = pair_one c c' (cc) (cc) in
     cc
+body_one (Withdraw r) (Withdraw r') same = cc
 body_one a b same = cc
 
 request_one : (p q : Request) → p.customer ≡ q.customer → p.number ≡ q.number → p.body ≡ q.body → p ≡ q

@@ -21,7 +21,8 @@ use Rattle.sqlite.specs.Files.{file_state, over_files, AreFoundIn}
 use Rattle.sqlite.specs.Closing.{IsCopied}
 use Rattle.s10_book.specs.BookFault.{no_faults}
 use Rattle.s10_book.specs.Settings.{Terms}
-use Rattle.s10_ledger.specs.Ledger.{Ledger, IsLedger, IsHonest, history_in}
+use Rattle.s10_schema.specs.Schema.{IsClosedSchema}
+use Rattle.s10_ledger.specs.Ledger.{Ledger, IsLedger, IsAnyLedger, IsHonest, history_in}
 use Rattle.s10_statements.specs.Settled.{WasSound}
 use Rattle.s10_rows.specs.declared.open_fault.OpenFault.{OpenFault}
 use Rattle.s10_ledger.specs.Refusals.{IsOpeningRefusal}
@@ -86,41 +87,49 @@ module _ {D : Type 0} {g : Ghosts D} where
   pub record Opening (was : Held (FileStore D g)) (book : Ledger (FileStore D g)) : Type 0 where
     pub opened : HasCleanDisk (file_state book.conn) → IsTrue (file_state book.conn).is_open
     pub honest : HasCleanDisk (file_state book.conn) → IsTrue (file_state book.conn).is_open → IsHonest over_files book
-    pub same : IsHonest over_files book → (file_state book.conn).now ≡ (file_state was).now
+    pub found : IsHonest over_files book → IsAnyLedger (file_state was).now book.terms book.len book.day
+    pub same : IsHonest over_files book → IsClosedSchema (file_state was).now.schema → (file_state book.conn).now ≡ (file_state was).now
+    pub history : IsHonest over_files book → history_in (file_state book.conn).now ≡ history_in (file_state was).now
     pub sound : WasSound over_files was book.conn
 
   found_book : (held : Image) (was : Held (FileStore D g)) (book : Ledger (FileStore D g)) → IsFoundIn held was → Opening was book → WhereClean (IsFoundBook held) book
   found_book held was book found opening clean =
       let sound = opening.honest clean (opening.opened clean) in
       let (first, finds) = found (opening.sound clean).0 in
-      let trees = ap (λ (d : Database). d.trees) (opening.same sound) ∙ ap (λ (d : Database). d.trees) first.0.clean in
+      let trees = ap (λ (d : Database). d.trees) first.0.clean in
       record {
         honest = sound;
+        was = was;
+        opened = (first, finds);
         holds = λ db holds. trees ∙ finds.holds db holds;
         reads = subst (AreFoundIn held) (sym trees) finds.reads;
-        was = was;
-        found = (first, finds);
+        found = opening.found sound;
         same = opening.same sound;
+        history = opening.history sound;
       }
 
   all_of : {E : Type 0} (was : Held (FileStore D g)) (opened : Result (Ledger (FileStore D g)) E)
       → IfOk opened (λ book. HasCleanDisk (file_state book.conn) → IsTrue (file_state book.conn).is_open)
       → IfOk opened (λ book. HasCleanDisk (file_state book.conn) → IsTrue (file_state book.conn).is_open → IsHonest over_files book)
-      → IfOk opened (λ book. IsHonest over_files book → (file_state book.conn).now ≡ (file_state was).now)
+      → IfOk opened (λ book. IsHonest over_files book → IsAnyLedger (file_state was).now book.terms book.len book.day)
+      → IfOk opened (λ book. IsHonest over_files book → IsClosedSchema (file_state was).now.schema → (file_state book.conn).now ≡ (file_state was).now)
+      → IfOk opened (λ book. IsHonest over_files book → history_in (file_state book.conn).now ≡ history_in (file_state was).now)
       → IfOk opened (λ book. WasSound over_files was book.conn) → IfOk opened (Opening was)
-  all_of was (Ok book) opened honest same sound = record { opened = opened; honest = honest; same = same; sound = sound }
-  all_of was (Err e) opened honest same sound = tt
+  all_of was (Ok book) opened honest found same history sound = record { opened = opened; honest = honest; found = found; same = same; history = history; sound = sound }
+  all_of was (Err e) opened honest found same history sound = tt
 
   pub kept_found : {E F : Type 0} (held : Image) (was : Held (FileStore D g)) (opened : Result (Ledger (FileStore D g)) E) (kept : Result (Ledger (FileStore D g)) F)
       → IsFoundIn held was
       → IfOk opened (λ book. HasCleanDisk (file_state book.conn) → IsTrue (file_state book.conn).is_open)
       → IfOk opened (λ book. HasCleanDisk (file_state book.conn) → IsTrue (file_state book.conn).is_open → IsHonest over_files book)
-      → IfOk opened (λ book. IsHonest over_files book → (file_state book.conn).now ≡ (file_state was).now)
+      → IfOk opened (λ book. IsHonest over_files book → IsAnyLedger (file_state was).now book.terms book.len book.day)
+      → IfOk opened (λ book. IsHonest over_files book → IsClosedSchema (file_state was).now.schema → (file_state book.conn).now ≡ (file_state was).now)
+      → IfOk opened (λ book. IsHonest over_files book → history_in (file_state book.conn).now ≡ history_in (file_state was).now)
       → IfOk opened (λ book. WasSound over_files was book.conn)
       → IfOk kept (λ book. opened ≡ Ok book) → IfOk kept (WhereClean (IsFoundBook held))
-  kept_found held was opened kept found live honest same sound is =
-      let all = all_of was opened live honest same sound in
-      IfOk-weaker kept (λ book. opened ≡ Ok book) (WhereClean (IsFoundBook held)) (λ book here. found_book held was book found (subst (λ r. IfOk r (Opening was)) here all)) is
+  kept_found held was opened kept first live honest found same history sound is =
+      let all = all_of was opened live honest found same history sound in
+      IfOk-weaker kept (λ book. opened ≡ Ok book) (WhereClean (IsFoundBook held)) (λ book here. found_book held was book first (subst (λ r. IfOk r (Opening was)) here all)) is
 
   -- a connection whose last commit the files hold showed a ledger of which what was true is true of the book
   pub put_away : (book : Ledger (FileStore D g)) (closed : Held (FileStore D g)) (files : Files D) → closed ≡ book.conn → Copies closed files

@@ -7,19 +7,19 @@ use Rattle.sqlite.specs.State.{HasCleanDisk}
 use Rattle.s10_book.specs.Settings.{Terms}
 use Rattle.s10_wire.specs.Lines.{line_of}
 use Rattle.s10_rows.specs.declared.open_fault.OpenFault.{OpenFault}
-use Rattle.s10_ledger.specs.Ledger.{IsLedger, history_in}
+use Rattle.s10_ledger.specs.Ledger.{IsAnyLedger, history_in}
 use Rattle.s10_statements.specs.Settled.{WasSound}
 use Rattle.s10_ledger.specs.Refusals.{IsOpeningRefusal}
 use Rattle.s10_jobs.specs.declared.status.Status.{Status}
 use Rattle.s10_jobs.specs.declared.status.Status.TheVariants.{Done, Failed}
 use Rattle.s10_jobs.specs.Words.{open_fault_words}
 
--- the database is a ledger of so many calls
+-- the database is a ledger of so many calls, of this build or of an earlier one
 pub record HoldsCalls (db : Database) (count : ℕ) : Type 0 where
   pub terms : Terms
   pub len : ℕ
   pub day : ℕ
-  pub ledger : IsLedger db terms len day
+  pub ledger : IsAnyLedger db terms len day
   pub counted : count ≡ length (history_in db)
 
 -- what is found of a database: so many kept calls, or why it is no ledger

@@ -19,7 +19,8 @@ use Rattle.sqlite.specs.State.{HasCleanDisk}
 use Rattle.sqlite.specs.Files.{file_state, over_files, HoldsDatabase, AreFoundIn, IsOpened}
 use Rattle.sqlite.specs.Start.{FindsIn}
 use Rattle.sqlite.specs.Closing.{IsCopied}
-use Rattle.s10_ledger.specs.Ledger.{Ledger, IsHonest, history_in}
+use Rattle.s10_schema.specs.Schema.{IsClosedSchema}
+use Rattle.s10_ledger.specs.Ledger.{Ledger, IsAnyLedger, IsHonest, history_in}
 use Rattle.s10_rows.specs.declared.open_fault.OpenFault.{OpenFault}
 use Rattle.s10_rows.specs.declared.open_fault.OpenFault.TheVariants.{NotALedger, Memory, Store}
 use Rattle.s10_ledger.specs.Refusals.{IsOpeningRefusal}
@@ -39,15 +40,18 @@ module _ {D : Type 0} {g : Ghosts D} where
     pub honest : IsHonest over_files book
     pub empty : history_in (file_state book.conn).now ≡ []
 
-  -- a ledger over the database that the files held
+  -- a ledger over the database that the files held, which is a ledger as it was found. It shows the same database, or that of an
+  -- earlier build completed, with the history of that
   pub record IsFoundBook (held : Image) (book : Ledger (FileStore D g)) : Type 0 where
     pub honest : IsHonest over_files book
-    pub holds : (db : Trees) → HoldsDatabase held db → (file_state book.conn).now.trees ≡ db
-    pub reads : AreFoundIn held (file_state book.conn).now.trees
-    -- it shows what was found as the files were opened
+    -- it showed this as the files were opened
     pub was : Held (FileStore D g)
-    pub found : IsOpened was × FindsIn held (file_state was)
-    pub same : (file_state book.conn).now ≡ (file_state was).now
+    pub opened : IsOpened was × FindsIn held (file_state was)
+    pub holds : (db : Trees) → HoldsDatabase held db → (file_state was).now.trees ≡ db
+    pub reads : AreFoundIn held (file_state was).now.trees
+    pub found : IsAnyLedger (file_state was).now book.terms book.len book.day
+    pub same : IsClosedSchema (file_state was).now.schema → (file_state book.conn).now ≡ (file_state was).now
+    pub history : history_in (file_state book.conn).now ≡ history_in (file_state was).now
 
   -- the last commit is in the database file, where both files kept what they were given
   abbrev pub Copies : Held (FileStore D g) → Files D → Type 0

@@ -214,6 +214,17 @@ fn ledger_as_it_was_kept_is_sound(rt: HostRuntime) -> Result<(), Fail> {
 }
 
 #[test]
+fn ledger_without_the_table_of_closed_ranges_is_of_an_earlier_build(
+    rt: HostRuntime,
+) -> Result<(), Fail> {
+    let change = "DROP TABLE closed";
+    let mut connection = worked_ledger(&rt)?;
+    connection.execute(change, &[])?;
+    audit(&rt, connection, Status::Done, "ledger ok 9\n", change);
+    Ok(())
+}
+
+#[test]
 fn database_without_tables_is_no_ledger(rt: HostRuntime) -> Result<(), Fail> {
     let connection = Connection::open_in_memory(rt.alloc())?;
     audit(
@@ -280,6 +291,7 @@ fn one_change_of_the_tables_is_found(rt: HostRuntime) -> Result<(), Fail> {
             "INSERT INTO serials VALUES (1380009794, 3, 9, 20030, 7, 8, 0)",
             "damaged 0",
         ),
+        ("INSERT INTO closed VALUES (1, 9)", "damaged 0"),
     ];
     for (change, fault) in changes {
         let mut connection = worked_ledger(&rt)?;

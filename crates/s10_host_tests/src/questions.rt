@@ -29,6 +29,17 @@ fn query<'a>(tries: Tries, to: &'a str, id: &'a str) -> Question<'a> {
     }
 }
 
+/// The post's first withdrawal.
+fn withdraw<'a>(tries: Tries, to: &'a str) -> Question<'a> {
+    Question {
+        to,
+        customer: 0,
+        number: 1,
+        body: BodyWords::Withdraw { range: 1 },
+        tries,
+    }
+}
+
 /// Whether a question has this status and prints this line, on a writer that takes it alone.
 fn is_told<N: Net>(
     alloc: Global,
@@ -47,7 +58,7 @@ fn is_told<N: Net>(
 fn what_is_not_asked_has_its_line(rt: HostRuntime) -> Result<(), Fail> {
     let tries = Tries::new(1).ok_or("tries")?;
     let server = "127.0.0.1:4711";
-    let cases: [(Question<'_>, Status, &str); 10] = [
+    let cases: [(Question<'_>, Status, &str); 12] = [
         (
             draw(tries, "127.0.0.1", "ra", "gb"),
             Status::Refused,
@@ -93,9 +104,19 @@ fn what_is_not_asked_has_its_line(rt: HostRuntime) -> Result<(), Fail> {
             Status::Refused,
             "refused check-digit\n",
         ),
+        (
+            withdraw(tries, "127.0.0.1"),
+            Status::Refused,
+            "refused peer\n",
+        ),
         // No datagram can be sent to port 0.
         (
             query(tries, "127.0.0.1:0", "ra 000 000 005 gb"),
+            Status::Failed,
+            "link send\n",
+        ),
+        (
+            withdraw(tries, "127.0.0.1:0"),
             Status::Failed,
             "link send\n",
         ),

@@ -1,16 +1,11 @@
 -- What room for one more leaves as it was.
-use Rattle.std.proofs.Common.{◌≡◌, ◌∙◌, ℕ, List}
+use Rattle.std.proofs.Common.{◌∙◌, ℕ, List}
 use Rattle.std.specs.HashMap.{HashMap, IsReordered}
 use Rattle.s10_book.specs.declared.entry.Entry.{Entry}
 use Rattle.s10_book.specs.declared.issue.Issue.{Issue}
-use Rattle.s10_ranges.specs.declared.ranges.Ranges.{Ranges}
-use Rattle.s10_ranges.specs.Mirror.{Mirrors}
 use Rattle.s10_index.specs.Keys.{same_key, id_key}
 use Rattle.s10_index.specs.Places.{HasPlaces}
 use Rattle.s10_index.specs.LastIssues.{HasIssues}
-
-pub mirrors_still : (old new : Ranges) (h : List Entry) → new.ranges.items ≡ old.ranges.items → new.marks.items ≡ old.marks.items → Mirrors old h → Mirrors new h
-mirrors_still old new h ranges marks m = record { ranges = ranges ∙ m.ranges; marks = marks ∙ m.marks }
 
 pub places_still : {S : Type 0} (old new : HashMap (ℕ × ℕ) ℕ S) (h : List Entry) → IsReordered same_key old new → HasPlaces old h → HasPlaces new h
 places_still old new h moved has = λ customer number. moved.2 (customer, number) ∙ has customer number

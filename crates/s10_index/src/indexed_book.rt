@@ -2,7 +2,7 @@
 
 ghost use Rattle.std.specs.Prelude.{◌≡◌, ◌∷◌, ◌++◌, [], ⊤, OnOk, OnErr, IfOk, IfErr, IfSome, IsTrue, Contains, find, ◌==◌, ◌<◌, count_by, vec_len, vec_capacity};
 ghost use Rattle.s10_wire.specs.Kind.{fits};
-ghost use Rattle.s10_book.specs.History.{ranges_of, entry_with_key, entry_at, is_held_above, overlaps};
+ghost use Rattle.s10_book.specs.History.{ranges_of, entry_with_key, entry_at, is_closed, is_open_above, overlaps};
 ghost use Rattle.s10_book.specs.Issues.{issues_of, last_issue_of, candidate_of, candidate_after_of, size_of, pick_of, is_issued, is_voided as is_voided_in, is_free as is_free_on, id_at, serials};
 ghost use Rattle.s10_book.specs.Usage.{usage_of};
 ghost use Rattle.s10_book.specs.Rules.{IsLegal, MayFollow};
@@ -176,6 +176,13 @@ impl Book for IndexedBook {
         Ok(self.ranges.numbered(num))
     }
 
+    fn closed(&mut self, num: u32) -> Result<bool, BookFault>
+        ensures same { self.new ≡ self.old }
+        ensures answer { result ≡ Ok (is_closed (⟦<IndexedBook as Book>⟧.history self.old) num) }
+    {
+        Ok(self.ranges.is_closed(num))
+    }
+
     fn next_range(
         &mut self,
         customer: u32,
@@ -184,10 +191,10 @@ impl Book for IndexedBook {
         after: u32,
     ) -> Result<Option<Range>, BookFault>
         ensures same { self.new ≡ self.old }
-        ensures answer { result ≡ Ok (find (is_held_above after customer service country) (ranges_of (⟦<IndexedBook as Book>⟧.history self.old))) }
+        ensures answer { result ≡ Ok (find (is_open_above (⟦<IndexedBook as Book>⟧.history self.old) after customer service country) (ranges_of (⟦<IndexedBook as Book>⟧.history self.old))) }
         ensures above { IfOk result (λ found. IfSome found (λ r. after < r.num)) }
     {
-        Ok(self.ranges.held_after(customer, service, country, after))
+        Ok(self.ranges.open_after(customer, service, country, after))
     }
 
     fn covering(

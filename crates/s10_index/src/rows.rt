@@ -1,13 +1,13 @@
 //! The rows of a ledger's tables that the history of a book makes.
 
-ghost use Rattle.std.specs.Prelude.{◌≡◌, ◌++◌, ◌∷◌, ◌+◌, ◌<◌, ◌≤◌, List, IfOk, OnOk, Some, slice_get, option_to_list};
+ghost use Rattle.std.specs.Prelude.{◌≡◌, ◌++◌, ◌∷◌, ◌+◌, ◌<◌, ◌≤◌, List, IfOk, OnOk, Some, drop, slice_get, option_to_list};
 ghost use Rattle.s10_book.specs.declared.entry.Entry.{Entry};
 ghost use Rattle.s10_book.specs.declared.issuance.Issuance.{Issuance};
 ghost use Rattle.s10_book.specs.Settings.{Terms};
 ghost use Rattle.s10_book.specs.Issues.{issues_of};
 ghost use Rattle.s10_book.specs.Rules.{IsLegal};
 ghost use Rattle.s10_ranges.specs.Mirror.{Mirrors};
-ghost use Rattle.s10_rows.specs.Tables.{range_rows, serial_rows};
+ghost use Rattle.s10_rows.specs.Tables.{closing, closed_rows, closed_rows_from, range_rows, serial_rows};
 ghost use Rattle.s10_index.specs.LastIssues.{HasIssues};
 ghost use Rattle.s10_index.specs.RowsBehind.{last_rows, rows_behind};
 
@@ -15,7 +15,7 @@ use crate::indexed_book::IndexedBook;
 use crate::last_issues::noted_issue;
 use s10_book::{Book, Entry, Issuance, Issue};
 use s10_ranges::Ranges;
-use s10_rows::{RangeRow, SerialRow};
+use s10_rows::{ClosedRow, RangeRow, SerialRow};
 use std::alloc::{AllocError, Global};
 use std::collections::HashMap;
 
@@ -79,6 +79,21 @@ impl IndexedBook {
         for place in 0..len {
             let entry = &self.entries[place as usize];
             push_rows(&mut rows, &self.issues, entry, place)?;
+        }
+        Ok(rows)
+    }
+
+    /// The rows of `closed`, in order of the calls that closed them. Refused by want of memory alone.
+    pub fn closed_rows(&self, alloc: Global) -> Result<Vec<ClosedRow>, AllocError>
+        ensures { IfOk result (λ rows. rows.items ≡ closed_rows self.now.entries.items) }
+    {
+        let len = self.len();
+        let mut rows = Vec::new(alloc);
+        for place in 0..len {
+            let entry = &self.entries[place as usize];
+            if let Some(row) = ClosedRow::made_by(place + 1, entry) {
+                rows.push(row)?;
+            }
         }
         Ok(rows)
     }

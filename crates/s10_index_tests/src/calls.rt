@@ -69,6 +69,10 @@ pub(crate) fn query(rt: &impl Abort, value: u32) -> Body {
     Body::Query { id: id(rt, value) }
 }
 
+pub(crate) fn withdraw(range: u32) -> Body {
+    Body::Withdraw { range }
+}
+
 pub(crate) fn request(customer: u32, number: u32, body: Body) -> Request {
     Request {
         customer,

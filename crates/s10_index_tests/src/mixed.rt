@@ -3,7 +3,7 @@
 ghost use Rattle.std.specs.Prelude.{◌≤◌, ◌<◌};
 
 use crate::books::{answer, entry_is_alike, new_books, report_alike};
-use crate::calls::{draw, draw_many, grant, query, request, void};
+use crate::calls::{draw, draw_many, grant, query, request, void, withdraw};
 use s10_book::Book;
 use s10_wire::{Outcome, Request};
 use std::process::Abort;
@@ -79,6 +79,14 @@ fn sheet_call(rt: &impl Abort, round: u32) -> Request
     request(1 + (round + 3) % 4, 10 * round + 8, draw_many(rt, 2))
 }
 
+// Four Withdraws of a range, the second by customer 1, and then of the next one, from a number that no range has on.
+fn withdraw_call(round: u32) -> Request
+    requires { round ≤ 1000 }
+{
+    let customer = if round % 4 == 1 { 1 } else { 0 };
+    request(customer, 10 * round + 9, withdraw(round / 4))
+}
+
 fn call(rt: &impl Abort, round: u32, turn: u32) -> Request
     requires { round ≤ 1000 }
 {
@@ -93,6 +101,7 @@ fn call(rt: &impl Abort, round: u32, turn: u32) -> Request
         7 => post_call(rt, round),
         8 => draw_call(rt, round, 3),
         9 => sheet_call(rt, round),
+        10 => withdraw_call(round),
         _ => reused_call(rt, round),
     }
 }
@@ -109,7 +118,7 @@ fn day(round: u32, turn: u32) -> u32
 }
 
 fn kind(outcome: &Outcome) -> usize
-    ensures { result < 14 }
+    ensures { result < 17 }
 {
     match outcome {
         Outcome::Granted { .. } => 0,
@@ -126,6 +135,9 @@ fn kind(outcome: &Outcome) -> usize
         Outcome::AlreadyVoid => 11,
         Outcome::NumberReused => 12,
         Outcome::DrawnMany { .. } => 13,
+        Outcome::Withdrawn => 14,
+        Outcome::NoSuchRange => 15,
+        Outcome::Closed => 16,
     }
 }
 
@@ -149,17 +161,17 @@ fn common_answer<R: Abort, A: Book, B: Book>(
     }
 }
 
-// Whether both books answer the eleven calls of the round alike; the kinds of their answers are noted.
+// Whether both books answer the twelve calls of the round alike; the kinds of their answers are noted.
 fn round_is_alike<R: Abort, A: Book, B: Book>(
     rt: &R,
     one: &mut A,
     other: &mut B,
     round: u32,
-    seen: &mut [bool; 14],
+    seen: &mut [bool; 17],
 ) -> bool
     requires { round ≤ 1000 }
 {
-    for turn in 0..11u32 {
+    for turn in 0..12u32 {
         match common_answer(rt, one, other, round, turn) {
             None => return false,
             Some(outcome) => seen[kind(&outcome)] = true,
@@ -173,8 +185,8 @@ fn rounds_alike<R: Abort, A: Book, B: Book>(
     rt: &R,
     one: &mut A,
     other: &mut B,
-) -> (u32, [bool; 14]) {
-    let mut seen = [false; 14];
+) -> (u32, [bool; 17]) {
+    let mut seen = [false; 17];
     for round in 0..ROUNDS {
         if !round_is_alike(rt, one, other, round, &mut seen) {
             return (round, seen);
@@ -185,8 +197,18 @@ fn rounds_alike<R: Abort, A: Book, B: Book>(
 
 // Whether both books have kept the same calls.
 fn entries_are_alike<A: Book, B: Book>(one: &mut A, other: &mut B) -> bool {
-    for at in 0..=11 * ROUNDS {
+    for at in 0..=12 * ROUNDS {
         if !entry_is_alike(one, other, at) {
+            return false;
+        }
+    }
+    true
+}
+
+// Whether both books have closed the same ranges.
+fn are_closed_alike<A: Book, B: Book>(one: &mut A, other: &mut B) -> bool {
+    for num in 0..=13u32 {
+        if one.closed(num) != other.closed(num) {
             return false;
         }
     }
@@ -198,8 +220,9 @@ fn mixed_calls_are_answered_alike(rt: HostRuntime) {
     let (mut plain, mut indexed) = new_books(&rt);
     assert_eq!(rt;
         rounds_alike(&rt, &mut plain, &mut indexed),
-        (ROUNDS, [true; 14])
+        (ROUNDS, [true; 17])
     );
     assert!(rt; entries_are_alike(&mut plain, &mut indexed));
+    assert!(rt; are_closed_alike(&mut plain, &mut indexed));
     assert!(rt; report_alike(&rt, rt.alloc(), &mut plain, &mut indexed, 20_100));
 }

@@ -1,7 +1,7 @@
 -- What is printed of a call over a link, and the status that it gives.
 use Rattle.std.specs.Prelude.{ℕ, List, [], codes, Result, Ok, Err}
 use Rattle.s10_wire.specs.declared.outcome.Outcome.{Outcome}
-use Rattle.s10_wire.specs.declared.outcome.Outcome.TheVariants.{Granted, Drawn, DrawnMany, Voided, Told, NotThePost, BadGrant, Overlap, NoRange, NoneFree, NotYours, NotIssued, AlreadyVoid, NumberReused}
+use Rattle.s10_wire.specs.declared.outcome.Outcome.TheVariants.{Granted, Drawn, DrawnMany, Voided, Told, Withdrawn, NotThePost, BadGrant, Overlap, NoRange, NoneFree, NotYours, NotIssued, AlreadyVoid, NoSuchRange, Closed, NumberReused}
 use Rattle.s10_wire.specs.declared.reply.Reply.{Reply}
 use Rattle.s10_wire.specs.Reply.{request_of, outcome_of}
 use Rattle.s10_wire.specs.Lines.{line_of, reply_line}
@@ -11,13 +11,14 @@ use Rattle.s10_jobs.specs.declared.status.Status.{Status}
 use Rattle.s10_jobs.specs.declared.status.Status.TheVariants.{Done, Refused, CommandLine, Failed}
 use Rattle.s10_jobs.specs.Words.{link_fault_words}
 
--- the first five outcomes say that what was asked was done
+-- the first six outcomes say that what was asked was done
 abbrev pub outcome_status : Outcome → Status
 outcome_status (Granted range) = Done
 outcome_status (Drawn day id) = Done
 outcome_status (DrawnMany day ids) = Done
 outcome_status Voided = Done
 outcome_status (Told status) = Done
+outcome_status Withdrawn = Done
 outcome_status NotThePost = Refused
 outcome_status BadGrant = Refused
 outcome_status Overlap = Refused
@@ -26,6 +27,8 @@ outcome_status NoneFree = Refused
 outcome_status NotYours = Refused
 outcome_status NotIssued = Refused
 outcome_status AlreadyVoid = Refused
+outcome_status NoSuchRange = Refused
+outcome_status Closed = Refused
 outcome_status NumberReused = Refused
 
 abbrev pub asked_status : Result Reply CallFault → Status

@@ -10,7 +10,7 @@ use Rattle.s10_link.specs.Peer.{SpellsPeer}
 use Rattle.s10_jobs.specs.declared.refusal.Refusal.{Refusal}
 use Rattle.s10_jobs.specs.declared.refusal.Refusal.TheVariants as refused
 use Rattle.s10_jobs.specs.declared.body_words.BodyWords.{BodyWords}
-use Rattle.s10_jobs.specs.declared.body_words.BodyWords.TheVariants.{Grant, Draw, DrawMany, Void, Query}
+use Rattle.s10_jobs.specs.declared.body_words.BodyWords.TheVariants.{Grant, Draw, DrawMany, Withdraw, Void, Query}
 use Rattle.s10_jobs.specs.declared.question.Question.{Question}
 use Rattle.s10_jobs.specs.Words.{text_fault_words}
 use Rattle.s10_jobs.specs.Lines.{AreTwoCapitals}
@@ -27,6 +27,7 @@ IsBody (Grant holder service country first last) (asked.Grant h s c f l) =
     (h ≡ holder) × (letters_of s ≡ service.now) × (letters_of c ≡ country.now) × (f ≡ first) × (l ≡ last)
 IsBody (Draw service country) (asked.Draw s c) = (letters_of s ≡ service.now) × (letters_of c ≡ country.now)
 IsBody (DrawMany service country count) (asked.DrawMany s c n) = (letters_of s ≡ service.now) × (letters_of c ≡ country.now) × (n ≡ count)
+IsBody (Withdraw range) (asked.Withdraw num) = num ≡ range
 IsBody (Void id) (asked.Void x) = SpellsLoosely id.now x
 IsBody (Query id) (asked.Query x) = SpellsLoosely id.now x
 IsBody words body = ⊥
@@ -48,6 +49,7 @@ abbrev pub IsBodyRefusal : BodyWords → Refusal → Type 0
 IsBodyRefusal (Grant holder service country first last) refusal = IsPairRefusal service.now country.now refusal
 IsBodyRefusal (Draw service country) refusal = IsPairRefusal service.now country.now refusal
 IsBodyRefusal (DrawMany service country count) refusal = IsPairRefusal service.now country.now refusal
+IsBodyRefusal (Withdraw range) refusal = ⊥
 IsBodyRefusal (Void id) refusal = IsIdRefusal id.now refusal
 IsBodyRefusal (Query id) refusal = IsIdRefusal id.now refusal
 

@@ -69,7 +69,8 @@ fn status_of(outcome: &Outcome) -> Status
         | Outcome::Drawn { .. }
         | Outcome::DrawnMany { .. }
         | Outcome::Voided
-        | Outcome::Told(_) => Status::Done,
+        | Outcome::Told(_)
+        | Outcome::Withdrawn => Status::Done,
         _ => Status::Refused,
     }
 }

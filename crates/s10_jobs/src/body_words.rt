@@ -29,6 +29,9 @@ pub enum BodyWords<'a> {
         country: &'a str,
         count: Count,
     },
+    Withdraw {
+        range: u32,
+    },
     Void {
         id: &'a str,
     },
@@ -80,6 +83,7 @@ impl BodyWords<'_> {
                     count,
                 })
             }
+            BodyWords::Withdraw { range } => Ok(Body::Withdraw { range }),
             BodyWords::Void { id } => Ok(Body::Void { id: read_id(id)? }),
             BodyWords::Query { id } => Ok(Body::Query { id: read_id(id)? }),
         }

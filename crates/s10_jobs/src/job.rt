@@ -16,7 +16,7 @@ pub enum Job<'a> {
         count: u32,
         day: Option<u32>,
     },
-    /// `grant`, `draw`, `void` or `query`.
+    /// `grant`, `draw`, `void`, `query` or `withdraw`.
     Ask(Question<'a>),
     Report {
         ledger: &'a str,

@@ -101,6 +101,70 @@ fn what_came_of_a_call_is_printed(rt: HostRuntime) -> Result<(), Fail> {
     Ok(())
 }
 
+// The post's Withdraw of range 1 with number 2
+const WITHDRAW: [u8; 16] = *b"S1\x02\x06\0\0\0\0\0\0\0\x02\0\0\0\x01";
+
+// Withdrawn, in reply to it
+const WITHDRAWN: [u8; 17] = *b"S1\x02\x86\0\0\0\0\0\0\0\x02\0\0\0\x01\0";
+
+/// Whether the link sent these bytes alone, to the server.
+fn has_sent(link: &ScriptLink, bytes: &[u8]) -> bool {
+    match link.log() {
+        [(to, frame)] => *to == SERVER && frame.bytes() == bytes,
+        _ => false,
+    }
+}
+
+/// Whether a withdrawal whose reply has this code sends its datagram once, has this status and prints
+/// this line.
+fn is_withdrawn(alloc: Global, code: u8, status: Status, line: &str) -> Result<bool, Fail> {
+    let mut reply = WITHDRAWN;
+    reply[16] = code;
+    let mut link = script(alloc, &[delivered(&reply)], &[true])?;
+    let mut client = Client::new(0, 2, 2)?;
+    let mut out = Vec::new(alloc);
+    let body = Body::Withdraw { range: 1 };
+    let asked = ask(&mut client, &mut link, SERVER, body, 1, &mut out);
+    Ok(asked == Ok(status) && out.as_slice() == line.as_bytes() && has_sent(&link, &WITHDRAW))
+}
+
+#[test]
+fn what_came_of_a_withdrawal_is_printed(rt: HostRuntime) -> Result<(), Fail> {
+    let cases = [
+        (
+            0,
+            Status::Done,
+            "reply withdraw customer 0 number 2 1 done\n",
+        ),
+        (
+            1,
+            Status::Refused,
+            "reply withdraw customer 0 number 2 1 not-the-post\n",
+        ),
+        (
+            9,
+            Status::Refused,
+            "reply withdraw customer 0 number 2 1 number-reused\n",
+        ),
+        (
+            10,
+            Status::Refused,
+            "reply withdraw customer 0 number 2 1 no-such-range\n",
+        ),
+        (
+            11,
+            Status::Refused,
+            "reply withdraw customer 0 number 2 1 closed\n",
+        ),
+        // An overlap is nothing that a withdrawal comes to.
+        (3, Status::Failed, "gave-up\n"),
+    ];
+    for (code, status, line) in cases {
+        assert!(rt; is_withdrawn(rt.alloc(), code, status, line)?, "{code}");
+    }
+    Ok(())
+}
+
 /// Whether a call whose line cannot be written was made.
 fn is_made_unwritten(alloc: Global) -> Result<bool, Fail> {
     let mut link = script(alloc, &[delivered(DRAWN)], &[true])?;

@@ -14,6 +14,10 @@ const RANGES: &str = "range customer service country first last used voided free
 1 7 RA GB 00000000 00000002 1 0 2
 ";
 
+const RANGES_WITHDRAWN: &str = "range customer service country first last used voided free
+1 7 RA GB 00000000 00000002 1 0 2 closed
+";
+
 const ISSUES: &str = "arrival day customer number identifier state
 2 20000 7 1 RA000000005GB issued
 ";
@@ -46,6 +50,29 @@ fn reports_are_written_whole(rt: HostRuntime) -> Result<(), Fail> {
     for (is_of_issues, text) in [(false, RANGES), (true, ISSUES)] {
         let mut book = one_issue(rt.alloc())?;
         let report = Report::new(&rt, is_of_issues, Some(20_000)).ok_or("day")?;
+        assert!(rt;
+            prints(rt.alloc(), &mut book, report, Status::Done, text),
+            "{text}"
+        );
+    }
+    Ok(())
+}
+
+/// The book of a grant, a draw and the withdrawal of the range.
+fn one_withdrawn(alloc: Global) -> Result<PlainBook, Fail> {
+    let mut server = Server::new(one_issue(alloc)?);
+    let withdraw = b"S1\x02\x06\0\0\0\0\0\0\0\x02\0\0\0\x01";
+    let _ = server.handle(withdraw, 20_000);
+    Ok(server.into_book())
+}
+
+#[test]
+fn a_withdrawn_range_is_reported_as_closed(rt: HostRuntime) -> Result<(), Fail> {
+    for (report, text) in [
+        (Report::Ranges { day: 20_000 }, RANGES_WITHDRAWN),
+        (Report::Issues, ISSUES),
+    ] {
+        let mut book = one_withdrawn(rt.alloc())?;
         assert!(rt;
             prints(rt.alloc(), &mut book, report, Status::Done, text),
             "{text}"

@@ -20,21 +20,24 @@ use Rattle.s10_book.specs.declared.faults.Faults.{Faults}
 use Rattle.s10_book.specs.Settings.{Terms}
 use Rattle.s10_ranges.specs.declared.ranges.Ranges.{Ranges}
 use Rattle.s10_ranges.specs.Mirror.{Mirrors}
-use Rattle.s10_schema.specs.Schema.{IsLedgerSchema}
+use Rattle.s10_schema.specs.Schema.{IsLedgerSchema, IsClosedSchema}
 use Rattle.s10_statements.specs.Settled.{IsSettled}
 use Rattle.s10_statements.specs.Statements.{Leaves}
 use Rattle.s10_ledger.specs.Ledger.{Ledger, IsLedger, IsMirrored, Holds, IsHonest, history_in, history_of}
 use Rattle.s10_rows.specs.Selected.{IsCall}
 use Rattle.s10_statements.specs.Shown.{StandsFor}
 use Rattle.s10_ledger.proofs.HistoryLemmas.{history_is}
-use Rattle.s10_statements.proofs.Apart.{is_ledger-prop}
+use Rattle.s10_statements.proofs.Apart.{is_ledger-prop, is_closed-prop}
 
 -- what is kept true of a ledger's connection
 abbrev pub IsKept : {S : Type 0} → Ghosts S → Held S → Terms → ℕ → ℕ → Type 0
 IsKept g conn t len day = HasCleanDisk (state g conn) → IsTrue (state g conn).is_open → IsLedger (state g conn).now t len day
 
 pub schema_is : (db : Database) (t : Terms) (len day : ℕ) → IsLedger db t len day → IsLedgerSchema db.schema
-schema_is db t len day it = ∥∥₁_elim it.held (is_ledger-prop db.schema) (λ h. h.tables.schema)
+schema_is db t len day it = ∥∥₁_elim it.held (is_ledger-prop db.schema) (λ h. h.tables.schema.ledger)
+
+pub closed_is : (db : Database) (t : Terms) (len day : ℕ) → IsLedger db t len day → IsClosedSchema db.schema
+closed_is db t len day it = ∥∥₁_elim it.held (is_closed-prop db.schema) (λ h. h.tables.schema)
 
 module _ {S : Type 0} (g : Ghosts S) (old new : Held S) (t : Terms) (len day : ℕ) (leaves : Leaves g old new) (settled : IsSettled g old) (kept : IsKept g old t len day) where
   -- the tables are as they were

@@ -46,8 +46,12 @@ kept_history h calls all same =
     let long : length calls ≡ length h = same_length (call_rows h) calls same ∙ length_from 1 h in
     ap (λ n. in_turn n 1 calls) long ∙ in_turn_is h 1 calls (at_rows h calls all same)
 
-pub history_is : (db : Database) (h : List Entry) (t : Terms) → All IsCall h → StandsFor db h t → history_in db ≡ h
+-- the calls of the table are a history's
+pub calls_history : (db : Database) (h : List Entry) → All IsCall h → HaveSameRows (map shown_call (call_rows h)) (map call_columns (db.trees 1)) → history_in db ≡ h
 unfolding history_in
-history_is db h t all stands =
+calls_history db h all shown =
     kept_history h (map call_from (map call_columns (db.trees 1))) all
-    (∥∥₁_map stands.calls (λ p. subst (λ l. IsPermutation l (map call_from (map call_columns (db.trees 1)))) (again shown_call call_from (λ c. refl) (call_rows h)) (IsPermutation-map call_from _ _ p)))
+    (∥∥₁_map shown (λ p. subst (λ l. IsPermutation l (map call_from (map call_columns (db.trees 1)))) (again shown_call call_from (λ c. refl) (call_rows h)) (IsPermutation-map call_from _ _ p)))
+
+pub history_is : (db : Database) (h : List Entry) (t : Terms) → All IsCall h → StandsFor db h t → history_in db ≡ h
+history_is db h t all stands = calls_history db h all stands.calls

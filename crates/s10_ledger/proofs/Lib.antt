@@ -1,3 +1,4 @@
+pub mod Forms
 pub mod Rising
 pub mod RemadeLemmas
 pub mod HistoryLemmas
@@ -5,6 +6,7 @@ pub mod BookLemmas
 pub mod NewLedger
 pub mod KeyLemmas
 pub mod WholeLemmas
+pub mod OpeningLemmas
 pub mod RefusalLemmas
 pub mod Earlier
 pub mod IssueLemmas

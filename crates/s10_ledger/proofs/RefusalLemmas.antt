@@ -26,16 +26,22 @@ use Rattle.s10_rows.specs.declared.open_fault.OpenFault.TheVariants.{NotALedger,
 use Rattle.s10_rows.specs.contracts.head_row.HeadRow as head
 use Rattle.s10_rows.specs.contracts.call_row.CallRow as call
 use Rattle.s10_rows.specs.CallRow.{StoredCall}
-use Rattle.s10_rows.specs.Tables.{Tables, HaveSameRows, head_row, call_row, call_rows_from, call_rows, range_rows, serial_rows}
+use Rattle.s10_rows.specs.declared.closed_row.ClosedRow.{ClosedRow}
+use Rattle.s10_rows.specs.Tables.{Tables, HaveSameRows, tables_of, head_row, call_row, call_rows_from, call_rows, range_rows, serial_rows, closed_rows}
 use Rattle.s10_rows.specs.RightRows.{IsRightRow, AreRight, kept_of, entry_of}
 use Rattle.s10_rows.specs.Selected.{IsCall}
-use Rattle.s10_statements.specs.Shown.{StandsFor, shown_head, shown_call, shown_range, shown_serial}
+use Rattle.s10_statements.specs.Shown.{shown_head, shown_call, shown_range, shown_serial, shown_closed}
 use Rattle.s10_rows.specs.Verdict.{IsHead, IsFirstWrong, AreMade, IsRefusal}
 use Rattle.s10_ledger.specs.Refusals.{HasRows, IsRefusedFor, IsOpeningRefusal}
-use Rattle.s10_ledger.specs.Ledger.{IsLedger, history_in}
+use Rattle.s10_ledger.specs.Ledger.{IsLedger, IsOldLedger, IsAnyLedger, history_in}
+use Rattle.s10_ledger.specs.declared.form.Form.{Form}
+use Rattle.s10_ledger.specs.declared.form.Form.TheVariants.{Whole, Old}
+use Rattle.s10_ledger.specs.Form.{HasForm}
+use Rattle.s10_ledger.proofs.Forms.{AreShown, four_lack, form_declared, form_shown}
 use Rattle.s10_statements.proofs.AnswerLemmas.{int_in, call_from, range_from, serial_from}
 use Rattle.s10_statements.proofs.ReadLemmas.{again}
 use Rattle.s10_rows.proofs.SameRows.{one_row}
+use Rattle.s10_rows.proofs.Replaced.{same_rows}
 use Rattle.s10_rows.proofs.Calls.{entry_of-call_row, row_replies}
 use Rattle.s10_ledger.proofs.Rising.{call_rows_rise}
 
@@ -122,14 +128,30 @@ same_settings t u n e =
     let b : t.limit ≡ u.limit = same_number _ _ (ap (λ (r : HeadRow). r.cap) e) in
     (λ i. record { interval = a i; limit = b i }, ap (λ (r : HeadRow). r.schema) e)
 
-module _ (db : Database) (h : List Entry) (t : Terms) (limits : AreTerms t) (legal : IsLegal h t) (calls : All IsCall h) (stands : StandsFor db h t) where
+abbrev closed_from : Row → ClosedRow
+closed_from v = record { num = int_in (column v 0); arrival = int_in (column v 1) }
+
+-- the rows of closed are the same, in whichever form
+closed_same : (f g : Form) (db : Database) (a b : Tables) → HasForm f db a → HasForm g db b → HaveSameRows a.closed b.closed
+closed_same Whole Whole db a b first second = same_typed shown_closed closed_from (λ r. refl) a.closed b.closed _ first.closed second.closed
+closed_same Old Old db a b first second = same_rows a.closed b.closed (first.closed ∙ sym second.closed)
+closed_same Whole Old db a b first second = absurd (four_lack db.schema second.schema first.schema)
+closed_same Old Whole db a b first second = absurd (four_lack db.schema first.schema second.schema)
+
+module _ (form : Form) (db : Database) (h : List Entry) (t : Terms) (limits : AreTerms t) (legal : IsLegal h t) (calls : All IsCall h) (stands : HasForm form db (tables_of h t)) where
+  own : AreShown db (tables_of h t)
+  own = form_shown form db (tables_of h t) stands
+
   module _ (tables : Tables) (rows : HasRows db tables) where
+    theirs : AreShown db tables
+    theirs = form_shown rows.form db tables rows.has
+
     heads_are : tables.heads ≡ head_row t ∷ []
-    heads_are = one_row head.the_row.coded (head_row t) tables.heads (same_typed shown_head head_from (λ r. refl) (head_row t ∷ []) tables.heads _ stands.heads rows.has.heads)
+    heads_are = one_row head.the_row.coded (head_row t) tables.heads (same_typed shown_head head_from (λ r. refl) (head_row t ∷ []) tables.heads _ own.heads theirs.heads)
 
     calls_are : tables.calls ≡ call_rows h
     calls_are =
-        ∥∥₁_elim (same_typed shown_call call_from (λ c. refl) (call_rows h) tables.calls _ stands.calls rows.has.calls) (Coded-set (coded_list call.the_row.coded) _ _)
+        ∥∥₁_elim (same_typed shown_call call_from (λ c. refl) (call_rows h) tables.calls _ own.calls theirs.calls) (Coded-set (coded_list call.the_row.coded) _ _)
         (λ p. sorted_unique by_arrival by_arrival_total (call_rows h) tables.calls (call_rows_rise h) p (is_sorted tables.calls rows.in_order))
 
     kept_is : h ≡ kept_of tables.calls
@@ -140,8 +162,9 @@ module _ (db : Database) (h : List Entry) (t : Terms) (limits : AreTerms t) (leg
 
     are_made : AreMade tables
     are_made = record {
-      ranges = subst (λ g. HaveSameRows (range_rows g) tables.ranges) kept_is (same_typed shown_range range_from (λ r. refl) (range_rows h) tables.ranges _ stands.ranges rows.has.ranges);
-      serials = subst (λ g. HaveSameRows (serial_rows g) tables.serials) kept_is (same_typed shown_serial serial_from (λ r. refl) (serial_rows h) tables.serials _ stands.serials rows.has.serials);
+      ranges = subst (λ g. HaveSameRows (range_rows g) tables.ranges) kept_is (same_typed shown_range range_from (λ r. refl) (range_rows h) tables.ranges _ own.ranges theirs.ranges);
+      serials = subst (λ g. HaveSameRows (serial_rows g) tables.serials) kept_is (same_typed shown_serial serial_from (λ r. refl) (serial_rows h) tables.serials _ own.serials theirs.serials);
+      closed = subst (λ g. HaveSameRows (closed_rows g) tables.closed) kept_is (closed_same form rows.form db (tables_of h t) tables stands rows.has);
     }
 
     is_head : IsHead tables.heads (pos 1) t
@@ -166,7 +189,7 @@ module _ (db : Database) (h : List Entry) (t : Terms) (limits : AreTerms t) (leg
   passes fault it = not_refused it.tables it.rows fault it.refusal
 
   opens : (fault : OpenFault) → IsOpeningRefusal db fault → (fault ≡ Memory) ⊎ (fault ≡ Store)
-  opens NotALedger (inl other) = absurd (other stands.schema)
+  opens NotALedger (inl other) = absurd (other (form, form_declared form db (tables_of h t) stands))
   opens NotALedger (inr it) = passes NotALedger it
   opens (OtherSchema n) it = passes (OtherSchema n) it
   opens (Damaged k) it = passes (Damaged k) it
@@ -178,16 +201,21 @@ neither : {A B : Type 0} → ¬ A → ¬ B → A ⊎ B → ⊥
 neither a b (inl x) = a x
 neither a b (inr y) = b y
 
-module _ (db : Database) (t : Terms) (len day : ℕ) (limits : AreTerms t) (it : IsLedger db t len day) where
+module _ (db : Database) (t : Terms) (limits : AreTerms t) (legal : IsLegal (history_in db) t)
+    (held : ∥ ((form : Form) × All IsCall (history_in db) × HasForm form db (tables_of (history_in db) t)) ∥₁) where
   never : (fault : OpenFault) → fault ≢ Memory → fault ≢ Store → IsOpeningRefusal db fault → ⊥
   never fault memory store refusal =
-      ∥∥₁_elim it.held (λ x y. absurd x) (λ held. neither memory store (opens db (history_in db) t limits it.legal held.calls held.tables fault refusal))
+      ∥∥₁_elim held (λ x y. absurd x) (λ it. neither memory store (opens it.0 db (history_in db) t limits legal it.1 it.2 fault refusal))
 
-  -- a ledger is refused for want of memory or a fault of the store alone
-  pub ledger_opens : (fault : OpenFault) → IsOpeningRefusal db fault → (fault ≡ Memory) ⊎ (fault ≡ Store)
-  ledger_opens NotALedger refusal = absurd (never NotALedger (λ (e : NotALedger ≡ Memory). cc) (λ (e : NotALedger ≡ Store). cc) refusal)
-  ledger_opens (OtherSchema n) refusal = absurd (never (OtherSchema n) (λ (e : OtherSchema n ≡ Memory). cc) (λ (e : OtherSchema n ≡ Store). cc) refusal)
-  ledger_opens (Damaged k) refusal = absurd (never (Damaged k) (λ (e : Damaged k ≡ Memory). cc) (λ (e : Damaged k ≡ Store). cc) refusal)
-  ledger_opens NotEmpty refusal = absurd refusal
-  ledger_opens Memory refusal = inl refl
-  ledger_opens Store refusal = inr refl
+  held_opens : (fault : OpenFault) → IsOpeningRefusal db fault → (fault ≡ Memory) ⊎ (fault ≡ Store)
+  held_opens NotALedger refusal = absurd (never NotALedger (λ (e : NotALedger ≡ Memory). cc) (λ (e : NotALedger ≡ Store). cc) refusal)
+  held_opens (OtherSchema n) refusal = absurd (never (OtherSchema n) (λ (e : OtherSchema n ≡ Memory). cc) (λ (e : OtherSchema n ≡ Store). cc) refusal)
+  held_opens (Damaged k) refusal = absurd (never (Damaged k) (λ (e : Damaged k ≡ Memory). cc) (λ (e : Damaged k ≡ Store). cc) refusal)
+  held_opens NotEmpty refusal = absurd refusal
+  held_opens Memory refusal = inl refl
+  held_opens Store refusal = inr refl
+
+-- a ledger, also one of an earlier build, is refused for want of memory or a fault of the store alone
+pub ledger_opens : (db : Database) (t : Terms) (len day : ℕ) → AreTerms t → IsAnyLedger db t len day → (fault : OpenFault) → IsOpeningRefusal db fault → (fault ≡ Memory) ⊎ (fault ≡ Store)
+ledger_opens db t len day limits (inl it) = held_opens db t limits it.legal (∥∥₁_map it.held (λ h. (Whole, h.calls, h.tables)))
+ledger_opens db t len day limits (inr it) = held_opens db t limits it.legal (∥∥₁_map it.held (λ h. (Old, h.calls, h.tables)))

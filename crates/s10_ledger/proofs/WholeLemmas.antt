@@ -19,11 +19,17 @@ use Rattle.s10_rows.specs.Replies.{reply_bytes}
 use Rattle.s10_rows.specs.Tables.{Tables, HaveSameRows, call_row, call_rows_from, call_rows}
 use Rattle.s10_rows.specs.RightRows.{IsRightRow, AreRight, kept_of, entry_of}
 use Rattle.s10_rows.specs.Selected.{IsCall}
-use Rattle.s10_statements.specs.Shown.{HasTables, StandsFor, shown_head, shown_range, shown_serial, head_columns}
+use Rattle.s10_statements.specs.Shown.{HasTables, StandsFor, shown_head, shown_range, shown_serial, shown_closed, head_columns}
 use Rattle.s10_rows.specs.Verdict.{IsWhole, IsRefusal}
+use Rattle.s10_ledger.specs.declared.form.Form.{Form}
+use Rattle.s10_ledger.specs.declared.form.Form.TheVariants.{Whole, Old}
+use Rattle.s10_ledger.specs.Form.{HasForm}
 use Rattle.s10_ledger.specs.Refusals.{HasRows, IsOpeningRefusal}
+use Rattle.s10_ranges.specs.declared.ranges.Ranges.{Ranges}
+use Rattle.s10_ranges.specs.Mirror.{Mirrors}
+use Rattle.s10_ledger.specs.Remade.{IsFound}
 use Rattle.s10_ledger.specs.Ledger.{IsLedger, history_in}
-use Rattle.s10_ledger.proofs.HistoryLemmas.{history_is}
+use Rattle.s10_ledger.proofs.HistoryLemmas.{history_is, calls_history}
 use Rattle.s10_rows.proofs.Replayed.{there_at, kept_length}
 use Rattle.s10_rows.proofs.Compared.{right_calls}
 
@@ -84,6 +90,7 @@ module _ (db : Database) (tables : Tables) (found : Opened) (has : HasTables db 
     ranges = shown_again shown_range _ tables.ranges _ whole.made.ranges has.ranges;
     serials = shown_again shown_serial _ tables.serials _ whole.made.serials has.serials;
     numbered = has.numbered;
+    closed = shown_again shown_closed _ tables.closed _ whole.made.closed has.closed;
   }
 
   are_calls : All IsCall kept
@@ -107,6 +114,12 @@ module _ (db : Database) (tables : Tables) (found : Opened) (has : HasTables db 
     } ∣₁;
   }
 
+-- the history is that of the rows, also in the tables of an earlier build
+pub found_history : (form : Form) (db : Database) (tables : Tables) (found : Opened) → HasForm form db tables → IsWhole tables found → history_in db ≡ kept_of tables.calls
+found_history Whole db tables found has whole = history db tables found has whole
+found_history Old db tables found has whole =
+    calls_history db (kept_of tables.calls) (right_calls found.settings tables.calls whole.right) (rw (right_rows found.settings tables.calls whole.right) has.calls)
+
 -- and it has no more calls than the settings allow
 pub whole_few : (tables : Tables) (found : Opened) → IsWhole tables found → found.len ≤ 1000000000
 whole_few tables found whole =
@@ -122,7 +135,8 @@ refused_for db tables rows NotEmpty refusal = refusal
 refused_for db tables rows Memory refusal = tt
 refused_for db tables rows Store refusal = tt
 
--- what was found twice of an answer, of each of which that holds
-pub each_found : {T E X : Type 0} (r : Result T E) (F : X → Type 0) (P Q : X → T → Type 0) → ((x : X) → F x → IfOk r (P x)) → ((x : X) → F x → IfOk r (Q x)) → IfOk r (λ t. (x : X) → F x → P x t × Q x t)
-each_found (Ok t) F P Q p q = λ x f. (p x f, q x f)
-each_found (Err e) F P Q p q = tt
+-- what is whole, and mirrored, was found
+pub found_both : {E : Type 0} (form : Form) (db : Database) (tables : Tables) → HasForm form db tables → (r : Result (Opened × Ranges) E) → IfOk r (λ found. IsWhole tables found.0) → IfOk r (λ found. Mirrors found.1 (kept_of tables.calls))
+    → IfOk r (λ found. IsFound form db found.0 found.1)
+found_both form db tables has (Ok found) whole mirrored = record { tables = tables; has = has; whole = whole; mirrored = mirrored }
+found_both form db tables has (Err e) whole mirrored = tt

@@ -1,5 +1,5 @@
 -- What a ledger in tables holds, and what is kept true of it.
-use Rattle.std.specs.Prelude.{◌≡◌, ℕ, zero, suc, ◌+◌, ℤ, pos, IsTrue, List, [], ◌∷◌, ◌++◌, length, map, filter, All, refl}
+use Rattle.std.specs.Prelude.{◌≡◌, ◌⊎◌, ℕ, zero, suc, ◌+◌, ℤ, pos, IsTrue, List, [], ◌∷◌, ◌++◌, length, map, filter, All, refl}
 use Rattle.std.specs.Coded.{Coded, code_by, coded×, coded_ℕ}
 use Rattle.sqlite_value.specs.declared.value.Value.{Value}
 use Rattle.sqlite_value.specs.declared.value.Value.TheVariants.{Null, Int, Real, Text, Blob}
@@ -19,7 +19,8 @@ use Rattle.s10_ranges.specs.Mirror.{Mirrors}
 use Rattle.s10_rows.specs.CallRow.{StoredCall}
 use Rattle.s10_rows.specs.RightRows.{entry_of}
 use Rattle.s10_rows.specs.Selected.{IsCall, arrives_between}
-use Rattle.s10_statements.specs.Shown.{StandsFor, call_columns}
+use Rattle.s10_rows.specs.Tables.{tables_of}
+use Rattle.s10_statements.specs.Shown.{HasOldTables, StandsFor, call_columns}
 
 abbrev pub int_in : Value → ℤ
 int_in Null = pos 0
@@ -82,6 +83,22 @@ pub record Holds (db : Database) (t : Terms) (len day : ℕ) : Type 0 where
 pub record IsLedger (db : Database) (t : Terms) (len day : ℕ) : Type 0 where
   pub legal : IsLegal (history_in db) t
   pub held : ∥ Holds db t len day ∥₁
+
+-- the four tables of an earlier build stand for a history in which no range is closed
+pub record HoldsOld (db : Database) (t : Terms) (len day : ℕ) : Type 0 where
+  pub tables : HasOldTables db (tables_of (history_in db) t)
+  pub calls : All IsCall (history_in db)
+  pub len_is : len ≡ length (history_in db)
+  pub day_is : day ≡ day_of (history_in db)
+
+-- the history is legal, and they stand for it
+pub record IsOldLedger (db : Database) (t : Terms) (len day : ℕ) : Type 0 where
+  pub legal : IsLegal (history_in db) t
+  pub held : ∥ HoldsOld db t len day ∥₁
+
+-- a ledger of this build, or of an earlier one
+abbrev pub IsAnyLedger : Database → Terms → ℕ → ℕ → Type 0
+IsAnyLedger db t len day = IsLedger db t len day ⊎ IsOldLedger db t len day
 
 -- what is said of the history holds where the store is clean and the connection open
 pub record IsHonest {S : Type 0} (g : Ghosts S) (l : Ledger S) : Type 0 where

@@ -8,12 +8,14 @@ use Rattle.s10_rows.specs.declared.open_fault.OpenFault.{OpenFault}
 use Rattle.s10_rows.specs.declared.open_fault.OpenFault.TheVariants.{NotALedger, Schema as OtherSchema, Damaged, NotEmpty, Memory, Store}
 use Rattle.s10_rows.specs.Tables.{Tables}
 use Rattle.s10_rows.specs.Verdict.{IsRefusal}
-use Rattle.s10_schema.specs.Schema.{IsLedgerSchema}
-use Rattle.s10_statements.specs.Shown.{HasTables}
+use Rattle.sqlite_schema.specs.declared.schema.Schema.{Schema}
+use Rattle.s10_ledger.specs.declared.form.Form.{Form}
+use Rattle.s10_ledger.specs.Form.{IsOfForm, HasForm}
 
--- the database has the four tables with these rows, those of calls in order of arrival
+-- the database has a ledger's tables with these rows, those of calls in order of arrival
 pub record HasRows (db : Database) (tables : Tables) : Type 0 where
-  pub has : HasTables db tables
+  pub form : Form
+  pub has : HasForm form db tables
   pub in_order : IsAscending (λ a b. int_cmp a.arrival b.arrival ≢ Ordering.Greater) tables.calls
 
 -- the rows of the database are refused so
@@ -22,9 +24,13 @@ pub record IsRefusedFor (db : Database) (fault : OpenFault) : Type 0 where
   pub rows : HasRows db tables
   pub refusal : IsRefusal tables fault
 
+-- the tables of a ledger are declared, all five or the four of an earlier build
+abbrev pub HasAForm : Schema → Type 0
+HasAForm s = (form : Form) × IsOfForm form s
+
 -- what the opening of a database is refused for
 abbrev pub IsOpeningRefusal : Database → OpenFault → Type 0
-IsOpeningRefusal db NotALedger = (¬ IsLedgerSchema db.schema) ⊎ IsRefusedFor db NotALedger
+IsOpeningRefusal db NotALedger = (¬ HasAForm db.schema) ⊎ IsRefusedFor db NotALedger
 IsOpeningRefusal db (OtherSchema n) = IsRefusedFor db (OtherSchema n)
 IsOpeningRefusal db (Damaged k) = IsRefusedFor db (Damaged k)
 IsOpeningRefusal db NotEmpty = ⊥

@@ -13,10 +13,15 @@ use Rattle.s10_rows.specs.declared.open_fault.OpenFault.{OpenFault}
 use Rattle.s10_rows.specs.CallRow.{StoredCall}
 use Rattle.s10_rows.specs.Tables.{Tables, HaveSameRows}
 use Rattle.s10_rows.specs.RightRows.{AreRight, kept_of}
-use Rattle.s10_rows.specs.Verdict.{IsHead, IsRefusal}
+use Rattle.s10_rows.specs.declared.opened.Opened.{Opened}
+use Rattle.s10_rows.specs.Verdict.{IsHead, IsRefusal, IsWhole}
+use Rattle.s10_ranges.specs.declared.ranges.Ranges.{Ranges}
+use Rattle.s10_ranges.specs.Mirror.{Mirrors}
 use Rattle.s10_ledger.specs.declared.remade.Remade.{Remade}
 use Rattle.s10_statements.specs.Shown.{shown_head, shown_call, shown_range, shown_serial, head_columns, call_columns, range_columns, serial_columns, IsNumbered}
-use Rattle.s10_ledger.specs.Refusals.{HasRows}
+use Rattle.s10_ledger.specs.declared.form.Form.{Form}
+use Rattle.s10_ledger.specs.declared.made_rows.MadeRows.{MadeRows}
+use Rattle.s10_ledger.specs.Form.{HasForm}
 
 -- these are the rows of head and of calls, the latter in order of arrival
 pub record HasKept (db : Database) (heads : List HeadRow) (calls : List StoredCall) : Type 0 where
@@ -38,11 +43,24 @@ pub record IsRemade (heads : List HeadRow) (calls : List StoredCall) (made : Rem
   pub len : made.opened.len ≡ length calls
   pub day : made.opened.day ≡ day_of (kept_of calls)
 
+-- the rows are those of the three tables that are compared
+pub record AreTheirs (tables : Tables) (rows : MadeRows) : Type 0 where
+  pub ranges : tables.ranges ≡ rows.ranges.items
+  pub serials : tables.serials ≡ rows.serials.items
+  pub closed : tables.closed ≡ rows.closed.items
+
 -- the tables of the database, of which the calls were done again or are refused
-pub record AreRead (db : Database) (made : Result Remade OpenFault) (ranges : List RangeRow) (serials : List SerialRow) : Type 0 where
+pub record AreRead (form : Form) (db : Database) (made : Result Remade OpenFault) (rows : MadeRows) : Type 0 where
   pub tables : Tables
-  pub rows : HasRows db tables
-  pub ranges_are : tables.ranges ≡ ranges
-  pub serials_are : tables.serials ≡ serials
+  pub has : HasForm form db tables
+  pub in_order : IsAscending (λ a b. int_cmp a.arrival b.arrival ≢ Ordering.Greater) tables.calls
+  pub theirs : AreTheirs tables rows
   pub ok : IfOk made (IsRemade tables.heads tables.calls)
   pub err : IfErr made (IsRefusal tables)
+
+-- what was found of a database whose rows are whole, and its ranges
+pub record IsFound (form : Form) (db : Database) (opened : Opened) (ranges : Ranges) : Type 0 where
+  pub tables : Tables
+  pub has : HasForm form db tables
+  pub whole : IsWhole tables opened
+  pub mirrored : Mirrors ranges (kept_of tables.calls)

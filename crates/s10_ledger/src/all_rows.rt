@@ -1,4 +1,4 @@
-//! The rows of the four tables are read, those of the calls to be done again and dropped.
+//! The rows of a ledger's tables are read, those of the calls to be done again and dropped.
 
 ghost use Rattle.std.specs.Prelude.{List, IfOk, OnOk, IsTrue};
 ghost use Rattle.sqlite.specs.Held.{state};
@@ -8,11 +8,14 @@ ghost use Rattle.s10_rows.specs.CallRow.{StoredCall};
 ghost use Rattle.s10_schema.specs.Schema.{IsLedgerSchema};
 ghost use Rattle.s10_statements.specs.Settled.{IsSettled};
 ghost use Rattle.s10_statements.specs.Statements.{Leaves};
+ghost use Rattle.s10_ledger.specs.Form.{IsOfForm, AreClosed};
 ghost use Rattle.s10_ledger.specs.Remade.{HasKept, HasMade, IsRemade, AreRead};
 
+use crate::form::Form;
+use crate::made_rows::MadeRows;
 use crate::remade::Remade;
-use s10_rows::{CallRow, HeadRow, OpenFault, RangeRow, SerialRow};
-use s10_statements::{all_calls, all_heads, all_ranges, all_serials};
+use s10_rows::{CallRow, ClosedRow, HeadRow, OpenFault, RangeRow, SerialRow};
+use s10_statements::{all_calls, all_closed, all_heads, all_ranges, all_serials};
 use sqlite::{Alter, Connection, Error};
 use std::alloc::Global;
 
@@ -29,6 +32,22 @@ fn kept_rows<S: Alter>(
     let heads = all_heads(alloc, conn)?;
     let calls = all_calls(alloc, conn)?;
     Ok((heads, calls))
+}
+
+// The rows of `closed`, none where it is missing.
+fn closed_rows<S: Alter>(
+    alloc: Global,
+    conn: &mut Connection<S>,
+    form: Form,
+) -> Result<Vec<ClosedRow>, Error>
+    requires form { IsOfForm form (state S.Store conn.old).now.schema }
+    ensures leaves { Leaves S.Store conn.old conn.new }
+    ensures rows { HasCleanDisk (state S.Store conn.new) → IfOk result (λ rows. AreClosed form (state S.Store conn.old).now rows.items) }
+{
+    match form {
+        Form::Whole => all_closed(alloc, conn),
+        Form::Old => Ok(Vec::new(alloc)),
+    }
 }
 
 // The rows of `ranges` and of `serials`.
@@ -50,15 +69,23 @@ fn made_rows<S: Alter>(
 pub(crate) fn all_rows<S: Alter>(
     alloc: Global,
     conn: &mut Connection<S>,
-) -> Result<(Result<Remade, OpenFault>, Vec<RangeRow>, Vec<SerialRow>), Error>
+    form: Form,
+) -> Result<(Result<Remade, OpenFault>, MadeRows), Error>
+    requires form { IsOfForm form (state S.Store conn.old).now.schema }
     ensures leaves { Leaves S.Store conn.old conn.new }
     ensures opened { HasCleanDisk (state S.Store conn.new) → OnOk result (IsTrue (state S.Store conn.new).is_open) }
-    ensures rows { HasCleanDisk (state S.Store conn.new) → IsTrue (state S.Store conn.new).is_open → IsSettled S.Store conn.old → IsLedgerSchema (state S.Store conn.old).now.schema
-        → IfOk result (λ rows. AreRead (state S.Store conn.old).now rows.0 rows.1.items rows.2.items) }
+    ensures rows { HasCleanDisk (state S.Store conn.new) → IsTrue (state S.Store conn.new).is_open → IsSettled S.Store conn.old
+        → IfOk result (λ rows. AreRead form (state S.Store conn.old).now rows.0 rows.1) }
     ensures remade { IfOk result (λ rows. IfOk rows.0 (λ made. (heads : List HeadRow) × ((calls : List StoredCall) × IsRemade heads calls made))) }
 {
+    let closed = closed_rows(alloc, conn, form)?;
     let (heads, calls) = kept_rows(alloc, conn)?;
     let made = Remade::of(alloc, heads, calls);
     let (ranges, serials) = made_rows(alloc, conn)?;
-    Ok((made, ranges, serials))
+    let rows = MadeRows {
+        ranges,
+        serials,
+        closed,
+    };
+    Ok((made, rows))
 }

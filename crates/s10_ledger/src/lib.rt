@@ -3,10 +3,12 @@
 
 mod all_rows;
 mod faults;
+mod form;
 mod issuing;
 mod keeping;
 mod lookups;
 mod made;
+mod made_rows;
 mod opening;
 mod refused;
 mod remade;

@@ -1,24 +1,74 @@
 //! The ledger that a connection holds is opened.
 
-ghost use Rattle.std.specs.Prelude.{◌≡◌, ◌≤◌, IfOk, IfErr, OnOk, IsTrue};
+ghost use Rattle.std.specs.Prelude.{◌≡◌, ◌≤◌, ◌⊎◌, IfOk, IfErr, OnOk, OnErr, IsTrue};
 ghost use Rattle.sqlite.specs.Held.{state};
 ghost use Rattle.sqlite.specs.State.{HasCleanDisk};
+ghost use Rattle.s10_rows.specs.Tables.{Tables};
+ghost use Rattle.s10_schema.specs.Schema.{IsClosedSchema};
+ghost use Rattle.s10_statements.specs.Shown.{HasTables};
 ghost use Rattle.s10_statements.specs.Settled.{IsSettled, WasSound};
-ghost use Rattle.s10_ledger.specs.Ledger.{IsLedger, IsMirrored};
+ghost use Rattle.s10_statements.specs.Statements.{Leaves};
+ghost use Rattle.s10_ledger.specs.declared.form.Form.TheVariants.{Whole};
+ghost use Rattle.s10_ledger.specs.Form.{IsOfForm, HasForm};
+ghost use Rattle.s10_ledger.specs.Remade.{IsFound};
+ghost use Rattle.s10_ledger.specs.Ledger.{IsLedger, IsAnyLedger, IsMirrored, history_in};
 ghost use Rattle.s10_ledger.specs.Refusals.{IsOpeningRefusal};
 
 use crate::all_rows::all_rows;
 use crate::faults::opening_fault;
+use crate::form::{Form, form_of};
 use crate::refused::Refused;
 use crate::sql_book::SqlBook;
 use crate::verdict::verdict;
 use s10_ranges::Ranges;
 use s10_rows::{OpenFault, Opened};
-use s10_schema::is_ledger_schema;
+use s10_statements::make_closed;
 use sqlite::{Alter, Connection};
 use std::alloc::Global;
 
 // What is found of the ledger in the tables, and its ranges.
+fn found_in<S: Alter>(
+    alloc: Global,
+    conn: &mut Connection<S>,
+    form: Form,
+) -> Result<(Opened, Ranges), OpenFault>
+    requires settled { IsSettled S.Store conn.old }
+    requires form { IsOfForm form (state S.Store conn.old).now.schema }
+    ensures leaves { Leaves S.Store conn.old conn.new }
+    ensures opened { HasCleanDisk (state S.Store conn.new) → OnOk result (IsTrue (state S.Store conn.new).is_open) }
+    ensures few { IfOk result (λ found. found.0.len ≤ 1000000000) }
+    ensures found { HasCleanDisk (state S.Store conn.new) → IsTrue (state S.Store conn.new).is_open → IfOk result (λ found. IsFound form (state S.Store conn.old).now found.0 found.1) }
+    ensures refused { HasCleanDisk (state S.Store conn.new) → IsTrue (state S.Store conn.new).is_open → IfErr result (IsOpeningRefusal (state S.Store conn.old).now) }
+{
+    let (made, rows) = match all_rows(alloc, conn, form) {
+        Ok(rows) => rows,
+        Err(error) => return Err(opening_fault(error)),
+    };
+    let made = made?;
+    verdict(alloc, made, rows)
+}
+
+// Makes the table that an earlier build does not have.
+fn complete<S: Alter>(conn: &mut Connection<S>, form: Form) -> Result<(), OpenFault>
+    requires settled { IsSettled S.Store conn.old }
+    ensures settled { IsSettled S.Store conn.new }
+    ensures was { WasSound S.Store conn.old conn.new }
+    ensures opened { HasCleanDisk (state S.Store conn.new) → OnOk result (IsTrue (state S.Store conn.old).is_open → IsTrue (state S.Store conn.new).is_open) }
+    ensures whole { HasCleanDisk (state S.Store conn.new) → OnOk result ((tables : Tables) → HasForm form (state S.Store conn.old).now tables → HasTables (state S.Store conn.new).now tables) }
+    ensures same { form ≡ Whole → (state S.Store conn.new).now ≡ (state S.Store conn.old).now }
+    ensures none { HasCleanDisk (state S.Store conn.new) → IsTrue (state S.Store conn.new).is_open → OnErr result ((state S.Store conn.new).now ≡ (state S.Store conn.old).now) }
+    ensures fault { IfErr result (λ f. (f ≡ OpenFault.Memory) ⊎ (f ≡ OpenFault.Store)) }
+{
+    match form {
+        Form::Whole => Ok(()),
+        Form::Old => match make_closed(conn) {
+            Ok(()) => Ok(()),
+            Err(error) => Err(opening_fault(error)),
+        },
+    }
+}
+
+// What is found of the ledger in the tables, and its ranges. Tables of an earlier build are completed.
 pub(crate) fn ledger_in<S: Alter>(
     alloc: Global,
     conn: &mut Connection<S>,
@@ -28,21 +78,22 @@ pub(crate) fn ledger_in<S: Alter>(
     ensures was { WasSound S.Store conn.old conn.new }
     ensures opened { HasCleanDisk (state S.Store conn.new) → OnOk result (IsTrue (state S.Store conn.new).is_open) }
     ensures few { IfOk result (λ found. found.0.len ≤ 1000000000) }
-    ensures same { HasCleanDisk (state S.Store conn.new) → IsTrue (state S.Store conn.new).is_open → (state S.Store conn.new).now ≡ (state S.Store conn.old).now }
+    ensures same { HasCleanDisk (state S.Store conn.new) → IsTrue (state S.Store conn.new).is_open → IsClosedSchema (state S.Store conn.old).now.schema → (state S.Store conn.new).now ≡ (state S.Store conn.old).now }
+    ensures kept { HasCleanDisk (state S.Store conn.new) → IsTrue (state S.Store conn.new).is_open → OnErr result ((state S.Store conn.new).now ≡ (state S.Store conn.old).now) }
+    ensures history { HasCleanDisk (state S.Store conn.new) → IsTrue (state S.Store conn.new).is_open → OnOk result (history_in (state S.Store conn.new).now ≡ history_in (state S.Store conn.old).now) }
     ensures ledger { HasCleanDisk (state S.Store conn.new) → IsTrue (state S.Store conn.new).is_open
-        → IfOk result (λ found. IsLedger (state S.Store conn.old).now found.0.settings found.0.len found.0.day) }
+        → IfOk result (λ found. IsLedger (state S.Store conn.new).now found.0.settings found.0.len found.0.day) }
+    ensures found { HasCleanDisk (state S.Store conn.new) → IsTrue (state S.Store conn.new).is_open
+        → IfOk result (λ found. IsAnyLedger (state S.Store conn.old).now found.0.settings found.0.len found.0.day) }
     ensures mirrored { IfOk result (λ found. IsMirrored S.Store conn.new found.1) }
     ensures refused { HasCleanDisk (state S.Store conn.new) → IsTrue (state S.Store conn.new).is_open → IfErr result (IsOpeningRefusal (state S.Store conn.old).now) }
 {
-    if !is_ledger_schema(conn.schema()) {
+    let Some(form) = form_of(conn.schema()) else {
         return Err(OpenFault::NotALedger);
-    }
-    let (made, ranges, serials) = match all_rows(alloc, conn) {
-        Ok(rows) => rows,
-        Err(error) => return Err(opening_fault(error)),
     };
-    let made = made?;
-    verdict(alloc, made, ranges, serials)
+    let found = found_in(alloc, conn, form)?;
+    complete(conn, form)?;
+    Ok(found)
 }
 
 impl<S: Alter> SqlBook<S> {
@@ -52,15 +103,17 @@ impl<S: Alter> SqlBook<S> {
     ghost use Rattle.s10_book.specs.Settings.{Terms, AreTerms};
     ghost use Rattle.s10_book.specs.BookFault.{no_faults};
     ghost use Rattle.s10_statements.specs.Settled.{WasSound};
-    ghost use Rattle.s10_ledger.specs.Ledger.{IsLedger, IsHonest};
+    ghost use Rattle.s10_schema.specs.Schema.{IsClosedSchema};
+    ghost use Rattle.s10_ledger.specs.Ledger.{IsAnyLedger, IsHonest, history_in};
     ghost use Rattle.s10_ledger.specs.Refusals.{IsOpeningRefusal};
 
     /// Opens a ledger: all its calls are done again, and every table is compared with what they
-    /// make. Other tables may stand behind its four. Refused with NotALedger where the first tables
-    /// are not declared as a ledger's, another one refers to them or an index is on them, or `head`
-    /// is not its one row, with Schema, with Damaged and the first call that is wrong, or 0 where
-    /// another row is, with Memory, and with Store where a statement failed; a refusal leaves the
-    /// tables as they are.
+    /// make. Other tables may stand behind its five. The four tables of an earlier build, with
+    /// nothing beside them, are a ledger too: `closed` is made behind them once all is right.
+    /// Refused with NotALedger where the first tables are not declared as a ledger's, another one
+    /// refers to them or an index is on them, or `head` is not its one row, with Schema, with Damaged
+    /// and the first call that is wrong, or 0 where another row is, with Memory, and with Store where a
+    /// statement failed; a refusal leaves the tables as they are.
     pub fn open(alloc: Global, mut conn: Connection<S>) -> Result<SqlBook<S>, Refused<S>>
         requires idle { conn.in_transaction ≡ false }
         ensures new { IfOk result (λ b. b.faults ≡ no_faults) }
@@ -68,14 +121,17 @@ impl<S: Alter> SqlBook<S> {
         ensures opened { IfOk result (λ b. HasCleanDisk (state S.Store b.conn) → IsTrue (state S.Store b.conn).is_open) }
         ensures was { IfOk result (λ b. WasSound S.Store conn b.conn) }
         ensures honest { IfOk result (λ b. HasCleanDisk (state S.Store b.conn) → IsTrue (state S.Store b.conn).is_open → IsHonest S.Store b) }
-        ensures same { IfOk result (λ b. IsHonest S.Store b → (state S.Store b.conn).now ≡ (state S.Store conn).now) }
+        ensures found { IfOk result (λ b. IsHonest S.Store b → IsAnyLedger (state S.Store conn).now b.terms b.len b.day) }
+        ensures same { IfOk result (λ b. IsHonest S.Store b → IsClosedSchema (state S.Store conn).now.schema → (state S.Store b.conn).now ≡ (state S.Store conn).now) }
+        ensures history { IfOk result (λ b. IsHonest S.Store b → history_in (state S.Store b.conn).now ≡ history_in (state S.Store conn).now) }
+        ensures completed { IfOk result (λ b. IsHonest S.Store b → IsClosedSchema (state S.Store b.conn).now.schema) }
         ensures committed { IfOk result (λ b. IsHonest S.Store b → (state S.Store b.conn).committed ≡ (state S.Store b.conn).now) }
         ensures left_idle { IfErr result (λ r. r.connection.in_transaction ≡ false) }
         ensures was_refused { IfErr result (λ r. WasSound S.Store conn r.connection) }
         ensures refused { IfErr result (λ r. HasCleanDisk (state S.Store r.connection) → IsTrue (state S.Store r.connection).is_open → IsOpeningRefusal (state S.Store conn).now r.fault) }
         ensures kept { IfErr result (λ r. HasCleanDisk (state S.Store r.connection) → IsTrue (state S.Store r.connection).is_open → (state S.Store r.connection).now ≡ (state S.Store conn).now) }
         ensures whole { IfErr result (λ r. HasCleanDisk (state S.Store r.connection) → IsTrue (state S.Store r.connection).is_open
-            → (t : Terms) (len day : ℕ) → AreTerms t → IsLedger (state S.Store conn).now t len day → (r.fault ≡ OpenFault.Memory) ⊎ (r.fault ≡ OpenFault.Store)) }
+            → (t : Terms) (len day : ℕ) → AreTerms t → IsAnyLedger (state S.Store conn).now t len day → (r.fault ≡ OpenFault.Memory) ⊎ (r.fault ≡ OpenFault.Store)) }
     {
         // A connection that is in no transaction has nothing to commit.
         prove!(conn.is_autocommit());

@@ -58,7 +58,7 @@ impl<S: Alter> SqlBook<S> {
     ghost use Rattle.s10_schema.specs.Schema.{ledger_schema};
 
     /// Makes an empty ledger with these settings in an empty database, in one transaction. Refused
-    /// with NotEmpty where a table of one of the four names is there, with Memory, and with Store
+    /// with NotEmpty where a table of one of the five names is there, with Memory, and with Store
     /// where a statement failed or the database has other tables; a refusal leaves no table.
     pub fn create(
         alloc: Global,
@@ -235,7 +235,7 @@ impl<S: Alter> Book for SqlBook<S> {
     ghost use Rattle.std.specs.Prelude.{◌⊎◌, ◌++◌, ◌∷◌, [], ◌<◌, ◌==◌, find, IfOk, IfSome, IsTrue, OnErr, OnOk, Contains};
     ghost use Rattle.sqlite.specs.State.{HasCleanDisk};
     ghost use Rattle.s10_wire.specs.Kind.{fits};
-    ghost use Rattle.s10_book.specs.History.{entry_with_key, entry_at, ranges_of, is_held_above, overlaps};
+    ghost use Rattle.s10_book.specs.History.{entry_with_key, entry_at, ranges_of, is_closed, is_open_above, overlaps};
     ghost use Rattle.s10_book.specs.Issues.{last_issue_of, candidate_of, candidate_after_of, size_of};
     ghost use Rattle.s10_book.specs.Usage.{usage_of};
     ghost use Rattle.s10_book.specs.Rules.{MayFollow};
@@ -302,6 +302,18 @@ impl<S: Alter> Book for SqlBook<S> {
         Ok(self.ranges.numbered(num))
     }
 
+    fn closed(&mut self, num: u32) -> Result<bool, BookFault>
+        ensures faults { Counts result self.old.faults self.new.faults }
+        ensures keeps { Keeps (history_of S.Store) (λ b. b.terms) (IsHonest S.Store) self.old self.new }
+        ensures opened { HasCleanDisk (state S.Store self.new.conn) → OnOk result (IsTrue (state S.Store self.new.conn).is_open) }
+        ensures answer { IsHonest S.Store self.new → IfOk result (λ b. b ≡ is_closed (history_of S.Store self.old) num) }
+    {
+        if let Err(fault) = self.ask_again() {
+            return Err(fault);
+        }
+        Ok(self.ranges.is_closed(num))
+    }
+
     fn next_range(
         &mut self,
         customer: u32,
@@ -313,12 +325,12 @@ impl<S: Alter> Book for SqlBook<S> {
         ensures keeps { Keeps (history_of S.Store) (λ b. b.terms) (IsHonest S.Store) self.old self.new }
         ensures opened { HasCleanDisk (state S.Store self.new.conn) → OnOk result (IsTrue (state S.Store self.new.conn).is_open) }
         ensures above { IfOk result (λ found. IfSome found (λ r. after < r.num)) }
-        ensures answer { IsHonest S.Store self.new → IfOk result (λ found. found ≡ find (is_held_above after customer service country) (ranges_of (history_of S.Store self.old))) }
+        ensures answer { IsHonest S.Store self.new → IfOk result (λ found. found ≡ find (is_open_above (history_of S.Store self.old) after customer service country) (ranges_of (history_of S.Store self.old))) }
     {
         if let Err(fault) = self.ask_again() {
             return Err(fault);
         }
-        Ok(self.ranges.held_after(customer, service, country, after))
+        Ok(self.ranges.open_after(customer, service, country, after))
     }
 
     fn covering(

@@ -2,16 +2,19 @@
 
 ghost use Rattle.std.specs.Prelude.{◌≡◌, ◌↔◌, All, IfOk, IfErr, IsTrue};
 ghost use Rattle.s10_ranges.specs.Mirror.{Mirrors};
-ghost use Rattle.s10_rows.specs.Tables.{Tables, HaveSameRows, range_rows, serial_rows};
+ghost use Rattle.s10_rows.specs.Tables.{Tables, HaveSameRows, range_rows, serial_rows, closed_rows};
 ghost use Rattle.s10_rows.specs.RightRows.{kept_of};
 ghost use Rattle.s10_rows.specs.Verdict.{IsWhole, IsRefusal};
 ghost use Rattle.s10_rows.specs.Selected.{IsCall};
-ghost use Rattle.s10_ledger.specs.Remade.{IsRemade};
+ghost use Rattle.s10_ledger.specs.Remade.{IsRemade, AreTheirs};
 
+use crate::made_rows::MadeRows;
 use crate::remade::Remade;
 use s10_index::IndexedBook;
 use s10_ranges::Ranges;
-use s10_rows::{OpenFault, Opened, RangeRow, SerialRow, same_ranges, same_serials};
+use s10_rows::{
+    ClosedRow, OpenFault, Opened, RangeRow, SerialRow, same_closed, same_ranges, same_serials,
+};
 use std::alloc::Global;
 
 // Whether these are the ranges of the book.
@@ -36,22 +39,40 @@ fn has_serials(alloc: Global, book: &IndexedBook, rows: Vec<SerialRow>) -> Resul
     Ok(same_serials(made, rows))
 }
 
-// What is found of a ledger whose calls were done again, by its rows of ranges and of serials.
+// Whether these are the closed ranges of the book.
+fn has_closed(alloc: Global, book: &IndexedBook, rows: Vec<ClosedRow>) -> Result<bool, OpenFault>
+    ensures err { (tables : Tables) → IfErr result (IsRefusal tables) }
+    ensures answer { IfOk result (λ b. IsTrue b ↔ HaveSameRows (closed_rows book.now.entries.items) rows.items) }
+{
+    let Ok(made) = book.closed_rows(alloc) else {
+        return Err(OpenFault::Memory);
+    };
+    Ok(same_closed(&made, rows))
+}
+
+// What is found of a ledger whose calls were done again, by the rows of the tables that they make.
 pub(crate) fn verdict(
     alloc: Global,
     made: Remade,
-    ranges: Vec<RangeRow>,
-    serials: Vec<SerialRow>,
+    rows: MadeRows,
 ) -> Result<(Opened, Ranges), OpenFault>
     ensures mirrored { (tables : Tables) → IsRemade tables.heads tables.calls made → IfOk result (λ found. Mirrors found.1 (kept_of tables.calls)) }
-    ensures ok { (tables : Tables) → tables.ranges ≡ ranges.items → tables.serials ≡ serials.items → IsRemade tables.heads tables.calls made → IfOk result (λ found. IsWhole tables found.0) }
-    ensures err { (tables : Tables) → tables.ranges ≡ ranges.items → tables.serials ≡ serials.items → IsRemade tables.heads tables.calls made → IfErr result (IsRefusal tables) }
+    ensures ok { (tables : Tables) → AreTheirs tables rows → IsRemade tables.heads tables.calls made → IfOk result (λ found. IsWhole tables found.0) }
+    ensures err { (tables : Tables) → AreTheirs tables rows → IsRemade tables.heads tables.calls made → IfErr result (IsRefusal tables) }
 {
     let Remade { book, opened } = made;
+    let MadeRows {
+        ranges,
+        serials,
+        closed,
+    } = rows;
     if !has_ranges(alloc, &book, ranges)? {
         return Err(OpenFault::Damaged(0));
     }
     if !has_serials(alloc, &book, serials)? {
+        return Err(OpenFault::Damaged(0));
+    }
+    if !has_closed(alloc, &book, closed)? {
         return Err(OpenFault::Damaged(0));
     }
     Ok((opened, book.into_ranges()))

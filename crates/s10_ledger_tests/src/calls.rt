@@ -92,6 +92,14 @@ pub(crate) fn query(customer: u32, number: u32, value: u32) -> Request
     }
 }
 
+pub(crate) fn withdraw(customer: u32, number: u32, range: u32) -> Request {
+    Request {
+        customer,
+        number,
+        body: Body::Withdraw { range },
+    }
+}
+
 pub(crate) fn drawn(day: u32, value: u32) -> Result<Outcome, BookFault>
     requires { value < 100000000 }
 {

@@ -11,18 +11,19 @@ use std::test::Fail;
 
 const HEAD: [i64; 4] = [1, 1, 30, 100];
 
-// Whether the one row of the head is this one, and the four tables have so many rows.
+// Whether the one row of the head is this one, and the five tables have so many rows.
 fn holds(
     alloc: Global,
     conn: &mut Connection<MemStore>,
     head: &[i64],
-    counts: [usize; 4],
+    counts: [usize; 5],
 ) -> Result<bool, Error> {
     let texts = [
         "SELECT one FROM head",
         "SELECT arrival FROM calls",
         "SELECT num FROM ranges",
         "SELECT serial FROM serials",
+        "SELECT num FROM closed",
     ];
     for (text, count) in texts.iter().zip(counts) {
         if numbers(alloc, conn, text, 1)?.len() != count {
@@ -62,7 +63,7 @@ fn a_new_ledger_has_its_settings_and_no_call(rt: HostRuntime) -> Result<(), Fail
     assert!(rt; is_new(&mut book, settings));
     assert!(rt; is_idle(&book));
     let mut conn = closed(book);
-    assert!(rt; holds(rt.alloc(), &mut conn, &HEAD, [1, 0, 0, 0])?);
+    assert!(rt; holds(rt.alloc(), &mut conn, &HEAD, [1, 0, 0, 0, 0])?);
     Ok(())
 }
 
@@ -82,7 +83,7 @@ fn refusal<R: Abort + AllocGlobal>(
 }
 
 // A ledger of nine calls.
-fn nine_kept<R: Abort + AllocGlobal>(rt: &R) -> Connection<MemStore> {
+pub(crate) fn nine_kept<R: Abort + AllocGlobal>(rt: &R) -> Connection<MemStore> {
     let mut book = ledger(rt, settings(rt, 100));
     run(rt, "nine calls", &mut book, &nine_calls());
     closed(book)
@@ -92,7 +93,7 @@ fn nine_kept<R: Abort + AllocGlobal>(rt: &R) -> Connection<MemStore> {
 fn a_ledger_is_not_made_over_a_ledger(rt: HostRuntime) -> Result<(), Fail> {
     let (fault, mut conn) = refusal(&rt, nine_kept(&rt), settings(&rt, 50));
     assert_eq!(rt; fault, OpenFault::NotEmpty);
-    assert!(rt; holds(rt.alloc(), &mut conn, &HEAD, [1, 9, 1, 3])?);
+    assert!(rt; holds(rt.alloc(), &mut conn, &HEAD, [1, 9, 1, 3, 0])?);
     Ok(())
 }
 
@@ -113,6 +114,10 @@ fn a_ledger_is_not_made_beside_other_tables(rt: HostRuntime) {
         ),
         (
             "CREATE TABLE serials (one INTEGER) STRICT",
+            OpenFault::NotEmpty,
+        ),
+        (
+            "CREATE TABLE closed (one INTEGER) STRICT",
             OpenFault::NotEmpty,
         ),
         ("CREATE TABLE other (one INTEGER) STRICT", OpenFault::Store),

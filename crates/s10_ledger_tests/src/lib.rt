@@ -6,6 +6,8 @@ mod books;
 #[cfg(test)]
 mod calls;
 #[cfg(test)]
+mod closed_tables;
+#[cfg(test)]
 mod creating;
 #[cfg(test)]
 mod made_rows;
@@ -13,6 +15,8 @@ mod made_rows;
 mod many_draws;
 #[cfg(test)]
 mod many_ranges;
+#[cfg(test)]
+mod old_ledgers;
 #[cfg(test)]
 mod openings;
 #[cfg(test)]
@@ -24,8 +28,12 @@ mod sheet_tables;
 #[cfg(test)]
 mod sheets;
 #[cfg(test)]
+mod stops;
+#[cfg(test)]
 mod tables;
 #[cfg(test)]
 mod verdicts;
+#[cfg(test)]
+mod withdrawals;
 #[cfg(test)]
 mod world;

@@ -3,7 +3,8 @@
 use s10_book::{BookFault, Entry, Issuance, Range};
 use s10_core::{Country, Id, Serial, Service};
 use s10_rows::{
-    Issued, RangeRow, RangeWrite, SerialRow, SerialWrite, granted_row, issue_rows, voided_row,
+    ClosedRow, Issued, RangeRow, RangeWrite, SerialRow, SerialWrite, granted_row, issue_rows,
+    voided_row,
 };
 use s10_wire::{Body, Outcome, Request};
 use std::process::Abort;
@@ -92,6 +93,27 @@ fn new_range_gives_its_first_serial_next(rt: HostRuntime) {
         outcome: Outcome::Granted { range: 1 },
     };
     assert_eq!(rt; granted_row(&grant), Some(RangeWrite::New(new_range())));
+}
+
+#[test]
+fn a_closed_range_is_kept_with_the_arrival_of_its_withdrawal(rt: HostRuntime) {
+    for (outcome, row) in [
+        (Outcome::Withdrawn, Some(ClosedRow { num: 1, arrival: 3 })),
+        (Outcome::NotThePost, None),
+        (Outcome::NoSuchRange, None),
+        (Outcome::Closed, None),
+    ] {
+        let withdraw = Entry {
+            request: Request {
+                customer: 0,
+                number: 2,
+                body: Body::Withdraw { range: 1 },
+            },
+            day: 20000,
+            outcome,
+        };
+        assert_eq!(rt; ClosedRow::made_by(3, &withdraw), row, "{outcome:?}");
+    }
 }
 
 // Each drawn serial, its arrival, day and request number, and the mark behind it.

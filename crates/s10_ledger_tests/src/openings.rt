@@ -11,9 +11,9 @@ use std::test::Fail;
 const OTHER_HEAD: &str = "INSERT INTO head (one, schema, interval, cap) VALUES (2, 1, 30, 100)";
 
 // The tables of a ledger, but for one, and the row of its head.
-fn tables_but_one(place: usize, table: &'static str, head: &'static str) -> [&'static str; 5] {
-    let [heads, calls, ranges, serials] = TABLES;
-    let mut texts = [heads, calls, ranges, serials, head];
+fn tables_but_one(place: usize, table: &'static str, head: &'static str) -> [&'static str; 6] {
+    let [heads, calls, ranges, serials, closed] = TABLES;
+    let mut texts = [heads, calls, ranges, serials, closed, head];
     if let Some(text) = texts.get_mut(place) {
         *text = table;
     }
@@ -86,6 +86,17 @@ fn schema_of_a_ledger_is_known(rt: HostRuntime) -> Result<(), Fail> {
         // A table of another name, and a table that is not there.
         (3, "CREATE TABLE other (pair INTEGER NOT NULL) STRICT", HEAD),
         (3, "", HEAD),
+        // A closed range whose withdrawal may be NULL, and one that may stand twice.
+        (
+            4,
+            "CREATE TABLE closed (num INTEGER NOT NULL PRIMARY KEY, arrival INTEGER) STRICT",
+            HEAD,
+        ),
+        (
+            4,
+            "CREATE TABLE closed (num INTEGER NOT NULL, arrival INTEGER NOT NULL) STRICT",
+            HEAD,
+        ),
     ];
     for (place, text, head) in others {
         let texts = tables_but_one(place, text, head);
@@ -97,7 +108,7 @@ fn schema_of_a_ledger_is_known(rt: HostRuntime) -> Result<(), Fail> {
 #[test]
 fn other_databases_are_no_ledgers(rt: HostRuntime) -> Result<(), Fail> {
     let whole = ledger_of(0, 0).ok_or("settings")?;
-    let cases: [(&str, Result<Opened, OpenFault>); 10] = [
+    let cases: [(&str, Result<Opened, OpenFault>); 13] = [
         (HEAD, Ok(whole)),
         ("", Err(OpenFault::NotALedger)),
         (
@@ -123,7 +134,20 @@ fn other_databases_are_no_ledgers(rt: HostRuntime) -> Result<(), Fail> {
             Err(OpenFault::NotALedger),
         ),
         (
+            "INSERT INTO head (one, schema, interval, cap) VALUES (1, 1, 30, 100); CREATE TABLE note (n INTEGER NOT NULL REFERENCES Closed) STRICT",
+            Err(OpenFault::NotALedger),
+        ),
+        (
             "INSERT INTO head (one, schema, interval, cap) VALUES (1, 1, 30, 100); CREATE INDEX by_day ON calls (day)",
+            Err(OpenFault::NotALedger),
+        ),
+        (
+            "INSERT INTO head (one, schema, interval, cap) VALUES (1, 1, 30, 100); CREATE INDEX by_arrival ON closed (arrival)",
+            Err(OpenFault::NotALedger),
+        ),
+        // The table of closed ranges behind one of the office's own.
+        (
+            "INSERT INTO head (one, schema, interval, cap) VALUES (1, 1, 30, 100); DROP TABLE closed; CREATE TABLE note (n INTEGER NOT NULL) STRICT; CREATE TABLE closed (num INTEGER NOT NULL PRIMARY KEY, arrival INTEGER NOT NULL) STRICT",
             Err(OpenFault::NotALedger),
         ),
         (

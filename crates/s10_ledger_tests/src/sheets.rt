@@ -11,15 +11,15 @@ use std::test::Fail;
 
 /// The answer to a delivery.
 #[derive(Clone, Copy, Debug)]
-enum Want {
+pub enum Want {
     Reply(&'static [u8]),
     Dropped(WireFault),
 }
 
 /// A day, a datagram and its answer.
-type Step = (u32, &'static [u8], Want);
+pub(crate) type Step = (u32, &'static [u8], Want);
 
-const GRANT: Step = (
+pub(crate) const GRANT: Step = (
     20_000,
     b"S1\x01\x01\0\0\0\0\0\0\0\x01\0\0\0\x07RAGB\0\0\0\0\0\0\0\x02",
     Want::Reply(b"S1\x01\x81\0\0\0\0\0\0\0\x01\0\0\0\x07RAGB\0\0\0\0\0\0\0\x02\0\0\0\0\x01"),
@@ -135,7 +135,7 @@ fn is_as_wanted(answer: &Answer, want: Want) -> bool {
 }
 
 /// The datagrams of these steps, on their days.
-fn deliveries_of(alloc: Global, steps: &[Step]) -> Result<Vec<Delivery>, AllocError> {
+pub(crate) fn deliveries_of(alloc: Global, steps: &[Step]) -> Result<Vec<Delivery>, AllocError> {
     let mut deliveries = Vec::new(alloc);
     for (day, datagram, _) in steps {
         deliveries.push(Delivery {
@@ -147,7 +147,7 @@ fn deliveries_of(alloc: Global, steps: &[Step]) -> Result<Vec<Delivery>, AllocEr
 }
 
 /// The answers of a server to what it is handed at once, and its book behind that.
-fn served<B: Book>(
+pub(crate) fn served<B: Book>(
     alloc: Global,
     book: B,
     deliveries: &[Delivery],
@@ -158,7 +158,7 @@ fn served<B: Book>(
 }
 
 /// Which step was answered otherwise than wanted.
-fn first_unlike(answers: &[Answer], steps: &[Step]) -> Option<usize> {
+pub(crate) fn first_unlike(answers: &[Answer], steps: &[Step]) -> Option<usize> {
     let mut pairs = answers.iter().zip(steps);
     pairs.position(|(answer, (_, _, want))| !is_as_wanted(answer, *want))
 }

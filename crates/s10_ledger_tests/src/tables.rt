@@ -3,7 +3,7 @@
 use s10_book::{Book, Settings};
 use s10_ledger::{OpenFault, Refused, SqlBook};
 use s10_rows::Opened;
-use sqlite::{Connection, Error, MemStore};
+use sqlite::{Alter, Connection, Error, MemStore};
 use std::alloc::Global;
 
 const HEAD_TABLE: &str =
@@ -17,6 +17,9 @@ const RANGES_TABLE: &str =
 
 const SERIALS_TABLE: &str =
     "CREATE TABLE serials (pair INTEGER NOT NULL, serial INTEGER NOT NULL, arrival INTEGER NOT NULL, day INTEGER NOT NULL, customer INTEGER NOT NULL, number INTEGER NOT NULL, voided INTEGER NOT NULL, PRIMARY KEY (pair, serial)) STRICT;";
+
+const CLOSED_TABLE: &str =
+    "CREATE TABLE closed (num INTEGER NOT NULL PRIMARY KEY, arrival INTEGER NOT NULL) STRICT;";
 
 pub(crate) const HEAD: &str =
     "INSERT INTO head (one, schema, interval, cap) VALUES (1, 1, 30, 100);";
@@ -46,9 +49,27 @@ const THREE_SERIALS: &str =
 (1380009794, 1, 9, 20030, 7, 8, 0),
 (1380009794, 2, 6, 20000, 7, 5, 0);";
 
-pub(crate) const TABLES: [&str; 4] = [HEAD_TABLE, CALLS_TABLE, RANGES_TABLE, SERIALS_TABLE];
+pub(crate) const TABLES: [&str; 5] = [
+    HEAD_TABLE,
+    CALLS_TABLE,
+    RANGES_TABLE,
+    SERIALS_TABLE,
+    CLOSED_TABLE,
+];
 
-pub(crate) fn run_batch(conn: &mut Connection<MemStore>, text: &str) -> Result<(), Error> {
+/// The tables, and the rows of the nine calls, as the build wrote them that had no table of closed ranges.
+pub(crate) const OLD_LEDGER: [&str; 8] = [
+    HEAD_TABLE,
+    CALLS_TABLE,
+    RANGES_TABLE,
+    SERIALS_TABLE,
+    HEAD,
+    NINE_REPLIES,
+    ONE_RANGE,
+    THREE_SERIALS,
+];
+
+pub(crate) fn run_batch<S: Alter>(conn: &mut Connection<S>, text: &str) -> Result<(), Error> {
     conn.execute_batch(text)
 }
 

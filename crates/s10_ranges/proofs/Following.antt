@@ -25,7 +25,7 @@ use Rattle.s10_book.proofs.Apart.{none_pass, apart}
 use Rattle.s10_ranges.specs.declared.mark.Mark.{Mark}
 use Rattle.s10_ranges.specs.declared.ranges.Ranges.{Ranges}
 use Rattle.s10_ranges.specs.declared.turn.Turn.TheVariants.{First}
-use Rattle.s10_ranges.specs.Mirror.{Mirrors, MirrorsAt}
+use Rattle.s10_ranges.specs.Mirror.{MirrorsAt}
 use Rattle.s10_ranges.specs.Turns.{turn_of, mark_of, mark_behind}
 use Rattle.s10_ranges.specs.Sound.{AreSound}
 use Rattle.s10_ranges.proofs.Found.{find_none, find_first}
@@ -130,17 +130,17 @@ again (x ∷ xs) zero d lt = refl
 again (x ∷ xs) (suc k) d lt = again xs k d (omega arith)
 
 -- where the marks are those behind a call that is no Done Grant, all is as behind it
-pub other_mirrors : (r : Ranges) (h : List Entry) (e : Entry) → ((m : ℕ) → e.outcome ≡ Granted m → ⊥) → MirrorsAt (ranges_of h) (issues_of (h ++ e ∷ [])) r → Mirrors r (h ++ e ∷ [])
+pub other_mirrors : (r : Ranges) (h : List Entry) (e : Entry) → ((m : ℕ) → e.outcome ≡ Granted m → ⊥) → MirrorsAt (ranges_of h) (issues_of (h ++ e ∷ [])) r → MirrorsAt (ranges_of (h ++ e ∷ [])) (issues_of (h ++ e ∷ [])) r
 other_mirrors r h e no_grant m =
     let P : List Range → Type 0 = λ rs. MirrorsAt rs (issues_of (h ++ e ∷ [])) r in
     subst P (sym (same_ranges h e no_grant)) m
 
 -- a Done Grant adds its range, whose mark is its first serial
-pub grant_mirrors : (old new : Ranges) (h : List Entry) (t : Terms) (e : Entry) (num : ℕ) (r : Range) → IsLegal h t → MayFollow h t e → length h < 4294967295 → Mirrors old h
+pub grant_mirrors : (old new : Ranges) (h : List Entry) (t : Terms) (e : Entry) (num : ℕ) (r : Range) → IsLegal h t → MayFollow h t e → length h < 4294967295 → MirrorsAt (ranges_of h) (issues_of h) old
     → e.outcome ≡ Granted num → range_of_grant num e.request.body (Granted num) ≡ Some r
     → (length old.ranges.items < 4294967295 → r.num ≡ length old.ranges.items + 1 → r.first ≤ r.last → find (overlaps r.service r.country r.first r.last) old.ranges.items ≡ None
     → (new.ranges.items ≡ old.ranges.items ++ r ∷ []) × (new.marks.items ≡ old.marks.items ++ first_mark r ∷ []))
-    → Mirrors new (h ++ e ∷ [])
+    → MirrorsAt (ranges_of (h ++ e ∷ [])) (issues_of (h ++ e ∷ [])) new
 grant_mirrors old new h t e num r legal may few m done made pushed =
     let next = is_next h t e num r may done made in
     let count : length old.ranges.items ≡ length (ranges_of h) = ap length m.ranges in

@@ -9,3 +9,4 @@ pub mod Carrying
 pub mod Turning
 pub mod Marked
 pub mod Following
+pub mod Opening

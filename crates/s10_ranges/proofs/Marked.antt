@@ -17,6 +17,9 @@ get_map f [] k d lt = absurd (omega arith)
 get_map f (x ∷ xs) zero d lt = refl
 get_map f (x ∷ xs) (suc k) d lt = get_map f xs k d (omega arith)
 
+abbrev pub made_part : (r : Ranges) (h : List Entry) → Mirrors r h → MirrorsAt (ranges_of h) (issues_of h) r
+made_part r h m = record { ranges = m.ranges; marks = m.marks }
+
 -- its number is one more than its place
 numbered : (r : Ranges) (rs : List Range) (is : List Issuance) (range : Range) → AreSound r.ranges.items → MirrorsAt rs is r → (there : Contains rs range) → range.num ≡ there.0 + 1
 numbered r rs is range sound m there =
@@ -25,7 +28,7 @@ numbered r rs is range sound m there =
     omega (arith, at.num, e)
 
 pub mark_above : (r : Ranges) (h : List Entry) (range : Range) → AreSound r.ranges.items → Mirrors r h → Contains (ranges_of h) range → 0 < range.num
-mark_above r h range sound m there = let num = numbered r (ranges_of h) (issues_of h) range sound m there in omega (arith, num)
+mark_above r h range sound m there = let num = numbered r (ranges_of h) (issues_of h) range sound (made_part r h m) there in omega (arith, num)
 
 -- the mark is that behind the issues
 pub mark_at_issues : (r : Ranges) (rs : List Range) (is : List Issuance) (range : Range) → AreSound r.ranges.items → MirrorsAt rs is r → Contains rs range → slice_get r.marks.items (range.num - 1) ≡ Some (mark_of is range)
@@ -37,4 +40,4 @@ mark_at_issues r rs is range sound m there =
 
 -- and of a history the history's
 pub mark_held : (r : Ranges) (h : List Entry) (range : Range) → AreSound r.ranges.items → Mirrors r h → Contains (ranges_of h) range → slice_get r.marks.items (range.num - 1) ≡ Some (mark_of (issues_of h) range)
-mark_held r h range sound m there = mark_at_issues r (ranges_of h) (issues_of h) range sound m there
+mark_held r h range sound m there = mark_at_issues r (ranges_of h) (issues_of h) range sound (made_part r h m) there

@@ -3,4 +3,5 @@ pub mod Order
 pub mod Sound
 pub mod Room
 pub mod Turns
+pub mod ClosedRanges
 pub mod Mirror

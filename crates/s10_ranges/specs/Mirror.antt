@@ -7,12 +7,15 @@ use Rattle.s10_book.specs.History.{ranges_of}
 use Rattle.s10_book.specs.Issues.{issues_of}
 use Rattle.s10_ranges.specs.declared.ranges.Ranges.{Ranges}
 use Rattle.s10_ranges.specs.Turns.{mark_of}
+use Rattle.s10_ranges.specs.ClosedRanges.{HasClosed}
 
 -- these ranges, each with its mark behind the issues: its pick, and its turn
 pub record MirrorsAt (rs : List Range) (is : List Issuance) (r : Ranges) : Type 0 where
   pub ranges : r.ranges.items ≡ rs
   pub marks : r.marks.items ≡ map (mark_of is) rs
 
--- the ranges of the history, each with its mark behind its issues
-abbrev pub Mirrors : Ranges → List Entry → Type 0
-Mirrors r h = MirrorsAt (ranges_of h) (issues_of h) r
+-- the ranges of the history, each with its mark behind its issues, and which of them are closed
+pub record Mirrors (r : Ranges) (h : List Entry) : Type 0 where
+  pub ranges : r.ranges.items ≡ ranges_of h
+  pub marks : r.marks.items ≡ map (mark_of (issues_of h)) (ranges_of h)
+  pub closed : HasClosed r.closed h

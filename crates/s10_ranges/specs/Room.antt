@@ -1,10 +1,12 @@
 -- Room for a further range.
 use Rattle.std.specs.Prelude.{◌<◌, vec_len, vec_capacity}
+use Rattle.std.specs.HashSet.{spare}
 use Rattle.s10_ranges.specs.declared.ranges.Ranges.{Ranges}
 
--- each of the four lists has room for one more
+-- each of the four lists has room for one more, and so have the closed ranges
 pub record HasRoom (r : Ranges) : Type 0 where
   pub ranges : vec_len r.ranges < vec_capacity r.ranges
   pub marks : vec_len r.marks < vec_capacity r.marks
   pub by_place : vec_len r.by_place < vec_capacity r.by_place
   pub by_holder : vec_len r.by_holder < vec_capacity r.by_holder
+  pub closed : 0 < spare r.closed.numbers

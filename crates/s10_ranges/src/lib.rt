@@ -1,6 +1,7 @@
 //! The ranges of a ledger with their marks, held in memory in the orders in which they are looked up.
 #![tactic(auto)]
 
+mod closed_ranges;
 mod keys;
 mod lookups;
 mod made;

@@ -8,6 +8,7 @@ ghost use Rattle.s10_ranges.specs.Order.{IsOrder};
 ghost use Rattle.s10_ranges.specs.Sound.{AreSound};
 ghost use Rattle.s10_ranges.specs.Turns.{mark_behind};
 
+use crate::closed_ranges::ClosedRanges;
 use crate::lookups::{mark_numbered, range_held, range_numbered, range_over};
 use crate::made::{next_mark, range_granted};
 use crate::mark::Mark;
@@ -19,14 +20,16 @@ use s10_wire::Outcome;
 use std::alloc::{AllocError, Global};
 
 /// The ranges of a ledger, numbered from 1, each with its mark: the serial that it gives next, and its
-/// turn. No two have a serial in common. A look-up takes steps as the logarithm of how many ranges there are, and
-/// `over` besides as many as there are ranges with a serial in common.
+/// turn; and which of them are closed. No two have a serial in common. A look-up takes steps as the logarithm of how many ranges there are, and
+/// `over` besides as many as there are ranges with a serial in common, and `open_after` as many times
+/// that as there are closed ranges before the one that it finds.
 #[derive(Drop)]
 pub struct Ranges {
     ranges: Vec<Range>,
     marks: Vec<Mark>,
     by_place: Vec<u32>,
     by_holder: Vec<u32>,
+    closed: ClosedRanges,
     ghost sound: { AreSound ranges.items },
     ghost marked: { length marks.items ≡ length ranges.items },
     ghost placed: { IsOrder (key_by First) (key_by Last) ranges.items by_place.items },
@@ -39,7 +42,8 @@ impl Ranges {
     ghost use Rattle.s10_book.specs.declared.range.Range.{Range};
     ghost use Rattle.s10_ranges.specs.declared.mark.Mark.{Mark};
     ghost use Rattle.s10_book.specs.Settings.{Terms};
-    ghost use Rattle.s10_book.specs.History.{ranges_of};
+    ghost use Rattle.std.specs.Prelude.{IfSome};
+    ghost use Rattle.s10_book.specs.History.{ranges_of, is_closed, is_open_above};
     ghost use Rattle.s10_book.specs.Issues.{issues_of};
     ghost use Rattle.s10_book.specs.Rules.{IsLegal, MayFollow};
     ghost use Rattle.s10_ranges.specs.Mirror.{Mirrors, MirrorsAt};
@@ -47,28 +51,27 @@ impl Ranges {
 
     /// No ranges.
     pub fn new(alloc: Global) -> Ranges
-        ensures ranges { result.ranges.items ≡ [] }
-        ensures marks { result.marks.items ≡ [] }
+        ensures { Mirrors result [] }
     {
         Ranges {
             ranges: Vec::new(alloc),
             marks: Vec::new(alloc),
             by_place: Vec::new(alloc),
             by_holder: Vec::new(alloc),
+            closed: ClosedRanges::new(alloc),
         }
     }
 
     /// Makes room for one more range.
     pub fn reserve(&mut self) -> Result<(), AllocError>
-        ensures ranges { self.new.ranges.items ≡ self.old.ranges.items }
-        ensures marks { self.new.marks.items ≡ self.old.marks.items }
+        ensures same { (h : List Entry) → Mirrors self.old h → Mirrors self.new h }
         ensures room { OnOk result (HasRoom self.new) }
     {
         self.ranges.reserve(1)?;
         self.marks.reserve(1)?;
         self.by_place.reserve(1)?;
         self.by_holder.reserve(1)?;
-        Ok(())
+        self.closed.reserve()
     }
 
     // Adds the next range, for which there is room. It has the next number and no serial in common
@@ -81,6 +84,7 @@ impl Ranges {
         requires apart { find (overlaps range.service range.country range.first range.last) self.old.ranges.items ≡ None }
         ensures ranges { self.new.ranges.items ≡ self.old.ranges.items ++ range ∷ [] }
         ensures marks { self.new.marks.items ≡ self.old.marks.items ++ mark ∷ [] }
+        ensures closed { self.new.closed ≡ self.old.closed }
     {
         let place = self.ranges.len() as u32;
         let place_at = place_among(&self.ranges, &self.by_place, &range);
@@ -98,6 +102,7 @@ impl Ranges {
         ensures next { length self.old.ranges.items < 4294967295 → range.num ≡ length self.old.ranges.items + 1 → range.first ≤ range.last
             → find (overlaps range.service range.country range.first range.last) self.old.ranges.items ≡ None
             → (self.new.ranges.items ≡ self.old.ranges.items ++ range ∷ []) × (self.new.marks.items ≡ self.old.marks.items ++ mark ∷ []) }
+        ensures closed { self.new.closed ≡ self.old.closed }
     {
         let len = self.ranges.len();
         if len >= 4_294_967_295 || range.num as usize != len + 1 {
@@ -125,6 +130,7 @@ impl Ranges {
         ensures ranges { self.new.ranges.items ≡ self.old.ranges.items }
         ensures marks { (r : Range) (m : Mark) → find (overlaps id.now.service id.now.country id.now.serial id.now.serial) self.old.ranges.items ≡ Some r
             → slice_get self.old.marks.items (r.num - 1) ≡ Some m → self.new.marks.items ≡ set self.old.marks.items (r.num - 1) (mark_behind r m.turn id.now.serial) }
+        ensures closed { self.new.closed ≡ self.old.closed }
     {
         let found = range_over(
             &self.ranges,
@@ -147,8 +153,9 @@ impl Ranges {
 
     // Turns the mark of the range of each identifier that a call issued, one after another.
     fn turn_all(&mut self, entry: &Entry)
-        ensures { (h : List Entry) (t : Terms) → IsLegal h t → MayFollow h t entry.now → MirrorsAt (ranges_of h) (issues_of h) self.old
+        ensures marks { (h : List Entry) (t : Terms) → IsLegal h t → MayFollow h t entry.now → MirrorsAt (ranges_of h) (issues_of h) self.old
             → MirrorsAt (ranges_of h) (issues_of (h ++ entry.now ∷ [])) self.new }
+        ensures closed { self.new.closed ≡ self.old.closed }
     {
         for place in 0..entry.issued() {
             // Which arrival the issues have is no matter to a mark.
@@ -158,12 +165,12 @@ impl Ranges {
         }
     }
 
-    /// Adds what a kept call makes: the range of a Done Grant, and the marks behind each issue of another
-    /// call. Where the ranges are not those of a legal history that the call may follow, a range that is
-    /// not the next one, or overlaps another, is left out.
-    pub fn follow(&mut self, entry: &Entry)
+    // Adds the range of a Done Grant, and sets the marks behind each issue of another call.
+    fn follow_made(&mut self, entry: &Entry)
         requires room { HasRoom self.old }
-        ensures { (h : List Entry) (t : Terms) → IsLegal h t → MayFollow h t entry.now → length h < 4294967295 → Mirrors self.old h → Mirrors self.new (h ++ entry.now ∷ []) }
+        ensures made { (h : List Entry) (t : Terms) → IsLegal h t → MayFollow h t entry.now → length h < 4294967295 → MirrorsAt (ranges_of h) (issues_of h) self.old
+            → MirrorsAt (ranges_of (h ++ entry.now ∷ [])) (issues_of (h ++ entry.now ∷ [])) self.new }
+        ensures closed { self.new.closed ≡ self.old.closed }
     {
         match entry.outcome {
             Outcome::Granted { range: num } => {
@@ -179,12 +186,24 @@ impl Ranges {
         }
     }
 
+    /// Adds what a kept call makes: the range of a Done Grant, the marks behind each issue of another
+    /// call, and the range that a Done Withdraw closes. Where the ranges are not those of a legal history
+    /// that the call may follow, a range that is not the next one, or overlaps another, is left out.
+    pub fn follow(&mut self, entry: &Entry)
+        requires room { HasRoom self.old }
+        ensures { (h : List Entry) (t : Terms) → IsLegal h t → MayFollow h t entry.now → length h < 4294967295 → Mirrors self.old h → Mirrors self.new (h ++ entry.now ∷ []) }
+    {
+        self.follow_made(entry);
+        self.closed.follow(entry);
+    }
+
     // Sets the mark of the range of that number.
     fn set_mark(&mut self, num: u32, mark: Mark)
         requires from { 0 < num }
         requires to { num ≤ length self.old.ranges.items }
         ensures ranges { self.new.ranges.items ≡ self.old.ranges.items }
         ensures marks { self.new.marks.items ≡ set self.old.marks.items (num - 1) mark }
+        ensures closed { self.new.closed ≡ self.old.closed }
     {
         self.marks[num as usize - 1] = mark;
     }
@@ -218,8 +237,36 @@ impl Ranges {
         range_numbered(&self.ranges, num)
     }
 
-    /// The range of least number above `after` with that holder, service and country, if there is one.
-    pub fn held_after(
+    /// Whether the range of that number is closed.
+    pub fn is_closed(&self, num: u32) -> bool
+        ensures { (h : List Entry) → Mirrors self.now h → result ≡ is_closed h num }
+    {
+        self.closed.has(num)
+    }
+
+    /// The open range of least number above `after` with that holder, service and country, if there is one.
+    pub fn open_after(
+        &self,
+        customer: u32,
+        service: Service,
+        country: Country,
+        after: u32,
+    ) -> Option<Range>
+        ensures above { IfSome result (λ r. after < r.num) }
+        ensures open { (h : List Entry) → Mirrors self.now h → result ≡ find (is_open_above h after customer service country) (ranges_of h) }
+    {
+        let mut past = after;
+        while let Some(range) = self.held_after(customer, service, country, past) {
+            if !self.is_closed(range.num) {
+                return Some(range);
+            }
+            past = range.num;
+        }
+        None
+    }
+
+    // The range of least number above `after` with that holder, service and country, if there is one.
+    fn held_after(
         &self,
         customer: u32,
         service: Service,

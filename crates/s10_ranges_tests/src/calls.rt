@@ -112,6 +112,20 @@ pub(crate) fn draw(rt: &impl Abort, ranges: &mut Ranges, value: u32) {
     follow(rt, ranges, &entry);
 }
 
+/// A Withdraw of the range of that number was answered so.
+pub(crate) fn withdraw(rt: &impl Abort, ranges: &mut Ranges, num: u32, outcome: Outcome) {
+    let entry = Entry {
+        request: Request {
+            customer: 0,
+            number: 100,
+            body: Body::Withdraw { range: num },
+        },
+        day: 20000,
+        outcome,
+    };
+    follow(rt, ranges, &entry);
+}
+
 /// The ranges that were granted, in their order.
 pub(crate) fn all_granted<R: Abort + AllocGlobal>(rt: &R) -> Ranges {
     let mut ranges = Ranges::new(rt.alloc());

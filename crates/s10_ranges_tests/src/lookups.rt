@@ -1,18 +1,19 @@
 //! The look-ups of ranges.
 
-use crate::calls::{all_granted, country, grant, numbered, range, serial, service};
+use crate::calls::{all_granted, country, grant, numbered, range, serial, service, withdraw};
 use s10_ranges::Ranges;
+use s10_wire::Outcome;
 use std::process::Abort;
 
 fn is_numbered(rt: &impl Abort, ranges: &Ranges, num: u32) -> bool {
     ranges.numbered(num) == numbered(rt, num)
 }
 
-// Whether the next range of RA GB of the customer behind that number is the one of the wanted number, 0 for none.
+// Whether the next open range of RA GB of the customer behind that number is the one of the wanted number, 0 for none.
 fn has_next(rt: &impl Abort, ranges: &Ranges, customer: u32, after: u32, want: u32) -> bool {
     let ra = service(rt, *b"RA");
     let gb = country(rt, *b"GB");
-    ranges.held_after(customer, ra, gb, after) == numbered(rt, want)
+    ranges.open_after(customer, ra, gb, after) == numbered(rt, want)
 }
 
 // Whether the range found over those serials of a service and a country is the one of the wanted number, 0 for none.
@@ -56,6 +57,63 @@ fn ranges_of_a_holder_are_found_in_order_of_their_numbers(rt: HostRuntime) {
         (9, 5, 0),
         (6, 0, 0),
         (7, 4_294_967_295, 0),
+    ] {
+        assert!(rt;
+            has_next(&rt, &ranges, customer, after, want),
+            "customer {customer} after {after}"
+        );
+    }
+}
+
+// The seven ranges, of which the third and the second are closed, and then the fifth. A Withdraw that is refused closes none.
+fn three_closed<R: Abort + AllocGlobal>(rt: &R) -> Ranges {
+    let mut ranges = all_granted(rt);
+    for (num, outcome) in [
+        (3, Outcome::Withdrawn),
+        (2, Outcome::Withdrawn),
+        (2, Outcome::Closed),
+        (1, Outcome::NotThePost),
+        (8, Outcome::NoSuchRange),
+        (5, Outcome::Withdrawn),
+    ] {
+        withdraw(rt, &mut ranges, num, outcome);
+    }
+    ranges
+}
+
+#[test]
+fn closed_ranges_are_found_by_number_and_by_serials(rt: HostRuntime) {
+    let ranges = three_closed(&rt);
+    for num in 0..9u32 {
+        assert!(rt; is_numbered(&rt, &ranges, num), "{num}");
+        assert_eq!(rt;
+            ranges.is_closed(num),
+            num == 2 || num == 3 || num == 5,
+            "{num}"
+        );
+    }
+    for (first, last, want) in OVER {
+        assert!(rt;
+            has_over(&rt, &ranges, *b"RA", *b"GB", first, last, want),
+            "{first} to {last}"
+        );
+    }
+}
+
+#[test]
+fn open_ranges_alone_are_found_by_holder(rt: HostRuntime) {
+    let ranges = three_closed(&rt);
+    for (customer, after, want) in [
+        (7, 0, 4),
+        (7, 1, 4),
+        (7, 2, 4),
+        (7, 4, 0),
+        (8, 0, 1),
+        (8, 1, 6),
+        (8, 3, 6),
+        (8, 6, 0),
+        (9, 0, 0),
+        (6, 0, 0),
     ] {
         assert!(rt;
             has_next(&rt, &ranges, customer, after, want),
@@ -114,6 +172,7 @@ fn ranges_of_another_service_or_country_are_not_found(rt: HostRuntime) {
 fn in_no_ranges_none_is_found(rt: HostRuntime) {
     let ranges = Ranges::new(rt.alloc());
     assert!(rt; ranges.numbered(1).is_none());
+    assert!(rt; !ranges.is_closed(1));
     assert!(rt; has_next(&rt, &ranges, 7, 0, 0));
     assert!(rt; has_over(&rt, &ranges, *b"RA", *b"GB", 0, 99_999_999, 0));
 }

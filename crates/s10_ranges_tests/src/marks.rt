@@ -1,7 +1,8 @@
 //! The marks of ranges.
 
-use crate::calls::{all_granted, draw, serial};
+use crate::calls::{all_granted, draw, serial, withdraw};
 use s10_ranges::{Mark, Ranges, Turn};
+use s10_wire::Outcome;
 use std::process::Abort;
 
 fn has_mark(rt: &impl Abort, ranges: &Ranges, num: u32, mark: u32, turn: Turn) -> bool {
@@ -51,6 +52,16 @@ fn draw_of_a_serial_in_no_range_sets_no_mark(rt: HostRuntime) {
     let mut ranges = all_granted(&rt);
     draw(&rt, &mut ranges, 40);
     for (num, mark) in [(1, 50), (2, 10), (3, 30), (4, 90), (5, 0), (6, 20), (7, 10)] {
+        assert!(rt; has_mark(&rt, &ranges, num, mark, Turn::First), "{num}");
+    }
+}
+
+#[test]
+fn closed_range_keeps_its_mark(rt: HostRuntime) {
+    let mut ranges = all_granted(&rt);
+    draw(&rt, &mut ranges, 10);
+    withdraw(&rt, &mut ranges, 2, Outcome::Withdrawn);
+    for (num, mark) in [(1, 50), (2, 11), (3, 30), (4, 90), (5, 0), (6, 20), (7, 10)] {
         assert!(rt; has_mark(&rt, &ranges, num, mark, Turn::First), "{num}");
     }
 }

@@ -11,7 +11,7 @@ use Rattle.s10_wire.proofs.Writing.{Appends-then}
 use Rattle.s10_book.specs.declared.entry.Entry.{Entry}
 use Rattle.s10_book.specs.declared.range.Range.{Range}
 use Rattle.s10_book.specs.declared.issuance.Issuance.{Issuance}
-use Rattle.s10_book.specs.History.{ranges_of, entry_at}
+use Rattle.s10_book.specs.History.{ranges_of, entry_at, is_closed}
 use Rattle.s10_book.specs.Issues.{issues_of, issues_from, issues_at, last_issue_of}
 use Rattle.s10_book.specs.Usage.{usage_of}
 use Rattle.s10_reports.specs.Reports.{joined, range_line, ranges_header, ranges_report, issue_line, issue_lines, issues_header, issues_report}
@@ -89,9 +89,9 @@ ranges_all h day interval n few =
 
 -- the line of the next range is the next line
 pub ranges_next : (h : List Entry) (day interval n : ℕ) (r : Range) → find (λ x. x.num == (n + 1)) (ranges_of h) ≡ Some r
-    → take (n + 1 + 1) (ranges_report h day interval) ≡ take (n + 1) (ranges_report h day interval) ++ range_line r (usage_of h r day interval) ∷ []
+    → take (n + 1 + 1) (ranges_report h day interval) ≡ take (n + 1) (ranges_report h day interval) ++ range_line r (usage_of h r day interval) (is_closed h r.num) ∷ []
 ranges_next h day interval n r found =
-    let f : Range → List ℕ = λ x. range_line x (usage_of h x day interval) in
+    let f : Range → List ℕ = λ x. range_line x (usage_of h x day interval) (is_closed h x.num) in
     let lines : List (List ℕ) = map f (ranges_of h) in
     let on : n + 1 ≡ 1 + n = omega arith in
     let next : n + 1 ≡ suc n = omega arith in

@@ -1,5 +1,5 @@
 -- The two reports of a ledger: a header, then a line for each range, or for each issue.
-use Rattle.std.specs.Prelude.{ℕ, ◌==◌, Bool, ◌&&◌, if◌then◌else◌, List, [], ◌∷◌, map, codes, decimal, Option, Some, None}
+use Rattle.std.specs.Prelude.{ℕ, ◌==◌, Bool, true, false, ◌&&◌, if◌then◌else◌, List, [], ◌∷◌, map, codes, decimal, Option, Some, None}
 use Rattle.std.specs.List.{flat_map}
 use Rattle.s10_core.specs.Letters.{letters_of}
 use Rattle.s10_core.specs.Serial.{digits_of}
@@ -10,7 +10,7 @@ use Rattle.s10_book.specs.declared.range.Range.{Range}
 use Rattle.s10_book.specs.declared.usage.Usage.{Usage}
 use Rattle.s10_book.specs.declared.issue.Issue.{Issue}
 use Rattle.s10_book.specs.declared.issuance.Issuance.{Issuance}
-use Rattle.s10_book.specs.History.{ranges_of}
+use Rattle.s10_book.specs.History.{ranges_of, is_closed}
 use Rattle.s10_book.specs.Issues.{issues_of, last_issue_of}
 use Rattle.s10_book.specs.Usage.{usage_of}
 
@@ -18,19 +18,24 @@ use Rattle.s10_book.specs.Usage.{usage_of}
 abbrev pub joined : List (List ℕ) → List ℕ
 joined lines = flat_map (λ line. line) lines
 
--- a range and how its serials were used
-unfoldable pub range_line : Range → Usage → List ℕ
-range_line r usage =
+-- the line of a closed range says so at its end
+abbrev pub closed_words : Bool → List (List ℕ)
+closed_words true = codes "closed" ∷ []
+closed_words false = []
+
+-- a range, how its serials were used, and whether it is closed
+unfoldable pub range_line : Range → Usage → Bool → List ℕ
+range_line r usage closed =
     line_of (decimal r.num)
     (decimal r.holder ∷ letters_of r.service ∷ letters_of r.country ∷ digits_of r.first ∷ digits_of r.last
-    ∷ decimal usage.used ∷ decimal usage.voided ∷ decimal usage.free ∷ [])
+    ∷ decimal usage.used ∷ decimal usage.voided ∷ decimal usage.free ∷ closed_words closed)
 
 abbrev pub ranges_header : List ℕ
 ranges_header = codes "range customer service country first last used voided free\n"
 
 -- the report of the ranges, in order of their numbers, on a day
 abbrev pub ranges_report : List Entry → ℕ → ℕ → List (List ℕ)
-ranges_report h day interval = ranges_header ∷ map (λ r. range_line r (usage_of h r day interval)) (ranges_of h)
+ranges_report h day interval = ranges_header ∷ map (λ r. range_line r (usage_of h r day interval) (is_closed h r.num)) (ranges_of h)
 
 -- whether the identifier's last issue is that of the call
 abbrev pub is_last : Issuance → Issue → Bool

@@ -4,19 +4,20 @@ ghost use Rattle.std.specs.Prelude.{[], ◌∷◌, decimal, OnOk};
 ghost use Rattle.std.specs.Io.KnownBytes.{Appends};
 ghost use Rattle.s10_wire.specs.Lines.{spaced};
 ghost use Rattle.s10_book.specs.Book.{Keeps};
-ghost use Rattle.s10_reports.specs.Reports.{range_line, ranges_report};
+ghost use Rattle.s10_reports.specs.Reports.{range_line, closed_words, ranges_report};
 ghost use Rattle.s10_reports.specs.ReportFault.{Reported, CountsReport};
 
 use crate::report_fault::ReportFault;
 use s10_book::{Book, Range, Usage};
 use s10_wire::{
     WriteFault, write_decimal, write_first_decimal, write_letters, write_serials, write_text,
+    write_word,
 };
 use std::io::Write;
 
 /// Writes a header and a line for each range, in order of their numbers: what it is, and how many
 /// of its serials were ever issued, are voided, and are free on the greater of `day` and the
-/// book's day. Each line is read before it goes out.
+/// book's day; the line of a closed range ends with that word. Each line is read before it goes out.
 pub fn write_ranges<B: Book, W: Write>(
     book: &mut B,
     day: u32,
@@ -37,19 +38,26 @@ pub fn write_ranges<B: Book, W: Write>(
             Some(range) => range,
         };
         let usage = book.usage(&range, day)?;
-        write_range(&range, &usage, out)?;
+        let closed = book.closed(range.num)?;
+        write_range(&range, &usage, closed, out)?;
     }
     Ok(())
 }
 
-fn write_range<W: Write>(range: &Range, usage: &Usage, out: &mut W) -> Result<(), WriteFault>
-    ensures { OnOk result (Appends (W.contents out.old) (W.contents out.new) (range_line range.now usage.now)) }
+fn write_range<W: Write>(
+    range: &Range,
+    usage: &Usage,
+    closed: bool,
+    out: &mut W,
+) -> Result<(), WriteFault>
+    ensures { OnOk result (Appends (W.contents out.old) (W.contents out.new) (range_line range.now usage.now closed)) }
 {
     write_first_decimal(range.num, out)?;
     write_decimal(range.holder, out)?;
     write_letters(range.service, range.country, out)?;
     write_serials(range.first, range.last, out)?;
     write_usage(usage, out)?;
+    write_closed(closed, out)?;
     write_text(b"\n", out)
 }
 
@@ -60,4 +68,15 @@ fn write_usage<W: Write>(usage: &Usage, out: &mut W) -> Result<(), WriteFault>
     write_decimal(usage.used, out)?;
     write_decimal(usage.voided, out)?;
     write_decimal(usage.free, out)
+}
+
+// The word at the end of a closed range's line.
+fn write_closed<W: Write>(closed: bool, out: &mut W) -> Result<(), WriteFault>
+    ensures { OnOk result (Appends (W.contents out.old) (W.contents out.new) (spaced (closed_words closed))) }
+{
+    if closed {
+        write_word(b"closed", out)
+    } else {
+        Ok(())
+    }
 }

@@ -19,6 +19,7 @@ use Rattle.s10_book.specs.declared.entry.Entry.{Entry}
 use Rattle.s10_book.specs.declared.issuance.Issuance.{Issuance}
 use Rattle.s10_book.specs.Issues.{issues_of, is_of, is_issued, last_issues, voided_after}
 use Rattle.s10_book.proofs.Spaced.{id_same}
+use Rattle.s10_rows.specs.declared.closed_row.ClosedRow.{ClosedRow}
 use Rattle.s10_rows.specs.declared.range_row.RangeRow.{RangeRow}
 use Rattle.s10_rows.specs.declared.serial_row.SerialRow.{SerialRow}
 use Rattle.s10_rows.specs.CallRow.{StoredCall}
@@ -137,6 +138,11 @@ range_decides a b =
     Decides-like _ (λ p. λ i. record { num = p.0 i; holder = p.1.0 i; pair = p.1.1.0 i; low = p.1.1.1.0 i; high = p.1.1.1.1.0 i; mark = p.1.1.1.1.1 i })
     (λ e. (ap (λ (r : RangeRow). r.num) e, (ap (λ (r : RangeRow). r.holder) e, (ap (λ (r : RangeRow). r.pair) e, (ap (λ (r : RangeRow). r.low) e, (ap (λ (r : RangeRow). r.high) e, ap (λ (r : RangeRow). r.mark) e))))))
     (Decides-and _ _ (Decides-int_eq a.num b.num) (Decides-and _ _ (Decides-int_eq a.holder b.holder) (Decides-and _ _ (Decides-int_eq a.pair b.pair) (Decides-and _ _ (Decides-int_eq a.low b.low) (Decides-and _ _ (Decides-int_eq a.high b.high) (Decides-int_eq a.mark b.mark))))))
+
+pub closed_decides : (a b : ClosedRow) → Decides (int_eq a.num b.num && (int_eq a.arrival b.arrival)) (a ≡ b)
+closed_decides a b =
+    Decides-like _ (λ p. λ i. record { num = p.0 i; arrival = p.1 i }) (λ e. (ap (λ (r : ClosedRow). r.num) e, ap (λ (r : ClosedRow). r.arrival) e))
+    (Decides-and _ _ (Decides-int_eq a.num b.num) (Decides-int_eq a.arrival b.arrival))
 
 pub serial_decides : (a b : SerialRow) → Decides (int_eq a.pair b.pair && (int_eq a.serial b.serial && (int_eq a.arrival b.arrival && (int_eq a.day b.day && (int_eq a.customer b.customer && (int_eq a.number b.number && (int_eq a.voided b.voided))))))) (a ≡ b)
 serial_decides a b =

@@ -3,11 +3,11 @@ use Rattle.std.proofs.Common.{true, ◌≡◌, ℕ, ◌/◌, ◌^◌, ◌<◌, L
 use Rattle.std.proofs.lemmas.Nat.{from_be_bytes-to_be_bytes_4}
 use Rattle.s10_core.proofs.Decimals.{number_of-digits_of}
 use Rattle.s10_wire.specs.declared.body.Body.{Body}
-use Rattle.s10_wire.specs.declared.body.Body.TheVariants.{Grant, Draw, Void, Query, DrawMany}
+use Rattle.s10_wire.specs.declared.body.Body.TheVariants.{Grant, Draw, Void, Query, DrawMany, Withdraw}
 use Rattle.s10_wire.specs.declared.request.Request.{Request}
 use Rattle.s10_wire.specs.declared.status.Status.TheVariants as statuses
 use Rattle.s10_wire.specs.declared.outcome.Outcome.{Outcome}
-use Rattle.s10_wire.specs.declared.outcome.Outcome.TheVariants.{Granted, Drawn, DrawnMany, Voided, Told, NotThePost, BadGrant, Overlap, NoRange, NoneFree, NotYours, NotIssued, AlreadyVoid, NumberReused}
+use Rattle.s10_wire.specs.declared.outcome.Outcome.TheVariants.{Granted, Drawn, DrawnMany, Voided, Told, Withdrawn, NotThePost, BadGrant, Overlap, NoRange, NoneFree, NotYours, NotIssued, AlreadyVoid, NoSuchRange, Closed, NumberReused}
 use Rattle.s10_wire.specs.Kind.{kind_of, request_length, fits}
 use Rattle.std.specs.Prelude.{All}
 use Rattle.std.proofs.lemmas.List.Elements.{All-head, All-tail}
@@ -30,6 +30,7 @@ body_again customer number (Grant holder service country first last) rest ok =
     rw (from_be_bytes-to_be_bytes_4 holder ok.0, from_be_bytes-to_be_bytes_4 first (serial_fits first ok.3), from_be_bytes-to_be_bytes_4 last (serial_fits last ok.4)) refl
 body_again customer number (Draw service country) rest ok = refl
 body_again customer number (DrawMany service country count) rest ok = refl
+body_again customer number (Withdraw range) rest ok = rw (from_be_bytes-to_be_bytes_4 range ok) refl
 body_again customer number (Void id) rest ok = rw (number_of-digits_of id.serial ok.serial) refl
 body_again customer number (Query id) rest ok = rw (number_of-digits_of id.serial ok.serial) refl
 
@@ -51,6 +52,11 @@ outcome_again (Query id) (Told statuses.Unknown) ok fit = refl
 outcome_again (Query id) (Told statuses.Never) ok fit = refl
 outcome_again (Query id) (Told (statuses.Issued day)) ok fit = rw (from_be_bytes-to_be_bytes_4 day ok) refl
 outcome_again (Query id) (Told (statuses.Voided day)) ok fit = rw (from_be_bytes-to_be_bytes_4 day ok) refl
+outcome_again (Withdraw range) Withdrawn ok fit = refl
+outcome_again (Withdraw range) NotThePost ok fit = refl
+outcome_again (Withdraw range) NoSuchRange ok fit = refl
+outcome_again (Withdraw range) Closed ok fit = refl
+outcome_again (Withdraw range) NumberReused ok fit = refl
 outcome_again (Void id) Voided ok fit = refl
 outcome_again (Grant h s t f l) NotThePost ok fit = refl
 outcome_again (Grant h s t f l) BadGrant ok fit = refl
@@ -75,6 +81,7 @@ behind : (customer number : ℕ) (body : Body) (rest : List ℕ) → drop (reque
 behind customer number (Grant h s t f l) rest = refl
 behind customer number (Draw s t) rest = refl
 behind customer number (DrawMany s t count) rest = refl
+behind customer number (Withdraw range) rest = refl
 behind customer number (Void id) rest = refl
 behind customer number (Query id) rest = refl
 

@@ -3,12 +3,12 @@ use Rattle.std.specs.Prelude.{ℕ, zero, suc, ◌+◌, ◌/◌, ◌==◌, if◌t
 use Rattle.s10_core.specs.declared.id.Id.{Id}
 use Rattle.s10_core.specs.Serial.{number_of}
 use Rattle.s10_wire.specs.declared.body.Body.{Body}
-use Rattle.s10_wire.specs.declared.body.Body.TheVariants.{Grant, Draw, Void, Query, DrawMany}
+use Rattle.s10_wire.specs.declared.body.Body.TheVariants.{Grant, Draw, Void, Query, DrawMany, Withdraw}
 use Rattle.s10_wire.specs.declared.request.Request.{Request}
 use Rattle.s10_wire.specs.declared.status.Status.{Status}
 use Rattle.s10_wire.specs.declared.status.Status.TheVariants as statuses
 use Rattle.s10_wire.specs.declared.outcome.Outcome.{Outcome}
-use Rattle.s10_wire.specs.declared.outcome.Outcome.TheVariants.{Granted, Drawn, DrawnMany, Voided, Told, NotThePost, BadGrant, Overlap, NoRange, NoneFree, NotYours, NotIssued, AlreadyVoid, NumberReused}
+use Rattle.s10_wire.specs.declared.outcome.Outcome.TheVariants.{Granted, Drawn, DrawnMany, Voided, Told, Withdrawn, NotThePost, BadGrant, Overlap, NoRange, NoneFree, NotYours, NotIssued, AlreadyVoid, NoSuchRange, Closed, NumberReused}
 use Rattle.s10_wire.specs.declared.kind.Kind.{Kind}
 use Rattle.s10_wire.specs.declared.kind.Kind.TheVariants as kinds
 use Rattle.s10_wire.specs.Kind.{kind_of, request_length}
@@ -34,6 +34,7 @@ body_in b =
     else if code == 0x82 then Draw (pair_in b 12) (pair_in b 14)
     else if code == 0x83 then Void (id_in b 12)
     else if code == 0x85 then DrawMany (pair_in b 12) (pair_in b 14) (byte b 16)
+    else if code == 0x86 then Withdraw (number b 12)
     else Query (id_in b 12)
 
 abbrev pub request_in : List ℕ → Request
@@ -49,13 +50,15 @@ done_in kinds.Grant rest = Granted (number rest 1)
 done_in kinds.Draw rest = Drawn (number rest 1) (id_in rest 5)
 done_in kinds.DrawMany rest = DrawnMany (number rest 1) (ids_in (length rest / 13) (drop 5 rest))
 done_in kinds.Void rest = Voided
+done_in kinds.Withdraw rest = Withdrawn
 done_in kinds.Query rest = Told (status_in (byte rest 1) (number rest 2))
 
 abbrev pub refusal_in : ℕ → Outcome
 refusal_in code =
     if code == 1 then NotThePost else if code == 2 then BadGrant else if code == 3 then Overlap
     else if code == 4 then NoRange else if code == 5 then NoneFree else if code == 6 then NotYours
-    else if code == 7 then NotIssued else if code == 8 then AlreadyVoid else NumberReused
+    else if code == 7 then NotIssued else if code == 8 then AlreadyVoid
+    else if code == 10 then NoSuchRange else if code == 11 then Closed else NumberReused
 
 -- the outcome, by the bytes from the outcome byte on
 unfoldable pub outcome_behind : Kind → List ℕ → Outcome

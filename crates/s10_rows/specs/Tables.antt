@@ -1,7 +1,11 @@
--- What the rows of the four tables are for a history.
-use Rattle.std.specs.Prelude.{ℕ, ◌+◌, pos, Bool, if◌then◌else◌, List, [], ◌∷◌, ◌++◌, map, IsPermutation}
+-- What the rows of the five tables are for a history.
+use Rattle.std.specs.Prelude.{ℕ, ◌+◌, pos, Bool, if◌then◌else◌, List, [], ◌∷◌, ◌++◌, map, IsPermutation, Option, Some, None, option_to_list}
 use Rattle.std.specs.Int.{w32, from_be_bytes}
 use Rattle.s10_core.specs.Letters.{letters_of}
+use Rattle.s10_wire.specs.declared.body.Body.{Body}
+use Rattle.s10_wire.specs.declared.body.Body.TheVariants.{Withdraw}
+use Rattle.s10_wire.specs.declared.outcome.Outcome.{Outcome}
+use Rattle.s10_wire.specs.declared.outcome.Outcome.TheVariants.{Withdrawn}
 use Rattle.s10_book.specs.declared.entry.Entry.{Entry}
 use Rattle.s10_book.specs.declared.range.Range.{Range}
 use Rattle.s10_book.specs.declared.issuance.Issuance.{Issuance}
@@ -11,15 +15,17 @@ use Rattle.s10_book.specs.Issues.{issues_of, last_issues, voided_after, pick_of}
 use Rattle.s10_rows.specs.declared.head_row.HeadRow.{HeadRow}
 use Rattle.s10_rows.specs.declared.range_row.RangeRow.{RangeRow}
 use Rattle.s10_rows.specs.declared.serial_row.SerialRow.{SerialRow}
+use Rattle.s10_rows.specs.declared.closed_row.ClosedRow.{ClosedRow}
 use Rattle.s10_rows.specs.CallRow.{StoredCall}
 use Rattle.s10_rows.specs.Replies.{reply_bytes}
 
--- the rows of the four tables
+-- the rows of the five tables
 pub record Tables : Type 0 where
   pub heads : List HeadRow
   pub calls : List StoredCall
   pub ranges : List RangeRow
   pub serials : List SerialRow
+  pub closed : List ClosedRow
 
 -- the same rows, in whatever order
 abbrev pub HaveSameRows : {R : Type 0} → List R → List R → Type 0
@@ -85,9 +91,23 @@ serial_row voided i = record {
 abbrev pub serial_rows : List Entry → List SerialRow
 serial_rows h = map (λ i. serial_row (voided_after i.arrival h i.id) i) (last_issues (issues_of h))
 
+-- the row that call number arrival makes of this body and this outcome: that of the range that it closes
+abbrev pub closing : ℕ → Body → Outcome → Option ClosedRow
+closing arrival (Withdraw range) Withdrawn = Some (record { num = pos range; arrival = pos arrival })
+closing arrival body outcome = None
+
+-- the rows of the ranges that the calls close, the first of them being call number arrival
+abbrev pub closed_rows_from : ℕ → List Entry → List ClosedRow
+closed_rows_from arrival [] = []
+closed_rows_from arrival (e ∷ es) = option_to_list (closing arrival e.request.body e.outcome) ++ closed_rows_from (arrival + 1) es
+
+-- the closed ranges, in order of the calls that closed them
+abbrev pub closed_rows : List Entry → List ClosedRow
+closed_rows h = closed_rows_from 1 h
+
 -- the tables that a history makes
 abbrev pub tables_of : List Entry → Terms → Tables
-tables_of h t = record { heads = head_row t ∷ []; calls = call_rows h; ranges = range_rows h; serials = serial_rows h }
+tables_of h t = record { heads = head_row t ∷ []; calls = call_rows h; ranges = range_rows h; serials = serial_rows h; closed = closed_rows h }
 
 abbrev pub no_rows : Tables
-no_rows = record { heads = []; calls = []; ranges = []; serials = [] }
+no_rows = record { heads = []; calls = []; ranges = []; serials = []; closed = [] }

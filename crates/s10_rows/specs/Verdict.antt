@@ -1,4 +1,4 @@
--- What is found of the rows of the four tables.
+-- What is found of the rows of the five tables.
 use Rattle.std.specs.Prelude.{◌≡◌, ◌≢◌, ℕ, zero, suc, ℤ, pos, List, [], ◌∷◌, length, take, slice_get, Some, ⊤}
 use Rattle.s10_book.specs.Settings.{Terms, AreTerms}
 use Rattle.s10_book.specs.History.{day_of}
@@ -7,7 +7,7 @@ use Rattle.s10_rows.specs.declared.open_fault.OpenFault.{OpenFault}
 use Rattle.s10_rows.specs.declared.open_fault.OpenFault.TheVariants.{NotALedger, Schema, Damaged, NotEmpty, Memory, Store}
 use Rattle.s10_rows.specs.declared.opened.Opened.{Opened}
 use Rattle.s10_rows.specs.CallRow.{StoredCall}
-use Rattle.s10_rows.specs.Tables.{Tables, HaveSameRows, head_row, range_rows, serial_rows}
+use Rattle.s10_rows.specs.Tables.{Tables, HaveSameRows, head_row, range_rows, serial_rows, closed_rows}
 use Rattle.s10_rows.specs.RightRows.{IsRightRow, AreRight, kept_of}
 
 -- head is one row with that schema number, and with settings in their limits
@@ -15,10 +15,11 @@ pub record IsHead (heads : List HeadRow) (schema : ℤ) (t : Terms) : Type 0 whe
   pub row : heads ≡ record (head_row t) { schema = schema } ∷ []
   pub in_limits : AreTerms t
 
--- the rows of ranges and of serials are those that the kept calls make
+-- the rows of ranges, of serials and of closed are those that the kept calls make
 pub record AreMade (tables : Tables) : Type 0 where
   pub ranges : HaveSameRows (range_rows (kept_of tables.calls)) tables.ranges
   pub serials : HaveSameRows (serial_rows (kept_of tables.calls)) tables.serials
+  pub closed : HaveSameRows (closed_rows (kept_of tables.calls)) tables.closed
 
 -- the rows, those of calls in order of arrival, are a ledger's
 pub record IsWhole (tables : Tables) (found : Opened) : Type 0 where

@@ -3,6 +3,7 @@
 
 mod call_reading;
 mod call_row;
+mod closed_row;
 mod column;
 mod head_reading;
 mod head_row;
@@ -21,6 +22,7 @@ mod usage_reading;
 
 pub use call_reading::only_call;
 pub use call_row::CallRow;
+pub use closed_row::ClosedRow;
 pub use column::pair_number;
 pub use head_reading::settings_in;
 pub use head_row::HeadRow;
@@ -31,7 +33,7 @@ pub use opened::Opened;
 pub use range_row::RangeRow;
 pub use range_write::RangeWrite;
 pub use replaying::replay_rows;
-pub use same_rows::{same_ranges, same_serials};
+pub use same_rows::{same_closed, same_ranges, same_serials};
 pub use serial_reading::only_issue;
 pub use serial_row::SerialRow;
 pub use serial_write::SerialWrite;

@@ -7,6 +7,7 @@ ghost use Rattle.s10_rows.specs.Ascending.{IsAscending};
 ghost use Rattle.s10_rows.specs.declared.serial_row.SerialRow.{SerialRow};
 ghost use Rattle.s10_rows.specs.Tables.{HaveSameRows};
 
+use crate::closed_row::ClosedRow;
 use crate::range_row::RangeRow;
 use crate::serial_row::SerialRow;
 
@@ -20,6 +21,20 @@ fn are_serials(rows: &[SerialRow], others: &[SerialRow]) -> bool
     ensures { IsTrue result ↔ (rows.now ≡ others.now) }
 {
     rows == others
+}
+
+fn are_closed(rows: &[ClosedRow], others: &[ClosedRow]) -> bool
+    ensures { IsTrue result ↔ (rows.now ≡ others.now) }
+{
+    rows == others
+}
+
+/// Whether the rows are the same closed ranges, where those that were made rise by arrival.
+pub fn same_closed(made: &[ClosedRow], mut rows: Vec<ClosedRow>) -> bool
+    ensures { IsAscending (λ a b. int_cmp a.arrival b.arrival ≡ Less) made.now → IsTrue result ↔ HaveSameRows made.now rows.items }
+{
+    rows.sort_unstable_by_key(|row| row.arrival);
+    are_closed(made, &rows)
 }
 
 /// Whether the rows are the same ranges, where those that were made rise by number.

@@ -1,4 +1,5 @@
--- The four tables of a ledger, as CREATE TABLE makes them in an empty database, each with its tree, and what may stand behind them.
+-- The five tables of a ledger, as CREATE TABLE makes them in an empty database, each with its tree, and what may stand behind them.
+-- Ledgers of earlier builds have the first four alone.
 use Rattle.std.specs.Prelude.{◌≡◌, true, false, [], ◌∷◌, Some, None, codes, List, ℕ, Bool, not, ◌&&◌, ◌||◌, ◌==◌, drop, slice_index_or}
 use Rattle.std.specs.List.{list_all}
 use Rattle.sqlite_value.specs.declared.keys.Collation.TheVariants.{Binary}
@@ -105,6 +106,22 @@ serials_table = record {
   is_counted = false;
 }
 
+abbrev pub closed_table : Table
+closed_table = record {
+  name = codes "closed";
+  tree = 6;
+  columns = integer (codes "num") ∷ integer (codes "arrival") ∷ [];
+  key = Some 0;
+  primary = 0 ∷ [];
+  uniques = [];
+  orders = [];
+  checks = [];
+  references = [];
+  computed = [];
+  stamps = record { places = []; terms = []; formats = [] };
+  is_counted = false;
+}
+
 abbrev pub calls_index : Index
 calls_index = record { name = codes "sqlite_autoindex_calls_1"; tree = 2; table = 1; columns = 2 ∷ 3 ∷ []; order = plain; is_unique = true }
 
@@ -115,17 +132,33 @@ serials_index = record { name = codes "sqlite_autoindex_serials_1"; tree = 5; ta
 abbrev pub no_schema : Schema
 no_schema = record { tables = []; indexes = []; views = [] }
 
--- the tables of a ledger, and others behind them
+-- the first four tables of a ledger, and others behind them
 abbrev pub with_others : Schema → Schema
 with_others o = record { tables = head_table ∷ calls_table ∷ ranges_table ∷ serials_table ∷ o.tables; indexes = calls_index ∷ serials_index ∷ o.indexes; views = o.views }
 
+-- closed, and others behind it
+abbrev pub closed_first : Schema → Schema
+closed_first o = record o { tables = closed_table ∷ o.tables }
+
+-- the five tables of a ledger, and others behind them
+abbrev pub with_closed : Schema → Schema
+with_closed o = with_others (closed_first o)
+
 -- the schema of a ledger that has its database for itself
 abbrev pub ledger_schema : Schema
-ledger_schema = with_others no_schema
+ledger_schema = with_closed no_schema
+
+-- and that of one of an earlier build
+abbrev pub four_tables : Schema
+four_tables = with_others no_schema
 
 -- what stands behind the first four tables and their two indexes
 abbrev pub others_in : Schema → Schema
 others_in s = record { tables = drop 4 s.tables; indexes = drop 2 s.indexes; views = s.views }
+
+-- and what stands behind the first five
+abbrev pub others_behind_closed : Schema → Schema
+others_behind_closed s = record { tables = drop 5 s.tables; indexes = drop 2 s.indexes; views = s.views }
 
 abbrev pub is_own_tree : ℕ → Bool
 is_own_tree t = (t == 0) || ((t == 1) || ((t == 3) || (t == 4)))
@@ -142,8 +175,25 @@ are_apart tables = list_all (λ t. not (is_own_tree t.tree) && refer_apart t.ref
 abbrev pub index_apart : List Index → Bool
 index_apart indexes = list_all (λ i. not (is_own_tree i.table)) indexes
 
--- The schema begins with the tables of a ledger and their indexes. No other table has a foreign key on them, and no other index is of them.
+-- The schema begins with the first four tables of a ledger and their indexes. No other table has a foreign key on them, and no other
+-- index is of them.
 pub record IsLedgerSchema (s : Schema) : Type 0 where
   pub is : s ≡ with_others (others_in s)
   pub tables : are_apart (drop 4 s.tables) ≡ true
   pub indexes : index_apart (drop 2 s.indexes) ≡ true
+
+abbrev pub refer_apart_from_closed : List Reference → Bool
+refer_apart_from_closed refs = list_all (λ r. not (same_name (codes "closed") r.parent)) refs
+
+abbrev pub are_apart_from_closed : List Table → Bool
+are_apart_from_closed tables = list_all (λ t. not (t.tree == 6) && refer_apart_from_closed t.references) tables
+
+abbrev pub index_apart_from_closed : List Index → Bool
+index_apart_from_closed indexes = list_all (λ i. not (i.table == 6)) indexes
+
+-- The schema begins with the five tables of a ledger. No table behind them has a foreign key on `closed` either, and no index is of it.
+pub record IsClosedSchema (s : Schema) : Type 0 where
+  pub ledger : IsLedgerSchema s
+  pub is : s ≡ with_closed (others_behind_closed s)
+  pub tables : are_apart_from_closed (drop 5 s.tables) ≡ true
+  pub indexes : index_apart_from_closed s.indexes ≡ true

@@ -1,4 +1,4 @@
-//! The declared tables are compared with a ledger's.
+//! The declared tables are compared with the first four of a ledger.
 
 ghost use Rattle.std.specs.Prelude.{◌≡◌, not, ◌&&◌, ◌↔◌, ℕ, pos, true, [], ◌∷◌, drop, IsTrue, IfSome, IfNone};
 ghost use Rattle.sqlite_value.specs.declared.keys.Collation.TheVariants.{Binary};
@@ -29,7 +29,7 @@ fn is_column(column: &Column, name: &[u8], kind: Kind) -> bool
         && column.collation == Collation::Binary
 }
 
-fn is_integer(column: &Column, name: &[u8]) -> bool
+pub(crate) fn is_integer(column: &Column, name: &[u8]) -> bool
     ensures { IsTrue result ↔ (column.now ≡ integer name.now) }
 {
     is_column(column, name, Kind::Integer)
@@ -42,7 +42,7 @@ fn is_unstamped(stamps: &Stamps) -> bool
 }
 
 // Whether the table has no rule but its keys and its checks.
-fn is_bare(table: &Table) -> bool
+pub(crate) fn is_bare(table: &Table) -> bool
     ensures { IsTrue result ↔ IsBare table.now }
 {
     table.references.is_empty()
@@ -115,7 +115,7 @@ fn are_key_one(terms: &Terms) -> bool
     is_key_one(terms.nodes.as_slice(), *root)
 }
 
-fn has_no_check(table: &Table) -> bool
+pub(crate) fn has_no_check(table: &Table) -> bool
     ensures { IsTrue result ↔ (table.now.checks ≡ []) }
 {
     table.checks.roots.is_empty()
@@ -127,20 +127,20 @@ fn are_places(places: &Items<usize>, expected: &[usize]) -> bool
     places.as_slice() == expected
 }
 
-fn is_called(table: &Table, name: &[u8], tree: u32) -> bool
+pub(crate) fn is_called(table: &Table, name: &[u8], tree: u32) -> bool
     ensures { IsTrue result ↔ ((table.now.name ≡ name.now) × (table.now.tree ≡ tree)) }
 {
     table.name.as_slice() == name && table.tree == tree
 }
 
-fn has_key(table: &Table, key: Option<usize>, primary: &[usize]) -> bool
+pub(crate) fn has_key(table: &Table, key: Option<usize>, primary: &[usize]) -> bool
     ensures { IsTrue result ↔ ((table.now.key ≡ key) × (table.now.primary ≡ primary.now)) }
 {
     table.key == key && are_places(&table.primary, primary)
 }
 
 // Whether nothing but the primary key is unique.
-fn has_no_unique(table: &Table) -> bool
+pub(crate) fn has_no_unique(table: &Table) -> bool
     ensures { IsTrue result ↔ ((table.now.uniques ≡ []) × (table.now.orders ≡ [])) }
 {
     table.uniques.is_empty() && table.orders.is_empty()
@@ -364,7 +364,7 @@ fn are_indexes(indexes: &[Index]) -> bool
         && index_apart(others)
 }
 
-/// Whether the first tables are declared as those of a ledger are, and no other has a part in them.
+/// Whether the first four tables are declared as those of a ledger are, and no other has a part in them.
 pub fn is_ledger_schema(schema: &Schema) -> bool
     ensures { IsTrue result ↔ IsLedgerSchema schema.now }
 {

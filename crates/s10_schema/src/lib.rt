@@ -1,6 +1,10 @@
 //! The declared tables of a ledger, and what may stand beside them in its database.
 #![tactic(auto)]
 
+mod closed_schema;
 mod ledger_schema;
+mod old_schema;
 
+pub use closed_schema::is_closed_schema;
 pub use ledger_schema::is_ledger_schema;
+pub use old_schema::is_old_schema;

@@ -17,12 +17,12 @@ use Rattle.sqlite.specs.State.{State, mode_of, Executes}
 use Rattle.sqlite.proofs.Callers.{statement_of, runs_as, one_step}
 use Rattle.s10_rows.specs.declared.range_row.RangeRow.{RangeRow}
 use Rattle.s10_rows.specs.declared.serial_row.SerialRow.{SerialRow}
-use Rattle.s10_schema.specs.Schema.{with_others, others_in, ranges_table, serials_table}
+use Rattle.s10_schema.specs.Schema.{with_closed, closed_first, others_behind_closed, ranges_table, serials_table}
 use Rattle.s10_rows.specs.Tables.{Tables}
 use Rattle.s10_statements.specs.Shown.{HasTables, IsNumbered, shown_range, range_columns, shown_serial, serial_columns}
 use Rattle.s10_statements.specs.Statements.{grant_text, issue_text}
 use Rattle.s10_statements.proofs.WriteTexts.{grant_terms, grant_is, grant_plain, issue_terms, issue_is, issue_plain}
-use Rattle.s10_statements.proofs.Apart.{no_works, not_ranges, not_serials, is_as_it_was}
+use Rattle.s10_statements.proofs.Apart.{no_works, not_ranges, not_serials, is_as_it_was, behind_apart}
 use Rattle.s10_statements.proofs.PutLemmas.{cast_int, cast_null, went, same_value, put_fresh, one_fresh}
 use Rattle.s10_statements.proofs.GoneLemmas.{all_moved}
 use Rattle.s10_statements.proofs.KeepLemmas.{one_more}
@@ -44,6 +44,9 @@ one_three e = omega arith
 pub four_three : ◌≢◌ {A = ℕ} 4 3
 four_three e = omega arith
 
+pub six_three : ◌≢◌ {A = ℕ} 6 3
+six_three e = omega arith
+
 zero_four : ◌≢◌ {A = ℕ} 0 4
 zero_four e = omega arith
 
@@ -53,23 +56,26 @@ one_four e = omega arith
 three_four : ◌≢◌ {A = ℕ} 3 4
 three_four e = omega arith
 
+six_four : ◌≢◌ {A = ℕ} 6 4
+six_four e = omega arith
+
 pub adds_range : (old new : State) (r : RangeRow) (count : ℕ) (tables : Tables) → HasTables old.now tables → Executes grant_text (shown_range r) old new (Ok count)
     → HasTables new.now (record tables { ranges = tables.ranges ++ r ∷ [] })
 adds_range old new r count tables held h =
     let params = shown_range r in
     let db = old.now.trees in
     let has = held.schema.is in
-    let o = others_in old.now.schema in
+    let o = others_behind_closed old.now.schema in
     let command = Insert 2 (Values grant_terms 7) in
-    let w = runs_as grant_text params old new (with_others o) has command (grant_is o) (grant_plain o) count h in
-    let text = statement_of grant_text (understood (with_others o) grant_text) in
+    let w = runs_as grant_text params old new (with_closed o) has command (grant_is (closed_first o)) (grant_plain (closed_first o)) count h in
+    let text = statement_of grant_text (understood (with_closed o) grant_text) in
     let done = went (subst (λ s. Does old.step_limit (mode_of old) params (record old.now { schema = s }) text None command (Ok (w.tally, new.now))) has w.changed) in
     let now = ap (λ (p : Tally × Database). p.1) (same_value (went (went done.2).2).2) in
     let given = went done.1 in
     let written = went (went given.2).2 in
     let counted = went written.2 in
     let trees : done.0.trees ≡ written.0 = ap (λ (it : Written). it.trees) (same_value counted.2) ∙ same_value counted.1 in
-    let applied = one_step (with_others o) _ db written.0 (edit_of db ranges_table [] Chosen 0 given.0) (no_works 3 not_ranges o held.schema.tables (mode_of old).keys 0 [] (edit_of db ranges_table [] Chosen 0 given.0).news) written.1 in
+    let applied = one_step (with_closed o) _ db written.0 (edit_of db ranges_table [] Chosen 0 given.0) (no_works 3 not_ranges (closed_first o) (behind_apart old.now.schema held.schema) (mode_of old).keys 0 [] (edit_of db ranges_table [] Chosen 0 given.0).news) written.1 in
     let news : (edit_of db ranges_table [] Chosen 0 given.0).news ≡ stored_range r ∷ [] = ap (λ all. (edit_of db ranges_table [] Chosen 0 all).news) given.1.1 ∙ rw (cast_int, cast_null, cast_int, cast_int, cast_int, cast_int, cast_int) in
     let fresh : are_fresh (db 3) (stored_range r ∷ []) ≡ true = subst (λ n. are_fresh (db 3) n ≡ true) news applied.fresh in
     let edit : edited db (edit_of db ranges_table [] Chosen 0 given.0) ≡ put_row (stored_range r) (db 3) = ap (λ all. edited db (edit_of db ranges_table [] Chosen 0 all)) given.1.1 ∙ rw (cast_int, cast_null, cast_int, cast_int, cast_int, cast_int, cast_int) in
@@ -82,6 +88,7 @@ adds_range old new r count tables held h =
       ranges = ∥∥₁_map held.ranges (λ p. one_more shown_range range_columns tables.ranges r (db 3) (new.now.trees 3) (stored_range r) refl put p);
       serials = rw (at 4 ∙ applied.tables.1.1.1.0 four_three) held.serials;
       numbered = rw (at 4 ∙ applied.tables.1.1.1.0 four_three) held.numbered;
+      closed = rw (at 6 ∙ applied.tables.1.1.1.1.0 six_three) held.closed;
     }
 
 pub adds_serial : (old new : State) (r : SerialRow) (count : ℕ) (tables : Tables) → HasTables old.now tables → Executes issue_text (shown_serial r) old new (Ok count)
@@ -90,10 +97,10 @@ adds_serial old new r count tables held h =
     let params = shown_serial r in
     let db = old.now.trees in
     let has = held.schema.is in
-    let o = others_in old.now.schema in
+    let o = others_behind_closed old.now.schema in
     let command = Insert 3 (Values issue_terms 8) in
-    let w = runs_as issue_text params old new (with_others o) has command (issue_is o) (issue_plain o) count h in
-    let text = statement_of issue_text (understood (with_others o) issue_text) in
+    let w = runs_as issue_text params old new (with_closed o) has command (issue_is (closed_first o)) (issue_plain (closed_first o)) count h in
+    let text = statement_of issue_text (understood (with_closed o) issue_text) in
     let done = went (subst (λ s. Does old.step_limit (mode_of old) params (record old.now { schema = s }) text None command (Ok (w.tally, new.now))) has w.changed) in
     let now = ap (λ (p : Tally × Database). p.1) (same_value (went (went done.2).2).2) in
     let given = went done.1 in
@@ -101,7 +108,7 @@ adds_serial old new r count tables held h =
     let counted = went written.2 in
     let trees : done.0.trees ≡ written.0 = ap (λ (it : Written). it.trees) (same_value counted.2) ∙ same_value counted.1 in
     let row : Row = stored_serial (next_rowid (db 4)) r in
-    let applied = one_step (with_others o) _ db written.0 (edit_of db serials_table [] Chosen 0 given.0) (no_works 4 not_serials o held.schema.tables (mode_of old).keys 0 [] (edit_of db serials_table [] Chosen 0 given.0).news) written.1 in
+    let applied = one_step (with_closed o) _ db written.0 (edit_of db serials_table [] Chosen 0 given.0) (no_works 4 not_serials (closed_first o) (behind_apart old.now.schema held.schema) (mode_of old).keys 0 [] (edit_of db serials_table [] Chosen 0 given.0).news) written.1 in
     let news : (edit_of db serials_table [] Chosen 0 given.0).news ≡ row ∷ [] = ap (λ all. (edit_of db serials_table [] Chosen 0 all).news) given.1.1 ∙ rw (cast_null, cast_int, cast_int, cast_int, cast_int, cast_int, cast_int, cast_int) in
     let fresh : are_fresh (db 4) (row ∷ []) ≡ true = subst (λ n. are_fresh (db 4) n ≡ true) news applied.fresh in
     let edit : edited db (edit_of db serials_table [] Chosen 0 given.0) ≡ put_row row (db 4) = ap (λ all. edited db (edit_of db serials_table [] Chosen 0 all)) given.1.1 ∙ rw (cast_null, cast_int, cast_int, cast_int, cast_int, cast_int, cast_int, cast_int) in
@@ -114,4 +121,5 @@ adds_serial old new r count tables held h =
       ranges = rw (at 3 ∙ applied.tables.1.1.0 three_four) held.ranges;
       serials = ∥∥₁_map held.serials (λ p. one_more shown_serial serial_columns tables.serials r (db 4) (new.now.trees 4) row refl put p);
       numbered = all_moved IsNumbered (row ∷ db 4) (new.now.trees 4) put (refl, held.numbered);
+      closed = rw (at 6 ∙ applied.tables.1.1.1.1.0 six_four) held.closed;
     }

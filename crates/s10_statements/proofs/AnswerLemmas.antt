@@ -19,12 +19,13 @@ use Rattle.sqlite.specs.State.{State, Shown}
 use Rattle.sqlite.proofs.Callers.{reads_as}
 use Rattle.s10_rows.specs.declared.range_row.RangeRow.{RangeRow}
 use Rattle.s10_rows.specs.declared.serial_row.SerialRow.{SerialRow}
+use Rattle.s10_rows.specs.declared.closed_row.ClosedRow.{ClosedRow}
 use Rattle.s10_rows.specs.CallRow.{StoredCall}
-use Rattle.s10_schema.specs.Schema.{IsLedgerSchema, with_others, others_in}
-use Rattle.s10_statements.specs.Shown.{shown_call, shown_range, shown_serial, head_columns, call_columns, range_columns, serial_columns}
+use Rattle.s10_schema.specs.Schema.{IsLedgerSchema, IsClosedSchema, with_others, with_closed, others_in, others_behind_closed}
+use Rattle.s10_statements.specs.Shown.{shown_call, shown_range, shown_serial, shown_closed, head_columns, call_columns, range_columns, serial_columns, closed_columns}
 use Rattle.s10_rows.specs.Selected.{has_key_columns, arrives_between, is_within}
-use Rattle.s10_statements.specs.Statements.{head_text, key_text, arrivals_text, calls_text, ranges_text, within_text, serials_text}
-use Rattle.s10_statements.proofs.Texts.{head_query, head_is, head_plain, head_unlisted, key_query, key_is, key_plain, key_unlisted, arrivals_query, arrivals_is, arrivals_plain, arrivals_unlisted, calls_query, calls_is, calls_plain, calls_unlisted, ranges_query, ranges_is, ranges_plain, ranges_unlisted, within_query, within_is, within_plain, within_unlisted, serials_query, serials_is, serials_plain, serials_unlisted}
+use Rattle.s10_statements.specs.Statements.{head_text, key_text, arrivals_text, calls_text, ranges_text, within_text, serials_text, closed_text}
+use Rattle.s10_statements.proofs.Texts.{head_query, head_is, head_plain, head_unlisted, key_query, key_is, key_plain, key_unlisted, arrivals_query, arrivals_is, arrivals_plain, arrivals_unlisted, calls_query, calls_is, calls_plain, calls_unlisted, ranges_query, ranges_is, ranges_plain, ranges_unlisted, within_query, within_is, within_plain, within_unlisted, serials_query, serials_is, serials_plain, serials_unlisted, closed_query, closed_is, closed_plain, closed_unlisted}
 use Rattle.s10_statements.proofs.ReadLemmas.{kept_are, rows_are, rows_rise, selected}
 
 -- ---- values read back
@@ -51,6 +52,9 @@ range_from v = record { num = int_in (column v 0); holder = int_in (column v 1);
 
 abbrev pub serial_from : Row → SerialRow
 serial_from v = record { pair = int_in (column v 0); serial = int_in (column v 1); arrival = int_in (column v 2); day = int_in (column v 3); customer = int_in (column v 4); number = int_in (column v 5); voided = int_in (column v 6) }
+
+abbrev pub closed_from : Row → ClosedRow
+closed_from v = record { num = int_in (column v 0); arrival = int_in (column v 1) }
 
 abbrev pub wide_columns : Row → Row
 wide_columns r = column r 1 ∷ column r 2 ∷ column r 3 ∷ column r 4 ∷ column r 5 ∷ column r 6 ∷ column r 7 ∷ column r 0 ∷ []
@@ -167,6 +171,27 @@ module _ (params : Row) (old new : State) (rows : List Row) (has : IsLedgerSchem
       (ascending_weaker _ (λ a b. output_cmp ranges_query (first_key (shown_range a), shown_range a) (first_key (shown_range b), shown_range b) ≡ Less) (λ a b less. let e : value_cmp (Int a.num) (Int b.num) ≡ Less = value_cmp-Int a.num b.num ∙ less in rw e) xs up)
       (subst (IsPermutation (map shown_range xs)) (sym (all_pass (map range_columns (old.now.trees 3)))) same) a.kept a.ordered rows
       (kept_are params ranges_query (old.now.trees 3) range_columns first_key always (λ r. refl) (λ r. refl) a.staged a.kept a.grouped a.distinct) a.same a.sorted a.shown
+
+module _ (params : Row) (old new : State) (rows : List Row) (has : IsClosedSchema old.now.schema) where
+  closed_answers : Shown closed_text params old new rows → IsAnswer closed_query (overlay old.now.trees []) params rows
+  closed_answers h =
+      let o : Schema = others_behind_closed old.now.schema in
+      (reads_as closed_text params old new (with_closed o) has.is _ (closed_is o) (closed_plain o) (closed_unlisted o) rows h).answer Null
+
+  pub closed_shows : Shown closed_text params old new rows → IsPermutation (map closed_columns (old.now.trees 6)) rows
+  closed_shows h =
+      let a = closed_answers h in
+      subst (λ vs. IsPermutation vs rows) (all_pass (map closed_columns (old.now.trees 6))) (rows_are params closed_query (old.now.trees 6) closed_columns first_key always (λ r. refl) (λ r. refl) a.kept a.ordered rows
+      (kept_are params closed_query (old.now.trees 6) closed_columns first_key always (λ r. refl) (λ r. refl) a.staged a.kept a.grouped a.distinct) a.same a.shown)
+
+  -- in order of their key
+  pub closed_rise : (xs : List ClosedRow) → IsAscending (λ a b. int_cmp a.num b.num ≡ Less) xs → IsPermutation (map shown_closed xs) (map closed_columns (old.now.trees 6)) → Shown closed_text params old new rows → rows ≡ map shown_closed xs
+  closed_rise xs up same h =
+      let a = closed_answers h in
+      rows_rise params closed_query (old.now.trees 6) closed_columns first_key always (λ r. refl) (λ r. refl) shown_closed xs
+      (ascending_weaker _ (λ a b. output_cmp closed_query (first_key (shown_closed a), shown_closed a) (first_key (shown_closed b), shown_closed b) ≡ Less) (λ a b less. let e : value_cmp (Int a.num) (Int b.num) ≡ Less = value_cmp-Int a.num b.num ∙ less in rw e) xs up)
+      (subst (IsPermutation (map shown_closed xs)) (sym (all_pass (map closed_columns (old.now.trees 6)))) same) a.kept a.ordered rows
+      (kept_are params closed_query (old.now.trees 6) closed_columns first_key always (λ r. refl) (λ r. refl) a.staged a.kept a.grouped a.distinct) a.same a.sorted a.shown
 
 -- ---- typed rows
 

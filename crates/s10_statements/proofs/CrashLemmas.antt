@@ -8,7 +8,7 @@ use Rattle.sqlite.specs.Given.{IsPlain}
 use Rattle.sqlite.specs.Listing.{understood}
 use Rattle.sqlite.specs.State.{State, HasCleanDisk, Survives, CommitsShowing}
 use Rattle.s10_rows.specs.Tables.{Tables}
-use Rattle.s10_schema.specs.Schema.{IsLedgerSchema}
+use Rattle.s10_schema.specs.Schema.{IsClosedSchema}
 use Rattle.s10_statements.specs.Shown.{HasTables}
 
 pub first : {A B : Type 0} → ¬ B → A ⊎ B → A
@@ -33,8 +33,8 @@ pub spared : (old new : State) → Survives old new (λ _. ⊥) → HasCleanDisk
 spared old new it clean db left = first (λ x. x) (it.crash clean db left)
 
 -- the trees that were shown, under the declarations of a ledger
-pub tables_left : (shown : Database) (schema : Schema) (db : Trees) (tables : Tables) → IsLedgerSchema schema → db ≡ shown.trees → HasTables shown tables
+pub tables_left : (shown : Database) (schema : Schema) (db : Trees) (tables : Tables) → IsClosedSchema schema → db ≡ shown.trees → HasTables shown tables
     → HasTables (record { schema = schema; trees = db }) tables
 tables_left shown schema db tables has is it =
     subst (λ (trees : Trees). HasTables (record { schema = schema; trees = trees }) tables) (sym is)
-    (record { schema = has; heads = it.heads; calls = it.calls; ranges = it.ranges; serials = it.serials; numbered = it.numbered })
+    (record { schema = has; heads = it.heads; calls = it.calls; ranges = it.ranges; serials = it.serials; numbered = it.numbered; closed = it.closed })

@@ -14,15 +14,16 @@ use Rattle.sqlite.specs.State.{State, Shown}
 use Rattle.s10_rows.specs.declared.head_row.HeadRow.{HeadRow}
 use Rattle.s10_rows.specs.declared.range_row.RangeRow.{RangeRow}
 use Rattle.s10_rows.specs.declared.serial_row.SerialRow.{SerialRow}
+use Rattle.s10_rows.specs.declared.closed_row.ClosedRow.{ClosedRow}
 use Rattle.s10_rows.specs.CallRow.{StoredCall}
-use Rattle.s10_schema.specs.Schema.{IsLedgerSchema}
+use Rattle.s10_schema.specs.Schema.{IsLedgerSchema, IsClosedSchema}
 use Rattle.s10_rows.specs.Tables.{Tables, HaveSameRows}
-use Rattle.s10_statements.specs.Shown.{HasTables, shown_head, shown_call, shown_range, shown_serial, head_columns, call_columns, range_columns, serial_columns, serial_front, IsNumbered}
+use Rattle.s10_statements.specs.Shown.{HasTables, shown_head, shown_call, shown_range, shown_serial, shown_closed, head_columns, call_columns, range_columns, serial_columns, closed_columns, serial_front, IsNumbered}
 use Rattle.s10_rows.specs.Selected.{has_key_columns, arrives_between, is_within}
-use Rattle.s10_statements.specs.Statements.{head_text, key_text, arrivals_text, calls_text, ranges_text, within_text, serials_text}
+use Rattle.s10_statements.specs.Statements.{head_text, key_text, arrivals_text, calls_text, ranges_text, within_text, serials_text, closed_text}
 use Rattle.s10_statements.proofs.ReadLemmas.{read_back}
 use Rattle.s10_statements.proofs.GoneLemmas.{all_moved, all_of_map}
-use Rattle.s10_statements.proofs.AnswerLemmas.{wide_columns, call_from, range_from, head_shows, key_shows, key_params, key_test, key_selects, arrivals_shows, arrivals_params, arrivals_test, arrivals_selects, calls_shows, calls_rise, ranges_shows, ranges_rise, within_shows, within_params, within_test, within_selects, serials_shows}
+use Rattle.s10_statements.proofs.AnswerLemmas.{wide_columns, call_from, range_from, head_shows, key_shows, key_params, key_test, key_selects, arrivals_shows, arrivals_params, arrivals_test, arrivals_selects, calls_shows, calls_rise, ranges_shows, ranges_rise, within_shows, within_params, within_test, within_selects, serials_shows, closed_from, closed_shows, closed_rise}
 
 all_in_turn : {X : Type 0} (P : X → Type 0) (xs : List X) → All P xs → AllByRecursion P xs
 all_in_turn P [] each = tt
@@ -64,23 +65,33 @@ module _ (params : Row) (old new : State) (rows : List Row) (has : IsLedgerSchem
       let same : rows ≡ map shown_range tables.ranges = ∥∥₁_elim held.ranges (rows_set _ _) (λ p. ranges_rise params old new rows has tables.ranges up p h) in
       read_back shown_range range_from (λ x. refl) found tables.ranges (typed ∙ same)
 
+module _ (params : Row) (old new : State) (rows : List Row) (has : IsClosedSchema old.now.schema) where
+  pub closed_found : (found : List ClosedRow) → Shown closed_text params old new rows → map shown_closed found ≡ rows → HaveSameRows (map shown_closed found) (map closed_columns (old.now.trees 6))
+  closed_found found h typed = whole shown_closed (map closed_columns (old.now.trees 6)) rows found (closed_shows params old new rows has h) typed
+
+  pub closed_in_order : (tables : Tables) → HasTables old.now tables → IsAscending (λ a b. int_cmp a.num b.num ≡ Less) tables.closed → (found : List ClosedRow) → Shown closed_text params old new rows
+      → map shown_closed found ≡ rows → found ≡ tables.closed
+  closed_in_order tables held up found h typed =
+      let same : rows ≡ map shown_closed tables.closed = ∥∥₁_elim held.closed (rows_set _ _) (λ p. closed_rise params old new rows has tables.closed up p h) in
+      read_back shown_closed closed_from (λ x. refl) found tables.closed (typed ∙ same)
+
 pub key_found : (customer number : ℕ) (old new : State) (rows : List Row) → (tables : Tables) → HasTables old.now tables → (found : List StoredCall) → Shown key_text (key_params customer number) old new rows
     → map shown_call found ≡ rows → HaveSameRows (filter (has_key_columns customer number) tables.calls) found
 key_found customer number old new rows tables held found h typed =
     let shows : IsPermutation (filter (key_test (key_params customer number)) (map call_columns (old.now.trees 1))) (map shown_call found) =
-    subst (IsPermutation (filter (key_test (key_params customer number)) (map call_columns (old.now.trees 1)))) (sym typed) (key_shows (key_params customer number) old new rows held.schema h) in
+    subst (IsPermutation (filter (key_test (key_params customer number)) (map call_columns (old.now.trees 1)))) (sym typed) (key_shows (key_params customer number) old new rows held.schema.ledger h) in
     ∥∥₁_map held.calls (λ p. key_selects customer number tables.calls found (map call_columns (old.now.trees 1)) p shows)
 
 pub arrivals_found : (low high : ℤ) (old new : State) (rows : List Row) → (tables : Tables) → HasTables old.now tables → (found : List StoredCall) → Shown arrivals_text (arrivals_params low high) old new rows
     → map shown_call found ≡ rows → HaveSameRows (filter (arrives_between low high) tables.calls) found
 arrivals_found low high old new rows tables held found h typed =
     let shows : IsPermutation (filter (arrivals_test (arrivals_params low high)) (map call_columns (old.now.trees 1))) (map shown_call found) =
-    subst (IsPermutation (filter (arrivals_test (arrivals_params low high)) (map call_columns (old.now.trees 1)))) (sym typed) (arrivals_shows (arrivals_params low high) old new rows held.schema h) in
+    subst (IsPermutation (filter (arrivals_test (arrivals_params low high)) (map call_columns (old.now.trees 1)))) (sym typed) (arrivals_shows (arrivals_params low high) old new rows held.schema.ledger h) in
     ∥∥₁_map held.calls (λ p. arrivals_selects low high tables.calls found (map call_columns (old.now.trees 1)) p shows)
 
 pub within_found : (pair low high : ℤ) (old new : State) (rows : List Row) → (tables : Tables) → HasTables old.now tables → (found : List SerialRow) → Shown within_text (within_params pair low high) old new rows
     → map shown_serial found ≡ rows → HaveSameRows (filter (is_within pair low high) tables.serials) found
 within_found pair low high old new rows tables held found h typed =
     let shows : IsPermutation (filter (within_test (within_params pair low high)) (map serial_columns (old.now.trees 4))) (map shown_serial found) =
-    subst (IsPermutation (filter (within_test (within_params pair low high)) (map serial_columns (old.now.trees 4)))) (sym typed) (within_shows (within_params pair low high) old new rows held.schema h) in
+    subst (IsPermutation (filter (within_test (within_params pair low high)) (map serial_columns (old.now.trees 4)))) (sym typed) (within_shows (within_params pair low high) old new rows held.schema.ledger h) in
     ∥∥₁_map held.serials (λ p. within_selects pair low high tables.serials found (map serial_columns (old.now.trees 4)) p shows)

@@ -20,12 +20,12 @@ use Rattle.sqlite.specs.Listing.{understood}
 use Rattle.sqlite.specs.State.{State, mode_of, Executes}
 use Rattle.sqlite.proofs.Callers.{command_of, statement_of, runs_as, one_step}
 use Rattle.s10_book.specs.Settings.{Terms}
-use Rattle.s10_schema.specs.Schema.{with_others, others_in, head_table}
+use Rattle.s10_schema.specs.Schema.{with_others, with_closed, closed_first, others_behind_closed, head_table}
 use Rattle.s10_rows.specs.Tables.{Tables, head_row}
 use Rattle.s10_statements.specs.Shown.{HasTables, shown_head, head_columns}
 use Rattle.s10_statements.specs.Statements.{settings_text}
 use Rattle.s10_statements.proofs.KeepLemmas.{one_more}
-use Rattle.s10_statements.proofs.Apart.{no_works, not_head, is_as_it_was}
+use Rattle.s10_statements.proofs.Apart.{no_works, not_head, is_as_it_was, behind_apart}
 use Rattle.s10_statements.proofs.PutLemmas.{cast_int, cast_null, went, same_value, put_fresh, one_fresh}
 
 abbrev settings_terms : List Term
@@ -55,23 +55,26 @@ three_zero e = omega arith
 four_zero : ◌≢◌ {A = ℕ} 4 0
 four_zero e = omega arith
 
+six_zero : ◌≢◌ {A = ℕ} 6 0
+six_zero e = omega arith
+
 pub begins : (old new : State) (t : Terms) (count : ℕ) (tables : Tables) → HasTables old.now tables → Executes settings_text (given_settings t) old new (Ok count)
     → HasTables new.now (record tables { heads = tables.heads ++ head_row t ∷ [] })
 begins old new t count tables held h =
     let params = given_settings t in
     let db = old.now.trees in
     let has = held.schema.is in
-    let o = others_in old.now.schema in
+    let o = others_behind_closed old.now.schema in
     let command = Insert 0 (Values settings_terms 5) in
-    let w = runs_as settings_text params old new (with_others o) has command (settings_is o) (settings_plain o) count h in
-    let text = statement_of settings_text (understood (with_others o) settings_text) in
+    let w = runs_as settings_text params old new (with_closed o) has command (settings_is (closed_first o)) (settings_plain (closed_first o)) count h in
+    let text = statement_of settings_text (understood (with_closed o) settings_text) in
     let done = went (subst (λ s. Does old.step_limit (mode_of old) params (record old.now { schema = s }) text None command (Ok (w.tally, new.now))) has w.changed) in
     let now = ap (λ (p : Tally × Database). p.1) (same_value (went (went done.2).2).2) in
     let given = went done.1 in
     let written = went (went given.2).2 in
     let counted = went written.2 in
     let trees : done.0.trees ≡ written.0 = ap (λ (it : Written). it.trees) (same_value counted.2) ∙ same_value counted.1 in
-    let applied = one_step (with_others o) _ db written.0 (edit_of db head_table [] Chosen 0 given.0) (no_works 0 not_head o held.schema.tables (mode_of old).keys 0 [] (edit_of db head_table [] Chosen 0 given.0).news) written.1 in
+    let applied = one_step (with_closed o) _ db written.0 (edit_of db head_table [] Chosen 0 given.0) (no_works 0 not_head (closed_first o) (behind_apart old.now.schema held.schema) (mode_of old).keys 0 [] (edit_of db head_table [] Chosen 0 given.0).news) written.1 in
     let news : (edit_of db head_table [] Chosen 0 given.0).news ≡ stored t ∷ [] = ap (λ all. (edit_of db head_table [] Chosen 0 all).news) given.1.1 ∙ rw (cast_int, cast_null, cast_int, cast_int) in
     let fresh : are_fresh (db 0) (stored t ∷ []) ≡ true = subst (λ n. are_fresh (db 0) n ≡ true) news applied.fresh in
     let edit : edited db (edit_of db head_table [] Chosen 0 given.0) ≡ put_row (stored t) (db 0) = ap (λ all. edited db (edit_of db head_table [] Chosen 0 all)) given.1.1 ∙ rw (cast_int, cast_null, cast_int, cast_int) in
@@ -84,6 +87,7 @@ begins old new t count tables held h =
       ranges = rw (at 3 ∙ applied.tables.1.1.0 three_zero) held.ranges;
       serials = rw (at 4 ∙ applied.tables.1.1.1.0 four_zero) held.serials;
       numbered = rw (at 4 ∙ applied.tables.1.1.1.0 four_zero) held.numbered;
+      closed = rw (at 6 ∙ applied.tables.1.1.1.1.0 six_zero) held.closed;
     }
 
 -- and nothing else is declared than before
@@ -92,10 +96,10 @@ pub as_declared : (old new : State) (t : Terms) (count : ℕ) (tables : Tables) 
 as_declared old new t count tables held h =
     let params = given_settings t in
     let has = held.schema.is in
-    let o = others_in old.now.schema in
+    let o = others_behind_closed old.now.schema in
     let command = Insert 0 (Values settings_terms 5) in
-    let w = runs_as settings_text params old new (with_others o) has command (settings_is o) (settings_plain o) count h in
-    let text = statement_of settings_text (understood (with_others o) settings_text) in
+    let w = runs_as settings_text params old new (with_closed o) has command (settings_is (closed_first o)) (settings_plain (closed_first o)) count h in
+    let text = statement_of settings_text (understood (with_closed o) settings_text) in
     let done = went (subst (λ s. Does old.step_limit (mode_of old) params (record old.now { schema = s }) text None command (Ok (w.tally, new.now))) has w.changed) in
     let now = ap (λ (p : Tally × Database). p.1) (same_value (went (went done.2).2).2) in
     ap (λ (d : Database). d.schema) now ∙ sym has

@@ -44,13 +44,13 @@ use Rattle.sqlite.specs.State.{State, mode_of, Executes}
 use Rattle.sqlite.proofs.Callers.{statement_of, runs_as, one_step, one_permutation}
 use Rattle.s10_rows.specs.declared.serial_row.SerialRow.{SerialRow}
 use Rattle.s10_rows.specs.declared.serial_write.SerialWrite.TheVariants.{Again}
-use Rattle.s10_schema.specs.Schema.{with_others, others_in, are_apart, index_apart, serials_table}
+use Rattle.s10_schema.specs.Schema.{with_closed, closed_first, others_behind_closed, are_apart, index_apart, serials_table}
 use Rattle.s10_rows.specs.Tables.{Tables}
 use Rattle.s10_rows.specs.Kept.{is_at, with_serial}
 use Rattle.s10_statements.specs.Shown.{HasTables, shown_serial, serial_columns, IsNumbered}
 use Rattle.s10_statements.specs.Statements.{again_text}
 use Rattle.s10_statements.proofs.WriteTexts.{issue_terms, again_is, again_plain, issue_upsert, update_query}
-use Rattle.s10_statements.proofs.Apart.{no_works, none_shares, not_serials, is_as_it_was}
+use Rattle.s10_statements.proofs.Apart.{no_works, none_shares, not_serials, is_as_it_was, behind_apart}
 use Rattle.s10_statements.proofs.ReadLemmas.{filter_each, kept_are, rows_are}
 use Rattle.s10_statements.proofs.PutLemmas.{cast_int, cast_null, went, same_value, put_fresh, one_fresh}
 use Rattle.s10_statements.proofs.KeepLemmas.{one_more}
@@ -64,6 +64,9 @@ one_four e = omega arith
 
 three_four : ◌≢◌ {A = ℕ} 3 4
 three_four e = omega arith
+
+six_four : ◌≢◌ {A = ℕ} 6 4
+six_four e = omega arith
 
 -- whether the columns are those of the row's identifier
 abbrev pub at_key : SerialRow → Row → Bool
@@ -81,12 +84,13 @@ pub record Upserted (old new : Trees) (r : SerialRow) : Type 0 where
   pub head : new 0 ≡ old 0
   pub calls : new 1 ≡ old 1
   pub ranges : new 3 ≡ old 3
+  pub closed : new 6 ≡ old 6
 
 abbrev pub new_row : ℤ → SerialRow → Row
 new_row id r = Int id ∷ shown_serial r
 
 abbrev pub task_of : Schema → Option ℕ → Row → Task
-task_of o limit params = record { limit = limit; keys = Enforced; schema = with_others o; table = serials_table; params = params }
+task_of o limit params = record { limit = limit; keys = Enforced; schema = with_closed o; table = serials_table; params = params }
 
 cast_same : (id : ℤ) (r : SerialRow) → cast_row serials_table (new_row id r) ≡ new_row id r
 cast_same id r = rw (cast_int, cast_int, cast_int, cast_int, cast_int, cast_int, cast_int, cast_int)
@@ -129,7 +133,7 @@ module _ (o : Schema) (apart : are_apart o.tables ≡ true) (limit : Option ℕ)
   puts db one none h =
       let w = went h in
       let edit = edit_of db serials_table [] Given 0 (new_row id r ∷ []) in
-      let a = one_step (with_others o) Enforced db w.0 edit (no_works 4 not_serials o apart Enforced 0 (taken_by db edit) edit.news) w.1 in
+      let a = one_step (with_closed o) Enforced db w.0 edit (no_works 4 not_serials (closed_first o) apart Enforced 0 (taken_by db edit) edit.news) w.1 in
       let news : edit.news ≡ new_row id r ∷ [] = rw (cast_same id r) in
       let fresh : are_fresh (db 4) (new_row id r ∷ []) ≡ true = subst (λ n. are_fresh (db 4) n ≡ true) news a.fresh in
       let rows : w.0 4 ≡ put_row (new_row id r) (db 4) = a.rows ∙ rw (cast_same id r) in
@@ -143,6 +147,7 @@ module _ (o : Schema) (apart : are_apart o.tables ≡ true) (limit : Option ℕ)
         head = a.tables.0 zero_four;
         calls = a.tables.1.0 one_four;
         ranges = a.tables.1.1.0 three_four;
+        closed = a.tables.1.1.1.1.0 six_four;
       })
 
 -- ---- an identifier that is there
@@ -225,9 +230,9 @@ module _ (o : Schema) (apart : are_apart o.tables ≡ true) (limit : Option ℕ)
       sym (length_mapped (λ s. cast_row serials_table (drop 1 s)) w.0) ∙ sym (length_numbered (without_all (db 4) (ids_of w.0)) (map (λ s. cast_row serials_table (drop 1 s)) w.0))
       ∙ ap (λ (it : Written). length it.rows) (sym same_one) ∙ count in
       let f = found_one (db 4) numbers has w.0 (answer_rows limit params id r there db w.0 (w.1.answer Null)) counted in
-      let wrote = subst (λ rows. sqlWrites (with_others o) Enforced db (edit_of db serials_table (ids_of rows) Given 1 rows) (Ok v.0)) f.1 v.1 in
+      let wrote = subst (λ rows. sqlWrites (with_closed o) Enforced db (edit_of db serials_table (ids_of rows) Given 1 rows) (Ok v.0)) f.1 v.1 in
       let edit = edit_of db serials_table (ids_of (full ∷ [])) Given 1 (full ∷ []) in
-      let a = one_step (with_others o) Enforced db v.0 edit (no_works 4 not_serials o apart Enforced 0 (taken_by db edit) edit.news) wrote in
+      let a = one_step (with_closed o) Enforced db v.0 edit (no_works 4 not_serials (closed_first o) apart Enforced 0 (taken_by db edit) edit.news) wrote in
       let stay : filter (stays k) (db 4) ≡ others r (db 4) = stay_others (db 4) numbers has key len f.0 in
       let news : edit.news ≡ new_row k r ∷ [] = rw (cast_same k r) in
       let fresh : are_fresh (filter (stays k) (db 4)) (new_row k r ∷ []) ≡ true = subst (λ n. are_fresh (filter (stays k) (db 4)) n ≡ true) news a.fresh in
@@ -240,11 +245,12 @@ module _ (o : Schema) (apart : are_apart o.tables ≡ true) (limit : Option ℕ)
         head = a.tables.0 zero_four;
         calls = a.tables.1.0 one_four;
         ranges = a.tables.1.1.0 three_four;
+        closed = a.tables.1.1.1.1.0 six_four;
       })
 
 -- ---- the rows that conflict are those of the identifier
 
-conflict_is : (o : Schema) → index_apart o.indexes ≡ true → (id : ℤ) (r : SerialRow) (x : Row) → conflicts (Some (1 ∷ 2 ∷ [])) (with_others o).indexes serials_table (new_row id r) x ≡ at_key r (serial_columns x)
+conflict_is : (o : Schema) → index_apart o.indexes ≡ true → (id : ℤ) (r : SerialRow) (x : Row) → conflicts (Some (1 ∷ 2 ∷ [])) (with_closed o).indexes serials_table (new_row id r) x ≡ at_key r (serial_columns x)
 unfolding first_key
 conflict_is o apart id r x = rw (none_shares 4 not_serials (Some (1 ∷ 2 ∷ [])) serials_table refl (new_row id r) x o.indexes apart) (or_false (at_key r (serial_columns x)))
 
@@ -265,7 +271,7 @@ module _ (o : Schema) (apart : are_apart o.tables ≡ true) (behind : index_apar
   task = task_of o limit (shown_serial r)
 
   abbrev AreFound : List Row → Type 0
-  AreFound found = AreConflicts (Some (1 ∷ 2 ∷ [])) (with_others o).indexes serials_table (db 4) (new_row id r) found
+  AreFound found = AreConflicts (Some (1 ∷ 2 ∷ [])) (with_closed o).indexes serials_table (db 4) (new_row id r) found
 
   none_there : AreFound [] → (x : Row) → Has (db 4) x → at_key r (serial_columns x) ≡ false
   none_there hit x has = go (at_key r (serial_columns x)) (λ is. hit.complete x has (conflict_is o behind id r x ∙ is))
@@ -303,17 +309,17 @@ new_is top rows r = rw (cast_null, cast_int, cast_int, cast_int, cast_int, cast_
 
 does_issue : (o : Schema) → are_apart o.tables ≡ true → index_apart o.indexes ≡ true → (limit : Option ℕ) (mode : Mode) (db : Trees) (r : SerialRow) (text : List ℕ) (tally : Tally) (new : Database) → mode.keys ≡ Enforced → tally.rows ≡ Some 1
     → AllByRecursion HasId (db 4) → AllByRecursion (λ x. IsShown (serial_columns x)) (db 4) → length (filter (key_of r) (db 4)) ≤ 1
-    → Does limit mode (shown_serial r) (record { schema = with_others o; trees = db }) text None (InsertOr 3 Abort (Values issue_terms 8) (issue_upsert ∷ [])) (Ok (tally, new))
-    → (new.schema ≡ with_others o) × Upserted db new.trees r
+    → Does limit mode (shown_serial r) (record { schema = with_closed o; trees = db }) text None (InsertOr 3 Abort (Values issue_terms 8) (issue_upsert ∷ [])) (Ok (tally, new))
+    → (new.schema ≡ with_closed o) × Upserted db new.trees r
 does_issue o apart behind limit mode db r text tally new keys changed numbers typed len h =
     let done = went h in
     let out = same_value (went (went done.2).2).2 in
-    let now : new ≡ record { schema = with_others o; trees = done.0.trees } = ap (λ (p : Tally × Database). p.1) out in
+    let now : new ≡ record { schema = with_closed o; trees = done.0.trees } = ap (λ (p : Tally × Database). p.1) out in
     let given = went done.1 in
     let counter = went given.2 in
     let tried = went counter.2 in
     let counted = went tried.2 in
-    let t : Task = record { limit = limit; keys = mode.keys; schema = with_others o; table = serials_table; params = shown_serial r } in
+    let t : Task = record { limit = limit; keys = mode.keys; schema = with_closed o; table = serials_table; params = shown_serial r } in
     let each = subst (λ k. TriesEach (record t { keys = k }) Abort (issue_upsert ∷ []) ((Null ∷ shown_serial r) ∷ []) (count_of counter.0) (nothing db) (Ok tried.0)) keys
     (subst (λ rows. TriesEach t Abort (issue_upsert ∷ []) rows (count_of counter.0) (nothing db) (Ok tried.0)) given.1.1 tried.1) in
     let one = went each in
@@ -328,7 +334,7 @@ does_issue o apart behind limit mode db r text tally new keys changed numbers ty
     (ap (λ (d : Database). d.schema) now, subst (λ n. Upserted db n r) (sym whole) met)
 
 issue_schema : (o : Schema) (limit : Option ℕ) (mode : Mode) (db : Trees) (r : SerialRow) (text : List ℕ) (tally : Tally) (new : Database)
-    → Does limit mode (shown_serial r) (record { schema = with_others o; trees = db }) text None (InsertOr 3 Abort (Values issue_terms 8) (issue_upsert ∷ [])) (Ok (tally, new)) → new.schema ≡ with_others o
+    → Does limit mode (shown_serial r) (record { schema = with_closed o; trees = db }) text None (InsertOr 3 Abort (Values issue_terms 8) (issue_upsert ∷ [])) (Ok (tally, new)) → new.schema ≡ with_closed o
 issue_schema o limit mode db r text tally new h = let done = went h in ap (λ (p : Tally × Database). p.1.schema) (same_value (went (went done.2).2).2)
 
 pub one_changed : (o : Option ℕ) → 1 ≡ unwrap_or o 0 → o ≡ Some 1
@@ -370,13 +376,13 @@ pub issues : (old new : State) (r : SerialRow) (tables : Tables) → HasTables o
 issues old new r tables held few h =
     let params = shown_serial r in
     let has = held.schema.is in
-    let o = others_in old.now.schema in
+    let o = others_behind_closed old.now.schema in
     let command = InsertOr 3 Abort (Values issue_terms 8) (issue_upsert ∷ []) in
-    let w = runs_as again_text params old new (with_others o) has command (again_is o) (again_plain o) 1 h in
-    let text = statement_of again_text (understood (with_others o) again_text) in
+    let w = runs_as again_text params old new (with_closed o) has command (again_is (closed_first o)) (again_plain (closed_first o)) 1 h in
+    let text = statement_of again_text (understood (with_closed o) again_text) in
     let does = subst (λ s. Does old.step_limit (mode_of old) params (record old.now { schema = s }) text None command (Ok (w.tally, new.now))) has w.changed in
     let it : IsPermutation (map shown_serial tables.serials) (map serial_columns (old.now.trees 4)) → Upserted old.now.trees new.now.trees r =
-    λ p. (does_issue o held.schema.tables held.schema.indexes old.step_limit (mode_of old) old.now.trees r text w.tally new.now refl (one_changed w.tally.rows w.counted) (all_ids (old.now.trees 4) held.numbered)
+    λ p. (does_issue o (behind_apart old.now.schema held.schema) held.schema.ledger.indexes old.step_limit (mode_of old) old.now.trees r text w.tally new.now refl (one_changed w.tally.rows w.counted) (all_ids (old.now.trees 4) held.numbered)
     (shown_rows tables.serials (old.now.trees 4) p) (few_keyed tables.serials r (old.now.trees 4) p few) does).1 in
     record {
       schema = is_as_it_was old.now.schema new.now.schema held.schema (issue_schema o old.step_limit (mode_of old) old.now.trees r text w.tally new.now does);
@@ -385,4 +391,5 @@ issues old new r tables held few h =
       ranges = ∥∥₁_elim held.serials ∥∥₁_prop (λ p. rw (it p).ranges held.ranges);
       serials = ∥∥₁_map held.serials (λ p. typed_after tables.serials r old.now.trees new.now.trees (it p) p);
       numbered = ∥∥₁_elim held.serials (AllByRecursion-prop IsNumbered (λ x. Bool-set _ _) (new.now.trees 4)) (λ p. numbered_after r old.now.trees new.now.trees (it p) held.numbered);
+      closed = ∥∥₁_elim held.serials ∥∥₁_prop (λ p. rw (it p).closed held.closed);
     }

@@ -17,12 +17,12 @@ use Rattle.sqlite.specs.Listing.{understood}
 use Rattle.sqlite.specs.State.{State, mode_of, Executes}
 use Rattle.sqlite.proofs.Callers.{statement_of, runs_as, one_step}
 use Rattle.s10_rows.specs.CallRow.{StoredCall}
-use Rattle.s10_schema.specs.Schema.{with_others, others_in, calls_table}
+use Rattle.s10_schema.specs.Schema.{with_closed, closed_first, others_behind_closed, calls_table}
 use Rattle.s10_rows.specs.Tables.{Tables}
 use Rattle.s10_statements.specs.Shown.{HasTables, shown_call, call_columns}
 use Rattle.s10_statements.specs.Statements.{keep_text}
 use Rattle.s10_statements.proofs.WriteTexts.{keep_terms, keep_is, keep_plain}
-use Rattle.s10_statements.proofs.Apart.{no_works, not_calls, is_as_it_was}
+use Rattle.s10_statements.proofs.Apart.{no_works, not_calls, is_as_it_was, behind_apart}
 use Rattle.s10_statements.proofs.PutLemmas.{cast_int, cast_null, went, same_value, put_fresh, one_fresh}
 
 -- a call as its row is stored
@@ -38,6 +38,9 @@ three_one e = omega arith
 four_one : ◌≢◌ {A = ℕ} 4 1
 four_one e = omega arith
 
+six_one : ◌≢◌ {A = ℕ} 6 1
+six_one e = omega arith
+
 -- one row more, at the end of the typed rows
 pub one_more : {X : Type 0} (shown : X → Row) (columns : Row → Row) (xs : List X) (x : X) (old new : List Row) (row : Row) → columns row ≡ shown x → IsPermutation (row ∷ old) new
     → IsPermutation (map shown xs) (map columns old) → IsPermutation (map shown (xs ++ x ∷ [])) (map columns new)
@@ -52,17 +55,17 @@ keeps old new call count tables held h =
     let params = shown_call call in
     let db = old.now.trees in
     let has = held.schema.is in
-    let o = others_in old.now.schema in
+    let o = others_behind_closed old.now.schema in
     let command = Insert 1 (Values keep_terms 6) in
-    let w = runs_as keep_text params old new (with_others o) has command (keep_is o) (keep_plain o) count h in
-    let text = statement_of keep_text (understood (with_others o) keep_text) in
+    let w = runs_as keep_text params old new (with_closed o) has command (keep_is (closed_first o)) (keep_plain (closed_first o)) count h in
+    let text = statement_of keep_text (understood (with_closed o) keep_text) in
     let done = went (subst (λ s. Does old.step_limit (mode_of old) params (record old.now { schema = s }) text None command (Ok (w.tally, new.now))) has w.changed) in
     let now = ap (λ (p : Tally × Database). p.1) (same_value (went (went done.2).2).2) in
     let given = went done.1 in
     let written = went (went given.2).2 in
     let counted = went written.2 in
     let trees : done.0.trees ≡ written.0 = ap (λ (it : Written). it.trees) (same_value counted.2) ∙ same_value counted.1 in
-    let applied = one_step (with_others o) _ db written.0 (edit_of db calls_table [] Chosen 0 given.0) (no_works 1 not_calls o held.schema.tables (mode_of old).keys 0 [] (edit_of db calls_table [] Chosen 0 given.0).news) written.1 in
+    let applied = one_step (with_closed o) _ db written.0 (edit_of db calls_table [] Chosen 0 given.0) (no_works 1 not_calls (closed_first o) (behind_apart old.now.schema held.schema) (mode_of old).keys 0 [] (edit_of db calls_table [] Chosen 0 given.0).news) written.1 in
     let news : (edit_of db calls_table [] Chosen 0 given.0).news ≡ stored call ∷ [] = ap (λ all. (edit_of db calls_table [] Chosen 0 all).news) given.1.1 ∙ rw (cast_int, cast_null, cast_int, cast_int, cast_int) in
     let fresh : are_fresh (db 1) (stored call ∷ []) ≡ true = subst (λ n. are_fresh (db 1) n ≡ true) news applied.fresh in
     let edit : edited db (edit_of db calls_table [] Chosen 0 given.0) ≡ put_row (stored call) (db 1) = ap (λ all. edited db (edit_of db calls_table [] Chosen 0 all)) given.1.1 ∙ rw (cast_int, cast_null, cast_int, cast_int, cast_int) in
@@ -75,4 +78,5 @@ keeps old new call count tables held h =
       ranges = rw (at 3 ∙ applied.tables.1.1.0 three_one) held.ranges;
       serials = rw (at 4 ∙ applied.tables.1.1.1.0 four_one) held.serials;
       numbered = rw (at 4 ∙ applied.tables.1.1.1.0 four_one) held.numbered;
+      closed = rw (at 6 ∙ applied.tables.1.1.1.1.0 six_one) held.closed;
     }

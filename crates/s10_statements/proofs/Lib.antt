@@ -14,6 +14,7 @@ pub mod HeadLemmas
 pub mod GoneLemmas
 pub mod IssueLemmas
 pub mod AddLemmas
+pub mod ClosedLemmas
 pub mod MarkLemmas
 pub mod Apart
 pub mod CrashLemmas

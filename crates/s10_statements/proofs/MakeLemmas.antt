@@ -13,10 +13,10 @@ use Rattle.sqlite.specs.Given.{IsPlain}
 use Rattle.sqlite.specs.Listing.{understood}
 use Rattle.sqlite.specs.State.{State, Writes, Executes}
 use Rattle.sqlite.proofs.Callers.{command_of, statement_of, runs_as}
-use Rattle.s10_schema.specs.Schema.{IsLedgerSchema, ledger_schema, with_others, no_schema, head_table, calls_table, ranges_table, serials_table, calls_index}
-use Rattle.s10_statements.specs.Statements.{head_made, calls_made, ranges_made, serials_made}
-use Rattle.s10_rows.specs.Tables.{no_rows}
-use Rattle.s10_statements.specs.Shown.{HasTables}
+use Rattle.s10_schema.specs.Schema.{IsClosedSchema, ledger_schema, four_tables, no_schema, head_table, calls_table, ranges_table, serials_table, closed_table, calls_index}
+use Rattle.s10_statements.specs.Statements.{head_made, calls_made, ranges_made, serials_made, closed_made}
+use Rattle.s10_rows.specs.Tables.{Tables, no_rows}
+use Rattle.s10_statements.specs.Shown.{HasTables, HasOldTables}
 use Rattle.s10_statements.proofs.PutLemmas.{went, same_value}
 
 abbrev one_table : Schema
@@ -49,9 +49,13 @@ ranges_defined : Defines two_tables ranges_made (record ranges_table { tree = 0 
 unfolding understood everything
 ranges_defined = record { command = refl; plain = (refl, refl); whole = refl; defined = refl; is = refl; uncounted = refl }
 
-serials_defined : Defines three_tables serials_made (record serials_table { tree = 0 }) (with_others no_schema)
+serials_defined : Defines three_tables serials_made (record serials_table { tree = 0 }) four_tables
 unfolding understood everything
 serials_defined = record { command = refl; plain = (refl, refl); whole = refl; defined = refl; is = refl; uncounted = refl }
+
+closed_defined : Defines four_tables closed_made (record closed_table { tree = 0 }) ledger_schema
+unfolding understood everything
+closed_defined = record { command = refl; plain = (refl, refl); whole = refl; defined = refl; is = refl; uncounted = refl }
 
 -- the next schema is there; the new table is empty, and the others are as they were
 pub record IsNext (schema next : Schema) (old new : Database) : Type 0 where
@@ -77,32 +81,64 @@ makes schema text table next d old new count has h =
       others = subst (λ (b : Database). KeepsRows schema.tables old.now.trees b.trees) (sym now) (subst (λ (s : Schema). KeepsRows s.tables old.now.trees first.0.trees) has made.others);
     }
 
--- the four statements, one after the other
-pub all_made : (s0 s1 s2 s3 s4 : State) (m n p q : ℕ) → s0.now.schema ≡ no_schema → Executes head_made [] s0 s1 (Ok m) → Executes calls_made [] s1 s2 (Ok n) → Executes ranges_made [] s2 s3 (Ok p)
-    → Executes serials_made [] s3 s4 (Ok q) → HasTables s4.now no_rows
-all_made s0 s1 s2 s3 s4 m n p q has h1 h2 h3 h4 =
-    let a = makes no_schema head_made (record head_table { tree = 0 }) one_table head_defined s0 s1 m has h1 in
-    let b = makes one_table calls_made (record calls_table { tree = 0 }) two_tables calls_defined s1 s2 n a.schema_is h2 in
-    let c = makes two_tables ranges_made (record ranges_table { tree = 0 }) three_tables ranges_defined s2 s3 p b.schema_is h3 in
-    let d = makes three_tables serials_made (record serials_table { tree = 0 }) (with_others no_schema) serials_defined s3 s4 q c.schema_is h4 in
-    let heads : s4.now.trees 0 ≡ [] = d.others.0 ∙ c.others.0 ∙ b.others.0 ∙ a.empty in
-    let calls : s4.now.trees 1 ≡ [] = d.others.1.0 ∙ c.others.1.0 ∙ b.empty in
-    let ranges : s4.now.trees 3 ≡ [] = d.others.1.1.0 ∙ c.empty in
-    let serials : s4.now.trees 4 ≡ [] = d.empty in
-    record {
-      schema = subst IsLedgerSchema (sym d.schema_is) (record { is = refl; tables = refl; indexes = refl });
-      heads = rw heads (∣ IsPermutation-refl [] ∣₁);
-      calls = rw calls (∣ IsPermutation-refl [] ∣₁);
-      ranges = rw ranges (∣ IsPermutation-refl [] ∣₁);
-      serials = rw serials (∣ IsPermutation-refl [] ∣₁);
-      numbered = rw serials tt;
-    }
+pub is_ledger : IsClosedSchema ledger_schema
+is_ledger = record { ledger = record { is = refl; tables = refl; indexes = refl }; is = refl; tables = refl; indexes = refl }
 
--- and nothing else is declared
-pub all_declared : (s0 s1 s2 s3 s4 : State) (m n p q : ℕ) → s0.now.schema ≡ no_schema → Executes head_made [] s0 s1 (Ok m) → Executes calls_made [] s1 s2 (Ok n) → Executes ranges_made [] s2 s3 (Ok p)
-    → Executes serials_made [] s3 s4 (Ok q) → s4.now.schema ≡ ledger_schema
-all_declared s0 s1 s2 s3 s4 m n p q has h1 h2 h3 h4 =
-    let a = makes no_schema head_made (record head_table { tree = 0 }) one_table head_defined s0 s1 m has h1 in
-    let b = makes one_table calls_made (record calls_table { tree = 0 }) two_tables calls_defined s1 s2 n a.schema_is h2 in
-    let c = makes two_tables ranges_made (record ranges_table { tree = 0 }) three_tables ranges_defined s2 s3 p b.schema_is h3 in
-    (makes three_tables serials_made (record serials_table { tree = 0 }) (with_others no_schema) serials_defined s3 s4 q c.schema_is h4).schema_is
+-- the five statements, one after the other
+module _ (s0 s1 s2 s3 s4 s5 : State) (m n p q r : ℕ) (has : s0.now.schema ≡ no_schema) (h1 : Executes head_made [] s0 s1 (Ok m)) (h2 : Executes calls_made [] s1 s2 (Ok n)) (h3 : Executes ranges_made [] s2 s3 (Ok p))
+    (h4 : Executes serials_made [] s3 s4 (Ok q)) (h5 : Executes closed_made [] s4 s5 (Ok r)) where
+  head_next : IsNext no_schema one_table s0.now s1.now
+  head_next = makes no_schema head_made (record head_table { tree = 0 }) one_table head_defined s0 s1 m has h1
+
+  calls_next : IsNext one_table two_tables s1.now s2.now
+  calls_next = makes one_table calls_made (record calls_table { tree = 0 }) two_tables calls_defined s1 s2 n head_next.schema_is h2
+
+  ranges_next : IsNext two_tables three_tables s2.now s3.now
+  ranges_next = makes two_tables ranges_made (record ranges_table { tree = 0 }) three_tables ranges_defined s2 s3 p calls_next.schema_is h3
+
+  serials_next : IsNext three_tables four_tables s3.now s4.now
+  serials_next = makes three_tables serials_made (record serials_table { tree = 0 }) four_tables serials_defined s3 s4 q ranges_next.schema_is h4
+
+  closed_next : IsNext four_tables ledger_schema s4.now s5.now
+  closed_next = makes four_tables closed_made (record closed_table { tree = 0 }) ledger_schema closed_defined s4 s5 r serials_next.schema_is h5
+
+  pub all_made : HasTables s5.now no_rows
+  all_made =
+      let a = head_next in
+      let b = calls_next in
+      let c = ranges_next in
+      let d = serials_next in
+      let e = closed_next in
+      let heads : s5.now.trees 0 ≡ [] = e.others.0 ∙ d.others.0 ∙ c.others.0 ∙ b.others.0 ∙ a.empty in
+      let calls : s5.now.trees 1 ≡ [] = e.others.1.0 ∙ d.others.1.0 ∙ c.others.1.0 ∙ b.empty in
+      let ranges : s5.now.trees 3 ≡ [] = e.others.1.1.0 ∙ d.others.1.1.0 ∙ c.empty in
+      let serials : s5.now.trees 4 ≡ [] = e.others.1.1.1.0 ∙ d.empty in
+      let closed : s5.now.trees 6 ≡ [] = e.empty in
+      record {
+        schema = subst IsClosedSchema (sym e.schema_is) is_ledger;
+        heads = rw heads (∣ IsPermutation-refl [] ∣₁);
+        calls = rw calls (∣ IsPermutation-refl [] ∣₁);
+        ranges = rw ranges (∣ IsPermutation-refl [] ∣₁);
+        serials = rw serials (∣ IsPermutation-refl [] ∣₁);
+        numbered = rw serials tt;
+        closed = rw closed (∣ IsPermutation-refl [] ∣₁);
+      }
+
+  -- and nothing else is declared
+  pub all_declared : s5.now.schema ≡ ledger_schema
+  all_declared = closed_next.schema_is
+
+-- the fifth statement alone, in a database of an earlier build
+pub gets_closed : (old new : State) (count : ℕ) (tables : Tables) → HasOldTables old.now tables → Executes closed_made [] old new (Ok count) → HasTables new.now tables
+gets_closed old new count tables held h =
+    let e = makes four_tables closed_made (record closed_table { tree = 0 }) ledger_schema closed_defined old new count held.schema h in
+    let closed : new.now.trees 6 ≡ [] = e.empty in
+    record {
+      schema = subst IsClosedSchema (sym e.schema_is) is_ledger;
+      heads = rw e.others.0 held.heads;
+      calls = rw e.others.1.0 held.calls;
+      ranges = rw e.others.1.1.0 held.ranges;
+      serials = rw e.others.1.1.1.0 held.serials;
+      numbered = rw e.others.1.1.1.0 held.numbered;
+      closed = rw (closed, held.closed) (∣ IsPermutation-refl [] ∣₁);
+    }

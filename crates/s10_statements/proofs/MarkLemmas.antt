@@ -33,17 +33,17 @@ use Rattle.sqlite.specs.Listing.{understood}
 use Rattle.sqlite.specs.State.{State, mode_of, Executes}
 use Rattle.sqlite.proofs.Callers.{statement_of, runs_as, one_step, one_permutation}
 use Rattle.s10_rows.specs.declared.range_row.RangeRow.{RangeRow}
-use Rattle.s10_schema.specs.Schema.{with_others, others_in, are_apart, ranges_table}
+use Rattle.s10_schema.specs.Schema.{with_closed, closed_first, others_behind_closed, are_apart, ranges_table}
 use Rattle.s10_rows.specs.Tables.{Tables}
 use Rattle.s10_rows.specs.Kept.{marked}
 use Rattle.s10_rows.proofs.Replaced.{map_twice, same_images, rest_same}
 use Rattle.s10_statements.specs.Shown.{HasTables, shown_range, range_columns, IsNumbered}
 use Rattle.s10_statements.specs.Statements.{mark_text}
 use Rattle.s10_statements.proofs.WriteTexts.{mark_query, mark_is, mark_plain}
-use Rattle.s10_statements.proofs.Apart.{no_works, not_ranges, is_as_it_was}
+use Rattle.s10_statements.proofs.Apart.{no_works, not_ranges, is_as_it_was, behind_apart}
 use Rattle.s10_statements.proofs.ReadLemmas.{kept_are, rows_are}
 use Rattle.s10_statements.proofs.PutLemmas.{cast_int, cast_null, went, same_value, put_fresh, one_fresh}
-use Rattle.s10_statements.proofs.AddLemmas.{stored_range, zero_three, one_three, four_three}
+use Rattle.s10_statements.proofs.AddLemmas.{stored_range, zero_three, one_three, four_three, six_three}
 use Rattle.s10_statements.proofs.IssueLemmas.{length_numbered, length_mapped, one_changed, all_kept}
 use Rattle.s10_statements.proofs.GoneLemmas.{all_moved, all_of_map, all_shown, passing, same_int, has_id, stays}
 
@@ -81,11 +81,11 @@ cast_same r = rw (cast_int, cast_null, cast_int, cast_int, cast_int, cast_int, c
 
 -- a row that is put back
 one_put : (o : Schema) → are_apart o.tables ≡ true → (r : RangeRow) (db next : Trees)
-    → sqlWrites (with_others o) Enforced db (edit_of db ranges_table (ids_of ((Int r.num ∷ stored_range r) ∷ [])) Given 1 ((Int r.num ∷ stored_range r) ∷ [])) (Ok next)
-    → IsPermutation (stored_range r ∷ filter (stays r.num) (db 3)) (next 3) × (next 0 ≡ db 0) × (next 1 ≡ db 1) × (next 4 ≡ db 4)
+    → sqlWrites (with_closed o) Enforced db (edit_of db ranges_table (ids_of ((Int r.num ∷ stored_range r) ∷ [])) Given 1 ((Int r.num ∷ stored_range r) ∷ [])) (Ok next)
+    → IsPermutation (stored_range r ∷ filter (stays r.num) (db 3)) (next 3) × (next 0 ≡ db 0) × (next 1 ≡ db 1) × (next 4 ≡ db 4) × (next 6 ≡ db 6)
 one_put o apart r db next wrote =
     let edit = edit_of db ranges_table (ids_of ((Int r.num ∷ stored_range r) ∷ [])) Given 1 ((Int r.num ∷ stored_range r) ∷ []) in
-    let a = one_step (with_others o) Enforced db next edit (no_works 3 not_ranges o apart Enforced 0 (taken_by db edit) edit.news) wrote in
+    let a = one_step (with_closed o) Enforced db next edit (no_works 3 not_ranges (closed_first o) apart Enforced 0 (taken_by db edit) edit.news) wrote in
     let news : edit.news ≡ stored_range r ∷ [] = rw (cast_same r) in
     let fresh : are_fresh (filter (stays r.num) (db 3)) (stored_range r ∷ []) ≡ true = subst (λ n. are_fresh (filter (stays r.num) (db 3)) n ≡ true) news a.fresh in
     let rows : next 3 ≡ put_row (stored_range r) (filter (stays r.num) (db 3)) = a.rows ∙ rw (cast_same r) in (
@@ -93,6 +93,7 @@ one_put o apart r db next wrote =
       a.tables.0 zero_three,
       a.tables.1.0 one_three,
       a.tables.1.1.1.0 four_three,
+      a.tables.1.1.1.1.0 six_three,
     )
 
 -- the row with the number has the mark, and all else is as it was
@@ -103,13 +104,14 @@ record Marked (old new : Trees) (num mark : ℤ) : Type 0 where
   pub head : new 0 ≡ old 0
   pub calls : new 1 ≡ old 1
   pub serials : new 4 ≡ old 4
+  pub closed : new 6 ≡ old 6
 
 module _ (o : Schema) (apart : are_apart o.tables ≡ true) (limit : Option ℕ) (num mark : ℤ) (db : Trees) (typed : AllByRecursion (λ x. IsRange (range_columns x)) (db 3)) where
   abbrev params : Row
   params = params_of num mark
 
   abbrev task : Task
-  task = record { limit = limit; keys = Enforced; schema = with_others o; table = ranges_table; params = params }
+  task = record { limit = limit; keys = Enforced; schema = with_closed o; table = ranges_table; params = params }
 
   test_is : (x : Row) → IsRange (range_columns x) → same_num num (update_columns mark x) ≡ has_rowid num x
   test_is x t =
@@ -151,7 +153,7 @@ module _ (o : Schema) (apart : are_apart o.tables ≡ true) (limit : Option ℕ)
       let full : Row = Int num ∷ stored_range r in
       let is_full : update_columns mark there ≡ full = rw (e0, e2, e3, e4, e5) refl in
       let rows_is : w.0 ≡ full ∷ [] = one_permutation full w.0 (subst (λ l. IsPermutation l w.0) (ap (map (update_columns mark)) single.1 ∙ ap (λ x. x ∷ []) is_full) found) in
-      let wrote = subst (λ rows. sqlWrites (with_others o) Enforced db (edit_of db ranges_table (ids_of rows) Given 1 rows) (Ok v.0)) rows_is v.1 in
+      let wrote = subst (λ rows. sqlWrites (with_closed o) Enforced db (edit_of db ranges_table (ids_of rows) Given 1 rows) (Ok v.0)) rows_is v.1 in
       let it = one_put o apart r db v.0 wrote in
       let back : stored_range r ≡ column there 0 ∷ Null ∷ column there 2 ∷ column there 3 ∷ column there 4 ∷ column there 5 ∷ Int mark ∷ [] = rw (e0, e2, e3, e4, e5) refl in
       subst (λ (n : Trees). Marked db n num mark) (sym (ap (λ (it : Written). it.trees) same_one)) (record {
@@ -161,6 +163,7 @@ module _ (o : Schema) (apart : are_apart o.tables ≡ true) (limit : Option ℕ)
         head = it.1;
         calls = it.2;
         serials = it.3;
+        closed = it.4;
       })
 
 -- ---- the typed rows after the write
@@ -204,10 +207,10 @@ pub marks : (old new : State) (num mark : ℤ) (tables : Tables) → HasTables o
 marks old new num mark tables held h =
     let params = params_of num mark in
     let has = held.schema.is in
-    let o = others_in old.now.schema in
+    let o = others_behind_closed old.now.schema in
     let command = Update 2 (record { lets = []; body = mark_query }) in
-    let w = runs_as mark_text params old new (with_others o) has command (mark_is o) (mark_plain o) 1 h in
-    let text = statement_of mark_text (understood (with_others o) mark_text) in
+    let w = runs_as mark_text params old new (with_closed o) has command (mark_is (closed_first o)) (mark_plain (closed_first o)) 1 h in
+    let text = statement_of mark_text (understood (with_closed o) mark_text) in
     let done = went (subst (λ s. Does old.step_limit (mode_of old) params (record old.now { schema = s }) text None command (Ok (w.tally, new.now))) has w.changed) in
     let out = same_value (went (went done.2).2).2 in
     let now = ap (λ (p : Tally × Database). p.1) out in
@@ -215,7 +218,7 @@ marks old new num mark tables held h =
     let one_row : length done.0.rows ≡ 1 = cc in
     let it : IsPermutation (map shown_range tables.ranges) (map range_columns (old.now.trees 3)) → Marked old.now.trees new.now.trees num mark =
     λ p. subst (λ (n : Trees). Marked old.now.trees n num mark) (sym (ap (λ (d : Database). d.trees) now))
-    (updated o held.schema.tables old.step_limit num mark old.now.trees (range_ids tables.ranges (old.now.trees 3) p) done.0 done.1 one_row) in
+    (updated o (behind_apart old.now.schema held.schema) old.step_limit num mark old.now.trees (range_ids tables.ranges (old.now.trees 3) p) done.0 done.1 one_row) in
     record {
       schema = is_as_it_was old.now.schema new.now.schema held.schema (ap (λ (d : Database). d.schema) now);
       heads = ∥∥₁_elim held.ranges ∥∥₁_prop (λ p. rw (it p).head held.heads);
@@ -223,4 +226,5 @@ marks old new num mark tables held h =
       ranges = ∥∥₁_map held.ranges (λ p. typed_after tables.ranges num mark old.now.trees new.now.trees (it p) p);
       serials = ∥∥₁_elim held.ranges ∥∥₁_prop (λ p. rw (it p).serials held.serials);
       numbered = ∥∥₁_elim held.ranges (AllByRecursion-prop IsNumbered (λ x. Bool-set _ _) (new.now.trees 4)) (λ p. rw (it p).serials held.numbered);
+      closed = ∥∥₁_elim held.ranges ∥∥₁_prop (λ p. rw (it p).closed held.closed);
     }

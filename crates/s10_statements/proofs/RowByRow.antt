@@ -122,16 +122,17 @@ pub record IsUnderWay {S : Type 0} (g : Ghosts S) (sql : List ℕ) (params : Row
   pub spares : Spares g old now
   pub given : HasCleanDisk (state g now) → IsLedgerSchema (state g old).now.schema → (rows : List Row) × HasGiven g sql params now rows × IsUnchanged (state g old) (state g now) × P rows
 
-module _ {S : Type 0} (g : Ghosts S) (sql : List ℕ) (params : Row) (plain : OnlyReads sql) where
-  known_plain : (schema : Schema) → IsLedgerSchema schema → IsPlain (understood schema sql)
-  known_plain schema has = subst (λ (s : Schema). IsPlain (understood s sql)) (sym has.is) (plain (others_in schema))
+-- and so in that of one
+pub known_plain : (sql : List ℕ) → OnlyReads sql → (schema : Schema) → IsLedgerSchema schema → IsPlain (understood schema sql)
+known_plain sql plain schema has = subst (λ (s : Schema). IsPlain (understood s sql)) (sym has.is) (plain (others_in schema))
 
+module _ {S : Type 0} (g : Ghosts S) (sql : List ℕ) (params : Row) (plain : OnlyReads sql) where
   pub begun : (P : List Row → Type 0) (old new : Held S) → (old.in_transaction ≡ false → new.in_transaction ≡ false) → Survives (state g old) (state g new) (CommitsShowing sql params (state g old))
       → (HasCleanDisk (state g new) → HasBegun g sql params old new) → P [] → IsUnderWay g sql params P old new
   begun P old new mode survives begins none = record {
     leaves = begun_leaves g sql params plain old new survives.clean mode begins;
     spares = begun_spares g sql params plain old new survives.clean mode survives;
-    given = λ c has. let it = begun_plain g sql params old new (known_plain old.schema has) (begins c) in ([], it.0, it.1, none);
+    given = λ c has. let it = begun_plain g sql params old new (known_plain sql plain old.schema has) (begins c) in ([], it.0, it.1, none);
   }
 
   module _ (P : List Row → Type 0) (old a b : Held S) (it : IsUnderWay g sql params P old a) (mode : a.in_transaction ≡ false → b.in_transaction ≡ false)
@@ -158,7 +159,7 @@ module _ {S : Type 0} (g : Ghosts S) (sql : List ℕ) (params : Row) (plain : On
         → (rows : List Row) × Shown sql params (state g old) (state g b) rows × P rows
     ended moves c has =
         let was = it.given (before c) has in
-        let known : IsPlain (understood (state g a).now.schema sql) = subst (λ (d : Database). IsPlain (understood d.schema sql)) (sym was.2.0.now_is) (known_plain (state g old).now.schema has) in
+        let known : IsPlain (understood (state g a).now.schema sql) = subst (λ (d : Database). IsPlain (understood d.schema sql)) (sym was.2.0.now_is) (known_plain sql plain (state g old).now.schema has) in
         (was.0, shown_before sql params (state g old) (state g a) (state g b) was.0 known was.2 (moves c sql params was.0 was.1), was.3)
 
 pub map_snoc : {A B : Type 0} (f : A → B) (xs : List A) (x : A) → map f (xs ++ x ∷ []) ≡ map f xs ++ f x ∷ []

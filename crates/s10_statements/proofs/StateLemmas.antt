@@ -11,9 +11,8 @@ use Rattle.sqlite.specs.Listing.{understood}
 use Rattle.sqlite_trees.specs.declared.store.Store.{Ghosts}
 use Rattle.sqlite.specs.Effect.{Database}
 use Rattle.sqlite.specs.Held.{Held, state}
-use Rattle.s10_schema.specs.Schema.{IsLedgerSchema}
 use Rattle.s10_statements.specs.Settled.{IsSettled, WasSound}
-use Rattle.s10_statements.specs.Statements.{Leaves}
+use Rattle.s10_statements.specs.Statements.{Leaves, LeavesWhere}
 use Rattle.sqlite.specs.State.{State, HasCleanDisk, Shown, ShowsRows, IsUnchanged, IsRolledBack, FailsToQuery, FailsToShow, IsNotRun}
 
 shown_same : (sql : List ℕ) (params : Row) (old new : State) (rows : List Row) (schema : Schema) → old.now.schema ≡ schema → IsPlain (understood schema sql) → Shown sql params old new rows → IsUnchanged old new
@@ -114,17 +113,26 @@ module _ {V : Type 0} (items : V → List Row) (sql : List ℕ) (params : Row) (
       by_result r _ _ ok err (λ v h. shown_settled sql params old new (items v) idle before h) (λ e h. failed_settled sql params old new e before h opened)
 
 -- two reads, one after the other
-pub leaves_then : {S : Type 0} (g : Ghosts S) (a b c : Held S) → Leaves g a b → Leaves g b c → Leaves g a c
-leaves_then g a b c p q =
+pub leaves_then : {S : Type 0} {Fits : Schema → Type 0} (g : Ghosts S) (a b c : Held S) → LeavesWhere Fits g a b → LeavesWhere Fits g b c → LeavesWhere Fits g a c
+leaves_then {S} {Fits} g a b c p q =
     let mid : HasCleanDisk (state g c) → HasCleanDisk (state g b) = λ clean. omega (arith, q.clean) in
-    let schema : HasCleanDisk (state g c) → IsTrue (state g c).is_open → IsSettled g a → IsLedgerSchema (state g a).now.schema → IsLedgerSchema (state g b).now.schema =
-    λ clean opened settled has. subst (λ (d : Database). IsLedgerSchema d.schema) (sym (p.now (mid clean) (q.was_open clean opened) settled has)) has in
+    let schema : HasCleanDisk (state g c) → IsTrue (state g c).is_open → IsSettled g a → Fits (state g a).now.schema → Fits (state g b).now.schema =
+    λ clean opened settled has. subst (λ (d : Database). Fits d.schema) (sym (p.now (mid clean) (q.was_open clean opened) settled has)) has in
     record {
       clean = omega (arith, p.clean, q.clean);
       was_open = λ clean opened. p.was_open (mid clean) (q.was_open clean opened);
       now = λ clean opened settled has. q.now clean opened (p.settled settled) (schema clean opened settled has) ∙ p.now (mid clean) (q.was_open clean opened) settled has;
       settled = λ settled. q.settled (p.settled settled);
     }
+
+-- what leaves the tables under a schema leaves them under one of which more is known
+pub leaves_weaker : {S : Type 0} {Fits More : Schema → Type 0} (g : Ghosts S) (old new : Held S) → ((s : Schema) → More s → Fits s) → LeavesWhere Fits g old new → LeavesWhere More g old new
+leaves_weaker g old new fits it = record {
+  clean = it.clean;
+  was_open = it.was_open;
+  now = λ clean opened settled has. it.now clean opened settled (fits (state g old).now.schema has);
+  settled = it.settled;
+}
 
 pub leaves_same : {S : Type 0} (g : Ghosts S) (a : Held S) → Leaves g a a
 leaves_same g a = record {

@@ -1,5 +1,5 @@
 -- What the texts of the reads mean under the schema.
-use Rattle.std.proofs.Common.{◌≡◌, ℕ, pos, negsuc, List, [], ◌∷◌, codes, false, None, refl}
+use Rattle.std.proofs.Common.{◌≡◌, ℕ, pos, negsuc, List, [], ◌∷◌, codes, false, None, refl, sym, subst}
 use Rattle.sqlite_value.specs.declared.keys.Collation.TheVariants.{Binary}
 use Rattle.sqlite_value.specs.declared.value.Value.TheVariants.{Int}
 use Rattle.sqlite_value.specs.Keys.{ascending}
@@ -13,8 +13,8 @@ use Rattle.sqlite_schema.specs.declared.schema.Schema.{Schema}
 use Rattle.sqlite.specs.Listing.{understood, reads_listing}
 use Rattle.sqlite.specs.Given.{IsPlain}
 use Rattle.sqlite.proofs.Callers.{command_of}
-use Rattle.s10_schema.specs.Schema.{with_others}
-use Rattle.s10_statements.specs.Statements.{head_text, key_text, arrivals_text, calls_text, ranges_text, within_text, serials_text}
+use Rattle.s10_schema.specs.Schema.{IsClosedSchema, with_others, with_closed, others_behind_closed}
+use Rattle.s10_statements.specs.Statements.{head_text, key_text, arrivals_text, calls_text, ranges_text, within_text, serials_text, closed_text}
 
 -- a read of one table
 abbrev pub read_of : ℕ → List Term → List Term → List Term → Query
@@ -155,3 +155,21 @@ serials_plain o = (refl, refl)
 pub serials_unlisted : (o : Schema) → reads_listing (with_others o) serials_text ≡ false
 unfolding understood everything
 serials_unlisted o = refl
+
+abbrev pub closed_query : Query
+closed_query = read_of 6 [] (col 1 0 ∷ col 1 2 ∷ []) by_one
+
+pub closed_is : (o : Schema) → command_of (understood (with_closed o) closed_text) ≡ Select (record { lets = []; body = closed_query }) (codes "num" ∷ codes "arrival" ∷ [])
+unfolding understood everything
+closed_is o = refl
+
+pub closed_plain : (o : Schema) → IsPlain (understood (with_closed o) closed_text)
+unfolding understood everything
+closed_plain o = (refl, refl)
+
+pub known_closed : (s : Schema) → IsClosedSchema s → IsPlain (understood s closed_text)
+known_closed s has = subst (λ (x : Schema). IsPlain (understood x closed_text)) (sym has.is) (closed_plain (others_behind_closed s))
+
+pub closed_unlisted : (o : Schema) → reads_listing (with_closed o) closed_text ≡ false
+unfolding understood everything
+closed_unlisted o = refl

@@ -15,8 +15,8 @@ use Rattle.sqlite_schema.specs.declared.schema.Schema.{Schema}
 use Rattle.sqlite.specs.Listing.{understood}
 use Rattle.sqlite.specs.Given.{IsPlain}
 use Rattle.sqlite.proofs.Callers.{command_of}
-use Rattle.s10_schema.specs.Schema.{with_others}
-use Rattle.s10_statements.specs.Statements.{keep_text, grant_text, mark_text, issue_text, again_text}
+use Rattle.s10_schema.specs.Schema.{with_others, with_closed}
+use Rattle.s10_statements.specs.Statements.{keep_text, grant_text, mark_text, issue_text, again_text, close_text}
 
 abbrev pub keep_terms : List Term
 keep_terms = col 0 0 ∷ lit Null ∷ col 0 1 ∷ col 0 2 ∷ col 0 3 ∷ col 0 4 ∷ []
@@ -95,3 +95,14 @@ again_is o = refl
 pub again_plain : (o : Schema) → IsPlain (understood (with_others o) again_text)
 unfolding understood everything
 again_plain o = (refl, refl)
+
+abbrev pub close_terms : List Term
+close_terms = col 0 0 ∷ lit Null ∷ col 0 1 ∷ []
+
+pub close_is : (o : Schema) → command_of (understood (with_closed o) close_text) ≡ Insert 4 (Values close_terms 3)
+unfolding understood everything
+close_is o = refl
+
+pub close_plain : (o : Schema) → IsPlain (understood (with_closed o) close_text)
+unfolding understood everything
+close_plain o = (refl, refl)

@@ -2,6 +2,7 @@
 use Rattle.std.specs.Prelude.{◌≡◌, Bool, false, true, IsTrue}
 use Rattle.sqlite_trees.specs.Tree.{Trees}
 use Rattle.sqlite_trees.specs.declared.store.Store.{Ghosts}
+use Rattle.sqlite_schema.specs.declared.schema.Schema.{Schema}
 use Rattle.sqlite.specs.State.{HasCleanDisk}
 use Rattle.sqlite.specs.Held.{Held, state}
 use Rattle.s10_schema.specs.Schema.{IsLedgerSchema}
@@ -19,6 +20,10 @@ WasSound g old new = HasCleanDisk (state g new) → HasCleanDisk (state g old) �
 abbrev pub IsOpenIf : {S : Type 0} → Ghosts S → Held S → Bool → Type 0
 IsOpenIf g conn answered = answered ≡ true → HasCleanDisk (state g conn) → IsTrue (state g conn).is_open
 
--- what an opening after a crash may find, it could find before
+-- under a schema that fits, what an opening after a crash may find, it could find before
+abbrev pub SparesWhere : {S : Type 0} → (Schema → Type 0) → Ghosts S → Held S → Held S → Type 0
+SparesWhere Fits g old new = HasCleanDisk (state g new) → Fits (state g old).now.schema → (db : Trees) → (state g new).may_leave db → (state g old).may_leave db
+
+-- so it is in any ledger
 abbrev pub Spares : {S : Type 0} → Ghosts S → Held S → Held S → Type 0
-Spares g old new = HasCleanDisk (state g new) → IsLedgerSchema (state g old).now.schema → (db : Trees) → (state g new).may_leave db → (state g old).may_leave db
+Spares g old new = SparesWhere IsLedgerSchema g old new

@@ -2,6 +2,7 @@
 use Rattle.std.specs.Prelude.{◌≡◌, ◌≤◌, ℕ, List, codes, IsTrue}
 use Rattle.sqlite_trees.specs.View.{doubt}
 use Rattle.sqlite_trees.specs.declared.store.Store.{Ghosts}
+use Rattle.sqlite_schema.specs.declared.schema.Schema.{Schema}
 use Rattle.sqlite.specs.State.{HasCleanDisk}
 use Rattle.sqlite.specs.Held.{Held, state}
 use Rattle.s10_schema.specs.Schema.{IsLedgerSchema}
@@ -28,6 +29,9 @@ within_text = codes "SELECT pair, serial, arrival, day, customer, number, voided
 abbrev pub serials_text : List ℕ
 serials_text = codes "SELECT pair, serial, arrival, day, customer, number, voided, rowid FROM serials ORDER BY pair, serial"
 
+abbrev pub closed_text : List ℕ
+closed_text = codes "SELECT num, arrival FROM closed ORDER BY num"
+
 abbrev pub head_made : List ℕ
 head_made = codes "CREATE TABLE head (one INTEGER NOT NULL PRIMARY KEY CHECK (one = 1), schema INTEGER NOT NULL, interval INTEGER NOT NULL, cap INTEGER NOT NULL) STRICT"
 
@@ -39,6 +43,9 @@ ranges_made = codes "CREATE TABLE ranges (num INTEGER NOT NULL PRIMARY KEY, hold
 
 abbrev pub serials_made : List ℕ
 serials_made = codes "CREATE TABLE serials (pair INTEGER NOT NULL, serial INTEGER NOT NULL, arrival INTEGER NOT NULL, day INTEGER NOT NULL, customer INTEGER NOT NULL, number INTEGER NOT NULL, voided INTEGER NOT NULL, PRIMARY KEY (pair, serial)) STRICT"
+
+abbrev pub closed_made : List ℕ
+closed_made = codes "CREATE TABLE closed (num INTEGER NOT NULL PRIMARY KEY, arrival INTEGER NOT NULL) STRICT"
 
 abbrev pub settings_text : List ℕ
 settings_text = codes "INSERT INTO head (one, schema, interval, cap) VALUES (1, 1, ?1, ?2)"
@@ -58,10 +65,17 @@ issue_text = codes "INSERT INTO serials (pair, serial, arrival, day, customer, n
 abbrev pub again_text : List ℕ
 again_text = codes "INSERT INTO serials (pair, serial, arrival, day, customer, number, voided) VALUES (?1, ?2, ?3, ?4, ?5, ?6, ?7) ON CONFLICT (pair, serial) DO UPDATE SET arrival = ?3, day = ?4, customer = ?5, number = ?6, voided = ?7"
 
--- A read leaves the tables as they were, and a connection that has nothing to commit. What is said of them holds where the store
--- is clean and the connection open as the read ends; the disk does not come clean again.
-pub record Leaves {S : Type 0} (g : Ghosts S) (old new : Held S) : Type 0 where
+abbrev pub close_text : List ℕ
+close_text = codes "INSERT INTO closed (num, arrival) VALUES (?1, ?2)"
+
+-- A read under a schema that fits leaves the tables as they were, and a connection that has nothing to commit. What is said of them
+-- holds where the store is clean and the connection open as the read ends; the disk does not come clean again.
+pub record LeavesWhere {S : Type 0} (Fits : Schema → Type 0) (g : Ghosts S) (old new : Held S) : Type 0 where
   pub clean : doubt (state g old).is_clean ≤ doubt (state g new).is_clean
   pub was_open : HasCleanDisk (state g new) → IsTrue (state g new).is_open → IsTrue (state g old).is_open
-  pub now : HasCleanDisk (state g new) → IsTrue (state g new).is_open → IsSettled g old → IsLedgerSchema (state g old).now.schema → (state g new).now ≡ (state g old).now
+  pub now : HasCleanDisk (state g new) → IsTrue (state g new).is_open → IsSettled g old → Fits (state g old).now.schema → (state g new).now ≡ (state g old).now
   pub settled : IsSettled g old → IsSettled g new
+
+-- so it is in any ledger
+abbrev pub Leaves : {S : Type 0} → Ghosts S → Held S → Held S → Type 0
+Leaves g old new = LeavesWhere IsLedgerSchema g old new

@@ -1,9 +1,9 @@
-//! The four tables of a new ledger are made.
+//! The five tables of a new ledger are made.
 
 ghost use Rattle.std.specs.Prelude.{◌≡◌, ◌≤◌, ℕ, ◌++◌, ◌∷◌, [], codes, false, IsTrue, IsSome, IfSome, None, Ok, OnOk, OnErr};
 ghost use Rattle.sqlite_trees.specs.View.{doubt};
 ghost use Rattle.sqlite.specs.Held.{state};
-ghost use Rattle.sqlite.specs.State.{HasCleanDisk, KeepsCommit, Executes};
+ghost use Rattle.sqlite.specs.State.{HasCleanDisk, KeepsCommit, Survives, Executes};
 ghost use Rattle.sqlite_schema.specs.Names.{table_named};
 ghost use Rattle.s10_statements.specs.Making.{HasOneOfTheNames, IsMakingRefusal};
 ghost use Rattle.s10_schema.specs.Schema.{no_schema, ledger_schema};
@@ -27,21 +27,27 @@ const RANGES: &str =
 const SERIALS: &str =
     "CREATE TABLE serials (pair INTEGER NOT NULL, serial INTEGER NOT NULL, arrival INTEGER NOT NULL, day INTEGER NOT NULL, customer INTEGER NOT NULL, number INTEGER NOT NULL, voided INTEGER NOT NULL, PRIMARY KEY (pair, serial)) STRICT";
 
+pub(crate) const CLOSED: &str =
+    "CREATE TABLE closed (num INTEGER NOT NULL PRIMARY KEY, arrival INTEGER NOT NULL) STRICT";
+
 // Runs a statement that has no parameters.
-fn run<S: Alter>(tx: &mut Transaction<'_, S>, sql: &str) -> Result<(), Error>
+pub(crate) fn run<S: Alter>(tx: &mut Transaction<'_, S>, sql: &str) -> Result<(), Error>
     ensures same_reference { tx.new.conn.ghost_name ≡ tx.old.conn.ghost_name }
     ensures runs { HasCleanDisk (state S.Store tx.new.conn.now) → IsTrue (state S.Store tx.old.conn.now).in_transaction
         → OnOk result ((count : ℕ) × Executes sql.now [] (state S.Store tx.old.conn.now) (state S.Store tx.new.conn.now) (Ok count)) }
+    ensures opened { HasCleanDisk (state S.Store tx.new.conn.now) → IsTrue (state S.Store tx.old.conn.now).in_transaction
+        → OnOk result (IsTrue (state S.Store tx.old.conn.now).is_open) }
     ensures inside { HasCleanDisk (state S.Store tx.new.conn.now) → IsTrue (state S.Store tx.old.conn.now).in_transaction
         → OnOk result (IsTrue (state S.Store tx.new.conn.now).in_transaction) }
     ensures kept { HasCleanDisk (state S.Store tx.new.conn.now) → IsTrue (state S.Store tx.old.conn.now).in_transaction → KeepsCommit (state S.Store tx.old.conn.now) (state S.Store tx.new.conn.now) }
+    ensures survives { Survives (state S.Store tx.old.conn.now) (state S.Store tx.new.conn.now) (λ _. ⊥) }
     ensures clean { doubt (state S.Store tx.old.conn.now).is_clean ≤ doubt (state S.Store tx.new.conn.now).is_clean }
 {
     tx.execute(sql, &[])?;
     Ok(())
 }
 
-// Makes the four tables, with no row.
+// Makes the five tables, with no row.
 fn make_tables<S: Alter>(tx: &mut Transaction<'_, S>) -> Result<(), Error>
     ensures same_reference { tx.new.conn.ghost_name ≡ tx.old.conn.ghost_name }
     ensures made { HasCleanDisk (state S.Store tx.new.conn.now) → IsTrue (state S.Store tx.old.conn.now).in_transaction → (state S.Store tx.old.conn.now).now.schema ≡ no_schema
@@ -56,7 +62,8 @@ fn make_tables<S: Alter>(tx: &mut Transaction<'_, S>) -> Result<(), Error>
     run(tx, HEAD)?;
     run(tx, CALLS)?;
     run(tx, RANGES)?;
-    run(tx, SERIALS)
+    run(tx, SERIALS)?;
+    run(tx, CLOSED)
 }
 
 // Adds the row of the settings.
@@ -110,6 +117,7 @@ pub fn refusal_of<S: Alter>(conn: &Connection<S>) -> Option<OpenFault>
         || schema.table_named(b"calls").is_some()
         || schema.table_named(b"ranges").is_some()
         || schema.table_named(b"serials").is_some()
+        || schema.table_named(b"closed").is_some()
     {
         return Some(OpenFault::NotEmpty);
     }

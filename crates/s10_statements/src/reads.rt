@@ -1,4 +1,4 @@
-//! The reads of the four tables.
+//! The reads of the five tables.
 
 ghost use Rattle.std.specs.Prelude.{◌≡◌, ◌≢◌, pos, List, map, filter, IsTrue, IfOk, OnOk};
 ghost use Rattle.std.specs.List.{AllByRecursion};
@@ -6,21 +6,20 @@ ghost use Rattle.std.specs.Ordering.{int_cmp};
 ghost use Rattle.std.specs.declared.cmp.Ordering.TheVariants as Ordering;
 ghost use Rattle.sqlite_trees.specs.Tree.{IsAscending};
 ghost use Rattle.sqlite.specs.Held.{state};
-ghost use Rattle.sqlite_schema.specs.declared.schema.Schema.{Schema};
 ghost use Rattle.sqlite.specs.State.{HasCleanDisk, Shown};
 ghost use Rattle.sqlite.specs.Given.{IsPlain};
 ghost use Rattle.sqlite.specs.Listing.{understood};
 ghost use Rattle.sqlite.specs.Values.{bound};
 ghost use Rattle.s10_rows.specs.Tables.{Tables, HaveSameRows};
-ghost use Rattle.s10_schema.specs.Schema.{IsLedgerSchema, with_others};
-ghost use Rattle.s10_statements.specs.Shown.{HasTables, shown_head, shown_call, shown_range, shown_serial, head_columns, call_columns, range_columns, serial_columns, IsNumbered};
+ghost use Rattle.s10_schema.specs.Schema.{IsLedgerSchema, IsClosedSchema};
+ghost use Rattle.s10_statements.specs.Shown.{HasTables, shown_head, shown_call, shown_range, shown_serial, shown_closed, head_columns, call_columns, range_columns, serial_columns, closed_columns, IsNumbered};
 ghost use Rattle.s10_rows.specs.Selected.{has_key_columns, arrives_between, is_within};
-ghost use Rattle.s10_statements.specs.Settled.{Spares};
-ghost use Rattle.s10_statements.specs.Statements.{Leaves};
+ghost use Rattle.s10_statements.specs.Settled.{Spares, SparesWhere};
+ghost use Rattle.s10_statements.specs.Statements.{Leaves, LeavesWhere};
 
-use crate::row_reading::{heads_in, ranges_in, serials_in};
+use crate::row_reading::{closed_rows_in, heads_in, ranges_in, serials_in};
 use crate::streams::{calls_shown, numbered_serials_shown};
-use s10_rows::{CallRow, HeadRow, RangeRow, SerialRow};
+use s10_rows::{CallRow, ClosedRow, HeadRow, RangeRow, SerialRow};
 use sqlite::types::ValueRef;
 use sqlite::{Alter, Connection, Error, Row, params};
 use std::alloc::Global;
@@ -31,8 +30,8 @@ fn read<S: Alter>(
     sql: &str,
     params: &[ValueRef<'_>],
 ) -> Result<Vec<Row>, Error>
-    ensures leaves { ((o : Schema) → IsPlain (understood (with_others o) sql.now)) → Leaves S.Store conn.old conn.new }
-    ensures spares { ((o : Schema) → IsPlain (understood (with_others o) sql.now)) → Spares S.Store conn.old conn.new }
+    ensures leaves { LeavesWhere (λ schema. IsPlain (understood schema sql.now)) S.Store conn.old conn.new }
+    ensures spares { SparesWhere (λ schema. IsPlain (understood schema sql.now)) S.Store conn.old conn.new }
     ensures rows { HasCleanDisk (state S.Store conn.new) → IfOk result (λ rows. Shown sql.now (bound params.now) (state S.Store conn.old) (state S.Store conn.new) rows.items) }
     ensures opened { HasCleanDisk (state S.Store conn.new) → OnOk result (IsTrue (state S.Store conn.new).is_open) }
 {
@@ -169,4 +168,21 @@ pub fn all_serials<S: Alter>(
         conn,
         "SELECT pair, serial, arrival, day, customer, number, voided, rowid FROM serials ORDER BY pair, serial",
     )
+}
+
+/// All rows of `closed`, in order of the numbers of their ranges.
+pub fn all_closed<S: Alter>(
+    alloc: Global,
+    conn: &mut Connection<S>,
+) -> Result<Vec<ClosedRow>, Error>
+    ensures spares { SparesWhere IsClosedSchema S.Store conn.old conn.new }
+    ensures leaves { LeavesWhere IsClosedSchema S.Store conn.old conn.new }
+    ensures opened { HasCleanDisk (state S.Store conn.new) → OnOk result (IsTrue (state S.Store conn.new).is_open) }
+    ensures rows { HasCleanDisk (state S.Store conn.new) → IfOk result (λ rows. IsClosedSchema (state S.Store conn.old).now.schema
+        → HaveSameRows (map shown_closed rows.items) (map closed_columns ((state S.Store conn.old).now.trees 6))) }
+    ensures in_order { HasCleanDisk (state S.Store conn.new) → IfOk result (λ rows. (tables : Tables) → HasTables (state S.Store conn.old).now tables
+        → IsAscending (λ a b. int_cmp a.num b.num ≡ Ordering.Less) tables.closed → rows.items ≡ tables.closed) }
+{
+    let rows = read(conn, "SELECT num, arrival FROM closed ORDER BY num", &[])?;
+    closed_rows_in(alloc, &rows)
 }

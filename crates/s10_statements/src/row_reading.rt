@@ -3,9 +3,9 @@
 ghost use Rattle.std.specs.Prelude.{◌≡◌, length, IfOk, OnOk, IsTrue, All, map};
 ghost use Rattle.sqlite_value.specs.Order.{column};
 ghost use Rattle.sqlite_trees.specs.View.{is_int};
-ghost use Rattle.s10_statements.specs.Shown.{shown_head, shown_call, shown_range, shown_serial, serial_front};
+ghost use Rattle.s10_statements.specs.Shown.{shown_head, shown_call, shown_range, shown_serial, shown_closed, serial_front};
 
-use s10_rows::{CallRow, HeadRow, RangeRow, SerialRow};
+use s10_rows::{CallRow, ClosedRow, HeadRow, RangeRow, SerialRow};
 use sqlite::{Error, Row};
 use std::alloc::Global;
 
@@ -73,6 +73,16 @@ fn serial_in(row: &Row) -> Result<SerialRow, Error>
     })
 }
 
+fn closed_in(row: &Row) -> Result<ClosedRow, Error>
+    ensures { IfOk result (λ closed. shown_closed closed ≡ row.now) }
+{
+    check_width(row, 2)?;
+    Ok(ClosedRow {
+        num: row.get(0)?,
+        arrival: row.get(1)?,
+    })
+}
+
 pub(crate) fn heads_in(alloc: Global, rows: &[Row]) -> Result<Vec<HeadRow>, Error>
     ensures { IfOk result (λ heads. map shown_head heads.items ≡ rows.now) }
 {
@@ -101,6 +111,16 @@ pub(crate) fn serials_in(alloc: Global, rows: &[Row]) -> Result<Vec<SerialRow>, 
         serials.push(serial_in(row)?)?;
     }
     Ok(serials)
+}
+
+pub(crate) fn closed_rows_in(alloc: Global, rows: &[Row]) -> Result<Vec<ClosedRow>, Error>
+    ensures { IfOk result (λ closed. map shown_closed closed.items ≡ rows.now) }
+{
+    let mut closed = Vec::new(alloc);
+    for row in rows {
+        closed.push(closed_in(row)?)?;
+    }
+    Ok(closed)
 }
 
 // A row with its rowid behind the columns.

@@ -1,18 +1,18 @@
 //! The writes of a kept call.
 
-ghost use Rattle.std.specs.Prelude.{◌≡◌, ◌≤◌, ◌⊎◌, ◌++◌, ◌∷◌, [], pos, true, IsTrue, List, length, filter, OnOk, OnErr};
+ghost use Rattle.std.specs.Prelude.{◌≡◌, ◌≤◌, ◌⊎◌, ◌++◌, ◌∷◌, [], pos, true, IsTrue, List, length, filter, option_to_list, OnOk, OnErr};
 ghost use Rattle.sqlite_trees.specs.Tree.{Trees};
 ghost use Rattle.sqlite_trees.specs.View.{doubt};
 ghost use Rattle.sqlite.specs.Held.{state};
 ghost use Rattle.sqlite.specs.State.{HasCleanDisk, Shows, KeepsCommit, Survives};
 ghost use Rattle.s10_rows.specs.CallRow.{StoredCall};
-ghost use Rattle.s10_rows.specs.Tables.{Tables};
+ghost use Rattle.s10_rows.specs.Tables.{Tables, closing};
 ghost use Rattle.s10_statements.specs.Shown.{HasTables};
 ghost use Rattle.s10_statements.specs.Settled.{IsSettled};
 ghost use Rattle.s10_rows.specs.Kept.{FindAtMostOne, is_at, row_of, with_range, with_ranges, with_serial, with_serials};
 
 use s10_book::Entry;
-use s10_rows::{RangeRow, RangeWrite, SerialRow, SerialWrite};
+use s10_rows::{ClosedRow, RangeRow, RangeWrite, SerialRow, SerialWrite};
 use sqlite::{Alter, Connection, Error, Transaction, params};
 
 /// Adds the row of a call.
@@ -212,6 +212,45 @@ fn put_serials<S: Alter>(tx: &mut Transaction<'_, S>, serials: &[SerialWrite]) -
     Ok(())
 }
 
+/// Adds the row of a closed range.
+fn add_closed<S: Alter>(tx: &mut Transaction<'_, S>, closed: &ClosedRow) -> Result<(), Error>
+    ensures same_reference { tx.new.conn.ghost_name ≡ tx.old.conn.ghost_name }
+    ensures made { HasCleanDisk (state S.Store tx.new.conn.now) → IsTrue (state S.Store tx.old.conn.now).in_transaction → OnOk result ((tables : Tables) → HasTables (state S.Store tx.old.conn.now).now tables
+        → HasTables (state S.Store tx.new.conn.now).now (record tables { closed = tables.closed ++ closed.now ∷ [] })) }
+    ensures inside { HasCleanDisk (state S.Store tx.new.conn.now) → IsTrue (state S.Store tx.old.conn.now).in_transaction
+        → OnOk result (IsTrue (state S.Store tx.new.conn.now).in_transaction) }
+    ensures kept { HasCleanDisk (state S.Store tx.new.conn.now) → IsTrue (state S.Store tx.old.conn.now).in_transaction → KeepsCommit (state S.Store tx.old.conn.now) (state S.Store tx.new.conn.now) }
+    ensures survives { Survives (state S.Store tx.old.conn.now) (state S.Store tx.new.conn.now) (λ _. ⊥) }
+{
+    let ClosedRow { num, arrival } = *closed;
+    tx.execute(
+        "INSERT INTO closed (num, arrival) VALUES (?1, ?2)",
+        params![num, arrival],
+    )?;
+    Ok(())
+}
+
+/// Adds the row of the range that a call closes, where it closes one.
+fn put_closed<S: Alter>(
+    tx: &mut Transaction<'_, S>,
+    arrival: u32,
+    entry: &Entry,
+) -> Result<(), Error>
+    ensures same_reference { tx.new.conn.ghost_name ≡ tx.old.conn.ghost_name }
+    ensures made { HasCleanDisk (state S.Store tx.new.conn.now) → IsTrue (state S.Store tx.old.conn.now).in_transaction → OnOk result ((tables : Tables) → HasTables (state S.Store tx.old.conn.now).now tables
+        → HasTables (state S.Store tx.new.conn.now).now (record tables { closed = tables.closed ++ option_to_list (closing arrival entry.now.request.body entry.now.outcome) })) }
+    ensures inside { HasCleanDisk (state S.Store tx.new.conn.now) → IsTrue (state S.Store tx.old.conn.now).in_transaction
+        → OnOk result (IsTrue (state S.Store tx.new.conn.now).in_transaction) }
+    ensures kept { HasCleanDisk (state S.Store tx.new.conn.now) → IsTrue (state S.Store tx.old.conn.now).in_transaction → KeepsCommit (state S.Store tx.old.conn.now) (state S.Store tx.new.conn.now) }
+    ensures survives { Survives (state S.Store tx.old.conn.now) (state S.Store tx.new.conn.now) (λ _. ⊥) }
+    ensures clean { doubt (state S.Store tx.old.conn.now).is_clean ≤ doubt (state S.Store tx.new.conn.now).is_clean }
+{
+    match ClosedRow::made_by(arrival, entry) {
+        Some(row) => add_closed(tx, &row),
+        None => Ok(()),
+    }
+}
+
 /// Writes the row of a call and those that it makes, in one transaction: all of them, or none.
 pub fn keep_rows<S: Alter>(
     conn: &mut Connection<S>,
@@ -227,7 +266,12 @@ pub fn keep_rows<S: Alter>(
     ensures all { let row : StoredCall = record { arrival = pos arrival; customer = pos entry.now.request.customer; number = pos entry.now.request.number; day = pos entry.now.day; reply = reply.now } in
         HasCleanDisk (state S.Store conn.new) → OnOk result ((tables : Tables) → HasTables (state S.Store conn.old).now tables
         → FindAtMostOne serials.now tables.serials
-        → HasTables (state S.Store conn.new).now (record tables { calls = tables.calls ++ row ∷ []; ranges = with_ranges ranges.now tables.ranges; serials = with_serials serials.now tables.serials })) }
+        → HasTables (state S.Store conn.new).now (record tables {
+          calls = tables.calls ++ row ∷ [];
+          ranges = with_ranges ranges.now tables.ranges;
+          serials = with_serials serials.now tables.serials;
+          closed = tables.closed ++ option_to_list (closing arrival entry.now.request.body entry.now.outcome);
+        })) }
     ensures none { HasCleanDisk (state S.Store conn.new) → IsTrue (state S.Store conn.new).is_open → OnErr result ((state S.Store conn.new).now ≡ (state S.Store conn.old).now) }
     ensures was_open { HasCleanDisk (state S.Store conn.new) → IsTrue (state S.Store conn.new).is_open → IsTrue (state S.Store conn.old).is_open }
     ensures clean { doubt (state S.Store conn.old).is_clean ≤ doubt (state S.Store conn.new).is_clean }
@@ -235,11 +279,17 @@ pub fn keep_rows<S: Alter>(
         HasCleanDisk (state S.Store conn.new) → (db : Trees) → (state S.Store conn.new).may_leave db
         → (state S.Store conn.old).may_leave db ⊎ (IsTrue (state S.Store conn.old).is_open × ((tables : Tables) → HasTables (state S.Store conn.old).now tables
         → FindAtMostOne serials.now tables.serials
-        → HasTables (record (state S.Store conn.old).now { trees = db }) (record tables { calls = tables.calls ++ row ∷ []; ranges = with_ranges ranges.now tables.ranges; serials = with_serials serials.now tables.serials }))) }
+        → HasTables (record (state S.Store conn.old).now { trees = db }) (record tables {
+          calls = tables.calls ++ row ∷ [];
+          ranges = with_ranges ranges.now tables.ranges;
+          serials = with_serials serials.now tables.serials;
+          closed = tables.closed ++ option_to_list (closing arrival entry.now.request.body entry.now.outcome);
+        }))) }
 {
     let mut tx = conn.transaction();
     put_call(&mut tx, arrival, entry, reply)?;
     put_ranges(&mut tx, ranges)?;
     put_serials(&mut tx, serials)?;
+    put_closed(&mut tx, arrival, entry)?;
     tx.commit()
 }

@@ -10,7 +10,7 @@ use Rattle.s10_core.specs.Serial.{number_of}
 use Rattle.s10_core.proofs.Decimals.{number_of-digits_of}
 use Rattle.s10_wire.proofs.Identifiers.{capital_passes, spelling_passes}
 use Rattle.s10_wire.specs.declared.body.Body.{Body}
-use Rattle.s10_wire.specs.declared.body.Body.TheVariants.{Grant, Draw, Void, Query, DrawMany}
+use Rattle.s10_wire.specs.declared.body.Body.TheVariants.{Grant, Draw, Void, Query, DrawMany, Withdraw}
 use Rattle.s10_wire.specs.declared.request.Request.{Request}
 use Rattle.s10_wire.specs.declared.wire_fault.WireFault.{WireFault}
 use Rattle.s10_wire.specs.declared.kind.Kind.{Kind}
@@ -46,7 +46,8 @@ body_in code b =
     else if code == 2 then Draw (pair_in b 12) (pair_in b 14)
     else if code == 3 then Void (id_in b 12)
     else if code == 4 then Query (id_in b 12)
-    else DrawMany (pair_in b 12) (pair_in b 14) (byte b 16)
+    else if code == 5 then DrawMany (pair_in b 12) (pair_in b 14) (byte b 16)
+    else Withdraw (number b 12)
 
 serial_fits : (n : ℕ) → n < 10 ^ 8 → n < 2 ^ 32
 serial_fits n lt = omega arith
@@ -60,6 +61,7 @@ body_again mark customer number (Draw service country) rest ok = refl
 body_again mark customer number (Void id) rest ok = rw (number_of-digits_of id.serial ok.serial) refl
 body_again mark customer number (Query id) rest ok = rw (number_of-digits_of id.serial ok.serial) refl
 body_again mark customer number (DrawMany service country count) rest ok = refl
+body_again mark customer number (Withdraw range) rest ok = rw (from_be_bytes-to_be_bytes_4 range ok) refl
 
 serial_passes : (n : ℕ) → n < 10 ^ 8 → nat_lt n 100000000 ≡ true
 serial_passes n ok = grind (arith, common_steps)
@@ -77,6 +79,7 @@ right_fields mark customer number (Void id) rest ok = rw (spelling_passes id ok)
 right_fields mark customer number (Query id) rest ok = rw (spelling_passes id ok) refl
 right_fields mark customer number (DrawMany service country count) rest ok =
     rw (capital_passes service.0 ok.0.0, capital_passes service.1 ok.0.1, capital_passes country.0 ok.1.0, capital_passes country.1 ok.1.1, count_passes count ok.2) refl
+right_fields mark customer number (Withdraw range) rest ok = refl
 
 not_refused_of : (customer number : ℕ) (body : Body) → IsBody body → first_refusal (request_refusals (datagram 0 (record { customer = customer; number = number; body = body }))) ≡ None
 not_refused_of customer number (Grant holder service country first last) ok = right_fields 0 customer number (Grant holder service country first last) [] ok
@@ -84,6 +87,7 @@ not_refused_of customer number (Draw service country) ok = right_fields 0 custom
 not_refused_of customer number (Void id) ok = right_fields 0 customer number (Void id) [] ok
 not_refused_of customer number (Query id) ok = right_fields 0 customer number (Query id) [] ok
 not_refused_of customer number (DrawMany service country count) ok = right_fields 0 customer number (DrawMany service country count) [] ok
+not_refused_of customer number (Withdraw range) ok = right_fields 0 customer number (Withdraw range) [] ok
 
 pub not_refused : (q : Request) → IsRequest q → first_refusal (request_refusals (datagram 0 q)) ≡ None
 not_refused q ok = not_refused_of q.customer q.number q.body ok.2

@@ -1,11 +1,11 @@
 -- How long datagrams are.
 use Rattle.std.proofs.Common.{◌≡◌, ℕ, ◌≤◌, true, List, ◌++◌, length, sym, subst, arith}
 use Rattle.s10_wire.specs.declared.body.Body.{Body}
-use Rattle.s10_wire.specs.declared.body.Body.TheVariants.{Grant, Draw, Void, Query, DrawMany}
+use Rattle.s10_wire.specs.declared.body.Body.TheVariants.{Grant, Draw, Void, Query, DrawMany, Withdraw}
 use Rattle.s10_wire.specs.declared.request.Request.{Request}
 use Rattle.s10_wire.specs.declared.status.Status.TheVariants as statuses
 use Rattle.s10_wire.specs.declared.outcome.Outcome.{Outcome}
-use Rattle.s10_wire.specs.declared.outcome.Outcome.TheVariants.{Granted, Drawn, DrawnMany, Voided, Told, NotThePost, BadGrant, Overlap, NoRange, NoneFree, NotYours, NotIssued, AlreadyVoid, NumberReused}
+use Rattle.s10_wire.specs.declared.outcome.Outcome.TheVariants.{Granted, Drawn, DrawnMany, Voided, Told, Withdrawn, NotThePost, BadGrant, Overlap, NoRange, NoneFree, NotYours, NotIssued, AlreadyVoid, NoSuchRange, Closed, NumberReused}
 use Rattle.s10_wire.specs.Kind.{fits}
 use Rattle.s10_wire.specs.Datagrams.{datagram, outcome_bytes, IsOutcome, Asks, Replies}
 use Rattle.s10_wire.proofs.Many.{length-spellings}
@@ -19,6 +19,7 @@ short_request c n (Draw s t) = omega arith
 short_request c n (Void x) = omega arith
 short_request c n (Query x) = omega arith
 short_request c n (DrawMany s t count) = omega arith
+short_request c n (Withdraw range) = omega arith
 
 pub request_is_short : (b : List ℕ) (q : Request) → Asks b q → length b ≤ 28
 request_is_short b q asks = let P : List ℕ → Type 0 = λ x. length x ≤ 28 in subst P (sym asks.1) (short_request q.customer q.number q.body)
@@ -48,6 +49,11 @@ short_reply c n (DrawMany s t count) (DrawnMany day ids) ok fit = omega (arith, 
 short_reply c n (DrawMany s t count) NoRange ok fit = omega arith
 short_reply c n (DrawMany s t count) NoneFree ok fit = omega arith
 short_reply c n (DrawMany s t count) NumberReused ok fit = omega arith
+short_reply c n (Withdraw range) Withdrawn ok fit = omega arith
+short_reply c n (Withdraw range) NotThePost ok fit = omega arith
+short_reply c n (Withdraw range) NoSuchRange ok fit = omega arith
+short_reply c n (Withdraw range) Closed ok fit = omega arith
+short_reply c n (Withdraw range) NumberReused ok fit = omega arith
 short_reply c n body o ok fit = absurd cc
 
 pub reply_is_short : (b : List ℕ) (q : Request) (o : Outcome) → Replies b q o → length b ≤ 230

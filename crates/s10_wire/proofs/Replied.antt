@@ -5,12 +5,12 @@ use Rattle.std.specs.Result.{result_err}
 use Rattle.std.proofs.lemmas.Nat.{from_be_bytes-to_be_bytes_4}
 use Rattle.s10_core.proofs.Decimals.{number_of-digits_of}
 use Rattle.s10_wire.specs.declared.body.Body.{Body}
-use Rattle.s10_wire.specs.declared.body.Body.TheVariants.{Grant, Draw, Void, Query, DrawMany}
+use Rattle.s10_wire.specs.declared.body.Body.TheVariants.{Grant, Draw, Void, Query, DrawMany, Withdraw}
 use Rattle.s10_wire.specs.declared.request.Request.{Request}
 use Rattle.s10_wire.specs.declared.status.Status.{Status}
 use Rattle.s10_wire.specs.declared.status.Status.TheVariants as statuses
 use Rattle.s10_wire.specs.declared.outcome.Outcome.{Outcome}
-use Rattle.s10_wire.specs.declared.outcome.Outcome.TheVariants.{Granted, Drawn, DrawnMany, Voided, Told, NotThePost, BadGrant, Overlap, NoRange, NoneFree, NotYours, NotIssued, AlreadyVoid, NumberReused}
+use Rattle.s10_wire.specs.declared.outcome.Outcome.TheVariants.{Granted, Drawn, DrawnMany, Voided, Told, Withdrawn, NotThePost, BadGrant, Overlap, NoRange, NoneFree, NotYours, NotIssued, AlreadyVoid, NoSuchRange, Closed, NumberReused}
 use Rattle.s10_wire.specs.declared.wire_fault.WireFault.{WireFault}
 use Rattle.s10_wire.specs.declared.wire_fault.WireFault.TheVariants.{Short}
 use Rattle.s10_wire.specs.declared.reply.Reply.{Reply}
@@ -32,7 +32,8 @@ code_outcome : ℕ → Outcome
 code_outcome code =
     if code == 1 then NotThePost else if code == 2 then BadGrant else if code == 3 then Overlap
     else if code == 4 then NoRange else if code == 5 then NoneFree else if code == 6 then NotYours
-    else if code == 7 then NotIssued else if code == 8 then AlreadyVoid else NumberReused
+    else if code == 7 then NotIssued else if code == 8 then AlreadyVoid
+    else if code == 10 then NoSuchRange else if code == 11 then Closed else NumberReused
 
 status_in : ℕ → ℕ → Status
 status_in code day =
@@ -45,6 +46,7 @@ done_in kinds.Draw b = Drawn (number b 1) (id_in b 5)
 done_in kinds.Void b = Voided
 done_in kinds.Query b = Told (status_in (byte b 1) (number b 2))
 done_in kinds.DrawMany b = DrawnMany (number b 1) (ids_in (length b / 13) (drop 5 b))
+done_in kinds.Withdraw b = Withdrawn
 
 outcome_in : Kind → List ℕ → Outcome
 outcome_in k b = if byte b 0 == 0 then done_in k b else code_outcome (byte b 0)
@@ -78,6 +80,11 @@ outcome_again (DrawMany s t count) (DrawnMany day ids) ok fit =
 outcome_again (DrawMany s t count) NoRange ok fit = refl
 outcome_again (DrawMany s t count) NoneFree ok fit = refl
 outcome_again (DrawMany s t count) NumberReused ok fit = refl
+outcome_again (Withdraw range) Withdrawn ok fit = refl
+outcome_again (Withdraw range) NotThePost ok fit = refl
+outcome_again (Withdraw range) NoSuchRange ok fit = refl
+outcome_again (Withdraw range) Closed ok fit = refl
+outcome_again (Withdraw range) NumberReused ok fit = refl
 outcome_again body o ok fit = absurd cc
 
 -- what stands behind the request's bytes
@@ -90,6 +97,7 @@ behind k mark q rest e = rw e (behind_body mark q.customer q.number q.body rest)
     behind_body mark customer number (Void id) rest = refl
     behind_body mark customer number (Query id) rest = refl
     behind_body mark customer number (DrawMany service country count) rest = refl
+    behind_body mark customer number (Withdraw range) rest = refl
 
 -- one reply for each datagram
 pub one_reply : (b : List ℕ) (p q : Request) (u o : Outcome) → Replies b p u → Replies b q o → (p ≡ q) × (u ≡ o)
@@ -145,6 +153,11 @@ reply_behind c n (DrawMany s t count) (DrawnMany day ids) ok out fit =
 reply_behind c n (DrawMany s t count) NoRange ok out fit = (refl, refl)
 reply_behind c n (DrawMany s t count) NoneFree ok out fit = (refl, refl)
 reply_behind c n (DrawMany s t count) NumberReused ok out fit = (refl, refl)
+reply_behind c n (Withdraw range) Withdrawn ok out fit = (refl, refl)
+reply_behind c n (Withdraw range) NotThePost ok out fit = (refl, refl)
+reply_behind c n (Withdraw range) NoSuchRange ok out fit = (refl, refl)
+reply_behind c n (Withdraw range) Closed ok out fit = (refl, refl)
+reply_behind c n (Withdraw range) NumberReused ok out fit = (refl, refl)
 reply_behind c n body o ok out fit = absurd cc
 
 -- a reply of given parts isn't refused

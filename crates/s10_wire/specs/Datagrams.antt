@@ -5,12 +5,12 @@ use Rattle.s10_core.specs.Letters.{AreCapitals, letters_of}
 use Rattle.s10_core.specs.Serial.{IsSerial}
 use Rattle.s10_core.specs.Id.{IsId, spelling_of}
 use Rattle.s10_wire.specs.declared.body.Body.{Body}
-use Rattle.s10_wire.specs.declared.body.Body.TheVariants.{Grant, Draw, Void, Query, DrawMany}
+use Rattle.s10_wire.specs.declared.body.Body.TheVariants.{Grant, Draw, Void, Query, DrawMany, Withdraw}
 use Rattle.s10_wire.specs.declared.request.Request.{Request}
 use Rattle.s10_wire.specs.declared.status.Status.{Status}
 use Rattle.s10_wire.specs.declared.status.Status.TheVariants.{Unknown, Never, Issued, Voided as StatusVoided}
 use Rattle.s10_wire.specs.declared.outcome.Outcome.{Outcome}
-use Rattle.s10_wire.specs.declared.outcome.Outcome.TheVariants.{Granted, Drawn, DrawnMany, Voided, Told, NotThePost, BadGrant, Overlap, NoRange, NoneFree, NotYours, NotIssued, AlreadyVoid, NumberReused}
+use Rattle.s10_wire.specs.declared.outcome.Outcome.TheVariants.{Granted, Drawn, DrawnMany, Voided, Told, Withdrawn, NotThePost, BadGrant, Overlap, NoRange, NoneFree, NotYours, NotIssued, AlreadyVoid, NoSuchRange, Closed, NumberReused}
 use Rattle.s10_wire.specs.Ids.{IsCount, AreIds, spellings_of}
 use Rattle.s10_wire.specs.Kind.{kind_of, code_of, version_of, fits}
 
@@ -26,6 +26,7 @@ fields (Draw service country) = letters_of service ++ letters_of country
 fields (Void id) = spelling_of id
 fields (Query id) = spelling_of id
 fields (DrawMany service country count) = letters_of service ++ letters_of country ++ count ∷ []
+fields (Withdraw range) = u32_bytes range
 
 -- the bytes of a request, where mark is added to the kind byte
 abbrev pub datagram : ℕ → Request → List ℕ
@@ -44,6 +45,7 @@ IsBody (Draw service country) = AreCapitals service × AreCapitals country
 IsBody (Void id) = IsId id
 IsBody (Query id) = IsId id
 IsBody (DrawMany service country count) = AreCapitals service × AreCapitals country × IsCount count
+IsBody (Withdraw range) = IsU32 range
 
 abbrev pub IsRequest : Request → Type 0
 IsRequest q = IsU32 q.customer × IsU32 q.number × IsBody q.body
@@ -80,6 +82,7 @@ outcome_bytes (Drawn day id) = 0 ∷ u32_bytes day ++ spelling_of id
 outcome_bytes (DrawnMany day ids) = 0 ∷ u32_bytes day ++ spellings_of ids
 outcome_bytes Voided = 0 ∷ []
 outcome_bytes (Told status) = 0 ∷ status_bytes status
+outcome_bytes Withdrawn = 0 ∷ []
 outcome_bytes NotThePost = 1 ∷ []
 outcome_bytes BadGrant = 2 ∷ []
 outcome_bytes Overlap = 3 ∷ []
@@ -88,6 +91,8 @@ outcome_bytes NoneFree = 5 ∷ []
 outcome_bytes NotYours = 6 ∷ []
 outcome_bytes NotIssued = 7 ∷ []
 outcome_bytes AlreadyVoid = 8 ∷ []
+outcome_bytes NoSuchRange = 10 ∷ []
+outcome_bytes Closed = 11 ∷ []
 outcome_bytes NumberReused = 9 ∷ []
 
 -- the bytes are the datagram of the reply: the outcome fits, and it stands behind the request

@@ -3,9 +3,9 @@ use Rattle.std.specs.Prelude.{ℕ, ◌+◌, ◌*◌, ◌==◌, Bool, ◌&&◌, L
 use Rattle.s10_wire.specs.declared.kind.Kind.{Kind}
 use Rattle.s10_wire.specs.declared.kind.Kind.TheVariants as kinds
 use Rattle.s10_wire.specs.declared.body.Body.{Body}
-use Rattle.s10_wire.specs.declared.body.Body.TheVariants.{Grant, Draw, Void, Query, DrawMany}
+use Rattle.s10_wire.specs.declared.body.Body.TheVariants.{Grant, Draw, Void, Query, DrawMany, Withdraw}
 use Rattle.s10_wire.specs.declared.outcome.Outcome.{Outcome}
-use Rattle.s10_wire.specs.declared.outcome.Outcome.TheVariants.{Granted, Drawn, DrawnMany, Voided, Told, NotThePost, BadGrant, Overlap, NoRange, NoneFree, NotYours, NotIssued, AlreadyVoid, NumberReused}
+use Rattle.s10_wire.specs.declared.outcome.Outcome.TheVariants.{Granted, Drawn, DrawnMany, Voided, Told, Withdrawn, NotThePost, BadGrant, Overlap, NoRange, NoneFree, NotYours, NotIssued, AlreadyVoid, NoSuchRange, Closed, NumberReused}
 
 -- the kind of what is asked
 abbrev pub kind_of : Body → Kind
@@ -14,6 +14,7 @@ kind_of (Draw service country) = kinds.Draw
 kind_of (Void id) = kinds.Void
 kind_of (Query id) = kinds.Query
 kind_of (DrawMany service country count) = kinds.DrawMany
+kind_of (Withdraw range) = kinds.Withdraw
 
 -- the kind byte of a request
 abbrev pub code_of : Kind → ℕ
@@ -22,6 +23,7 @@ code_of kinds.Draw = 2
 code_of kinds.Void = 3
 code_of kinds.Query = 4
 code_of kinds.DrawMany = 5
+code_of kinds.Withdraw = 6
 
 -- the version byte of a kind
 abbrev pub version_of : Kind → ℕ
@@ -30,6 +32,7 @@ version_of kinds.Draw = 1
 version_of kinds.Void = 1
 version_of kinds.Query = 1
 version_of kinds.DrawMany = 2
+version_of kinds.Withdraw = 2
 
 -- the kind with this version byte and this kind byte
 abbrev pub kind_of_codes : ℕ → ℕ → Option Kind
@@ -39,6 +42,7 @@ kind_of_codes version code =
     else if version == 1 && code == 3 then Some kinds.Void
     else if version == 1 && code == 4 then Some kinds.Query
     else if version == 2 && code == 5 then Some kinds.DrawMany
+    else if version == 2 && code == 6 then Some kinds.Withdraw
     else None
 
 -- how long a request is, and so where the outcome byte of its reply stands
@@ -48,6 +52,7 @@ request_length kinds.Draw = 16
 request_length kinds.Void = 25
 request_length kinds.Query = 25
 request_length kinds.DrawMany = 17
+request_length kinds.Withdraw = 16
 
 -- how long a Done reply with these bytes is
 abbrev pub done_length : Kind → List ℕ → ℕ
@@ -56,6 +61,7 @@ done_length kinds.Draw b = 34
 done_length kinds.Void b = 26
 done_length kinds.Query b = 31
 done_length kinds.DrawMany b = 22 + 13 * slice_index b 16
+done_length kinds.Withdraw b = 17
 
 -- how long a reply with these bytes is, by its outcome byte
 abbrev pub reply_length : Kind → List ℕ → ℕ
@@ -84,5 +90,9 @@ fits (Query id) NotYours = true
 fits (DrawMany service country count) (DrawnMany day ids) = length ids == count
 fits (DrawMany service country count) NoRange = true
 fits (DrawMany service country count) NoneFree = true
+fits (Withdraw range) Withdrawn = true
+fits (Withdraw range) NotThePost = true
+fits (Withdraw range) NoSuchRange = true
+fits (Withdraw range) Closed = true
 fits body NumberReused = true
 fits body outcome = false

@@ -4,12 +4,12 @@ use Rattle.s10_core.specs.Letters.{letters_of}
 use Rattle.s10_core.specs.Serial.{digits_of}
 use Rattle.s10_core.specs.Id.{spelling_of}
 use Rattle.s10_wire.specs.declared.body.Body.{Body}
-use Rattle.s10_wire.specs.declared.body.Body.TheVariants.{Grant, Draw, Void, Query, DrawMany}
+use Rattle.s10_wire.specs.declared.body.Body.TheVariants.{Grant, Draw, Void, Query, DrawMany, Withdraw}
 use Rattle.s10_wire.specs.declared.request.Request.{Request}
 use Rattle.s10_wire.specs.declared.status.Status.{Status}
 use Rattle.s10_wire.specs.declared.status.Status.TheVariants.{Unknown, Never, Issued, Voided as StatusVoided}
 use Rattle.s10_wire.specs.declared.outcome.Outcome.{Outcome}
-use Rattle.s10_wire.specs.declared.outcome.Outcome.TheVariants.{Granted, Drawn, DrawnMany, Voided, Told, NotThePost, BadGrant, Overlap, NoRange, NoneFree, NotYours, NotIssued, AlreadyVoid, NumberReused}
+use Rattle.s10_wire.specs.declared.outcome.Outcome.TheVariants.{Granted, Drawn, DrawnMany, Voided, Told, Withdrawn, NotThePost, BadGrant, Overlap, NoRange, NoneFree, NotYours, NotIssued, AlreadyVoid, NoSuchRange, Closed, NumberReused}
 
 -- words with a space before each
 unfoldable pub spaced : List (List ℕ) → List ℕ
@@ -28,6 +28,7 @@ body_words (Draw service country) = letters_of service ∷ letters_of country �
 body_words (Void id) = spelling_of id ∷ []
 body_words (Query id) = spelling_of id ∷ []
 body_words (DrawMany service country count) = letters_of service ∷ letters_of country ∷ decimal count ∷ []
+body_words (Withdraw range) = decimal range ∷ []
 
 abbrev pub kind_word : Body → List ℕ
 kind_word (Grant holder service country first last) = codes "grant"
@@ -35,6 +36,7 @@ kind_word (Draw service country) = codes "draw"
 kind_word (Void id) = codes "void"
 kind_word (Query id) = codes "query"
 kind_word (DrawMany service country count) = codes "draw-many"
+kind_word (Withdraw range) = codes "withdraw"
 
 -- a request
 abbrev pub request_words : Request → List (List ℕ)
@@ -54,6 +56,7 @@ outcome_words (Drawn day id) = codes "done" ∷ codes "day" ∷ decimal day ∷ 
 outcome_words (DrawnMany day ids) = codes "done" ∷ codes "day" ∷ decimal day ∷ map spelling_of ids
 outcome_words Voided = codes "done" ∷ []
 outcome_words (Told status) = codes "done" ∷ status_words status
+outcome_words Withdrawn = codes "done" ∷ []
 outcome_words NotThePost = codes "not-the-post" ∷ []
 outcome_words BadGrant = codes "bad-grant" ∷ []
 outcome_words Overlap = codes "overlap" ∷ []
@@ -62,6 +65,8 @@ outcome_words NoneFree = codes "none-free" ∷ []
 outcome_words NotYours = codes "not-yours" ∷ []
 outcome_words NotIssued = codes "not-issued" ∷ []
 outcome_words AlreadyVoid = codes "already-void" ∷ []
+outcome_words NoSuchRange = codes "no-such-range" ∷ []
+outcome_words Closed = codes "closed" ∷ []
 outcome_words NumberReused = codes "number-reused" ∷ []
 
 abbrev pub request_line : Request → List ℕ

@@ -7,7 +7,7 @@ use Rattle.s10_core.specs.Serial.{number_of, check_digit_of, character_of}
 use Rattle.s10_wire.specs.declared.wire_fault.WireFault.{WireFault}
 use Rattle.s10_wire.specs.declared.wire_fault.WireFault.TheVariants.{Short, Magic, Version, Kind as KindFault, Length, Field, Outcome}
 use Rattle.s10_wire.specs.declared.kind.Kind.{Kind}
-use Rattle.s10_wire.specs.declared.kind.Kind.TheVariants.{Grant, Draw, Void, Query, DrawMany}
+use Rattle.s10_wire.specs.declared.kind.Kind.TheVariants.{Grant, Draw, Void, Query, DrawMany, Withdraw}
 use Rattle.s10_wire.specs.Kind.{kind_of_codes, request_length, is_reply_long}
 
 -- of refusals in order, each behind its condition, the first whose condition holds
@@ -76,6 +76,7 @@ request_fields Void b = (not (is_identifier b 12), Field 12) ∷ []
 request_fields Query b = (not (is_identifier b 12), Field 12) ∷ []
 request_fields DrawMany b =
     (not (are_letters b 12), Field 12) ∷ (not (are_letters b 14), Field 14) ∷ (not (is_count (byte b 16)), Field 16) ∷ []
+request_fields Withdraw b = []
 
 -- so many identifiers one behind the other, from an offset on
 abbrev pub identifier_fields : ℕ → ℕ → List ℕ → List (Bool × WireFault)
@@ -90,6 +91,7 @@ done_fields Void b = []
 done_fields Query b =
     (nat_lt 3 (byte b 26), Field 26) ∷ (nat_lt (byte b 26) 2 && not (number b 27 == 0), Field 27) ∷ []
 done_fields DrawMany b = identifier_fields 22 (byte b 16) b
+done_fields Withdraw b = []
 
 -- whether the outcome byte fits the kind
 abbrev pub code_fits : Kind → ℕ → Bool
@@ -98,6 +100,7 @@ code_fits Draw code = code == 0 || code == 4 || code == 5 || code == 9
 code_fits Void code = code == 0 || code == 6 || code == 7 || code == 8 || code == 9
 code_fits Query code = code == 0 || code == 6 || code == 9
 code_fits DrawMany code = code == 0 || code == 4 || code == 5 || code == 9
+code_fits Withdraw code = code == 0 || code == 1 || code == 9 || code == 10 || code == 11
 
 -- the refusals of the outcome byte, and of the fields behind it
 abbrev pub outcome_refusals : Kind → List ℕ → List (Bool × WireFault)

@@ -32,4 +32,9 @@ pub enum Body {
         country: Country,
         count: Count,
     },
+    /// The post closes a range, so that no more identifiers are issued from it.
+    Withdraw {
+        /// The number that its Grant was answered with.
+        range: u32,
+    },
 }

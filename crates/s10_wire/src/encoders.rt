@@ -99,6 +99,7 @@ fn put_body(frame: &mut Frame, body: &Body)
             country,
             count,
         } => put_draw_many(frame, service, country, count),
+        Body::Withdraw { range } => frame.put(&range.to_be_bytes()),
     }
 }
 
@@ -192,6 +193,7 @@ fn put_outcome(frame: &mut Frame, outcome: &Outcome)
             frame.put(&[0]);
             put_status(frame, &status);
         }
+        Outcome::Withdrawn => frame.put(&[0]),
         Outcome::NotThePost => frame.put(&[1]),
         Outcome::BadGrant => frame.put(&[2]),
         Outcome::Overlap => frame.put(&[3]),
@@ -200,6 +202,8 @@ fn put_outcome(frame: &mut Frame, outcome: &Outcome)
         Outcome::NotYours => frame.put(&[6]),
         Outcome::NotIssued => frame.put(&[7]),
         Outcome::AlreadyVoid => frame.put(&[8]),
+        Outcome::NoSuchRange => frame.put(&[10]),
+        Outcome::Closed => frame.put(&[11]),
         Outcome::NumberReused => frame.put(&[9]),
     }
 }

@@ -13,6 +13,7 @@ pub enum Kind {
     Void,
     Query,
     DrawMany,
+    Withdraw,
 }
 
 impl Kind {
@@ -26,6 +27,7 @@ impl Kind {
             Body::Void { .. } => Kind::Void,
             Body::Query { .. } => Kind::Query,
             Body::DrawMany { .. } => Kind::DrawMany,
+            Body::Withdraw { .. } => Kind::Withdraw,
         }
     }
 
@@ -39,6 +41,7 @@ impl Kind {
             (1, 3) => Some(Kind::Void),
             (1, 4) => Some(Kind::Query),
             (2, 5) => Some(Kind::DrawMany),
+            (2, 6) => Some(Kind::Withdraw),
             _ => None,
         }
     }
@@ -53,6 +56,7 @@ impl Kind {
             Kind::Void => 3,
             Kind::Query => 4,
             Kind::DrawMany => 5,
+            Kind::Withdraw => 6,
         }
     }
 
@@ -62,7 +66,7 @@ impl Kind {
     {
         match self {
             Kind::Grant | Kind::Draw | Kind::Void | Kind::Query => 1,
-            Kind::DrawMany => 2,
+            Kind::DrawMany | Kind::Withdraw => 2,
         }
     }
 
@@ -72,7 +76,7 @@ impl Kind {
     {
         match self {
             Kind::Grant => 28,
-            Kind::Draw => 16,
+            Kind::Draw | Kind::Withdraw => 16,
             Kind::Void | Kind::Query => 25,
             Kind::DrawMany => 17,
         }
@@ -89,6 +93,7 @@ impl Kind {
             Kind::Void => 26,
             Kind::Query => 31,
             Kind::DrawMany => 22 + 13 * bytes[16] as usize,
+            Kind::Withdraw => 17,
         }
     }
 

@@ -57,6 +57,7 @@ fn kind_name(body: &Body) -> &'static [u8]
         Body::Void { .. } => b"void",
         Body::Query { .. } => b"query",
         Body::DrawMany { .. } => b"draw-many",
+        Body::Withdraw { .. } => b"withdraw",
     }
 }
 
@@ -87,6 +88,7 @@ fn write_body<W: Write>(body: &Body, out: &mut W) -> Result<(), WriteFault>
             country,
             count,
         } => write_draw_many(service, country, count, out),
+        Body::Withdraw { range } => write_decimal(range, out),
     }
 }
 
@@ -128,6 +130,7 @@ fn write_outcome<W: Write>(outcome: &Outcome, out: &mut W) -> Result<(), WriteFa
         Outcome::DrawnMany { day, ids } => write_drawn_many(day, &ids, out),
         Outcome::Voided => write_word(b"done", out),
         Outcome::Told(status) => write_told(&status, out),
+        Outcome::Withdrawn => write_word(b"done", out),
         Outcome::NotThePost => write_word(b"not-the-post", out),
         Outcome::BadGrant => write_word(b"bad-grant", out),
         Outcome::Overlap => write_word(b"overlap", out),
@@ -136,6 +139,8 @@ fn write_outcome<W: Write>(outcome: &Outcome, out: &mut W) -> Result<(), WriteFa
         Outcome::NotYours => write_word(b"not-yours", out),
         Outcome::NotIssued => write_word(b"not-issued", out),
         Outcome::AlreadyVoid => write_word(b"already-void", out),
+        Outcome::NoSuchRange => write_word(b"no-such-range", out),
+        Outcome::Closed => write_word(b"closed", out),
         Outcome::NumberReused => write_word(b"number-reused", out),
     }
 }

@@ -2,7 +2,7 @@ use crate::ids::Ids;
 use crate::status::Status;
 use s10_core::Id;
 
-/// What came of a call. The first five say that it was done, one for each kind of request.
+/// What came of a call. The first six say that it was done, one for each kind of request.
 #[derive(Clone, Copy, Debug, PartialEq, Eq)]
 pub enum Outcome {
     /// A Grant made the range of this number, counted from 1.
@@ -15,13 +15,15 @@ pub enum Outcome {
     Voided,
     /// The answer to a Query.
     Told(Status),
-    /// A Grant by another than the post.
+    /// A Withdraw was done.
+    Withdrawn,
+    /// A Grant or a Withdraw by another than the post.
     NotThePost,
     /// A Grant to holder 0, or with its first serial number above its last.
     BadGrant,
     /// A Grant that shares a serial number with a range of the same service and country.
     Overlap,
-    /// A Draw by a customer without a range of that service and country.
+    /// A Draw by a customer without an open range of that service and country.
     NoRange,
     /// A Draw where none of these ranges has an identifier free.
     NoneFree,
@@ -31,6 +33,10 @@ pub enum Outcome {
     NotIssued,
     /// A Void of an identifier that is voided.
     AlreadyVoid,
+    /// A Withdraw of a number that no range has.
+    NoSuchRange,
+    /// A Withdraw of a range that is closed.
+    Closed,
     /// Any request under a number that its customer used for another one.
     NumberReused,
 }

@@ -73,6 +73,10 @@ fn fits(body: &Body, outcome: &Outcome) -> bool
             ids.len() == count.value() as usize
         }
         (Body::DrawMany { .. }, Outcome::NoRange | Outcome::NoneFree) => true,
+        (
+            Body::Withdraw { .. },
+            Outcome::Withdrawn | Outcome::NotThePost | Outcome::NoSuchRange | Outcome::Closed,
+        ) => true,
         _ => false,
     }
 }

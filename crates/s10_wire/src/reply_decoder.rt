@@ -80,6 +80,7 @@ fn done_at(body: &Body, bytes: &[u8]) -> Result<Outcome, WireFault>
             Ok(Outcome::DrawnMany { day, ids })
         }
         Body::Void { .. } => Ok(Outcome::Voided),
+        Body::Withdraw { .. } => Ok(Outcome::Withdrawn),
         Body::Query { .. } => {
             let status = status_at(bytes)?;
             Ok(Outcome::Told(status))
@@ -97,7 +98,7 @@ fn refusal_of(body: &Body, code: u8) -> Result<Outcome, WireFault>
 {
     match (body, code) {
         (_, 9) => Ok(Outcome::NumberReused),
-        (Body::Grant { .. }, 1) => Ok(Outcome::NotThePost),
+        (Body::Grant { .. } | Body::Withdraw { .. }, 1) => Ok(Outcome::NotThePost),
         (Body::Grant { .. }, 2) => Ok(Outcome::BadGrant),
         (Body::Grant { .. }, 3) => Ok(Outcome::Overlap),
         (Body::Draw { .. } | Body::DrawMany { .. }, 4) => Ok(Outcome::NoRange),
@@ -105,6 +106,8 @@ fn refusal_of(body: &Body, code: u8) -> Result<Outcome, WireFault>
         (Body::Void { .. } | Body::Query { .. }, 6) => Ok(Outcome::NotYours),
         (Body::Void { .. }, 7) => Ok(Outcome::NotIssued),
         (Body::Void { .. }, 8) => Ok(Outcome::AlreadyVoid),
+        (Body::Withdraw { .. }, 10) => Ok(Outcome::NoSuchRange),
+        (Body::Withdraw { .. }, 11) => Ok(Outcome::Closed),
         _ => Err(WireFault::Outcome),
     }
 }

@@ -121,6 +121,9 @@ fn body_at(kind: Kind, bytes: &[u8]) -> Result<Body, WireFault>
         Kind::Void => void_at(bytes),
         Kind::Query => query_at(bytes),
         Kind::DrawMany => draw_many_at(bytes),
+        Kind::Withdraw => Ok(Body::Withdraw {
+            range: number_at(bytes, 12),
+        }),
     }
 }
 

@@ -109,6 +109,17 @@ fn changed_bytes_of_a_larger_draw_are_refused_or_written_again(rt: HostRuntime) 
 }
 
 #[test]
+fn changed_bytes_of_a_withdrawal_are_refused_or_written_again(rt: HostRuntime) {
+    let mut asked = *b"S1\x02\x06\x00\x00\x00\x00\x00\x00\x00\x02\x00\x00\x00\x01";
+    let mut done = *b"S1\x02\x86\x00\x00\x00\x00\x00\x00\x00\x02\x00\x00\x00\x01\x00";
+    let mut refused = *b"S1\x02\x86\x00\x00\x00\x00\x00\x00\x00\x03\x00\x00\x00\x01\x0b";
+    // Any customer, number and range; and of outcomes each of the other four.
+    assert_eq!(rt; changes_read(&rt, &mut asked), 12 * 255);
+    assert_eq!(rt; reply_changes_read(&rt, &mut done), 12 * 255 + 4);
+    assert_eq!(rt; reply_changes_read(&rt, &mut refused), 12 * 255 + 4);
+}
+
+#[test]
 fn a_sheet_of_sixteen_is_the_longest_reply(rt: HostRuntime) {
     let bytes: &[u8] =
         b"S1\x02\x85\x00\x00\x00\x07\x00\x00\x00\x01RAGB\x10\x00\x00\x00\x4e\x20RA000000005GBRA000000014GBRA000000028GBRA000000031GBRA000000045GBRA000000059GBRA000000062GBRA000000076GBRA000000080GBRA000000093GBRA000000102GBRA000000116GBRA000000120GBRA000000133GBRA000000147GBRA000000155GB";

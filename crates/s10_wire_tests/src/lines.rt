@@ -1,13 +1,15 @@
 //! Requests and replies as lines.
 
-use crate::vectors::{draw, draw_many, drawn, drawn_many, grant, query, reply, request, void};
+use crate::vectors::{
+    draw, draw_many, drawn, drawn_many, grant, query, reply, request, void, withdraw,
+};
 use s10_wire::{Outcome, Reply, Request, Status, WriteFault, write_reply_line, write_request_line};
 use std::alloc::Global;
 use std::io;
 use std::io::Write;
 use std::process::Abort;
 
-fn request_lines(rt: &impl Abort) -> [(Request, &'static [u8]); 5] {
+fn request_lines(rt: &impl Abort) -> [(Request, &'static [u8]); 6] {
     [
         (
             request(0, 1, grant(rt, 7, 0, 2)),
@@ -29,10 +31,14 @@ fn request_lines(rt: &impl Abort) -> [(Request, &'static [u8]); 5] {
             request(7, 1, draw_many(rt, 16)),
             b"request draw-many customer 7 number 1 RA GB 16\n",
         ),
+        (
+            request(0, 2, withdraw(u32::MAX)),
+            b"request withdraw customer 0 number 2 4294967295\n",
+        ),
     ]
 }
 
-fn reply_lines(rt: &impl Abort) -> [(Request, Outcome, &'static [u8]); 24] {
+fn reply_lines(rt: &impl Abort) -> [(Request, Outcome, &'static [u8]); 29] {
     [
         (
             request(0, 1, grant(rt, 7, 0, 2)),
@@ -153,6 +159,31 @@ fn reply_lines(rt: &impl Abort) -> [(Request, Outcome, &'static [u8]); 24] {
             request(7, 2, draw_many(rt, 2)),
             Outcome::NumberReused,
             b"reply draw-many customer 7 number 2 RA GB 2 number-reused\n",
+        ),
+        (
+            request(0, 2, withdraw(1)),
+            Outcome::Withdrawn,
+            b"reply withdraw customer 0 number 2 1 done\n",
+        ),
+        (
+            request(7, 2, withdraw(1)),
+            Outcome::NotThePost,
+            b"reply withdraw customer 7 number 2 1 not-the-post\n",
+        ),
+        (
+            request(0, 2, withdraw(1)),
+            Outcome::NoSuchRange,
+            b"reply withdraw customer 0 number 2 1 no-such-range\n",
+        ),
+        (
+            request(0, 2, withdraw(1)),
+            Outcome::Closed,
+            b"reply withdraw customer 0 number 2 1 closed\n",
+        ),
+        (
+            request(0, 2, withdraw(1)),
+            Outcome::NumberReused,
+            b"reply withdraw customer 0 number 2 1 number-reused\n",
         ),
     ]
 }

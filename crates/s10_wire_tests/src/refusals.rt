@@ -115,7 +115,7 @@ fn a_larger_draw_is_refused_for_the_first_thing_wrong(rt: HostRuntime) {
             WireFault::Kind,
         ),
         (
-            b"S1\x02\x06\x00\x00\x00\x07\x00\x00\x00\x01RAGB\x02",
+            b"S1\x02\x07\x00\x00\x00\x07\x00\x00\x00\x01RAGB\x02",
             WireFault::Kind,
         ),
         (
@@ -222,6 +222,117 @@ fn a_reply_to_a_larger_draw_is_refused_for_the_first_thing_wrong(rt: HostRuntime
     ];
     for (bytes, fault) in refused {
         assert_eq!(rt; decode_reply(bytes), Err(fault), "{bytes:?}");
+    }
+}
+
+#[test]
+fn a_withdrawal_is_refused_for_the_first_thing_wrong(rt: HostRuntime) {
+    let refused: [(&[u8], WireFault); 7] = [
+        (
+            b"S1\x02\x06\x00\x00\x00\x00\x00\x00\x00\x02\x00\x00\x00",
+            WireFault::Length,
+        ),
+        (
+            b"S1\x02\x06\x00\x00\x00\x00\x00\x00\x00\x02\x00\x00\x00\x01\x00",
+            WireFault::Length,
+        ),
+        (
+            b"S1\x02\x06\x00\x00\x00\x00\x00\x00\x00\x02",
+            WireFault::Length,
+        ),
+        (
+            b"S1\x01\x06\x00\x00\x00\x00\x00\x00\x00\x02\x00\x00\x00\x01",
+            WireFault::Kind,
+        ),
+        (
+            b"S1\x02\x86\x00\x00\x00\x00\x00\x00\x00\x02\x00\x00\x00\x01",
+            WireFault::Kind,
+        ),
+        (
+            b"S1\x03\x06\x00\x00\x00\x00\x00\x00\x00\x02\x00\x00\x00\x01",
+            WireFault::Version,
+        ),
+        (b"S1\x02\x06\x00\x00\x00\x00\x00\x00\x00", WireFault::Short),
+    ];
+    for (bytes, fault) in refused {
+        assert_eq!(rt; decode_request(bytes), Err(fault), "{bytes:?}");
+    }
+}
+
+#[test]
+fn a_reply_to_a_withdrawal_is_refused_for_the_first_thing_wrong(rt: HostRuntime) {
+    let refused: [(&[u8], WireFault); 10] = [
+        (
+            b"S1\x02\x86\x00\x00\x00\x00\x00\x00\x00\x02\x00\x00\x00\x01",
+            WireFault::Length,
+        ),
+        (
+            b"S1\x02\x86\x00\x00\x00\x00\x00\x00\x00\x02\x00\x00\x00\x01\x00\x00",
+            WireFault::Length,
+        ),
+        (
+            b"S1\x02\x86\x00\x00\x00\x00\x00\x00\x00\x02\x00\x00\x00\x01\x0b\x00",
+            WireFault::Length,
+        ),
+        (
+            b"S1\x01\x86\x00\x00\x00\x00\x00\x00\x00\x02\x00\x00\x00\x01\x00",
+            WireFault::Kind,
+        ),
+        (
+            b"S1\x02\x06\x00\x00\x00\x00\x00\x00\x00\x02\x00\x00\x00\x01\x00",
+            WireFault::Kind,
+        ),
+        (
+            b"S1\x02\x87\x00\x00\x00\x00\x00\x00\x00\x02\x00\x00\x00\x01\x00",
+            WireFault::Kind,
+        ),
+        (
+            b"S1\x02\x83\x00\x00\x00\x07\x00\x00\x00\x03RA000000014GB\x00",
+            WireFault::Kind,
+        ),
+        (
+            b"S1\x02\x84\x00\x00\x00\x07\x00\x00\x00\x01RA000000014GB\x06",
+            WireFault::Kind,
+        ),
+        (
+            b"S1\x02\x86\x00\x00\x00\x00\x00\x00\x00\x02\x00\x00\x00\x01\x0c",
+            WireFault::Outcome,
+        ),
+        (
+            b"S1\x02\x86\x00\x00\x00\x00\x00\x00\x00\x02\x00\x00\x00\x01\xff",
+            WireFault::Outcome,
+        ),
+    ];
+    for (bytes, fault) in refused {
+        assert_eq!(rt; decode_reply(bytes), Err(fault), "{bytes:?}");
+    }
+}
+
+#[test]
+fn outcomes_of_the_other_kinds_are_none_of_a_withdrawal(rt: HostRuntime) {
+    let mut bytes = *b"S1\x02\x86\x00\x00\x00\x00\x00\x00\x00\x02\x00\x00\x00\x01\x00";
+    for code in 2..=8u8 {
+        bytes[16] = code;
+        assert_eq!(rt; decode_reply(&bytes), Err(WireFault::Outcome), "{code}");
+    }
+}
+
+#[test]
+fn outcomes_of_a_withdrawal_are_none_of_the_other_kinds(rt: HostRuntime) {
+    let refused: [&[u8]; 10] = [
+        b"S1\x01\x81\x00\x00\x00\x00\x00\x00\x00\x01\x00\x00\x00\x07RAGB\x00\x00\x00\x00\x00\x00\x00\x02\x0a",
+        b"S1\x01\x81\x00\x00\x00\x00\x00\x00\x00\x01\x00\x00\x00\x07RAGB\x00\x00\x00\x00\x00\x00\x00\x02\x0b",
+        b"S1\x01\x82\x00\x00\x00\x07\x00\x00\x00\x04RAGB\x0a",
+        b"S1\x01\x82\x00\x00\x00\x07\x00\x00\x00\x04RAGB\x0b",
+        b"S1\x01\x83\x00\x00\x00\x07\x00\x00\x00\x03RA000000014GB\x0a",
+        b"S1\x01\x83\x00\x00\x00\x07\x00\x00\x00\x03RA000000014GB\x0b",
+        b"S1\x01\x84\x00\x00\x00\x07\x00\x00\x00\x01RA000000005GB\x0a",
+        b"S1\x01\x84\x00\x00\x00\x07\x00\x00\x00\x01RA000000005GB\x0b",
+        b"S1\x02\x85\x00\x00\x00\x07\x00\x00\x00\x01RAGB\x02\x0a",
+        b"S1\x02\x85\x00\x00\x00\x07\x00\x00\x00\x01RAGB\x02\x0b",
+    ];
+    for bytes in refused {
+        assert_eq!(rt; decode_reply(bytes), Err(WireFault::Outcome), "{bytes:?}");
     }
 }
 

@@ -5,7 +5,7 @@ use s10_wire::{Body, Count, Ids, Outcome, Reply, Request, Status};
 use std::process::Abort;
 
 /// Requests.
-pub const REQUESTS: [&[u8]; 9] = [
+pub const REQUESTS: [&[u8]; 10] = [
     b"S1\x01\x01\x00\x00\x00\x00\x00\x00\x00\x01\x00\x00\x00\x07RAGB\x00\x00\x00\x00\x00\x00\x00\x02",
     b"S1\x01\x02\x00\x00\x00\x07\x00\x00\x00\x01RAGB",
     b"S1\x01\x02\x00\x00\x00\x07\x00\x00\x00\x02RAGB",
@@ -15,10 +15,11 @@ pub const REQUESTS: [&[u8]; 9] = [
     b"S1\x01\x03\x00\x00\x00\x07\x00\x00\x00\x03RA000000014GB",
     b"S1\x01\x04\x00\x00\x00\x07\x00\x00\x00\x01RA000000005GB",
     b"S1\x02\x05\x00\x00\x00\x07\x00\x00\x00\x01RAGB\x02",
+    b"S1\x02\x06\x00\x00\x00\x00\x00\x00\x00\x02\x00\x00\x00\x01",
 ];
 
 /// Replies.
-pub const REPLIES: [&[u8]; 15] = [
+pub const REPLIES: [&[u8]; 20] = [
     b"S1\x01\x81\x00\x00\x00\x00\x00\x00\x00\x01\x00\x00\x00\x07RAGB\x00\x00\x00\x00\x00\x00\x00\x02\x00\x00\x00\x00\x01",
     b"S1\x01\x82\x00\x00\x00\x07\x00\x00\x00\x01RAGB\x00\x00\x00\x4e\x20RA000000005GB",
     b"S1\x01\x82\x00\x00\x00\x07\x00\x00\x00\x02RAGB\x00\x00\x00\x4e\x20RA000000014GB",
@@ -34,9 +35,14 @@ pub const REPLIES: [&[u8]; 15] = [
     b"S1\x02\x85\x00\x00\x00\x07\x00\x00\x00\x01RAGB\x02\x00\x00\x00\x4e\x20RA000000005GBRA000000014GB",
     b"S1\x02\x85\x00\x00\x00\x07\x00\x00\x00\x02RAGB\x02\x05",
     b"S1\x02\x85\x00\x00\x00\x07\x00\x00\x00\x04RAGB\x03\x00\x00\x00\x4e\x3eRA000000005GBRA000000014GBRA000000028GB",
+    b"S1\x02\x86\x00\x00\x00\x00\x00\x00\x00\x02\x00\x00\x00\x01\x00",
+    b"S1\x02\x86\x00\x00\x00\x07\x00\x00\x00\x02\x00\x00\x00\x01\x01",
+    b"S1\x02\x86\x00\x00\x00\x00\x00\x00\x00\x04\x00\x00\x00\x02\x0a",
+    b"S1\x02\x86\x00\x00\x00\x00\x00\x00\x00\x03\x00\x00\x00\x01\x0b",
+    b"S1\x02\x86\x00\x00\x00\x00\x00\x00\x00\x02\x00\x00\x00\x02\x09",
 ];
 
-pub(crate) fn requests(rt: &impl Abort) -> [Request; 9] {
+pub(crate) fn requests(rt: &impl Abort) -> [Request; 10] {
     [
         request(0, 1, grant(rt, 7, 0, 2)),
         request(7, 1, draw(rt)),
@@ -47,10 +53,11 @@ pub(crate) fn requests(rt: &impl Abort) -> [Request; 9] {
         request(7, 3, void(rt, b"RA000000014GB")),
         request(7, 1, query(rt, b"RA000000005GB")),
         request(7, 1, draw_many(rt, 2)),
+        request(0, 2, withdraw(1)),
     ]
 }
 
-pub(crate) fn replies(rt: &impl Abort) -> [(Request, Outcome); 15] {
+pub(crate) fn replies(rt: &impl Abort) -> [(Request, Outcome); 20] {
     [
         (
             request(0, 1, grant(rt, 7, 0, 2)),
@@ -92,6 +99,11 @@ pub(crate) fn replies(rt: &impl Abort) -> [(Request, Outcome); 15] {
                 &[b"RA000000005GB", b"RA000000014GB", b"RA000000028GB"],
             ),
         ),
+        (request(0, 2, withdraw(1)), Outcome::Withdrawn),
+        (request(7, 2, withdraw(1)), Outcome::NotThePost),
+        (request(0, 4, withdraw(2)), Outcome::NoSuchRange),
+        (request(0, 3, withdraw(1)), Outcome::Closed),
+        (request(0, 2, withdraw(2)), Outcome::NumberReused),
     ]
 }
 
@@ -137,6 +149,10 @@ pub(crate) fn draw_many(rt: &impl Abort, labels: u8) -> Body {
         },
         None => panic!(rt; "{labels} labels"),
     }
+}
+
+pub(crate) fn withdraw(range: u32) -> Body {
+    Body::Withdraw { range }
 }
 
 pub(crate) fn drawn(rt: &impl Abort, day: u32, text: &[u8]) -> Outcome {

@@ -6,10 +6,10 @@ use Rattle.std.proofs.lemmas.List.Elements.{All-weaker}
 use Rattle.std.proofs.lemmas.Option.{none-some, same_Some, slice_get_within, slice_get-get_or, get_or_from_slice_get}
 use Rattle.s10_core.specs.declared.id.Id.{Id}
 use Rattle.s10_wire.specs.declared.body.Body.{Body}
-use Rattle.s10_wire.specs.declared.body.Body.TheVariants.{Grant, Draw, Void, Query, DrawMany}
+use Rattle.s10_wire.specs.declared.body.Body.TheVariants.{Grant, Draw, Void, Query, DrawMany, Withdraw}
 use Rattle.s10_wire.specs.declared.request.Request.{Request}
 use Rattle.s10_wire.specs.declared.outcome.Outcome.{Outcome}
-use Rattle.s10_wire.specs.declared.outcome.Outcome.TheVariants.{Granted, Voided, Told, NotThePost, BadGrant, Overlap, NotYours, AlreadyVoid, NumberReused}
+use Rattle.s10_wire.specs.declared.outcome.Outcome.TheVariants.{Granted, Voided, Told, NotThePost, BadGrant, Overlap, NotYours, AlreadyVoid, NumberReused, Withdrawn, NoSuchRange, Closed}
 use Rattle.s10_wire.specs.declared.status.Status.{Status}
 use Rattle.s10_book.specs.declared.entry.Entry.{Entry}
 use Rattle.s10_book.specs.declared.range.Range.{Range}
@@ -123,6 +123,8 @@ answer_not h q (Grant holder service country first lst) day interval =
     cond_not _ NotThePost _ (λ e. cc) (cond_not _ BadGrant _ (λ e. cc) (cond_not _ Overlap _ (λ e. cc) (granted_not _)))
 answer_not h q (Draw service country) day interval = pick_not _ day _ _
 answer_not h q (DrawMany service country count) day interval = row_not day _ _
+answer_not h q (Withdraw range) day interval =
+    cond_not _ NotThePost _ (λ e. cc) (cond_not _ NoSuchRange _ (λ e. cc) (cond_not _ Closed Withdrawn (λ e. cc) (λ e. cc)))
 answer_not h q (Void x) day interval = cond_not _ _ NotYours (void_not _) (λ e. cc)
 answer_not h q (Query x) day interval = cond_not _ _ NotYours (told_not _) (λ e. cc)
 

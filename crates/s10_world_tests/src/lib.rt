@@ -8,4 +8,6 @@ mod odd_worlds;
 #[cfg(test)]
 mod story;
 #[cfg(test)]
+mod withdrawals;
+#[cfg(test)]
 mod worlds;

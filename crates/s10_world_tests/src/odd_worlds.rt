@@ -7,12 +7,13 @@ use s10_world::{Event, World};
 use std::alloc::Global;
 use std::test::Fail;
 
-const GRANTED: &[u8] = b"S1\x01\x81\0\0\0\0\0\0\0\x01\0\0\0\x07RAGB\0\0\0\0\0\0\0\x02\0\0\0\0\x01";
+pub(crate) const GRANTED: &[u8] =
+    b"S1\x01\x81\0\0\0\0\0\0\0\x01\0\0\0\x07RAGB\0\0\0\0\0\0\0\x02\0\0\0\0\x01";
 
 /// Customer 7's Draw with number 1, and its reply.
 const DRAW: &[u8] = b"S1\x01\x02\0\0\0\x07\0\0\0\x01RAGB";
 
-const DRAWN: &[u8] = b"S1\x01\x82\0\0\0\x07\0\0\0\x01RAGB\0\0\0\x4e\x20RA000000005GB";
+pub(crate) const DRAWN: &[u8] = b"S1\x01\x82\0\0\0\x07\0\0\0\x01RAGB\0\0\0\x4e\x20RA000000005GB";
 
 fn strange(bytes: &[u8], day: u32) -> Event {
     Event::Strange {
@@ -41,12 +42,12 @@ fn strange_bytes() -> Option<[Event; 10]> {
 
 /// What events come to.
 #[derive(Clone, Copy)]
-struct Expected<'a> {
-    replied: &'a [&'a [u8]],
-    submitted: usize,
-    accepted: usize,
+pub struct Expected<'a> {
+    pub replied: &'a [&'a [u8]],
+    pub submitted: usize,
+    pub accepted: usize,
     /// How many calls the book has then.
-    calls: u32,
+    pub calls: u32,
 }
 
 fn are_replied(world: &World<PlainBook>, datagrams: &[&[u8]]) -> bool {
@@ -67,7 +68,7 @@ fn are_accepted_once(world: &World<PlainBook>) -> bool {
 }
 
 /// Whether the events over a book with room for so many calls come to this.
-fn come_to(
+pub(crate) fn come_to(
     alloc: Global,
     limit: u32,
     events: &[Event],

@@ -1,7 +1,7 @@
 use Rattle.std.proofs.Common.{◌≡◌, ℕ, suc, ◌+◌, ◌<◌, List, [], ◌∷◌, ◌++◌, length, length-append, sym, ap, ◌∙◌, subst, arith, Some, None}
 use Rattle.std.specs.Prelude.{find}
 use Rattle.s10_core.specs.declared.id.Id.{Id}
-use Rattle.s10_book.specs.History.{ranges_of, is_held}
+use Rattle.s10_book.specs.History.{ranges_of, is_open}
 use Rattle.s10_book.specs.Issues.{issues_of, free_pick_of}
 use Rattle.s10_book.specs.Rules.{draws_in_a_row}
 use Rattle.s10_book.specs.Settings.{Terms}
@@ -13,13 +13,13 @@ use Rattle.s10_book.proofs.in_a_row.draws_in_a_row.Goals as goal
 pub returns-in_default-clause-answer : goal.returns-in_default-clause-answer
 returns-in_default-clause-answer g c = λ h.
     let first = g.B.Book.history c.args.book.now in
-    let e : c.in_ok-first.field-0 ≡ find (above (is_held c.args.customer c.args.service c.args.country) 0) (ranges_of first) = c.in_ok-first.ensures.answer h in
+    let e : c.in_ok-first.field-0 ≡ find (above (is_open first c.args.customer c.args.service c.args.country) 0) (ranges_of first) = c.in_ok-first.ensures.answer h in
     walked_nowhere first c.args.customer c.args.service c.args.country c.args.day _ c.args.count (omega (arith, c.value-wanted.ensures.value, c.value-wanted.ensures.in_range.0)) (sym e ∙ c.in_default.is)
 
 pub loop-service-init : goal.loop-service-init
 loop-service-init g c =
     let first = g.B.Book.history c.args.book.now in
-    let p = is_held c.args.customer c.args.service c.args.country in
+    let p = is_open first c.args.customer c.args.service c.args.country in
     record {
       faults = c.in_ok-first.ensures.faults;
       keeps = c.next_range.ensures.keeps;
@@ -28,7 +28,7 @@ loop-service-init g c =
       fewer = omega arith;
       walk = λ h.
           let h0 = c.next_range.ensures.keeps.was_honest h in
-          let e : c.in_ok-first.field-0 ≡ find (above (is_held c.args.customer c.args.service c.args.country) 0) (ranges_of first) = c.in_ok-first.ensures.answer h in
+          let e : c.in_ok-first.field-0 ≡ find (above (is_open first c.args.customer c.args.service c.args.country) 0) (ranges_of first) = c.in_ok-first.ensures.answer h in
           let P : List Id → Type 0 = λ l. IsAt (ranges_of first) p (drawn_on c.args.day) c.args.day c.interval-interval.result (issues_of first) c.value-wanted.result c.in-Some.first 0 l in
           subst P (sym c.new-picks.ensures)
           (at_first (ranges_of first) p (drawn_on c.args.day) c.args.day c.interval-interval.result (issues_of first) c.value-wanted.result c.in-Some.first
@@ -39,7 +39,7 @@ loop-service-init g c =
 pub loop-service-preserved-in-Some-2 : goal.loop-service-preserved-in-Some-2
 loop-service-preserved-in-Some-2 g c =
     let first = g.B.Book.history c.args.book.now in
-    let p = is_held c.args.customer c.args.service c.args.country in
+    let p = is_open first c.args.customer c.args.service c.args.country in
     let few : length c.loop-service.picks < c.value-wanted.result = omega (arith, c.len.ensures, c.loop-service-test.true) in
     let one : length c.push.new.self ≡ length c.loop-service.picks + 1 = ap length c.push.ensures ∙ length-append c.loop-service.picks (c.in-Some-2.id ∷ []) in
     record {
@@ -67,7 +67,7 @@ pub returns-in_default-3-clause-answer : goal.returns-in_default-3-clause-answer
 returns-in_default-3-clause-answer g c = λ h.
     let first = g.B.Book.history c.args.book.now in
     let t = g.B.Book.terms c.args.book.now in
-    let p = is_held c.args.customer c.args.service c.args.country in
+    let p = is_open first c.args.customer c.args.service c.args.country in
     let r = c.loop-service.range in
     let h1 = c.next_range-in-loop-service.ensures.keeps.was_honest h in
     let h0 = c.free_pick.ensures.keeps.was_honest h1 in
@@ -78,9 +78,9 @@ returns-in_default-3-clause-answer g c = λ h.
     c.in_ok-id.ensures.answer h1 ∙ ap (λ l. free_pick_of l c.loop-service.range c.loop-service.issued c.args.day c.interval-interval.result) same in
     let walk = c.loop-service.invariant.walk h0 in
     let spent = at_none_given first t p c.args.day c.interval-interval.result c.value-wanted.result r c.loop-service.issued c.loop-service.picks c.in_ok-id.field-0 legal c.interval-interval.ensures.range.0 e c.in_default-2.is walk in
-    let n : c.in_ok-next.field-0 ≡ find (above (is_held c.args.customer c.args.service c.args.country) c.loop-service.range.num) (ranges_of (g.B.Book.history c.free_pick.new.book)) = c.in_ok-next.ensures.answer h in
-    let none : find (above (is_held c.args.customer c.args.service c.args.country) c.loop-service.range.num) (ranges_of first) ≡ None =
-    sym (ap (λ l. find (above (is_held c.args.customer c.args.service c.args.country) c.loop-service.range.num) (ranges_of l)) (c.free_pick.ensures.keeps.same_history h1 ∙ same)) ∙ sym n ∙ c.in_default-3.is in
+    let n : c.in_ok-next.field-0 ≡ find (above (is_open (g.B.Book.history c.free_pick.new.book) c.args.customer c.args.service c.args.country) c.loop-service.range.num) (ranges_of (g.B.Book.history c.free_pick.new.book)) = c.in_ok-next.ensures.answer h in
+    let none : find (above (is_open first c.args.customer c.args.service c.args.country) c.loop-service.range.num) (ranges_of first) ≡ None =
+    sym (ap (λ l. find (above (is_open l c.args.customer c.args.service c.args.country) c.loop-service.range.num) (ranges_of l)) (c.free_pick.ensures.keeps.same_history h1 ∙ same)) ∙ sym n ∙ c.in_default-3.is in
     walked_out first t c.args.customer c.args.service c.args.country c.args.day c.interval-interval.result c.value-wanted.result r c.loop-service.issued c.loop-service.picks legal c.interval-interval.ensures.range.0 few spent none walk
     ∙ ap (λ k. draws_in_a_row first c.args.customer c.args.service c.args.country c.args.day c.interval-interval.result k) c.value-wanted.ensures.value
     ∙ ap (λ k. draws_in_a_row first c.args.customer c.args.service c.args.country c.args.day k c.args.count) (c.loop-service.invariant.interval h0)
@@ -89,7 +89,7 @@ pub loop-service-preserved : goal.loop-service-preserved
 loop-service-preserved g c =
     let first = g.B.Book.history c.args.book.now in
     let t = g.B.Book.terms c.args.book.now in
-    let p = is_held c.args.customer c.args.service c.args.country in
+    let p = is_open first c.args.customer c.args.service c.args.country in
     let r = c.loop-service.range in
     record {
       faults = c.in_ok-next.ensures.faults ∙ c.in_ok-id.ensures.faults ∙ c.loop-service.invariant.faults;
@@ -106,9 +106,9 @@ loop-service-preserved g c =
           c.in_ok-id.ensures.answer h1 ∙ ap (λ l. free_pick_of l c.loop-service.range c.loop-service.issued c.args.day c.interval-interval.result) same in
           let walk = c.loop-service.invariant.walk h0 in
           let spent = at_none_given first t p c.args.day c.interval-interval.result c.value-wanted.result r c.loop-service.issued c.loop-service.picks c.in_ok-id.field-0 legal c.interval-interval.ensures.range.0 e c.in_default-2.is walk in
-          let n : c.in_ok-next.field-0 ≡ find (above (is_held c.args.customer c.args.service c.args.country) c.loop-service.range.num) (ranges_of (g.B.Book.history c.free_pick.new.book)) = c.in_ok-next.ensures.answer h in
-          let found : find (above (is_held c.args.customer c.args.service c.args.country) c.loop-service.range.num) (ranges_of first) ≡ Some c.in-Some-3.next =
-          sym (ap (λ l. find (above (is_held c.args.customer c.args.service c.args.country) c.loop-service.range.num) (ranges_of l)) (c.free_pick.ensures.keeps.same_history h1 ∙ same)) ∙ sym n ∙ c.in-Some-3.is in
+          let n : c.in_ok-next.field-0 ≡ find (above (is_open (g.B.Book.history c.free_pick.new.book) c.args.customer c.args.service c.args.country) c.loop-service.range.num) (ranges_of (g.B.Book.history c.free_pick.new.book)) = c.in_ok-next.ensures.answer h in
+          let found : find (above (is_open first c.args.customer c.args.service c.args.country) c.loop-service.range.num) (ranges_of first) ≡ Some c.in-Some-3.next =
+          sym (ap (λ l. find (above (is_open l c.args.customer c.args.service c.args.country) c.loop-service.range.num) (ranges_of l)) (c.free_pick.ensures.keeps.same_history h1 ∙ same)) ∙ sym n ∙ c.in-Some-3.is in
           at_next (ranges_of first) p (drawn_on c.args.day) c.args.day c.interval-interval.result (issues_of first) c.value-wanted.result r c.loop-service.issued c.loop-service.picks c.in-Some-3.next
           (given_legal first t c.args.day c.interval-interval.result legal c.interval-interval.ensures.range.0) spent found walk;
     }

@@ -1,5 +1,5 @@
 use Rattle.std.proofs.Common.{◌≡◌, ◌+◌, ◌-◌, ◌*◌, ◌^◌, ◌≤◌, length}
-use Rattle.s10_book.specs.History.{ranges_of, is_held}
+use Rattle.s10_book.specs.History.{ranges_of, is_open}
 use Rattle.s10_book.specs.Issues.{issues_of}
 use Rattle.s10_book.specs.Book.{Keeps}
 use Rattle.s10_book.proofs.Taking.{IsAt, drawn_on}
@@ -14,7 +14,7 @@ invariant-loop-service g l =
       interval : g.B.Book.honest l.book → l.interval ≡ (g.B.Book.terms l.fn.book).interval;
       few : length l.picks ≤ l.wanted;
       fewer : l.issued ≤ length l.picks;
-      walk : g.B.Book.honest l.book → IsAt (ranges_of history) (is_held l.customer l.service l.country) (drawn_on l.day) l.day l.interval (issues_of history) l.wanted l.range l.issued l.picks;
+      walk : g.B.Book.honest l.book → IsAt (ranges_of history) (is_open history l.customer l.service l.country) (drawn_on l.day) l.day l.interval (issues_of history) l.wanted l.range l.issued l.picks;
     }
 
 abbrev pub decreases-loop-service : goal.decreases-loop-service

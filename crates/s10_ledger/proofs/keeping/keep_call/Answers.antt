@@ -20,11 +20,11 @@ returns-in-Ok-clause-ok g c clean opened h t legal follows calls stands m arriva
     let call : IsCall e = record { request = replies.0; outcome = replies.1; fitting = replies.2; day = search rules } in
     let mid : HasCleanDisk (state g.S.Store c.rows_made.new.conn) = omega (arith, c.keep_rows.ensures.clean) in
     let still : StandsFor (state g.S.Store c.rows_made.new.conn).now h t =
-    subst (λ (d : Database). StandsFor d h t) (sym (c.rows_made.ensures.leaves.now mid (c.keep_rows.ensures.was_open clean opened) c.requires.settled stands.schema)) stands in
+    subst (λ (d : Database). StandsFor d h t) (sym (c.rows_made.ensures.leaves.now mid (c.keep_rows.ensures.was_open clean opened) c.requires.settled stands.schema.ledger)) stands in
     let makes : Makes h e c.deref.result.now c.deref-2.result.now = rw (c.deref.ensures.value, c.deref-2.ensures.value) (c.in_ok-made.ensures.answer mid h t legal follows calls call stands m arrival) in
     let row : StoredCall = record { arrival = pos c.args.arrival; customer = pos e.request.customer; number = pos e.request.number; day = pos e.day; reply = c.bytes.result.now } in
     let is : row ≡ call_row (length h + 1) e = row_is c.args.arrival (length h + 1) e c.bytes.result.now arrival (c.bytes.ensures.bytes ∙ reply_replies e.request e.outcome c.encode_reply-frame.result replies) in
-    (call, stands_after (state g.S.Store c.keep_rows.new.conn).now h t e row c.deref.result.now c.deref-2.result.now is makes (c.in-Ok.ensures.all clean (tables_of h t) still makes.few))
+    (call, stands_after (state g.S.Store c.keep_rows.new.conn).now h t e row c.deref.result.now c.deref-2.result.now c.args.arrival arrival is makes (c.in-Ok.ensures.all clean (tables_of h t) still makes.few))
 
 pub returns-in-Ok-clause-crash : goal.returns-in-Ok-clause-crash
 returns-in-Ok-clause-crash g c clean has db left =
@@ -35,11 +35,11 @@ returns-in-Ok-clause-crash g c clean has db left =
     let before = (state g.S.Store c.rows_made.new.conn).now in
     let row : StoredCall = record { arrival = pos c.args.arrival; customer = pos e.request.customer; number = pos e.request.number; day = pos e.day; reply = c.bytes.result.now } in
     either (c.keep_rows.ensures.crash clean db left) (c.rows_made.ensures.spares mid has db) (λ f h t legal follows calls stands m arrival.
-    let still : StandsFor before h t = subst (λ (d : Database). StandsFor d h t) (sym (c.rows_made.ensures.leaves.now mid f.0 c.requires.settled stands.schema)) stands in
+    let still : StandsFor before h t = subst (λ (d : Database). StandsFor d h t) (sym (c.rows_made.ensures.leaves.now mid f.0 c.requires.settled stands.schema.ledger)) stands in
     let makes : Makes h e c.deref.result.now c.deref-2.result.now = rw (c.deref.ensures.value, c.deref-2.ensures.value) (c.in_ok-made.ensures.answer mid h t legal follows calls call stands m arrival) in
     let is : row ≡ call_row (length h + 1) e = row_is c.args.arrival (length h + 1) e c.bytes.result.now arrival (c.bytes.ensures.bytes ∙ reply_replies e.request e.outcome c.encode_reply-frame.result replies) in
     let found : Database = record before { trees = db } in
-    let kept = stands_after found h t e row c.deref.result.now c.deref-2.result.now is makes (f.1 (tables_of h t) still makes.few) in
+    let kept = stands_after found h t e row c.deref.result.now c.deref-2.result.now c.args.arrival arrival is makes (f.1 (tables_of h t) still makes.few) in
     (call, tables_left found c.args.conn.now.schema db (tables_of (h ++ e ∷ []) t) stands.schema refl kept))
 
 pub returns-clause-crash : goal.returns-clause-crash
@@ -51,9 +51,9 @@ returns-clause-crash g c clean has db left =
     let before = (state g.S.Store c.rows_made.new.conn).now in
     let row : StoredCall = record { arrival = pos c.args.arrival; customer = pos e.request.customer; number = pos e.request.number; day = pos e.day; reply = c.bytes.result.now } in
     either (c.keep_rows.ensures.crash clean db left) (c.rows_made.ensures.spares mid has db) (λ f h t legal follows calls stands m arrival.
-    let still : StandsFor before h t = subst (λ (d : Database). StandsFor d h t) (sym (c.rows_made.ensures.leaves.now mid f.0 c.requires.settled stands.schema)) stands in
+    let still : StandsFor before h t = subst (λ (d : Database). StandsFor d h t) (sym (c.rows_made.ensures.leaves.now mid f.0 c.requires.settled stands.schema.ledger)) stands in
     let makes : Makes h e c.deref.result.now c.deref-2.result.now = rw (c.deref.ensures.value, c.deref-2.ensures.value) (c.in_ok-made.ensures.answer mid h t legal follows calls call stands m arrival) in
     let is : row ≡ call_row (length h + 1) e = row_is c.args.arrival (length h + 1) e c.bytes.result.now arrival (c.bytes.ensures.bytes ∙ reply_replies e.request e.outcome c.encode_reply-frame.result replies) in
     let found : Database = record before { trees = db } in
-    let kept = stands_after found h t e row c.deref.result.now c.deref-2.result.now is makes (f.1 (tables_of h t) still makes.few) in
+    let kept = stands_after found h t e row c.deref.result.now c.deref-2.result.now c.args.arrival arrival is makes (f.1 (tables_of h t) still makes.few) in
     (call, tables_left found c.args.conn.now.schema db (tables_of (h ++ e ∷ []) t) stands.schema refl kept))

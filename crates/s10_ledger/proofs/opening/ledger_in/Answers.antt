@@ -1,59 +1,94 @@
-use Rattle.std.proofs.Common.{rules, ◌≡◌, refl, List, sym, ap, subst, ◌∙◌}
-use Rattle.std.proofs.lemmas.Result.{IfOk-weaker, IfErr-weaker, err_from_is_err_and}
-use Rattle.sqlite.specs.Effect.{Database}
+use Rattle.std.proofs.Common.{inl, subst, ◌∙◌}
+use Rattle.std.proofs.lemmas.Result.{err_from_is_err_and}
+use Rattle.sqlite_schema.specs.declared.schema.Schema.{Schema}
 use Rattle.sqlite.specs.Held.{state}
-use Rattle.s10_schema.specs.Schema.{IsLedgerSchema}
-use Rattle.s10_book.specs.declared.entry.Entry.{Entry}
-use Rattle.s10_ranges.specs.Mirror.{Mirrors}
-use Rattle.s10_rows.specs.RightRows.{kept_of}
-use Rattle.s10_rows.specs.Tables.{Tables}
-use Rattle.s10_rows.specs.Verdict.{IsWhole, IsRefusal}
-use Rattle.s10_ledger.specs.Ledger.{history_in}
-use Rattle.s10_ledger.specs.Remade.{IsRemade}
-use Rattle.s10_statements.proofs.RowByRow.{if_ok, if_err}
-use Rattle.s10_ledger.proofs.WholeLemmas.{whole_few, whole_ledger, history, each_found, refused_for}
+use Rattle.s10_ledger.specs.Form.{IsOfForm}
+use Rattle.s10_ledger.specs.Refusals.{HasAForm}
+use Rattle.s10_ledger.proofs.Forms.{form_ledger}
+use Rattle.s10_ledger.proofs.OpeningLemmas.{was_sound, as_read, as_it_was, same_history, completed_ledger, completed_mirrors, found_ledger, refused_by_store}
 use Rattle.s10_ledger.proofs.opening.ledger_in.Goals as goal
 
-pub returns-clause-few : goal.returns-clause-few
-returns-clause-few g c =
-    let it = if_ok c.in-Ok.rows.0 _ c.in_ok-made.made c.in_ok-made.was c.in-Ok.ensures.remade in
-    let tables : Tables = record { heads = it.0; calls = it.1.0; ranges = c.in-Ok.rows.1.items; serials = c.in-Ok.rows.2.items } in
-    IfOk-weaker c.verdict.result (λ found. IsWhole tables found.0) _ (λ found. whole_few tables found.0) (c.verdict.ensures.ok tables refl refl it.1.1)
+pub found_in-requires-clause-form : goal.found_in-requires-clause-form
+found_in-requires-clause-form g c = subst (λ (s : Schema). IsOfForm c.in-Some.form s) c.schema.ensures.value c.in-Some.ensures.some
+
+pub returns-clause-was : goal.returns-clause-was
+returns-clause-was g c =
+    let declared = subst (λ (s : Schema). IsOfForm c.in-Some.form s) c.schema.ensures.value c.in-Some.ensures.some in
+    was_sound g.S.Store c.args.conn.now c.found_in.new.conn c.complete.new.conn c.in-Some.form declared c.requires.settled c.found_in.ensures.leaves c.complete.ensures.was
+
+pub returns-clause-same : goal.returns-clause-same
+returns-clause-same g c clean opened closed =
+    let declared = subst (λ (s : Schema). IsOfForm c.in-Some.form s) c.schema.ensures.value c.in-Some.ensures.some in
+    let was = as_read g.S.Store c.args.conn.now c.found_in.new.conn c.complete.new.conn c.in-Some.form declared c.requires.settled c.found_in.ensures.leaves c.complete.ensures.was clean opened in
+    as_it_was c.in-Some.form (state g.S.Store c.args.conn.now).now (state g.S.Store c.found_in.new.conn).now (state g.S.Store c.complete.new.conn).now declared was c.complete.ensures.same closed
+
+pub returns-clause-history : goal.returns-clause-history
+returns-clause-history g c clean opened =
+    let declared = subst (λ (s : Schema). IsOfForm c.in-Some.form s) c.schema.ensures.value c.in-Some.ensures.some in
+    let was = as_read g.S.Store c.args.conn.now c.found_in.new.conn c.complete.new.conn c.in-Some.form declared c.requires.settled c.found_in.ensures.leaves c.complete.ensures.was clean opened in
+    let sound = c.complete.ensures.was clean in
+    same_history c.in-Some.form (state g.S.Store c.args.conn.now).now (state g.S.Store c.found_in.new.conn).now (state g.S.Store c.complete.new.conn).now c.in_ok-found.found.0 c.in_ok-found.found.1
+    (c.in_ok-found.ensures.found sound.0 (sound.1 opened)) was (c.in_ok-complete.ensures.whole clean)
 
 pub returns-clause-ledger : goal.returns-clause-ledger
 returns-clause-ledger g c clean opened =
-    let db : Database = (state g.S.Store c.args.conn.now).now in
-    let declared : IsLedgerSchema db.schema = subst IsLedgerSchema c.schema.ensures.value (c.is_ledger_schema.ensures.0 (search rules)) in
-    let read = c.in-Ok.ensures.rows clean opened c.requires.settled declared in
-    let made = if_ok c.in-Ok.rows.0 _ c.in_ok-made.made c.in_ok-made.was read.ok in
-    IfOk-weaker c.verdict.result (λ found. IsWhole read.tables found.0) _ (λ found whole. whole_ledger db read.tables found.0 read.rows.has whole) (c.verdict.ensures.ok read.tables read.ranges_are read.serials_are made)
+    let declared = subst (λ (s : Schema). IsOfForm c.in-Some.form s) c.schema.ensures.value c.in-Some.ensures.some in
+    let was = as_read g.S.Store c.args.conn.now c.found_in.new.conn c.complete.new.conn c.in-Some.form declared c.requires.settled c.found_in.ensures.leaves c.complete.ensures.was clean opened in
+    let sound = c.complete.ensures.was clean in
+    completed_ledger c.in-Some.form (state g.S.Store c.args.conn.now).now (state g.S.Store c.found_in.new.conn).now (state g.S.Store c.complete.new.conn).now c.in_ok-found.found.0 c.in_ok-found.found.1
+    (c.in_ok-found.ensures.found sound.0 (sound.1 opened)) was (c.in_ok-complete.ensures.whole clean)
+
+pub returns-clause-found : goal.returns-clause-found
+returns-clause-found g c clean opened =
+    let sound = c.complete.ensures.was clean in
+    found_ledger c.in-Some.form (state g.S.Store c.args.conn.now).now c.in_ok-found.found.0 c.in_ok-found.found.1 (c.in_ok-found.ensures.found sound.0 (sound.1 opened))
 
 pub returns-clause-mirrored : goal.returns-clause-mirrored
-returns-clause-mirrored g c =
-    let db : Database = (state g.S.Store c.args.conn.now).now in
-    let declared : IsLedgerSchema db.schema = subst IsLedgerSchema c.schema.ensures.value (c.is_ledger_schema.ensures.0 (search rules)) in
-    let Fits : Tables → Type 0 = λ tables. (tables.ranges ≡ c.in-Ok.rows.1.items) × (tables.serials ≡ c.in-Ok.rows.2.items) × IsRemade tables.heads tables.calls c.in_ok-made.made in
-    IfOk-weaker c.verdict.result (λ found. (tables : Tables) → Fits tables → IsWhole tables found.0 × Mirrors found.1 (kept_of tables.calls)) _
-    (λ found each clean opened.
-    let read = c.in-Ok.ensures.rows clean opened c.requires.settled declared in
-    let both = each read.tables (read.ranges_are, read.serials_are, if_ok c.in-Ok.rows.0 _ c.in_ok-made.made c.in_ok-made.was read.ok) in
-    let same = c.all_rows.ensures.leaves.now clean opened c.requires.settled declared in
-    subst (λ (h : List Entry). Mirrors found.1 h) (sym (ap history_in same ∙ history db read.tables found.0 read.rows.has both.0)) both.1)
-    (each_found c.verdict.result Fits (λ tables found. IsWhole tables found.0) (λ tables found. Mirrors found.1 (kept_of tables.calls))
-    (λ tables p. c.verdict.ensures.ok tables p.0 p.1 p.2) (λ tables p. c.verdict.ensures.mirrored tables p.2))
+returns-clause-mirrored g c clean opened =
+    let declared = subst (λ (s : Schema). IsOfForm c.in-Some.form s) c.schema.ensures.value c.in-Some.ensures.some in
+    let was = as_read g.S.Store c.args.conn.now c.found_in.new.conn c.complete.new.conn c.in-Some.form declared c.requires.settled c.found_in.ensures.leaves c.complete.ensures.was clean opened in
+    let sound = c.complete.ensures.was clean in
+    completed_mirrors c.in-Some.form (state g.S.Store c.args.conn.now).now (state g.S.Store c.found_in.new.conn).now (state g.S.Store c.complete.new.conn).now c.in_ok-found.found.0 c.in_ok-found.found.1
+    (c.in_ok-found.ensures.found sound.0 (sound.1 opened)) was (c.in_ok-complete.ensures.whole clean)
 
-pub returns-clause-refused : goal.returns-clause-refused
-returns-clause-refused g c clean opened =
-    let db : Database = (state g.S.Store c.args.conn.now).now in
-    let declared : IsLedgerSchema db.schema = subst IsLedgerSchema c.schema.ensures.value (c.is_ledger_schema.ensures.0 (search rules)) in
-    let read = c.in-Ok.ensures.rows clean opened c.requires.settled declared in
-    let made = if_ok c.in-Ok.rows.0 _ c.in_ok-made.made c.in_ok-made.was read.ok in
-    IfErr-weaker c.verdict.result (IsRefusal read.tables) _ (refused_for db read.tables read.rows) (c.verdict.ensures.err read.tables read.ranges_are read.serials_are made)
+pub returns-in_err-found-clause-same : goal.returns-in_err-found-clause-same
+returns-in_err-found-clause-same g c clean opened closed = c.found_in.ensures.leaves.now clean opened c.requires.settled closed.ledger
 
-pub returns-in_err-made-clause-refused : goal.returns-in_err-made-clause-refused
-returns-in_err-made-clause-refused g c clean opened =
-    let db : Database = (state g.S.Store c.args.conn.now).now in
-    let declared : IsLedgerSchema db.schema = subst IsLedgerSchema c.schema.ensures.value (c.is_ledger_schema.ensures.0 (search rules)) in
-    let read = c.in-Ok.ensures.rows clean opened c.requires.settled declared in
+pub returns-in_err-found-clause-kept : goal.returns-in_err-found-clause-kept
+returns-in_err-found-clause-kept g c clean opened =
+    let declared = subst (λ (s : Schema). IsOfForm c.in-Some.form s) c.schema.ensures.value c.in-Some.ensures.some in
     let p = err_from_is_err_and c.from_residual.result c.from_residual.ensures.1 in
-    rw (p.1, p.2) (refused_for db read.tables read.rows c.in_err-made.field-0.0 (if_err c.in-Ok.rows.0 (IsRefusal read.tables) c.in_err-made.field-0.0 c.in_err-made.was read.err))
+    rw p.1 (c.found_in.ensures.leaves.now clean opened c.requires.settled (form_ledger c.in-Some.form (state g.S.Store c.args.conn.now).now.schema declared))
+
+pub returns-in_err-found-clause-refused : goal.returns-in_err-found-clause-refused
+returns-in_err-found-clause-refused g c clean opened =
+    let p = err_from_is_err_and c.from_residual.result c.from_residual.ensures.1 in
+    rw (p.1, p.2) (c.in_err-found.ensures.refused clean opened)
+
+pub returns-in_err-complete-clause-was : goal.returns-in_err-complete-clause-was
+returns-in_err-complete-clause-was g c =
+    let declared = subst (λ (s : Schema). IsOfForm c.in-Some.form s) c.schema.ensures.value c.in-Some.ensures.some in
+    was_sound g.S.Store c.args.conn.now c.found_in.new.conn c.complete.new.conn c.in-Some.form declared c.requires.settled c.found_in.ensures.leaves c.complete.ensures.was
+
+pub returns-in_err-complete-clause-same : goal.returns-in_err-complete-clause-same
+returns-in_err-complete-clause-same g c clean opened closed =
+    let declared = subst (λ (s : Schema). IsOfForm c.in-Some.form s) c.schema.ensures.value c.in-Some.ensures.some in
+    let was = as_read g.S.Store c.args.conn.now c.found_in.new.conn c.complete.new.conn c.in-Some.form declared c.requires.settled c.found_in.ensures.leaves c.complete.ensures.was clean opened in
+    as_it_was c.in-Some.form (state g.S.Store c.args.conn.now).now (state g.S.Store c.found_in.new.conn).now (state g.S.Store c.complete.new.conn).now declared was c.complete.ensures.same closed
+
+pub returns-in_err-complete-clause-kept : goal.returns-in_err-complete-clause-kept
+returns-in_err-complete-clause-kept g c clean opened =
+    let declared = subst (λ (s : Schema). IsOfForm c.in-Some.form s) c.schema.ensures.value c.in-Some.ensures.some in
+    let was = as_read g.S.Store c.args.conn.now c.found_in.new.conn c.complete.new.conn c.in-Some.form declared c.requires.settled c.found_in.ensures.leaves c.complete.ensures.was clean opened in
+    let p = err_from_is_err_and c.from_residual-in_err-complete.result c.from_residual-in_err-complete.ensures.1 in
+    rw p.1 (c.in_err-complete.ensures.none clean opened ∙ was)
+
+pub returns-in_err-complete-clause-refused : goal.returns-in_err-complete-clause-refused
+returns-in_err-complete-clause-refused g c clean opened =
+    let p = err_from_is_err_and c.from_residual-in_err-complete.result c.from_residual-in_err-complete.ensures.1 in
+    rw (p.1, p.2) (refused_by_store (state g.S.Store c.args.conn.now).now c.in_err-complete.field-0.0 c.in_err-complete.ensures.fault)
+
+pub returns-in_default-clause-refused : goal.returns-in_default-clause-refused
+returns-in_default-clause-refused g c clean opened =
+    let none = rw c.in_default.is at c.form_of.ensures.none in
+    inl (subst (λ (s : Schema). HasAForm s → ⊥) c.schema.ensures.value none)

@@ -2,7 +2,7 @@ use Rattle.std.proofs.Common.{◌≡◌, ◌+◌, List, Some, sym, ap, ◌∙◌
 use Rattle.std.specs.Prelude.{find, is_some, ◌==◌}
 use Rattle.s10_book.specs.declared.entry.Entry.{Entry}
 use Rattle.s10_book.specs.Settings.{Terms}
-use Rattle.s10_book.specs.History.{ranges_of}
+use Rattle.s10_book.specs.History.{ranges_of, is_closed}
 use Rattle.s10_book.specs.Usage.{usage_of}
 use Rattle.s10_reports.specs.Reports.{range_line, ranges_report}
 use Rattle.s10_book.proofs.Calls.{Keeps-trans}
@@ -31,10 +31,11 @@ returns-in-None-clause-written g c = λ h.
 
 pub loop-done-preserved : goal.loop-done-preserved
 loop-done-preserved g c = record {
-  faults = c.in_ok-usage.ensures.faults ∙ c.in_ok-range.ensures.faults ∙ c.loop-done.invariant.faults;
-  keeps = Keeps-trans c.loop-done.invariant.keeps (Keeps-trans c.range.ensures.keeps c.usage.ensures.keeps);
+  faults = c.in_ok-closed.ensures.faults ∙ c.in_ok-usage.ensures.faults ∙ c.in_ok-range.ensures.faults ∙ c.loop-done.invariant.faults;
+  keeps = Keeps-trans c.loop-done.invariant.keeps (Keeps-trans c.range.ensures.keeps (Keeps-trans c.usage.ensures.keeps c.closed.ensures.keeps));
   written = λ h.
-      let h1 = c.usage.ensures.keeps.was_honest h in
+      let h2 = c.closed.ensures.keeps.was_honest h in
+      let h1 = c.usage.ensures.keeps.was_honest h2 in
       let h0 = c.range.ensures.keeps.was_honest h1 in
       let first = g.B.Book.history c.args.book.now in
       let terms = g.B.Book.terms c.args.book.now in
@@ -43,13 +44,16 @@ loop-done-preserved g c = record {
       let found : find (λ x. x.num == (c.loop-done.done + 1)) (ranges_of first) ≡ Some c.in-Some.range =
       sym (ap (λ (l : List Entry). find (λ x. x.num == (c.loop-done.done + 1)) (ranges_of l)) same) ∙ sym e ∙ c.in-Some.is in
       let usage : c.in_ok-usage.usage ≡ usage_of first c.in-Some.range c.args.day terms.interval =
-      c.in_ok-usage.ensures.answer h
+      c.in_ok-usage.ensures.answer h2
       ∙ ap (λ (l : List Entry). usage_of l c.in-Some.range c.args.day (g.B.Book.terms c.range.new.self).interval) (c.range.ensures.keeps.same_history h1 ∙ same)
       ∙ ap (λ (t : Terms). usage_of first c.in-Some.range c.args.day t.interval) (c.range.ensures.keeps.same_terms h1 ∙ c.loop-done.invariant.keeps.same_terms h0) in
+      let closed : c.in_ok-closed.closed ≡ is_closed first c.in-Some.range.num =
+      c.in_ok-closed.ensures.answer h
+      ∙ ap (λ (l : List Entry). is_closed l c.in-Some.range.num) (c.usage.ensures.keeps.same_history h2 ∙ c.range.ensures.keeps.same_history h1 ∙ same) in
       report_more _ _ _ (ranges_report first c.args.day terms.interval) (c.loop-done.done + 1)
-      (range_line c.in-Some.range (usage_of first c.in-Some.range c.args.day terms.interval))
+      (range_line c.in-Some.range (usage_of first c.in-Some.range c.args.day terms.interval) (is_closed first c.in-Some.range.num))
       (ranges_next first c.args.day terms.interval c.loop-done.done c.in-Some.range found)
-      (c.loop-done.invariant.written h0) (rw usage at c.in_ok-write_range.ensures);
+      (c.loop-done.invariant.written h0) (rw (usage, closed) at c.in_ok-write_range.ensures);
 }
 
 pub returns-clause-written : goal.returns-clause-written

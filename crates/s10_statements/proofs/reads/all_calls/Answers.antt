@@ -16,8 +16,8 @@ returns-clause-rows g c clean =
 
 pub returns-clause-in_order : goal.returns-clause-in_order
 returns-clause-in_order g c clean =
-    IfOk-weaker c.calls_shown.result _ _ (λ found typed tables held up. let it = typed held.schema in
-    calls_in_order [] (state g.S.Store c.args.conn.now) (state g.S.Store c.calls_shown.new.conn) it.0 held.schema tables held up found.items it.1 it.2) (c.calls_shown.ensures.rows clean)
+    IfOk-weaker c.calls_shown.result _ _ (λ found typed tables held up. let it = typed held.schema.ledger in
+    calls_in_order [] (state g.S.Store c.args.conn.now) (state g.S.Store c.calls_shown.new.conn) it.0 held.schema.ledger tables held up found.items it.1 it.2) (c.calls_shown.ensures.rows clean)
 
 pub returns-clause-sorted : goal.returns-clause-sorted
 returns-clause-sorted g c clean =

@@ -1,15 +1,18 @@
 use Rattle.std.proofs.Common.{[], ◌∙◌}
 use Rattle.std.proofs.lemmas.Result.{IfOk-weaker}
 use Rattle.sqlite.specs.Held.{state}
+use Rattle.s10_statements.specs.Statements.{head_text}
 use Rattle.s10_statements.proofs.Texts.{head_plain}
+use Rattle.s10_statements.proofs.RowByRow.{known_plain}
+use Rattle.s10_statements.proofs.StateLemmas.{leaves_weaker}
 use Rattle.s10_statements.proofs.FoundLemmas.{head_found}
 use Rattle.s10_statements.proofs.reads.all_heads.Goals as goal
 
 pub returns-in_err-rows-clause-leaves : goal.returns-in_err-rows-clause-leaves
-returns-in_err-rows-clause-leaves g c = c.read.ensures.leaves head_plain
+returns-in_err-rows-clause-leaves g c = leaves_weaker g.S.Store c.args.conn.now c.read.new.conn (known_plain head_text head_plain) c.read.ensures.leaves
 
 pub returns-clause-leaves : goal.returns-clause-leaves
-returns-clause-leaves g c = c.read.ensures.leaves head_plain
+returns-clause-leaves g c = leaves_weaker g.S.Store c.args.conn.now c.read.new.conn (known_plain head_text head_plain) c.read.ensures.leaves
 
 pub returns-clause-rows : goal.returns-clause-rows
 returns-clause-rows g c clean =

@@ -1,7 +1,6 @@
-use Rattle.std.proofs.Common.{◌≡◌, ◌+◌, List, [], take, take_all, refl, subst, ◌∙◌, arith}
+use Rattle.std.proofs.Common.{◌+◌, List, [], take, take_all, refl, subst, ◌∙◌, arith}
 use Rattle.std.specs.Prelude.{⊤}
 use Rattle.sqlite.specs.Held.{state}
-use Rattle.s10_rows.specs.Tables.{Tables}
 use Rattle.s10_statements.specs.Shown.{HasTables}
 use Rattle.s10_statements.proofs.WriteLemmas.{none_made, one_made, still_kept, still_survives, ranges_one, with_ranges_in}
 use Rattle.s10_statements.proofs.writes.put_ranges.Goals as goal

@@ -1,7 +1,6 @@
-use Rattle.std.proofs.Common.{◌≡◌, ◌+◌, List, [], take, take_all, refl, subst, ◌∙◌, arith}
+use Rattle.std.proofs.Common.{◌+◌, List, [], take, take_all, refl, subst, ◌∙◌, arith}
 use Rattle.sqlite.specs.Held.{state}
 use Rattle.s10_rows.specs.Kept.{FindAtMostOne}
-use Rattle.s10_rows.specs.Tables.{Tables}
 use Rattle.s10_statements.specs.Shown.{HasTables}
 use Rattle.s10_statements.proofs.WriteLemmas.{none_made, one_made, still_kept, still_survives, serials_one, with_serials_in, finds_at}
 use Rattle.s10_statements.proofs.writes.put_serials.Goals as goal

@@ -5,3 +5,6 @@ returns-in-NotIssued g c = rw c.in-NotIssued.is c.write_word-in-NotIssued.ensure
 
 pub returns-in-AlreadyVoid : goal.returns-in-AlreadyVoid
 returns-in-AlreadyVoid g c = rw c.in-AlreadyVoid.is c.write_word-in-AlreadyVoid.ensures
+
+pub returns-in-NoSuchRange : goal.returns-in-NoSuchRange
+returns-in-NoSuchRange g c = rw c.in-NoSuchRange.is c.write_word-in-NoSuchRange.ensures

@@ -1,9 +1,6 @@
-use Rattle.std.proofs.Common.{arith, ◌∙◌, sym, ap}
-use Rattle.std.specs.Prelude.{map}
+use Rattle.std.proofs.Common.{arith, sym, subst}
 use Rattle.sqlite.specs.Held.{state}
-use Rattle.s10_book.specs.History.{ranges_of}
-use Rattle.s10_book.specs.Issues.{issues_of}
-use Rattle.s10_ranges.specs.Turns.{mark_of}
+use Rattle.s10_ranges.specs.Mirror.{Mirrors}
 use Rattle.s10_ledger.proofs.NewLedger.{no_history, new_ledger}
 use Rattle.s10_ledger.proofs.sql_book.SqlBook.create.Goals as goal
 
@@ -14,10 +11,7 @@ invariant_of-result g c = (
   c.in_default-make_ledger.ensures.settled,
   λ clean opened.
       let none = no_history (state g.S.Store c.make_ledger.new.conn).now c.args.settings (c.in_default-make_ledger.ensures.all clean (c.refusal_of.ensures.none c.in_default.is)) in
-      record {
-        ranges = c.new.ensures.ranges ∙ sym (ap ranges_of none);
-        marks = c.new.ensures.marks ∙ sym (ap (λ h. map (mark_of (issues_of h)) (ranges_of h)) none);
-      },
+      subst (Mirrors c.new.result) (sym none) c.new.ensures,
   λ so clean. c.in_default-make_ledger.ensures.opened clean,
 )
 

@@ -1,5 +1,6 @@
 use Rattle.std.proofs.Common.{rules, sym}
 use Rattle.sqlite.specs.Held.{state}
+use Rattle.s10_ledger.proofs.BookLemmas.{closed_is}
 use Rattle.s10_ledger.proofs.RefusalLemmas.{ledger_opens}
 use Rattle.s10_ledger.proofs.sql_book.SqlBook.open.Goals as goal
 
@@ -8,3 +9,6 @@ returns-in-Err-clause-whole g c clean opened t len day limits it = ledger_opens 
 
 pub ledger_in-requires : goal.ledger_in-requires
 ledger_in-requires g c = record { settled = record { idle = c.requires.idle; committed = λ clean opened. sym (c.is_autocommit.ensures.settled (search rules) opened) } }
+
+pub returns-in-Ok-clause-completed : goal.returns-in-Ok-clause-completed
+returns-in-Ok-clause-completed g c honest = closed_is (state g.S.Store c.over.result.conn).now c.over.result.terms c.over.result.len c.over.result.day honest.ledger

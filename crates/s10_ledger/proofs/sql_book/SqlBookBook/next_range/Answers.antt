@@ -1,15 +1,14 @@
 use Rattle.std.proofs.Common.{◌∙◌, List, ap}
 use Rattle.std.specs.Prelude.{find}
 use Rattle.s10_book.specs.declared.entry.Entry.{Entry}
-use Rattle.s10_book.specs.History.{ranges_of, is_held, is_held_above}
-use Rattle.s10_book.proofs.Ranges.{found_above}
+use Rattle.s10_book.specs.History.{ranges_of, is_open_above}
 use Rattle.s10_ledger.proofs.sql_book.SqlBookBook.next_range.Goals as goal
 
 pub returns-clause-answer : goal.returns-clause-answer
 returns-clause-answer g c =
     let kept = rw (← c.self.view_is) at c.ask_again.ensures.keeps in
-    rw (← c.self.view_is) (λ honest. c.held_after.ensures ∙ ap (find (is_held_above c.args.after c.args.customer c.args.service c.args.country)) (c.self.invariant.3 honest.clean honest.is_open).ranges
-    ∙ ap (λ (h : List Entry). find (is_held_above c.args.after c.args.customer c.args.service c.args.country) (ranges_of h)) (kept.same_history honest))
+    rw (← c.self.view_is) (λ honest. c.open_after.ensures.open _ (c.self.invariant.3 honest.clean honest.is_open)
+    ∙ ap (λ (h : List Entry). find (is_open_above h c.args.after c.args.customer c.args.service c.args.country) (ranges_of h)) (kept.same_history honest))
 
 pub returns-clause-above : goal.returns-clause-above
-returns-clause-above g c = found_above (is_held c.args.customer c.args.service c.args.country) c.args.after c.self.inside.ranges.ranges.items c.held_after.result c.held_after.ensures
+returns-clause-above g c = c.open_after.ensures.above

@@ -1,4 +1,4 @@
-use Rattle.std.proofs.Common.{List}
+use Rattle.std.proofs.Common.{◌≡◌, List}
 use Rattle.s10_book.specs.declared.entry.Entry.{Entry}
 use Rattle.s10_book.specs.Settings.{Terms}
 use Rattle.s10_book.specs.History.{ranges_of}
@@ -9,4 +9,8 @@ use Rattle.s10_ranges.proofs.Carrying.{issues_upto}
 use Rattle.s10_ranges.proofs.ranges.Ranges.turn_all.Given as goal
 
 abbrev pub invariant-loop-place : goal.invariant-loop-place
-invariant-loop-place l = (h : List Entry) (t : Terms) → IsLegal h t → MayFollow h t l.entry → MirrorsAt (ranges_of h) (issues_of h) l.fn.self → MirrorsAt (ranges_of h) (issues_upto h l.entry l.place) l.self
+invariant-loop-place l =
+    record {
+      marks : (h : List Entry) (t : Terms) → IsLegal h t → MayFollow h t l.entry → MirrorsAt (ranges_of h) (issues_of h) l.fn.self → MirrorsAt (ranges_of h) (issues_upto h l.entry l.place) l.self;
+      closed : l.self.closed ≡ l.fn.self.closed;
+    }

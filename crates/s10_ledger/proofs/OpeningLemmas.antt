@@ -1,0 +1,96 @@
+-- What is found of the tables, once they are completed.
+use Rattle.std.proofs.Common.{◌≡◌, ◌⊎◌, inl, inr, IsTrue, List, [], ◌∷◌, map, length, refl, sym, ap, subst, ◌∙◌, arith}
+use Rattle.std.proofs.lemmas.List.{length-map}
+use Rattle.sqlite_trees.specs.declared.store.Store.{Ghosts}
+use Rattle.sqlite.specs.Effect.{Database}
+use Rattle.sqlite.specs.State.{HasCleanDisk}
+use Rattle.sqlite.specs.Held.{Held, state}
+use Rattle.s10_book.specs.declared.entry.Entry.{Entry}
+use Rattle.s10_book.specs.History.{day_of}
+use Rattle.s10_ranges.specs.declared.ranges.Ranges.{Ranges}
+use Rattle.s10_ranges.specs.Mirror.{Mirrors}
+use Rattle.s10_rows.specs.declared.open_fault.OpenFault.{OpenFault}
+use Rattle.s10_rows.specs.declared.open_fault.OpenFault.TheVariants.{Memory, Store}
+use Rattle.s10_rows.specs.declared.opened.Opened.{Opened}
+use Rattle.s10_rows.specs.Tables.{Tables, HaveSameRows, tables_of}
+use Rattle.s10_rows.specs.RightRows.{kept_of, entry_of}
+use Rattle.s10_rows.specs.Verdict.{IsWhole}
+use Rattle.s10_rows.proofs.SameRows.{same_length}
+use Rattle.s10_rows.proofs.Compared.{right_calls}
+use Rattle.s10_schema.specs.Schema.{IsClosedSchema}
+use Rattle.s10_statements.specs.Settled.{IsSettled, WasSound}
+use Rattle.s10_statements.specs.Shown.{HasTables, HasOldTables, shown_head, shown_range, shown_serial, head_columns}
+use Rattle.s10_statements.specs.Statements.{Leaves}
+use Rattle.s10_ledger.specs.declared.form.Form.{Form}
+use Rattle.s10_ledger.specs.declared.form.Form.TheVariants.{Whole, Old}
+use Rattle.s10_ledger.specs.Form.{IsOfForm, HasForm}
+use Rattle.s10_ledger.specs.Ledger.{IsLedger, IsOldLedger, IsAnyLedger, history_in}
+use Rattle.s10_ledger.specs.Refusals.{IsOpeningRefusal}
+use Rattle.s10_ledger.specs.Remade.{IsFound}
+use Rattle.s10_ledger.proofs.Forms.{form_ledger, four_lack}
+use Rattle.s10_ledger.proofs.WholeLemmas.{history, whole_ledger, found_history, right_rows, right_legal, shown_again}
+
+-- the tables are read, and completed then
+module _ {S : Type 0} (g : Ghosts S) (old read new : Held S) (form : Form) (declared : IsOfForm form (state g old).now.schema) (settled : IsSettled g old) (leaves : Leaves g old read) (sound : WasSound g read new) where
+  pub was_sound : WasSound g old new
+  was_sound clean = let s = sound clean in (omega (arith, leaves.clean, s.0), λ opened. leaves.was_open s.0 (s.1 opened))
+
+  pub as_read : HasCleanDisk (state g new) → IsTrue (state g new).is_open → (state g read).now ≡ (state g old).now
+  as_read clean opened = let s = sound clean in leaves.now s.0 (s.1 opened) settled (form_ledger form (state g old).now.schema declared)
+
+-- what has all five tables is not touched
+pub as_it_was : (form : Form) (old read new : Database) → IsOfForm form old.schema → read ≡ old → (form ≡ Whole → new ≡ read) → IsClosedSchema old.schema → new ≡ old
+as_it_was Whole old read new declared was same closed = same refl ∙ was
+as_it_was Old old read new declared was same closed = absurd (four_lack old.schema declared closed)
+
+-- what was found of the tables is so of the completed ones
+module _ (form : Form) (old read new : Database) (found : Opened) (ranges : Ranges) (it : IsFound form old found ranges) (was : read ≡ old) (whole : (tables : Tables) → HasForm form read tables → HasTables new tables) where
+  completed : HasTables new it.tables
+  completed = whole it.tables (subst (λ (d : Database). HasForm form d it.tables) (sym was) it.has)
+
+  pub same_history : history_in new ≡ history_in old
+  same_history = history new it.tables found completed it.whole ∙ sym (found_history form old it.tables found it.has it.whole)
+
+  pub completed_ledger : IsLedger new found.settings found.len found.day
+  completed_ledger = whole_ledger new it.tables found completed it.whole
+
+  pub completed_mirrors : Mirrors ranges (history_in new)
+  completed_mirrors = subst (λ (h : List Entry). Mirrors ranges h) (sym (history new it.tables found completed it.whole)) it.mirrored
+
+no_rows_left : {X : Type 0} (xs ys : List X) → HaveSameRows xs ys → ys ≡ [] → xs ≡ []
+no_rows_left [] ys same none = refl
+no_rows_left (x ∷ xs) ys same none = absurd (omega (arith, same_length (x ∷ xs) ys same, ap length none))
+
+-- tables of an earlier build whose rows are whole are a ledger of that
+old_ledger : (db : Database) (tables : Tables) (found : Opened) → HasOldTables db tables → IsWhole tables found → IsOldLedger db found.settings found.len found.day
+old_ledger db tables found has whole =
+    let kept : List Entry = kept_of tables.calls in
+    let is : history_in db ≡ kept = found_history Old db tables found has whole in
+    let stands : HasOldTables db (tables_of kept found.settings) = record {
+      schema = has.schema;
+      heads = subst (λ l. HaveSameRows (map shown_head l) (map head_columns (db.trees 0))) whole.head.row has.heads;
+      calls = rw (right_rows found.settings tables.calls whole.right) has.calls;
+      ranges = shown_again shown_range _ tables.ranges _ whole.made.ranges has.ranges;
+      serials = shown_again shown_serial _ tables.serials _ whole.made.serials has.serials;
+      numbered = has.numbered;
+      closed = no_rows_left _ tables.closed whole.made.closed has.closed;
+    } in
+    record {
+      legal = rw is (right_legal found.settings tables.calls whole.right);
+      held = ∣ record {
+        tables = rw is stands;
+        calls = rw is (right_calls found.settings tables.calls whole.right);
+        len_is = whole.len ∙ sym (ap length is ∙ length-map tables.calls entry_of);
+        day_is = whole.day ∙ sym (ap day_of is);
+      } ∣₁;
+    }
+
+-- what was found is a ledger, of whichever build
+pub found_ledger : (form : Form) (db : Database) (found : Opened) (ranges : Ranges) → IsFound form db found ranges → IsAnyLedger db found.settings found.len found.day
+found_ledger Whole db found ranges it = inl (whole_ledger db it.tables found it.has it.whole)
+found_ledger Old db found ranges it = inr (old_ledger db it.tables found it.has it.whole)
+
+-- want of memory and a fault of the store refuse any database
+pub refused_by_store : (db : Database) (fault : OpenFault) → (fault ≡ Memory) ⊎ (fault ≡ Store) → IsOpeningRefusal db fault
+refused_by_store db fault (inl is) = subst (λ (f : OpenFault). IsOpeningRefusal db f) (sym is) tt
+refused_by_store db fault (inr is) = subst (λ (f : OpenFault). IsOpeningRefusal db f) (sym is) tt

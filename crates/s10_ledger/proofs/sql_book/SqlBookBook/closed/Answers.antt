@@ -1,0 +1,10 @@
+use Rattle.std.proofs.Common.{◌∙◌, List, ap}
+use Rattle.s10_book.specs.declared.entry.Entry.{Entry}
+use Rattle.s10_book.specs.History.{is_closed}
+use Rattle.s10_ledger.proofs.sql_book.SqlBookBook.closed.Goals as goal
+
+pub returns-clause-answer : goal.returns-clause-answer
+returns-clause-answer g c =
+    let kept = rw (← c.self.view_is) at c.ask_again.ensures.keeps in
+    rw (← c.self.view_is) (λ honest. c.is_closed.ensures _ (c.self.invariant.3 honest.clean honest.is_open)
+    ∙ ap (λ (h : List Entry). is_closed h c.args.num) (kept.same_history honest))

@@ -1,0 +1,5 @@
+use Rattle.s10_wire.proofs.Writing.{Appends-nothing}
+use Rattle.s10_reports.proofs.ranges_report.write_closed.Goals as goal
+
+pub returns-else-closed : goal.returns-else-closed
+returns-else-closed g c = rw c.if-closed.false (Appends-nothing _)
