@@ -8,7 +8,7 @@ ghost use Rattle.s10_host.specs.Audited.{IsFound, audit_line, audit_status};
 
 use s10_book::Book;
 use s10_jobs::{Status, write_ledger_fault};
-use s10_ledger::{OpenFault, Refused, SqlBook};
+use s10_ledger::{OpenFault, Refused, SqlBook, Watch};
 use s10_wire::{WriteFault, write_decimal, write_text, write_word};
 use sqlite::{Alter, Connection};
 use std::alloc::Global;
@@ -16,28 +16,30 @@ use std::io::Write;
 
 /// Opens the ledger of a connection, which does all its calls again, and writes `ledger ok N` with the number of its
 /// calls, or `ledger` and why it is none, which is a failure. Answers the connection too.
-pub fn run_audit<S: Alter, W: Write>(
+pub fn run_audit<S: Alter, K: Watch, W: Write>(
     alloc: Global,
     connection: Connection<S>,
+    watch: &mut K,
     output: &mut W,
 ) -> (Result<Status, WriteFault>, Connection<S>)
     requires idle { connection.in_transaction ≡ false }
     ensures { (found : Result ℕ OpenFault) × IsFound S.Store connection result.1 found × IfOk result.0 (λ status. (status ≡ audit_status found)
         × Appends (W.contents output.old) (W.contents output.new) (audit_line found)) }
 {
-    let (found, left) = count_calls(alloc, connection);
+    let (found, left) = count_calls(alloc, connection, watch);
     (write_found(found, output), left)
 }
 
 // How many calls the ledger keeps, or why it is none; and the connection.
-fn count_calls<S: Alter>(
+fn count_calls<S: Alter, K: Watch>(
     alloc: Global,
     connection: Connection<S>,
+    watch: &mut K,
 ) -> (Result<u32, OpenFault>, Connection<S>)
     requires idle { connection.in_transaction ≡ false }
     ensures { IsFound S.Store connection result.1 result.0 }
 {
-    match SqlBook::open(alloc, connection) {
+    match SqlBook::open(alloc, connection, watch) {
         Ok(book) => {
             let count = book.len();
             (Ok(count), book.close())

@@ -5,6 +5,7 @@ ghost use Rattle.sqlite_wal.specs.Files.{image_at};
 ghost use Rattle.s10_host.specs.Files.{IsFoundIn, IsEmptyBook, IsFoundBook, WhereClean, PutsAway, Copies, Leaves, IsFileFault, IsAbsenceOr, IsNotMade, IsNotOpened};
 
 use crate::front::{fault_of_front, fault_of_place};
+use crate::onlooker::Onlooker;
 use s10_book::Settings;
 use s10_ledger::{OpenFault, Refused, SqlBook};
 use sqlite::{Connection, Error, ErrorCode, FileFrom, FileStore, Files, Start};
@@ -33,7 +34,8 @@ pub fn create_book<S: Start>(
     ensures refused { IfErr result (IsNotMade S.row S.Start) }
 {
     let connection = connect_to_place(rt, path, start)?;
-    kept_or_closed(SqlBook::create(rt.alloc(), connection, settings))
+    let mut onlooker = Onlooker::new(rt, path);
+    kept_or_closed(SqlBook::create(rt.alloc(), connection, settings, &mut onlooker))
 }
 
 /// Opens the ledger of a file, which does all its calls again.
@@ -42,7 +44,8 @@ pub fn open_book<S: Start>(rt: &HostRuntime, path: &str, start: S) -> Result<Fil
     ensures refused { IfErr result (IsNotOpened S.row S.Start) }
 {
     let connection = connect_to_ledger(rt, path, start)?;
-    kept_or_closed(SqlBook::open(rt.alloc(), connection))
+    let mut onlooker = Onlooker::new(rt, path);
+    kept_or_closed(SqlBook::open(rt.alloc(), connection, &mut onlooker))
 }
 
 /// Ends a book: what it committed is then in the database file itself.

@@ -14,6 +14,7 @@ use crate::files::{
 };
 use crate::left::Left;
 use crate::loopback::run_loop;
+use crate::onlooker::Onlooker;
 use crate::questioning::run_question;
 use crate::serving::serve_at;
 use s10_book::Settings;
@@ -228,7 +229,8 @@ fn audit_file<S: Start, W: Write>(
 {
     match connect_to_ledger(rt, ledger, start) {
         Ok(connection) => {
-            let (audited, left) = run_audit(rt.alloc(), connection, out);
+            let mut onlooker = Onlooker::new(rt, ledger);
+            let (audited, left) = run_audit(rt.alloc(), connection, &mut onlooker, out);
             (audited, Some(leave_files(left)))
         }
         Err(fault) => (fail_by_ledger(fault, out), None),

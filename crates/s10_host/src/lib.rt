@@ -8,6 +8,7 @@ mod jobs;
 mod left;
 mod loopback;
 mod memory;
+mod onlooker;
 mod questioning;
 mod serving;
 mod waiting;

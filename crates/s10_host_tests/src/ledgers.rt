@@ -6,7 +6,7 @@ use s10_core::{Country, Id, Serial, Service};
 use s10_ends::{Answer, Delivery, Server};
 use s10_host::run_audit;
 use s10_jobs::{Status, write_answer};
-use s10_ledger::{OpenFault, SqlBook};
+use s10_ledger::{OpenFault, SqlBook, Unwatched};
 use s10_link::Packet;
 use s10_reports::{write_issues, write_ranges};
 use s10_wire::{Body, Request, WriteFault, encode_request};
@@ -178,7 +178,7 @@ fn audited<R: Abort + AllocGlobal, W: Write>(
     out: &mut W,
 ) -> Result<Status, WriteFault> {
     assert!(rt; connection.is_autocommit());
-    let (done, _left) = run_audit(rt.alloc(), connection, out);
+    let (done, _left) = run_audit(rt.alloc(), connection, &mut Unwatched, out);
     done
 }
 

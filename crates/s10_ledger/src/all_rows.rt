@@ -15,14 +15,15 @@ use crate::form::Form;
 use crate::made_rows::MadeRows;
 use crate::remade::Remade;
 use s10_rows::{CallRow, ClosedRow, HeadRow, OpenFault, RangeRow, SerialRow};
-use s10_statements::{all_calls, all_closed, all_heads, all_ranges, all_serials};
+use s10_statements::{Watch, all_calls, all_closed, all_heads, all_ranges, all_serials};
 use sqlite::{Alter, Connection, Error};
 use std::alloc::Global;
 
 // The rows of `head`, and those of `calls` in order of arrival.
-fn kept_rows<S: Alter>(
+fn kept_rows<S: Alter, W: Watch>(
     alloc: Global,
     conn: &mut Connection<S>,
+    watch: &mut W,
 ) -> Result<(Vec<HeadRow>, Vec<CallRow>), Error>
     ensures leaves { Leaves S.Store conn.old conn.new }
     ensures opened { HasCleanDisk (state S.Store conn.new) → OnOk result (IsTrue (state S.Store conn.new).is_open) }
@@ -30,7 +31,7 @@ fn kept_rows<S: Alter>(
         → IfOk result (λ kept. HasKept (state S.Store conn.old).now kept.0.items kept.1.items) }
 {
     let heads = all_heads(alloc, conn)?;
-    let calls = all_calls(alloc, conn)?;
+    let calls = all_calls(alloc, conn, watch)?;
     Ok((heads, calls))
 }
 
@@ -51,9 +52,10 @@ fn closed_rows<S: Alter>(
 }
 
 // The rows of `ranges` and of `serials`.
-fn made_rows<S: Alter>(
+fn made_rows<S: Alter, W: Watch>(
     alloc: Global,
     conn: &mut Connection<S>,
+    watch: &mut W,
 ) -> Result<(Vec<RangeRow>, Vec<SerialRow>), Error>
     ensures leaves { Leaves S.Store conn.old conn.new }
     ensures opened { HasCleanDisk (state S.Store conn.new) → OnOk result (IsTrue (state S.Store conn.new).is_open) }
@@ -61,15 +63,16 @@ fn made_rows<S: Alter>(
         → IfOk result (λ made. HasMade (state S.Store conn.old).now made.0.items made.1.items) }
 {
     let ranges = all_ranges(alloc, conn)?;
-    let serials = all_serials(alloc, conn)?;
+    let serials = all_serials(alloc, conn, watch)?;
     Ok((ranges, serials))
 }
 
 // What is found of the settings and the calls, and the rows that are to be compared with what these make.
-pub(crate) fn all_rows<S: Alter>(
+pub(crate) fn all_rows<S: Alter, W: Watch>(
     alloc: Global,
     conn: &mut Connection<S>,
     form: Form,
+    watch: &mut W,
 ) -> Result<(Result<Remade, OpenFault>, MadeRows), Error>
     requires form { IsOfForm form (state S.Store conn.old).now.schema }
     ensures leaves { Leaves S.Store conn.old conn.new }
@@ -79,9 +82,9 @@ pub(crate) fn all_rows<S: Alter>(
     ensures remade { IfOk result (λ rows. IfOk rows.0 (λ made. (heads : List HeadRow) × ((calls : List StoredCall) × IsRemade heads calls made))) }
 {
     let closed = closed_rows(alloc, conn, form)?;
-    let (heads, calls) = kept_rows(alloc, conn)?;
+    let (heads, calls) = kept_rows(alloc, conn, watch)?;
     let made = Remade::of(alloc, heads, calls);
-    let (ranges, serials) = made_rows(alloc, conn)?;
+    let (ranges, serials) = made_rows(alloc, conn, watch)?;
     let rows = MadeRows {
         ranges,
         serials,

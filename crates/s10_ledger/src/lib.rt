@@ -17,4 +17,5 @@ mod verdict;
 
 pub use refused::Refused;
 pub use s10_rows::OpenFault;
+pub use s10_statements::{Unwatched, Watch};
 pub use sql_book::SqlBook;

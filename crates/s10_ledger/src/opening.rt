@@ -22,15 +22,16 @@ use crate::sql_book::SqlBook;
 use crate::verdict::verdict;
 use s10_ranges::Ranges;
 use s10_rows::{OpenFault, Opened};
-use s10_statements::make_closed;
+use s10_statements::{Watch, make_closed};
 use sqlite::{Alter, Connection};
 use std::alloc::Global;
 
 // What is found of the ledger in the tables, and its ranges.
-fn found_in<S: Alter>(
+fn found_in<S: Alter, W: Watch>(
     alloc: Global,
     conn: &mut Connection<S>,
     form: Form,
+    watch: &mut W,
 ) -> Result<(Opened, Ranges), OpenFault>
     requires settled { IsSettled S.Store conn.old }
     requires form { IsOfForm form (state S.Store conn.old).now.schema }
@@ -40,16 +41,23 @@ fn found_in<S: Alter>(
     ensures found { HasCleanDisk (state S.Store conn.new) → IsTrue (state S.Store conn.new).is_open → IfOk result (λ found. IsFound form (state S.Store conn.old).now found.0 found.1) }
     ensures refused { HasCleanDisk (state S.Store conn.new) → IsTrue (state S.Store conn.new).is_open → IfErr result (IsOpeningRefusal (state S.Store conn.old).now) }
 {
-    let (made, rows) = match all_rows(alloc, conn, form) {
+    let (made, rows) = match all_rows(alloc, conn, form, watch) {
         Ok(rows) => rows,
-        Err(error) => return Err(opening_fault(error)),
+        Err(error) => {
+            watch.has_failed(&error);
+            return Err(opening_fault(error));
+        }
     };
     let made = made?;
     verdict(alloc, made, rows)
 }
 
 // Makes the table that an earlier build does not have.
-fn complete<S: Alter>(conn: &mut Connection<S>, form: Form) -> Result<(), OpenFault>
+fn complete<S: Alter, W: Watch>(
+    conn: &mut Connection<S>,
+    form: Form,
+    watch: &mut W,
+) -> Result<(), OpenFault>
     requires settled { IsSettled S.Store conn.old }
     ensures settled { IsSettled S.Store conn.new }
     ensures was { WasSound S.Store conn.old conn.new }
@@ -63,15 +71,19 @@ fn complete<S: Alter>(conn: &mut Connection<S>, form: Form) -> Result<(), OpenFa
         Form::Whole => Ok(()),
         Form::Old => match make_closed(conn) {
             Ok(()) => Ok(()),
-            Err(error) => Err(opening_fault(error)),
+            Err(error) => {
+                watch.has_failed(&error);
+                Err(opening_fault(error))
+            }
         },
     }
 }
 
 // What is found of the ledger in the tables, and its ranges. Tables of an earlier build are completed.
-pub(crate) fn ledger_in<S: Alter>(
+pub(crate) fn ledger_in<S: Alter, W: Watch>(
     alloc: Global,
     conn: &mut Connection<S>,
+    watch: &mut W,
 ) -> Result<(Opened, Ranges), OpenFault>
     requires settled { IsSettled S.Store conn.old }
     ensures settled { IsSettled S.Store conn.new }
@@ -91,8 +103,8 @@ pub(crate) fn ledger_in<S: Alter>(
     let Some(form) = form_of(conn.schema()) else {
         return Err(OpenFault::NotALedger);
     };
-    let found = found_in(alloc, conn, form)?;
-    complete(conn, form)?;
+    let found = found_in(alloc, conn, form, watch)?;
+    complete(conn, form, watch)?;
     Ok(found)
 }
 
@@ -114,7 +126,11 @@ impl<S: Alter> SqlBook<S> {
     /// refers to them or an index is on them, or `head` is not its one row, with Schema, with Damaged
     /// and the first call that is wrong, or 0 where another row is, with Memory, and with Store where a
     /// statement failed; a refusal leaves the tables as they are.
-    pub fn open(alloc: Global, mut conn: Connection<S>) -> Result<SqlBook<S>, Refused<S>>
+    pub fn open<W: Watch>(
+        alloc: Global,
+        mut conn: Connection<S>,
+        watch: &mut W,
+    ) -> Result<SqlBook<S>, Refused<S>>
         requires idle { conn.in_transaction ≡ false }
         ensures new { IfOk result (λ b. b.faults ≡ no_faults) }
         ensures idle { IfOk result (λ b. b.conn.in_transaction ≡ false) }
@@ -135,7 +151,7 @@ impl<S: Alter> SqlBook<S> {
     {
         // A connection that is in no transaction has nothing to commit.
         prove!(conn.is_autocommit());
-        match ledger_in(alloc, &mut conn) {
+        match ledger_in(alloc, &mut conn, watch) {
             Ok((Opened { settings, len, day }, ranges)) => {
                 Ok(SqlBook::over(alloc, conn, settings, len, day, ranges))
             }

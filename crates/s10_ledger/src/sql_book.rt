@@ -14,7 +14,7 @@ use s10_book::{Book, BookFault, Candidate, Entry, Faults, Issue, Range, Settings
 use s10_core::{Country, Id, Serial, Service};
 use s10_ranges::Ranges;
 use s10_rows::OpenFault;
-use s10_statements::{make_ledger, refusal_of};
+use s10_statements::{Unwatched, Watch, make_ledger, refusal_of};
 use sqlite::{Alter, Connection, MemStore};
 use std::alloc::Global;
 use std::marker::Model;
@@ -60,10 +60,11 @@ impl<S: Alter> SqlBook<S> {
     /// Makes an empty ledger with these settings in an empty database, in one transaction. Refused
     /// with NotEmpty where a table of one of the five names is there, with Memory, and with Store
     /// where a statement failed or the database has other tables; a refusal leaves no table.
-    pub fn create(
+    pub fn create<W: Watch>(
         alloc: Global,
         conn: Connection<S>,
         settings: Settings,
+        watch: &mut W,
     ) -> Result<SqlBook<S>, Refused<S>>
         requires idle { conn.in_transaction ≡ false }
         ensures new { IfOk result (λ b. (b.terms ≡ settings) × (b.faults ≡ no_faults)) }
@@ -85,6 +86,7 @@ impl<S: Alter> SqlBook<S> {
             return Err(Refused { fault, connection });
         }
         if let Err(error) = make_ledger(&mut connection, settings) {
+            watch.has_failed(&error);
             let fault = opening_fault(error);
             return Err(Refused { fault, connection });
         }
@@ -181,7 +183,7 @@ impl SqlBook<MemStore> {
         let Ok(conn) = Connection::open_in_memory(alloc) else {
             return Err(OpenFault::Memory);
         };
-        match SqlBook::create(alloc, conn, settings) {
+        match SqlBook::create(alloc, conn, settings, &mut Unwatched) {
             Ok(book) => Ok(book),
             Err(
                 Refused {

@@ -3,7 +3,7 @@
 use crate::calls::{ledger, nine_calls, run, settings};
 use crate::tables::numbers;
 use s10_book::{Book, Settings};
-use s10_ledger::{OpenFault, Refused, SqlBook};
+use s10_ledger::{OpenFault, Refused, SqlBook, Unwatched};
 use sqlite::{Connection, Error, MemStore};
 use std::alloc::Global;
 use std::process::Abort;
@@ -76,7 +76,7 @@ fn refusal<R: Abort + AllocGlobal>(
     if !conn.is_autocommit() {
         panic!(rt; "in a transaction")
     }
-    match SqlBook::create(rt.alloc(), conn, settings) {
+    match SqlBook::create(rt.alloc(), conn, settings, &mut Unwatched) {
         Ok(_) => panic!(rt; "made"),
         Err(Refused { fault, connection }) => (fault, connection),
     }

@@ -4,7 +4,7 @@ ghost use Rattle.std.specs.Prelude.{◌≤◌};
 
 use crate::calls::{answer, draw, gb, grant, ledger, ra, serial, settings};
 use s10_book::{Book, PlainBook};
-use s10_ledger::SqlBook;
+use s10_ledger::{SqlBook, Unwatched};
 use s10_wire::Request;
 use sqlite::MemStore;
 use std::process::Abort;
@@ -83,7 +83,7 @@ fn ranges_are_alike<A: Book, B: Book>(one: &mut A, other: &mut B, ranges: u32) -
 
 // The ledger, closed and opened again.
 fn opened_again<R: Abort + AllocGlobal>(rt: &R, book: SqlBook<MemStore>) -> SqlBook<MemStore> {
-    match SqlBook::open(rt.alloc(), book.close()) {
+    match SqlBook::open(rt.alloc(), book.close(), &mut Unwatched) {
         Ok(book) => book,
         Err(refused) => panic!(rt; "{}", refused.fault),
     }

@@ -4,7 +4,7 @@ use crate::calls::{Step, draw, drawn, nine_calls, run, withdraw};
 use crate::creating::nine_kept;
 use crate::tables::{OLD_LEDGER, database, found, ledger_of, numbers, opens, run_batch};
 use s10_book::Book;
-use s10_ledger::{OpenFault, Refused, SqlBook};
+use s10_ledger::{OpenFault, Refused, SqlBook, Unwatched};
 use s10_rows::Opened;
 use s10_wire::Outcome;
 use sqlite::{Connection, Error, MemStore};
@@ -86,7 +86,7 @@ fn served<R: Abort + AllocGlobal>(
     if !conn.is_autocommit() {
         return None;
     }
-    match SqlBook::open(rt.alloc(), conn) {
+    match SqlBook::open(rt.alloc(), conn, &mut Unwatched) {
         Ok(mut book) => {
             run(rt, "served on", &mut book, steps);
             Some(book.close())

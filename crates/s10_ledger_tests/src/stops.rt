@@ -2,7 +2,7 @@
 
 use crate::tables::{OLD_LEDGER, run_batch};
 use s10_book::Book;
-use s10_ledger::{OpenFault, Refused, SqlBook};
+use s10_ledger::{OpenFault, Refused, SqlBook, Unwatched};
 use sqlite::{Connection, FileStore, Files, Options};
 use sqlite_disk::{Crash, Disk, Fuse, Memory};
 use std::alloc::Global;
@@ -62,7 +62,7 @@ fn ledger_in<D: Disk + Drop>(alloc: Global, conn: Connection<FileStore<D>>) -> (
     if !conn.is_autocommit() {
         return (Ended::Unconnected, conn.into_store().close());
     }
-    match SqlBook::open(alloc, conn) {
+    match SqlBook::open(alloc, conn, &mut Unwatched) {
         Ok(book) => {
             let calls = book.len();
             let conn = book.close();

@@ -1,7 +1,7 @@
 //! Databases made by statements, and what opening finds in them.
 
 use s10_book::{Book, Settings};
-use s10_ledger::{OpenFault, Refused, SqlBook};
+use s10_ledger::{OpenFault, Refused, SqlBook, Unwatched};
 use s10_rows::Opened;
 use sqlite::{Alter, Connection, Error, MemStore};
 use std::alloc::Global;
@@ -105,7 +105,7 @@ pub(crate) fn found(
     if !conn.is_autocommit() {
         return None;
     }
-    match SqlBook::open(alloc, conn) {
+    match SqlBook::open(alloc, conn, &mut Unwatched) {
         Ok(book) => {
             let opened = Opened {
                 settings: book.settings(),

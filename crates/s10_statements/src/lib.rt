@@ -6,6 +6,7 @@ mod migrating;
 mod reads;
 mod row_reading;
 mod streams;
+mod watch;
 mod writes;
 
 pub use making::{make_ledger, refusal_of};
@@ -14,4 +15,5 @@ pub use reads::{
     all_calls, all_closed, all_heads, all_ranges, all_serials, calls_between, calls_with_key,
     serials_within,
 };
+pub use watch::{Unwatched, Watch};
 pub use writes::keep_rows;

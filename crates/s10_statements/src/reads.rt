@@ -19,6 +19,7 @@ ghost use Rattle.s10_statements.specs.Statements.{Leaves, LeavesWhere};
 
 use crate::row_reading::{closed_rows_in, heads_in, ranges_in, serials_in};
 use crate::streams::{calls_shown, numbered_serials_shown};
+use crate::watch::{Unwatched, Watch};
 use s10_rows::{CallRow, ClosedRow, HeadRow, RangeRow, SerialRow};
 use sqlite::types::ValueRef;
 use sqlite::{Alter, Connection, Error, Row, params};
@@ -70,6 +71,7 @@ pub fn calls_with_key<S: Alter>(
         conn,
         "SELECT arrival, customer, number, day, reply FROM calls WHERE customer = ?1 AND number = ?2 ORDER BY arrival",
         params![customer, number],
+        &mut Unwatched,
     )
 }
 
@@ -90,11 +92,16 @@ pub fn calls_between<S: Alter>(
         conn,
         "SELECT arrival, customer, number, day, reply FROM calls WHERE arrival BETWEEN ?1 AND ?2 ORDER BY arrival",
         params![low, high],
+        &mut Unwatched,
     )
 }
 
 /// All rows of `calls`, in order of arrival.
-pub fn all_calls<S: Alter>(alloc: Global, conn: &mut Connection<S>) -> Result<Vec<CallRow>, Error>
+pub fn all_calls<S: Alter, W: Watch>(
+    alloc: Global,
+    conn: &mut Connection<S>,
+    watch: &mut W,
+) -> Result<Vec<CallRow>, Error>
     ensures leaves { Leaves S.Store conn.old conn.new }
     ensures opened { HasCleanDisk (state S.Store conn.new) → OnOk result (IsTrue (state S.Store conn.new).is_open) }
     ensures rows { HasCleanDisk (state S.Store conn.new) → IfOk result (λ rows. IsLedgerSchema (state S.Store conn.old).now.schema
@@ -109,6 +116,7 @@ pub fn all_calls<S: Alter>(alloc: Global, conn: &mut Connection<S>) -> Result<Ve
         conn,
         "SELECT arrival, customer, number, day, reply FROM calls ORDER BY arrival",
         &[],
+        watch,
     )
 }
 
@@ -153,9 +161,10 @@ pub fn serials_within<S: Alter>(
 }
 
 /// All rows of `serials`. Their rowids are read too, which shows that they are integers.
-pub fn all_serials<S: Alter>(
+pub fn all_serials<S: Alter, W: Watch>(
     alloc: Global,
     conn: &mut Connection<S>,
+    watch: &mut W,
 ) -> Result<Vec<SerialRow>, Error>
     ensures leaves { Leaves S.Store conn.old conn.new }
     ensures opened { HasCleanDisk (state S.Store conn.new) → OnOk result (IsTrue (state S.Store conn.new).is_open) }
@@ -167,6 +176,7 @@ pub fn all_serials<S: Alter>(
         alloc,
         conn,
         "SELECT pair, serial, arrival, day, customer, number, voided, rowid FROM serials ORDER BY pair, serial",
+        watch,
     )
 }
 

@@ -15,6 +15,7 @@ ghost use Rattle.s10_statements.specs.Settled.{Spares};
 ghost use Rattle.s10_statements.specs.Statements.{Leaves};
 
 use crate::row_reading::{call_in, numbered_serial_in};
+use crate::watch::Watch;
 use s10_rows::{CallRow, SerialRow};
 use sqlite::types::ValueRef;
 use sqlite::{Alter, Connection, Error, ErrorCode};
@@ -24,11 +25,12 @@ use std::alloc::Global;
 const TOO_MANY: Error = Error::SqliteFailure(ErrorCode::TooBig);
 
 /// The rows of `calls` that a query shows.
-pub(crate) fn calls_shown<S: Alter>(
+pub(crate) fn calls_shown<S: Alter, W: Watch>(
     alloc: Global,
     conn: &mut Connection<S>,
     sql: &str,
     params: &[ValueRef<'_>],
+    watch: &mut W,
 ) -> Result<Vec<CallRow>, Error>
     requires plain { (o : Schema) → IsPlain (understood (with_others o) sql.now) }
     ensures leaves { Leaves S.Store conn.old conn.new }
@@ -39,21 +41,23 @@ pub(crate) fn calls_shown<S: Alter>(
 {
     let mut calls = Vec::new(alloc);
     let mut shown = conn.query(sql, params)?;
-    'rows: for _ in 0..u64::MAX {
+    'rows: for done in 0..u64::MAX {
         shown.advance()?;
         let Some(row) = shown.get() else {
             return Ok(calls);
         };
         calls.push(call_in(row)?)?;
+        watch.has_read("calls", done + 1);
     }
     Err(TOO_MANY)
 }
 
 /// The rows of `serials` that a query shows with their rowids, which are integers.
-pub(crate) fn numbered_serials_shown<S: Alter>(
+pub(crate) fn numbered_serials_shown<S: Alter, W: Watch>(
     alloc: Global,
     conn: &mut Connection<S>,
     sql: &str,
+    watch: &mut W,
 ) -> Result<Vec<SerialRow>, Error>
     requires plain { (o : Schema) → IsPlain (understood (with_others o) sql.now) }
     ensures leaves { Leaves S.Store conn.old conn.new }
@@ -63,12 +67,13 @@ pub(crate) fn numbered_serials_shown<S: Alter>(
 {
     let mut serials = Vec::new(alloc);
     let mut shown = conn.query(sql, &[])?;
-    'rows: for _ in 0..u64::MAX {
+    'rows: for done in 0..u64::MAX {
         shown.advance()?;
         let Some(row) = shown.get() else {
             return Ok(serials);
         };
         serials.push(numbered_serial_in(row)?)?;
+        watch.has_read("serials", done + 1);
     }
     Err(TOO_MANY)
 }

@@ -1,0 +1,50 @@
+//! What standard error is told while the ledger of a file is made or opened.
+
+use s10_ledger::Watch;
+use sqlite::Error;
+use std::time::{Duration, Instant};
+
+/// How many rows are read between two looks at the clock.
+const STRIDE: u64 = 4096;
+
+/// How long an opening is silent.
+const SILENCE: Duration = Duration::from_secs(1);
+
+/// Tells standard error how far an opening is, once a second, and why a statement failed. The work goes on where
+/// standard error is closed.
+pub(crate) struct Onlooker<'a> {
+    rt: &'a HostRuntime,
+    path: &'a str,
+    spoke: Option<Instant>,
+}
+
+impl<'a> Onlooker<'a> {
+    pub(crate) fn new(rt: &'a HostRuntime, path: &'a str) -> Onlooker<'a> {
+        let spoke = Instant::now(rt).ok();
+        Onlooker { rt, path, spoke }
+    }
+
+    // Whether it has been silent for a second.
+    fn is_due(&self) -> bool {
+        let Some(spoke) = self.spoke else {
+            return false;
+        };
+        match spoke.elapsed(self.rt) {
+            Ok(silent) => silent >= SILENCE,
+            Err(_) => false,
+        }
+    }
+}
+
+impl Watch for Onlooker<'_> {
+    fn has_read(&mut self, table: &str, rows: u64) {
+        if rows % STRIDE == 0 && self.is_due() {
+            self.spoke = Instant::now(self.rt).ok();
+            let _ = eprintln!(self.rt; "opening {}: {rows} rows of {table} read", self.path);
+        }
+    }
+
+    fn has_failed(&mut self, error: &Error) {
+        let _ = eprintln!(self.rt; "cannot use {}: {error}", self.path);
+    }
+}
