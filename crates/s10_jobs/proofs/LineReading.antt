@@ -82,7 +82,7 @@ pub nothing_at_end : (a b c : Option (List ℕ)) (buffer : List ℕ) → Consume
 nothing_at_end None b c buffer h k = tt
 nothing_at_end (Some a) None c buffer h k = absurd h
 nothing_at_end (Some a) (Some b) None buffer h k = absurd k.1
-nothing_at_end (Some a) (Some b) (Some c) buffer h k = ap lines_of (h ∙ k.0) ∙ pieces_end []
+nothing_at_end (Some a) (Some b) (Some c) buffer h k = (h ∙ k.0, sym (sym k.0 ∙ k.1))
 
 -- at a line feed
 pub line_at_break : (a b c : Option (List ℕ)) (content buffer : List ℕ) (n : ℕ) → Consumes a b content → IsUnbroken content → ReadsByte b c (Some 10) → take n buffer ≡ content → ReadsLine a c buffer (Whole n)

@@ -1,5 +1,5 @@
 -- What a read of a byte, or of a line, does to the bytes that a reader has left, where these are known.
-use Rattle.std.specs.Prelude.{◌≡◌, ℕ, ◌<◌, ◌≤◌, ⊤, List, [], ◌∷◌, length, take, Option, Some, None}
+use Rattle.std.specs.Prelude.{◌≡◌, ◌≢◌, ℕ, ◌<◌, ◌≤◌, ⊤, List, [], ◌∷◌, length, take, Option, Some, None, All}
 use Rattle.std.specs.Io.KnownBytes.{Consumes, IsAtEnd}
 use Rattle.s10_jobs.specs.declared.line_reader.NextLine.{NextLine}
 use Rattle.s10_jobs.specs.declared.line_reader.NextLine.TheVariants.{End, Whole, Long}
@@ -18,7 +18,7 @@ FitsIn Long = ⊤
 
 -- the next line is in the buffer, or there is none, or it is too long
 abbrev pub TakesLine : List ℕ → List ℕ → List ℕ → NextLine → Type 0
-TakesLine old new buffer End = lines_of old ≡ []
+TakesLine old new buffer End = (old ≡ []) × (new ≡ [])
 TakesLine old new buffer (Whole n) = lines_of old ≡ take n buffer ∷ lines_of new
 TakesLine old new buffer Long = (line : List ℕ) × (more : List (List ℕ)) × (lines_of old ≡ line ∷ more) × (1036 < length line)
 
@@ -26,3 +26,10 @@ abbrev pub ReadsLine : Option (List ℕ) → Option (List ℕ) → List ℕ → 
 ReadsLine None new buffer next = ⊤
 ReadsLine (Some old) None buffer next = ⊥
 ReadsLine (Some old) (Some new) buffer next = TakesLine old new buffer next
+
+-- of the next line the first bytes were taken, no more than a line may have, and no line feed
+pub record BeginsLine (old new : Option (List ℕ)) : Type 0 where
+  pub begun : List ℕ
+  pub taken : Consumes old new begun
+  pub unbroken : All (λ b. b ≢ 10) begun
+  pub short : length begun ≤ 1036

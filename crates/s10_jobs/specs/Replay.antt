@@ -1,5 +1,5 @@
 -- What a replay writes.
-use Rattle.std.specs.Prelude.{◌≡◌, ℕ, ◌-◌, List, ◌++◌, length, take, Option, Some, None, Result, Ok, Err, IfOk, ⊤}
+use Rattle.std.specs.Prelude.{◌≡◌, ℕ, ◌-◌, ◌≤◌, List, [], ◌++◌, length, take, drop, Option, Some, None, Result, Ok, Err, IfOk, ⊤}
 use Rattle.std.specs.Io.KnownBytes.{Appends}
 use Rattle.s10_book.specs.declared.entry.Entry.{Entry}
 use Rattle.s10_book.specs.Settings.{Terms}
@@ -7,6 +7,7 @@ use Rattle.s10_wire.specs.declared.write_fault.WriteFault.{WriteFault}
 use Rattle.s10_ends.specs.declared.answer.Answer.{Answer}
 use Rattle.s10_ends.specs.Served.{Served}
 use Rattle.s10_jobs.specs.InputLines.{lines_of, deliveries_in, NoneRefused, IsFirstRefused}
+use Rattle.s10_jobs.specs.LineReader.{BeginsLine}
 use Rattle.s10_jobs.specs.AnswerLines.{shown}
 use Rattle.s10_jobs.specs.declared.replay_fault.ReplayFault.{ReplayFault}
 use Rattle.s10_jobs.specs.declared.replay_fault.ReplayFault.TheVariants.{Line, Read, Write}
@@ -21,18 +22,30 @@ pub record Shows (h : List Entry) (t : Terms) (lines : List (List ℕ)) (held no
   pub served : Served h t (deliveries_in lines) answers h'
   pub written : now ≡ held ++ shown answers
 
--- how a replay of lines ends
-abbrev pub Ends : List Entry → Terms → List (List ℕ) → List ℕ → List ℕ → Result ℕ ReplayFault → List Entry → Type 0
-Ends h t lines held now (Ok count) h' = (shows : Shows h t lines held now h') × NoneRefused lines × (count ≡ length shows.answers)
-Ends h t lines held now (Err (Line number)) h' = IsFirstRefused lines number × Shows h t (take (number - 1) lines) held now h'
-Ends h t lines held now (Err Read) h' = (done : ℕ) × Shows h t (take done lines) held now h'
-Ends h t lines held now (Err Write) h' = ⊤
+-- the input stopped behind so many lines, of which none is refused, or inside the next one, before that is too long or one too many
+pub record StopsInLine (bytes : List ℕ) (left : Option (List ℕ)) (done : ℕ) : Type 0 where
+  pub read : List ℕ
+  pub rest : List ℕ
+  pub parts : bytes ≡ read ++ rest
+  pub behind : lines_of rest ≡ drop done (lines_of bytes)
+  pub none_refused : NoneRefused (take done (lines_of bytes))
+  pub stopped : BeginsLine (Some rest) left
+  pub counted : 1000000 ≤ done → left ≡ Some rest
 
--- the same where the input's bytes are known, and what the output held; a failed write alone may leave that unknown
-abbrev pub Replayed : List Entry → Terms → List ℕ → List ℕ → Option (List ℕ) → Result ℕ ReplayFault → List Entry → Type 0
-Replayed h t bytes held (Some now) result h' = Ends h t (lines_of bytes) held now result h'
-Replayed h t bytes held None (Err Write) h' = ⊤
-Replayed h t bytes held None result h' = ⊥
+-- how a replay of an input's bytes ends, where so many of them are left
+abbrev pub Ends : List Entry → Terms → List ℕ → Option (List ℕ) → List ℕ → List ℕ → Result ℕ ReplayFault → List Entry → Type 0
+Ends h t bytes left held now (Ok count) h' =
+    (shows : Shows h t (lines_of bytes) held now h') × NoneRefused (lines_of bytes) × (count ≡ length shows.answers) × (left ≡ Some [])
+Ends h t bytes left held now (Err (Line number)) h' =
+    IsFirstRefused (lines_of bytes) number × Shows h t (take (number - 1) (lines_of bytes)) held now h'
+Ends h t bytes left held now (Err Read) h' = (done : ℕ) × Shows h t (take done (lines_of bytes)) held now h' × StopsInLine bytes left done
+Ends h t bytes left held now (Err Write) h' = ⊤
+
+-- the same where it is known what the output held; a failed write alone may leave that unknown
+abbrev pub Replayed : List Entry → Terms → List ℕ → Option (List ℕ) → List ℕ → Option (List ℕ) → Result ℕ ReplayFault → List Entry → Type 0
+Replayed h t bytes left held (Some now) result h' = Ends h t bytes left held now result h'
+Replayed h t bytes left held None (Err Write) h' = ⊤
+Replayed h t bytes left held None result h' = ⊥
 
 -- a whole replay is all that is written; behind one that ended early stands the line of what ended it
 abbrev pub TellsReplay : Result ℕ ReplayFault → Option (List ℕ) → Option (List ℕ) → Result Status WriteFault → Type 0

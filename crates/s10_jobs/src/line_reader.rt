@@ -1,7 +1,7 @@
 //! The lines of an input, read a byte at a time into a fixed buffer.
-ghost use Rattle.std.specs.Prelude.{IfOk, OnErr};
-ghost use Rattle.std.specs.Io.KnownBytes.{Keeps};
-ghost use Rattle.s10_jobs.specs.LineReader.{ReadsByte, ReadsLine, FitsIn};
+ghost use Rattle.std.specs.Prelude.{ℕ, List, IfOk, OnErr};
+ghost use Rattle.std.specs.Io.KnownBytes.{Keeps, Consumes};
+ghost use Rattle.s10_jobs.specs.LineReader.{ReadsByte, ReadsLine, FitsIn, BeginsLine};
 
 use std::io;
 use std::io::{ErrorKind, Read};
@@ -36,7 +36,8 @@ fn try_byte<R: Read>(input: &mut R) -> io::Result<Option<u8>>
 
 /// Takes the next byte, if there is one. An interrupted read is tried again, as std does.
 pub fn next_byte<R: Read>(input: &mut R) -> io::Result<Option<u8>>
-    ensures { IfOk result (ReadsByte (R.remaining input.old) (R.remaining input.new)) }
+    ensures read { IfOk result (ReadsByte (R.remaining input.old) (R.remaining input.new)) }
+    ensures kept { OnErr result (Keeps (R.remaining input.old) (R.remaining input.new)) }
 {
     'tries: for _ in 0..u64::MAX {
         match try_byte(input) {
@@ -56,6 +57,8 @@ pub fn next_byte<R: Read>(input: &mut R) -> io::Result<Option<u8>>
 pub fn read_line<R: Read>(input: &mut R, buffer: &mut [u8; LINE_ROOM]) -> io::Result<NextLine>
     ensures fits { IfOk result FitsIn }
     ensures line { IfOk result (ReadsLine (R.remaining input.old) (R.remaining input.new) buffer.new) }
+    ensures taken { (bytes : List ℕ) × Consumes (R.remaining input.old) (R.remaining input.new) bytes }
+    ensures stopped { OnErr result (BeginsLine (R.remaining input.old) (R.remaining input.new)) }
 {
     for at in 0..LINE_ROOM {
         match next_byte(input)? {

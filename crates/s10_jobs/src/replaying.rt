@@ -33,7 +33,7 @@ pub fn replay_on<B: Book, R: Read, W: Write>(
 ) -> Result<u32, ReplayFault>
     ensures was_honest { B.honest (book_of server.new) → B.honest (book_of server.old) }
     ensures replayed { B.honest (book_of server.new) → IfSome (R.remaining input.old) (λ bytes. IfSome (W.contents output.old) (λ held.
-        Replayed (B.history (book_of server.old)) (B.terms (book_of server.old)) bytes held (W.contents output.new) result (B.history (book_of server.new)))) }
+        Replayed (B.history (book_of server.old)) (B.terms (book_of server.old)) bytes (R.remaining input.new) held (W.contents output.new) result (B.history (book_of server.new)))) }
 {
     let mut buffer = [0u8; LINE_ROOM];
     let mut count = 0;
@@ -78,7 +78,7 @@ pub fn replay<R: Read, W: Write>(
     output: &mut W,
 ) -> Result<u32, ReplayFault>
     ensures { IfSome (R.remaining input.old) (λ bytes. IfSome (W.contents output.old) (λ held.
-        (after : List Entry) × Replayed [] settings bytes held (W.contents output.new) result after)) }
+        (after : List Entry) × Replayed [] settings bytes (R.remaining input.new) held (W.contents output.new) result after)) }
 {
     let book = IndexedBook::new(alloc, settings);
     let mut server = Server::new(book);
@@ -94,7 +94,7 @@ pub fn run_replay<R: Read, W: Write>(
 ) -> Result<Status, WriteFault>
     ensures { IfSome (R.remaining input.old) (λ bytes. IfSome (W.contents output.old) (λ held.
         (after : List Entry) × (replayed : Result ℕ ReplayFault) × (between : Option (List ℕ))
-        × Replayed [] settings bytes held between replayed after × TellsReplay replayed between (W.contents output.new) result)) }
+        × Replayed [] settings bytes (R.remaining input.new) held between replayed after × TellsReplay replayed between (W.contents output.new) result)) }
 {
     match replay(alloc, settings, input, output) {
         Ok(_) => Ok(Status::Done),

@@ -14,16 +14,17 @@ use crate::failures::fail_by_clock;
 use crate::status::Status;
 use crate::turn_line::write_turn;
 use s10_book::Book;
-use s10_ends::{Server, serve_one};
-use s10_link::Link;
+use s10_ends::{Served, Server, serve_one};
+use s10_link::{Link, LinkFault};
 use s10_wire::WriteFault;
 use std::io::Write;
 use std::time::Clock;
 
 /// So many turns of a server, each with its line, which is flushed. Where no day is given the clock
-/// is read before each turn, and one that gives no day ends the turns.
-pub fn serve_turns<C: Clock, B: Book, L: Link, W: Write>(
-    clock: &C,
+/// is read before each turn, and one that gives no day ends the turns. Standard error has a line for each datagram that
+/// is dropped, with its sender.
+pub fn serve_turns<R: Clock + Eprint, B: Book, L: Link, W: Write>(
+    rt: &R,
     server: &mut Server<B>,
     link: &mut L,
     count: u32,
@@ -36,15 +37,16 @@ pub fn serve_turns<C: Clock, B: Book, L: Link, W: Write>(
     ensures given { day ≢ None → result ≢ Ok Status.Failed }
 {
     for _done in 0..count {
-        let Some(today) = day_or_today(clock, day) else {
+        let Some(today) = day_or_today(rt, day) else {
             return fail_by_clock(out);
         };
-        serve_turn(server, link, today, out)?;
+        serve_turn(rt, server, link, today, out)?;
     }
     Ok(Status::Done)
 }
 
-fn serve_turn<B: Book, L: Link, W: Write>(
+fn serve_turn<R: Eprint, B: Book, L: Link, W: Write>(
+    rt: &R,
     server: &mut Server<B>,
     link: &mut L,
     day: u32,
@@ -56,9 +58,17 @@ fn serve_turn<B: Book, L: Link, W: Write>(
         × OnOk result (Appends (W.contents out.old) (W.contents out.new) (turn_line turn)) }
 {
     let turn = serve_one(server, link, day);
+    tell_sender(rt, &turn);
     write_turn(&turn, out)?;
     let Ok(()) = out.flush() else {
         return Err(WriteFault);
     };
     Ok(())
+}
+
+// The turns go on where standard error is closed.
+fn tell_sender<R: Eprint>(rt: &R, turn: &Result<Served, LinkFault>) {
+    if let Ok(Served::Dropped(from, _)) = turn {
+        let _ = eprintln!(rt; "dropped from {from}");
+    }
 }

@@ -1,7 +1,7 @@
 //! Replays of inputs over a new ledger.
 
 use s10_book::Settings;
-use s10_jobs::{ReplayFault, replay};
+use s10_jobs::{ReplayFault, Status, replay, run_replay};
 use std::alloc::{AllocError, Global};
 use std::io;
 use std::io::{ErrorKind, Read, Write};
@@ -298,10 +298,90 @@ fn is_read_until(alloc: Global, bytes: &[u8], want: ReplayFault, text: &str) -> 
     gives(alloc, 100, &mut input, Err(want), text)
 }
 
+const SHORT: &str = "dropped short\n";
+
+/// Bytes of an input, and what a replay of them answers where the input ends behind them, and where it fails there.
+/// Behind a line that is refused nothing is read, so the two are one there.
+type Stop = (
+    &'static [u8],
+    Result<u32, ReplayFault>,
+    ReplayFault,
+    &'static str,
+);
+
+const STOPS: [Stop; 9] = [
+    (b"", Ok(0), ReplayFault::Read, ""),
+    (b"20000 \n", Ok(1), ReplayFault::Read, SHORT),
+    (b"20000 \n\r\n", Ok(1), ReplayFault::Read, SHORT),
+    (b"\r", Ok(0), ReplayFault::Read, ""),
+    // A last line that is refused, without its line feed and with it.
+    (
+        b"20000 \n20000 5",
+        Err(ReplayFault::Line(2)),
+        ReplayFault::Read,
+        SHORT,
+    ),
+    (
+        b"20000 \n20000 5\n",
+        Err(ReplayFault::Line(2)),
+        ReplayFault::Line(2),
+        SHORT,
+    ),
+    // A line that is refused, before others.
+    (
+        b"20000 5\n20000 \n",
+        Err(ReplayFault::Line(1)),
+        ReplayFault::Line(1),
+        "",
+    ),
+    (
+        b"20000 \nx\n",
+        Err(ReplayFault::Line(2)),
+        ReplayFault::Line(2),
+        SHORT,
+    ),
+    (
+        b"20000 \n\nx\ny\n20000 ",
+        Err(ReplayFault::Line(3)),
+        ReplayFault::Line(3),
+        SHORT,
+    ),
+];
+
 #[test]
-fn reader_that_fails_ends_the_replay(rt: HostRuntime) -> Result<(), Fail> {
-    let bytes = b"20000 \n20000 5";
-    assert!(rt; is_read_until(rt.alloc(), bytes, ReplayFault::Read, "dropped short\n")?);
+fn a_refused_line_is_no_unreadable_input(rt: HostRuntime) -> Result<(), Fail> {
+    for (bytes, ends, fails, text) in STOPS {
+        assert!(rt; is_replayed(rt.alloc(), bytes, ends, text)?, "{bytes:?}");
+        assert!(rt; is_read_until(rt.alloc(), bytes, fails, text)?, "{bytes:?}");
+    }
+    Ok(())
+}
+
+/// Whether a replay of a reader that fails after these bytes has this status, and writes this text.
+fn is_run_until(alloc: Global, bytes: &[u8], want: Status, text: &str) -> Result<bool, Fail> {
+    let mut input = Failing {
+        bytes,
+        is_interrupted: false,
+    };
+    let mut output = Vec::new(alloc);
+    let status = run_replay(alloc, settings(100)?, &mut input, &mut output);
+    Ok(status == Ok(want) && output.as_slice() == text.as_bytes())
+}
+
+#[test]
+fn an_input_that_fails_has_its_line_and_status(rt: HostRuntime) -> Result<(), Fail> {
+    let cases: [(&[u8], Status, &str); 3] = [
+        (b"20000 \n", Status::Failed, "dropped short\ninput\n"),
+        (b"20000 \n20000 5", Status::Failed, "dropped short\ninput\n"),
+        (
+            b"20000 \n20000 5\n",
+            Status::Refused,
+            "dropped short\nrefused line 2\n",
+        ),
+    ];
+    for (bytes, status, text) in cases {
+        assert!(rt; is_run_until(rt.alloc(), bytes, status, text)?, "{bytes:?}");
+    }
     Ok(())
 }
 

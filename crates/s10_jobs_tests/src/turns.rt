@@ -7,6 +7,8 @@ use s10_jobs::{Status, day_or_today, serve_turns, today};
 use s10_link::{Packet, Peer, Receipt, ScriptLink};
 use s10_wire::WriteFault;
 use std::alloc::{AllocError, Global};
+use std::cell::RefCell;
+use std::fmt::Display;
 use std::io;
 use std::io::Write;
 use std::test::Fail;
@@ -29,7 +31,7 @@ const GRANTED: &str =
 const DRAWN: &str =
     "replied 533101820000000700000001524147420000004e2052413030303030303030354742\n";
 
-/// A clock that stands still, or none.
+/// A clock that stands still, or none. Standard error is closed.
 #[derive(Drop)]
 struct Standing(Option<Duration>);
 
@@ -40,6 +42,48 @@ impl Clock for Standing {
 
     fn since_1970(&self) -> io::Result<Duration> {
         self.0.ok_or(io::Error::from(io::ErrorKind::Other))
+    }
+}
+
+impl Eprint for Standing {
+    fn eprint<D: Display + Drop>(&self, _value: D) -> io::Result<()> {
+        Err(io::Error::from(io::ErrorKind::Other))
+    }
+
+    fn eprintln<D: Display + Drop>(&self, value: D) -> io::Result<()> {
+        self.eprint(value)
+    }
+}
+
+/// A standard error that keeps what it is told. There is no clock.
+#[derive(Drop)]
+struct Listening {
+    told: RefCell<Vec<u8>>,
+}
+
+impl Clock for Listening {
+    fn monotonic(&self) -> io::Result<Duration> {
+        self.since_1970()
+    }
+
+    fn since_1970(&self) -> io::Result<Duration> {
+        Err(io::Error::from(io::ErrorKind::Other))
+    }
+}
+
+impl Eprint for Listening {
+    fn eprint<D: Display + Drop>(&self, value: D) -> io::Result<()> {
+        match self.told.try_borrow_mut() {
+            Ok(mut told) => write!(told, "{value}"),
+            Err(_) => Err(io::Error::from(io::ErrorKind::Other)),
+        }
+    }
+
+    fn eprintln<D: Display + Drop>(&self, value: D) -> io::Result<()> {
+        match self.told.try_borrow_mut() {
+            Ok(mut told) => told.writeln(value),
+            Err(_) => Err(io::Error::from(io::ErrorKind::Other)),
+        }
     }
 }
 
@@ -103,8 +147,8 @@ struct Expected<'a> {
 }
 
 /// Whether so many turns of a server on the link come to this.
-fn come_to<C: Clock>(
-    clock: &C,
+fn come_to<R: Clock + Eprint>(
+    rt: &R,
     server: &mut Server<PlainBook>,
     link: &mut ScriptLink,
     count: u32,
@@ -112,16 +156,16 @@ fn come_to<C: Clock>(
     out: &mut Flushed,
     expected: Expected<'_>,
 ) -> bool {
-    let served = serve_turns(clock, server, link, count, day, out);
+    let served = serve_turns(rt, server, link, count, day, out);
     served == expected.status
         && out.bytes.as_slice() == expected.lines.as_bytes()
         && out.lines == expected.flushed
 }
 
 /// Whether the turns of a new server on a link of these receipts and sends come to this.
-fn are_served<C: Clock>(
+fn are_served<R: Clock + Eprint>(
     alloc: Global,
-    clock: &C,
+    rt: &R,
     receipts: Vec<Receipt>,
     sends: &[bool],
     count: u32,
@@ -134,15 +178,7 @@ fn are_served<C: Clock>(
         bytes: Vec::new(alloc),
         lines: 0,
     };
-    let come_to_lines = come_to(
-        clock,
-        &mut server,
-        &mut link,
-        count,
-        day,
-        &mut out,
-        expected,
-    );
+    let come_to_lines = come_to(rt, &mut server, &mut link, count, day, &mut out, expected);
     Ok(come_to_lines && server.book().len() == expected.calls)
 }
 
@@ -211,6 +247,98 @@ fn the_clock_gives_the_day_where_none_is_given(rt: HostRuntime) -> Result<(), Fa
     Ok(())
 }
 
+/// Who sent what asks nothing.
+const OTHER: Peer = Peer {
+    ip: [10, 0, 0, 8],
+    port: 40_123,
+};
+
+/// What two ends sent: each what asks nothing, one twice, and between these nothing came and a grant was asked for.
+fn three_dropped(alloc: Global) -> Result<Vec<Receipt>, Fail> {
+    Ok(vec![in alloc;
+        Receipt::Nothing,
+        Receipt::Deliver(OTHER, Packet::new(b"S1")),
+        Receipt::Deliver(PEER, Packet::new(GRANT)),
+        Receipt::Deliver(PEER, Packet::new(b"")),
+        Receipt::Fail,
+        Receipt::Deliver(OTHER, Packet::new(b"S1")),
+    ]?)
+}
+
+const THREE_DROPPED: [&'static str; 6] = [
+    "quiet\n",
+    "dropped short\n",
+    GRANTED,
+    "dropped short\n",
+    "link receive\n",
+    "dropped short\n",
+];
+
+/// Whether so many turns on the link of the two ends have these lines, and standard error is told this.
+fn are_told(alloc: Global, count: u32, lines: &str, told: &str) -> Result<bool, Fail> {
+    let rt = Listening {
+        told: RefCell::new(Vec::new(alloc)),
+    };
+    let expected = Expected {
+        status: Ok(Status::Done),
+        lines,
+        flushed: count,
+        calls: if count < 3 { 0 } else { 1 },
+    };
+    let receipts = three_dropped(alloc)?;
+    let are_served = are_served(alloc, &rt, receipts, &[true], count, Some(20_000), expected)?;
+    Ok(are_served && rt.told.into_inner().as_slice() == told.as_bytes())
+}
+
+#[test]
+fn standard_error_is_told_who_sent_what_is_dropped(rt: HostRuntime) -> Result<(), Fail> {
+    let cases = [
+        (1, ""),
+        (2, "dropped from 10.0.0.8:40123\n"),
+        (3, "dropped from 10.0.0.8:40123\n"),
+        (
+            4,
+            "dropped from 10.0.0.8:40123\ndropped from 10.0.0.7:4711\n",
+        ),
+        (
+            6,
+            "dropped from 10.0.0.8:40123\ndropped from 10.0.0.7:4711\ndropped from 10.0.0.8:40123\n",
+        ),
+    ];
+    for (count, told) in cases {
+        let mut lines = String::new(rt.alloc());
+        for line in THREE_DROPPED.iter().take(count as usize) {
+            lines.push_str(line)?;
+        }
+        assert!(rt; are_told(rt.alloc(), count, &lines, told)?, "{count}");
+    }
+    Ok(())
+}
+
+#[test]
+fn a_closed_standard_error_ends_no_turn(rt: HostRuntime) -> Result<(), Fail> {
+    let lines = first_lines(rt.alloc(), 7)?;
+    let expected = Expected {
+        status: Ok(Status::Done),
+        lines: &lines,
+        flushed: 7,
+        calls: 2,
+    };
+    let receipts = seven_receipts(rt.alloc())?;
+    assert!(rt;
+        are_served(
+            rt.alloc(),
+            &Standing(None),
+            receipts,
+            &[true, false, true],
+            7,
+            Some(20_000),
+            expected
+        )?
+    );
+    Ok(())
+}
+
 #[test]
 fn a_clock_that_gives_no_day_ends_the_turns(rt: HostRuntime) -> Result<(), Fail> {
     let expected = Expected {
@@ -274,9 +402,9 @@ fn whole_lines(room: usize) -> usize {
 }
 
 /// Whether the turns end at the one whose line cannot be written whole, and the writer has got the lines to there.
-fn ends_unwritten<C: Clock>(
+fn ends_unwritten<R: Clock + Eprint>(
     alloc: Global,
-    clock: &C,
+    rt: &R,
     lines: &[u8],
     room: usize,
 ) -> Result<bool, Fail> {
@@ -284,7 +412,7 @@ fn ends_unwritten<C: Clock>(
     let sends = [true, false, true];
     let mut link = ScriptLink::new(alloc, seven_receipts(alloc)?, sends.to_vec(alloc)?)?;
     let mut out = Hiccup::new(alloc, room);
-    let served = serve_turns(clock, &mut server, &mut link, 7, Some(20_000), &mut out);
+    let served = serve_turns(rt, &mut server, &mut link, 7, Some(20_000), &mut out);
     let calls = if whole_lines(room) < 4 { 1 } else { 2 };
     Ok(
         served == Err(WriteFault)

@@ -10,21 +10,21 @@ use Rattle.s10_jobs.proofs.line_reader.read_line.Goals as goal
 pub returns-then-at-eq0-clause-line : goal.returns-then-at-eq0-clause-line
 returns-then-at-eq0-clause-line g c =
     let read : Consumes (g.R.Read.remaining c.args.input.now) (g.R.Read.remaining c.loop-at.input) [] = rw c.if-at-eq0.true at c.loop-at.invariant.read in
-    nothing_at_end _ _ _ _ read (rw c.in-None.is at c.in_ok-next_byte.ensures)
+    nothing_at_end _ _ _ _ read (rw c.in-None.is at c.in_ok-next_byte.ensures.read)
 
 pub returns-else-at-eq0-clause-line : goal.returns-else-at-eq0-clause-line
 returns-else-at-eq0-clause-line g c =
     let long : 0 < length (take c.loop-at.at c.loop-at.buffer) = grind (arith, common_steps) in
-    line_at_end _ _ _ _ _ _ c.loop-at.invariant.read (recursion_from_All _ _ c.loop-at.invariant.unbroken) (rw c.in-None.is at c.in_ok-next_byte.ensures) refl long
+    line_at_end _ _ _ _ _ _ c.loop-at.invariant.read (recursion_from_All _ _ c.loop-at.invariant.unbroken) (rw c.in-None.is at c.in_ok-next_byte.ensures.read) refl long
 
 pub returns-in-Some-eq10-clause-line : goal.returns-in-Some-eq10-clause-line
 returns-in-Some-eq10-clause-line g c =
-    let ten : ReadsByte (g.R.Read.remaining c.loop-at.input) (g.R.Read.remaining c.next_byte.new.input) (Some 10) = rw (c.in-Some-eq10.is, c.in-Some-eq10.field-0-test) at c.in_ok-next_byte.ensures in
+    let ten : ReadsByte (g.R.Read.remaining c.loop-at.input) (g.R.Read.remaining c.next_byte.new.input) (Some 10) = rw (c.in-Some-eq10.is, c.in-Some-eq10.field-0-test) at c.in_ok-next_byte.ensures.read in
     line_at_break _ _ _ _ _ _ c.loop-at.invariant.read (recursion_from_All _ _ c.loop-at.invariant.unbroken) ten refl
 
 pub loop-at-preserved : goal.loop-at-preserved
 loop-at-preserved g c =
-    let byte : ReadsByte (g.R.Read.remaining c.loop-at.input) (g.R.Read.remaining c.next_byte.new.input) (Some c.in-Some.byte) = rw c.in-Some.is at c.in_ok-next_byte.ensures in
+    let byte : ReadsByte (g.R.Read.remaining c.loop-at.input) (g.R.Read.remaining c.next_byte.new.input) (Some c.in-Some.byte) = rw c.in-Some.is at c.in_ok-next_byte.ensures.read in
     let inside : c.loop-at.at < length c.loop-at.buffer = omega arith in
     record {
       read = rw (take_more_set c.loop-at.buffer c.loop-at.at c.in-Some.byte inside) (Consumes-append _ _ _ _ _ c.loop-at.invariant.read byte);
@@ -34,7 +34,7 @@ loop-at-preserved g c =
 
 pub returns-in-Some-2-clause-line : goal.returns-in-Some-2-clause-line
 returns-in-Some-2-clause-line g c =
-    let byte : ReadsByte (g.R.Read.remaining c.loop-at.input) (g.R.Read.remaining c.next_byte-2.new.input) (Some c.in-Some-2._byte) = rw c.in-Some-2.is at c.in_ok-next_byte-2.ensures in
+    let byte : ReadsByte (g.R.Read.remaining c.loop-at.input) (g.R.Read.remaining c.next_byte-2.new.input) (Some c.in-Some-2._byte) = rw c.in-Some-2.is at c.in_ok-next_byte-2.ensures.read in
     let full : length (take c.loop-at.at c.loop-at.buffer) ≡ 1036 = grind (arith, common_steps) in
     line_too_long _ _ _ _ _ _ c.loop-at.invariant.read (recursion_from_All _ _ c.loop-at.invariant.unbroken) byte c.in-Some-2._byte-test.1 full
 
@@ -42,10 +42,25 @@ pub returns-in-None-2-clause-line : goal.returns-in-None-2-clause-line
 returns-in-None-2-clause-line g c =
     let at : 1036 ≡ c.loop-at.at = omega arith in
     let full : 0 < length (take c.loop-at.at c.loop-at.buffer) = grind (arith, common_steps) in
-    line_at_end _ _ _ _ _ _ c.loop-at.invariant.read (recursion_from_All _ _ c.loop-at.invariant.unbroken) (rw c.in-None-2.is at c.in_ok-next_byte-2.ensures) (ap (λ n. take n c.loop-at.buffer) at) full
+    line_at_end _ _ _ _ _ _ c.loop-at.invariant.read (recursion_from_All _ _ c.loop-at.invariant.unbroken) (rw c.in-None-2.is at c.in_ok-next_byte-2.ensures.read) (ap (λ n. take n c.loop-at.buffer) at) full
 
 pub returns-in-Some-eq10-2-clause-line : goal.returns-in-Some-eq10-2-clause-line
 returns-in-Some-eq10-2-clause-line g c =
     let at : 1036 ≡ c.loop-at.at = omega arith in
-    let ten : ReadsByte (g.R.Read.remaining c.loop-at.input) (g.R.Read.remaining c.next_byte-2.new.input) (Some 10) = rw (c.in-Some-eq10-2.is, c.in-Some-eq10-2.field-0-test) at c.in_ok-next_byte-2.ensures in
+    let ten : ReadsByte (g.R.Read.remaining c.loop-at.input) (g.R.Read.remaining c.next_byte-2.new.input) (Some 10) = rw (c.in-Some-eq10-2.is, c.in-Some-eq10-2.field-0-test) at c.in_ok-next_byte-2.ensures.read in
     line_at_break _ _ _ _ _ _ c.loop-at.invariant.read (recursion_from_All _ _ c.loop-at.invariant.unbroken) ten (ap (λ n. take n c.loop-at.buffer) at)
+
+pub returns-in-Some-eq10-clause-taken : goal.returns-in-Some-eq10-clause-taken
+returns-in-Some-eq10-clause-taken g c =
+    let ten : ReadsByte (g.R.Read.remaining c.loop-at.input) (g.R.Read.remaining c.next_byte.new.input) (Some 10) = rw (c.in-Some-eq10.is, c.in-Some-eq10.field-0-test) at c.in_ok-next_byte.ensures.read in
+    (_, Consumes-append _ _ _ _ _ c.loop-at.invariant.read ten)
+
+pub returns-in-Some-2-clause-taken : goal.returns-in-Some-2-clause-taken
+returns-in-Some-2-clause-taken g c =
+    let byte : ReadsByte (g.R.Read.remaining c.loop-at.input) (g.R.Read.remaining c.next_byte-2.new.input) (Some c.in-Some-2._byte) = rw c.in-Some-2.is at c.in_ok-next_byte-2.ensures.read in
+    (_, Consumes-append _ _ _ _ _ c.loop-at.invariant.read byte)
+
+pub returns-in-Some-eq10-2-clause-taken : goal.returns-in-Some-eq10-2-clause-taken
+returns-in-Some-eq10-2-clause-taken g c =
+    let ten : ReadsByte (g.R.Read.remaining c.loop-at.input) (g.R.Read.remaining c.next_byte-2.new.input) (Some 10) = rw (c.in-Some-eq10-2.is, c.in-Some-eq10-2.field-0-test) at c.in_ok-next_byte-2.ensures.read in
+    (_, Consumes-append _ _ _ _ _ c.loop-at.invariant.read ten)

@@ -5,7 +5,7 @@ use Rattle.s10_ends.specs.Runs.{dated}
 use Rattle.s10_jobs.specs.InputLines.{without_return}
 use Rattle.s10_jobs.specs.LineReader.{ReadsByte, ReadsLine}
 use Rattle.s10_jobs.specs.declared.line_reader.NextLine.TheVariants.{End, Whole, Long}
-use Rattle.s10_jobs.proofs.ReplayedLines.{at_start, one_more, one_empty, ends_at_end, ends_too_long, ends_refused, ends_stopped, ends_last, ends_one_too_many, not_empty, is_nothing}
+use Rattle.s10_jobs.proofs.ReplayedLines.{at_start, one_more, one_empty, ends_at_end, ends_too_long, ends_refused, ends_stopped, ends_unread, ends_last, ends_one_too_many, not_empty, is_nothing}
 use Rattle.s10_jobs.proofs.replaying.replay_on.Goals as goal
 use Rattle.s10_jobs.proofs.replaying.replay_on.Goals.{in-Some+in-Ok-write_answer, in-None+else-not-is_empty}
 
@@ -20,8 +20,8 @@ loop-done-init g c = record {
 pub returns-in_default-clause-replayed : goal.returns-in_default-clause-replayed
 returns-in_default-clause-replayed g c = λ h.
     ends_stopped (g.B.Book.history c.args.server.now.book) (g.B.Book.history c.loop-done.server.book) (g.B.Book.terms c.args.server.now.book)
-    (g.R.Read.remaining c.args.input.now) (g.R.Read.remaining c.loop-done.input) (g.W.Write.contents c.args.output.now) (g.W.Write.contents c.loop-done.output)
-    c.loop-done.done c.loop-done.count (c.loop-done.invariant.replayed h)
+    (g.R.Read.remaining c.args.input.now) (g.R.Read.remaining c.loop-done.input) (g.R.Read.remaining c.read_line.new.input) (g.W.Write.contents c.args.output.now) (g.W.Write.contents c.loop-done.output)
+    c.loop-done.done c.loop-done.count (c.loop-done.invariant.replayed h) c.in_default.ensures.stopped (omega arith)
 
 pub returns-in-End-clause-replayed : goal.returns-in-End-clause-replayed
 returns-in-End-clause-replayed g c = λ h.
@@ -48,23 +48,23 @@ returns-then-not-is_empty-clause-replayed g c = λ h.
 
 pub returns-in-Ok-None-clause-replayed : goal.returns-in-Ok-None-clause-replayed
 returns-in-Ok-None-clause-replayed g c = λ h.
-    let read : ReadsByte (g.R.Read.remaining c.loop-done.input) (g.R.Read.remaining c.next_byte.new.input) None = rw c.in-Ok-None.field-0-is at c.in-Ok-None.ensures in
+    let read : ReadsByte (g.R.Read.remaining c.loop-done.input) (g.R.Read.remaining c.next_byte.new.input) None = rw c.in-Ok-None.field-0-is at c.in-Ok-None.ensures.read in
     ends_last (g.B.Book.history c.args.server.now.book) (g.B.Book.history c.loop-done.server.book) (g.B.Book.terms c.args.server.now.book)
     (g.R.Read.remaining c.args.input.now) (g.R.Read.remaining c.loop-done.input) (g.R.Read.remaining c.next_byte.new.input) (g.W.Write.contents c.args.output.now) (g.W.Write.contents c.loop-done.output)
     c.loop-done.done c.loop-done.count (c.loop-done.invariant.replayed h) read
 
 pub returns-in-Ok-Some-clause-replayed : goal.returns-in-Ok-Some-clause-replayed
 returns-in-Ok-Some-clause-replayed g c = λ h.
-    let read : ReadsByte (g.R.Read.remaining c.loop-done.input) (g.R.Read.remaining c.next_byte.new.input) (Some c.in-Ok-Some._byte) = rw c.in-Ok-Some.field-0-is at c.in-Ok-Some.ensures in
+    let read : ReadsByte (g.R.Read.remaining c.loop-done.input) (g.R.Read.remaining c.next_byte.new.input) (Some c.in-Ok-Some._byte) = rw c.in-Ok-Some.field-0-is at c.in-Ok-Some.ensures.read in
     ends_one_too_many (g.B.Book.history c.args.server.now.book) (g.B.Book.history c.loop-done.server.book) (g.B.Book.terms c.args.server.now.book)
     (g.R.Read.remaining c.args.input.now) (g.R.Read.remaining c.loop-done.input) (g.R.Read.remaining c.next_byte.new.input) (g.W.Write.contents c.args.output.now) (g.W.Write.contents c.loop-done.output)
     c.in-Ok-Some._byte c.loop-done.done c.loop-done.count (c.loop-done.invariant.replayed h) read (omega arith)
 
 pub returns-in-Err-clause-replayed : goal.returns-in-Err-clause-replayed
 returns-in-Err-clause-replayed g c = λ h.
-    ends_stopped (g.B.Book.history c.args.server.now.book) (g.B.Book.history c.loop-done.server.book) (g.B.Book.terms c.args.server.now.book)
-    (g.R.Read.remaining c.args.input.now) (g.R.Read.remaining c.loop-done.input) (g.W.Write.contents c.args.output.now) (g.W.Write.contents c.loop-done.output)
-    c.loop-done.done c.loop-done.count (c.loop-done.invariant.replayed h)
+    ends_unread (g.B.Book.history c.args.server.now.book) (g.B.Book.history c.loop-done.server.book) (g.B.Book.terms c.args.server.now.book)
+    (g.R.Read.remaining c.args.input.now) (g.R.Read.remaining c.loop-done.input) (g.R.Read.remaining c.next_byte.new.input) (g.W.Write.contents c.args.output.now) (g.W.Write.contents c.loop-done.output)
+    c.loop-done.done c.loop-done.count (c.loop-done.invariant.replayed h) c.in-Err.ensures.kept
 
 pub loop-done-preserved : goal.loop-done-preserved
 loop-done-preserved g c =
@@ -84,7 +84,7 @@ loop-done-preserved g c =
             one_more (g.B.Book.history c.args.server.now.book) (g.B.Book.history c.loop-done.server.book) (g.B.Book.history w.handle-answer.new.self.book) (g.B.Book.terms c.args.server.now.book)
             (g.R.Read.remaining c.args.input.now) (g.R.Read.remaining c.loop-done.input) (g.R.Read.remaining c.read_line.new.input) (g.W.Write.contents c.args.output.now) (g.W.Write.contents c.loop-done.output) (g.W.Write.contents w.write_answer.new.out)
             c.read_line.new.buffer c.in-Whole.len c.loop-done.done c.loop-done.count (dated w.in-Some.delivery) w.handle-answer.result
-            (before.replayed h0) read short (omega arith) (sym w.in-Some.ensures) (subst Q w.bytes.ensures.bytes (subst P (before.same_terms h0) served)) w.in-Ok-write_answer.ensures;
+            (before.replayed h0) read c.read_line.ensures.taken short (omega arith) (sym w.in-Some.ensures) (subst Q w.bytes.ensures.bytes (subst P (before.same_terms h0) served)) w.in-Ok-write_answer.ensures;
       })
       | in-None+else-not-is_empty w ↦ rw (w.server-is, w.output-is, w.count-is) (record {
         few = omega (arith, before.few);
@@ -95,6 +95,6 @@ loop-done-preserved g c =
             is_nothing w.without_return.result.now (without_return (take c.in-Whole.len c.read_line.new.buffer)) w.is_empty.result w.without_return.ensures w.is_empty.ensures w.if-not-is_empty.false in
             one_empty (g.B.Book.history c.args.server.now.book) (g.B.Book.history c.loop-done.server.book) (g.B.Book.terms c.args.server.now.book)
             (g.R.Read.remaining c.args.input.now) (g.R.Read.remaining c.loop-done.input) (g.R.Read.remaining c.read_line.new.input) (g.W.Write.contents c.args.output.now) (g.W.Write.contents c.loop-done.output)
-            c.read_line.new.buffer c.in-Whole.len c.loop-done.done c.loop-done.count (before.replayed h) read short (omega arith) (sym w.in-None.ensures) nothing;
+            c.read_line.new.buffer c.in-Whole.len c.loop-done.done c.loop-done.count (before.replayed h) read c.read_line.ensures.taken short (omega arith) (sym w.in-None.ensures) nothing;
       })
     ]
