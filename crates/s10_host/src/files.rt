@@ -2,7 +2,7 @@
 
 ghost use Rattle.std.specs.Prelude.{◌≡◌, false, Ok, IfOk, IfErr, IsErrAnd};
 ghost use Rattle.sqlite_wal.specs.Files.{image_at};
-ghost use Rattle.s10_host.specs.Files.{IsFoundIn, IsEmptyBook, IsFoundBook, WhereClean, PutsAway, Copies, Leaves, IsFileFault, IsAbsenceOr, IsNotMade, IsNotOpened};
+ghost use Rattle.s10_host.specs.Files.{IsFoundIn, IsPlain, IsEmptyBook, IsFoundBook, WhereClean, PutsAway, Copies, Leaves, IsFileFault, IsAbsenceOr, IsNotMade, IsNotOpened};
 
 use crate::front::{fault_of_front, fault_of_place};
 use s10_book::Settings;
@@ -33,7 +33,7 @@ pub fn create_book<S: Start>(
     ensures refused { IfErr result (IsNotMade S.row S.Start) }
 {
     let connection = connect_to_place(rt, path, start)?;
-    kept_or_closed(SqlBook::create(rt.alloc(), connection, settings))
+    kept_or_closed(rt, path, SqlBook::create(rt.alloc(), connection, settings))
 }
 
 /// Opens the ledger of a file, which does all its calls again.
@@ -42,33 +42,47 @@ pub fn open_book<S: Start>(rt: &HostRuntime, path: &str, start: S) -> Result<Fil
     ensures refused { IfErr result (IsNotOpened S.row S.Start) }
 {
     let connection = connect_to_ledger(rt, path, start)?;
-    kept_or_closed(SqlBook::open(rt.alloc(), connection))
+    kept_or_closed(rt, path, SqlBook::open(rt.alloc(), connection))
 }
 
 /// Ends a book: what it committed is then in the database file itself.
-pub fn close_book<S: Start>(book: FileBook<S>) -> Result<ClosedFiles<S>, OpenFault>
+pub fn close_book<S: Start>(
+    rt: &HostRuntime,
+    path: &str,
+    book: FileBook<S>,
+) -> Result<ClosedFiles<S>, OpenFault>
     ensures away { IfOk result (PutsAway book) }
     ensures refused { IfErr result (λ fault. fault ≡ OpenFault.Store) }
 {
     let connection = book.close();
-    close_copied(connection)
+    close_copied(rt, path, connection)
 }
 
 // The files of a connection, with its last commit in the database file itself.
-fn close_copied<S: Start>(connection: FileConnection<S>) -> Result<ClosedFiles<S>, OpenFault>
+fn close_copied<S: Start>(
+    rt: &HostRuntime,
+    path: &str,
+    connection: FileConnection<S>,
+) -> Result<ClosedFiles<S>, OpenFault>
     ensures copied { IfOk result (Copies connection) }
     ensures refused { IfErr result (λ fault. fault ≡ OpenFault.Store) }
 {
     match connection.close_files() {
         Ok(files) => Ok(files),
-        Err(failed) => Err(fault_of_closing(failed)),
+        Err(failed) => Err(fault_of_closing(rt, path, failed)),
     }
 }
 
-fn fault_of_closing<S: Start>(failed: (Error, FileStore<FileFrom<S>>)) -> OpenFault
+// Says on standard error what kept the file from being closed.
+fn fault_of_closing<S: Start>(
+    rt: &HostRuntime,
+    path: &str,
+    failed: (Error, FileStore<FileFrom<S>>),
+) -> OpenFault
     ensures { result ≡ OpenFault.Store }
 {
-    let (_error, store) = failed;
+    let (error, store) = failed;
+    let _ = eprintln!(rt; "cannot close {path}: {error}");
     drop(store.close());
     OpenFault::Store
 }
@@ -89,6 +103,7 @@ pub fn connect_to_ledger<S: Start>(
 ) -> Result<FileConnection<S>, OpenFault>
     ensures idle { IfOk result (λ connection. connection.in_transaction ≡ false) }
     ensures found { IfOk result (IsFoundIn (image_at S.Start)) }
+    ensures plain { IfOk result (IsPlain (image_at S.Start)) }
     ensures refused { IfErr result (IsAbsenceOr IsFileFault) }
 {
     match fs::exists(rt, path) {
@@ -109,6 +124,7 @@ fn connect_to_place<S: Start>(
 ) -> Result<FileConnection<S>, OpenFault>
     ensures idle { IfOk result (λ connection. connection.in_transaction ≡ false) }
     ensures found { IfOk result (IsFoundIn (image_at S.Start)) }
+    ensures plain { IfOk result (IsPlain (image_at S.Start)) }
     ensures refused { IfErr result IsFileFault }
 {
     match fault_of_place(rt, path) {
@@ -134,6 +150,7 @@ fn absence(rt: &HostRuntime, path: &str) -> OpenFault
 fn connect<S: Start>(rt: &HostRuntime, path: &str, start: S) -> Result<FileConnection<S>, OpenFault>
     ensures idle { IfOk result (λ connection. connection.in_transaction ≡ false) }
     ensures found { IfOk result (IsFoundIn (image_at S.Start)) }
+    ensures plain { IfOk result (IsPlain (image_at S.Start)) }
     ensures refused { IfErr result IsFileFault }
 {
     match Connection::open_from(rt, path, false, start) {
@@ -165,6 +182,8 @@ fn fault_of_opening(error: &Error) -> OpenFault
 
 // The book, or why there is none, with its file closed.
 fn kept_or_closed<S: Start>(
+    rt: &HostRuntime,
+    path: &str,
     made: Result<FileBook<S>, Refused<FileStore<FileFrom<S>>>>,
 ) -> Result<FileBook<S>, OpenFault>
     ensures kept { IfOk result (λ book. made ≡ Ok book) }
@@ -172,14 +191,29 @@ fn kept_or_closed<S: Start>(
 {
     match made {
         Ok(book) => Ok(book),
-        Err(refusal) => Err(fault_of_refusal(refusal)),
+        Err(refusal) => Err(fault_of_refusal(rt, path, refusal)),
     }
 }
 
-fn fault_of_refusal<S: Start>(refusal: Refused<FileStore<FileFrom<S>>>) -> OpenFault
+fn fault_of_refusal<S: Start>(
+    rt: &HostRuntime,
+    path: &str,
+    refusal: Refused<FileStore<FileFrom<S>>>,
+) -> OpenFault
     ensures { result ≡ refusal.fault }
 {
     let Refused { fault, connection } = refusal;
-    let _ = connection.close();
+    let closed = connection.close();
+    if fault == OpenFault::Store {
+        tell_tables(rt, path, closed);
+    }
     fault
+}
+
+// Says on standard error that a statement failed. Closing meets the same failure, where it lasts.
+fn tell_tables(rt: &HostRuntime, path: &str, closed: Result<(), Error>) {
+    let _ = match closed {
+        Ok(()) => eprintln!(rt; "cannot read or write the tables of {path}"),
+        Err(error) => eprintln!(rt; "cannot read or write the tables of {path}: {error}"),
+    };
 }

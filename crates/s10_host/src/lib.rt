@@ -2,6 +2,7 @@
 #![tactic(auto)]
 
 mod audit;
+mod binding;
 mod files;
 mod front;
 mod jobs;
@@ -10,7 +11,6 @@ mod loopback;
 mod memory;
 mod questioning;
 mod serving;
-mod waiting;
 
 pub use audit::run_audit;
 pub use jobs::run_job;
