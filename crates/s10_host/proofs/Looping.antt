@@ -1,26 +1,24 @@
--- Calls of a client one after another, each of them done.
-use Rattle.std.proofs.Common.{◌≡◌, ◌∙◌, ℕ, List, [], ◌∷◌, ◌++◌, Option, Result, Ok, Err, refl, sym, ap, subst, append_assoc, append-nil}
+-- Calls of clients one after another, up to the first that is not done.
+use Rattle.std.proofs.Common.{◌≡◌, ◌≢◌, ◌∙◌, inl, inr, ℕ, List, [], ◌∷◌, ◌++◌, Option, Result, Ok, Err, refl, sym, ap, subst, append_assoc, append-nil}
 use Rattle.std.specs.Prelude.{IfOk}
 use Rattle.std.specs.Io.KnownBytes.{Appends}
 use Rattle.s10_wire.proofs.Writing.{Appends-then}
 use Rattle.s10_wire.specs.declared.body.Body.{Body}
-use Rattle.s10_wire.specs.declared.request.Request.{Request}
-use Rattle.s10_wire.specs.declared.outcome.Outcome.{Outcome}
 use Rattle.s10_wire.specs.declared.reply.Reply.{Reply}
 use Rattle.s10_link.specs.declared.peer.Peer.{Peer}
 use Rattle.s10_link.specs.declared.trace.Trace.{Trace}
-use Rattle.s10_wire.specs.Lines.{reply_line}
-use Rattle.s10_wire.specs.Reply.{outcome_of}
+use Rattle.s10_link.specs.Trace.{new_trace}
+use Rattle.s10_ends.specs.UdpLink.{BoundLink}
 use Rattle.s10_ends.specs.declared.call_fault.CallFault.{CallFault}
 use Rattle.s10_ends.specs.declared.call_fault.CallFault.TheVariants.{Submit, GaveUp, Link}
 use Rattle.s10_ends.specs.Calls.{Calls}
-use Rattle.s10_ends.specs.Client.{ClientState, next_request, after_submit, settled}
+use Rattle.s10_ends.specs.Client.{ClientState, after_submit, settled}
 use Rattle.s10_wire.specs.declared.write_fault.WriteFault.{WriteFault}
 use Rattle.s10_jobs.specs.declared.status.Status.{Status}
-use Rattle.s10_jobs.specs.declared.status.Status.TheVariants.{Done}
-use Rattle.s10_jobs.specs.Asked.{outcome_status, asked_status, asked_line}
+use Rattle.s10_jobs.specs.declared.status.Status.TheVariants.{Done, Refused, CommandLine, Failed}
+use Rattle.s10_jobs.specs.Asked.{asked_status, asked_line}
 use Rattle.s10_jobs.specs.Shown.{Prints}
-use Rattle.s10_host.specs.Looped.{requests_of, AreDone}
+use Rattle.s10_host.specs.Looped.{calls_of, loop_calls, AreAsked, IsLooped}
 
 abbrev pub after_call : ClientState → Body → ClientState
 after_call c body = settled (after_submit c body)
@@ -33,86 +31,108 @@ after_calls-push : (c : ClientState) (bodies : List Body) (body : Body) → afte
 after_calls-push c [] body = refl
 after_calls-push c (first ∷ bodies) body = after_calls-push (after_call c first) bodies body
 
-requests_of-push : (c : ClientState) (bodies : List Body) (body : Body)
-    → requests_of c (bodies ++ body ∷ []) ≡ requests_of c bodies ++ next_request (after_calls c bodies) body ∷ []
-requests_of-push c [] body = refl
-requests_of-push c (first ∷ bodies) body = ap (λ (qs : List Request). next_request c first ∷ qs) (requests_of-push (after_call c first) bodies body)
+calls_of-append : (c : ClientState) (bodies more : List Body) → calls_of c (bodies ++ more) ≡ calls_of c bodies ++ calls_of (after_calls c bodies) more
+calls_of-append c [] more = refl
+calls_of-append c (first ∷ bodies) more = ap (λ (calls : List (ClientState × Body)). (c, first) ∷ calls) (calls_of-append (after_call c first) bodies more)
 
-AreDone-push : (qs : List Request) (q : Request) (o : Outcome) (text : List ℕ) → AreDone qs text → outcome_status o ≡ Done → AreDone (qs ++ q ∷ []) (text ++ reply_line q o)
-AreDone-push [] q o text nothing done =
-    (o, [], done, ap (λ (t : List ℕ). t ++ reply_line q o) nothing ∙ sym (append-nil (reply_line q o)), refl)
-AreDone-push (first ∷ qs) q o text (o0, rest, done0, lines, more) done = (
-  o0,
-  rest ++ reply_line q o,
-  done0,
-  ap (λ (t : List ℕ). t ++ reply_line q o) lines ∙ append_assoc (reply_line first o0) rest (reply_line q o),
-  AreDone-push qs q o rest more done,
-)
+module _ (to : Peer) where
+  -- calls that were done, and others behind them
+  AreAsked-append : (calls more : List (ClientState × Body)) (old mid new : Trace) (status : Status) (text line : List ℕ)
+      → AreAsked to calls old mid Done text → AreAsked to more mid new status line → AreAsked to (calls ++ more) old new status (text ++ line)
+  AreAsked-append [] more old mid new status text line (same, done, nothing) others =
+      subst (AreAsked to more old new status) (ap (λ (t : List ℕ). t ++ line) (sym nothing)) (subst (λ t. AreAsked to more t new status line) same others)
+  AreAsked-append (call ∷ calls) more old mid new status text line (left, between, called, it, inl (done, rest, lines, after)) others = (
+    left,
+    between,
+    called,
+    it,
+    inl (done, rest ++ line, ap (λ (t : List ℕ). t ++ line) lines ∙ append_assoc (asked_line called) rest line, AreAsked-append calls more between mid new status rest line after others),
+  )
+  AreAsked-append (call ∷ calls) more old mid new status text line (left, between, called, it, inr (undone, same, is, lines)) others = absurd (undone (sym is))
 
-AreDone-append : (qs more : List Request) (text line : List ℕ) → AreDone qs text → AreDone more line → AreDone (qs ++ more) (text ++ line)
-AreDone-append [] more text line nothing others = subst (AreDone more) (ap (λ (t : List ℕ). t ++ line) (sym nothing)) others
-AreDone-append (first ∷ qs) more text line (o, rest, done, lines, after) others =
-    (o, rest ++ line, done, ap (λ (t : List ℕ). t ++ line) lines ∙ append_assoc (reply_line first o) rest line, AreDone-append qs more rest line after others)
+  -- none comes behind one that was not done
+  AreAsked-stops : (calls more : List (ClientState × Body)) (old new : Trace) (status : Status) (text : List ℕ)
+      → status ≢ Done → AreAsked to calls old new status text → AreAsked to (calls ++ more) old new status text
+  AreAsked-stops [] more old new status text undone (same, done, nothing) = absurd (undone done)
+  AreAsked-stops (call ∷ calls) more old new status text undone (left, between, called, it, inl (done, rest, lines, after)) =
+      (left, between, called, it, inl (done, rest, lines, AreAsked-stops calls more between new status rest undone after))
+  AreAsked-stops (call ∷ calls) more old new status text undone (left, between, called, it, inr stopped) = (left, between, called, it, inr stopped)
 
--- a call whose status is Done
-record IsDone (c c' : ClientState) (body : Body) (u v : Option (List ℕ)) : Type 0 where
-  client : c' ≡ after_call c body
-  outcome : Outcome
-  done : outcome_status outcome ≡ Done
-  printed : Appends u v (reply_line (next_request c body) outcome)
+  asked_one : (c c' : ClientState) (old new : Trace) (body : Body) (called : Result Reply CallFault) (status : Status)
+      → Calls c c' old new to body 5 called → asked_status called ≡ status → AreAsked to ((c, body) ∷ []) old new status (asked_line called)
+  asked_one c c' old new body called Done it is = (c', new, called, it, inl (is, [], sym (append-nil (asked_line called)), (refl, refl, refl)))
+  asked_one c c' old new body called Refused it is = (c', new, called, it, inr (λ done. absurd cc, refl, sym is, refl))
+  asked_one c c' old new body called CommandLine it is = (c', new, called, it, inr (λ done. absurd cc, refl, sym is, refl))
+  asked_one c c' old new body called Failed it is = (c', new, called, it, inr (λ done. absurd cc, refl, sym is, refl))
 
-asked_done : (c c' : ClientState) (t t' : Trace) (to : Peer) (body : Body) (tries : ℕ) (u v : Option (List ℕ)) (called : Result Reply CallFault)
-    → Calls c c' t t' to body tries called → asked_status called ≡ Done → Appends u v (asked_line called) → IsDone c c' body u v
-asked_done c c' t t' to body tries u v (Ok reply) calls done printed = record {
-  client = calls.0.client;
-  outcome = outcome_of reply;
-  done = done;
-  printed = subst (λ q. Appends u v (reply_line q (outcome_of reply))) calls.1 printed;
-}
-asked_done c c' t t' to body tries u v (Err (Submit fault)) calls done printed = absurd cc
-asked_done c c' t t' to body tries u v (Err (GaveUp q)) calls done printed = absurd cc
-asked_done c c' t t' to body tries u v (Err (Link q fault)) calls done printed = absurd cc
+  settled_after : (c c' : ClientState) (old new : Trace) (body : Body) (called : Result Reply CallFault) → Calls c c' old new to body 5 called → asked_status called ≡ Done → c' ≡ after_call c body
+  settled_after c c' old new body (Ok reply) it done = it.0.client
+  settled_after c c' old new body (Err (Submit fault)) it done = absurd cc
+  settled_after c c' old new body (Err (GaveUp q)) it done = absurd cc
+  settled_after c c' old new body (Err (Link q fault)) it done = absurd cc
 
--- so many calls are done, and what was printed of them
-pub record HasDone (c c' : ClientState) (bodies : List Body) (u v : Option (List ℕ)) : Type 0 where
-  pub client : c' ≡ after_calls c bodies
-  pub printed : Prints u v (AreDone (requests_of c bodies))
+  -- so many calls of a client were done, and what was printed of them
+  pub record HasDone (c c' : ClientState) (bodies : List Body) (old new : Trace) (u v : Option (List ℕ)) : Type 0 where
+    pub client : c' ≡ after_calls c bodies
+    pub printed : Prints u v (AreAsked to (calls_of c bodies) old new Done)
 
-pub one_more : (c c1 c2 : ClientState) (t t' : Trace) (to : Peer) (bodies : List Body) (body : Body) (tries : ℕ) (u v w : Option (List ℕ)) (called : Result Reply CallFault)
-    → HasDone c c1 bodies u v → Calls c1 c2 t t' to body tries called → asked_status called ≡ Done → Appends v w (asked_line called) → HasDone c c2 (bodies ++ body ∷ []) u w
-one_more c c1 c2 t t' to bodies body tries u v w called before calls done printed =
-    let it = asked_done c1 c2 t t' to body tries v w called calls done printed in
-    let here : next_request c1 body ≡ next_request (after_calls c bodies) body = ap (λ c. next_request c body) before.client in
-    let line = subst (λ q. Appends v w (reply_line q it.outcome)) here it.printed in
-    let P : List Request → Type 0 = λ qs. Prints u w (AreDone qs) in
-    record {
-      client = it.client ∙ ap (λ c. after_call c body) before.client ∙ sym (after_calls-push c bodies body);
-      printed = subst P (sym (requests_of-push c bodies body)) (
-        before.printed.0 ++ reply_line (next_request (after_calls c bodies) body) it.outcome,
-        AreDone-push (requests_of c bodies) (next_request (after_calls c bodies) body) it.outcome before.printed.0 before.printed.1 it.done,
-        Appends-then u v w before.printed.0 (reply_line (next_request (after_calls c bodies) body) it.outcome) before.printed.2 line,
-      );
-    }
+  -- what a call answers
+  abbrev pub Asked : ClientState → ClientState → Trace → Trace → Body → Option (List ℕ) → Option (List ℕ) → Result Status WriteFault → Type 0
+  Asked c c' old new body u v r =
+      (called : Result Reply CallFault) × Calls c c' old new to body 5 called × IfOk r (λ status. (status ≡ asked_status called) × Appends u v (asked_line called))
 
--- a call's answer, where its status is Done
-pub one_done : (c c1 c2 : ClientState) (t t' : Trace) (to : Peer) (bodies : List Body) (body : Body) (tries : ℕ) (u v w : Option (List ℕ)) (r : Result Status WriteFault) (status : Status)
-    → r ≡ Ok status → status ≡ Done → HasDone c c1 bodies u v
-    → (called : Result Reply CallFault) × Calls c1 c2 t t' to body tries called × IfOk r (λ status. (status ≡ asked_status called) × Appends v w (asked_line called))
-    → HasDone c c2 (bodies ++ body ∷ []) u w
-one_done c c1 c2 t t' to bodies body tries u v w (Ok other) status is done before (called, calls, says) =
-    let same : other ≡ status = cc in
-    one_more c c1 c2 t t' to bodies body tries u v w called before calls (sym says.0 ∙ same ∙ done) says.1
-one_done c c1 c2 t t' to bodies body tries u v w (Err fault) status is done before asked = absurd cc
+  one_more : (c c1 c2 : ClientState) (t t1 t2 : Trace) (bodies : List Body) (body : Body) (u v w : Option (List ℕ)) (r : Result Status WriteFault) (status : Status)
+      → r ≡ Ok status → HasDone c c1 bodies t t1 u v → Asked c1 c2 t1 t2 body v w r → Prints u w (AreAsked to (calls_of c (bodies ++ body ∷ [])) t t2 status)
+  one_more c c1 c2 t t1 t2 bodies body u v w (Ok other) status is before (called, it, says) =
+      let same : other ≡ status = cc in
+      let here = subst (λ c. Calls c c2 t1 t2 to body 5 called) before.client it in
+      let P : List (ClientState × Body) → Type 0 = λ calls. Prints u w (AreAsked to calls t t2 status) in
+      subst P (sym (calls_of-append c bodies (body ∷ []))) (
+        before.printed.0 ++ asked_line called,
+        AreAsked-append (calls_of c bodies) ((after_calls c bodies, body) ∷ []) t t1 t2 status before.printed.0 (asked_line called) before.printed.1
+            (asked_one (after_calls c bodies) c2 t1 t2 body called status here (sym says.0 ∙ same)),
+        Appends-then u v w before.printed.0 (asked_line called) before.printed.2 says.1,
+      )
+  one_more c c1 c2 t t1 t2 bodies body u v w (Err fault) status is before asked = absurd cc
 
--- the post's call, and behind it the customer's
-pub all_done : (qs more : List Request) (u v w : Option (List ℕ)) → Prints u v (AreDone qs) → Prints v w (AreDone more) → Prints u w (AreDone (qs ++ more))
-all_done qs more u v w (text, done, first) (line, others, second) =
-    (text ++ line, AreDone-append qs more text line done others, Appends-then u v w text line first second)
+  pub one_done : (c c1 c2 : ClientState) (t t1 t2 : Trace) (bodies : List Body) (body : Body) (u v w : Option (List ℕ)) (r : Result Status WriteFault) (status : Status)
+      → r ≡ Ok status → status ≡ Done → HasDone c c1 bodies t t1 u v → Asked c1 c2 t1 t2 body v w r → HasDone c c2 (bodies ++ body ∷ []) t t2 u w
+  one_done c c1 c2 t t1 t2 bodies body u v w (Ok other) status is done before asked =
+      let same : other ≡ status = cc in
+      let over = settled_after c1 c2 t1 t2 body asked.0 asked.1 (sym asked.2.0 ∙ same ∙ done) in
+      let P : Status → Type 0 = λ s. Prints u w (AreAsked to (calls_of c (bodies ++ body ∷ [])) t t2 s) in
+      record {
+        client = over ∙ ap (λ c. after_call c body) before.client ∙ sym (after_calls-push c bodies body);
+        printed = subst P done (one_more c c1 c2 t t1 t2 bodies body u v w (Ok other) status is before asked);
+      }
+  one_done c c1 c2 t t1 t2 bodies body u v w (Err fault) status is done before asked = absurd cc
 
--- the same of the answer to the customer's calls
-pub all_answered : (qs more wanted : List Request) (u v w : Option (List ℕ)) (r : Result Status WriteFault) → Prints u v (AreDone qs) → qs ++ more ≡ wanted
-    → IfOk r (λ status. status ≡ Done → Prints v w (AreDone more)) → IfOk r (λ status. status ≡ Done → Prints u w (AreDone wanted))
-all_answered qs more wanted u v w (Ok status) first same second = λ done.
-    let P : List Request → Type 0 = λ qs. Prints u w (AreDone qs) in
-    subst P same (all_done qs more u v w first (second done))
-all_answered qs more wanted u v w (Err fault) first same second = tt
+  -- the rest is not asked
+  pub last_done : (c c1 c2 : ClientState) (t t1 t2 : Trace) (bodies : List Body) (body : Body) (rest all : List Body) (u v w : Option (List ℕ)) (r : Result Status WriteFault) (status : Status)
+      → r ≡ Ok status → status ≢ Done → HasDone c c1 bodies t t1 u v → Asked c1 c2 t1 t2 body v w r → all ≡ (bodies ++ body ∷ []) ++ rest
+      → Prints u w (AreAsked to (calls_of c all) t t2 status)
+  last_done c c1 c2 t t1 t2 bodies body rest all u v w r status is undone before asked whole =
+      let it = one_more c c1 c2 t t1 t2 bodies body u v w r status is before asked in
+      let P : List (ClientState × Body) → Type 0 = λ calls. Prints u w (AreAsked to calls t t2 status) in
+      let same = ap (calls_of c) whole ∙ calls_of-append c (bodies ++ body ∷ []) rest in
+      subst P (sym same) (it.0, AreAsked-stops (calls_of c (bodies ++ body ∷ [])) (calls_of (after_calls c (bodies ++ body ∷ [])) rest) t t2 status it.0 undone it.1, it.2)
+
+  -- the post's call, and behind it the customer's
+  pub all_asked : (calls more all : List (ClientState × Body)) (t t1 t2 : Trace) (u v w : Option (List ℕ)) (r : Result Status WriteFault) → calls ++ more ≡ all
+      → Prints u v (AreAsked to calls t t1 Done) → IfOk r (λ status. Prints v w (AreAsked to more t1 t2 status)) → IfOk r (λ status. Prints u w (AreAsked to all t t2 status))
+  all_asked calls more all t t1 t2 u v w (Ok status) same (text, done, first) (line, others, second) =
+      let P : List (ClientState × Body) → Type 0 = λ calls. Prints u w (AreAsked to calls t t2 status) in
+      subst P same (text ++ line, AreAsked-append calls more t t1 t2 status text line done others, Appends-then u v w text line first second)
+  all_asked calls more all t t1 t2 u v w (Err fault) same first second = tt
+
+  pub post_stops : (calls more all : List (ClientState × Body)) (t t1 : Trace) (u v : Option (List ℕ)) (status : Status) → calls ++ more ≡ all → status ≢ Done
+      → Prints u v (AreAsked to calls t t1 status) → Prints u v (AreAsked to all t t1 status)
+  post_stops calls more all t t1 u v status same undone (text, asked, first) =
+      let P : List (ClientState × Body) → Type 0 = λ calls. Prints u v (AreAsked to calls t t1 status) in
+      subst P same (text, AreAsked-stops calls more t t1 status text undone asked, first)
+
+  -- the same of a link that was new
+  pub looped_over : (begun : Trace) (link : BoundLink) (u v : Option (List ℕ)) (r : Result Status WriteFault) → begun ≡ new_trace
+      → IfOk r (λ status. Prints u v (AreAsked to loop_calls begun link.trace status)) → IsLooped u v r link
+  looped_over begun link u v (Ok status) fresh asked = (to, subst (λ (t : Trace). Prints u v (AreAsked to loop_calls t link.trace status)) fresh asked)
+  looped_over begun link u v (Err fault) fresh asked = tt

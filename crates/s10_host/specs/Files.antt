@@ -1,6 +1,6 @@
 -- Ledgers in files, as they are made, opened and put away.
 use denote.RattleType.{RattleType}
-use Rattle.std.specs.Prelude.{◌≡◌, ◌⊎◌, IsTrue, []}
+use Rattle.std.specs.Prelude.{◌≡◌, ◌⊎◌, IsTrue, false, []}
 use Rattle.sqlite_disk.specs.declared.Disk.{Ghosts}
 use Rattle.sqlite_disk.specs.declared.Files.{Files}
 use Rattle.sqlite_disk.specs.declared.modelled.Modelled.{Modelled}
@@ -14,9 +14,10 @@ use Rattle.sqlite_wal.specs.Files.{image_at}
 use Rattle.sqlite_wal.specs.Reads.{AreClean}
 use Rattle.sqlite_trees.specs.Tree.{Trees}
 use Rattle.sqlite_store.specs.declared.store.FileStore.{FileStore}
+use Rattle.sqlite_store.specs.FileStore.{view}
 use Rattle.sqlite.specs.Held.{Held}
 use Rattle.sqlite.specs.State.{HasCleanDisk}
-use Rattle.sqlite.specs.Files.{file_state, over_files, HoldsDatabase, AreFoundIn, IsOpened}
+use Rattle.sqlite.specs.Files.{file_state, over_files, HoldsDatabase, AreFoundIn, IsBlankAs, IsOpened}
 use Rattle.sqlite.specs.Start.{FindsIn}
 use Rattle.sqlite.specs.Closing.{IsCopied}
 use Rattle.s10_schema.specs.Schema.{IsClosedSchema}
@@ -30,6 +31,10 @@ module _ {D : Type 0} {g : Ghosts D} where
   -- the connection is open, and shows what the files held, where the disk has returned what was written
   abbrev pub IsFoundIn : Image → Held (FileStore D g) → Type 0
   IsFoundIn held c = HasCleanDisk (file_state c) → IsOpened c × FindsIn held (file_state c)
+
+  -- files that are new have no checksums: a write by a program that knows of none would spoil them
+  abbrev pub IsPlain : Image → Held (FileStore D g) → Type 0
+  IsPlain held c = HasCleanDisk (file_state c) → IsBlankAs false held → (view c.store).has_sums ≡ false
 
   -- a fact of a book, where its disk has returned what was written
   abbrev pub WhereClean : (Ledger (FileStore D g) → Type 0) → Ledger (FileStore D g) → Type 0

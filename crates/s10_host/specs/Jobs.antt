@@ -1,6 +1,6 @@
 -- What the subcommands have done as they end, and what they print.
 use denote.RattleType.{RattleType}
-use Rattle.std.specs.Prelude.{◌≡◌, ◌⊎◌, ℕ, Bool, true, false, List, [], ◌∷◌, ◌++◌, codes, Option, None, Result, Ok, IsOk, IfOk, IfSome}
+use Rattle.std.specs.Prelude.{◌≡◌, ◌⊎◌, ℕ, Bool, true, false, List, [], ◌∷◌, ◌++◌, codes, Option, None, Result, IsOk, IfOk, IfSome}
 use Rattle.std.specs.Io.KnownBytes.{Appends}
 use Rattle.sqlite_disk.specs.declared.start.Start.{Ghosts}
 use Rattle.sqlite_wal.specs.Files.{image_at}
@@ -28,8 +28,7 @@ use Rattle.s10_host.specs.Audited.{IsFound, audit_line, audit_status}
 use Rattle.s10_jobs.specs.Reporting.{report_lines, PrintsReport}
 use Rattle.s10_jobs.specs.Serving.{IsDay, IsTurn, Serves}
 use Rattle.s10_host.specs.Questioning.{IsAsked, IsUnasked}
-use Rattle.s10_host.specs.Looped.{loop_requests, AreDone}
-use Rattle.s10_jobs.specs.Shown.{Prints}
+use Rattle.s10_host.specs.Looped.{HasLooped}
 use Rattle.s10_host.specs.Files.{FileConnection, FileLedger, ClosedFiles, WhereClean, IsFoundIn, IsEmptyBook, IsFoundBook, PutsAway, Leaves, IsFileFault, IsAbsenceOr, IsNotMade, IsNotOpened}
 
 -- the line of a fault of the ledger
@@ -53,6 +52,12 @@ pub record IsAskedFor (is_of_issues : Bool) (day : Option ℕ) (report : Report)
 pub record HasAsked (question : Question) (old new : Option (List ℕ)) (result : Result Status WriteFault) (link : Option BoundLink) : Type 0 where
   pub asked : IfSome link (λ l. IsAsked question l old new result)
   pub unasked : link ≡ None → IfOk result (λ status. (line : List ℕ) × IsUnasked question status line × Appends old new line)
+
+-- the calls of a loop were made; or the clock gives no day, where none was given, and nothing is bound
+abbrev pub IsRunOn : Option ℕ → Option (List ℕ) → Option (List ℕ) → Result Status WriteFault → Option BoundLink → Type 0
+IsRunOn day old new result link =
+    HasLooped old new result link
+    ⊎ ((day ≡ None) × (link ≡ None) × IfOk result (λ status. (status ≡ Failed) × Appends old new (codes "clock\n")))
 
 module _ (S : RattleType) (first : Ghosts S.Denot) where
   -- an empty ledger with these settings was made, and put away in these files
@@ -166,4 +171,4 @@ module _ (S : RattleType) (first : Ghosts S.Denot) where
   HasEnded (job.Ask question) old new result files link = HasAsked question old new result link
   HasEnded (job.Report ledger is_of_issues day) old new result files link = HasReported is_of_issues day old new result files
   HasEnded (job.Audit ledger) old new result files link = HasAudited old new result files
-  HasEnded (job.Loop day) old new result files link = result ≡ Ok Done → Prints old new (AreDone loop_requests)
+  HasEnded (job.Loop day) old new result files link = IsRunOn day old new result link

@@ -2,7 +2,7 @@
 
 ghost use Rattle.std.specs.Prelude.{◌≡◌, false, Ok, IfOk, IfErr, IsErrAnd};
 ghost use Rattle.sqlite_wal.specs.Files.{image_at};
-ghost use Rattle.s10_host.specs.Files.{IsFoundIn, IsEmptyBook, IsFoundBook, WhereClean, PutsAway, Copies, Leaves, IsFileFault, IsAbsenceOr, IsNotMade, IsNotOpened};
+ghost use Rattle.s10_host.specs.Files.{IsFoundIn, IsPlain, IsEmptyBook, IsFoundBook, WhereClean, PutsAway, Copies, Leaves, IsFileFault, IsAbsenceOr, IsNotMade, IsNotOpened};
 
 use crate::front::{fault_of_front, fault_of_place};
 use crate::onlooker::Onlooker;
@@ -35,7 +35,11 @@ pub fn create_book<S: Start>(
 {
     let connection = connect_to_place(rt, path, start)?;
     let mut onlooker = Onlooker::new(rt, path);
-    kept_or_closed(SqlBook::create(rt.alloc(), connection, settings, &mut onlooker))
+    let made = SqlBook::create(rt.alloc(), connection, settings, &mut onlooker);
+    if let Err(refusal) = &made {
+        onlooker.tell_place(refusal.fault);
+    }
+    kept_or_closed(made)
 }
 
 /// Opens the ledger of a file, which does all its calls again.
@@ -49,29 +53,43 @@ pub fn open_book<S: Start>(rt: &HostRuntime, path: &str, start: S) -> Result<Fil
 }
 
 /// Ends a book: what it committed is then in the database file itself.
-pub fn close_book<S: Start>(book: FileBook<S>) -> Result<ClosedFiles<S>, OpenFault>
+pub fn close_book<S: Start>(
+    rt: &HostRuntime,
+    path: &str,
+    book: FileBook<S>,
+) -> Result<ClosedFiles<S>, OpenFault>
     ensures away { IfOk result (PutsAway book) }
     ensures refused { IfErr result (λ fault. fault ≡ OpenFault.Store) }
 {
     let connection = book.close();
-    close_copied(connection)
+    close_copied(rt, path, connection)
 }
 
 // The files of a connection, with its last commit in the database file itself.
-fn close_copied<S: Start>(connection: FileConnection<S>) -> Result<ClosedFiles<S>, OpenFault>
+fn close_copied<S: Start>(
+    rt: &HostRuntime,
+    path: &str,
+    connection: FileConnection<S>,
+) -> Result<ClosedFiles<S>, OpenFault>
     ensures copied { IfOk result (Copies connection) }
     ensures refused { IfErr result (λ fault. fault ≡ OpenFault.Store) }
 {
     match connection.close_files() {
         Ok(files) => Ok(files),
-        Err(failed) => Err(fault_of_closing(failed)),
+        Err(failed) => Err(fault_of_closing(rt, path, failed)),
     }
 }
 
-fn fault_of_closing<S: Start>(failed: (Error, FileStore<FileFrom<S>>)) -> OpenFault
+// Says on standard error what kept the file from being closed.
+fn fault_of_closing<S: Start>(
+    rt: &HostRuntime,
+    path: &str,
+    failed: (Error, FileStore<FileFrom<S>>),
+) -> OpenFault
     ensures { result ≡ OpenFault.Store }
 {
-    let (_error, store) = failed;
+    let (error, store) = failed;
+    let _ = eprintln!(rt; "cannot close {path}: {error}");
     drop(store.close());
     OpenFault::Store
 }
@@ -92,6 +110,7 @@ pub fn connect_to_ledger<S: Start>(
 ) -> Result<FileConnection<S>, OpenFault>
     ensures idle { IfOk result (λ connection. connection.in_transaction ≡ false) }
     ensures found { IfOk result (IsFoundIn (image_at S.Start)) }
+    ensures plain { IfOk result (IsPlain (image_at S.Start)) }
     ensures refused { IfErr result (IsAbsenceOr IsFileFault) }
 {
     match fs::exists(rt, path) {
@@ -112,6 +131,7 @@ fn connect_to_place<S: Start>(
 ) -> Result<FileConnection<S>, OpenFault>
     ensures idle { IfOk result (λ connection. connection.in_transaction ≡ false) }
     ensures found { IfOk result (IsFoundIn (image_at S.Start)) }
+    ensures plain { IfOk result (IsPlain (image_at S.Start)) }
     ensures refused { IfErr result IsFileFault }
 {
     match fault_of_place(rt, path) {
@@ -137,6 +157,7 @@ fn absence(rt: &HostRuntime, path: &str) -> OpenFault
 fn connect<S: Start>(rt: &HostRuntime, path: &str, start: S) -> Result<FileConnection<S>, OpenFault>
     ensures idle { IfOk result (λ connection. connection.in_transaction ≡ false) }
     ensures found { IfOk result (IsFoundIn (image_at S.Start)) }
+    ensures plain { IfOk result (IsPlain (image_at S.Start)) }
     ensures refused { IfErr result IsFileFault }
 {
     match Connection::open_from(rt, path, false, start) {

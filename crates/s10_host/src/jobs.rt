@@ -2,11 +2,9 @@
 
 ghost use Rattle.std.specs.Prelude.{◌≡◌, codes, None, Ok, Err, IsOk, IfOk, IfErr, IfSome};
 ghost use Rattle.std.specs.Io.KnownBytes.{Appends};
-ghost use Rattle.s10_host.specs.Looped.{loop_requests, AreDone};
-ghost use Rattle.s10_jobs.specs.Shown.{Prints};
 ghost use Rattle.s10_rows.specs.declared.open_fault.OpenFault.{OpenFault};
 ghost use Rattle.s10_host.specs.Files.{IsNotMade};
-ghost use Rattle.s10_host.specs.Jobs.{ledger_line, HasMade, HasCreated, IsServed, IsLost, IsUnlinked, HasServed, IsReported, IsReportedAndLost, HasReported, HasAudited, HasEnded};
+ghost use Rattle.s10_host.specs.Jobs.{ledger_line, HasMade, HasCreated, IsServed, IsLost, IsUnlinked, HasServed, IsReported, IsReportedAndLost, HasReported, HasAudited, IsRunOn, HasEnded};
 
 use crate::audit::run_audit;
 use crate::files::{
@@ -60,7 +58,7 @@ pub fn run_job<S: Start, W: Write>(
             day,
         } => with_files(run_report(rt, *ledger, *is_of_issues, *day, start, out)),
         Job::Audit { ledger } => with_files(audit_file(rt, *ledger, start, out)),
-        Job::Loop { day } => with_link((run_loop_on(rt, *day, out), None)),
+        Job::Loop { day } => with_link(run_loop_on(rt, *day, out)),
     }
 }
 
@@ -111,7 +109,7 @@ fn make_ledger<S: Start>(
     ensures refused { IfErr result (IsNotMade S.row S.Start) }
 {
     match create_book(rt, ledger, settings, start) {
-        Ok(book) => close_book(book),
+        Ok(book) => close_book(rt, ledger, book),
         Err(fault) => Err(fault),
     }
 }
@@ -132,7 +130,7 @@ fn run_serve<S: Start, W: Write>(
     };
     tell_opening(rt, ledger);
     match open_book(rt, ledger, start) {
-        Ok(book) => serve_book(rt, at, book, count, day, out),
+        Ok(book) => serve_book(rt, ledger, at, book, count, day, out),
         Err(fault) => with_link((fail_by_ledger(fault, out), None)),
     }
 }
@@ -145,6 +143,7 @@ fn tell_opening(rt: &HostRuntime, ledger: &str) {
 // The ledger is closed whatever came of the turns.
 fn serve_book<S: Start, W: Write>(
     rt: &HostRuntime,
+    ledger: &str,
     at: Peer,
     book: FileBook<S>,
     count: u32,
@@ -157,7 +156,7 @@ fn serve_book<S: Start, W: Write>(
 {
     let mut server = Server::new(book);
     let (served, link) = serve_at(rt, at, &mut server, count, day, out);
-    let closed = close_book(server.into_book());
+    let closed = close_book(rt, ledger, server.into_book());
     let (done, files) = ended(served, closed, out);
     (done, Left { files, link })
 }
@@ -177,17 +176,23 @@ fn run_report<S: Start, W: Write>(
         return (fail_by_clock(out), None);
     };
     match open_book(rt, ledger, start) {
-        Ok(book) => report_on(book, report, out),
+        Ok(book) => report_on(rt, ledger, book, report, out),
         Err(fault) => (fail_by_ledger(fault, out), None),
     }
 }
 
-fn report_on<S: Start, W: Write>(mut book: FileBook<S>, report: Report, out: &mut W) -> Closed<S>
+fn report_on<S: Start, W: Write>(
+    rt: &HostRuntime,
+    ledger: &str,
+    mut book: FileBook<S>,
+    report: Report,
+    out: &mut W,
+) -> Closed<S>
     ensures reported { IfSome result.1 (IsReported S.row S.Start book report (W.contents out.old) (W.contents out.new) result.0) }
     ensures lost { result.1 ≡ None → IsReportedAndLost S.row S.Start book report (W.contents out.old) (W.contents out.new) result.0 }
 {
     let written = write_report(&mut book, report, out);
-    let closed = close_book(book);
+    let closed = close_book(rt, ledger, book);
     ended(written, closed, out)
 }
 
@@ -237,15 +242,16 @@ fn audit_file<S: Start, W: Write>(
     }
 }
 
+// The day is known before anything is bound.
 fn run_loop_on<W: Write>(
     rt: &HostRuntime,
     day: Option<u32>,
     out: &mut W,
-) -> Result<Status, WriteFault>
-    ensures { result ≡ Ok Status.Done → Prints (W.contents out.old) (W.contents out.new) (AreDone loop_requests) }
+) -> (Result<Status, WriteFault>, Option<UdpLink>)
+    ensures { IsRunOn day (W.contents out.old) (W.contents out.new) result.0 result.1 }
 {
     match day_or_today(rt, day) {
         Some(day) => run_loop(rt, day, out),
-        None => fail_by_clock(out),
+        None => (fail_by_clock(out), None),
     }
 }

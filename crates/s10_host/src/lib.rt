@@ -2,6 +2,7 @@
 #![tactic(auto)]
 
 mod audit;
+mod binding;
 mod files;
 mod front;
 mod jobs;
@@ -11,7 +12,6 @@ mod memory;
 mod onlooker;
 mod questioning;
 mod serving;
-mod waiting;
 
 pub use audit::run_audit;
 pub use jobs::run_job;

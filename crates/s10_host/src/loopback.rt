@@ -1,16 +1,17 @@
 //! A run of calls between two sockets of this machine.
 
-ghost use Rattle.std.specs.Prelude.{◌≡◌, ◌∷◌, [], IfOk};
+ghost use Rattle.std.specs.Prelude.{◌≡◌, ◌∷◌, [], None, IfOk, IfErr, IfSome};
 ghost use Rattle.s10_wire.specs.declared.body.Body.TheVariants.{Draw};
+ghost use Rattle.s10_link.specs.Trace.{new_trace};
 ghost use Rattle.s10_jobs.specs.Shown.{Prints};
-ghost use Rattle.s10_host.specs.Looped.{ra, gb, first_of_range, granted_range, customer_calls, requests_of, loop_requests, AreDone};
+ghost use Rattle.s10_host.specs.Looped.{ra, gb, first_of_range, granted_range, customer_calls, calls_of, loop_calls, AreAsked, IsLooped, IsNoLoop};
 
+use crate::binding::bind_link;
 use crate::memory::let_go;
-use crate::waiting::WAIT;
 use s10_book::Settings;
 use s10_core::{Country, Id, Serial, Service};
 use s10_ends::{Client, NearLink, Server, UdpLink};
-use s10_jobs::{Status, ask, write_ledger_fault, write_link_fault};
+use s10_jobs::{Status, ask, fail_by_ledger, fail_by_link};
 use s10_ledger::SqlBook;
 use s10_link::{Link, LinkFault, Peer};
 use s10_wire::{Body, WriteFault};
@@ -29,30 +30,25 @@ const TRIES: u32 = 5;
 /// Makes a ledger in memory with a reuse interval of 30 days, serves it on this day over a socket of this machine, and
 /// writes the lines of five calls to it over another: the post grants RA GB 0 to 2 to customer 7, who draws twice,
 /// voids the first identifier and asks about it. Done where all were; the first call that is not ends the run, and a fault
-/// of the ledger or of a socket is written.
-pub fn run_loop<N: Net + AllocGlobal, W: Write>(
-    rt: &N,
+/// of the ledger or of a socket is written. Answers the link of the calls too: None where nothing was asked.
+pub fn run_loop<R: Net + Eprint + AllocGlobal, W: Write>(
+    rt: &R,
     day: u32,
     out: &mut W,
-) -> Result<Status, WriteFault>
-    ensures { IfOk result (λ status. status ≡ Status.Done → Prints (W.contents out.old) (W.contents out.new) (AreDone loop_requests)) }
+) -> (Result<Status, WriteFault>, Option<UdpLink>)
+    ensures asked { IfSome result.1 (IsLooped (W.contents out.old) (W.contents out.new) result.0) }
+    ensures unasked { result.1 ≡ None → IfOk result.0 (λ status. (status ≡ Status.Failed) × Prints (W.contents out.old) (W.contents out.new) IsNoLoop) }
 {
     let (far, near) = match two_links(rt) {
         Ok(links) => links,
-        Err(fault) => {
-            write_link_fault(fault, out)?;
-            return Ok(Status::Failed);
-        }
+        Err(fault) => return (fail_by_link(fault, out), None),
     };
     let Some(settings) = Settings::new(30, 100) else {
         unreachable!()
     };
     let book = match SqlBook::in_memory(rt.alloc(), settings) {
         Ok(book) => book,
-        Err(fault) => {
-            write_ledger_fault(fault, out)?;
-            return Ok(Status::Failed);
-        }
+        Err(fault) => return (fail_by_ledger(fault, out), None),
     };
     let to = far.local();
     let mut link = NearLink {
@@ -61,27 +57,31 @@ pub fn run_loop<N: Net + AllocGlobal, W: Write>(
         near,
         day,
     };
-    let status = make_calls(&mut link, to, out);
+    let asked = make_calls(&mut link, to, out);
     let NearLink {
         server,
         far: _,
-        near: _,
+        near,
         day: _,
     } = link;
     let_go(server.into_book());
-    status
+    (asked, Some(near))
 }
 
 // The far and the near end.
-fn two_links<N: Net>(net: &N) -> Result<(UdpLink, UdpLink), LinkFault> {
-    let far = UdpLink::bind(net, LOCALHOST, WAIT)?;
-    let near = UdpLink::bind(net, LOCALHOST, WAIT)?;
+fn two_links<R: Net + Eprint>(rt: &R) -> Result<(UdpLink, UdpLink), LinkFault>
+    ensures ok { IfOk result (λ links. links.1.trace ≡ new_trace) }
+    ensures refused { IfErr result (λ fault. fault ≡ LinkFault.Bind) }
+{
+    let far = bind_link(rt, LOCALHOST)?;
+    let near = bind_link(rt, LOCALHOST)?;
     Ok((far, near))
 }
 
 // The five calls, up to the first that is not done.
 fn make_calls<L: Link, W: Write>(link: &mut L, to: Peer, out: &mut W) -> Result<Status, WriteFault>
-    ensures { IfOk result (λ status. status ≡ Status.Done → Prints (W.contents out.old) (W.contents out.new) (AreDone loop_requests)) }
+    ensures { IfOk result (λ status. Prints (W.contents out.old) (W.contents out.new)
+        (AreAsked to loop_calls (L.trace_of link.old) (L.trace_of link.new) status)) }
 {
     let Ok(mut post) = Client::new(0, 1, 1) else {
         unreachable!()
@@ -104,8 +104,8 @@ fn ask_all<L: Link, W: Write>(
     bodies: &[Body],
     out: &mut W,
 ) -> Result<Status, WriteFault>
-    ensures { IfOk result (λ status. status ≡ Status.Done
-        → Prints (W.contents out.old) (W.contents out.new) (AreDone (requests_of client.old bodies.now))) }
+    ensures { IfOk result (λ status. Prints (W.contents out.old) (W.contents out.new)
+        (AreAsked to (calls_of client.old bodies.now) (L.trace_of link.old) (L.trace_of link.new) status)) }
 {
     for body in bodies {
         let status = ask(client, link, to, *body, TRIES, out)?;

@@ -1,6 +1,6 @@
 //! What standard error is told while the ledger of a file is made or opened.
 
-use s10_ledger::Watch;
+use s10_ledger::{OpenFault, Watch};
 use sqlite::Error;
 use std::time::{Duration, Instant};
 
@@ -16,12 +16,25 @@ pub(crate) struct Onlooker<'a> {
     rt: &'a HostRuntime,
     path: &'a str,
     spoke: Option<Instant>,
+    failed: bool,
 }
 
 impl<'a> Onlooker<'a> {
     pub(crate) fn new(rt: &'a HostRuntime, path: &'a str) -> Onlooker<'a> {
         let spoke = Instant::now(rt).ok();
-        Onlooker { rt, path, spoke }
+        Onlooker {
+            rt,
+            path,
+            spoke,
+            failed: false,
+        }
+    }
+
+    // Why no ledger was made, where no statement failed.
+    pub(crate) fn tell_place(&self, fault: OpenFault) {
+        if fault == OpenFault::Store && !self.failed {
+            let _ = eprintln!(self.rt; "cannot make a ledger in {}: it has tables of its own", self.path);
+        }
     }
 
     // Whether it has been silent for a second.
@@ -45,6 +58,7 @@ impl Watch for Onlooker<'_> {
     }
 
     fn has_failed(&mut self, error: &Error) {
+        self.failed = true;
         let _ = eprintln!(self.rt; "cannot use {}: {error}", self.path);
     }
 }

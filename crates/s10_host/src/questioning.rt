@@ -9,7 +9,7 @@ ghost use Rattle.s10_ends.specs.Client.{ClientState, new_client};
 ghost use Rattle.s10_jobs.specs.Asked.{asked_status, asked_line};
 ghost use Rattle.s10_host.specs.Questioning.{IsUnasked, IsAsked};
 
-use crate::waiting::WAIT;
+use crate::binding::bind_link;
 use s10_ends::{Client, UdpLink};
 use s10_jobs::{Question, Status, ask, fail_by_link, write_refusal};
 use s10_link::{Link, Peer};
@@ -25,8 +25,8 @@ const UNSPECIFIED: Peer = Peer {
 
 /// Asks a server over a socket of its own, and writes the line of its reply, or of what failed. A text that does not read
 /// is refused before there is a socket. Answers the link too: None where nothing was asked.
-pub fn run_question<N: Net, W: Write>(
-    net: &N,
+pub fn run_question<R: Net + Eprint, W: Write>(
+    rt: &R,
     question: &Question<'_>,
     out: &mut W,
 ) -> (Result<Status, WriteFault>, Option<UdpLink>)
@@ -38,7 +38,7 @@ pub fn run_question<N: Net, W: Write>(
         Ok(read) => read,
         Err(refusal) => return (write_refusal(refusal, out), None),
     };
-    let mut link = match UdpLink::bind(net, UNSPECIFIED, WAIT) {
+    let mut link = match bind_link(rt, UNSPECIFIED) {
         Ok(link) => link,
         Err(fault) => return (fail_by_link(fault, out), None),
     };

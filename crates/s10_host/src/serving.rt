@@ -6,7 +6,7 @@ ghost use Rattle.s10_ends.specs.Server.{book_of};
 ghost use Rattle.s10_jobs.specs.Serving.{IsTurn, Serves};
 ghost use Rattle.s10_host.specs.Unbound.{IsUnbound};
 
-use crate::waiting::WAIT;
+use crate::binding::bind_link;
 use s10_book::Book;
 use s10_ends::{Server, UdpLink};
 use s10_jobs::{Status, fail_by_link, serve_turns};
@@ -17,7 +17,7 @@ use std::net::Net;
 use std::time::Clock;
 
 /// Serves at the address, and says on standard error where that is. Answers the link too: None where the address cannot
-/// be had.
+/// be had, and standard error says why.
 pub fn serve_at<R, B, W>(
     rt: &R,
     at: Peer,
@@ -35,7 +35,7 @@ where
         (new_trace, book_of server.old) (link.trace, book_of server.new)
         (W.contents out.old) (W.contents out.new) count result.0) }
 {
-    let mut link = match UdpLink::bind(rt, at, WAIT) {
+    let mut link = match bind_link(rt, at) {
         Ok(link) => link,
         Err(fault) => return (fail_by_link(fault, out), None),
     };

@@ -15,11 +15,11 @@ reply query customer 7 number 4 RA000000005GB done voided 20000
 ";
 
 /// Whether a loop prints the five replies, on a writer that takes them alone.
-fn prints_five_replies<N: Net + AllocGlobal>(net: &N) -> bool {
-    let mut out = Vec::new(net.alloc());
-    run_loop(net, 20_000, &mut out) == Ok(Status::Done)
-        && out.as_slice() == LINES.as_bytes()
-        && run_loop(net, 20_000, &mut Refusing) == Err(WriteFault)
+fn prints_five_replies<R: Net + Eprint + AllocGlobal>(rt: &R) -> bool {
+    let mut out = Vec::new(rt.alloc());
+    let (looped, _link) = run_loop(rt, 20_000, &mut out);
+    let (failed, _other) = run_loop(rt, 20_000, &mut Refusing);
+    looped == Ok(Status::Done) && out.as_slice() == LINES.as_bytes() && failed == Err(WriteFault)
 }
 
 #[test]

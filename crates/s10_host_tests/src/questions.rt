@@ -4,7 +4,6 @@ use crate::refusing::Refusing;
 use s10_host::run_question;
 use s10_jobs::{BodyWords, Question, Status, Tries};
 use s10_wire::WriteFault;
-use std::alloc::Global;
 use std::net::Net;
 use std::test::Fail;
 
@@ -41,16 +40,15 @@ fn withdraw<'a>(tries: Tries, to: &'a str) -> Question<'a> {
 }
 
 /// Whether a question has this status and prints this line, on a writer that takes it alone.
-fn is_told<N: Net>(
-    alloc: Global,
-    net: &N,
+fn is_told<R: Net + Eprint + AllocGlobal>(
+    rt: &R,
     question: &Question<'_>,
     status: Status,
     line: &str,
 ) -> bool {
-    let mut out = Vec::new(alloc);
-    let (done, _link) = run_question(net, question, &mut out);
-    let (failed, _other) = run_question(net, question, &mut Refusing);
+    let mut out = Vec::new(rt.alloc());
+    let (done, _link) = run_question(rt, question, &mut out);
+    let (failed, _other) = run_question(rt, question, &mut Refusing);
     done == Ok(status) && out.as_slice() == line.as_bytes() && failed == Err(WriteFault)
 }
 
@@ -122,7 +120,7 @@ fn what_is_not_asked_has_its_line(rt: HostRuntime) -> Result<(), Fail> {
         ),
     ];
     for (question, status, line) in &cases {
-        assert!(rt; is_told(rt.alloc(), &rt, question, *status, line), "{line}");
+        assert!(rt; is_told(&rt, question, *status, line), "{line}");
     }
     Ok(())
 }

@@ -4,4 +4,5 @@ use Rattle.s10_host.proofs.loopback.ask_all.Given as goal
 
 -- the calls so far were done
 abbrev pub invariant-loop-body : goal.invariant-loop-body
-invariant-loop-body g l = HasDone l.fn.client l.client (take l.body-index l.bodies) (g.W.Write.contents l.fn.out) (g.W.Write.contents l.out)
+invariant-loop-body g l = HasDone l.fn.to l.fn.client l.client (take l.body-index l.bodies)
+    (g.L.Link.trace_of l.fn.link) (g.L.Link.trace_of l.link) (g.W.Write.contents l.fn.out) (g.W.Write.contents l.out)
