@@ -5,6 +5,7 @@ use Rattle.sqlite_trees.specs.declared.store.Store.{Ghosts}
 use Rattle.sqlite.specs.Held.{Held, state}
 use Rattle.sqlite.specs.State.{HasCleanDisk}
 use Rattle.s10_book.specs.declared.entry.Entry.{Entry}
+use Rattle.s10_schema.specs.Schema.{IsClosedSchema}
 use Rattle.s10_ledger.specs.Ledger.{Ledger, IsAnyLedger, IsHonest, history_in, history_of}
 use Rattle.s10_statements.specs.Settled.{WasSound}
 use Rattle.s10_host.specs.Audited.{IsFound}
@@ -13,9 +14,10 @@ use Rattle.s10_host.specs.Audited.{IsFound}
 pub found_calls : {S : Type 0} (g : Ghosts S) (before closed : Held S) (book : Ledger S) (count : ℕ) → closed ≡ book.conn
     → (HasCleanDisk (state g book.conn) → IsTrue (state g book.conn).is_open)
     → (HasCleanDisk (state g book.conn) → IsTrue (state g book.conn).is_open → IsHonest g book)
-    → (IsHonest g book → IsAnyLedger (state g before).now book.terms book.len book.day) → (IsHonest g book → history_in (state g book.conn).now ≡ history_in (state g before).now) → WasSound g before book.conn
+    → (IsHonest g book → IsAnyLedger (state g before).now book.terms book.len book.day)
+    → (IsHonest g book → IsClosedSchema (state g before).now.schema → (state g book.conn).now ≡ (state g before).now) → (IsHonest g book → history_in (state g book.conn).now ≡ history_in (state g before).now) → WasSound g before book.conn
     → (IsHonest g book → count ≡ length (history_of g book)) → IsFound g before closed (Ok count)
-found_calls g before closed book count same opened honest ledger history sound counts =
+found_calls g before closed book count same opened honest ledger shows history sound counts =
     let found : IsFound g before book.conn (Ok count) = record {
       sound = sound;
       opened = opened;
@@ -28,5 +30,6 @@ found_calls g before closed book count same opened honest ledger history sound c
             ledger = ledger kept;
             counted = counts kept ∙ ap (λ (h : List Entry). length h) (history kept);
           };
+      leaves = λ clean live. (shows (honest clean live), history (honest clean live));
     } in
     subst (λ c. IsFound g before c (Ok count)) (sym same) found

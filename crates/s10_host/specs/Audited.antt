@@ -7,6 +7,7 @@ use Rattle.sqlite.specs.State.{HasCleanDisk}
 use Rattle.s10_book.specs.Settings.{Terms}
 use Rattle.s10_wire.specs.Lines.{line_of}
 use Rattle.s10_rows.specs.declared.open_fault.OpenFault.{OpenFault}
+use Rattle.s10_schema.specs.Schema.{IsClosedSchema}
 use Rattle.s10_ledger.specs.Ledger.{IsAnyLedger, history_in}
 use Rattle.s10_statements.specs.Settled.{WasSound}
 use Rattle.s10_ledger.specs.Refusals.{IsOpeningRefusal}
@@ -27,12 +28,18 @@ abbrev pub IsFinding : Database → Result ℕ OpenFault → Type 0
 IsFinding db (Ok count) = HoldsCalls db count
 IsFinding db (Err fault) = IsOpeningRefusal db fault
 
+-- what is left of a database: it is as it was, or that of an earlier build completed, with its history
+abbrev pub IsLeft : Database → Database → Result ℕ OpenFault → Type 0
+IsLeft before after (Ok count) = (IsClosedSchema before.schema → after ≡ before) × (history_in after ≡ history_in before)
+IsLeft before after (Err fault) = after ≡ before
+
 -- what was found of the database that a connection showed, by the connection that the audit leaves: it holds where that
 -- one is open over disks that kept what they were given, and those are clean only where they were so before
 pub record IsFound {S : Type 0} (g : Ghosts S) (before left : Held S) (found : Result ℕ OpenFault) : Type 0 where
   pub sound : WasSound g before left
   pub opened : HasCleanDisk (state g left) → OnOk found (IsTrue (state g left).is_open)
   pub finding : HasCleanDisk (state g left) → IsTrue (state g left).is_open → IsFinding (state g before).now found
+  pub leaves : HasCleanDisk (state g left) → IsTrue (state g left).is_open → IsLeft (state g before).now (state g left).now found
 
 abbrev pub audit_line : Result ℕ OpenFault → List ℕ
 audit_line (Ok count) = line_of (codes "ledger") (codes "ok" ∷ decimal count ∷ [])

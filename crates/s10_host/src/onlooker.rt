@@ -33,7 +33,10 @@ impl<'a> Onlooker<'a> {
     // Why no ledger was made, where no statement failed.
     pub(crate) fn tell_place(&self, fault: OpenFault) {
         if fault == OpenFault::Store && !self.failed {
-            let _ = eprintln!(self.rt; "cannot make a ledger in {}: it has tables of its own", self.path);
+            let _ = eprintln!(self.rt;
+                "cannot make a ledger in {}: it has tables of its own",
+                self.path
+            );
         }
     }
 
