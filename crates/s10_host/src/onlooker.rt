@@ -7,9 +7,6 @@ use std::time::{Duration, Instant};
 /// How many rows are read between two looks at the clock.
 const STRIDE: u64 = 4096;
 
-/// How long an opening is silent.
-const SILENCE: Duration = Duration::from_secs(1);
-
 /// Tells standard error how far an opening is, once a second, and why a statement failed. The work goes on where
 /// standard error is closed.
 pub(crate) struct Onlooker<'a> {
@@ -46,7 +43,7 @@ impl<'a> Onlooker<'a> {
             return false;
         };
         match spoke.elapsed(self.rt) {
-            Ok(silent) => silent >= SILENCE,
+            Ok(silent) => silent >= Duration::from_secs(1),
             Err(_) => false,
         }
     }
