@@ -17,7 +17,7 @@ use Rattle.s10_ends.proofs.Whole.{Served-push, Served-nil}
 use Rattle.s10_jobs.specs.InputLines.{lines_of, without_return, delivery_in, deliveries_in, IsRefused, NoneRefused}
 use Rattle.s10_jobs.specs.LineReader.{ReadsByte, ReadsLine, BeginsLine}
 use Rattle.s10_jobs.specs.AnswerLines.{answer_line}
-use Rattle.s10_jobs.specs.Replay.{Shows, Ends, Replayed, StopsInLine}
+use Rattle.s10_jobs.specs.Replay.{Shows, Ends, Replayed}
 use Rattle.s10_jobs.specs.declared.line_reader.NextLine.TheVariants.{End, Whole, Long}
 use Rattle.s10_jobs.specs.declared.replay_fault.ReplayFault.{ReplayFault}
 use Rattle.s10_jobs.specs.declared.replay_fault.ReplayFault.TheVariants.{Line, Read, Write}

@@ -59,6 +59,7 @@ pub all_served : {S : Type 0} (IsStep : S → Result Served LinkFault → S → 
 all_served IsStep old new held now done count served same = record {
   turns = served.turns;
   lead = served.lead;
+  few = omega (arith, served.many, same);
   shows = (served.many ∙ same, served.written);
 }
 
@@ -67,17 +68,19 @@ pub served_to_no_day : {S : Type 0} (IsStep : S → Result Served LinkFault → 
 served_to_no_day IsStep old new held before now done count (Ok Failed) served few (is, line) = record {
   turns = served.turns;
   lead = served.lead;
+  few = omega (arith, served.many, few);
   shows = (omega (arith, served.many, few), Appends-trans held before now (flat_map turn_line served.turns) (codes "clock\n") served.written line);
 }
 served_to_no_day IsStep old new held before now done count (Ok Done) served few (is, line) = absurd cc
 served_to_no_day IsStep old new held before now done count (Ok status) served few (is, line) = absurd cc
-served_to_no_day IsStep old new held before now done count (Err fault) served few says = record { turns = served.turns; lead = served.lead; shows = tt }
+served_to_no_day IsStep old new held before now done count (Err fault) served few says = record { turns = served.turns; lead = served.lead; few = omega (arith, served.many, few); shows = tt }
 
 pub served_to_failure : {S : Type 0} (IsStep : S → Result Served LinkFault → S → Type 0) (old mid new : S) (held before now : Option (List ℕ)) (done count : ℕ) (Turns Line : Result Served LinkFault → Type 0) (result : Result Status WriteFault) (IsFault : WriteFault → Type 0)
-    → IsErrAnd result IsFault → ((turn : Result Served LinkFault) → Turns turn → IsStep mid turn new) → HasServed IsStep old mid held before done → ((turn : Result Served LinkFault) × Turns turn × Line turn) → Serves IsStep old new held now count result
-served_to_failure IsStep old mid new held before now done count Turns Line (Err fault) IsFault is step served (turn, turns, line) = record {
+    → IsErrAnd result IsFault → ((turn : Result Served LinkFault) → Turns turn → IsStep mid turn new) → HasServed IsStep old mid held before done → done < count → ((turn : Result Served LinkFault) × Turns turn × Line turn) → Serves IsStep old new held now count result
+served_to_failure IsStep old mid new held before now done count Turns Line (Err fault) IsFault is step served few (turn, turns, line) = record {
   turns = served.turns ++ turn ∷ [];
   lead = lead_more IsStep old served.turns mid new turn served.lead (step turn turns);
+  few = omega (arith, length_push served.turns turn, served.many, few);
   shows = tt;
 }
-served_to_failure IsStep old mid new held before now done count Turns Line (Ok status) IsFault is step served turns = absurd is
+served_to_failure IsStep old mid new held before now done count Turns Line (Ok status) IsFault is step served few turns = absurd is

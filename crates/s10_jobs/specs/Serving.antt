@@ -1,5 +1,5 @@
 -- The turns of a server on a link, one after another.
-use Rattle.std.specs.Prelude.{◌≡◌, ℕ, ◌<◌, List, [], ◌∷◌, ◌++◌, length, codes, Option, Some, Result, IfOk}
+use Rattle.std.specs.Prelude.{◌≡◌, ℕ, ◌<◌, ◌≤◌, List, [], ◌∷◌, ◌++◌, length, codes, Option, Some, Result, IfOk}
 use Rattle.std.specs.List.{flat_map}
 use Rattle.std.specs.Io.KnownBytes.{Appends}
 use Rattle.s10_link.specs.declared.trace.Trace.{Trace}
@@ -39,4 +39,5 @@ ShowsTurns held now turns count Failed = (length turns < count) × Appends held 
 pub record Serves {S : Type 0} (IsStep : S → Result Served LinkFault → S → Type 0) (old new : S) (held now : Option (List ℕ)) (count : ℕ) (result : Result Status WriteFault) : Type 0 where
   pub turns : List (Result Served LinkFault)
   pub lead : Lead IsStep old turns new
+  pub few : length turns ≤ count
   pub shows : IfOk result (ShowsTurns held now turns count)

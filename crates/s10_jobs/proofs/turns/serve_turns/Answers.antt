@@ -39,4 +39,4 @@ returns-in_err-serve_turn-clause-turns g c =
     (λ turn. OnOk c.serve_turn.result (Appends (g.W.Write.contents c.loop-done.out) (g.W.Write.contents c.serve_turn.new.out) (turn_line turn)))
     c.from_residual.result _ c.from_residual.ensures.1
     (λ turn does. (c.in-Some.today, given_day c.args.day c.day_or_today.result c.in-Some.today c.day_or_today.ensures c.in-Some.is, does))
-    c.loop-done.invariant c.serve_turn.ensures
+    c.loop-done.invariant (omega arith) c.serve_turn.ensures
