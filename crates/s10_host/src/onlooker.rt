@@ -9,6 +9,7 @@ const STRIDE: u64 = 4096;
 
 /// Tells standard error how far an opening is, once a second, and why a statement failed. The work goes on where
 /// standard error is closed.
+#[derive(Drop)]
 pub(crate) struct Onlooker<'a> {
     rt: &'a HostRuntime,
     path: &'a str,

@@ -1,11 +1,9 @@
 -- What is printed of a report.
-use Rattle.std.specs.Prelude.{◌≡◌, ℕ, ◌⊎◌, List, ◌++◌, take, codes, Option}
+use Rattle.std.specs.Prelude.{ℕ, ◌⊎◌, List, ◌++◌, take, codes, Option}
 use Rattle.std.specs.Io.KnownBytes.{Appends}
 use Rattle.s10_wire.specs.Lines.{line_of}
 use Rattle.s10_book.specs.declared.entry.Entry.{Entry}
 use Rattle.s10_book.specs.declared.book_fault.BookFault.{BookFault}
-use Rattle.s10_book.specs.declared.faults.Faults.{Faults}
-use Rattle.s10_book.specs.BookFault.{FaultCounts}
 use Rattle.s10_book.specs.Settings.{Terms}
 use Rattle.s10_reports.specs.Reports.{joined, ranges_report, issues_report}
 use Rattle.s10_jobs.specs.declared.reporting.Report.{Report}
@@ -35,16 +33,3 @@ PrintsReport old new lines Done = Appends old new (joined lines)
 PrintsReport old new lines Refused = ⊥
 PrintsReport old new lines CommandLine = ⊥
 PrintsReport old new lines Failed = EndsByBook old new lines ⊎ EndsByWriter new
-
--- a line of a fault, which the book counted
-abbrev pub TellsFault : Faults → Faults → Option (List ℕ) → Type 0
-TellsFault was now new =
-    (fault : BookFault) × FaultCounts fault was now
-    × ((before : Option (List ℕ)) × Appends before new (line_of (codes "faulted") (book_fault_words fault)))
-
--- a report that ended early because of its book says so, and in no other was there a fault
-abbrev pub TellsFaults : Faults → Faults → Option (List ℕ) → Status → Type 0
-TellsFaults was now new Done = now ≡ was
-TellsFaults was now new Refused = ⊥
-TellsFaults was now new CommandLine = ⊥
-TellsFaults was now new Failed = TellsFault was now new ⊎ ((now ≡ was) × EndsByWriter new)

