@@ -118,7 +118,7 @@ module _ (S : RattleType) (first : Ghosts S.Denot) where
   -- the report of the ledger's history was written, as far as the book and the writer went
   abbrev pub Writes : Report → FileLedger S first → FileLedger S first → Option (List ℕ) → Option (List ℕ) → Result Status WriteFault → Type 0
   Writes report opened reported old new result =
-      IsHonest over_files reported → IfOk result (PrintsReport old new (report_lines report (history_in (file_state opened.conn).now) opened.terms))
+      IsHonest over_files reported → IfOk result (PrintsReport opened.faults reported.faults old new (report_lines report (history_in (file_state opened.conn).now) opened.terms))
 
   -- and the ledger was put away in these files
   pub record IsReported (opened : FileLedger S first) (report : Report) (old new : Option (List ℕ)) (result : Result Status WriteFault) (files : ClosedFiles S first) : Type 0 where

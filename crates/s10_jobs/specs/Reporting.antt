@@ -1,9 +1,11 @@
 -- What is printed of a report.
-use Rattle.std.specs.Prelude.{ℕ, ◌⊎◌, List, ◌++◌, take, codes, Option}
+use Rattle.std.specs.Prelude.{◌≡◌, ℕ, ◌⊎◌, List, ◌++◌, take, codes, Option}
 use Rattle.std.specs.Io.KnownBytes.{Appends}
 use Rattle.s10_wire.specs.Lines.{line_of}
 use Rattle.s10_book.specs.declared.entry.Entry.{Entry}
 use Rattle.s10_book.specs.declared.book_fault.BookFault.{BookFault}
+use Rattle.s10_book.specs.declared.faults.Faults.{Faults}
+use Rattle.s10_book.specs.BookFault.{FaultCounts}
 use Rattle.s10_book.specs.Settings.{Terms}
 use Rattle.s10_reports.specs.Reports.{joined, ranges_report, issues_report}
 use Rattle.s10_jobs.specs.declared.reporting.Report.{Report}
@@ -17,19 +19,19 @@ abbrev pub report_lines : Report → List Entry → Terms → List (List ℕ)
 report_lines (Ranges day) h t = ranges_report h day t.interval
 report_lines Issues h t = issues_report h
 
--- so many first lines of the report, and the fault of the book that ended it
-abbrev pub EndsByBook : Option (List ℕ) → Option (List ℕ) → List (List ℕ) → Type 0
-EndsByBook old new lines =
-    (count : ℕ) × (fault : BookFault)
+-- so many first lines of the report, and the fault of the book that ended it, which the book counted
+abbrev pub EndsByBook : Faults → Faults → Option (List ℕ) → Option (List ℕ) → List (List ℕ) → Type 0
+EndsByBook was now old new lines =
+    (count : ℕ) × (fault : BookFault) × FaultCounts fault was now
     × Appends old new (joined (take count lines) ++ line_of (codes "faulted") (book_fault_words fault))
 
--- the writer failed in the report, and took its last line
-abbrev pub EndsByWriter : Option (List ℕ) → Type 0
-EndsByWriter new = (before : Option (List ℕ)) × Appends before new (codes "output\n")
+-- the writer failed in the report and not the book, and took its last line
+abbrev pub EndsByWriter : Faults → Faults → Option (List ℕ) → Type 0
+EndsByWriter was now new = (now ≡ was) × ((before : Option (List ℕ)) × Appends before new (codes "output\n"))
 
--- the whole report where it is done
-abbrev pub PrintsReport : Option (List ℕ) → Option (List ℕ) → List (List ℕ) → Status → Type 0
-PrintsReport old new lines Done = Appends old new (joined lines)
-PrintsReport old new lines Refused = ⊥
-PrintsReport old new lines CommandLine = ⊥
-PrintsReport old new lines Failed = EndsByBook old new lines ⊎ EndsByWriter new
+-- the whole report where it is done, by the faults that the book had counted before it and has behind it
+abbrev pub PrintsReport : Faults → Faults → Option (List ℕ) → Option (List ℕ) → List (List ℕ) → Status → Type 0
+PrintsReport was now old new lines Done = (now ≡ was) × Appends old new (joined lines)
+PrintsReport was now old new lines Refused = ⊥
+PrintsReport was now old new lines CommandLine = ⊥
+PrintsReport was now old new lines Failed = EndsByBook was now old new lines ⊎ EndsByWriter was now new

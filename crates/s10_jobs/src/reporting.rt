@@ -48,7 +48,7 @@ pub fn write_report<B: Book, W: Write>(
     out: &mut W,
 ) -> Result<Status, WriteFault>
     ensures keeps { Keeps B.history B.terms B.honest book.old book.new }
-    ensures written { B.honest book.new → IfOk result (PrintsReport (W.contents out.old) (W.contents out.new)
+    ensures written { B.honest book.new → IfOk result (PrintsReport (B.faults book.old) (B.faults book.new) (W.contents out.old) (W.contents out.new)
         (report_lines report (B.history book.old) (B.terms book.old))) }
 {
     let written = match report {
