@@ -1,7 +1,7 @@
 //! The program `s10`: its words, its standard input and output, and its exit status.
 #![tactic(auto)]
 
-use s10_cli::{parse_job, run_buffered};
+use s10_cli::{parse_job, run_buffered, written_out};
 use s10_host::run_job;
 use s10_jobs::Status;
 use s10_wire::WriteFault;
@@ -23,8 +23,8 @@ fn run(rt: &HostRuntime) -> io::Result<u8> {
     let words: Vec<String> = std::env::args(rt)?.collect(rt.alloc())?;
     let words = words.as_slice();
     match run_buffered(rt, words, rt.reader(), io::writer(rt))? {
-        Some(status) => Ok(status),
-        None => run_words(rt, words, io::writer(rt)),
+        (Some(status), _output) => Ok(status),
+        (None, output) => run_words(rt, words, output),
     }
 }
 
@@ -39,7 +39,7 @@ fn run_words<S: AsStr, O: Write + Drop>(
     };
     let mut output = BufWriter::new(rt.alloc(), output)?;
     let (done, _left) = run_job(rt, &job, Unknown, &mut output);
-    output.flush()?;
+    written_out(output)?;
     match done {
         Ok(status) => Ok(status as u8),
         Err(WriteFault) => Err(io::Error::from(ErrorKind::WriteZero)),

@@ -1,4 +1,9 @@
 //! The subcommand `audit`.
+ghost use Rattle.std.specs.Prelude.{codes, IfOk, IfSome};
+ghost use Rattle.s10_cli.specs.Grammar.{ReadsAs, audit_shape};
+ghost use Rattle.s10_cli.specs.Options.{rows_in};
+ghost use Rattle.s10_cli.specs.Jobs.{AsksFor};
+
 use crate::builders::{named, with};
 use crate::found::text_of;
 use crate::options::ledger_option;
@@ -7,7 +12,9 @@ use s10_jobs::Job;
 use std::alloc::{AllocError, Global};
 
 /// What `audit` may say.
-pub fn audit_command<'a>(alloc: Global) -> Result<Command<'a>, AllocError> {
+pub fn audit_command<'a>(alloc: Global) -> Result<Command<'a>, AllocError>
+    ensures { IfOk result (λ command. ReadsAs command audit_shape) }
+{
     let command = named(
         alloc,
         "audit",
@@ -29,7 +36,9 @@ Example:
   ledger ok 9";
 
 /// The audit that the words ask for.
-pub fn audit_job<'a>(found: &ArgMatches<'a>) -> Option<Job<'a>> {
+pub fn audit_job<'a>(found: &ArgMatches<'a>) -> Option<Job<'a>>
+    ensures { IfSome result (AsksFor (codes "audit") (rows_in found.now)) }
+{
     Some(Job::Audit {
         ledger: text_of(found, "ledger")?,
     })

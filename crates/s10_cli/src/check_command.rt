@@ -1,10 +1,15 @@
 //! The subcommand `check`.
+ghost use Rattle.std.specs.Prelude.{IfOk};
+ghost use Rattle.s10_cli.specs.Grammar.{ReadsAs, check_shape};
+
 use crate::builders::{flag, named, with, word};
 use clap::Command;
 use std::alloc::{AllocError, Global};
 
 /// What `check` may say.
-pub fn check_command<'a>(alloc: Global) -> Result<Command<'a>, AllocError> {
+pub fn check_command<'a>(alloc: Global) -> Result<Command<'a>, AllocError>
+    ensures { IfOk result (λ command. ReadsAs command check_shape) }
+{
     let command = named(
         alloc,
         "check",

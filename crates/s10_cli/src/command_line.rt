@@ -1,6 +1,13 @@
 //! A command line, from its words to its exit status.
+ghost use Rattle.std.specs.Prelude.{◌≡◌, ℕ, List, Option, map, IfOk};
+ghost use Rattle.std.specs.Io.KnownBytes.{Keeps};
+ghost use Rattle.clap.specs.Words.{kind_of, subcommand_rows_of};
+ghost use Rattle.s10_cli.specs.Options.{rows_in};
+ghost use Rattle.s10_cli.specs.CommandLine.{IsSubcommandDone, IsTold, RunsLine, exit_status, word};
+
+use crate::buffered::written_out;
 use crate::command::parse;
-use crate::found::{settings_of, text_of};
+use crate::found::{flag_of, settings_of, text_of};
 use clap::error::ErrorKind;
 use clap::{ArgMatches, Error};
 use s10_jobs::{Status, check, make, run_replay, show};
@@ -22,32 +29,47 @@ pub fn run_line<R: Eprint + AllocGlobal, S: AsStr, I: Read, O: Write>(
     words: &[S],
     input: &mut I,
     output: &mut O,
-) -> Option<u8> {
-    let done = match parse(rt.alloc(), words) {
-        Ok(matches) => run_subcommand(rt.alloc(), &matches, input, output)?,
-        Err(error) => tell(rt, &error, output),
-    };
-    let status = match done {
-        Ok(status) => status,
-        Err(WriteFault) => Status::Failed,
-    };
-    Some(status as u8)
+) -> Option<u8>
+    ensures { RunsLine (map S.text words.now) (I.remaining input.old) (O.contents output.old) (O.contents output.new) result }
+{
+    match parse(rt.alloc(), words) {
+        Ok(matches) => {
+            let done = run_subcommand(rt.alloc(), &matches, input, output)?;
+            Some(status_of(done))
+        }
+        Err(error) => Some(status_of(tell(rt, &error, output))),
+    }
 }
 
-/// Runs a command line over buffers, and writes out what is left in them. `None` where it asks for a
-/// job of the program's.
-pub fn run_buffered<R, S, I, O>(rt: &R, words: &[S], input: I, output: O) -> io::Result<Option<u8>>
+fn status_of(done: Result<Status, WriteFault>) -> u8
+    ensures { result ≡ exit_status done }
+{
+    match done {
+        Ok(status) => status as u8,
+        Err(WriteFault) => Status::Failed as u8,
+    }
+}
+
+/// Runs a command line over buffers, writes out what is left in them, and hands the output back with the exit status.
+/// `None` where it asks for a job of the program's.
+pub fn run_buffered<R, S, I, O>(
+    rt: &R,
+    words: &[S],
+    input: I,
+    output: O,
+) -> io::Result<(Option<u8>, O)>
 where
     R: Eprint + AllocGlobal,
     S: AsStr,
     I: Read + Drop,
     O: Write + Drop,
+    ensures { IfOk result (λ ended. (printed : Option (List ℕ))
+        × RunsLine (map S.text words.now) (I.remaining input) (O.contents output) printed ended.0 × Keeps printed (O.contents ended.1)) }
 {
     let mut input = BufReader::new(rt.alloc(), input)?;
     let mut output = BufWriter::new(rt.alloc(), output)?;
     let status = run_line(rt, words, &mut input, &mut output);
-    output.flush()?;
-    Ok(status)
+    Ok((status, written_out(output)?))
 }
 
 fn run_subcommand<I: Read, O: Write>(
@@ -55,11 +77,13 @@ fn run_subcommand<I: Read, O: Write>(
     matches: &ArgMatches<'_>,
     input: &mut I,
     output: &mut O,
-) -> Option<Result<Status, WriteFault>> {
+) -> Option<Result<Status, WriteFault>>
+    ensures { IsSubcommandDone (I.remaining input.old) (O.contents output.old) (O.contents output.new) result (subcommand_rows_of matches.now) }
+{
     match matches.subcommand() {
         Some(("check", found)) => {
             let text = value_of(found, "text");
-            Some(check(text, found.get_flag("label"), output))
+            Some(check(text, flag_of(found, "label"), output))
         }
         Some(("make", found)) => {
             let service = value_of(found, "service");
@@ -80,7 +104,9 @@ fn run_subcommand<I: Read, O: Write>(
 }
 
 // The value of a required argument, which a parsed command line has.
-fn value_of<'a>(found: &ArgMatches<'a>, id: &str) -> &'a str {
+fn value_of<'a>(found: &ArgMatches<'a>, id: &str) -> &'a str
+    ensures { result.now ≡ word (rows_in found.now) id.now }
+{
     match text_of(found, id) {
         Some(value) => value,
         None => "",
@@ -88,7 +114,9 @@ fn value_of<'a>(found: &ArgMatches<'a>, id: &str) -> &'a str {
 }
 
 // Prints help, the version or a fault of the command line.
-fn tell<R: Eprint, O: Write>(rt: &R, error: &Error, output: &mut O) -> Result<Status, WriteFault> {
+fn tell<R: Eprint, O: Write>(rt: &R, error: &Error, output: &mut O) -> Result<Status, WriteFault>
+    ensures { IsTold (kind_of error.now) (O.contents output.old) (O.contents output.new) result }
+{
     if matches!(error.kind(), ErrorKind::OutOfMemory) {
         write_text(b"memory\n", output)?;
         return Ok(Status::Failed);

@@ -1,4 +1,9 @@
 //! The subcommand `create`.
+ghost use Rattle.std.specs.Prelude.{codes, IfOk, IfSome};
+ghost use Rattle.s10_cli.specs.Grammar.{ReadsAs, create_shape};
+ghost use Rattle.s10_cli.specs.Options.{rows_in};
+ghost use Rattle.s10_cli.specs.Jobs.{AsksFor};
+
 use crate::builders::{named, with};
 use crate::found::{settings_of, text_of};
 use crate::options::{interval_option, ledger_option, limit_option};
@@ -7,7 +12,9 @@ use s10_jobs::Job;
 use std::alloc::{AllocError, Global};
 
 /// What `create` may say.
-pub fn create_command<'a>(alloc: Global) -> Result<Command<'a>, AllocError> {
+pub fn create_command<'a>(alloc: Global) -> Result<Command<'a>, AllocError>
+    ensures { IfOk result (λ command. ReadsAs command create_shape) }
+{
     let command = named(
         alloc,
         "create",
@@ -30,7 +37,9 @@ Example:
   created";
 
 /// The ledger that the words ask for.
-pub fn create_job<'a>(found: &ArgMatches<'a>) -> Option<Job<'a>> {
+pub fn create_job<'a>(found: &ArgMatches<'a>) -> Option<Job<'a>>
+    ensures { IfSome result (AsksFor (codes "create") (rows_in found.now)) }
+{
     Some(Job::Create {
         ledger: text_of(found, "ledger")?,
         settings: settings_of(found)?,

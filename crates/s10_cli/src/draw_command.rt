@@ -1,4 +1,9 @@
 //! The subcommand `draw`.
+ghost use Rattle.std.specs.Prelude.{codes, IfOk, IfSome};
+ghost use Rattle.s10_cli.specs.Grammar.{ReadsAs, draw_shape};
+ghost use Rattle.s10_cli.specs.Options.{rows_in};
+ghost use Rattle.s10_cli.specs.Jobs.{AsksFor};
+
 use crate::builders::{named, with};
 use crate::found::{count_of, number_of, text_of, tries_of};
 use crate::options::{count_option, country_option, service_option, tries_option};
@@ -8,7 +13,9 @@ use s10_jobs::{BodyWords, Job, Question};
 use std::alloc::{AllocError, Global};
 
 /// What `draw` may say.
-pub fn draw_command<'a>(alloc: Global) -> Result<Command<'a>, AllocError> {
+pub fn draw_command<'a>(alloc: Global) -> Result<Command<'a>, AllocError>
+    ensures { IfOk result (λ command. ReadsAs command draw_shape) }
+{
     let command = named(
         alloc,
         "draw",
@@ -39,7 +46,9 @@ Example:
   reply draw-many customer 7 number 2 RA GB 2 done day 20000 RA000000014GB RA000000028GB";
 
 /// The request that the words ask.
-pub fn draw_job<'a>(found: &ArgMatches<'a>) -> Option<Job<'a>> {
+pub fn draw_job<'a>(found: &ArgMatches<'a>) -> Option<Job<'a>>
+    ensures { IfSome result (AsksFor (codes "draw") (rows_in found.now)) }
+{
     let service = text_of(found, "service")?;
     let country = text_of(found, "country")?;
     let body = match count_of(found) {

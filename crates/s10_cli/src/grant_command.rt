@@ -1,4 +1,9 @@
 //! The subcommand `grant`.
+ghost use Rattle.std.specs.Prelude.{codes, IfOk, IfSome};
+ghost use Rattle.s10_cli.specs.Grammar.{ReadsAs, grant_shape};
+ghost use Rattle.s10_cli.specs.Options.{rows_in};
+ghost use Rattle.s10_cli.specs.Jobs.{AsksFor};
+
 use crate::builders::{named, number_option, serial_option, with};
 use crate::found::{POST, number_of, text_of, tries_of};
 use crate::options::{country_option, service_option, tries_option};
@@ -9,7 +14,9 @@ use s10_jobs::{BodyWords, Job, Question};
 use std::alloc::{AllocError, Global};
 
 /// What `grant` may say.
-pub fn grant_command<'a>(alloc: Global) -> Result<Command<'a>, AllocError> {
+pub fn grant_command<'a>(alloc: Global) -> Result<Command<'a>, AllocError>
+    ensures { IfOk result (λ command. ReadsAs command grant_shape) }
+{
     let command = named(
         alloc,
         "grant",
@@ -47,7 +54,9 @@ Example:
   reply grant customer 0 number 1 holder 7 RA GB 00000000 00000002 done range 1";
 
 /// The request that the words ask.
-pub fn grant_job<'a>(found: &ArgMatches<'a>) -> Option<Job<'a>> {
+pub fn grant_job<'a>(found: &ArgMatches<'a>) -> Option<Job<'a>>
+    ensures { IfSome result (AsksFor (codes "grant") (rows_in found.now)) }
+{
     let body = BodyWords::Grant {
         holder: number_of(found, "holder")?,
         service: text_of(found, "service")?,

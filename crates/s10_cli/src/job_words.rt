@@ -1,4 +1,7 @@
 //! Jobs, as words of a command line.
+ghost use Rattle.std.specs.Prelude.{map, IfSome};
+ghost use Rattle.s10_cli.specs.Jobs.{AsksInWords};
+
 use crate::audit_command::audit_job;
 use crate::command::parse;
 use crate::create_command::create_job;
@@ -16,7 +19,9 @@ use std::convert::AsStr;
 
 /// What words that `run_line` left to the program ask of it. `words` begins with the program's
 /// name. `None` where memory runs out, and for any other words.
-pub fn parse_job<'a, S: AsStr>(alloc: Global, words: &'a [S]) -> Option<Job<'a>> {
+pub fn parse_job<'a, S: AsStr>(alloc: Global, words: &'a [S]) -> Option<Job<'a>>
+    ensures { IfSome result (AsksInWords (map S.text words.entry.now)) }
+{
     let matches = parse(alloc, words).ok()?;
     let (name, found) = matches.subcommand()?;
     match name {

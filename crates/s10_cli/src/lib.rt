@@ -2,6 +2,7 @@
 #![tactic(auto)]
 
 mod audit_command;
+mod buffered;
 mod builders;
 mod check_command;
 mod command;
@@ -23,5 +24,6 @@ mod show_command;
 mod void_command;
 mod withdraw_command;
 
+pub use buffered::written_out;
 pub use command_line::{run_buffered, run_line};
 pub use job_words::parse_job;

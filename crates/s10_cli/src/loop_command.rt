@@ -1,4 +1,9 @@
 //! The subcommand `loop`.
+ghost use Rattle.std.specs.Prelude.{codes, IfOk};
+ghost use Rattle.s10_cli.specs.Grammar.{ReadsAs, loop_shape};
+ghost use Rattle.s10_cli.specs.Options.{rows_in};
+ghost use Rattle.s10_cli.specs.Jobs.{AsksFor};
+
 use crate::builders::{named, with};
 use crate::found::number_of;
 use crate::options::day_option;
@@ -7,7 +12,9 @@ use s10_jobs::Job;
 use std::alloc::{AllocError, Global};
 
 /// What `loop` may say.
-pub fn loop_command<'a>(alloc: Global) -> Result<Command<'a>, AllocError> {
+pub fn loop_command<'a>(alloc: Global) -> Result<Command<'a>, AllocError>
+    ensures { IfOk result (λ command. ReadsAs command loop_shape) }
+{
     let command = named(
         alloc,
         "loop",
@@ -36,7 +43,9 @@ Example:
   reply query customer 7 number 4 RA000000005GB done voided 20000";
 
 /// The loop that the words ask for.
-pub fn loop_job<'a>(found: &ArgMatches<'a>) -> Job<'a> {
+pub fn loop_job<'a>(found: &ArgMatches<'a>) -> Job<'a>
+    ensures { AsksFor (codes "loop") (rows_in found.now) result }
+{
     Job::Loop {
         day: number_of(found, "day"),
     }

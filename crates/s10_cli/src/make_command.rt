@@ -1,10 +1,15 @@
 //! The subcommand `make`.
+ghost use Rattle.std.specs.Prelude.{IfOk};
+ghost use Rattle.s10_cli.specs.Grammar.{ReadsAs, make_shape};
+
 use crate::builders::{named, with, word};
 use clap::Command;
 use std::alloc::{AllocError, Global};
 
 /// What `make` may say.
-pub fn make_command<'a>(alloc: Global) -> Result<Command<'a>, AllocError> {
+pub fn make_command<'a>(alloc: Global) -> Result<Command<'a>, AllocError>
+    ensures { IfOk result (λ command. ReadsAs command make_shape) }
+{
     let command = named(
         alloc,
         "make",

@@ -1,10 +1,15 @@
 //! Options that several subcommands have.
+ghost use Rattle.std.specs.Prelude.{codes};
+ghost use Rattle.s10_cli.specs.Grammar.{Follows, a_number, a_text, an_option, between, day, interval, limit, tries};
+
 use crate::builders::{number_option, option, text_option};
 use clap::{Arg, value_parser};
 use std::alloc::Global;
 
 /// The file of a ledger.
-pub fn ledger_option<'a>(alloc: Global) -> Arg<'a> {
+pub fn ledger_option<'a>(alloc: Global) -> Arg<'a>
+    ensures { Follows result (a_text (codes "ledger")) }
+{
     text_option(
         alloc,
         "ledger",
@@ -14,7 +19,9 @@ pub fn ledger_option<'a>(alloc: Global) -> Arg<'a> {
 }
 
 /// The reuse interval of a ledger.
-pub fn interval_option<'a>(alloc: Global) -> Arg<'a> {
+pub fn interval_option<'a>(alloc: Global) -> Arg<'a>
+    ensures { Follows result interval }
+{
     option(
         alloc,
         "interval",
@@ -25,7 +32,9 @@ pub fn interval_option<'a>(alloc: Global) -> Arg<'a> {
 }
 
 /// The limit of a ledger.
-pub fn limit_option<'a>(alloc: Global) -> Arg<'a> {
+pub fn limit_option<'a>(alloc: Global) -> Arg<'a>
+    ensures { Follows result limit }
+{
     option(
         alloc,
         "limit",
@@ -36,7 +45,9 @@ pub fn limit_option<'a>(alloc: Global) -> Arg<'a> {
 }
 
 /// The address of the server that is asked.
-pub fn to_option<'a>(alloc: Global) -> Arg<'a> {
+pub fn to_option<'a>(alloc: Global) -> Arg<'a>
+    ensures { Follows result (a_text (codes "to")) }
+{
     text_option(
         alloc,
         "to",
@@ -46,7 +57,9 @@ pub fn to_option<'a>(alloc: Global) -> Arg<'a> {
 }
 
 /// The customer that asks.
-pub fn customer_option<'a>(alloc: Global) -> Arg<'a> {
+pub fn customer_option<'a>(alloc: Global) -> Arg<'a>
+    ensures { Follows result (a_number (codes "customer")) }
+{
     number_option(
         alloc,
         "customer",
@@ -55,7 +68,9 @@ pub fn customer_option<'a>(alloc: Global) -> Arg<'a> {
 }
 
 /// The number of a request.
-pub fn request_option<'a>(alloc: Global) -> Arg<'a> {
+pub fn request_option<'a>(alloc: Global) -> Arg<'a>
+    ensures { Follows result (a_number (codes "number")) }
+{
     number_option(
         alloc,
         "number",
@@ -64,7 +79,9 @@ pub fn request_option<'a>(alloc: Global) -> Arg<'a> {
 }
 
 /// A service indicator.
-pub fn service_option<'a>(alloc: Global) -> Arg<'a> {
+pub fn service_option<'a>(alloc: Global) -> Arg<'a>
+    ensures { Follows result (a_text (codes "service")) }
+{
     text_option(
         alloc,
         "service",
@@ -74,7 +91,9 @@ pub fn service_option<'a>(alloc: Global) -> Arg<'a> {
 }
 
 /// A country code.
-pub fn country_option<'a>(alloc: Global) -> Arg<'a> {
+pub fn country_option<'a>(alloc: Global) -> Arg<'a>
+    ensures { Follows result (a_text (codes "country")) }
+{
     text_option(
         alloc,
         "country",
@@ -84,7 +103,9 @@ pub fn country_option<'a>(alloc: Global) -> Arg<'a> {
 }
 
 /// An identifier.
-pub fn id_option<'a>(alloc: Global) -> Arg<'a> {
+pub fn id_option<'a>(alloc: Global) -> Arg<'a>
+    ensures { Follows result (a_text (codes "id")) }
+{
     text_option(
         alloc,
         "id",
@@ -94,7 +115,9 @@ pub fn id_option<'a>(alloc: Global) -> Arg<'a> {
 }
 
 /// How many identifiers are drawn in one request.
-pub fn count_option<'a>(alloc: Global) -> Arg<'a> {
+pub fn count_option<'a>(alloc: Global) -> Arg<'a>
+    ensures { Follows result (between 1 16 (an_option (codes "count"))) }
+{
     option(
         alloc,
         "count",
@@ -105,7 +128,9 @@ pub fn count_option<'a>(alloc: Global) -> Arg<'a> {
 }
 
 /// How often a call is tried.
-pub fn tries_option<'a>(alloc: Global) -> Arg<'a> {
+pub fn tries_option<'a>(alloc: Global) -> Arg<'a>
+    ensures { Follows result tries }
+{
     option(
         alloc,
         "tries",
@@ -117,6 +142,8 @@ pub fn tries_option<'a>(alloc: Global) -> Arg<'a> {
 }
 
 /// A day, which the clock gives where it is left out.
-pub fn day_option<'a>(alloc: Global, help: &'a str) -> Arg<'a> {
+pub fn day_option<'a>(alloc: Global, help: &'a str) -> Arg<'a>
+    ensures { Follows result day }
+{
     option(alloc, "day", "D", help).value_parser(value_parser!(u32))
 }

@@ -1,4 +1,9 @@
 //! The subcommand `query`.
+ghost use Rattle.std.specs.Prelude.{codes, IfOk, IfSome};
+ghost use Rattle.s10_cli.specs.Grammar.{ReadsAs, query_shape};
+ghost use Rattle.s10_cli.specs.Options.{rows_in};
+ghost use Rattle.s10_cli.specs.Jobs.{AsksFor};
+
 use crate::builders::{named, with};
 use crate::found::{number_of, text_of, tries_of};
 use crate::options::{id_option, tries_option};
@@ -8,7 +13,9 @@ use s10_jobs::{BodyWords, Job, Question};
 use std::alloc::{AllocError, Global};
 
 /// What `query` may say.
-pub fn query_command<'a>(alloc: Global) -> Result<Command<'a>, AllocError> {
+pub fn query_command<'a>(alloc: Global) -> Result<Command<'a>, AllocError>
+    ensures { IfOk result (λ command. ReadsAs command query_shape) }
+{
     let command = named(
         alloc,
         "query",
@@ -34,7 +41,9 @@ Example:
   reply query customer 7 number 4 RA000000005GB done voided 20000";
 
 /// The request that the words ask.
-pub fn query_job<'a>(found: &ArgMatches<'a>) -> Option<Job<'a>> {
+pub fn query_job<'a>(found: &ArgMatches<'a>) -> Option<Job<'a>>
+    ensures { IfSome result (AsksFor (codes "query") (rows_in found.now)) }
+{
     let body = BodyWords::Query {
         id: text_of(found, "id")?,
     };

@@ -1,11 +1,16 @@
 //! The subcommand `replay`.
+ghost use Rattle.std.specs.Prelude.{IfOk};
+ghost use Rattle.s10_cli.specs.Grammar.{ReadsAs, replay_shape};
+
 use crate::builders::{named, with};
 use crate::options::{interval_option, limit_option};
 use clap::Command;
 use std::alloc::{AllocError, Global};
 
 /// What `replay` may say.
-pub fn replay_command<'a>(alloc: Global) -> Result<Command<'a>, AllocError> {
+pub fn replay_command<'a>(alloc: Global) -> Result<Command<'a>, AllocError>
+    ensures { IfOk result (λ command. ReadsAs command replay_shape) }
+{
     let command = named(
         alloc,
         "replay",

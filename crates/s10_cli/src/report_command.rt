@@ -1,13 +1,20 @@
 //! The subcommand `report`.
+ghost use Rattle.std.specs.Prelude.{codes, IfOk, IfSome};
+ghost use Rattle.s10_cli.specs.Grammar.{ReadsAs, report_shape};
+ghost use Rattle.s10_cli.specs.Options.{rows_in};
+ghost use Rattle.s10_cli.specs.Jobs.{AsksFor};
+
 use crate::builders::{flag, named, with};
-use crate::found::{number_of, text_of};
+use crate::found::{flag_of, number_of, text_of};
 use crate::options::{day_option, ledger_option};
 use clap::{ArgMatches, Command};
 use s10_jobs::Job;
 use std::alloc::{AllocError, Global};
 
 /// What `report` may say.
-pub fn report_command<'a>(alloc: Global) -> Result<Command<'a>, AllocError> {
+pub fn report_command<'a>(alloc: Global) -> Result<Command<'a>, AllocError>
+    ensures { IfOk result (λ command. ReadsAs command report_shape) }
+{
     let command = named(
         alloc,
         "report",
@@ -47,10 +54,12 @@ Example:
   1 7 RA GB 00000000 00000002 3 0 1";
 
 /// The report that the words ask for.
-pub fn report_job<'a>(found: &ArgMatches<'a>) -> Option<Job<'a>> {
+pub fn report_job<'a>(found: &ArgMatches<'a>) -> Option<Job<'a>>
+    ensures { IfSome result (AsksFor (codes "report") (rows_in found.now)) }
+{
     Some(Job::Report {
         ledger: text_of(found, "ledger")?,
-        is_of_issues: found.get_flag("issues"),
+        is_of_issues: flag_of(found, "issues"),
         day: number_of(found, "day"),
     })
 }

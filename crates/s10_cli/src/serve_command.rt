@@ -1,4 +1,9 @@
 //! The subcommand `serve`.
+ghost use Rattle.std.specs.Prelude.{codes, IfOk, IfSome};
+ghost use Rattle.s10_cli.specs.Grammar.{ReadsAs, serve_shape};
+ghost use Rattle.s10_cli.specs.Options.{rows_in};
+ghost use Rattle.s10_cli.specs.Jobs.{AsksFor};
+
 use crate::builders::{named, number_option, text_option, with};
 use crate::found::{number_of, text_of};
 use crate::options::{day_option, ledger_option};
@@ -7,7 +12,9 @@ use s10_jobs::Job;
 use std::alloc::{AllocError, Global};
 
 /// What `serve` may say.
-pub fn serve_command<'a>(alloc: Global) -> Result<Command<'a>, AllocError> {
+pub fn serve_command<'a>(alloc: Global) -> Result<Command<'a>, AllocError>
+    ensures { IfOk result (λ command. ReadsAs command serve_shape) }
+{
     let command = named(
         alloc,
         "serve",
@@ -60,7 +67,9 @@ Example:
   replied 533101820000000700000001524147420000004e2052413030303030303030354742";
 
 /// The serving that the words ask for.
-pub fn serve_job<'a>(found: &ArgMatches<'a>) -> Option<Job<'a>> {
+pub fn serve_job<'a>(found: &ArgMatches<'a>) -> Option<Job<'a>>
+    ensures { IfSome result (AsksFor (codes "serve") (rows_in found.now)) }
+{
     Some(Job::Serve {
         ledger: text_of(found, "ledger")?,
         bind: text_of(found, "bind")?,

@@ -1,10 +1,15 @@
 //! The subcommand `show`.
+ghost use Rattle.std.specs.Prelude.{IfOk};
+ghost use Rattle.s10_cli.specs.Grammar.{ReadsAs, show_shape};
+
 use crate::builders::{named, with, word};
 use clap::Command;
 use std::alloc::{AllocError, Global};
 
 /// What `show` may say.
-pub fn show_command<'a>(alloc: Global) -> Result<Command<'a>, AllocError> {
+pub fn show_command<'a>(alloc: Global) -> Result<Command<'a>, AllocError>
+    ensures { IfOk result (λ command. ReadsAs command show_shape) }
+{
     let command = named(
         alloc,
         "show",

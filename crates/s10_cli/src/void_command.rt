@@ -1,4 +1,9 @@
 //! The subcommand `void`.
+ghost use Rattle.std.specs.Prelude.{codes, IfOk, IfSome};
+ghost use Rattle.s10_cli.specs.Grammar.{ReadsAs, void_shape};
+ghost use Rattle.s10_cli.specs.Options.{rows_in};
+ghost use Rattle.s10_cli.specs.Jobs.{AsksFor};
+
 use crate::builders::{named, with};
 use crate::found::{number_of, text_of, tries_of};
 use crate::options::{id_option, tries_option};
@@ -8,7 +13,9 @@ use s10_jobs::{BodyWords, Job, Question};
 use std::alloc::{AllocError, Global};
 
 /// What `void` may say.
-pub fn void_command<'a>(alloc: Global) -> Result<Command<'a>, AllocError> {
+pub fn void_command<'a>(alloc: Global) -> Result<Command<'a>, AllocError>
+    ensures { IfOk result (λ command. ReadsAs command void_shape) }
+{
     let command = named(
         alloc,
         "void",
@@ -33,7 +40,9 @@ Example:
   reply void customer 7 number 3 RA000000005GB done";
 
 /// The request that the words ask.
-pub fn void_job<'a>(found: &ArgMatches<'a>) -> Option<Job<'a>> {
+pub fn void_job<'a>(found: &ArgMatches<'a>) -> Option<Job<'a>>
+    ensures { IfSome result (AsksFor (codes "void") (rows_in found.now)) }
+{
     let body = BodyWords::Void {
         id: text_of(found, "id")?,
     };

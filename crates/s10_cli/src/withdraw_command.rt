@@ -1,4 +1,9 @@
 //! The subcommand `withdraw`.
+ghost use Rattle.std.specs.Prelude.{codes, IfOk, IfSome};
+ghost use Rattle.s10_cli.specs.Grammar.{ReadsAs, withdraw_shape};
+ghost use Rattle.s10_cli.specs.Options.{rows_in};
+ghost use Rattle.s10_cli.specs.Jobs.{AsksFor};
+
 use crate::builders::{named, number_option, with};
 use crate::found::{POST, number_of, text_of, tries_of};
 use crate::options::tries_option;
@@ -8,7 +13,9 @@ use s10_jobs::{BodyWords, Job, Question};
 use std::alloc::{AllocError, Global};
 
 /// What `withdraw` may say.
-pub fn withdraw_command<'a>(alloc: Global) -> Result<Command<'a>, AllocError> {
+pub fn withdraw_command<'a>(alloc: Global) -> Result<Command<'a>, AllocError>
+    ensures { IfOk result (λ command. ReadsAs command withdraw_shape) }
+{
     let command = named(
         alloc,
         "withdraw",
@@ -42,7 +49,9 @@ Example:
   reply withdraw customer 0 number 2 1 done";
 
 /// The request that the words ask.
-pub fn withdraw_job<'a>(found: &ArgMatches<'a>) -> Option<Job<'a>> {
+pub fn withdraw_job<'a>(found: &ArgMatches<'a>) -> Option<Job<'a>>
+    ensures { IfSome result (AsksFor (codes "withdraw") (rows_in found.now)) }
+{
     let body = BodyWords::Withdraw {
         range: number_of(found, "range")?,
     };

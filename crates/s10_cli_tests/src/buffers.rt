@@ -7,16 +7,19 @@ use std::io::Write;
 
 const CHECK: [&'static str; 3] = ["s10", "check", "RA473124829US"];
 
-/// The status of a check over buffers.
-fn checked<R: Eprint + AllocGlobal, W: Write + Drop>(rt: &R, output: W) -> io::Result<Option<u8>> {
+/// The status of a check over buffers, and its output.
+fn checked<R: Eprint + AllocGlobal, W: Write + Drop>(
+    rt: &R,
+    output: W,
+) -> io::Result<(Option<u8>, W)> {
     let mut input: &[u8] = b"";
     run_buffered(rt, &CHECK, &mut input, output)
 }
 
 #[test]
 fn the_buffer_is_written_out(rt: HostRuntime) -> io::Result<()> {
-    let mut output = Vec::new(rt.alloc());
-    assert_eq!(rt; checked(&rt, &mut output)?, Some(0));
+    let (status, output) = checked(&rt, Vec::new(rt.alloc()))?;
+    assert_eq!(rt; status, Some(0));
     assert_eq!(rt;
         output.as_slice(),
         b"RA473124829US valid registered\n".as_slice()

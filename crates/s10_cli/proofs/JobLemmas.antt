@@ -1,0 +1,65 @@
+-- What words ask for, by what a parse found in them.
+use Rattle.std.proofs.Common.{◌≡◌, ◌∙◌, sym, ap, ap₂, subst, refl, arith, slice_index, ℕ, List, Option, Some, None, Result}
+use Rattle.std.specs.Prelude.{codes, option_map, Box}
+use Rattle.std.specs.Box.{box_value}
+use Rattle.clap.specs.Words.{Row, Text, subcommand_name_of, subcommand_rows, subcommand_rows_of}
+use Rattle.clap.specs.declared.parser.matches.ArgMatches.{ArgMatches}
+use Rattle.clap.specs.declared.parser.matches.ArgMatches.TheViews.{out-ArgMatches, out-SubCommand}
+use Rattle.clap.specs.declared.parser.matches.SubCommand.{SubCommand}
+use Rattle.s10_wire.specs.declared.write_fault.WriteFault.{WriteFault}
+use Rattle.s10_jobs.specs.declared.status.Status.{Status}
+use Rattle.s10_cli.specs.CommandLine.{IsSubcommandDone, word}
+use Rattle.s10_cli.specs.Printing.{Makes, Shows}
+
+one_pair : (o : Option (Text × List Row)) (name : Text) (rows : List Row) → Some name ≡ option_map (λ p. p.0) o → Some rows ≡ option_map (λ p. p.1) o → o ≡ Some (name, rows)
+one_pair None name rows n r = cc
+one_pair (Some p) name rows n r = let a : p.0 ≡ name = cc in let b : p.1 ≡ rows = cc in ap₂ (λ (x : Text) (y : List Row). Some (x, y)) a b
+
+names : (m : ArgMatches) → subcommand_name_of m ≡ option_map (λ p. p.0) (subcommand_rows_of m)
+names m = go (out-ArgMatches m).subcommand
+  where
+    go : {Z : Type 0} (o : Option (Box SubCommand Z)) → option_map (λ b. (out-SubCommand (box_value b)).name.now) o ≡ option_map (λ p. p.0) (subcommand_rows o)
+    go None = refl
+    go (Some b) = refl
+
+-- the subcommand that a parse entered
+pub named_by : (m : ArgMatches) (name : Text) (rows : List Row) → Some name ≡ subcommand_name_of m
+    → Some rows ≡ option_map (λ p. p.1) (subcommand_rows_of m) → subcommand_rows_of m ≡ Some (name, rows)
+named_by m name rows n r = one_pair (subcommand_rows_of m) name rows (n ∙ names m) r
+
+-- a subcommand's name is no other's
+apart : (name a b : Text) → name ≡ a → name ≡ b → (slice_index a 0 ≡ slice_index b 0 → ⊥) → ⊥
+apart name a b is e differ = differ (ap (λ (t : Text). slice_index t 0) (sym is ∙ e))
+
+-- `make` was done
+pub done_make : (input old new : Option (List ℕ)) (m : ArgMatches) (name : Text) (rows : List Row) (done : Result Status WriteFault) (service serial country : Text)
+    → Some name ≡ subcommand_name_of m → Some rows ≡ option_map (λ p. p.1) (subcommand_rows_of m) → name ≡ codes "make"
+    → service ≡ word rows (codes "service") → serial ≡ word rows (codes "serial") → country ≡ word rows (codes "country")
+    → Makes old new done service serial country → IsSubcommandDone input old new (Some done) (subcommand_rows_of m)
+done_make input old new m name rows done service serial country n r is a b c made =
+    let all : Makes old new done (word rows (codes "service")) (word rows (codes "serial")) (word rows (codes "country")) =
+    subst (λ (x : Text). Makes old new done x (word rows (codes "serial")) (word rows (codes "country"))) a
+    (subst (λ (x : Text). Makes old new done service x (word rows (codes "country"))) b (subst (λ (x : Text). Makes old new done service serial x) c made)) in
+    subst (λ (o : Option (Text × List Row)). IsSubcommandDone input old new (Some done) o) (sym (named_by m name rows n r))
+    (record {
+      check = λ e. absurd (apart name _ _ is e (λ bad. omega arith));
+      make = λ _. all;
+      show = λ e. absurd (apart name _ _ is e (λ bad. omega arith));
+      replay = λ e. absurd (apart name _ _ is e (λ bad. omega arith));
+      left = λ _ other _ _. absurd (other is);
+    })
+
+-- `show` was done
+pub done_show : (input old new : Option (List ℕ)) (m : ArgMatches) (name : Text) (rows : List Row) (done : Result Status WriteFault) (digits : Text)
+    → Some name ≡ subcommand_name_of m → Some rows ≡ option_map (λ p. p.1) (subcommand_rows_of m) → name ≡ codes "show"
+    → digits ≡ word rows (codes "hex") → Shows old new done digits → IsSubcommandDone input old new (Some done) (subcommand_rows_of m)
+done_show input old new m name rows done digits n r is a shown =
+    let all : Shows old new done (word rows (codes "hex")) = subst (λ (x : Text). Shows old new done x) a shown in
+    subst (λ (o : Option (Text × List Row)). IsSubcommandDone input old new (Some done) o) (sym (named_by m name rows n r))
+    (record {
+      check = λ e. absurd (apart name _ _ is e (λ bad. omega arith));
+      make = λ e. absurd (apart name _ _ is e (λ bad. omega arith));
+      show = λ _. all;
+      replay = λ e. absurd (apart name _ _ is e (λ bad. omega arith));
+      left = λ _ _ other _. absurd (other is);
+    })

@@ -1,0 +1,144 @@
+-- What a command line may say: the subcommands, and the words and options of each.
+use Rattle.std.specs.Prelude.{◌≡◌, ℕ, pos, true, false, List, [], ◌∷◌, Some, codes, Result, IfOk}
+use Rattle.clap.specs.Words.{App, FailsBy, Rule, Shape, Text, app_of, fault_of, found_of, matches_of, new_rule, rows_of, rule_of}
+use Rattle.clap.specs.Words.{subcommand_of, subcommand_rows_of, with_rule}
+use Rattle.clap.specs.Simple.{new_shape}
+use Rattle.clap.specs.declared.builder.action.ArgAction.TheVariants.{SetTrue}
+use Rattle.clap.specs.declared.builder.arg.Arg.{Arg}
+use Rattle.clap.specs.declared.builder.command.Command.{Command}
+use Rattle.clap.specs.declared.builder.command.Command.TheViews.{out-Command as fields_of}
+use Rattle.clap.specs.declared.builder.value_parser.ValueParser.TheVariants.{Signed}
+use Rattle.clap.specs.declared.error.Error.{Error}
+use Rattle.clap.specs.declared.parser.matches.ArgMatches.{ArgMatches}
+
+-- a word in its place
+abbrev pub a_word : Text → Rule
+a_word name = record (new_rule name) { value_names = 1; required = true }
+
+-- an option without a value
+abbrev pub a_flag : Text → Rule
+a_flag name = record (new_rule name) { long = Some name; action = Some SetTrue }
+
+-- an option with a value
+abbrev pub an_option : Text → Rule
+an_option name = record (new_rule name) { long = Some name; value_names = 1 }
+
+-- the value is a number from `least` to `most`
+abbrev pub between : ℕ → ℕ → Rule → Rule
+between least most rule = record rule { parser = Some (Signed (pos least) (pos most)) }
+
+-- the option may be left out, and then has this value
+abbrev pub or_else : Text → Rule → Rule
+or_else value rule = record rule { defaults = value ∷ [] }
+
+-- the option has to be given
+abbrev pub needed : Rule → Rule
+needed rule = record rule { required = true }
+
+abbrev pub a_text : Text → Rule
+a_text name = needed (an_option name)
+
+-- a number of 32 bits
+abbrev pub whole : Rule → Rule
+whole rule = between 0 4294967295 rule
+
+abbrev pub a_number : Text → Rule
+a_number name = whole (a_text name)
+
+abbrev pub interval : Rule
+interval = between 1 3650 (an_option (codes "interval"))
+
+abbrev pub limit : Rule
+limit = between 1 1000000000 (an_option (codes "limit"))
+
+abbrev pub day : Rule
+day = whole (an_option (codes "day"))
+
+abbrev pub tries : Rule
+tries = or_else (codes "5") (between 1 100 (an_option (codes "tries")))
+
+-- a subcommand with these words and options
+abbrev pub says : Text → List Rule → Shape
+says name rules = record (new_shape name) { rules = rules }
+
+abbrev pub check_shape : Shape
+check_shape = says (codes "check") (a_flag (codes "label") ∷ a_word (codes "text") ∷ [])
+
+abbrev pub make_shape : Shape
+make_shape = says (codes "make") (a_word (codes "service") ∷ a_word (codes "serial") ∷ a_word (codes "country") ∷ [])
+
+abbrev pub show_shape : Shape
+show_shape = says (codes "show") (a_word (codes "hex") ∷ [])
+
+abbrev pub replay_shape : Shape
+replay_shape = says (codes "replay") (or_else (codes "30") interval ∷ or_else (codes "1000000") limit ∷ [])
+
+abbrev pub create_shape : Shape
+create_shape = says (codes "create") (a_text (codes "ledger") ∷ needed interval ∷ needed limit ∷ [])
+
+abbrev pub serve_shape : Shape
+serve_shape = says (codes "serve") (a_text (codes "ledger") ∷ a_text (codes "bind") ∷ a_number (codes "count") ∷ day ∷ [])
+
+abbrev pub grant_shape : Shape
+grant_shape = says (codes "grant") (a_text (codes "to") ∷ a_number (codes "number") ∷ a_number (codes "holder")
+    ∷ a_text (codes "service") ∷ a_text (codes "country")
+    ∷ between 0 99999999 (a_text (codes "first")) ∷ between 0 99999999 (a_text (codes "last")) ∷ tries ∷ [])
+
+abbrev pub draw_shape : Shape
+draw_shape = says (codes "draw") (a_text (codes "to") ∷ a_number (codes "customer") ∷ a_number (codes "number")
+    ∷ a_text (codes "service") ∷ a_text (codes "country") ∷ between 1 16 (an_option (codes "count")) ∷ tries ∷ [])
+
+abbrev pub void_shape : Shape
+void_shape = says (codes "void") (a_text (codes "to") ∷ a_number (codes "customer") ∷ a_number (codes "number") ∷ a_text (codes "id") ∷ tries ∷ [])
+
+abbrev pub query_shape : Shape
+query_shape = says (codes "query") (a_text (codes "to") ∷ a_number (codes "customer") ∷ a_number (codes "number") ∷ a_text (codes "id") ∷ tries ∷ [])
+
+abbrev pub withdraw_shape : Shape
+withdraw_shape = says (codes "withdraw") (a_text (codes "to") ∷ a_number (codes "number") ∷ a_number (codes "range") ∷ tries ∷ [])
+
+abbrev pub report_shape : Shape
+report_shape = says (codes "report") (a_text (codes "ledger") ∷ a_flag (codes "issues") ∷ day ∷ [])
+
+abbrev pub audit_shape : Shape
+audit_shape = says (codes "audit") (a_text (codes "ledger") ∷ [])
+
+abbrev pub loop_shape : Shape
+loop_shape = says (codes "loop") (day ∷ [])
+
+abbrev pub top_shape : Shape
+top_shape = record (new_shape (codes "s10")) { has_version = true; arg_required_else_help = true; subcommand_required = true }
+
+-- the whole command line
+unfoldable pub grammar : App
+grammar = record {
+  top = record top_shape { is_leaf = false };
+  subs = check_shape ∷ make_shape ∷ show_shape ∷ replay_shape ∷ create_shape ∷ serve_shape ∷ grant_shape ∷ draw_shape
+      ∷ void_shape ∷ query_shape ∷ withdraw_shape ∷ report_shape ∷ audit_shape ∷ loop_shape ∷ [];
+}
+
+-- the argument follows this rule, in its own command alone
+abbrev pub Follows : Arg → Rule → Type 0
+Follows arg rule = (rule_of arg ≡ rule) × (arg.global ≡ false)
+
+-- a command reads words so
+abbrev pub Reads : Command → App → Type 0
+Reads command app = (app_of command ≡ app) × ((fields_of command).has_globals ≡ false)
+
+-- a subcommand reads words so
+abbrev pub ReadsAs : Command → Shape → Type 0
+ReadsAs command shape = Reads command (record { top = shape; subs = [] })
+
+-- the command reads as before, and these rules more
+abbrev pub with_rules : App → List Rule → App
+with_rules app [] = app
+with_rules app (rule ∷ rules) = with_rules (with_rule app rule) rules
+
+abbrev pub AddsRules : Command → List Rule → Command → Type 0
+AddsRules old rules new = (app : App) → Reads old app → Reads new (with_rules app rules)
+
+-- how a parse of the words ends: with the matches of the grammar, or with a fault that it gives at them, or for want of memory
+pub record Parses (words : List Text) (parsed : Result ArgMatches Error) : Type 0 where
+  pub own : IfOk parsed (λ matches. rows_of (found_of matches) ≡ matches_of grammar words)
+  pub named : IfOk parsed (λ matches. subcommand_rows_of matches ≡ subcommand_of grammar words)
+  pub fault : FailsBy (fault_of grammar words) parsed

@@ -1,0 +1,5 @@
+pub mod Options
+pub mod Grammar
+pub mod Jobs
+pub mod Printing
+pub mod CommandLine

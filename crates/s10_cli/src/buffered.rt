@@ -1,0 +1,15 @@
+//! The output of a job, behind its buffer.
+ghost use Rattle.std.specs.Prelude.{IfOk};
+ghost use Rattle.std.specs.Io.KnownBytes.{Keeps};
+ghost use Rattle.std.specs.Io.Buffered.{writer_contents};
+
+use std::io;
+use std::io::{BufWriter, Write};
+
+/// Writes out what is left in the buffer, flushes the writer behind it, and hands that back.
+pub fn written_out<W: Write + Drop>(mut output: BufWriter<W>) -> io::Result<W>
+    ensures { IfOk result (λ left. Keeps (writer_contents W.contents output) (W.contents left)) }
+{
+    output.flush()?;
+    Ok(output.into_inner()?)
+}
