@@ -1,4 +1,5 @@
 mod LineReading
 mod HexReading
 mod ReplayedLines
+mod EndedReports
 mod Turning
