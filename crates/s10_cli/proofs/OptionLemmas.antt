@@ -116,7 +116,7 @@ pub new_writer : {T A : Type 0} (contents : T → Option (List ℕ)) (writer : B
     → writer_contents contents writer ≡ contents inner
 new_writer contents writer inner is empty = rw (empty, is) (no_more (contents inner))
 
-pub runs_from : (words : List (List ℕ)) (a input b old printed : Option (List ℕ)) (status : Option ℕ) → a ≡ input → b ≡ old
-    → RunsLine words a b printed status → RunsLine words input old printed status
-runs_from words a input b old printed status i o runs =
-    subst (λ (x : Option (List ℕ)). RunsLine words x old printed status) i (subst (λ (y : Option (List ℕ)). RunsLine words a y printed status) o runs)
+pub runs_from : (words : List (List ℕ)) (a input rest b old printed : Option (List ℕ)) (status : Option ℕ) → a ≡ input → b ≡ old
+    → RunsLine words a rest b printed status → RunsLine words input rest old printed status
+runs_from words a input rest b old printed status i o runs =
+    subst (λ (x : Option (List ℕ)). RunsLine words x rest old printed status) i (subst (λ (y : Option (List ℕ)). RunsLine words a rest y printed status) o runs)

@@ -26,12 +26,12 @@ exit_status (Err _) = 3
 unfoldable pub word : List Row → List ℕ → List ℕ
 word rows name = unwrap_or (first_of name rows) []
 
--- what was read, what the output held before and after, and how the job ended, where it is one of these
-module _ (input old new : Option (List ℕ)) (answer : Option (Result Status WriteFault)) where
+-- what was read and what is left of it, what the output held before and after, and how the job ended, where it is one of these
+module _ (input rest old new : Option (List ℕ)) (answer : Option (Result Status WriteFault)) where
   -- a parsed command line has both settings within their limits
   abbrev pub ReplaysWith : Option Terms → Type 0
   ReplaysWith None = answer ≡ Some (Ok CommandLine)
-  ReplaysWith (Some terms) = IsSomeAnd answer (λ done. Replays old new done terms input)
+  ReplaysWith (Some terms) = IsSomeAnd answer (λ done. Replays old new done terms input rest)
 
   -- the subcommand of this name, with these rows, was done here, or is the program's
   pub record IsDone (name : List ℕ) (rows : List Row) : Type 0 where
@@ -54,13 +54,13 @@ pub record IsTold (kind : ErrorKind) (old new : Option (List ℕ)) (done : Resul
   pub fault : kind ≢ OutOfMemory → kind ≢ DisplayHelp → kind ≢ DisplayVersion → IfOk done (λ ended. ended ≡ CommandLine) × (new ≡ old)
 
 -- what was done for a command line that was parsed so
-abbrev pub IsRun : Result ArgMatches Error → Option (List ℕ) → Option (List ℕ) → Option (List ℕ) → Option ℕ → Type 0
-IsRun (Ok matches) input old new status = (answer : Option (Result Status WriteFault))
-    × IsSubcommandDone input old new answer (subcommand_rows_of matches) × (status ≡ option_map exit_status answer)
-IsRun (Err error) input old new status = (done : Result Status WriteFault) × IsTold (kind_of error) old new done × (status ≡ Some (exit_status done))
+abbrev pub IsRun : Result ArgMatches Error → Option (List ℕ) → Option (List ℕ) → Option (List ℕ) → Option (List ℕ) → Option ℕ → Type 0
+IsRun (Ok matches) input rest old new status = (answer : Option (Result Status WriteFault))
+    × IsSubcommandDone input rest old new answer (subcommand_rows_of matches) × (status ≡ option_map exit_status answer)
+IsRun (Err error) input rest old new status = (done : Result Status WriteFault) × IsTold (kind_of error) old new done × (status ≡ Some (exit_status done))
 
 -- what was done for these words
-pub record RunsLine (words : List Text) (input old new : Option (List ℕ)) (status : Option ℕ) : Type 0 where
+pub record RunsLine (words : List Text) (input rest old new : Option (List ℕ)) (status : Option ℕ) : Type 0 where
   pub parsed : Result ArgMatches Error
   pub parses : Parses words parsed
-  pub run : IsRun parsed input old new status
+  pub run : IsRun parsed input rest old new status

@@ -41,8 +41,8 @@ module _ (old new : Option (List ℕ)) (done : Result Status WriteFault) where
     pub hex : bytes_in digits ≡ None → Tells Refused (refused_line (codes "hex" ∷ []))
     pub datagram : (bytes : List ℕ) → bytes_in digits ≡ Some bytes → IfOk done (λ ended. Prints old new (IsShown bytes ended))
 
-  -- an input was replayed over an empty ledger with these settings
-  abbrev pub Replays : Terms → Option (List ℕ) → Type 0
-  Replays terms input = IfSome input (λ bytes. IfSome old (λ held.
+  -- an input was replayed over an empty ledger with these settings, and this is left of it
+  abbrev pub Replays : Terms → Option (List ℕ) → Option (List ℕ) → Type 0
+  Replays terms input rest = IfSome input (λ bytes. IfSome old (λ held.
       (after : List Entry) × (replayed : Result ℕ ReplayFault) × (between : Option (List ℕ))
-      × Replayed [] terms bytes held between replayed after × TellsReplay replayed between new done))
+      × Replayed [] terms bytes rest held between replayed after × TellsReplay replayed between new done))

@@ -30,7 +30,7 @@ pub fn run_line<R: Eprint + AllocGlobal, S: AsStr, I: Read, O: Write>(
     input: &mut I,
     output: &mut O,
 ) -> Option<u8>
-    ensures { RunsLine (map S.text words.now) (I.remaining input.old) (O.contents output.old) (O.contents output.new) result }
+    ensures { RunsLine (map S.text words.now) (I.remaining input.old) (I.remaining input.new) (O.contents output.old) (O.contents output.new) result }
 {
     match parse(rt.alloc(), words) {
         Ok(matches) => {
@@ -63,8 +63,8 @@ where
     S: AsStr,
     I: Read + Drop,
     O: Write + Drop,
-    ensures { IfOk result (λ ended. (printed : Option (List ℕ))
-        × RunsLine (map S.text words.now) (I.remaining input) (O.contents output) printed ended.0 × Keeps printed (O.contents ended.1)) }
+    ensures { IfOk result (λ ended. (rest : Option (List ℕ)) × (printed : Option (List ℕ))
+        × RunsLine (map S.text words.now) (I.remaining input) rest (O.contents output) printed ended.0 × Keeps printed (O.contents ended.1)) }
 {
     let mut input = BufReader::new(rt.alloc(), input)?;
     let mut output = BufWriter::new(rt.alloc(), output)?;
@@ -78,7 +78,7 @@ fn run_subcommand<I: Read, O: Write>(
     input: &mut I,
     output: &mut O,
 ) -> Option<Result<Status, WriteFault>>
-    ensures { IsSubcommandDone (I.remaining input.old) (O.contents output.old) (O.contents output.new) result (subcommand_rows_of matches.now) }
+    ensures { IsSubcommandDone (I.remaining input.old) (I.remaining input.new) (O.contents output.old) (O.contents output.new) result (subcommand_rows_of matches.now) }
 {
     match matches.subcommand() {
         Some(("check", found)) => {

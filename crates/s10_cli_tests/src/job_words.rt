@@ -301,6 +301,164 @@ fn with_value<'a>(
     Ok(changed)
 }
 
+/// Whether the words ask the job that this text shows, but for one field.
+fn asks_but_for(
+    alloc: Global,
+    words: &[&str],
+    job: &str,
+    field: &str,
+    changed: &str,
+) -> Result<bool, Fail> {
+    let Some((before, after)) = job.split_once(field) else {
+        return Ok(false);
+    };
+    let job = format!(in alloc; "{before}{changed}{after}")?;
+    asks(alloc, words, &job)
+}
+
+#[test]
+fn each_required_option_reaches_its_own_field(rt: HostRuntime) -> Result<(), Fail> {
+    let cases: [(usize, &str, &str, &str, &str); 31] = [
+        (
+            0,
+            "--ledger",
+            "b.db",
+            r#"ledger: "a.db""#,
+            r#"ledger: "b.db""#,
+        ),
+        (0, "--interval", "31", "interval: 30", "interval: 31"),
+        (0, "--limit", "99", "limit: 100", "limit: 99"),
+        (
+            1,
+            "--ledger",
+            "b.db",
+            r#"ledger: "a.db""#,
+            r#"ledger: "b.db""#,
+        ),
+        (
+            1,
+            "--bind",
+            "[::1]:9",
+            r#"bind: "0.0.0.0:0""#,
+            r#"bind: "[::1]:9""#,
+        ),
+        (1, "--count", "8", "count: 3", "count: 8"),
+        (
+            2,
+            "--to",
+            "[::1]:9",
+            r#"to: "127.0.0.1:4711""#,
+            r#"to: "[::1]:9""#,
+        ),
+        (2, "--number", "8", "number: 1", "number: 8"),
+        (2, "--holder", "8", "holder: 7", "holder: 8"),
+        (2, "--service", "LA", r#"service: "RA""#, r#"service: "LA""#),
+        (2, "--country", "FR", r#"country: "GB""#, r#"country: "FR""#),
+        (
+            2,
+            "--first",
+            "1",
+            "first: Serial { value: 0 }",
+            "first: Serial { value: 1 }",
+        ),
+        (
+            2,
+            "--last",
+            "8",
+            "last: Serial { value: 2 }",
+            "last: Serial { value: 8 }",
+        ),
+        (
+            3,
+            "--to",
+            "[::1]:9",
+            r#"to: "127.0.0.1:4711""#,
+            r#"to: "[::1]:9""#,
+        ),
+        (3, "--customer", "8", "customer: 7", "customer: 8"),
+        (3, "--number", "8", "number: 1", "number: 8"),
+        (3, "--service", "LA", r#"service: "RA""#, r#"service: "LA""#),
+        (3, "--country", "FR", r#"country: "GB""#, r#"country: "FR""#),
+        (
+            4,
+            "--to",
+            "[::1]:9",
+            r#"to: "127.0.0.1:4711""#,
+            r#"to: "[::1]:9""#,
+        ),
+        (4, "--customer", "8", "customer: 7", "customer: 8"),
+        (4, "--number", "8", "number: 3", "number: 8"),
+        (4, "--id", "x", r#"id: "RA000000005GB""#, r#"id: "x""#),
+        (
+            5,
+            "--to",
+            "[::1]:9",
+            r#"to: "127.0.0.1:4711""#,
+            r#"to: "[::1]:9""#,
+        ),
+        (5, "--customer", "8", "customer: 7", "customer: 8"),
+        (5, "--number", "8", "number: 4", "number: 8"),
+        (5, "--id", "x", r#"id: "RA000000005GB""#, r#"id: "x""#),
+        (
+            6,
+            "--to",
+            "[::1]:9",
+            r#"to: "127.0.0.1:4711""#,
+            r#"to: "[::1]:9""#,
+        ),
+        (6, "--number", "8", "number: 5", "number: 8"),
+        (6, "--range", "8", "range: 1", "range: 8"),
+        (
+            7,
+            "--ledger",
+            "b.db",
+            r#"ledger: "a.db""#,
+            r#"ledger: "b.db""#,
+        ),
+        (
+            8,
+            "--ledger",
+            "b.db",
+            r#"ledger: "a.db""#,
+            r#"ledger: "b.db""#,
+        ),
+    ];
+    for (line, option, value, field, changed) in cases {
+        let words = with_value(rt.alloc(), LINES[line], option, value)?;
+        let is_asked = asks_but_for(rt.alloc(), &words, JOBS[line], field, changed)?;
+        assert!(rt; is_asked, "{words:?}");
+    }
+    Ok(())
+}
+
+#[test]
+fn each_option_that_may_be_left_out_reaches_its_own_field(rt: HostRuntime) -> Result<(), Fail> {
+    let cases: [(usize, &str, &str, &str); 10] = [
+        (1, "--day=9", "day: None", "day: Some(9)"),
+        (2, "--tries=9", "Tries { count: 5 }", "Tries { count: 9 }"),
+        (3, "--tries=9", "Tries { count: 5 }", "Tries { count: 9 }"),
+        (
+            3,
+            "--count=9",
+            r#"Draw { service: "RA", country: "GB" }"#,
+            r#"DrawMany { service: "RA", country: "GB", count: Count { value: 9 } }"#,
+        ),
+        (4, "--tries=9", "Tries { count: 5 }", "Tries { count: 9 }"),
+        (5, "--tries=9", "Tries { count: 5 }", "Tries { count: 9 }"),
+        (6, "--tries=9", "Tries { count: 5 }", "Tries { count: 9 }"),
+        (7, "--day=9", "day: None", "day: Some(9)"),
+        (7, "--issues", "is_of_issues: false", "is_of_issues: true"),
+        (9, "--day=9", "day: None", "day: Some(9)"),
+    ];
+    for (line, option, field, changed) in cases {
+        let mut words = LINES[line].to_vec(rt.alloc())?;
+        words.push(option)?;
+        let is_asked = asks_but_for(rt.alloc(), &words, JOBS[line], field, changed)?;
+        assert!(rt; is_asked, "{words:?}");
+    }
+    Ok(())
+}
+
 /// Whether a command line with any other of these values of an option is none.
 fn are_refused<'a, R: Eprint + AllocGlobal>(
     rt: &R,

@@ -10,6 +10,8 @@ mod loopback;
 #[cfg(test)]
 mod questions;
 #[cfg(test)]
+mod refused_files;
+#[cfg(test)]
 mod refusing;
 #[cfg(test)]
 mod serving;

@@ -1,0 +1,75 @@
+//! What is no ledger: each job over it is refused, and leaves its folder as it was.
+
+use s10_host::run_job;
+use s10_jobs::{Job, Status};
+use sqlite::Unknown;
+use std::fs;
+use std::test::Fail;
+
+/// Made for each path, and taken away again.
+const FOLDER: &str = "refused_files_test";
+
+const FILE: &str = "refused_files_test/ledger";
+
+const IN_NO_FOLDER: &str = "refused_files_test/nowhere/ledger";
+
+/// Whether a job ends with status 3 and this line.
+fn is_refused(rt: &HostRuntime, job: &Job<'_>, line: &str) -> bool {
+    let mut output = Vec::new(rt.alloc());
+    let (ended, _left) = run_job(rt, job, Unknown, &mut output);
+    ended == Ok(Status::Failed) && output.as_slice() == line.as_bytes()
+}
+
+/// Whether each job over the ledger at the path is.
+fn are_refused(rt: &HostRuntime, ledger: &str, line: &str) -> bool {
+    let audit = Job::Audit { ledger };
+    let report = Job::Report {
+        ledger,
+        is_of_issues: false,
+        day: Some(20_000),
+    };
+    let serve = Job::Serve {
+        ledger,
+        bind: "127.0.0.1:0",
+        count: 1,
+        day: Some(20_000),
+    };
+    is_refused(rt, &audit, line) && is_refused(rt, &report, line) && is_refused(rt, &serve, line)
+}
+
+/// Whether they are, and no file is in the folder afterwards: one with something in it cannot be taken away.
+fn stays_away(rt: &HostRuntime, ledger: &str, line: &str) -> Result<bool, Fail> {
+    let _ = fs::remove_dir_all(rt, FOLDER);
+    fs::create_dir(rt, FOLDER)?;
+    let refused = are_refused(rt, ledger, line);
+    fs::remove_dir(rt, FOLDER)?;
+    Ok(refused)
+}
+
+/// Whether they are, and the file keeps its bytes and has no other beside it.
+fn stays(rt: &HostRuntime, bytes: &str, line: &str) -> Result<bool, Fail> {
+    let _ = fs::remove_dir_all(rt, FOLDER);
+    fs::create_dir(rt, FOLDER)?;
+    fs::write(rt, FILE, bytes)?;
+    let refused = are_refused(rt, FILE, line);
+    let left = fs::read(rt, FILE)?;
+    fs::remove_file(rt, FILE)?;
+    fs::remove_dir(rt, FOLDER)?;
+    Ok(refused && left.as_slice() == bytes.as_bytes())
+}
+
+#[test]
+fn what_is_no_ledger_stays_as_it_was(rt: HostRuntime) -> Result<(), Fail> {
+    assert!(rt; stays_away(&rt, FILE, "ledger not-a-ledger\n")?);
+    assert!(rt; stays_away(&rt, IN_NO_FOLDER, "ledger store\n")?);
+    assert!(rt; stays(&rt, "", "ledger not-a-ledger\n")?);
+    assert!(rt; stays(&rt, "short", "ledger store\n")?);
+    assert!(rt;
+        stays(
+            &rt,
+            "a text, and longer than sixteen bytes\n",
+            "ledger store\n"
+        )?
+    );
+    Ok(())
+}
