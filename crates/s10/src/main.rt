@@ -1,11 +1,20 @@
 //! The program `s10`: its words, its standard input and output, and its exit status.
 #![tactic(auto)]
 
+ghost use Rattle.std.specs.Prelude.{◌≡◌, ℕ, List, Option, Result, map, IfOk};
+ghost use Rattle.std.specs.Io.KnownBytes.{Keeps};
+ghost use Rattle.s10_wire.specs.declared.write_fault.WriteFault.{WriteFault};
+ghost use Rattle.s10_jobs.specs.declared.job.Job.{Job};
+ghost use Rattle.s10_jobs.specs.declared.status.Status.{Status};
+ghost use Rattle.s10_host.specs.Jobs.{HasEnded};
+ghost use Rattle.s10_cli.specs.Jobs.{AsksInWords};
+ghost use Rattle.s10_cli.specs.CommandLine.{exit_status};
+
 use s10_cli::{parse_job, run_buffered, written_out};
-use s10_host::run_job;
+use s10_host::{Left, run_job};
 use s10_jobs::Status;
 use s10_wire::WriteFault;
-use sqlite::Unknown;
+use sqlite::{Start, Unknown};
 use std::convert::AsStr;
 use std::io;
 use std::io::{BufWriter, ErrorKind, Write};
@@ -24,24 +33,33 @@ fn run(rt: &HostRuntime) -> io::Result<u8> {
     let words = words.as_slice();
     match run_buffered(rt, words, rt.reader(), io::writer(rt))? {
         (Some(status), _output) => Ok(status),
-        (None, output) => run_words(rt, words, output),
+        (None, output) => {
+            let (status, _output, _left) = run_words(rt, words, Unknown, output)?;
+            Ok(status)
+        }
     }
 }
 
-// Runs the job that a command line left to the program.
-fn run_words<S: AsStr, O: Write + Drop>(
+// Runs the job that a command line left to the program. Hands back the exit status, the output and what the job left.
+fn run_words<S: Start, W: AsStr, O: Write + Drop>(
     rt: &HostRuntime,
-    words: &[S],
+    words: &[W],
+    start: S,
     output: O,
-) -> io::Result<u8> {
+) -> io::Result<(u8, O, Left<S>)>
+    ensures { IfOk result (λ ended. (job : Job) × (done : Result Status WriteFault) × (printed : Option (List ℕ))
+        × AsksInWords (map W.text words.now) job
+        × HasEnded S.row S.Start job (O.contents output) printed done ended.2.files ended.2.link
+        × Keeps printed (O.contents ended.1) × (ended.0 ≡ exit_status done)) }
+{
     let Some(job) = parse_job(rt.alloc(), words) else {
         return Err(io::Error::from(ErrorKind::OutOfMemory));
     };
     let mut output = BufWriter::new(rt.alloc(), output)?;
-    let (done, _left) = run_job(rt, &job, Unknown, &mut output);
-    written_out(output)?;
+    let (done, left) = run_job(rt, &job, start, &mut output);
+    let output = written_out(output)?;
     match done {
-        Ok(status) => Ok(status as u8),
+        Ok(status) => Ok((status as u8, output, left)),
         Err(WriteFault) => Err(io::Error::from(ErrorKind::WriteZero)),
     }
 }

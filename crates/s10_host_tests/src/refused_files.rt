@@ -1,7 +1,8 @@
 //! What is no ledger: each job over it is refused, and leaves its folder as it was.
 
+use s10_cli::parse_job;
 use s10_host::run_job;
-use s10_jobs::{Job, Status};
+use s10_jobs::Status;
 use sqlite::Unknown;
 use std::fs;
 use std::test::Fail;
@@ -13,27 +14,30 @@ const FILE: &str = "refused_files_test/ledger";
 
 const IN_NO_FOLDER: &str = "refused_files_test/nowhere/ledger";
 
-/// Whether a job ends with status 3 and this line.
-fn is_refused(rt: &HostRuntime, job: &Job<'_>, line: &str) -> bool {
+/// Whether the job of a command line ends with status 3 and this line.
+fn is_refused(rt: &HostRuntime, words: &[&str], line: &str) -> bool {
+    let Some(job) = parse_job(rt.alloc(), words) else {
+        return false;
+    };
     let mut output = Vec::new(rt.alloc());
-    let (ended, _left) = run_job(rt, job, Unknown, &mut output);
+    let (ended, _left) = run_job(rt, &job, Unknown, &mut output);
     ended == Ok(Status::Failed) && output.as_slice() == line.as_bytes()
 }
 
 /// Whether each job over the ledger at the path is.
 fn are_refused(rt: &HostRuntime, ledger: &str, line: &str) -> bool {
-    let audit = Job::Audit { ledger };
-    let report = Job::Report {
+    let audit = ["s10", "audit", "--ledger", ledger];
+    let report = ["s10", "report", "--ledger", ledger, "--day", "20000"];
+    let serve = [
+        "s10",
+        "serve",
+        "--ledger",
         ledger,
-        is_of_issues: false,
-        day: Some(20_000),
-    };
-    let serve = Job::Serve {
-        ledger,
-        bind: "127.0.0.1:0",
-        count: 1,
-        day: Some(20_000),
-    };
+        "--bind",
+        "127.0.0.1:0",
+        "--count",
+        "1",
+    ];
     is_refused(rt, &audit, line) && is_refused(rt, &report, line) && is_refused(rt, &serve, line)
 }
 
