@@ -316,6 +316,38 @@ fn asks_but_for(
     asks(alloc, words, &job)
 }
 
+/// Whether the line with another value of an option asks for its job with that field changed.
+fn value_reaches(
+    alloc: Global,
+    line: usize,
+    option: &str,
+    value: &'static str,
+    field: &str,
+    changed: &str,
+) -> Result<bool, Fail> {
+    let (Some(words), Some(job)) = (LINES.get(line), JOBS.get(line)) else {
+        return Ok(false);
+    };
+    let words = with_value(alloc, words, option, value)?;
+    asks_but_for(alloc, &words, job, field, changed)
+}
+
+/// Whether the line with one more word asks for its job with that field changed.
+fn option_reaches(
+    alloc: Global,
+    line: usize,
+    option: &'static str,
+    field: &str,
+    changed: &str,
+) -> Result<bool, Fail> {
+    let (Some(words), Some(job)) = (LINES.get(line), JOBS.get(line)) else {
+        return Ok(false);
+    };
+    let mut words = words.to_vec(alloc)?;
+    words.push(option)?;
+    asks_but_for(alloc, &words, job, field, changed)
+}
+
 #[test]
 fn each_required_option_reaches_its_own_field(rt: HostRuntime) -> Result<(), Fail> {
     let cases: [(usize, &str, &str, &str, &str); 31] = [
@@ -424,9 +456,10 @@ fn each_required_option_reaches_its_own_field(rt: HostRuntime) -> Result<(), Fai
         ),
     ];
     for (line, option, value, field, changed) in cases {
-        let words = with_value(rt.alloc(), LINES[line], option, value)?;
-        let is_asked = asks_but_for(rt.alloc(), &words, JOBS[line], field, changed)?;
-        assert!(rt; is_asked, "{words:?}");
+        assert!(rt;
+            value_reaches(rt.alloc(), line, option, value, field, changed)?,
+            "{line} {option}"
+        );
     }
     Ok(())
 }
@@ -451,10 +484,10 @@ fn each_option_that_may_be_left_out_reaches_its_own_field(rt: HostRuntime) -> Re
         (9, "--day=9", "day: None", "day: Some(9)"),
     ];
     for (line, option, field, changed) in cases {
-        let mut words = LINES[line].to_vec(rt.alloc())?;
-        words.push(option)?;
-        let is_asked = asks_but_for(rt.alloc(), &words, JOBS[line], field, changed)?;
-        assert!(rt; is_asked, "{words:?}");
+        assert!(rt;
+            option_reaches(rt.alloc(), line, option, field, changed)?,
+            "{line} {option}"
+        );
     }
     Ok(())
 }
