@@ -1,4 +1,5 @@
 pub mod Keys
 pub mod Places
 pub mod LastIssues
+pub mod CallIndex
 pub mod RowsBehind

@@ -1,40 +1,29 @@
-//! The book in memory with an index.
+//! The book in memory over an index.
 
-ghost use Rattle.std.specs.Prelude.{◌≡◌, ◌∷◌, ◌++◌, [], ⊤, OnOk, OnErr, IfOk, IfErr, IfSome, IsTrue, Contains, find, ◌==◌, ◌<◌, count_by, vec_len, vec_capacity};
+ghost use Rattle.std.specs.Prelude.{◌≡◌, ◌∷◌, ◌++◌, [], ⊤, OnOk, OnErr, IfOk, IfErr, IfSome, IsTrue, Contains, find, ◌==◌, ◌<◌, ◌≤◌, length, count_by};
 ghost use Rattle.s10_wire.specs.Kind.{fits};
 ghost use Rattle.s10_book.specs.History.{ranges_of, entry_with_key, entry_at, is_closed, is_open_above, overlaps};
 ghost use Rattle.s10_book.specs.Issues.{issues_of, last_issue_of, candidate_of, candidate_after_of, size_of, pick_of, is_issued, is_voided as is_voided_in, is_free as is_free_on, id_at, serials};
 ghost use Rattle.s10_book.specs.Usage.{usage_of};
 ghost use Rattle.s10_book.specs.Rules.{IsLegal, MayFollow};
 ghost use Rattle.s10_book.specs.BookFault.{Counts, no_faults};
-ghost use Rattle.s10_ranges.specs.Mirror.{Mirrors};
-ghost use Rattle.s10_index.specs.Places.{HasPlaces};
-ghost use Rattle.s10_index.specs.LastIssues.{HasIssues};
+ghost use Rattle.s10_index.specs.CallIndex.{Indexes};
 
-use crate::last_issues::{note_call, noted_issue};
-use crate::places::{kept_call, note_place};
+use crate::call_index::CallIndex;
 use crate::tally::{count_if, id_with, is_free, is_voided};
 use s10_book::{Book, BookFault, Candidate, Entry, Faults, Issue, Range, Settings, Usage};
 use s10_core::{Country, Id, Serial, Service};
-use s10_ranges::Ranges;
 use std::alloc::{AllocError, Global};
-use std::collections::HashMap;
 
-/// A book in memory that finds a call by its key, and the last issue of an identifier, in a map, and the ranges and
-/// their marks in the orders of `Ranges`. It is always honest, and only `keep` can be refused, by Memory. Of its calls
+/// A book in memory over an index of its calls. It is always honest, and only `keep` can be refused, by Memory. Of its calls
 /// `usage` alone takes longer in a long history than the logarithm of it: it asks for each serial of the range.
 #[derive(Drop)]
 pub struct IndexedBook {
     settings: Settings,
     faults: Faults,
-    pub(crate) entries: Vec<Entry>,
-    pub(crate) ranges: Ranges,
-    places: HashMap<(u32, u32), u32>,
-    pub(crate) issues: HashMap<(u32, u32), Issue>,
-    ghost mirrored: { Mirrors ranges entries.items },
-    ghost placed: { HasPlaces places entries.items },
-    ghost issued: { HasIssues issues entries.items },
-    ghost legal: { IsLegal entries.items settings },
+    pub(crate) index: CallIndex,
+    ghost indexed: { Indexes index index.entries.items },
+    ghost legal: { IsLegal index.entries.items settings },
 }
 
 impl IndexedBook {
@@ -48,56 +37,38 @@ impl IndexedBook {
         IndexedBook {
             settings,
             faults: Faults::none(),
-            entries: Vec::new(alloc),
-            ranges: Ranges::new(alloc),
-            places: HashMap::new(alloc),
-            issues: HashMap::new(alloc),
+            index: CallIndex::new(alloc),
         }
+    }
+
+    /// Its calls, with their index.
+    pub fn into_index(self) -> CallIndex
+        ensures indexed { Indexes result self.index.entries.items }
+        ensures few { length result.entries.items ≤ 1000000000 }
+    {
+        let _len = self.len();
+        self.index
     }
 
     // Adds a call and what it makes, once there is room for all of it.
     fn add(&mut self, entry: Entry) -> Result<(), AllocError>
-        requires { MayFollow self.old.entries.items self.old.settings entry }
+        requires { MayFollow self.old.index.entries.items self.old.settings entry }
         ensures terms { self.new.settings ≡ self.old.settings }
         ensures faults { self.new.faults ≡ self.old.faults }
-        ensures ok { OnOk result (self.new.entries.items ≡ self.old.entries.items ++ entry ∷ []) }
-        ensures err { OnErr result (self.new.entries.items ≡ self.old.entries.items) }
+        ensures ok { OnOk result (self.new.index.entries.items ≡ self.old.index.entries.items ++ entry ∷ []) }
+        ensures err { OnErr result (self.new.index.entries.items ≡ self.old.index.entries.items) }
     {
-        let place = self.len();
-        self.ranges.reserve()?;
-        self.places.reserve(1)?;
-        self.issues.reserve(entry.issued())?;
-        self.entries.reserve(1)?;
-        self.ranges.follow(&entry);
-        note_place(&mut self.places, &entry, place);
-        note_call(&mut self.issues, &entry);
-        push_item(&mut self.entries, entry);
+        let _len = self.len();
+        self.index.reserve(&entry)?;
+        self.index.follow(entry);
         Ok(())
-    }
-
-    // The last issue of an identifier, if it was ever issued.
-    fn last_state(&self, id: &Id) -> Option<Issue>
-        ensures { result ≡ last_issue_of self.now.entries.items id.now }
-    {
-        noted_issue(&self.issues, id)
-    }
-
-    // The serial that the range gives next.
-    fn pick(&self, range: &Range) -> Serial
-        requires { Contains (ranges_of self.now.entries.items) range.now }
-        ensures { result ≡ pick_of (issues_of self.now.entries.items) range.now }
-    {
-        match self.ranges.mark(range.num) {
-            None => range.first,
-            Some(mark) => mark.serial,
-        }
     }
 
     // How many serials of the range were issued, are voided, and are free on the day.
     fn usage_on(&self, range: &Range, day: u32) -> Usage
-        ensures used { result.used ≡ count_by (λ serial. is_issued (issues_of self.now.entries.items) (id_at range.now serial)) (serials range.now) }
-        ensures voided { result.voided ≡ count_by (λ serial. is_voided_in self.now.entries.items (id_at range.now serial)) (serials range.now) }
-        ensures free { result.free ≡ count_by (λ serial. is_free_on (issues_of self.now.entries.items) (id_at range.now serial) day self.now.settings.interval) (serials range.now) }
+        ensures used { result.used ≡ count_by (λ serial. is_issued (issues_of self.now.index.entries.items) (id_at range.now serial)) (serials range.now) }
+        ensures voided { result.voided ≡ count_by (λ serial. is_voided_in self.now.index.entries.items (id_at range.now serial)) (serials range.now) }
+        ensures free { result.free ≡ count_by (λ serial. is_free_on (issues_of self.now.index.entries.items) (id_at range.now serial) day self.now.settings.interval) (serials range.now) }
     {
         let interval = self.settings.interval();
         let mut usage = Usage {
@@ -106,7 +77,7 @@ impl IndexedBook {
             free: 0,
         };
         for value in range.first.value()..=range.last.value() {
-            let last = self.last_state(&id_with(range, value));
+            let last = self.index.last_issue(&id_with(range, value));
             usage.used = count_if(usage.used, last.is_some());
             usage.voided = count_if(usage.voided, is_voided(&last));
             usage.free = count_if(usage.free, is_free(&last, day, interval));
@@ -115,17 +86,9 @@ impl IndexedBook {
     }
 }
 
-// Adds an item at the end, for which there is room.
-fn push_item<T: Copy>(list: &mut Vec<T>, item: T)
-    requires { vec_len list.old < vec_capacity list.old }
-    ensures { list.new.items ≡ list.old.items ++ item ∷ [] }
-{
-    list.push_reserved(item);
-}
-
 // A read of a book in memory always succeeds and changes nothing.
 impl Book for IndexedBook {
-    ghost history = { λ b. b.entries.items };
+    ghost history = { λ b. b.index.entries.items };
 
     ghost terms = { λ b. b.settings };
 
@@ -141,14 +104,11 @@ impl Book for IndexedBook {
 
     fn len(&self) -> u32 {
         let _limit = self.settings.limit();
-        self.entries.len() as u32
+        self.index.calls().len() as u32
     }
 
     fn day(&self) -> u32 {
-        match self.entries.last() {
-            None => 0,
-            Some(entry) => entry.day,
-        }
+        self.index.day()
     }
 
     fn find(&mut self, customer: u32, number: u32) -> Result<Option<Entry>, BookFault>
@@ -156,31 +116,28 @@ impl Book for IndexedBook {
         ensures answer { result ≡ Ok (entry_with_key (⟦<IndexedBook as Book>⟧.history self.old) customer number) }
         ensures fits { IfOk result (λ found. IfSome found (λ e. IsTrue (fits e.request.body e.outcome))) }
     {
-        Ok(kept_call(&self.entries, &self.places, customer, number))
+        Ok(self.index.find(customer, number))
     }
 
     fn entry(&mut self, at: u32) -> Result<Option<Entry>, BookFault>
         ensures same { self.new ≡ self.old }
         ensures answer { result ≡ Ok (entry_at (⟦<IndexedBook as Book>⟧.history self.old) at) }
     {
-        match at.checked_sub(1) {
-            None => Ok(None),
-            Some(place) => Ok(self.entries.get(place as usize).copied()),
-        }
+        Ok(self.index.entry(at))
     }
 
     fn range(&mut self, num: u32) -> Result<Option<Range>, BookFault>
         ensures same { self.new ≡ self.old }
         ensures answer { result ≡ Ok (find (λ r. r.num == num) (ranges_of (⟦<IndexedBook as Book>⟧.history self.old))) }
     {
-        Ok(self.ranges.numbered(num))
+        Ok(self.index.ranges().numbered(num))
     }
 
     fn closed(&mut self, num: u32) -> Result<bool, BookFault>
         ensures same { self.new ≡ self.old }
         ensures answer { result ≡ Ok (is_closed (⟦<IndexedBook as Book>⟧.history self.old) num) }
     {
-        Ok(self.ranges.is_closed(num))
+        Ok(self.index.ranges().is_closed(num))
     }
 
     fn next_range(
@@ -194,7 +151,7 @@ impl Book for IndexedBook {
         ensures answer { result ≡ Ok (find (is_open_above (⟦<IndexedBook as Book>⟧.history self.old) after customer service country) (ranges_of (⟦<IndexedBook as Book>⟧.history self.old))) }
         ensures above { IfOk result (λ found. IfSome found (λ r. after < r.num)) }
     {
-        Ok(self.ranges.open_after(customer, service, country, after))
+        Ok(self.index.ranges().open_after(customer, service, country, after))
     }
 
     fn covering(
@@ -207,14 +164,14 @@ impl Book for IndexedBook {
         ensures same { self.new ≡ self.old }
         ensures answer { result ≡ Ok (find (overlaps service country first last) (ranges_of (⟦<IndexedBook as Book>⟧.history self.old))) }
     {
-        Ok(self.ranges.over(service, country, first, last))
+        Ok(self.index.ranges().over(service, country, first, last))
     }
 
     fn last_issue(&mut self, id: &Id) -> Result<Option<Issue>, BookFault>
         ensures same { self.new ≡ self.old }
         ensures answer { result ≡ Ok (last_issue_of (⟦<IndexedBook as Book>⟧.history self.old) id.now) }
     {
-        Ok(self.last_state(id))
+        Ok(self.index.last_issue(id))
     }
 
     fn candidate(&mut self, range: &Range) -> Result<Candidate, BookFault>
@@ -222,14 +179,7 @@ impl Book for IndexedBook {
         ensures same { self.new ≡ self.old }
         ensures answer { result ≡ Ok (candidate_of (⟦<IndexedBook as Book>⟧.history self.old) range.now) }
     {
-        let serial = self.pick(range);
-        let id = Id {
-            service: range.service,
-            serial,
-            country: range.country,
-        };
-        let issue = self.last_state(&id);
-        Ok(Candidate { serial, issue })
+        Ok(self.index.candidate_after(range, 0))
     }
 
     fn candidate_after(&mut self, range: &Range, issued: u8) -> Result<Candidate, BookFault>
@@ -238,14 +188,7 @@ impl Book for IndexedBook {
         ensures same { self.new ≡ self.old }
         ensures answer { result ≡ Ok (candidate_after_of (⟦<IndexedBook as Book>⟧.history self.old) range.now issued) }
     {
-        let serial = range.serial_behind(self.pick(range), issued);
-        let id = Id {
-            service: range.service,
-            serial,
-            country: range.country,
-        };
-        let issue = self.last_state(&id);
-        Ok(Candidate { serial, issue })
+        Ok(self.index.candidate_after(range, issued))
     }
 
     fn usage(&mut self, range: &Range, day: u32) -> Result<Usage, BookFault>

@@ -1,6 +1,7 @@
 //! The book in memory with an index: what a call asks of it is found without a walk over the calls.
 #![tactic(auto)]
 
+mod call_index;
 mod id_key;
 mod indexed_book;
 mod last_issues;
@@ -8,4 +9,5 @@ mod places;
 mod rows;
 mod tally;
 
+pub use call_index::CallIndex;
 pub use indexed_book::IndexedBook;

@@ -1,6 +1,6 @@
 //! Where the call of each key stands.
 
-ghost use Rattle.std.specs.Prelude.{◌≡◌, ◌<◌, ◌++◌, ◌∷◌, [], List, None, length};
+ghost use Rattle.std.specs.Prelude.{◌≡◌, ◌<◌, ◌++◌, ◌∷◌, [], List, None, IfSome, Contains, length};
 ghost use Rattle.std.specs.HashMap.{spare};
 ghost use Rattle.s10_book.specs.declared.entry.Entry.{Entry};
 ghost use Rattle.s10_book.specs.History.{entry_with_key};
@@ -15,8 +15,8 @@ pub(crate) fn kept_call(
     customer: u32,
     number: u32,
 ) -> Option<Entry>
-    requires { HasPlaces places.now calls.now }
-    ensures { result ≡ entry_with_key calls.now customer number }
+    ensures answer { HasPlaces places.now calls.now → result ≡ entry_with_key calls.now customer number }
+    ensures among { IfSome result (Contains calls.now) }
 {
     let place = *places.get(&(customer, number))?;
     calls.get(place as usize).copied()

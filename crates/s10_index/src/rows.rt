@@ -6,7 +6,6 @@ ghost use Rattle.s10_book.specs.declared.issuance.Issuance.{Issuance};
 ghost use Rattle.s10_book.specs.Settings.{Terms};
 ghost use Rattle.s10_book.specs.Issues.{issues_of};
 ghost use Rattle.s10_book.specs.Rules.{IsLegal};
-ghost use Rattle.s10_ranges.specs.Mirror.{Mirrors};
 ghost use Rattle.s10_rows.specs.Tables.{closing, closed_rows, closed_rows_from, range_rows, serial_rows};
 ghost use Rattle.s10_index.specs.LastIssues.{HasIssues};
 ghost use Rattle.s10_index.specs.RowsBehind.{last_rows, rows_behind};
@@ -14,7 +13,6 @@ ghost use Rattle.s10_index.specs.RowsBehind.{last_rows, rows_behind};
 use crate::indexed_book::IndexedBook;
 use crate::last_issues::noted_issue;
 use s10_book::{Book, Entry, Issuance, Issue};
-use s10_ranges::Ranges;
 use s10_rows::{ClosedRow, RangeRow, SerialRow};
 use std::alloc::{AllocError, Global};
 use std::collections::HashMap;
@@ -57,10 +55,10 @@ fn push_rows(
 impl IndexedBook {
     /// The rows of `ranges`, in order of their numbers. Refused by want of memory alone.
     pub fn range_rows(&self, alloc: Global) -> Result<Vec<RangeRow>, AllocError>
-        ensures { IfOk result (λ rows. rows.items ≡ range_rows self.now.entries.items) }
+        ensures { IfOk result (λ rows. rows.items ≡ range_rows self.now.index.entries.items) }
     {
-        let ranges = self.ranges.all();
-        let marks = self.ranges.marks();
+        let ranges = self.index.ranges().all();
+        let marks = self.index.ranges().marks();
         let mut rows = Vec::new(alloc);
         for place in 0..ranges.len() {
             rows.push(RangeRow::of(&ranges[place], marks[place].serial.value()))?;
@@ -70,38 +68,31 @@ impl IndexedBook {
 
     /// The rows of `serials`, in order of the issues that they tell. Refused by want of memory alone.
     pub fn serial_rows(&self, alloc: Global) -> Result<Vec<SerialRow>, AllocError>
-        ensures { IfOk result (λ rows. rows.items ≡ serial_rows self.now.entries.items) }
+        ensures { IfOk result (λ rows. rows.items ≡ serial_rows self.now.index.entries.items) }
     {
         // At least 1, so that no identifier is issued twice on one day.
         let _interval = self.settings().interval();
         let len = self.len();
         let mut rows = Vec::new(alloc);
         for place in 0..len {
-            let entry = &self.entries[place as usize];
-            push_rows(&mut rows, &self.issues, entry, place)?;
+            let entry = &self.index.entries[place as usize];
+            push_rows(&mut rows, &self.index.issues, entry, place)?;
         }
         Ok(rows)
     }
 
     /// The rows of `closed`, in order of the calls that closed them. Refused by want of memory alone.
     pub fn closed_rows(&self, alloc: Global) -> Result<Vec<ClosedRow>, AllocError>
-        ensures { IfOk result (λ rows. rows.items ≡ closed_rows self.now.entries.items) }
+        ensures { IfOk result (λ rows. rows.items ≡ closed_rows self.now.index.entries.items) }
     {
         let len = self.len();
         let mut rows = Vec::new(alloc);
         for place in 0..len {
-            let entry = &self.entries[place as usize];
+            let entry = &self.index.entries[place as usize];
             if let Some(row) = ClosedRow::made_by(place + 1, entry) {
                 rows.push(row)?;
             }
         }
         Ok(rows)
-    }
-
-    /// Gives its ranges with their marks, and keeps no more calls.
-    pub fn into_ranges(self) -> Ranges
-        ensures { Mirrors result self.entries.items }
-    {
-        self.ranges
     }
 }

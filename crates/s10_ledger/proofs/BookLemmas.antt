@@ -1,5 +1,5 @@
 -- What a read leaves of a ledger, and what it answers.
-use Rattle.std.proofs.Common.{◌≡◌, ℕ, ◌+◌, Bool, true, IsTrue, List, [], ◌∷◌, ◌++◌, Result, Ok, Err, IfOk, OnOk, OnErr, sym, ap, subst, refl, ◌∙◌, arith, length-append}
+use Rattle.std.proofs.Common.{◌≡◌, ℕ, ◌+◌, length, Bool, true, IsTrue, List, [], ◌∷◌, ◌++◌, Result, Ok, Err, IfOk, OnOk, OnErr, sym, ap, subst, refl, ◌∙◌, arith, length-append}
 use Rattle.std.specs.Coded.{coded_list}
 use Rattle.std.specs.Result.{is_ok}
 use Rattle.std.proofs.lemmas.List.Sums.{fold-append}
@@ -18,12 +18,12 @@ use Rattle.s10_book.proofs.Push.{IsLegal-push}
 use Rattle.s10_book.specs.Book.{Keeps}
 use Rattle.s10_book.specs.declared.faults.Faults.{Faults}
 use Rattle.s10_book.specs.Settings.{Terms}
-use Rattle.s10_ranges.specs.declared.ranges.Ranges.{Ranges}
-use Rattle.s10_ranges.specs.Mirror.{Mirrors}
+use Rattle.s10_index.specs.declared.call_index.CallIndex.{CallIndex}
+use Rattle.s10_index.specs.CallIndex.{Indexes}
 use Rattle.s10_schema.specs.Schema.{IsLedgerSchema, IsClosedSchema}
 use Rattle.s10_statements.specs.Settled.{IsSettled}
 use Rattle.s10_statements.specs.Statements.{Leaves}
-use Rattle.s10_ledger.specs.Ledger.{Ledger, IsLedger, IsMirrored, Holds, IsHonest, history_in, history_of}
+use Rattle.s10_ledger.specs.Ledger.{Ledger, IsLedger, IsIndexed, Holds, IsHonest, history_in, history_of}
 use Rattle.s10_rows.specs.Selected.{IsCall}
 use Rattle.s10_statements.specs.Shown.{StandsFor}
 use Rattle.s10_ledger.proofs.HistoryLemmas.{history_is}
@@ -50,10 +50,10 @@ module _ {S : Type 0} (g : Ghosts S) (old new : Held S) (t : Terms) (len day : �
   pub still_kept : IsKept g new t len day
   still_kept clean opened = subst (λ (d : Database). IsLedger d t len day) (sym (same_tables clean opened)) (was_ledger clean opened)
 
-  -- and the ranges that are held are still those of the history
-  pub still_mirrored : (ranges : Ranges) → IsMirrored g old ranges → IsMirrored g new ranges
-  still_mirrored ranges mirrored clean opened =
-      subst (λ (d : Database). Mirrors ranges (history_in d)) (sym (same_tables clean opened)) (mirrored (omega (arith, leaves.clean)) (leaves.was_open clean opened))
+  -- and the calls that are held are still those of the history
+  pub still_indexed : (index : CallIndex) → IsIndexed g old index → IsIndexed g new index
+  still_indexed index indexed clean opened =
+      subst (λ (d : Database). Indexes index (history_in d)) (sym (same_tables clean opened)) (indexed (omega (arith, leaves.clean)) (leaves.was_open clean opened))
 
 pub read_keeps : {S : Type 0} (g : Ghosts S) (old : Ledger S) (conn : Held S) (faults : Faults) → Leaves g old.conn conn → IsSettled g old.conn → IsKept g old.conn old.terms old.len old.day
     → Keeps (history_of g) (λ (l : Ledger S). l.terms) (IsHonest g) old (record old { conn = conn; faults = faults })
@@ -109,11 +109,20 @@ module _ {T E : Type 0} (old new : Database) (t : Terms) (len day len' day' : �
   kept_same (Ok x) same = tt
   kept_same (Err x) same = ap history_in same
 
--- the ranges that are held follow the history
-pub followed_mirrors : {T E : Type 0} (old new : Database) (e : Entry) (ranges : Ranges) (r : Result T E) → OnOk r (history_in new ≡ history_in old ++ e ∷ []) → OnErr r (history_in new ≡ history_in old)
-    → OnOk r (Mirrors ranges (history_in old ++ e ∷ [])) → OnErr r (Mirrors ranges (history_in old)) → Mirrors ranges (history_in new)
-followed_mirrors old new e ranges (Ok x) longer same ok err = subst (λ (h : List Entry). Mirrors ranges h) (sym longer) ok
-followed_mirrors old new e ranges (Err x) longer same ok err = subst (λ (h : List Entry). Mirrors ranges h) (sym same) err
+-- how many calls are held then, and the day of the last one
+pub counted_calls : {T E : Type 0} (r : Result T E) (old new : List Entry) (e : Entry) → OnOk r (new ≡ old ++ e ∷ []) → OnOk r ((length new ≡ length old + 1) × (day_of new ≡ e.day))
+counted_calls (Ok x) old new e is = (omega (arith, ap length is, length-append old (e ∷ [])), ap day_of is ∙ day_of-push old e)
+counted_calls (Err x) old new e is = tt
+
+pub uncounted_calls : {T E : Type 0} (r : Result T E) (old new : List Entry) → OnErr r (new ≡ old) → OnErr r ((length new ≡ length old) × (day_of new ≡ day_of old))
+uncounted_calls (Ok x) old new is = tt
+uncounted_calls (Err x) old new is = (ap length is, ap day_of is)
+
+-- the calls that are held follow the history
+pub followed_index : {T E : Type 0} (old new : Database) (e : Entry) (index : CallIndex) (r : Result T E) → OnOk r (history_in new ≡ history_in old ++ e ∷ []) → OnErr r (history_in new ≡ history_in old)
+    → OnOk r (Indexes index (history_in old ++ e ∷ [])) → OnErr r (Indexes index (history_in old)) → Indexes index (history_in new)
+followed_index old new e index (Ok x) longer same ok err = subst (λ (h : List Entry). Indexes index h) (sym longer) ok
+followed_index old new e index (Err x) longer same ok err = subst (λ (h : List Entry). Indexes index h) (sym same) err
 
 -- what is known of an answer that was given
 pub if_answered : {T E : Type 0} (r : Result T E) (P : Type 0) (answered : Bool) → answered ≡ is_ok r → OnOk r P → answered ≡ true → P

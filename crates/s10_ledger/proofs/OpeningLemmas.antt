@@ -1,5 +1,5 @@
 -- What is found of the tables, once they are completed.
-use Rattle.std.proofs.Common.{◌≡◌, ◌⊎◌, inl, inr, IsTrue, List, [], ◌∷◌, map, length, refl, sym, ap, subst, ◌∙◌, arith}
+use Rattle.std.proofs.Common.{◌≡◌, ℕ, ◌⊎◌, inl, inr, IsTrue, List, [], ◌∷◌, map, length, refl, sym, ap, subst, ◌∙◌, arith}
 use Rattle.std.proofs.lemmas.List.{length-map}
 use Rattle.sqlite_trees.specs.declared.store.Store.{Ghosts}
 use Rattle.sqlite.specs.Effect.{Database}
@@ -7,8 +7,8 @@ use Rattle.sqlite.specs.State.{HasCleanDisk}
 use Rattle.sqlite.specs.Held.{Held, state}
 use Rattle.s10_book.specs.declared.entry.Entry.{Entry}
 use Rattle.s10_book.specs.History.{day_of}
-use Rattle.s10_ranges.specs.declared.ranges.Ranges.{Ranges}
-use Rattle.s10_ranges.specs.Mirror.{Mirrors}
+use Rattle.s10_index.specs.declared.call_index.CallIndex.{CallIndex}
+use Rattle.s10_index.specs.CallIndex.{Indexes}
 use Rattle.s10_rows.specs.declared.open_fault.OpenFault.{OpenFault}
 use Rattle.s10_rows.specs.declared.open_fault.OpenFault.TheVariants.{Memory, Store}
 use Rattle.s10_rows.specs.declared.opened.Opened.{Opened}
@@ -43,19 +43,25 @@ pub as_it_was : (form : Form) (old read new : Database) → IsOfForm form old.sc
 as_it_was Whole old read new declared was same closed = same refl ∙ was
 as_it_was Old old read new declared was same closed = absurd (four_lack old.schema declared closed)
 
+-- what holds of the calls that were counted holds of those of the index
+counted : (P : ℕ → ℕ → Type 0) (found : Opened) (index : CallIndex) (tables : Tables) → IsWhole tables found → Indexes index (kept_of tables.calls) → P found.len found.day → P (length index.entries.items) (day_of index.entries.items)
+counted P found index tables whole indexed holds =
+    subst (λ d. P (length index.entries.items) d) (whole.day ∙ sym (ap day_of indexed.calls))
+    (subst (λ n. P n found.day) (whole.len ∙ sym (ap length indexed.calls ∙ length-map tables.calls entry_of)) holds)
+
 -- what was found of the tables is so of the completed ones
-module _ (form : Form) (old read new : Database) (found : Opened) (ranges : Ranges) (it : IsFound form old found ranges) (was : read ≡ old) (whole : (tables : Tables) → HasForm form read tables → HasTables new tables) where
+module _ (form : Form) (old read new : Database) (found : Opened) (index : CallIndex) (it : IsFound form old found index) (was : read ≡ old) (whole : (tables : Tables) → HasForm form read tables → HasTables new tables) where
   completed : HasTables new it.tables
   completed = whole it.tables (subst (λ (d : Database). HasForm form d it.tables) (sym was) it.has)
 
   pub same_history : history_in new ≡ history_in old
   same_history = history new it.tables found completed it.whole ∙ sym (found_history form old it.tables found it.has it.whole)
 
-  pub completed_ledger : IsLedger new found.settings found.len found.day
-  completed_ledger = whole_ledger new it.tables found completed it.whole
+  pub completed_ledger : IsLedger new found.settings (length index.entries.items) (day_of index.entries.items)
+  completed_ledger = counted (λ n d. IsLedger new found.settings n d) found index it.tables it.whole it.indexed (whole_ledger new it.tables found completed it.whole)
 
-  pub completed_mirrors : Mirrors ranges (history_in new)
-  completed_mirrors = subst (λ (h : List Entry). Mirrors ranges h) (sym (history new it.tables found completed it.whole)) it.mirrored
+  pub completed_index : Indexes index (history_in new)
+  completed_index = subst (λ (h : List Entry). Indexes index h) (sym (history new it.tables found completed it.whole)) it.indexed
 
 no_rows_left : {X : Type 0} (xs ys : List X) → HaveSameRows xs ys → ys ≡ [] → xs ≡ []
 no_rows_left [] ys same none = refl
@@ -86,9 +92,12 @@ old_ledger db tables found has whole =
     }
 
 -- what was found is a ledger, of whichever build
-pub found_ledger : (form : Form) (db : Database) (found : Opened) (ranges : Ranges) → IsFound form db found ranges → IsAnyLedger db found.settings found.len found.day
-found_ledger Whole db found ranges it = inl (whole_ledger db it.tables found it.has it.whole)
-found_ledger Old db found ranges it = inr (old_ledger db it.tables found it.has it.whole)
+pub found_ledger : (form : Form) (db : Database) (found : Opened) (index : CallIndex) → IsFound form db found index → IsAnyLedger db found.settings (length index.entries.items) (day_of index.entries.items)
+found_ledger form db found index it = counted (λ n d. IsAnyLedger db found.settings n d) found index it.tables it.whole it.indexed (either form it.has)
+  where
+    either : (form : Form) → HasForm form db it.tables → IsAnyLedger db found.settings found.len found.day
+    either Whole has = inl (whole_ledger db it.tables found has it.whole)
+    either Old has = inr (old_ledger db it.tables found has it.whole)
 
 -- want of memory and a fault of the store refuse any database
 pub refused_by_store : (db : Database) (fault : OpenFault) → (fault ≡ Memory) ⊎ (fault ≡ Store) → IsOpeningRefusal db fault

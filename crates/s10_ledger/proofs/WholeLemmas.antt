@@ -25,8 +25,8 @@ use Rattle.s10_ledger.specs.declared.form.Form.{Form}
 use Rattle.s10_ledger.specs.declared.form.Form.TheVariants.{Whole, Old}
 use Rattle.s10_ledger.specs.Form.{HasForm}
 use Rattle.s10_ledger.specs.Refusals.{HasRows, IsOpeningRefusal}
-use Rattle.s10_ranges.specs.declared.ranges.Ranges.{Ranges}
-use Rattle.s10_ranges.specs.Mirror.{Mirrors}
+use Rattle.s10_index.specs.declared.call_index.CallIndex.{CallIndex}
+use Rattle.s10_index.specs.CallIndex.{Indexes}
 use Rattle.s10_ledger.specs.Remade.{IsFound}
 use Rattle.s10_ledger.specs.Ledger.{IsLedger, history_in}
 use Rattle.s10_ledger.proofs.HistoryLemmas.{history_is, calls_history}
@@ -135,8 +135,8 @@ refused_for db tables rows NotEmpty refusal = refusal
 refused_for db tables rows Memory refusal = tt
 refused_for db tables rows Store refusal = tt
 
--- what is whole, and mirrored, was found
-pub found_both : {E : Type 0} (form : Form) (db : Database) (tables : Tables) → HasForm form db tables → (r : Result (Opened × Ranges) E) → IfOk r (λ found. IsWhole tables found.0) → IfOk r (λ found. Mirrors found.1 (kept_of tables.calls))
+-- what is whole, and indexed, was found
+pub found_both : {E : Type 0} (form : Form) (db : Database) (tables : Tables) → HasForm form db tables → (r : Result (Opened × CallIndex) E) → IfOk r (λ found. IsWhole tables found.0) → IfOk r (λ found. Indexes found.1 (kept_of tables.calls))
     → IfOk r (λ found. IsFound form db found.0 found.1)
-found_both form db tables has (Ok found) whole mirrored = record { tables = tables; has = has; whole = whole; mirrored = mirrored }
-found_both form db tables has (Err e) whole mirrored = tt
+found_both form db tables has (Ok found) whole indexed = record { tables = tables; has = has; whole = whole; indexed = indexed }
+found_both form db tables has (Err e) whole indexed = tt

@@ -14,8 +14,8 @@ use Rattle.s10_book.specs.declared.faults.Faults.{Faults}
 use Rattle.s10_book.specs.Settings.{Terms}
 use Rattle.s10_book.specs.History.{day_of}
 use Rattle.s10_book.specs.Rules.{IsLegal}
-use Rattle.s10_ranges.specs.declared.ranges.Ranges.{Ranges}
-use Rattle.s10_ranges.specs.Mirror.{Mirrors}
+use Rattle.s10_index.specs.declared.call_index.CallIndex.{CallIndex}
+use Rattle.s10_index.specs.CallIndex.{Indexes}
 use Rattle.s10_rows.specs.CallRow.{StoredCall}
 use Rattle.s10_rows.specs.RightRows.{entry_of}
 use Rattle.s10_rows.specs.Selected.{IsCall, arrives_between}
@@ -49,9 +49,9 @@ in_turn (suc n) arrival calls = map entry_of (filter (arrives_between (pos arriv
 unfoldable pub history_in : Database → List Entry
 history_in db = let calls = map call_from (map call_columns (db.trees 1)) in in_turn (length calls) 1 calls
 
--- the ranges held in the process are those of the history, each with its pick as the mark
-abbrev pub IsMirrored : {S : Type 0} → Ghosts S → Held S → Ranges → Type 0
-IsMirrored g conn ranges = HasCleanDisk (state g conn) → IsTrue (state g conn).is_open → Mirrors ranges (history_in (state g conn).now)
+-- the calls held in the process are those of the history
+abbrev pub IsIndexed : {S : Type 0} → Ghosts S → Held S → CallIndex → Type 0
+IsIndexed g conn index = HasCleanDisk (state g conn) → IsTrue (state g conn).is_open → Indexes index (history_in (state g conn).now)
 
 -- what a ledger holds: its connection, its settings, how many calls are kept, the day of the last one, and the faults so far
 pub record Ledger (S : Type 0) : Type 0 where

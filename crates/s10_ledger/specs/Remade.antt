@@ -15,8 +15,8 @@ use Rattle.s10_rows.specs.Tables.{Tables, HaveSameRows}
 use Rattle.s10_rows.specs.RightRows.{AreRight, kept_of}
 use Rattle.s10_rows.specs.declared.opened.Opened.{Opened}
 use Rattle.s10_rows.specs.Verdict.{IsHead, IsRefusal, IsWhole}
-use Rattle.s10_ranges.specs.declared.ranges.Ranges.{Ranges}
-use Rattle.s10_ranges.specs.Mirror.{Mirrors}
+use Rattle.s10_index.specs.declared.call_index.CallIndex.{CallIndex}
+use Rattle.s10_index.specs.CallIndex.{Indexes}
 use Rattle.s10_ledger.specs.declared.remade.Remade.{Remade}
 use Rattle.s10_statements.specs.Shown.{shown_head, shown_call, shown_range, shown_serial, head_columns, call_columns, range_columns, serial_columns, IsNumbered}
 use Rattle.s10_ledger.specs.declared.form.Form.{Form}
@@ -39,7 +39,7 @@ pub record HasMade (db : Database) (ranges : List RangeRow) (serials : List Seri
 pub record IsRemade (heads : List HeadRow) (calls : List StoredCall) (made : Remade) : Type 0 where
   pub head : IsHead heads (pos 1) made.opened.settings
   pub right : AreRight made.opened.settings calls
-  pub kept : made.book.entries.items ≡ kept_of calls
+  pub kept : made.book.index.entries.items ≡ kept_of calls
   pub len : made.opened.len ≡ length calls
   pub day : made.opened.day ≡ day_of (kept_of calls)
 
@@ -58,9 +58,9 @@ pub record AreRead (form : Form) (db : Database) (made : Result Remade OpenFault
   pub ok : IfOk made (IsRemade tables.heads tables.calls)
   pub err : IfErr made (IsRefusal tables)
 
--- what was found of a database whose rows are whole, and its ranges
-pub record IsFound (form : Form) (db : Database) (opened : Opened) (ranges : Ranges) : Type 0 where
+-- what was found of a database whose rows are whole, and the index of its calls
+pub record IsFound (form : Form) (db : Database) (opened : Opened) (index : CallIndex) : Type 0 where
   pub tables : Tables
   pub has : HasForm form db tables
   pub whole : IsWhole tables opened
-  pub mirrored : Mirrors ranges (kept_of tables.calls)
+  pub indexed : Indexes index (kept_of tables.calls)

@@ -12,7 +12,9 @@ ghost use Rattle.s10_book.specs.Settings.{Terms};
 ghost use Rattle.s10_book.specs.Rules.{IsLegal, MayFollow};
 ghost use Rattle.s10_schema.specs.Schema.{IsLedgerSchema};
 ghost use Rattle.s10_statements.specs.Shown.{StandsFor};
+ghost use Rattle.s10_wire.specs.Kind.{fits};
 ghost use Rattle.s10_ranges.specs.Mirror.{Mirrors};
+ghost use Rattle.s10_index.specs.CallIndex.{Indexes};
 ghost use Rattle.s10_rows.specs.Selected.{IsCall};
 ghost use Rattle.s10_rows.specs.Tables.{serial_rows};
 ghost use Rattle.s10_rows.specs.Kept.{Makes, is_at};
@@ -23,6 +25,7 @@ use crate::faults::fault_of;
 use crate::issuing::issues_made;
 use crate::made::Made;
 use s10_book::{BookFault, Entry};
+use s10_index::CallIndex;
 use s10_ranges::Ranges;
 use s10_rows::{granted_row, pair_number, voided_row};
 use s10_statements::{keep_rows, serials_within};
@@ -105,6 +108,7 @@ pub(crate) fn keep_call<S: Alter>(
     ensures settled { IsSettled S.Store conn.new }
     ensures opened { HasCleanDisk (state S.Store conn.new) → OnOk result (IsTrue (state S.Store conn.new).is_open) }
     ensures fault { result ≢ Err Full }
+    ensures fits { OnOk result (IsTrue (fits entry.now.request.body entry.now.outcome)) }
     ensures clean { doubt (state S.Store conn.old).is_clean ≤ doubt (state S.Store conn.new).is_clean }
     ensures was_open { HasCleanDisk (state S.Store conn.new) → IsTrue (state S.Store conn.new).is_open → IsTrue (state S.Store conn.old).is_open }
     ensures ok { HasCleanDisk (state S.Store conn.new) → IsTrue (state S.Store conn.new).is_open → (h : List Entry) (t : Terms) → IsLegal h t → MayFollow h t entry.now → All IsCall h → StandsFor (state S.Store conn.old).now h t
@@ -134,51 +138,12 @@ pub(crate) fn keep_call<S: Alter>(
     }
 }
 
-/// Keeps the call, and counts it: how many calls there are then, and the day of the last one.
-pub(crate) fn keep_next<S: Alter>(
-    alloc: Global,
-    conn: &mut Connection<S>,
-    ranges: &Ranges,
-    len: &mut u32,
-    day: &mut u32,
-    limit: u32,
-    entry: &Entry,
-) -> Result<(), BookFault>
-    requires limit { limit ≤ 1000000000 }
-    requires settled { IsSettled S.Store conn.old }
-    ensures settled { IsSettled S.Store conn.new }
-    ensures opened { HasCleanDisk (state S.Store conn.new) → OnOk result (IsTrue (state S.Store conn.new).is_open) }
-    ensures fault { result ≢ Err Full }
-    ensures clean { doubt (state S.Store conn.old).is_clean ≤ doubt (state S.Store conn.new).is_clean }
-    ensures was_open { HasCleanDisk (state S.Store conn.new) → IsTrue (state S.Store conn.new).is_open → IsTrue (state S.Store conn.old).is_open }
-    ensures few { len.old ≤ 1000000000 → len.new ≤ 1000000000 }
-    ensures counts { OnOk result ((len.new ≡ len.old + 1) × (day.new ≡ entry.now.day)) }
-    ensures same_counts { OnErr result ((len.new ≡ len.old) × (day.new ≡ day.old)) }
-    ensures ok { HasCleanDisk (state S.Store conn.new) → IsTrue (state S.Store conn.new).is_open → (h : List Entry) (t : Terms) → IsLegal h t → MayFollow h t entry.now → All IsCall h → StandsFor (state S.Store conn.old).now h t
-        → Mirrors ranges.now h → len.old ≡ length h → OnOk result (IsCall entry.now × StandsFor (state S.Store conn.new).now (h ++ entry.now ∷ []) t) }
-    ensures err { HasCleanDisk (state S.Store conn.new) → IsTrue (state S.Store conn.new).is_open → IsLedgerSchema (state S.Store conn.old).now.schema
-        → OnErr result ((state S.Store conn.new).now ≡ (state S.Store conn.old).now) }
-    ensures crash { HasCleanDisk (state S.Store conn.new) → IsLedgerSchema (state S.Store conn.old).now.schema → (db : Trees) → (state S.Store conn.new).may_leave db
-        → (state S.Store conn.old).may_leave db ⊎ ((h : List Entry) (t : Terms) → IsLegal h t → MayFollow h t entry.now → All IsCall h → StandsFor (state S.Store conn.old).now h t
-        → Mirrors ranges.now h → len.old ≡ length h → IsCall entry.now × StandsFor (record (state S.Store conn.old).now { trees = db }) (h ++ entry.now ∷ []) t) }
-{
-    if *len >= limit {
-        return Err(BookFault::Store);
-    }
-    let arrival = *len + 1;
-    keep_call(alloc, conn, ranges, arrival, entry)?;
-    *len = arrival;
-    *day = entry.day;
-    Ok(())
-}
-
-/// Keeps the call as `keep_next` does, once there is room for what it makes of the ranges, and adds that to them.
+/// Keeps the call behind those of the index, where they are fewer than the limit and once there is room to hold it with what it
+/// makes, and holds it.
 pub(crate) fn keep_followed<S: Alter>(
     alloc: Global,
     conn: &mut Connection<S>,
-    ranges: &mut Ranges,
-    len: &mut u32,
-    day: &mut u32,
+    index: &mut CallIndex,
     limit: u32,
     entry: &Entry,
 ) -> Result<(), BookFault>
@@ -189,25 +154,29 @@ pub(crate) fn keep_followed<S: Alter>(
     ensures fault { result ≢ Err Full }
     ensures clean { doubt (state S.Store conn.old).is_clean ≤ doubt (state S.Store conn.new).is_clean }
     ensures was_open { HasCleanDisk (state S.Store conn.new) → IsTrue (state S.Store conn.new).is_open → IsTrue (state S.Store conn.old).is_open }
-    ensures few { len.old ≤ 1000000000 → len.new ≤ 1000000000 }
-    ensures counts { OnOk result ((len.new ≡ len.old + 1) × (day.new ≡ entry.now.day)) }
-    ensures same_counts { OnErr result ((len.new ≡ len.old) × (day.new ≡ day.old)) }
+    ensures few { length index.old.entries.items ≤ 1000000000 → length index.new.entries.items ≤ 1000000000 }
+    ensures calls { OnOk result (index.new.entries.items ≡ index.old.entries.items ++ entry.now ∷ []) }
+    ensures same_calls { OnErr result (index.new.entries.items ≡ index.old.entries.items) }
     ensures ok { HasCleanDisk (state S.Store conn.new) → IsTrue (state S.Store conn.new).is_open → (h : List Entry) (t : Terms) → IsLegal h t → MayFollow h t entry.now → All IsCall h → StandsFor (state S.Store conn.old).now h t
-        → Mirrors ranges.old h → len.old ≡ length h → OnOk result (IsCall entry.now × StandsFor (state S.Store conn.new).now (h ++ entry.now ∷ []) t) }
+        → Indexes index.old h → OnOk result (IsCall entry.now × StandsFor (state S.Store conn.new).now (h ++ entry.now ∷ []) t) }
     ensures err { HasCleanDisk (state S.Store conn.new) → IsTrue (state S.Store conn.new).is_open → IsLedgerSchema (state S.Store conn.old).now.schema
         → OnErr result ((state S.Store conn.new).now ≡ (state S.Store conn.old).now) }
     ensures crash { HasCleanDisk (state S.Store conn.new) → IsLedgerSchema (state S.Store conn.old).now.schema → (db : Trees) → (state S.Store conn.new).may_leave db
         → (state S.Store conn.old).may_leave db ⊎ ((h : List Entry) (t : Terms) → IsLegal h t → MayFollow h t entry.now → All IsCall h → StandsFor (state S.Store conn.old).now h t
-        → Mirrors ranges.old h → len.old ≡ length h → IsCall entry.now × StandsFor (record (state S.Store conn.old).now { trees = db }) (h ++ entry.now ∷ []) t) }
-    ensures followed { (h : List Entry) (t : Terms) → IsLegal h t → MayFollow h t entry.now → length h < 4294967295 → Mirrors ranges.old h → OnOk result (Mirrors ranges.new (h ++ entry.now ∷ [])) }
-    ensures same_ranges { (h : List Entry) → Mirrors ranges.old h → OnErr result (Mirrors ranges.new h) }
+        → Indexes index.old h → IsCall entry.now × StandsFor (record (state S.Store conn.old).now { trees = db }) (h ++ entry.now ∷ []) t) }
+    ensures followed { (h : List Entry) (t : Terms) → IsLegal h t → MayFollow h t entry.now → Indexes index.old h → OnOk result (Indexes index.new (h ++ entry.now ∷ [])) }
+    ensures same_index { (h : List Entry) → Indexes index.old h → OnErr result (Indexes index.new h) }
 {
-    if ranges.reserve().is_err() {
+    let held = index.calls().len();
+    if held >= limit as usize {
+        return Err(BookFault::Store);
+    }
+    if index.reserve(entry).is_err() {
         return Err(BookFault::Memory);
     }
-    let kept = keep_next(alloc, conn, ranges, len, day, limit, entry);
+    let kept = keep_call(alloc, conn, index.ranges(), held as u32 + 1, entry);
     if kept.is_ok() {
-        ranges.follow(entry);
+        index.follow(*entry);
     }
     kept
 }

@@ -1,6 +1,7 @@
 //! The ledger that a connection holds is opened.
 
-ghost use Rattle.std.specs.Prelude.{◌≡◌, ◌≤◌, ◌⊎◌, IfOk, IfErr, OnOk, OnErr, IsTrue};
+ghost use Rattle.std.specs.Prelude.{◌≡◌, ◌≤◌, ◌⊎◌, length, IfOk, IfErr, OnOk, OnErr, IsTrue};
+ghost use Rattle.s10_book.specs.History.{day_of};
 ghost use Rattle.sqlite.specs.Held.{state};
 ghost use Rattle.sqlite.specs.State.{HasCleanDisk};
 ghost use Rattle.s10_rows.specs.Tables.{Tables};
@@ -11,7 +12,7 @@ ghost use Rattle.s10_statements.specs.Statements.{Leaves};
 ghost use Rattle.s10_ledger.specs.declared.form.Form.TheVariants.{Whole};
 ghost use Rattle.s10_ledger.specs.Form.{IsOfForm, HasForm};
 ghost use Rattle.s10_ledger.specs.Remade.{IsFound};
-ghost use Rattle.s10_ledger.specs.Ledger.{IsLedger, IsAnyLedger, IsMirrored, history_in};
+ghost use Rattle.s10_ledger.specs.Ledger.{IsLedger, IsAnyLedger, IsIndexed, history_in};
 ghost use Rattle.s10_ledger.specs.Refusals.{IsOpeningRefusal};
 
 use crate::all_rows::all_rows;
@@ -20,24 +21,24 @@ use crate::form::{Form, form_of};
 use crate::refused::Refused;
 use crate::sql_book::SqlBook;
 use crate::verdict::verdict;
-use s10_ranges::Ranges;
+use s10_index::CallIndex;
 use s10_rows::{OpenFault, Opened};
 use s10_statements::{Watch, make_closed};
 use sqlite::{Alter, Connection};
 use std::alloc::Global;
 
-// What is found of the ledger in the tables, and its ranges.
+// What is found of the ledger in the tables, and the index of its calls.
 fn found_in<S: Alter, W: Watch>(
     alloc: Global,
     conn: &mut Connection<S>,
     form: Form,
     watch: &mut W,
-) -> Result<(Opened, Ranges), OpenFault>
+) -> Result<(Opened, CallIndex), OpenFault>
     requires settled { IsSettled S.Store conn.old }
     requires form { IsOfForm form (state S.Store conn.old).now.schema }
     ensures leaves { Leaves S.Store conn.old conn.new }
     ensures opened { HasCleanDisk (state S.Store conn.new) → OnOk result (IsTrue (state S.Store conn.new).is_open) }
-    ensures few { IfOk result (λ found. found.0.len ≤ 1000000000) }
+    ensures few { IfOk result (λ found. length found.1.entries.items ≤ 1000000000) }
     ensures found { HasCleanDisk (state S.Store conn.new) → IsTrue (state S.Store conn.new).is_open → IfOk result (λ found. IsFound form (state S.Store conn.old).now found.0 found.1) }
     ensures refused { HasCleanDisk (state S.Store conn.new) → IsTrue (state S.Store conn.new).is_open → IfErr result (IsOpeningRefusal (state S.Store conn.old).now) }
 {
@@ -79,25 +80,25 @@ fn complete<S: Alter, W: Watch>(
     }
 }
 
-// What is found of the ledger in the tables, and its ranges. Tables of an earlier build are completed.
+// What is found of the ledger in the tables, and the index of its calls. Tables of an earlier build are completed.
 pub(crate) fn ledger_in<S: Alter, W: Watch>(
     alloc: Global,
     conn: &mut Connection<S>,
     watch: &mut W,
-) -> Result<(Opened, Ranges), OpenFault>
+) -> Result<(Opened, CallIndex), OpenFault>
     requires settled { IsSettled S.Store conn.old }
     ensures settled { IsSettled S.Store conn.new }
     ensures was { WasSound S.Store conn.old conn.new }
     ensures opened { HasCleanDisk (state S.Store conn.new) → OnOk result (IsTrue (state S.Store conn.new).is_open) }
-    ensures few { IfOk result (λ found. found.0.len ≤ 1000000000) }
+    ensures few { IfOk result (λ found. length found.1.entries.items ≤ 1000000000) }
     ensures same { HasCleanDisk (state S.Store conn.new) → IsTrue (state S.Store conn.new).is_open → IsClosedSchema (state S.Store conn.old).now.schema → (state S.Store conn.new).now ≡ (state S.Store conn.old).now }
     ensures kept { HasCleanDisk (state S.Store conn.new) → IsTrue (state S.Store conn.new).is_open → OnErr result ((state S.Store conn.new).now ≡ (state S.Store conn.old).now) }
     ensures history { HasCleanDisk (state S.Store conn.new) → IsTrue (state S.Store conn.new).is_open → OnOk result (history_in (state S.Store conn.new).now ≡ history_in (state S.Store conn.old).now) }
     ensures ledger { HasCleanDisk (state S.Store conn.new) → IsTrue (state S.Store conn.new).is_open
-        → IfOk result (λ found. IsLedger (state S.Store conn.new).now found.0.settings found.0.len found.0.day) }
+        → IfOk result (λ found. IsLedger (state S.Store conn.new).now found.0.settings (length found.1.entries.items) (day_of found.1.entries.items)) }
     ensures found { HasCleanDisk (state S.Store conn.new) → IsTrue (state S.Store conn.new).is_open
-        → IfOk result (λ found. IsAnyLedger (state S.Store conn.old).now found.0.settings found.0.len found.0.day) }
-    ensures mirrored { IfOk result (λ found. IsMirrored S.Store conn.new found.1) }
+        → IfOk result (λ found. IsAnyLedger (state S.Store conn.old).now found.0.settings (length found.1.entries.items) (day_of found.1.entries.items)) }
+    ensures indexed { IfOk result (λ found. IsIndexed S.Store conn.new found.1) }
     ensures refused { HasCleanDisk (state S.Store conn.new) → IsTrue (state S.Store conn.new).is_open → IfErr result (IsOpeningRefusal (state S.Store conn.old).now) }
 {
     let Some(form) = form_of(conn.schema()) else {
@@ -152,9 +153,7 @@ impl<S: Alter> SqlBook<S> {
         // A connection that is in no transaction has nothing to commit.
         prove!(conn.is_autocommit());
         match ledger_in(alloc, &mut conn, watch) {
-            Ok((Opened { settings, len, day }, ranges)) => {
-                Ok(SqlBook::over(alloc, conn, settings, len, day, ranges))
-            }
+            Ok((opened, index)) => Ok(SqlBook::over(alloc, conn, opened.settings, index)),
             Err(fault) => Err(Refused {
                 fault,
                 connection: conn,

@@ -20,7 +20,7 @@ pub(crate) struct Remade {
 // A book in memory that keeps the calls of the rows, each of them right behind those before it.
 fn replayed(alloc: Global, settings: Settings, calls: &[CallRow]) -> Result<IndexedBook, OpenFault>
     ensures right { IfOk result (λ book. AreRight settings calls.now) }
-    ensures kept { IfOk result (λ book. book.entries.items ≡ kept_of calls.now) }
+    ensures kept { IfOk result (λ book. book.index.entries.items ≡ kept_of calls.now) }
     ensures err { (tables : Tables) → tables.calls ≡ calls.now → IsHead tables.heads (pos 1) settings → IfErr result (IsRefusal tables) }
 {
     let mut book = IndexedBook::new(alloc, settings);

@@ -8,11 +8,11 @@ ghost use Rattle.s10_ledger.specs.Ledger.{history_in, IsHonest};
 
 use crate::faults::opening_fault;
 use crate::keeping::keep_followed;
-use crate::lookups::{call_at, call_with_key, candidate_in, issue_of, new_serial, usage_in};
+use crate::lookups::{ask, usage_in};
 use crate::refused::Refused;
 use s10_book::{Book, BookFault, Candidate, Entry, Faults, Issue, Range, Settings, Usage};
 use s10_core::{Country, Id, Serial, Service};
-use s10_ranges::Ranges;
+use s10_index::CallIndex;
 use s10_rows::OpenFault;
 use s10_statements::{Unwatched, Watch, make_ledger, refusal_of};
 use sqlite::{Alter, Connection, MemStore};
@@ -24,35 +24,36 @@ pub struct SqlBook<S: Alter> {
     alloc: Global,
     conn: Connection<S>,
     settings: Settings,
-    len: u32,
-    day: u32,
     faults: Faults,
-    ranges: Ranges,
+    // The calls of the tables.
+    index: CallIndex,
     // Whether the connection answered the last statement.
     answered: bool,
 }
 
 impl<S: Alter> Model for SqlBook<S> {
-    ghost use Rattle.std.specs.Prelude.{IsTrue, ◌≤◌};
+    ghost use Rattle.std.specs.Prelude.{IsTrue, ◌≤◌, length};
+    ghost use Rattle.s10_book.specs.History.{day_of};
     ghost use Rattle.sqlite.specs.Held.{state};
     ghost use Rattle.sqlite.specs.State.{HasCleanDisk};
     ghost use Rattle.s10_statements.specs.Settled.{IsSettled, IsOpenIf};
-    ghost use Rattle.s10_ledger.specs.Ledger.{Ledger, ledger_code, IsLedger, IsMirrored};
+    ghost use Rattle.s10_ledger.specs.Ledger.{Ledger, ledger_code, IsLedger, IsIndexed};
 
     ghost Value = { Ledger S };
 
     ghost coded = { ledger_code S.code };
 
-    ghost view = { λ b. record { conn = b.conn; terms = b.settings; len = b.len; day = b.day; faults = b.faults } };
+    ghost view = { λ b. record { conn = b.conn; terms = b.settings; len = length b.index.entries.items; day = day_of b.index.entries.items; faults = b.faults } };
 
-    ghost invariant = { λ b. (b.len ≤ 1000000000) × (HasCleanDisk (state S.Store b.conn) → IsTrue (state S.Store b.conn).is_open → IsLedger (state S.Store b.conn).now b.settings b.len b.day) × IsSettled S.Store b.conn × IsMirrored S.Store b.conn b.ranges × IsOpenIf S.Store b.conn b.answered };
+    ghost invariant = { λ b. (length b.index.entries.items ≤ 1000000000) × (HasCleanDisk (state S.Store b.conn) → IsTrue (state S.Store b.conn).is_open → IsLedger (state S.Store b.conn).now b.settings (length b.index.entries.items) (day_of b.index.entries.items)) × IsSettled S.Store b.conn × IsIndexed S.Store b.conn b.index × IsOpenIf S.Store b.conn b.answered };
 }
 
 impl<S: Alter> SqlBook<S> {
-    ghost use Rattle.std.specs.Prelude.{◌≡◌, ◌≤◌, IfOk, IfErr, IsTrue, [], false};
+    ghost use Rattle.std.specs.Prelude.{◌≡◌, ◌≤◌, IfOk, IfErr, IsTrue, [], length, false};
+    ghost use Rattle.s10_book.specs.History.{day_of};
     ghost use Rattle.sqlite.specs.Held.{state};
     ghost use Rattle.sqlite.specs.State.{HasCleanDisk};
-    ghost use Rattle.s10_ledger.specs.Ledger.{Ledger, IsLedger, IsMirrored, IsHonest, history_in};
+    ghost use Rattle.s10_ledger.specs.Ledger.{Ledger, IsLedger, IsIndexed, IsHonest, history_in};
     ghost use Rattle.s10_statements.specs.Settled.{IsSettled, WasSound};
     ghost use Rattle.s10_statements.specs.Making.{HasOneOfTheNames, IsMakingRefusal};
     ghost use Rattle.s10_schema.specs.Schema.{ledger_schema};
@@ -94,38 +95,32 @@ impl<S: Alter> SqlBook<S> {
             alloc,
             conn: connection,
             settings,
-            len: 0,
-            day: 0,
             faults: Faults::none(),
-            ranges: Ranges::new(alloc),
+            index: CallIndex::new(alloc),
             answered: true,
         })
     }
 
-    // The book over a connection whose tables stand for so many calls, the last of them on that day, and for these ranges.
+    // The book over a connection whose tables stand for the calls of the index.
     pub(crate) fn over(
         alloc: Global,
         conn: Connection<S>,
         settings: Settings,
-        len: u32,
-        day: u32,
-        ranges: Ranges,
+        index: CallIndex,
     ) -> SqlBook<S>
-        requires few { len ≤ 1000000000 }
+        requires few { length index.entries.items ≤ 1000000000 }
         requires settled { IsSettled S.Store conn }
-        requires ledger { HasCleanDisk (state S.Store conn) → IsTrue (state S.Store conn).is_open → IsLedger (state S.Store conn).now settings len day }
-        requires mirrored { IsMirrored S.Store conn ranges }
+        requires ledger { HasCleanDisk (state S.Store conn) → IsTrue (state S.Store conn).is_open → IsLedger (state S.Store conn).now settings (length index.entries.items) (day_of index.entries.items) }
+        requires indexed { IsIndexed S.Store conn index }
         requires opened { HasCleanDisk (state S.Store conn) → IsTrue (state S.Store conn).is_open }
-        ensures { let book : Ledger S = record { conn = conn; terms = settings; len = len; day = day; faults = no_faults } in result ≡ book }
+        ensures { let book : Ledger S = record { conn = conn; terms = settings; len = length index.entries.items; day = day_of index.entries.items; faults = no_faults } in result ≡ book }
     {
         SqlBook {
             alloc,
             conn,
             settings,
-            len,
-            day,
             faults: Faults::none(),
-            ranges,
+            index,
             answered: true,
         }
     }
@@ -152,10 +147,8 @@ impl<S: Alter> SqlBook<S> {
             alloc: _,
             conn,
             settings: _,
-            len: _,
-            day: _,
             faults: _,
-            ranges: _,
+            index: _,
             answered: _,
         } = self;
         conn
@@ -213,8 +206,8 @@ impl<S: Alter> SqlBook<S> {
     ghost use Rattle.s10_book.specs.Book.{Keeps};
     ghost use Rattle.s10_ledger.specs.Ledger.{history_of};
 
-    // Asks the connection for a call where it did not answer the last statement, so that no range is
-    // told over a connection that is shut.
+    // Asks the connection where it did not answer the last statement, so that nothing is told over a
+    // connection that is shut.
     fn ask_again(&mut self) -> Result<(), BookFault>
         ensures faults { Counts result self.old.faults self.new.faults }
         ensures keeps { Keeps (history_of S.Store) (λ b. b.terms) (IsHonest S.Store) self.old self.new }
@@ -223,13 +216,10 @@ impl<S: Alter> SqlBook<S> {
         if self.answered {
             return Ok(());
         }
-        let found = call_at(self.alloc, &mut self.conn, 0);
-        let answered = found.is_ok();
+        let asked = ask(self.alloc, &mut self.conn);
+        let answered = asked.is_ok();
         self.answered = answered;
-        match counted(&mut self.faults, found) {
-            Ok(_) => Ok(()),
-            Err(fault) => Err(fault),
-        }
+        counted(&mut self.faults, asked)
     }
 }
 
@@ -260,11 +250,11 @@ impl<S: Alter> Book for SqlBook<S> {
     }
 
     fn len(&self) -> u32 {
-        self.len
+        self.index.calls().len() as u32
     }
 
     fn day(&self) -> u32 {
-        self.day
+        self.index.day()
     }
 
     fn find(&mut self, customer: u32, number: u32) -> Result<Option<Entry>, BookFault>
@@ -274,10 +264,10 @@ impl<S: Alter> Book for SqlBook<S> {
         ensures answer { IsHonest S.Store self.new → IfOk result (λ e. e ≡ entry_with_key (history_of S.Store self.old) customer number) }
         ensures fits { IfOk result (λ found. IfSome found (λ e. IsTrue (fits e.request.body e.outcome))) }
     {
-        let found = call_with_key(self.alloc, &mut self.conn, customer, number);
-        let answered = found.is_ok();
-        self.answered = answered;
-        counted(&mut self.faults, found)
+        if let Err(fault) = self.ask_again() {
+            return Err(fault);
+        }
+        Ok(self.index.find(customer, number))
     }
 
     fn entry(&mut self, at: u32) -> Result<Option<Entry>, BookFault>
@@ -286,10 +276,10 @@ impl<S: Alter> Book for SqlBook<S> {
         ensures opened { HasCleanDisk (state S.Store self.new.conn) → OnOk result (IsTrue (state S.Store self.new.conn).is_open) }
         ensures answer { IsHonest S.Store self.new → IfOk result (λ e. e ≡ entry_at (history_of S.Store self.old) at) }
     {
-        let found = call_at(self.alloc, &mut self.conn, at);
-        let answered = found.is_ok();
-        self.answered = answered;
-        counted(&mut self.faults, found)
+        if let Err(fault) = self.ask_again() {
+            return Err(fault);
+        }
+        Ok(self.index.entry(at))
     }
 
     fn range(&mut self, num: u32) -> Result<Option<Range>, BookFault>
@@ -301,7 +291,7 @@ impl<S: Alter> Book for SqlBook<S> {
         if let Err(fault) = self.ask_again() {
             return Err(fault);
         }
-        Ok(self.ranges.numbered(num))
+        Ok(self.index.ranges().numbered(num))
     }
 
     fn closed(&mut self, num: u32) -> Result<bool, BookFault>
@@ -313,7 +303,7 @@ impl<S: Alter> Book for SqlBook<S> {
         if let Err(fault) = self.ask_again() {
             return Err(fault);
         }
-        Ok(self.ranges.is_closed(num))
+        Ok(self.index.ranges().is_closed(num))
     }
 
     fn next_range(
@@ -332,7 +322,7 @@ impl<S: Alter> Book for SqlBook<S> {
         if let Err(fault) = self.ask_again() {
             return Err(fault);
         }
-        Ok(self.ranges.open_after(customer, service, country, after))
+        Ok(self.index.ranges().open_after(customer, service, country, after))
     }
 
     fn covering(
@@ -350,7 +340,7 @@ impl<S: Alter> Book for SqlBook<S> {
         if let Err(fault) = self.ask_again() {
             return Err(fault);
         }
-        Ok(self.ranges.over(service, country, first, last))
+        Ok(self.index.ranges().over(service, country, first, last))
     }
 
     fn last_issue(&mut self, id: &Id) -> Result<Option<Issue>, BookFault>
@@ -359,10 +349,10 @@ impl<S: Alter> Book for SqlBook<S> {
         ensures opened { HasCleanDisk (state S.Store self.new.conn) → OnOk result (IsTrue (state S.Store self.new.conn).is_open) }
         ensures answer { IsHonest S.Store self.new → IfOk result (λ i. i ≡ last_issue_of (history_of S.Store self.old) id.now) }
     {
-        let found = issue_of(self.alloc, &mut self.conn, id);
-        let answered = found.is_ok();
-        self.answered = answered;
-        counted(&mut self.faults, found)
+        if let Err(fault) = self.ask_again() {
+            return Err(fault);
+        }
+        Ok(self.index.last_issue(id))
     }
 
     fn candidate(&mut self, range: &Range) -> Result<Candidate, BookFault>
@@ -372,21 +362,10 @@ impl<S: Alter> Book for SqlBook<S> {
         ensures opened { HasCleanDisk (state S.Store self.new.conn) → OnOk result (IsTrue (state S.Store self.new.conn).is_open) }
         ensures answer { IsHonest S.Store self.new → IfOk result (λ c. c ≡ candidate_of (history_of S.Store self.old) range.now) }
     {
-        let mark = self.ranges.mark(range.num);
-        let new = new_serial(&mark);
-        if let Some(serial) = new {
-            if let Err(fault) = self.ask_again() {
-                return Err(fault);
-            }
-            return Ok(Candidate {
-                serial,
-                issue: None,
-            });
+        if let Err(fault) = self.ask_again() {
+            return Err(fault);
         }
-        let found = candidate_in(self.alloc, &mut self.conn, range, mark, 0);
-        let answered = found.is_ok();
-        self.answered = answered;
-        counted(&mut self.faults, found)
+        Ok(self.index.candidate_after(range, 0))
     }
 
     fn candidate_after(&mut self, range: &Range, issued: u8) -> Result<Candidate, BookFault>
@@ -397,16 +376,10 @@ impl<S: Alter> Book for SqlBook<S> {
         ensures opened { HasCleanDisk (state S.Store self.new.conn) → OnOk result (IsTrue (state S.Store self.new.conn).is_open) }
         ensures answer { IsHonest S.Store self.new → IfOk result (λ c. c ≡ candidate_after_of (history_of S.Store self.old) range.now issued) }
     {
-        let found = candidate_in(
-            self.alloc,
-            &mut self.conn,
-            range,
-            self.ranges.mark(range.num),
-            issued,
-        );
-        let answered = found.is_ok();
-        self.answered = answered;
-        counted(&mut self.faults, found)
+        if let Err(fault) = self.ask_again() {
+            return Err(fault);
+        }
+        Ok(self.index.candidate_after(range, issued))
     }
 
     fn usage(&mut self, range: &Range, day: u32) -> Result<Usage, BookFault>
@@ -417,7 +390,7 @@ impl<S: Alter> Book for SqlBook<S> {
         ensures answer { IsHonest S.Store self.new → IfOk result (λ u. u ≡ usage_of (history_of S.Store self.old) range.now day self.old.terms.interval) }
     {
         let interval = self.settings.interval();
-        let day = self.day.max(day);
+        let day = self.index.day().max(day);
         let found = usage_in(self.alloc, &mut self.conn, range, day, interval);
         let answered = found.is_ok();
         self.answered = answered;
@@ -439,9 +412,7 @@ impl<S: Alter> Book for SqlBook<S> {
         let kept = keep_followed(
             self.alloc,
             &mut self.conn,
-            &mut self.ranges,
-            &mut self.len,
-            &mut self.day,
+            &mut self.index,
             limit,
             &entry,
         );

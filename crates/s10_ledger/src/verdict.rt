@@ -1,7 +1,7 @@
 //! The rows of a ledger are compared with those that its calls make.
 
-ghost use Rattle.std.specs.Prelude.{◌≡◌, ◌↔◌, All, IfOk, IfErr, IsTrue};
-ghost use Rattle.s10_ranges.specs.Mirror.{Mirrors};
+ghost use Rattle.std.specs.Prelude.{◌≡◌, ◌≤◌, ◌↔◌, length, All, IfOk, IfErr, IsTrue};
+ghost use Rattle.s10_index.specs.CallIndex.{Indexes};
 ghost use Rattle.s10_rows.specs.Tables.{Tables, HaveSameRows, range_rows, serial_rows, closed_rows};
 ghost use Rattle.s10_rows.specs.RightRows.{kept_of};
 ghost use Rattle.s10_rows.specs.Verdict.{IsWhole, IsRefusal};
@@ -10,8 +10,7 @@ ghost use Rattle.s10_ledger.specs.Remade.{IsRemade, AreTheirs};
 
 use crate::made_rows::MadeRows;
 use crate::remade::Remade;
-use s10_index::IndexedBook;
-use s10_ranges::Ranges;
+use s10_index::{CallIndex, IndexedBook};
 use s10_rows::{
     ClosedRow, OpenFault, Opened, RangeRow, SerialRow, same_closed, same_ranges, same_serials,
 };
@@ -20,7 +19,7 @@ use std::alloc::Global;
 // Whether these are the ranges of the book.
 fn has_ranges(alloc: Global, book: &IndexedBook, rows: Vec<RangeRow>) -> Result<bool, OpenFault>
     ensures err { (tables : Tables) → IfErr result (IsRefusal tables) }
-    ensures answer { IfOk result (λ b. IsTrue b ↔ HaveSameRows (range_rows book.now.entries.items) rows.items) }
+    ensures answer { IfOk result (λ b. IsTrue b ↔ HaveSameRows (range_rows book.now.index.entries.items) rows.items) }
 {
     let Ok(made) = book.range_rows(alloc) else {
         return Err(OpenFault::Memory);
@@ -31,7 +30,7 @@ fn has_ranges(alloc: Global, book: &IndexedBook, rows: Vec<RangeRow>) -> Result<
 // Whether these are the serials of the book.
 fn has_serials(alloc: Global, book: &IndexedBook, rows: Vec<SerialRow>) -> Result<bool, OpenFault>
     ensures err { (tables : Tables) → IfErr result (IsRefusal tables) }
-    ensures answer { All IsCall book.now.entries.items → IfOk result (λ b. IsTrue b ↔ HaveSameRows (serial_rows book.now.entries.items) rows.items) }
+    ensures answer { All IsCall book.now.index.entries.items → IfOk result (λ b. IsTrue b ↔ HaveSameRows (serial_rows book.now.index.entries.items) rows.items) }
 {
     let Ok(made) = book.serial_rows(alloc) else {
         return Err(OpenFault::Memory);
@@ -42,7 +41,7 @@ fn has_serials(alloc: Global, book: &IndexedBook, rows: Vec<SerialRow>) -> Resul
 // Whether these are the closed ranges of the book.
 fn has_closed(alloc: Global, book: &IndexedBook, rows: Vec<ClosedRow>) -> Result<bool, OpenFault>
     ensures err { (tables : Tables) → IfErr result (IsRefusal tables) }
-    ensures answer { IfOk result (λ b. IsTrue b ↔ HaveSameRows (closed_rows book.now.entries.items) rows.items) }
+    ensures answer { IfOk result (λ b. IsTrue b ↔ HaveSameRows (closed_rows book.now.index.entries.items) rows.items) }
 {
     let Ok(made) = book.closed_rows(alloc) else {
         return Err(OpenFault::Memory);
@@ -55,8 +54,9 @@ pub(crate) fn verdict(
     alloc: Global,
     made: Remade,
     rows: MadeRows,
-) -> Result<(Opened, Ranges), OpenFault>
-    ensures mirrored { (tables : Tables) → IsRemade tables.heads tables.calls made → IfOk result (λ found. Mirrors found.1 (kept_of tables.calls)) }
+) -> Result<(Opened, CallIndex), OpenFault>
+    ensures few { IfOk result (λ found. length found.1.entries.items ≤ 1000000000) }
+    ensures indexed { (tables : Tables) → IsRemade tables.heads tables.calls made → IfOk result (λ found. Indexes found.1 (kept_of tables.calls)) }
     ensures ok { (tables : Tables) → AreTheirs tables rows → IsRemade tables.heads tables.calls made → IfOk result (λ found. IsWhole tables found.0) }
     ensures err { (tables : Tables) → AreTheirs tables rows → IsRemade tables.heads tables.calls made → IfErr result (IsRefusal tables) }
 {
@@ -75,5 +75,5 @@ pub(crate) fn verdict(
     if !has_closed(alloc, &book, closed)? {
         return Err(OpenFault::Damaged(0));
     }
-    Ok((opened, book.into_ranges()))
+    Ok((opened, book.into_index()))
 }

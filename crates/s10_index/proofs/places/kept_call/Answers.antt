@@ -5,14 +5,14 @@ use Rattle.s10_book.specs.History.{has_key}
 use Rattle.s10_index.proofs.Placing.{none_placed, placed_call, item_at}
 use Rattle.s10_index.proofs.places.kept_call.Goals as goal
 
-pub returns-in_err-place : goal.returns-in_err-place
-returns-in_err-place c =
+pub returns-in_err-place-clause-answer : goal.returns-in_err-place-clause-answer
+returns-in_err-place-clause-answer c has =
     let none : position_from (has_key c.args.customer c.args.number) 0 c.args.calls.now ≡ None =
-    sym (c.requires c.args.customer c.args.number) ∙ sym c.get.ensures.value ∙ ap option_copied c.in_err-place.was in
+    sym (has c.args.customer c.args.number) ∙ sym c.get.ensures.value ∙ ap option_copied c.in_err-place.was in
     c.from_residual.ensures ∙ sym (none_placed (has_key c.args.customer c.args.number) c.args.calls.now 0 none)
 
-pub returns : goal.returns
-returns c =
+pub returns-clause-answer : goal.returns-clause-answer
+returns-clause-answer c has =
     let found : position_from (has_key c.args.customer c.args.number) 0 c.args.calls.now ≡ Some c.in_ok-place.field-0.now =
-    sym (c.requires c.args.customer c.args.number) ∙ sym c.get.ensures.value ∙ ap option_copied c.in_ok-place.was in
+    sym (has c.args.customer c.args.number) ∙ sym c.get.ensures.value ∙ ap option_copied c.in_ok-place.was in
     c.copied.ensures ∙ item_at c.args.calls.now c.in_ok-place.field-0.now c.get-2.result c.get-2.ensures.lookup ∙ placed_call (has_key c.args.customer c.args.number) c.args.calls.now c.in_ok-place.field-0.now found

@@ -1,24 +1,16 @@
-use Rattle.std.proofs.Common.{refl}
-use Rattle.std.proofs.lemmas.Result.{IfOk-weaker, IfErr-weaker, err_from_is_err_and}
+use Rattle.std.proofs.lemmas.Result.{IfErr-weaker, err_from_is_err_and}
 use Rattle.sqlite.specs.Effect.{Database}
 use Rattle.sqlite.specs.Held.{state}
-use Rattle.s10_rows.specs.Tables.{Tables}
-use Rattle.s10_rows.specs.Verdict.{IsWhole, IsRefusal}
+use Rattle.s10_rows.specs.Verdict.{IsRefusal}
 use Rattle.s10_statements.proofs.RowByRow.{if_ok, if_err}
-use Rattle.s10_ledger.proofs.WholeLemmas.{whole_few, refused_for, found_both}
+use Rattle.s10_ledger.proofs.WholeLemmas.{refused_for, found_both}
 use Rattle.s10_ledger.proofs.opening.found_in.Goals as goal
-
-pub returns-clause-few : goal.returns-clause-few
-returns-clause-few g c =
-    let it = if_ok c.in-Ok.rows.0 _ c.in_ok-made.made c.in_ok-made.was c.in-Ok.ensures.remade in
-    let tables : Tables = record { heads = it.0; calls = it.1.0; ranges = c.in-Ok.rows.1.ranges.items; serials = c.in-Ok.rows.1.serials.items; closed = c.in-Ok.rows.1.closed.items } in
-    IfOk-weaker c.verdict.result (λ found. IsWhole tables found.0) _ (λ found. whole_few tables found.0) (c.verdict.ensures.ok tables (record { ranges = refl; serials = refl; closed = refl }) it.1.1)
 
 pub returns-clause-found : goal.returns-clause-found
 returns-clause-found g c clean opened =
     let read = c.in-Ok.ensures.rows clean opened c.requires.settled in
     let made = if_ok c.in-Ok.rows.0 _ c.in_ok-made.made c.in_ok-made.was read.ok in
-    found_both c.args.form (state g.S.Store c.args.conn.now).now read.tables read.has c.verdict.result (c.verdict.ensures.ok read.tables read.theirs made) (c.verdict.ensures.mirrored read.tables made)
+    found_both c.args.form (state g.S.Store c.args.conn.now).now read.tables read.has c.verdict.result (c.verdict.ensures.ok read.tables read.theirs made) (c.verdict.ensures.indexed read.tables made)
 
 pub returns-clause-refused : goal.returns-clause-refused
 returns-clause-refused g c clean opened =

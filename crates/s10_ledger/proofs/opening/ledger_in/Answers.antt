@@ -5,7 +5,7 @@ use Rattle.sqlite.specs.Held.{state}
 use Rattle.s10_ledger.specs.Form.{IsOfForm}
 use Rattle.s10_ledger.specs.Refusals.{HasAForm}
 use Rattle.s10_ledger.proofs.Forms.{form_ledger}
-use Rattle.s10_ledger.proofs.OpeningLemmas.{was_sound, as_read, as_it_was, same_history, completed_ledger, completed_mirrors, found_ledger, refused_by_store}
+use Rattle.s10_ledger.proofs.OpeningLemmas.{was_sound, as_read, as_it_was, same_history, completed_ledger, completed_index, found_ledger, refused_by_store}
 use Rattle.s10_ledger.proofs.opening.ledger_in.Goals as goal
 
 pub found_in-requires-clause-form : goal.found_in-requires-clause-form
@@ -43,12 +43,12 @@ returns-clause-found g c clean opened =
     let sound = c.complete.ensures.was clean in
     found_ledger c.in-Some.form (state g.S.Store c.args.conn.now).now c.in_ok-found.found.0 c.in_ok-found.found.1 (c.in_ok-found.ensures.found sound.0 (sound.1 opened))
 
-pub returns-clause-mirrored : goal.returns-clause-mirrored
-returns-clause-mirrored g c clean opened =
+pub returns-clause-indexed : goal.returns-clause-indexed
+returns-clause-indexed g c clean opened =
     let declared = subst (λ (s : Schema). IsOfForm c.in-Some.form s) c.schema.ensures.value c.in-Some.ensures.some in
     let was = as_read g.S.Store c.args.conn.now c.found_in.new.conn c.complete.new.conn c.in-Some.form declared c.requires.settled c.found_in.ensures.leaves c.complete.ensures.was clean opened in
     let sound = c.complete.ensures.was clean in
-    completed_mirrors c.in-Some.form (state g.S.Store c.args.conn.now).now (state g.S.Store c.found_in.new.conn).now (state g.S.Store c.complete.new.conn).now c.in_ok-found.found.0 c.in_ok-found.found.1
+    completed_index c.in-Some.form (state g.S.Store c.args.conn.now).now (state g.S.Store c.found_in.new.conn).now (state g.S.Store c.complete.new.conn).now c.in_ok-found.found.0 c.in_ok-found.found.1
     (c.in_ok-found.ensures.found sound.0 (sound.1 opened)) was (c.in_ok-complete.ensures.whole clean)
 
 pub returns-in_err-found-clause-same : goal.returns-in_err-found-clause-same

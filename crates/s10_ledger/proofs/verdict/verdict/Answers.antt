@@ -2,7 +2,7 @@ use Rattle.std.proofs.Common.{sym, subst, All, List}
 use Rattle.std.proofs.lemmas.Result.{err_from_is_err_and}
 use Rattle.std.proofs.lemmas.Bool.{both_ways}
 use Rattle.s10_book.specs.declared.entry.Entry.{Entry}
-use Rattle.s10_ranges.specs.Mirror.{Mirrors}
+use Rattle.s10_index.specs.CallIndex.{Indexes}
 use Rattle.s10_rows.specs.declared.range_row.RangeRow.{RangeRow}
 use Rattle.s10_rows.specs.declared.serial_row.SerialRow.{SerialRow}
 use Rattle.s10_rows.specs.declared.closed_row.ClosedRow.{ClosedRow}
@@ -25,7 +25,7 @@ returns-in_err-has_serials-clause-err c = λ tables theirs it.
 
 pub returns-then-not-branch-clause-err : goal.returns-then-not-branch-clause-err
 returns-then-not-branch-clause-err c = λ tables theirs it.
-    let h = c.args.made.book.entries.items in
+    let h = c.args.made.book.index.entries.items in
     let ranges = told range_rows c.args.rows.ranges.items c.in_ok-has_ranges.field-0 h (kept_of tables.calls) it.kept c.in_ok-has_ranges.ensures.answer in (
       c.args.made.opened.settings,
       it.head,
@@ -36,7 +36,7 @@ returns-then-not-branch-clause-err c = λ tables theirs it.
 
 pub returns-then-not-branch-2-clause-err : goal.returns-then-not-branch-2-clause-err
 returns-then-not-branch-2-clause-err c = λ tables theirs it.
-    let h = c.args.made.book.entries.items in
+    let h = c.args.made.book.index.entries.items in
     let calls = subst (λ (l : List Entry). All IsCall l) (sym it.kept) (right_calls c.args.made.opened.settings tables.calls it.right) in
     let serials = told serial_rows c.args.rows.serials.items c.in_ok-has_serials.field-0 h (kept_of tables.calls) it.kept (c.in_ok-has_serials.ensures.answer calls) in (
       c.args.made.opened.settings,
@@ -53,7 +53,7 @@ returns-in_err-has_closed-clause-err c = λ tables theirs it.
 
 pub returns-then-not-branch-3-clause-err : goal.returns-then-not-branch-3-clause-err
 returns-then-not-branch-3-clause-err c = λ tables theirs it.
-    let h = c.args.made.book.entries.items in
+    let h = c.args.made.book.index.entries.items in
     let closed = told closed_rows c.args.rows.closed.items c.in_ok-has_closed.field-0 h (kept_of tables.calls) it.kept c.in_ok-has_closed.ensures.answer in (
       c.args.made.opened.settings,
       it.head,
@@ -64,7 +64,7 @@ returns-then-not-branch-3-clause-err c = λ tables theirs it.
 
 pub returns-clause-ok : goal.returns-clause-ok
 returns-clause-ok c = λ tables theirs it.
-    let h = c.args.made.book.entries.items in
+    let h = c.args.made.book.index.entries.items in
     let calls = subst (λ (l : List Entry). All IsCall l) (sym it.kept) (right_calls c.args.made.opened.settings tables.calls it.right) in
     let ranges = told range_rows c.args.rows.ranges.items c.in_ok-has_ranges.field-0 h (kept_of tables.calls) it.kept c.in_ok-has_ranges.ensures.answer in
     let serials = told serial_rows c.args.rows.serials.items c.in_ok-has_serials.field-0 h (kept_of tables.calls) it.kept (c.in_ok-has_serials.ensures.answer calls) in
@@ -81,5 +81,5 @@ returns-clause-ok c = λ tables theirs it.
       day = it.day;
     }
 
-pub returns-clause-mirrored : goal.returns-clause-mirrored
-returns-clause-mirrored c = λ tables it. subst (λ (l : List Entry). Mirrors c.into_ranges.result l) it.kept c.into_ranges.ensures
+pub returns-clause-indexed : goal.returns-clause-indexed
+returns-clause-indexed c = λ tables it. subst (λ (l : List Entry). Indexes c.into_index.result l) it.kept c.into_index.ensures.indexed

@@ -9,20 +9,20 @@ use Rattle.s10_index.proofs.LastRows.{none_behind, whole}
 use Rattle.s10_index.proofs.indexed_book.IndexedBook.serial_rows.Goals as goal
 
 pub loop-place-init : goal.loop-place-init
-loop-place-init c = ap (λ (l : List SerialRow). l ++ rows_behind c.args.self.now.entries.items 0) c.new-rows.ensures.items
+loop-place-init c = ap (λ (l : List SerialRow). l ++ rows_behind c.args.self.now.index.entries.items 0) c.new-rows.ensures.items
 
 pub loop-place-preserved : goal.loop-place-preserved
 loop-place-preserved c =
-    let h = c.args.self.now.entries.items in
+    let h = c.args.self.now.index.entries.items in
     let t = c.args.self.now.settings in
     let k = c.loop-place.place in
     let within : k < length h = omega (arith, c.loop-place-test.true, c.len-len.ensures.answer tt) in
     let at : slice_get h k ≡ Some c.index-entry.result.now = slice_get_read h (length h) k c.index-entry.result.now refl within c.index-entry.ensures in
     let pos : 1 ≤ t.interval = omega (arith, c.interval-interval.ensures.value, c.interval-interval.ensures.range.0, ap (λ (s : Terms). s.interval) (c.settings.ensures tt)) in
-    c.in_ok-push_rows.ensures h t c.args.self.now.legal pos c.args.self.now.issued at ∙ c.loop-place.invariant
+    c.in_ok-push_rows.ensures h t c.args.self.now.legal pos c.args.self.now.indexed.issues at ∙ c.loop-place.invariant
 
 pub returns : goal.returns
 returns c =
-    let h = c.args.self.now.entries.items in
+    let h = c.args.self.now.index.entries.items in
     let past : length h ≤ c.loop-place.place = omega (arith, c.loop-place-test.false, c.len-len.ensures.answer tt) in
     whole c.loop-place.rows.items (rows_behind h c.loop-place.place) (serial_rows h) (none_behind h c.loop-place.place past) c.loop-place.invariant

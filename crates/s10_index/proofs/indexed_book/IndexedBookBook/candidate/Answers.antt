@@ -1,12 +1,9 @@
-use Rattle.std.proofs.Common.{◌∙◌, ℕ, Ok, ap, ap₂}
-use Rattle.std.specs.Prelude.{Option}
-use Rattle.s10_book.specs.declared.candidate.Candidate.{Candidate}
-use Rattle.s10_book.specs.declared.issue.Issue.{Issue}
-use Rattle.s10_book.specs.Issues.{id_at, last_issue_of}
+use Rattle.std.proofs.Common.{ap, Ok, arith}
+use Rattle.s10_book.proofs.Marks.{all_at_pick}
 use Rattle.s10_index.proofs.indexed_book.IndexedBookBook.candidate.Goals as goal
 
 pub returns-clause-answer : goal.returns-clause-answer
 returns-clause-answer c =
-    let h = c.args.self.now.entries.items in
-    let f : ℕ → Option Issue → Candidate = λ s i. record { serial = s; issue = i } in
-    ap Ok (ap₂ f c.pick-serial.ensures (c.last_state-issue.ensures ∙ ap (λ s. last_issue_of h (id_at c.args.range.now s)) c.pick-serial.ensures))
+    let b = c.args.self.now in
+    let turns = all_at_pick b.index.entries.items b.settings b.legal c.args.range.now c.requires in
+    ap Ok (c.candidate_after.ensures b.index.entries.items b.settings b.legal b.indexed c.requires (omega (arith, turns.low, turns.high)))

@@ -12,3 +12,12 @@ ledger_in-requires g c = record { settled = record { idle = c.requires.idle; com
 
 pub returns-in-Ok-clause-completed : goal.returns-in-Ok-clause-completed
 returns-in-Ok-clause-completed g c honest = closed_is (state g.S.Store c.over.result.conn).now c.over.result.terms c.over.result.len c.over.result.day honest.ledger
+
+pub returns-in-Ok-clause-honest : goal.returns-in-Ok-clause-honest
+returns-in-Ok-clause-honest g c = rw c.over.ensures (λ clean opened. record { clean = clean; is_open = opened; ledger = c.in-Ok.ensures.ledger clean opened })
+
+pub returns-in-Ok-clause-found : goal.returns-in-Ok-clause-found
+returns-in-Ok-clause-found g c = rw c.over.ensures (λ honest. c.in-Ok.ensures.found honest.clean honest.is_open)
+
+pub returns-in-Ok-clause-same : goal.returns-in-Ok-clause-same
+returns-in-Ok-clause-same g c = rw c.over.ensures (λ honest closed. c.in-Ok.ensures.same honest.clean honest.is_open closed)

@@ -1,24 +1,9 @@
-use base.Stored.{Coded-set}
-use Rattle.std.specs.Coded.{coded_option}
-use Rattle.s10_book.specs.contracts.entry.Entry.{the_row}
-use Rattle.sqlite.specs.Held.{state}
+use Rattle.std.proofs.Common.{◌∙◌, List, ap}
+use Rattle.s10_book.specs.declared.entry.Entry.{Entry}
 use Rattle.s10_book.specs.History.{entry_at}
-use Rattle.s10_ledger.specs.Ledger.{Ledger, history_in}
-use Rattle.s10_ledger.proofs.BookLemmas.{still_kept, still_mirrored, if_answered, was_ledger, read_keeps, answered}
 use Rattle.s10_ledger.proofs.sql_book.SqlBookBook.entry.Goals as goal
 
-pub invariant_of-self : goal.invariant_of-self
-invariant_of-self g c =
-    (c.self.invariant.0, still_kept g.S.Store c.self.inside.conn c.call_at-found.new.conn c.self.inside.settings c.self.inside.len c.self.inside.day c.call_at-found.ensures.leaves c.self.invariant.2 c.self.invariant.1, c.call_at-found.ensures.leaves.settled c.self.invariant.2, still_mirrored g.S.Store c.self.inside.conn c.call_at-found.new.conn c.self.inside.settings c.self.inside.len c.self.inside.day c.call_at-found.ensures.leaves c.self.invariant.2 c.self.invariant.1 c.self.inside.ranges c.self.invariant.3, λ so clean. if_answered c.call_at-found.result _ c.is_ok-answered.result c.is_ok-answered.ensures.value (c.call_at-found.ensures.opened clean) so)
-
-pub returns-clause-keeps : goal.returns-clause-keeps
-returns-clause-keeps g c =
-    let old : Ledger g.row.S.Denot = record { conn = c.self.inside.conn; terms = c.self.inside.settings; len = c.self.inside.len; day = c.self.inside.day; faults = c.self.inside.faults } in
-    rw (← c.self.view_is) (read_keeps g.S.Store old c.call_at-found.new.conn c.counted.new.faults c.call_at-found.ensures.leaves c.self.invariant.2 c.self.invariant.1)
-
 pub returns-clause-answer : goal.returns-clause-answer
-returns-clause-answer g c honest =
-    let old : Ledger g.row.S.Denot = record { conn = c.self.inside.conn; terms = c.self.inside.settings; len = c.self.inside.len; day = c.self.inside.day; faults = c.self.inside.faults } in
-    let was = was_ledger g.S.Store c.self.inside.conn c.call_at-found.new.conn c.self.inside.settings c.self.inside.len c.self.inside.day c.call_at-found.ensures.leaves c.self.invariant.2 c.self.invariant.1 honest.clean honest.is_open in
-    rw (c.counted.ensures.same, ← c.self.view_is) (answered (Coded-set (coded_option the_row.coded)) c.call_at-found.result (entry_at (history_in (state g.S.Store c.self.inside.conn).now) c.args.at) was.held
-    (λ h. c.call_at-found.ensures.answer honest.clean (history_in (state g.S.Store c.self.inside.conn).now) c.self.inside.settings was.legal h.calls h.tables))
+returns-clause-answer g c =
+    let kept = rw (← c.self.view_is) at c.ask_again.ensures.keeps in
+    rw (← c.self.view_is) (λ honest. c.entry.ensures ∙ ap (λ (h : List Entry). entry_at h c.args.at) ((c.self.invariant.3 honest.clean honest.is_open).calls ∙ kept.same_history honest))

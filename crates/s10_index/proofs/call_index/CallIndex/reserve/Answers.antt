@@ -1,0 +1,19 @@
+use Rattle.std.proofs.Common.{◌∙◌}
+use Rattle.s10_index.proofs.Reserving.{places_still, issues_still}
+use Rattle.s10_index.proofs.call_index.CallIndex.reserve.Goals as goal
+
+pub returns-in_err-reserve-3-clause-same : goal.returns-in_err-reserve-3-clause-same
+returns-in_err-reserve-3-clause-same c h was = record {
+  calls = was.calls;
+  ranges = c.reserve.ensures.same h was.ranges;
+  places = places_still c.args.self.now.places c.reserve-2.new.self h c.reserve-2.ensures.entries was.places;
+  issues = issues_still c.args.self.now.issues c.reserve-3.new.self h c.reserve-3.ensures.entries was.issues;
+}
+
+pub returns-clause-same : goal.returns-clause-same
+returns-clause-same c h was = record {
+  calls = c.reserve-4.ensures.items ∙ was.calls;
+  ranges = c.reserve.ensures.same h was.ranges;
+  places = places_still c.args.self.now.places c.reserve-2.new.self h c.reserve-2.ensures.entries was.places;
+  issues = issues_still c.args.self.now.issues c.reserve-3.new.self h c.reserve-3.ensures.entries was.issues;
+}

@@ -1,0 +1,24 @@
+-- What an index of calls holds.
+use Rattle.std.specs.Prelude.{◌≡◌, ◌≤◌, ◌<◌, List, length, vec_len, vec_capacity}
+use Rattle.std.specs.HashMap.{spare}
+use Rattle.s10_book.specs.declared.entry.Entry.{Entry}
+use Rattle.s10_book.specs.Issues.{carried_by}
+use Rattle.s10_ranges.specs.Mirror.{Mirrors}
+use Rattle.s10_ranges.specs.Room.{HasRoom}
+use Rattle.s10_index.specs.declared.call_index.CallIndex.{CallIndex}
+use Rattle.s10_index.specs.Places.{HasPlaces}
+use Rattle.s10_index.specs.LastIssues.{HasIssues}
+
+-- the calls of the history, its ranges with their marks, the place of each call, and the last issue of each identifier
+pub record Indexes (index : CallIndex) (h : List Entry) : Type 0 where
+  pub calls : index.entries.items ≡ h
+  pub ranges : Mirrors index.ranges h
+  pub places : HasPlaces index.places h
+  pub issues : HasIssues index.issues h
+
+-- there is room for the call, and for all that it makes
+pub record HasRoomFor (index : CallIndex) (e : Entry) : Type 0 where
+  pub calls : vec_len index.entries < vec_capacity index.entries
+  pub ranges : HasRoom index.ranges
+  pub places : 0 < spare index.places
+  pub issues : length (carried_by e.outcome) ≤ spare index.issues

@@ -1,0 +1,154 @@
+//! Calls with an index.
+
+ghost use Rattle.std.specs.Prelude.{◌≡◌, ◌∷◌, ◌++◌, [], ◌<◌, OnOk, IfSome, IsTrue, All, Contains, List, length, vec_len, vec_capacity};
+ghost use Rattle.s10_wire.specs.Kind.{fits};
+ghost use Rattle.s10_book.specs.declared.entry.Entry.{Entry};
+ghost use Rattle.s10_book.specs.Settings.{Terms};
+ghost use Rattle.s10_book.specs.History.{day_of, ranges_of, entry_with_key, entry_at};
+ghost use Rattle.s10_book.specs.Issues.{issues_of, last_issue_of, candidate_after_of, size_of, pick_of};
+ghost use Rattle.s10_book.specs.Rules.{IsLegal, MayFollow};
+
+use crate::last_issues::{note_call, noted_issue};
+use crate::places::{kept_call, note_place};
+use s10_book::{Candidate, Entry, Issue, Range};
+use s10_core::{Id, Serial};
+use s10_ranges::Ranges;
+use std::alloc::{AllocError, Global};
+use std::collections::HashMap;
+
+/// Calls held in the process, with a map that finds a call by its key, another that finds the last issue of an
+/// identifier, and the ranges with their marks in the orders of `Ranges`. It takes any call; what is said of what it finds
+/// holds where its calls are a history, as `Indexes` says. No look-up takes longer in a long history than the logarithm of it.
+#[derive(Drop)]
+pub struct CallIndex {
+    pub(crate) entries: Vec<Entry>,
+    pub(crate) ranges: Ranges,
+    places: HashMap<(u32, u32), u32>,
+    pub(crate) issues: HashMap<(u32, u32), Issue>,
+    ghost fitting: { All (λ e. IsTrue (fits e.request.body e.outcome)) entries.items },
+}
+
+impl CallIndex {
+    ghost use Rattle.s10_index.specs.CallIndex.{Indexes, HasRoomFor};
+
+    /// No calls.
+    pub fn new(alloc: Global) -> CallIndex
+        ensures { Indexes result [] }
+    {
+        CallIndex {
+            entries: Vec::new(alloc),
+            ranges: Ranges::new(alloc),
+            places: HashMap::new(alloc),
+            issues: HashMap::new(alloc),
+        }
+    }
+
+    /// The calls, in order of arrival.
+    pub fn calls(&self) -> &[Entry]
+        ensures { result.now ≡ self.now.entries.items }
+    {
+        &self.entries
+    }
+
+    /// The ranges with their marks.
+    pub fn ranges(&self) -> &Ranges
+        ensures { result.now ≡ self.now.ranges }
+    {
+        &self.ranges
+    }
+
+    /// The day of the last call, 0 where there is none.
+    pub fn day(&self) -> u32
+        ensures { result ≡ day_of self.now.entries.items }
+    {
+        match self.entries.last() {
+            None => 0,
+            Some(entry) => entry.day,
+        }
+    }
+
+    /// The call with that key, if there is one.
+    pub fn find(&self, customer: u32, number: u32) -> Option<Entry>
+        ensures answer { (h : List Entry) → Indexes self.now h → result ≡ entry_with_key h customer number }
+        ensures fits { IfSome result (λ e. IsTrue (fits e.request.body e.outcome)) }
+    {
+        kept_call(&self.entries, &self.places, customer, number)
+    }
+
+    /// Call number `at`, counted from 1, if there are so many.
+    pub fn entry(&self, at: u32) -> Option<Entry>
+        ensures { result ≡ entry_at self.now.entries.items at }
+    {
+        match at.checked_sub(1) {
+            None => None,
+            Some(place) => self.entries.get(place as usize).copied(),
+        }
+    }
+
+    /// The last issue of an identifier, if it was ever issued.
+    pub fn last_issue(&self, id: &Id) -> Option<Issue>
+        ensures { (h : List Entry) → Indexes self.now h → result ≡ last_issue_of h id.now }
+    {
+        noted_issue(&self.issues, id)
+    }
+
+    // The serial that one of its ranges gives next.
+    fn pick(&self, range: &Range) -> Serial
+        ensures { (h : List Entry) → Indexes self.now h → Contains (ranges_of h) range.now → result ≡ pick_of (issues_of h) range.now }
+    {
+        match self.ranges.mark(range.num) {
+            None => range.first,
+            Some(mark) => mark.serial,
+        }
+    }
+
+    /// The pick of one of its ranges behind so many issues of its own successive picks, fewer than it has serials, with
+    /// its last issue.
+    pub fn candidate_after(&self, range: &Range, issued: u8) -> Candidate
+        ensures { (h : List Entry) (t : Terms) → IsLegal h t → Indexes self.now h → Contains (ranges_of h) range.now → issued < size_of range.now → result ≡ candidate_after_of h range.now issued }
+    {
+        let serial = range.serial_behind(self.pick(range), issued);
+        let id = Id {
+            service: range.service,
+            serial,
+            country: range.country,
+        };
+        let issue = self.last_issue(&id);
+        Candidate { serial, issue }
+    }
+
+    /// Makes room for a call and all that it makes.
+    pub fn reserve(&mut self, entry: &Entry) -> Result<(), AllocError>
+        ensures calls { self.new.entries.items ≡ self.old.entries.items }
+        ensures same { (h : List Entry) → Indexes self.old h → Indexes self.new h }
+        ensures room { OnOk result (HasRoomFor self.new entry.now) }
+    {
+        self.ranges.reserve()?;
+        self.places.reserve(1)?;
+        self.issues.reserve(entry.issued())?;
+        self.entries.reserve(1)
+    }
+
+    /// Adds a call, for which there is room, and what it makes. Its outcome fits its request.
+    pub fn follow(&mut self, entry: Entry)
+        requires room { HasRoomFor self.old entry }
+        requires few { length self.old.entries.items < 4294967295 }
+        requires fits { IsTrue (fits entry.request.body entry.outcome) }
+        ensures calls { self.new.entries.items ≡ self.old.entries.items ++ entry ∷ [] }
+        ensures followed { (h : List Entry) (t : Terms) → IsLegal h t → MayFollow h t entry → Indexes self.old h → Indexes self.new (h ++ entry ∷ []) }
+    {
+        let place = self.calls().len() as u32;
+        self.ranges.follow(&entry);
+        note_place(&mut self.places, &entry, place);
+        note_call(&mut self.issues, &entry);
+        push_item(&mut self.entries, entry);
+    }
+}
+
+// Adds an item at the end, for which there is room.
+fn push_item<T: Copy>(list: &mut Vec<T>, item: T)
+    requires { vec_len list.old < vec_capacity list.old }
+    ensures { list.new.items ≡ list.old.items ++ item ∷ [] }
+{
+    list.push_reserved(item);
+}
