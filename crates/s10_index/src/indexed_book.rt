@@ -151,7 +151,11 @@ impl Book for IndexedBook {
         ensures answer { result ≡ Ok (find (is_open_above (⟦<IndexedBook as Book>⟧.history self.old) after customer service country) (ranges_of (⟦<IndexedBook as Book>⟧.history self.old))) }
         ensures above { IfOk result (λ found. IfSome found (λ r. after < r.num)) }
     {
-        Ok(self.index.ranges().open_after(customer, service, country, after))
+        Ok(
+            self.index
+                .ranges()
+                .open_after(customer, service, country, after),
+        )
     }
 
     fn covering(

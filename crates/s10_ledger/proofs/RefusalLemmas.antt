@@ -33,7 +33,7 @@ use Rattle.s10_rows.specs.Selected.{IsCall}
 use Rattle.s10_statements.specs.Shown.{shown_head, shown_call, shown_range, shown_serial, shown_closed}
 use Rattle.s10_rows.specs.Verdict.{IsHead, IsFirstWrong, AreMade, IsRefusal}
 use Rattle.s10_ledger.specs.Refusals.{HasRows, IsRefusedFor, IsOpeningRefusal}
-use Rattle.s10_ledger.specs.Ledger.{IsLedger, IsOldLedger, IsAnyLedger, history_in}
+use Rattle.s10_ledger.specs.Ledger.{IsAnyLedger, history_in}
 use Rattle.s10_ledger.specs.declared.form.Form.{Form}
 use Rattle.s10_ledger.specs.declared.form.Form.TheVariants.{Whole, Old}
 use Rattle.s10_ledger.specs.Form.{HasForm}

@@ -322,7 +322,11 @@ impl<S: Alter> Book for SqlBook<S> {
         if let Err(fault) = self.ask_again() {
             return Err(fault);
         }
-        Ok(self.index.ranges().open_after(customer, service, country, after))
+        Ok(
+            self.index
+                .ranges()
+                .open_after(customer, service, country, after),
+        )
     }
 
     fn covering(
@@ -409,13 +413,7 @@ impl<S: Alter> Book for SqlBook<S> {
         ensures err { IsHonest S.Store self.new → OnErr result (history_of S.Store self.new ≡ history_of S.Store self.old) }
     {
         let limit = self.settings.limit();
-        let kept = keep_followed(
-            self.alloc,
-            &mut self.conn,
-            &mut self.index,
-            limit,
-            &entry,
-        );
+        let kept = keep_followed(self.alloc, &mut self.conn, &mut self.index, limit, &entry);
         let answered = kept.is_ok();
         self.answered = answered;
         counted(&mut self.faults, kept)

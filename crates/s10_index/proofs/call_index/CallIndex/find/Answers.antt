@@ -1,4 +1,4 @@
-use Rattle.std.proofs.Common.{IsTrue, IfSome, Some, None, subst, List, All}
+use Rattle.std.proofs.Common.{IsTrue, IfSome, Some, None, List, All}
 use Rattle.std.specs.Prelude.{Option, Contains}
 use Rattle.std.proofs.lemmas.List.Elements.{All-contains}
 use Rattle.s10_wire.specs.Kind.{fits}

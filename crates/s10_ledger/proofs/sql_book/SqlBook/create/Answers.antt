@@ -31,7 +31,7 @@ returns-clause-honest g c clean opened =
       clean = clean;
       is_open = opened;
       ledger = subst (λ (l : List Entry). IsLedger db c.args.settings (length l) (day_of l)) (sym c.new.ensures.calls)
-      (new_ledger db c.args.settings (c.in_default-make_ledger.ensures.all clean (c.refusal_of.ensures.none c.in_default.is)));
+          (new_ledger db c.args.settings (c.in_default-make_ledger.ensures.all clean (c.refusal_of.ensures.none c.in_default.is)));
     }
 
 pub returns-clause-alone : goal.returns-clause-alone

@@ -1,6 +1,5 @@
-use Rattle.std.proofs.Common.{◌==◌, ◌∙◌, List, ap, sym, subst}
+use Rattle.std.proofs.Common.{◌==◌, ◌∙◌, List, ap}
 use Rattle.s10_ranges.specs.declared.ranges.Ranges.{Ranges}
-use Rattle.s10_ranges.specs.Mirror.{Mirrors}
 use Rattle.std.specs.Prelude.{find}
 use Rattle.s10_book.specs.declared.entry.Entry.{Entry}
 use Rattle.s10_book.specs.History.{ranges_of}
