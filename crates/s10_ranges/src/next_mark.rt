@@ -1,38 +1,12 @@
-//! What a kept call makes of the ranges.
+//! The mark behind a serial that a range gave.
 
 ghost use Rattle.std.specs.Prelude.{◌≡◌, ◌==◌, ◌≤◌, ◌+◌, if◌then◌else◌};
-ghost use Rattle.s10_wire.specs.declared.outcome.Outcome.TheVariants.{Granted};
-ghost use Rattle.s10_book.specs.History.{range_of_grant};
 ghost use Rattle.s10_ranges.specs.Turns.{mark_behind};
 
 use crate::mark::Mark;
 use crate::turn::Turn;
-use s10_book::{Entry, Range};
+use s10_book::Range;
 use s10_core::Serial;
-use s10_wire::Body;
-
-// The range of a Grant that made the one of that number.
-pub(crate) fn range_granted(entry: &Entry, num: u32) -> Option<Range>
-    ensures { result ≡ range_of_grant num entry.now.request.body (Granted num) }
-{
-    match entry.request.body {
-        Body::Grant {
-            holder,
-            service,
-            country,
-            first,
-            last,
-        } => Some(Range {
-            num,
-            holder,
-            service,
-            country,
-            first,
-            last,
-        }),
-        _ => None,
-    }
-}
 
 // The serial behind that one of the range: the next, or the first one behind the last.
 fn serial_behind(range: &Range, serial: Serial) -> Serial
