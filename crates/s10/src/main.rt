@@ -3,7 +3,7 @@
 
 ghost use Rattle.std.specs.Prelude.{◌≡◌, ℕ, List, Option, Result, map, IfOk};
 ghost use Rattle.std.specs.Io.KnownBytes.{Keeps};
-ghost use Rattle.s10_wire.specs.declared.write_fault.WriteFault.{WriteFault};
+ghost use Rattle.s10_lines.specs.declared.write_fault.WriteFault.{WriteFault};
 ghost use Rattle.s10_jobs.specs.declared.job.Job.{Job};
 ghost use Rattle.s10_jobs.specs.declared.status.Status.{Status};
 ghost use Rattle.s10_host.specs.Jobs.{HasEnded};
@@ -13,7 +13,7 @@ ghost use Rattle.s10_cli.specs.CommandLine.{exit_status};
 use s10_cli::{parse_job, run_buffered, written_out};
 use s10_host::{Left, run_job};
 use s10_jobs::Status;
-use s10_wire::WriteFault;
+use s10_lines::WriteFault;
 use sqlite::{Start, Unknown};
 use std::convert::AsStr;
 use std::io;

@@ -1,11 +1,13 @@
+use crate::block::Block;
 use crate::book_fault::BookFault;
 use crate::candidate::Candidate;
 use crate::entry::Entry;
+use crate::holding::Holding;
 use crate::issue::Issue;
 use crate::range::Range;
 use crate::settings::Settings;
 use crate::usage::Usage;
-use s10_core::{Country, Id, Serial, Service};
+use s10_core::Id;
 
 /// Kept calls in order of arrival, with what follows from them.
 ///
@@ -79,31 +81,18 @@ pub trait Book {
         ensures keeps { Keeps history terms honest self.old self.new }
         ensures answer { honest self.new → IfOk result (λ b. b ≡ is_closed (history self.old) num) };
 
-    /// The open range of least number above `after` with that holder, service and country, if there is one.
-    fn next_range(
-        &mut self,
-        customer: u32,
-        service: Service,
-        country: Country,
-        after: u32,
-    ) -> Result<Option<Range>, BookFault>
+    /// The open range of least number above `after` that is held so, if there is one.
+    fn next_range(&mut self, held: &Holding, after: u32) -> Result<Option<Range>, BookFault>
         ensures faults { Counts result (faults self.old) (faults self.new) }
         ensures keeps { Keeps history terms honest self.old self.new }
         ensures above { IfOk result (λ found. IfSome found (λ r. after < r.num)) }
-        ensures answer { honest self.new → IfOk result (λ found. found ≡ find (is_open_above (history self.old) after customer service country) (ranges_of (history self.old))) };
+        ensures answer { honest self.new → IfOk result (λ found. found ≡ find (is_open_above (history self.old) after held.now.holder held.now.service held.now.country) (ranges_of (history self.old))) };
 
-    /// The range of least number of that service and country that has a serial in common with `first` to `last`, if
-    /// there is one. Where `first` is above `last` there is none.
-    fn covering(
-        &mut self,
-        service: Service,
-        country: Country,
-        first: Serial,
-        last: Serial,
-    ) -> Result<Option<Range>, BookFault>
+    /// The range of least number that has a serial of the block, if there is one.
+    fn covering(&mut self, block: &Block) -> Result<Option<Range>, BookFault>
         ensures faults { Counts result (faults self.old) (faults self.new) }
         ensures keeps { Keeps history terms honest self.old self.new }
-        ensures answer { honest self.new → IfOk result (λ found. found ≡ find (overlaps service country first last) (ranges_of (history self.old))) };
+        ensures answer { honest self.new → IfOk result (λ found. found ≡ find (overlaps block.now.service block.now.country block.now.first block.now.last) (ranges_of (history self.old))) };
 
     /// The last issue of an identifier, if it was ever issued.
     fn last_issue(&mut self, id: &Id) -> Result<Option<Issue>, BookFault>

@@ -1,9 +1,11 @@
 ghost use Rattle.std.specs.Prelude.{◌≡◌, length, slice_get};
+ghost use Rattle.s10_book.specs.History.{range_of_grant};
 ghost use Rattle.s10_book.specs.Issues.{carried_by, issues_at};
 
 use crate::issuance::Issuance;
+use crate::range::Range;
 use s10_core::Id;
-use s10_wire::{Outcome, Request};
+use s10_wire::{Body, Outcome, Request};
 
 /// A kept call: what was asked, the day it was executed on, and what came of it.
 #[derive(Clone, Copy, Debug, PartialEq, Eq)]
@@ -42,6 +44,32 @@ impl Entry {
                 number: self.request.number,
                 arrival,
             }),
+        }
+    }
+
+    /// The range of this number that this call made, where it is a Grant that is done.
+    pub fn range_made(&self, num: u32) -> Option<Range>
+        ensures { result ≡ range_of_grant num self.now.request.body self.now.outcome }
+    {
+        let Outcome::Granted { .. } = self.outcome else {
+            return None;
+        };
+        match self.request.body {
+            Body::Grant {
+                holder,
+                service,
+                country,
+                first,
+                last,
+            } => Some(Range {
+                num,
+                holder,
+                service,
+                country,
+                first,
+                last,
+            }),
+            _ => None,
         }
     }
 

@@ -9,6 +9,7 @@ ghost use Rattle.s10_book.specs.Book.{Keeps};
 
 use crate::book::Book;
 use crate::book_fault::BookFault;
+use crate::holding::Holding;
 use crate::picks::Picks;
 use crate::range::Range;
 use crate::rules::is_free;
@@ -63,7 +64,12 @@ pub fn draws_in_a_row<B: Book>(
 {
     let interval = book.settings().interval();
     let wanted = count.value() as usize;
-    let Some(first) = book.next_range(customer, service, country, 0)? else {
+    let held = Holding {
+        holder: customer,
+        service,
+        country,
+    };
+    let Some(first) = book.next_range(&held, 0)? else {
         return Ok(None);
     };
     let mut range = first;
@@ -79,7 +85,7 @@ pub fn draws_in_a_row<B: Book>(
             issued += 1;
             continue;
         }
-        let Some(next) = book.next_range(customer, service, country, range.num)? else {
+        let Some(next) = book.next_range(&held, range.num)? else {
             return Ok(None);
         };
         range = next;

@@ -1,11 +1,13 @@
 //! The ledger: the history of kept calls, the rules that each outcome follows, and books that keep a history.
 #![tactic(auto)]
 
+mod block;
 mod book;
 mod book_fault;
 mod candidate;
 mod entry;
 mod faults;
+mod holding;
 mod in_a_row;
 mod issuance;
 mod issue;
@@ -19,11 +21,13 @@ mod settings;
 mod trip_book;
 mod usage;
 
+pub use block::Block;
 pub use book::Book;
 pub use book_fault::BookFault;
 pub use candidate::Candidate;
 pub use entry::Entry;
 pub use faults::Faults;
+pub use holding::Holding;
 pub use in_a_row::draws_in_a_row;
 pub use issuance::Issuance;
 pub use issue::Issue;

@@ -7,14 +7,16 @@ ghost use Rattle.s10_book.specs.Rules.{IsLegal};
 ghost use Rattle.s10_book.specs.Issues.{issues_of, last_issue_of, candidate_of, candidate_after_of, size_of, is_of, last_issuance_of, voids, voided_after, is_issued, serial_issued_earliest, least_serial_unissued, id_at, serials, is_voided as is_voided_in, is_free as is_free_on};
 ghost use Rattle.std.specs.Option.{option_map, unwrap_or};
 
+use crate::block::Block;
 use crate::candidate::Candidate;
 use crate::entry::Entry;
+use crate::holding::Holding;
 use crate::issuance::Issuance;
 use crate::issue::Issue;
 use crate::range::Range;
 use crate::rules::is_free;
 use crate::usage::Usage;
-use s10_core::{Country, Id, Serial, Service};
+use s10_core::{Id, Serial};
 use s10_wire::{Body, Outcome};
 
 pub(crate) fn kept_call(entries: &[Entry], customer: u32, number: u32) -> Option<Entry>
@@ -59,35 +61,27 @@ pub(crate) fn is_closed_in(entries: &[Entry], num: u32) -> bool
 pub(crate) fn range_after(
     entries: &[Entry],
     ranges: &[Range],
-    customer: u32,
-    service: Service,
-    country: Country,
+    held: &Holding,
     after: u32,
 ) -> Option<Range>
-    ensures { result ≡ find (is_open_above entries.now after customer service country) ranges.now }
+    ensures { result ≡ find (is_open_above entries.now after held.now.holder held.now.service held.now.country) ranges.now }
 {
     ranges
         .iter()
         .find(|r| {
             after < r.num
-                && r.is_held_by(customer, service, country)
+                && r.is_held_by(held.holder, held.service, held.country)
                 && !is_closed_in(entries, r.num)
         })
         .copied()
 }
 
-pub(crate) fn range_over(
-    ranges: &[Range],
-    service: Service,
-    country: Country,
-    first: Serial,
-    last: Serial,
-) -> Option<Range>
-    ensures { result ≡ find (overlaps service country first last) ranges.now }
+pub(crate) fn range_over(ranges: &[Range], block: &Block) -> Option<Range>
+    ensures { result ≡ find (overlaps block.now.service block.now.country block.now.first block.now.last) ranges.now }
 {
     ranges
         .iter()
-        .find(|r| r.overlaps(service, country, first, last))
+        .find(|r| r.overlaps(block.service, block.country, block.first, block.last))
         .copied()
 }
 
@@ -283,25 +277,5 @@ pub(crate) fn range_made(count: usize, entry: &Entry) -> Option<Range>
     requires { count < 2 ^ 32 - 1 }
     ensures { result ≡ range_of_grant (count + 1) entry.now.request.body entry.now.outcome }
 {
-    let body = entry.request.body;
-    match body {
-        Body::Grant {
-            holder,
-            service,
-            country,
-            first,
-            last,
-        } => match entry.outcome {
-            Outcome::Granted { .. } => Some(Range {
-                num: count as u32 + 1,
-                holder,
-                service,
-                country,
-                first,
-                last,
-            }),
-            _ => None,
-        },
-        _ => None,
-    }
+    entry.range_made(count as u32 + 1)
 }

@@ -8,11 +8,13 @@ ghost use Rattle.s10_book.specs.Usage.{usage_of};
 ghost use Rattle.s10_book.specs.Rules.{IsLegal, MayFollow};
 ghost use Rattle.s10_book.specs.BookFault.{Counts, no_faults};
 
+use crate::block::Block;
 use crate::book::Book;
 use crate::book_fault::BookFault;
 use crate::candidate::Candidate;
 use crate::entry::Entry;
 use crate::faults::Faults;
+use crate::holding::Holding;
 use crate::issuance::Issuance;
 use crate::issue::Issue;
 use crate::lists::{
@@ -22,7 +24,7 @@ use crate::lists::{
 use crate::range::Range;
 use crate::settings::Settings;
 use crate::usage::Usage;
-use s10_core::{Country, Id, Serial, Service};
+use s10_core::Id;
 use std::alloc::{AllocError, Global};
 
 /// A book as lists in memory: the calls, and the ranges and issues that they make. It is always honest, and only `keep`
@@ -155,38 +157,19 @@ impl Book for PlainBook {
         Ok(is_closed_in(&self.entries, num))
     }
 
-    fn next_range(
-        &mut self,
-        customer: u32,
-        service: Service,
-        country: Country,
-        after: u32,
-    ) -> Result<Option<Range>, BookFault>
+    fn next_range(&mut self, held: &Holding, after: u32) -> Result<Option<Range>, BookFault>
         ensures same { self.new ≡ self.old }
-        ensures answer { result ≡ Ok (find (is_open_above (⟦<PlainBook as Book>⟧.history self.old) after customer service country) (ranges_of (⟦<PlainBook as Book>⟧.history self.old))) }
+        ensures answer { result ≡ Ok (find (is_open_above (⟦<PlainBook as Book>⟧.history self.old) after held.now.holder held.now.service held.now.country) (ranges_of (⟦<PlainBook as Book>⟧.history self.old))) }
         ensures above { IfOk result (λ found. IfSome found (λ r. after < r.num)) }
     {
-        Ok(range_after(
-            &self.entries,
-            &self.ranges,
-            customer,
-            service,
-            country,
-            after,
-        ))
+        Ok(range_after(&self.entries, &self.ranges, held, after))
     }
 
-    fn covering(
-        &mut self,
-        service: Service,
-        country: Country,
-        first: Serial,
-        last: Serial,
-    ) -> Result<Option<Range>, BookFault>
+    fn covering(&mut self, block: &Block) -> Result<Option<Range>, BookFault>
         ensures same { self.new ≡ self.old }
-        ensures answer { result ≡ Ok (find (overlaps service country first last) (ranges_of (⟦<PlainBook as Book>⟧.history self.old))) }
+        ensures answer { result ≡ Ok (find (overlaps block.now.service block.now.country block.now.first block.now.last) (ranges_of (⟦<PlainBook as Book>⟧.history self.old))) }
     {
-        Ok(range_over(&self.ranges, service, country, first, last))
+        Ok(range_over(&self.ranges, block))
     }
 
     fn last_issue(&mut self, id: &Id) -> Result<Option<Issue>, BookFault>

@@ -10,8 +10,10 @@ ghost use Rattle.s10_book.specs.Issues.{last_issue_of, is_free_since};
 ghost use Rattle.s10_book.specs.BookFault.{Counts};
 ghost use Rattle.s10_book.specs.Book.{Keeps};
 
+use crate::block::Block;
 use crate::book::Book;
 use crate::book_fault::BookFault;
+use crate::holding::Holding;
 use crate::in_a_row::draws_in_a_row;
 use crate::issue::Issue;
 use s10_core::{Country, Id, Serial, Service};
@@ -40,8 +42,13 @@ fn decide_draw<B: Book>(
     ensures fits { IfOk result (λ o. IsTrue (fits (Body.Draw service country) o)) }
 {
     let interval = book.settings().interval();
+    let held = Holding {
+        holder: customer,
+        service,
+        country,
+    };
     let mut after = 0;
-    while let Some(range) = book.next_range(customer, service, country, after)? {
+    while let Some(range) = book.next_range(&held, after)? {
         after = range.num;
         let candidate = book.candidate(&range)?;
         if is_free(&candidate.issue, day, interval) {
@@ -74,8 +81,12 @@ fn decide_draw_many<B: Book>(
     ensures answer { B.honest book.new → IfOk result (λ o. o ≡ draw_many_answer (B.history book.old) customer service country count day (B.terms book.old).interval) }
     ensures fits { IfOk result (λ o. IsTrue (fits (Body.DrawMany service country count) o)) }
 {
-    let held = book.next_range(customer, service, country, 0)?;
-    if held.is_none() {
+    let held = Holding {
+        holder: customer,
+        service,
+        country,
+    };
+    if book.next_range(&held, 0)?.is_none() {
         return Ok(Outcome::NoRange);
     }
     let drawn = draws_in_a_row(book, customer, service, country, count, day)?;
@@ -91,7 +102,8 @@ fn owns<B: Book>(book: &mut B, customer: u32, id: &Id) -> Result<bool, BookFault
     ensures keeps { Keeps B.history B.terms B.honest book.old book.new }
     ensures answer { B.honest book.new → IfOk result (λ b. b ≡ list_any (is_own customer id.now) (ranges_of (B.history book.old))) }
 {
-    match book.covering(id.service, id.country, id.serial, id.serial)? {
+    let block = Block::of(id);
+    match book.covering(&block)? {
         None => Ok(false),
         Some(range) => Ok(range.holder == customer),
     }
@@ -177,7 +189,13 @@ fn decide_grant<B: Book>(
     if holder == 0 || last.value() < first.value() {
         return Ok(Outcome::BadGrant);
     }
-    if book.covering(service, country, first, last)?.is_some() {
+    let asked = Block {
+        service,
+        country,
+        first,
+        last,
+    };
+    if book.covering(&asked)?.is_some() {
         return Ok(Outcome::Overlap);
     }
     let range = next_number(book)?;
@@ -190,7 +208,8 @@ fn known_status<B: Book>(book: &mut B, id: &Id) -> Result<Status, BookFault>
     ensures keeps { Keeps B.history B.terms B.honest book.old book.new }
     ensures answer { B.honest book.new → IfOk result (λ s. s ≡ status_of (B.history book.old) id.now) }
 {
-    let found = book.covering(id.service, id.country, id.serial, id.serial)?;
+    let block = Block::of(id);
+    let found = book.covering(&block)?;
     if found.is_none() {
         return Ok(Status::Unknown);
     }

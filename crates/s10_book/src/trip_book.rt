@@ -4,15 +4,17 @@ ghost use Rattle.std.specs.Prelude.{◌≡◌, ◌||◌, false};
 ghost use Rattle.std.specs.Bool.{OnTrue};
 ghost use Rattle.s10_book.specs.BookFault.{with_trip};
 
+use crate::block::Block;
 use crate::book::Book;
 use crate::book_fault::BookFault;
 use crate::candidate::Candidate;
 use crate::entry::Entry;
+use crate::holding::Holding;
 use crate::issue::Issue;
 use crate::range::Range;
 use crate::settings::Settings;
 use crate::usage::Usage;
-use s10_core::{Country, Id, Serial, Service};
+use s10_core::Id;
 
 /// A book over a book, to show what a failure does. Of its calls that answer a Result, counted from 0, the one with the
 /// number that it was made with answers Store without asking the inner book, and counts as one fault more. All other
@@ -110,30 +112,18 @@ impl<B: Book> Book for TripBook<B> {
         self.inner.closed(num)
     }
 
-    fn next_range(
-        &mut self,
-        customer: u32,
-        service: Service,
-        country: Country,
-        after: u32,
-    ) -> Result<Option<Range>, BookFault> {
+    fn next_range(&mut self, held: &Holding, after: u32) -> Result<Option<Range>, BookFault> {
         if self.trips() {
             return Err(BookFault::Store);
         }
-        self.inner.next_range(customer, service, country, after)
+        self.inner.next_range(held, after)
     }
 
-    fn covering(
-        &mut self,
-        service: Service,
-        country: Country,
-        first: Serial,
-        last: Serial,
-    ) -> Result<Option<Range>, BookFault> {
+    fn covering(&mut self, block: &Block) -> Result<Option<Range>, BookFault> {
         if self.trips() {
             return Err(BookFault::Store);
         }
-        self.inner.covering(service, country, first, last)
+        self.inner.covering(block)
     }
 
     fn last_issue(&mut self, id: &Id) -> Result<Option<Issue>, BookFault> {

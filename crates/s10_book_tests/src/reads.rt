@@ -1,5 +1,5 @@
 use crate::books::{Asked, NINE_CALLS, book_after, first_unlike, gb, id, ra, request, serial};
-use s10_book::{Book, Candidate, Entry, Issuance, Issue, PlainBook, Range, Usage};
+use s10_book::{Block, Book, Candidate, Entry, Holding, Issuance, Issue, PlainBook, Range, Usage};
 use s10_wire::Outcome;
 use std::test::Fail;
 
@@ -75,11 +75,16 @@ fn holds(book: &mut PlainBook, at: u32, entry: Option<Entry>) -> bool {
 /// Whether range 1 is the first, there is no other, and customer 7 holds it alone.
 fn has_one_range(book: &mut PlainBook) -> Result<bool, &'static str> {
     let range = first_range()?;
+    let held = Holding {
+        holder: 7,
+        service: ra()?,
+        country: gb()?,
+    };
     Ok(
         book.range(1) == Ok(Some(range))
             && book.range(2) == Ok(None)
-            && book.next_range(7, ra()?, gb()?, 0) == Ok(Some(range))
-            && book.next_range(7, ra()?, gb()?, 1) == Ok(None),
+            && book.next_range(&held, 0) == Ok(Some(range))
+            && book.next_range(&held, 1) == Ok(None),
     )
 }
 
@@ -90,7 +95,13 @@ fn has_over(
     last: u32,
     range: Option<Range>,
 ) -> Result<bool, &'static str> {
-    Ok(book.covering(ra()?, gb()?, serial(first)?, serial(last)?) == Ok(range))
+    let block = Block {
+        service: ra()?,
+        country: gb()?,
+        first: serial(first)?,
+        last: serial(last)?,
+    };
+    Ok(book.covering(&block) == Ok(range))
 }
 
 /// Whether the first range gives this serial next, which was issued last so.

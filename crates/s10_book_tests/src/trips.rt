@@ -1,7 +1,7 @@
 //! Which call of a book that fails once is the one that fails.
 
 use crate::books::{OPENING, answer, empty_book, first_unlike, id};
-use s10_book::{Book, BookFault, TripBook, decide, draws_in_a_row};
+use s10_book::{Block, Book, BookFault, Holding, TripBook, decide, draws_in_a_row};
 use s10_core::Id;
 use s10_reports::{ReportFault, write_ranges};
 use s10_wire::{Body, Count, Request};
@@ -100,10 +100,16 @@ fn ask<B: Book>(
             book.closed(1)?;
         }
         Question::NextRange => {
-            book.next_range(7, id.service, id.country, 0)?;
+            let held = Holding {
+                holder: 7,
+                service: id.service,
+                country: id.country,
+            };
+            book.next_range(&held, 0)?;
         }
         Question::Covering => {
-            book.covering(id.service, id.country, id.serial, id.serial)?;
+            let block = Block::of(id);
+            book.covering(&block)?;
         }
         Question::LastIssue => {
             book.last_issue(id)?;

@@ -3,7 +3,7 @@
 use crate::books::Answered::{Drawn, DrawnMany, Full, Other};
 use crate::books::Asked::{Draw, DrawMany, DrawOfRb, Grant, GrantOfRb, Query, Void, Withdraw};
 use crate::books::{OPENING, Step, book_after, gb, ra, serial};
-use s10_book::{Book, PlainBook};
+use s10_book::{Block, Book, Holding, PlainBook};
 use s10_wire::{Outcome, Status};
 use std::test::Fail;
 
@@ -194,13 +194,24 @@ fn has_closed(book: &mut PlainBook, num: u32, closed: bool) -> bool {
 
 /// The number of the next open range of customer 7 behind that one.
 fn next_open(book: &mut PlainBook, after: u32) -> Result<Option<u32>, Fail> {
-    let found = book.next_range(7, ra()?, gb()?, after);
+    let held = Holding {
+        holder: 7,
+        service: ra()?,
+        country: gb()?,
+    };
+    let found = book.next_range(&held, after);
     Ok(found.map_err(|_| "fault")?.map(|range| range.num))
 }
 
 /// The number of the range that has a serial.
 fn range_over(book: &mut PlainBook, value: u32) -> Result<Option<u32>, Fail> {
-    let found = book.covering(ra()?, gb()?, serial(value)?, serial(value)?);
+    let block = Block {
+        service: ra()?,
+        country: gb()?,
+        first: serial(value)?,
+        last: serial(value)?,
+    };
+    let found = book.covering(&block);
     Ok(found.map_err(|_| "fault")?.map(|range| range.num))
 }
 

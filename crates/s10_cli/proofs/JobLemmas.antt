@@ -6,7 +6,7 @@ use Rattle.clap.specs.Words.{Row, Text, subcommand_name_of, subcommand_rows, sub
 use Rattle.clap.specs.declared.parser.matches.ArgMatches.{ArgMatches}
 use Rattle.clap.specs.declared.parser.matches.ArgMatches.TheViews.{out-ArgMatches, out-SubCommand}
 use Rattle.clap.specs.declared.parser.matches.SubCommand.{SubCommand}
-use Rattle.s10_wire.specs.declared.write_fault.WriteFault.{WriteFault}
+use Rattle.s10_lines.specs.declared.write_fault.WriteFault.{WriteFault}
 use Rattle.s10_jobs.specs.declared.status.Status.{Status}
 use Rattle.s10_cli.specs.CommandLine.{IsSubcommandDone, word}
 use Rattle.s10_cli.specs.Printing.{Makes, Shows}

@@ -6,7 +6,7 @@ use Rattle.s10_core.specs.declared.text_fault.TextFault.{TextFault}
 use Rattle.s10_core.specs.Id.{Spells}
 use Rattle.s10_core.specs.Serial.{AreEightDigits}
 use Rattle.s10_core.specs.TextFault.{IsFirstRefusal}
-use Rattle.s10_wire.specs.declared.write_fault.WriteFault.{WriteFault}
+use Rattle.s10_lines.specs.declared.write_fault.WriteFault.{WriteFault}
 use Rattle.s10_book.specs.declared.entry.Entry.{Entry}
 use Rattle.s10_book.specs.Settings.{Terms}
 use Rattle.s10_jobs.specs.declared.replay_fault.ReplayFault.{ReplayFault}

@@ -11,7 +11,7 @@ use crate::found::{flag_of, settings_of, text_of};
 use clap::error::ErrorKind;
 use clap::{ArgMatches, Error};
 use s10_jobs::{Status, check, make, run_replay, show};
-use s10_wire::{WriteFault, write_text};
+use s10_lines::{WriteFault, write_text};
 use std::alloc::Global;
 use std::convert::AsStr;
 use std::io;

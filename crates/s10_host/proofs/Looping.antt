@@ -2,7 +2,7 @@
 use Rattle.std.proofs.Common.{◌≡◌, ◌≢◌, ◌∙◌, inl, inr, ℕ, List, [], ◌∷◌, ◌++◌, Option, Result, Ok, Err, refl, sym, ap, subst, append_assoc, append-nil}
 use Rattle.std.specs.Prelude.{IfOk}
 use Rattle.std.specs.Io.KnownBytes.{Appends}
-use Rattle.s10_wire.proofs.Writing.{Appends-then}
+use Rattle.s10_lines.proofs.Writing.{Appends-then}
 use Rattle.s10_wire.specs.declared.body.Body.{Body}
 use Rattle.s10_wire.specs.declared.reply.Reply.{Reply}
 use Rattle.s10_link.specs.declared.peer.Peer.{Peer}
@@ -13,7 +13,7 @@ use Rattle.s10_ends.specs.declared.call_fault.CallFault.{CallFault}
 use Rattle.s10_ends.specs.declared.call_fault.CallFault.TheVariants.{Submit, GaveUp, Link}
 use Rattle.s10_ends.specs.Calls.{Calls}
 use Rattle.s10_ends.specs.Client.{ClientState, after_submit, settled}
-use Rattle.s10_wire.specs.declared.write_fault.WriteFault.{WriteFault}
+use Rattle.s10_lines.specs.declared.write_fault.WriteFault.{WriteFault}
 use Rattle.s10_jobs.specs.declared.status.Status.{Status}
 use Rattle.s10_jobs.specs.declared.status.Status.TheVariants.{Done, Refused, CommandLine, Failed}
 use Rattle.s10_jobs.specs.Asked.{asked_status, asked_line}

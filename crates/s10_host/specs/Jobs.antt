@@ -7,8 +7,8 @@ use Rattle.sqlite_wal.specs.Files.{image_at}
 use Rattle.sqlite.specs.Files.{file_state, over_files}
 use Rattle.s10_link.specs.Trace.{new_trace}
 use Rattle.s10_ends.specs.UdpLink.{BoundLink}
-use Rattle.s10_wire.specs.declared.write_fault.WriteFault.{WriteFault}
-use Rattle.s10_wire.specs.Lines.{line_of}
+use Rattle.s10_lines.specs.declared.write_fault.WriteFault.{WriteFault}
+use Rattle.s10_lines.specs.Lines.{line_of}
 use Rattle.s10_book.specs.Settings.{Terms}
 use Rattle.s10_book.specs.Book.{Keeps}
 use Rattle.s10_ledger.specs.Ledger.{IsHonest, history_in}

@@ -4,8 +4,8 @@ use Rattle.s10_core.specs.declared.id.Id.{Id}
 use Rattle.s10_wire.specs.declared.body.Body.{Body}
 use Rattle.s10_wire.specs.declared.body.Body.TheVariants.{Grant, Draw, Void, Query}
 use Rattle.s10_wire.specs.declared.reply.Reply.{Reply}
-use Rattle.s10_wire.specs.declared.write_fault.WriteFault.{WriteFault}
-use Rattle.s10_wire.specs.Lines.{line_of}
+use Rattle.s10_lines.specs.declared.write_fault.WriteFault.{WriteFault}
+use Rattle.s10_lines.specs.Lines.{line_of}
 use Rattle.s10_link.specs.declared.peer.Peer.{Peer}
 use Rattle.s10_link.specs.declared.trace.Trace.{Trace}
 use Rattle.s10_link.specs.Trace.{new_trace}

@@ -3,8 +3,8 @@ use Rattle.std.specs.Prelude.{◌≡◌, ◌⊎◌, ℕ, List, [], ◌∷◌, co
 use Rattle.std.specs.Io.KnownBytes.{Appends}
 use Rattle.s10_wire.specs.declared.body.Body.{Body}
 use Rattle.s10_wire.specs.declared.reply.Reply.{Reply}
-use Rattle.s10_wire.specs.declared.write_fault.WriteFault.{WriteFault}
-use Rattle.s10_wire.specs.Lines.{line_of}
+use Rattle.s10_lines.specs.declared.write_fault.WriteFault.{WriteFault}
+use Rattle.s10_lines.specs.Lines.{line_of}
 use Rattle.s10_link.specs.declared.peer.Peer.{Peer}
 use Rattle.s10_link.specs.Peer.{SpellsPeer}
 use Rattle.s10_link.specs.Trace.{new_trace}

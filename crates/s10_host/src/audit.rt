@@ -2,14 +2,14 @@
 
 ghost use Rattle.std.specs.Prelude.{◌≡◌, ◌∷◌, [], ℕ, false, codes, decimal, Result, OnOk, IfOk};
 ghost use Rattle.std.specs.Io.KnownBytes.{Appends};
-ghost use Rattle.s10_wire.specs.Lines.{line_of};
+ghost use Rattle.s10_lines.specs.Lines.{line_of};
 ghost use Rattle.s10_rows.specs.declared.open_fault.OpenFault.{OpenFault};
 ghost use Rattle.s10_host.specs.Audited.{IsFound, audit_line, audit_status};
 
 use s10_book::Book;
 use s10_jobs::{Status, write_ledger_fault};
 use s10_ledger::{OpenFault, Refused, SqlBook, Watch};
-use s10_wire::{WriteFault, write_decimal, write_text, write_word};
+use s10_lines::{WriteFault, write_decimal, write_text, write_word};
 use sqlite::{Alter, Connection};
 use std::alloc::Global;
 use std::io::Write;

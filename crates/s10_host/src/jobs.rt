@@ -21,8 +21,8 @@ use s10_jobs::{
     Job, Report, Status, day_or_today, fail_by_clock, fail_by_ledger, refuse, write_report,
 };
 use s10_ledger::OpenFault;
+use s10_lines::{WriteFault, write_text};
 use s10_link::Peer;
-use s10_wire::{WriteFault, write_text};
 use sqlite::Start;
 use std::io::Write;
 

@@ -13,8 +13,9 @@ use s10_core::{Country, Id, Serial, Service};
 use s10_ends::{Client, NearLink, Server, UdpLink};
 use s10_jobs::{Status, ask, fail_by_ledger, fail_by_link};
 use s10_ledger::SqlBook;
+use s10_lines::WriteFault;
 use s10_link::{Link, LinkFault, Peer};
-use s10_wire::{Body, WriteFault};
+use s10_wire::Body;
 use std::io::Write;
 use std::net::Net;
 

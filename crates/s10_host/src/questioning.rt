@@ -12,8 +12,9 @@ ghost use Rattle.s10_host.specs.Questioning.{IsUnasked, IsAsked};
 use crate::binding::bind_link;
 use s10_ends::{Client, UdpLink};
 use s10_jobs::{Question, Status, ask, fail_by_link, write_refusal};
+use s10_lines::WriteFault;
 use s10_link::{Link, Peer};
-use s10_wire::{Body, WriteFault};
+use s10_wire::Body;
 use std::io::Write;
 use std::net::Net;
 

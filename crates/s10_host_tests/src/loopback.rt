@@ -3,7 +3,7 @@
 use crate::refusing::Refusing;
 use s10_host::run_loop;
 use s10_jobs::Status;
-use s10_wire::WriteFault;
+use s10_lines::WriteFault;
 use std::net::Net;
 
 const LINES: &str = "\

@@ -3,7 +3,7 @@
 use crate::refusing::Refusing;
 use s10_host::run_question;
 use s10_jobs::{BodyWords, Question, Status, Tries};
-use s10_wire::WriteFault;
+use s10_lines::WriteFault;
 use std::net::Net;
 use std::test::Fail;
 

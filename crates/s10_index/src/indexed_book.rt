@@ -11,8 +11,10 @@ ghost use Rattle.s10_index.specs.CallIndex.{Indexes};
 
 use crate::call_index::CallIndex;
 use crate::tally::{count_if, id_with, is_free, is_voided};
-use s10_book::{Book, BookFault, Candidate, Entry, Faults, Issue, Range, Settings, Usage};
-use s10_core::{Country, Id, Serial, Service};
+use s10_book::{
+    Block, Book, BookFault, Candidate, Entry, Faults, Holding, Issue, Range, Settings, Usage,
+};
+use s10_core::Id;
 use std::alloc::{AllocError, Global};
 
 /// A book in memory over an index of its calls. It is always honest, and only `keep` can be refused, by Memory. Of its calls
@@ -140,35 +142,27 @@ impl Book for IndexedBook {
         Ok(self.index.ranges().is_closed(num))
     }
 
-    fn next_range(
-        &mut self,
-        customer: u32,
-        service: Service,
-        country: Country,
-        after: u32,
-    ) -> Result<Option<Range>, BookFault>
+    fn next_range(&mut self, held: &Holding, after: u32) -> Result<Option<Range>, BookFault>
         ensures same { self.new ≡ self.old }
-        ensures answer { result ≡ Ok (find (is_open_above (⟦<IndexedBook as Book>⟧.history self.old) after customer service country) (ranges_of (⟦<IndexedBook as Book>⟧.history self.old))) }
+        ensures answer { result ≡ Ok (find (is_open_above (⟦<IndexedBook as Book>⟧.history self.old) after held.now.holder held.now.service held.now.country) (ranges_of (⟦<IndexedBook as Book>⟧.history self.old))) }
         ensures above { IfOk result (λ found. IfSome found (λ r. after < r.num)) }
     {
-        Ok(
-            self.index
-                .ranges()
-                .open_after(customer, service, country, after),
-        )
+        let next = self
+            .index
+            .ranges()
+            .open_after(held.holder, held.service, held.country, after);
+        Ok(next)
     }
 
-    fn covering(
-        &mut self,
-        service: Service,
-        country: Country,
-        first: Serial,
-        last: Serial,
-    ) -> Result<Option<Range>, BookFault>
+    fn covering(&mut self, block: &Block) -> Result<Option<Range>, BookFault>
         ensures same { self.new ≡ self.old }
-        ensures answer { result ≡ Ok (find (overlaps service country first last) (ranges_of (⟦<IndexedBook as Book>⟧.history self.old))) }
+        ensures answer { result ≡ Ok (find (overlaps block.now.service block.now.country block.now.first block.now.last) (ranges_of (⟦<IndexedBook as Book>⟧.history self.old))) }
     {
-        Ok(self.index.ranges().over(service, country, first, last))
+        let found = self
+            .index
+            .ranges()
+            .over(block.service, block.country, block.first, block.last);
+        Ok(found)
     }
 
     fn last_issue(&mut self, id: &Id) -> Result<Option<Issue>, BookFault>

@@ -1,7 +1,7 @@
 -- A report that its book ended.
 use Rattle.std.proofs.Common.{◌≡◌, ℕ, List, ◌++◌, take, codes, Option, Result, Err, subst}
-use Rattle.s10_wire.specs.Lines.{line_of}
-use Rattle.s10_wire.proofs.Writing.{Appends-then}
+use Rattle.s10_lines.specs.Lines.{line_of}
+use Rattle.s10_lines.proofs.Writing.{Appends-then}
 use Rattle.std.specs.Io.KnownBytes.{Appends}
 use Rattle.s10_book.specs.declared.book_fault.BookFault.{BookFault}
 use Rattle.s10_book.specs.declared.faults.Faults.{Faults}

@@ -4,7 +4,7 @@ use Rattle.std.specs.List.{flat_map}
 use Rattle.hex.specs.Hex.{encode_lower}
 use Rattle.s10_ends.specs.declared.answer.Answer.{Answer}
 use Rattle.s10_ends.specs.declared.answer.Answer.TheVariants.{Reply, Dropped, Faulted}
-use Rattle.s10_wire.specs.Lines.{line_of}
+use Rattle.s10_lines.specs.Lines.{line_of}
 use Rattle.s10_jobs.specs.Words.{wire_fault_words, book_fault_words}
 
 -- the reply in hex, or why there is none

@@ -4,7 +4,7 @@ use Rattle.s10_wire.specs.declared.outcome.Outcome.{Outcome}
 use Rattle.s10_wire.specs.declared.outcome.Outcome.TheVariants.{Granted, Drawn, DrawnMany, Voided, Told, Withdrawn, NotThePost, BadGrant, Overlap, NoRange, NoneFree, NotYours, NotIssued, AlreadyVoid, NoSuchRange, Closed, NumberReused}
 use Rattle.s10_wire.specs.declared.reply.Reply.{Reply}
 use Rattle.s10_wire.specs.Reply.{request_of, outcome_of}
-use Rattle.s10_wire.specs.Lines.{line_of, reply_line}
+use Rattle.s10_lines.specs.Lines.{line_of, reply_line}
 use Rattle.s10_ends.specs.declared.call_fault.CallFault.{CallFault}
 use Rattle.s10_ends.specs.declared.call_fault.CallFault.TheVariants.{Submit, GaveUp, Link}
 use Rattle.s10_jobs.specs.declared.status.Status.{Status}

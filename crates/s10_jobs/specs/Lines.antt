@@ -4,7 +4,7 @@ use Rattle.s10_core.specs.declared.id.Id.{Id}
 use Rattle.s10_core.specs.Letters.{IsCapital, group_of}
 use Rattle.s10_core.specs.Serial.{number_of, check_digit_of, character_of}
 use Rattle.s10_core.specs.Id.{spelling_of, tidied}
-use Rattle.s10_wire.specs.Lines.{line_of}
+use Rattle.s10_lines.specs.Lines.{line_of}
 use Rattle.s10_jobs.specs.Words.{group_words}
 
 -- why something is refused

@@ -3,7 +3,7 @@ use Rattle.std.specs.Prelude.{◌≡◌, ℕ, ◌-◌, ◌≤◌, List, [], ◌+
 use Rattle.std.specs.Io.KnownBytes.{Appends}
 use Rattle.s10_book.specs.declared.entry.Entry.{Entry}
 use Rattle.s10_book.specs.Settings.{Terms}
-use Rattle.s10_wire.specs.declared.write_fault.WriteFault.{WriteFault}
+use Rattle.s10_lines.specs.declared.write_fault.WriteFault.{WriteFault}
 use Rattle.s10_ends.specs.declared.answer.Answer.{Answer}
 use Rattle.s10_ends.specs.Served.{Served}
 use Rattle.s10_jobs.specs.InputLines.{lines_of, deliveries_in, NoneRefused, IsFirstRefused}

@@ -1,7 +1,7 @@
 -- What is printed of a report.
 use Rattle.std.specs.Prelude.{◌≡◌, ℕ, ◌⊎◌, List, ◌++◌, take, codes, Option}
 use Rattle.std.specs.Io.KnownBytes.{Appends}
-use Rattle.s10_wire.specs.Lines.{line_of}
+use Rattle.s10_lines.specs.Lines.{line_of}
 use Rattle.s10_book.specs.declared.entry.Entry.{Entry}
 use Rattle.s10_book.specs.declared.book_fault.BookFault.{BookFault}
 use Rattle.s10_book.specs.declared.faults.Faults.{Faults}

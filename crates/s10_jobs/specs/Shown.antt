@@ -5,7 +5,7 @@ use Rattle.s10_wire.specs.declared.request.Request.{Request}
 use Rattle.s10_wire.specs.declared.outcome.Outcome.{Outcome}
 use Rattle.s10_wire.specs.declared.wire_fault.WireFault.{WireFault}
 use Rattle.s10_wire.specs.Datagrams.{Asks, Replies}
-use Rattle.s10_wire.specs.Lines.{request_line, reply_line}
+use Rattle.s10_lines.specs.Lines.{request_line, reply_line}
 use Rattle.s10_wire.specs.WireFault.{byte, IsFirstRefusalOfRequest, IsFirstRefusalOfReply}
 use Rattle.s10_jobs.specs.declared.status.Status.{Status}
 use Rattle.s10_jobs.specs.declared.status.Status.TheVariants.{Done, Refused, CommandLine, Failed}

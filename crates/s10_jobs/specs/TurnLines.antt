@@ -1,7 +1,7 @@
 -- The output lines of a server's turns.
 use Rattle.std.specs.Prelude.{ℕ, List, ◌++◌, codes, Result, Ok, Err}
 use Rattle.hex.specs.Hex.{encode_lower}
-use Rattle.s10_wire.specs.Lines.{line_of}
+use Rattle.s10_lines.specs.Lines.{line_of}
 use Rattle.s10_link.specs.declared.link_fault.LinkFault.{LinkFault}
 use Rattle.s10_ends.specs.declared.served.Served.{Served}
 use Rattle.s10_ends.specs.declared.served.Served.TheVariants.{Quiet, Dropped, Faulted, Replied}

@@ -13,7 +13,7 @@ use Rattle.s10_link.specs.declared.link_fault.LinkFault.{LinkFault}
 use Rattle.s10_link.specs.declared.link_fault.LinkFault.TheVariants.{Bind, Receive, Send, Spent}
 use Rattle.s10_rows.specs.declared.open_fault.OpenFault.{OpenFault}
 use Rattle.s10_rows.specs.declared.open_fault.OpenFault.TheVariants.{NotALedger, Schema, Damaged, NotEmpty, Memory as NoMemory, Store as NotStored}
-use Rattle.s10_wire.specs.Lines.{line_of}
+use Rattle.s10_lines.specs.Lines.{line_of}
 use Rattle.s10_jobs.specs.declared.status.Status.{Status}
 use Rattle.s10_jobs.specs.declared.status.Status.TheVariants.{Refused, Failed}
 use Rattle.s10_jobs.specs.declared.replay_fault.ReplayFault.{ReplayFault}

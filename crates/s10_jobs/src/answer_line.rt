@@ -2,14 +2,15 @@
 ghost use Rattle.std.specs.Prelude.{◌++◌, OnOk, codes};
 ghost use Rattle.std.specs.Io.KnownBytes.{Appends};
 ghost use Rattle.hex.specs.Hex.{encode_lower};
-ghost use Rattle.s10_wire.specs.Lines.{line_of};
+ghost use Rattle.s10_lines.specs.Lines.{line_of};
 ghost use Rattle.s10_jobs.specs.Words.{wire_fault_words, book_fault_words};
 ghost use Rattle.s10_jobs.specs.AnswerLines.{answer_line};
 
 use crate::words::{write_book_fault, write_wire_fault};
 use s10_book::BookFault;
 use s10_ends::Answer;
-use s10_wire::{Frame, WireFault, WriteFault, write_text};
+use s10_lines::{WriteFault, write_text};
+use s10_wire::{Frame, WireFault};
 use std::io::Write;
 
 /// Writes the reply in lower-case hex, or why there is none.

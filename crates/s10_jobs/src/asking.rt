@@ -10,8 +10,9 @@ ghost use Rattle.s10_jobs.specs.Asked.{outcome_status, asked_status, asked_line}
 use crate::link_fault::write_link_fault;
 use crate::status::Status;
 use s10_ends::{CallFault, Client, call};
+use s10_lines::{WriteFault, write_reply_line, write_text};
 use s10_link::{Link, Peer};
-use s10_wire::{Body, Outcome, Reply, WriteFault, write_reply_line, write_text};
+use s10_wire::{Body, Outcome, Reply};
 use std::io::Write;
 
 /// Asks the server at `to`, in 1 to 100 tries, and writes the line of the reply, `gave-up`, or `link` and why.

@@ -12,7 +12,7 @@ use crate::refusals::refuse_text;
 use crate::status::Status;
 use crate::words::group_word;
 use s10_core::{Id, TextFault};
-use s10_wire::{WriteFault, write_text, write_word};
+use s10_lines::{WriteFault, write_text, write_word};
 use std::io::Write;
 
 /// Writes the line of a text.

@@ -2,15 +2,15 @@
 
 ghost use Rattle.std.specs.Prelude.{◌≡◌, [], ◌∷◌, codes, IfOk};
 ghost use Rattle.std.specs.Io.KnownBytes.{Appends};
-ghost use Rattle.s10_wire.specs.Lines.{line_of};
+ghost use Rattle.s10_lines.specs.Lines.{line_of};
 ghost use Rattle.s10_jobs.specs.Words.{open_fault_words, link_fault_words};
 
 use crate::ledger_fault::write_ledger_fault;
 use crate::link_fault::write_link_fault;
 use crate::status::Status;
+use s10_lines::{WriteFault, write_text};
 use s10_link::LinkFault;
 use s10_rows::OpenFault;
-use s10_wire::{WriteFault, write_text};
 use std::io::Write;
 
 /// Says that the clock gives no day.

@@ -2,12 +2,12 @@
 
 ghost use Rattle.std.specs.Prelude.{OnOk, codes};
 ghost use Rattle.std.specs.Io.KnownBytes.{Appends};
-ghost use Rattle.s10_wire.specs.Lines.{line_of};
+ghost use Rattle.s10_lines.specs.Lines.{line_of};
 ghost use Rattle.s10_jobs.specs.Words.{open_fault_words};
 
 use crate::words::write_open_fault;
+use s10_lines::{WriteFault, write_text};
 use s10_rows::OpenFault;
-use s10_wire::{WriteFault, write_text};
 use std::io::Write;
 
 /// Writes the line of a ledger's fault. A fault of the writer may leave part of it written.

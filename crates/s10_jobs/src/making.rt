@@ -8,7 +8,7 @@ use crate::parts::{read_country, read_service};
 use crate::refusals::refuse;
 use crate::status::Status;
 use s10_core::{Id, Serial};
-use s10_wire::{WriteFault, write_text};
+use s10_lines::{WriteFault, write_text};
 use std::io::Write;
 
 /// Writes the identifier of these parts, or the first that is wrong.

@@ -8,7 +8,7 @@ ghost use Rattle.s10_jobs.specs.Questions.{refusal_words};
 use crate::refusals::{refuse, refuse_text};
 use crate::status::Status;
 use s10_core::TextFault;
-use s10_wire::WriteFault;
+use s10_lines::WriteFault;
 use std::io::Write;
 
 /// The first text of a request that does not read.

@@ -7,7 +7,8 @@ ghost use Rattle.s10_jobs.specs.Lines.{refused_line};
 use crate::status::Status;
 use crate::words::{write_text_fault, write_wire_fault};
 use s10_core::TextFault;
-use s10_wire::{WireFault, WriteFault, write_text, write_word};
+use s10_lines::{WriteFault, write_text, write_word};
+use s10_wire::WireFault;
 use std::io::Write;
 
 /// Refuses what the word names.

@@ -3,7 +3,7 @@ ghost use Rattle.std.specs.Io.KnownBytes.{Appends};
 ghost use Rattle.s10_jobs.specs.Words.{replay_fault_line, replay_fault_status};
 
 use crate::status::Status;
-use s10_wire::{WriteFault, write_decimal, write_text, write_word};
+use s10_lines::{WriteFault, write_decimal, write_text, write_word};
 use std::io::Write;
 use thiserror::Error;
 

@@ -13,7 +13,7 @@ use crate::status::Status;
 use s10_book::{Book, Settings};
 use s10_ends::Server;
 use s10_index::IndexedBook;
-use s10_wire::WriteFault;
+use s10_lines::WriteFault;
 use std::alloc::Global;
 use std::io::{Read, Write};
 

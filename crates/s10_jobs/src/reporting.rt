@@ -8,8 +8,8 @@ use crate::answer_line::write_faulted;
 use crate::day::day_or_today;
 use crate::status::Status;
 use s10_book::Book;
+use s10_lines::{WriteFault, write_text};
 use s10_reports::{ReportFault, write_issues, write_ranges};
-use s10_wire::{WriteFault, write_text};
 use std::io::Write;
 use std::time::Clock;
 

@@ -8,7 +8,8 @@ ghost use Rattle.s10_jobs.specs.Shown.{is_marked_reply, IsRequestShown, IsReplyS
 use crate::delivery_line::read_bytes;
 use crate::refusals::{refuse, refuse_datagram};
 use crate::status::Status;
-use s10_wire::{WriteFault, decode_reply, decode_request, write_reply_line, write_request_line};
+use s10_lines::{WriteFault, write_reply_line, write_request_line};
+use s10_wire::{decode_reply, decode_request};
 use std::io::Write;
 
 /// Writes the line of the datagram that the hexadecimal digits stand for.

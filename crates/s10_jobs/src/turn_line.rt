@@ -7,8 +7,9 @@ ghost use Rattle.s10_jobs.specs.TurnLines.{turn_line, replied_line};
 use crate::answer_line::{write_dropped, write_faulted, write_hex};
 use crate::link_fault::write_link_fault;
 use s10_ends::Served;
+use s10_lines::{WriteFault, write_text};
 use s10_link::LinkFault;
-use s10_wire::{Frame, WriteFault, write_text};
+use s10_wire::Frame;
 use std::io::Write;
 
 /// Writes what a turn came to: `quiet`, `dropped` or `faulted` and why, `replied` and the reply in lower-case hex, or

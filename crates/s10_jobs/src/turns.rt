@@ -15,8 +15,8 @@ use crate::status::Status;
 use crate::turn_line::write_turn;
 use s10_book::Book;
 use s10_ends::{Served, Server, serve_one};
+use s10_lines::WriteFault;
 use s10_link::{Link, LinkFault};
-use s10_wire::WriteFault;
 use std::io::Write;
 use std::time::Clock;
 

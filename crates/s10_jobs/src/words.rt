@@ -2,15 +2,16 @@
 ghost use Rattle.std.specs.Prelude.{◌≡◌, [], ◌∷◌, OnOk, codes, decimal};
 ghost use Rattle.std.specs.Fmt.{signed_decimal};
 ghost use Rattle.std.specs.Io.KnownBytes.{Appends};
-ghost use Rattle.s10_wire.specs.Lines.{spaced};
+ghost use Rattle.s10_lines.specs.Lines.{spaced};
 ghost use Rattle.s10_jobs.specs.Words.{group_words, text_fault_words, wire_fault_words, book_fault_words, link_fault_words, open_fault_words};
 
 use itoa::Buffer;
 use s10_book::BookFault;
 use s10_core::{Group, TextFault};
+use s10_lines::{WriteFault, write_decimal, write_word};
 use s10_link::LinkFault;
 use s10_rows::OpenFault;
-use s10_wire::{WireFault, WriteFault, write_decimal, write_word};
+use s10_wire::WireFault;
 use std::io::Write;
 
 /// The word of a group.

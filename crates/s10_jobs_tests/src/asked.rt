@@ -4,8 +4,9 @@ use crate::refusing::Refusing;
 use s10_core::{Country, Service};
 use s10_ends::Client;
 use s10_jobs::{Status, ask};
+use s10_lines::WriteFault;
 use s10_link::{Packet, Peer, Receipt, ScriptLink};
-use s10_wire::{Body, WriteFault};
+use s10_wire::Body;
 use std::alloc::{AllocError, Global};
 use std::test::Fail;
 

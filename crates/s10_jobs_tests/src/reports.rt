@@ -4,7 +4,7 @@ use crate::refusing::Refusing;
 use s10_book::{Book, PlainBook, Settings, TripBook};
 use s10_ends::Server;
 use s10_jobs::{Report, Status, write_report};
-use s10_wire::WriteFault;
+use s10_lines::WriteFault;
 use std::alloc::Global;
 use std::io;
 use std::io::Write;

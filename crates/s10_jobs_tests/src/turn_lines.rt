@@ -5,9 +5,10 @@ use crate::refusing::Refusing;
 use s10_book::BookFault;
 use s10_ends::Served;
 use s10_jobs::{write_ledger_fault, write_link_fault, write_turn};
+use s10_lines::WriteFault;
 use s10_link::{LinkFault, Peer};
 use s10_rows::OpenFault;
-use s10_wire::{Frame, WireFault, WriteFault, decode_reply, encode_reply};
+use s10_wire::{Frame, WireFault, decode_reply, encode_reply};
 use std::alloc::Global;
 use std::test::Fail;
 

@@ -10,8 +10,10 @@ use crate::faults::opening_fault;
 use crate::keeping::keep_followed;
 use crate::lookups::{ask, usage_in};
 use crate::refused::Refused;
-use s10_book::{Book, BookFault, Candidate, Entry, Faults, Issue, Range, Settings, Usage};
-use s10_core::{Country, Id, Serial, Service};
+use s10_book::{
+    Block, Book, BookFault, Candidate, Entry, Faults, Holding, Issue, Range, Settings, Usage,
+};
+use s10_core::Id;
 use s10_index::CallIndex;
 use s10_rows::OpenFault;
 use s10_statements::{Unwatched, Watch, make_ledger, refusal_of};
@@ -306,45 +308,37 @@ impl<S: Alter> Book for SqlBook<S> {
         Ok(self.index.ranges().is_closed(num))
     }
 
-    fn next_range(
-        &mut self,
-        customer: u32,
-        service: Service,
-        country: Country,
-        after: u32,
-    ) -> Result<Option<Range>, BookFault>
+    fn next_range(&mut self, held: &Holding, after: u32) -> Result<Option<Range>, BookFault>
         ensures faults { Counts result self.old.faults self.new.faults }
         ensures keeps { Keeps (history_of S.Store) (λ b. b.terms) (IsHonest S.Store) self.old self.new }
         ensures opened { HasCleanDisk (state S.Store self.new.conn) → OnOk result (IsTrue (state S.Store self.new.conn).is_open) }
         ensures above { IfOk result (λ found. IfSome found (λ r. after < r.num)) }
-        ensures answer { IsHonest S.Store self.new → IfOk result (λ found. found ≡ find (is_open_above (history_of S.Store self.old) after customer service country) (ranges_of (history_of S.Store self.old))) }
+        ensures answer { IsHonest S.Store self.new → IfOk result (λ found. found ≡ find (is_open_above (history_of S.Store self.old) after held.now.holder held.now.service held.now.country) (ranges_of (history_of S.Store self.old))) }
     {
         if let Err(fault) = self.ask_again() {
             return Err(fault);
         }
-        Ok(
-            self.index
-                .ranges()
-                .open_after(customer, service, country, after),
-        )
+        let next = self
+            .index
+            .ranges()
+            .open_after(held.holder, held.service, held.country, after);
+        Ok(next)
     }
 
-    fn covering(
-        &mut self,
-        service: Service,
-        country: Country,
-        first: Serial,
-        last: Serial,
-    ) -> Result<Option<Range>, BookFault>
+    fn covering(&mut self, block: &Block) -> Result<Option<Range>, BookFault>
         ensures faults { Counts result self.old.faults self.new.faults }
         ensures keeps { Keeps (history_of S.Store) (λ b. b.terms) (IsHonest S.Store) self.old self.new }
         ensures opened { HasCleanDisk (state S.Store self.new.conn) → OnOk result (IsTrue (state S.Store self.new.conn).is_open) }
-        ensures answer { IsHonest S.Store self.new → IfOk result (λ found. found ≡ find (overlaps service country first last) (ranges_of (history_of S.Store self.old))) }
+        ensures answer { IsHonest S.Store self.new → IfOk result (λ found. found ≡ find (overlaps block.now.service block.now.country block.now.first block.now.last) (ranges_of (history_of S.Store self.old))) }
     {
         if let Err(fault) = self.ask_again() {
             return Err(fault);
         }
-        Ok(self.index.ranges().over(service, country, first, last))
+        let found = self
+            .index
+            .ranges()
+            .over(block.service, block.country, block.first, block.last);
+        Ok(found)
     }
 
     fn last_issue(&mut self, id: &Id) -> Result<Option<Issue>, BookFault>

@@ -4,7 +4,7 @@ use crate::calls::{
     Step, draw, drawn, gb, grant, granted, id, ledger, nine_calls, opening, query, ra, rb, run,
     serial, settings, six_calls, told, us, void,
 };
-use s10_book::{Book, BookFault, Candidate, Entry, Issue, PlainBook, Range, Usage};
+use s10_book::{Block, Book, BookFault, Candidate, Entry, Holding, Issue, PlainBook, Range, Usage};
 use s10_core::{Id, Serial};
 use s10_ledger::SqlBook;
 use s10_wire::{Body, Outcome, Request, Status};
@@ -310,11 +310,22 @@ fn has_range<B: Book>(book: &mut B, num: u32, range: Option<Range>) -> bool {
 }
 
 fn has_next<B: Book>(book: &mut B, customer: u32, after: u32, range: Option<Range>) -> bool {
-    book.next_range(customer, ra(), gb(), after) == Ok(range)
+    let held = Holding {
+        holder: customer,
+        service: ra(),
+        country: gb(),
+    };
+    book.next_range(&held, after) == Ok(range)
 }
 
 fn has_over<B: Book>(book: &mut B, first: Serial, last: Serial, range: Option<Range>) -> bool {
-    book.covering(ra(), gb(), first, last) == Ok(range)
+    let block = Block {
+        service: ra(),
+        country: gb(),
+        first,
+        last,
+    };
+    book.covering(&block) == Ok(range)
 }
 
 fn first_range_is_read<R: Abort, B: Book>(rt: &R, book: &mut B) {

@@ -3,7 +3,7 @@
 ghost use Rattle.std.specs.Prelude.{◌≤◌};
 
 use crate::calls::{answer, draw, gb, grant, ledger, ra, serial, settings};
-use s10_book::{Book, PlainBook};
+use s10_book::{Block, Book, Holding, PlainBook};
 use s10_ledger::{SqlBook, Unwatched};
 use s10_wire::Request;
 use sqlite::MemStore;
@@ -62,12 +62,20 @@ fn draws_are_alike<A: Book, B: Book>(one: &mut A, other: &mut B, draws: u32) -> 
 fn range_is_alike<A: Book, B: Book>(one: &mut A, other: &mut B, place: u32) -> bool
     requires { place ≤ 2000 }
 {
-    let first = serial(place * 10 + 5);
-    let last = serial(place * 10 + 35);
-    let holder = 1 + place % HOLDERS;
+    let block = Block {
+        service: ra(),
+        country: gb(),
+        first: serial(place * 10 + 5),
+        last: serial(place * 10 + 35),
+    };
+    let held = Holding {
+        holder: 1 + place % HOLDERS,
+        service: ra(),
+        country: gb(),
+    };
     one.range(place) == other.range(place)
-        && one.covering(ra(), gb(), first, last) == other.covering(ra(), gb(), first, last)
-        && one.next_range(holder, ra(), gb(), place) == other.next_range(holder, ra(), gb(), place)
+        && one.covering(&block) == other.covering(&block)
+        && one.next_range(&held, place) == other.next_range(&held, place)
 }
 
 fn ranges_are_alike<A: Book, B: Book>(one: &mut A, other: &mut B, ranges: u32) -> bool

@@ -4,8 +4,8 @@
 mod closed_ranges;
 mod keys;
 mod lookups;
-mod made;
 mod mark;
+mod next_mark;
 mod order;
 mod places;
 mod ranges;

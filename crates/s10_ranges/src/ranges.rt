@@ -10,8 +10,8 @@ ghost use Rattle.s10_ranges.specs.Turns.{mark_behind};
 
 use crate::closed_ranges::ClosedRanges;
 use crate::lookups::{mark_numbered, range_held, range_numbered, range_over};
-use crate::made::{next_mark, range_granted};
 use crate::mark::Mark;
+use crate::next_mark::next_mark;
 use crate::places::{place_among, place_among_held};
 use crate::turn::Turn;
 use s10_book::{Entry, Range};
@@ -174,7 +174,7 @@ impl Ranges {
     {
         match entry.outcome {
             Outcome::Granted { range: num } => {
-                if let Some(range) = range_granted(entry, num) {
+                if let Some(range) = entry.range_made(num) {
                     let mark = Mark {
                         serial: range.first,
                         turn: Turn::First,
@@ -256,33 +256,20 @@ impl Ranges {
         ensures open { (h : List Entry) → Mirrors self.now h → result ≡ find (is_open_above h after customer service country) (ranges_of h) }
     {
         let mut past = after;
-        while let Some(range) = self.held_after(customer, service, country, past) {
+        while let Some(range) = range_held(
+            &self.ranges,
+            &self.by_holder,
+            customer,
+            service,
+            country,
+            past,
+        ) {
             if !self.is_closed(range.num) {
                 return Some(range);
             }
             past = range.num;
         }
         None
-    }
-
-    // The range of least number above `after` with that holder, service and country, if there is one.
-    fn held_after(
-        &self,
-        customer: u32,
-        service: Service,
-        country: Country,
-        after: u32,
-    ) -> Option<Range>
-        ensures { result ≡ find (is_held_above after customer service country) self.now.ranges.items }
-    {
-        range_held(
-            &self.ranges,
-            &self.by_holder,
-            customer,
-            service,
-            country,
-            after,
-        )
     }
 
     /// The range of least number of that service and country that has a serial in common with `first`

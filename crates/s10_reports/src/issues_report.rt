@@ -9,7 +9,7 @@ ghost use Rattle.s10_reports.specs.ReportFault.{Reported, CountsReport};
 
 use crate::report_fault::ReportFault;
 use s10_book::{Book, Entry, Issuance, Issue};
-use s10_wire::{WriteFault, write_decimal, write_first_decimal, write_id, write_text, write_word};
+use s10_lines::{WriteFault, write_decimal, write_first_decimal, write_id, write_text, write_word};
 use std::io::Write;
 
 /// Writes a header and a line for each issue, in order of arrival, with its state: `issued` or

@@ -2,14 +2,14 @@
 
 ghost use Rattle.std.specs.Prelude.{[], ◌∷◌, decimal, OnOk};
 ghost use Rattle.std.specs.Io.KnownBytes.{Appends};
-ghost use Rattle.s10_wire.specs.Lines.{spaced};
+ghost use Rattle.s10_lines.specs.Lines.{spaced};
 ghost use Rattle.s10_book.specs.Book.{Keeps};
 ghost use Rattle.s10_reports.specs.Reports.{range_line, closed_words, ranges_report};
 ghost use Rattle.s10_reports.specs.ReportFault.{Reported, CountsReport};
 
 use crate::report_fault::ReportFault;
 use s10_book::{Book, Range, Usage};
-use s10_wire::{
+use s10_lines::{
     WriteFault, write_decimal, write_first_decimal, write_letters, write_serials, write_text,
     write_word,
 };

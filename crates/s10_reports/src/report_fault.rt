@@ -1,5 +1,5 @@
 use s10_book::BookFault;
-use s10_wire::WriteFault;
+use s10_lines::WriteFault;
 use thiserror::Error;
 
 /// Why a report was not written to its end.

@@ -23,7 +23,7 @@ use crate::serial_row::SerialRow;
 use crate::serial_write::SerialWrite;
 use s10_book::{BookFault, Entry, Issuance, Range};
 use s10_core::Serial;
-use s10_wire::{Body, Outcome};
+use s10_wire::Outcome;
 
 // The write of the mark behind a serial that the range gave.
 fn mark_write(range: &Range, serial: Serial) -> RangeWrite
@@ -81,25 +81,8 @@ pub fn granted_row(entry: &Entry) -> Option<RangeWrite>
     let Outcome::Granted { range: num } = entry.outcome else {
         return None;
     };
-    let Body::Grant {
-        holder,
-        service,
-        country,
-        first,
-        last,
-    } = entry.request.body
-    else {
-        return None;
-    };
-    let range = Range {
-        num,
-        holder,
-        service,
-        country,
-        first,
-        last,
-    };
-    Some(RangeWrite::New(RangeRow::of(&range, first.value())))
+    let range = entry.range_made(num)?;
+    Some(RangeWrite::New(RangeRow::of(&range, range.first.value())))
 }
 
 // The row, voided.

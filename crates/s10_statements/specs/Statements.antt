@@ -1,12 +1,10 @@
 -- The texts of the statements, and what a read leaves.
-use Rattle.std.specs.Prelude.{◌≡◌, ◌≤◌, ℕ, List, codes, IsTrue}
-use Rattle.sqlite_trees.specs.View.{doubt}
+use Rattle.std.specs.Prelude.{◌≡◌, ℕ, List, codes}
 use Rattle.sqlite_trees.specs.declared.store.Store.{Ghosts}
 use Rattle.sqlite_schema.specs.declared.schema.Schema.{Schema}
-use Rattle.sqlite.specs.State.{HasCleanDisk}
 use Rattle.sqlite.specs.Held.{Held, state}
 use Rattle.s10_schema.specs.Schema.{IsLedgerSchema}
-use Rattle.s10_statements.specs.Settled.{IsSettled}
+use Rattle.s10_statements.specs.Settled.{IsSettled, IsClean, IsOpen, StaysUnclean}
 
 abbrev pub head_text : List ℕ
 head_text = codes "SELECT one, schema, interval, cap FROM head ORDER BY one"
@@ -71,9 +69,9 @@ close_text = codes "INSERT INTO closed (num, arrival) VALUES (?1, ?2)"
 -- A read under a schema that fits leaves the tables as they were, and a connection that has nothing to commit. What is said of them
 -- holds where the store is clean and the connection open as the read ends; the disk does not come clean again.
 pub record LeavesWhere {S : Type 0} (Fits : Schema → Type 0) (g : Ghosts S) (old new : Held S) : Type 0 where
-  pub clean : doubt (state g old).is_clean ≤ doubt (state g new).is_clean
-  pub was_open : HasCleanDisk (state g new) → IsTrue (state g new).is_open → IsTrue (state g old).is_open
-  pub now : HasCleanDisk (state g new) → IsTrue (state g new).is_open → IsSettled g old → Fits (state g old).now.schema → (state g new).now ≡ (state g old).now
+  pub clean : StaysUnclean g old new
+  pub was_open : IsClean g new → IsOpen g new → IsOpen g old
+  pub now : IsClean g new → IsOpen g new → IsSettled g old → Fits (state g old).now.schema → (state g new).now ≡ (state g old).now
   pub settled : IsSettled g old → IsSettled g new
 
 -- so it is in any ledger

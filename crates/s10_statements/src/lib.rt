@@ -1,6 +1,7 @@
 //! The statements over the five tables of a ledger: they make the tables, read typed rows from them, and write those of a kept call.
 #![tactic(auto)]
 
+mod from_row;
 mod making;
 mod migrating;
 mod reads;

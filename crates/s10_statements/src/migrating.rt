@@ -1,14 +1,12 @@
 //! A ledger of an earlier build gets the table that it lacks.
 
-ghost use Rattle.std.specs.Prelude.{◌≡◌, ◌≤◌, ◌⊎◌, IsTrue, OnOk, OnErr};
+ghost use Rattle.std.specs.Prelude.{◌≡◌, ◌⊎◌, OnOk, OnErr};
 ghost use Rattle.sqlite_trees.specs.Tree.{Trees};
-ghost use Rattle.sqlite_trees.specs.View.{doubt};
 ghost use Rattle.sqlite.specs.Held.{state};
-ghost use Rattle.sqlite.specs.State.{HasCleanDisk};
 ghost use Rattle.s10_rows.specs.Tables.{Tables};
 ghost use Rattle.s10_schema.specs.Schema.{ledger_schema};
 ghost use Rattle.s10_statements.specs.Shown.{HasTables, HasOldTables};
-ghost use Rattle.s10_statements.specs.Settled.{IsSettled};
+ghost use Rattle.s10_statements.specs.Settled.{IsSettled, IsClean, IsOpen, StaysUnclean};
 
 use crate::making::{CLOSED, run};
 use sqlite::{Alter, Connection, Error};
@@ -18,13 +16,13 @@ use sqlite::{Alter, Connection, Error};
 pub fn make_closed<S: Alter>(conn: &mut Connection<S>) -> Result<(), Error>
     requires settled { IsSettled S.Store conn.old }
     ensures settled { IsSettled S.Store conn.new }
-    ensures opened { HasCleanDisk (state S.Store conn.new) → OnOk result (IsTrue (state S.Store conn.new).is_open) }
-    ensures all { HasCleanDisk (state S.Store conn.new) → OnOk result ((tables : Tables) → HasOldTables (state S.Store conn.old).now tables → HasTables (state S.Store conn.new).now tables) }
-    ensures none { HasCleanDisk (state S.Store conn.new) → IsTrue (state S.Store conn.new).is_open → OnErr result ((state S.Store conn.new).now ≡ (state S.Store conn.old).now) }
-    ensures was_open { HasCleanDisk (state S.Store conn.new) → IsTrue (state S.Store conn.new).is_open → IsTrue (state S.Store conn.old).is_open }
-    ensures clean { doubt (state S.Store conn.old).is_clean ≤ doubt (state S.Store conn.new).is_clean }
-    ensures crash { HasCleanDisk (state S.Store conn.new) → (db : Trees) → (state S.Store conn.new).may_leave db
-        → (state S.Store conn.old).may_leave db ⊎ (IsTrue (state S.Store conn.old).is_open × ((tables : Tables) → HasOldTables (state S.Store conn.old).now tables
+    ensures opened { IsClean S.Store conn.new → OnOk result (IsOpen S.Store conn.new) }
+    ensures all { IsClean S.Store conn.new → OnOk result ((tables : Tables) → HasOldTables (state S.Store conn.old).now tables → HasTables (state S.Store conn.new).now tables) }
+    ensures none { IsClean S.Store conn.new → IsOpen S.Store conn.new → OnErr result ((state S.Store conn.new).now ≡ (state S.Store conn.old).now) }
+    ensures was_open { IsClean S.Store conn.new → IsOpen S.Store conn.new → IsOpen S.Store conn.old }
+    ensures clean { StaysUnclean S.Store conn.old conn.new }
+    ensures crash { IsClean S.Store conn.new → (db : Trees) → (state S.Store conn.new).may_leave db
+        → (state S.Store conn.old).may_leave db ⊎ (IsOpen S.Store conn.old × ((tables : Tables) → HasOldTables (state S.Store conn.old).now tables
         → HasTables (record { schema = ledger_schema; trees = db }) tables)) }
 {
     let mut tx = conn.transaction();

@@ -1,12 +1,12 @@
 //! The reads of the five tables.
 
-ghost use Rattle.std.specs.Prelude.{◌≡◌, ◌≢◌, pos, List, map, filter, IsTrue, IfOk, OnOk};
+ghost use Rattle.std.specs.Prelude.{◌≡◌, ◌≢◌, pos, List, map, filter, IfOk, OnOk};
 ghost use Rattle.std.specs.List.{AllByRecursion};
 ghost use Rattle.std.specs.Ordering.{int_cmp};
 ghost use Rattle.std.specs.declared.cmp.Ordering.TheVariants as Ordering;
 ghost use Rattle.sqlite_trees.specs.Tree.{IsAscending};
 ghost use Rattle.sqlite.specs.Held.{state};
-ghost use Rattle.sqlite.specs.State.{HasCleanDisk, Shown};
+ghost use Rattle.sqlite.specs.State.{Shown};
 ghost use Rattle.sqlite.specs.Given.{IsPlain};
 ghost use Rattle.sqlite.specs.Listing.{understood};
 ghost use Rattle.sqlite.specs.Values.{bound};
@@ -14,10 +14,10 @@ ghost use Rattle.s10_rows.specs.Tables.{Tables, HaveSameRows};
 ghost use Rattle.s10_schema.specs.Schema.{IsLedgerSchema, IsClosedSchema};
 ghost use Rattle.s10_statements.specs.Shown.{HasTables, shown_head, shown_call, shown_range, shown_serial, shown_closed, head_columns, call_columns, range_columns, serial_columns, closed_columns, IsNumbered};
 ghost use Rattle.s10_rows.specs.Selected.{has_key_columns, arrives_between, is_within};
-ghost use Rattle.s10_statements.specs.Settled.{Spares, SparesWhere};
+ghost use Rattle.s10_statements.specs.Settled.{Spares, SparesWhere, IsClean, IsOpen};
 ghost use Rattle.s10_statements.specs.Statements.{Leaves, LeavesWhere};
 
-use crate::row_reading::{closed_rows_in, heads_in, ranges_in, serials_in};
+use crate::row_reading::rows_in;
 use crate::streams::{calls_shown, numbered_serials_shown};
 use crate::watch::{Unwatched, Watch};
 use s10_rows::{CallRow, ClosedRow, HeadRow, RangeRow, SerialRow};
@@ -33,8 +33,8 @@ fn read<S: Alter>(
 ) -> Result<Vec<Row>, Error>
     ensures leaves { LeavesWhere (λ schema. IsPlain (understood schema sql.now)) S.Store conn.old conn.new }
     ensures spares { SparesWhere (λ schema. IsPlain (understood schema sql.now)) S.Store conn.old conn.new }
-    ensures rows { HasCleanDisk (state S.Store conn.new) → IfOk result (λ rows. Shown sql.now (bound params.now) (state S.Store conn.old) (state S.Store conn.new) rows.items) }
-    ensures opened { HasCleanDisk (state S.Store conn.new) → OnOk result (IsTrue (state S.Store conn.new).is_open) }
+    ensures rows { IsClean S.Store conn.new → IfOk result (λ rows. Shown sql.now (bound params.now) (state S.Store conn.old) (state S.Store conn.new) rows.items) }
+    ensures opened { IsClean S.Store conn.new → OnOk result (IsOpen S.Store conn.new) }
 {
     conn.query_all(sql, params)
 }
@@ -42,8 +42,8 @@ fn read<S: Alter>(
 /// All rows of `head`.
 pub fn all_heads<S: Alter>(alloc: Global, conn: &mut Connection<S>) -> Result<Vec<HeadRow>, Error>
     ensures leaves { Leaves S.Store conn.old conn.new }
-    ensures opened { HasCleanDisk (state S.Store conn.new) → OnOk result (IsTrue (state S.Store conn.new).is_open) }
-    ensures rows { HasCleanDisk (state S.Store conn.new) → IfOk result (λ rows. IsLedgerSchema (state S.Store conn.old).now.schema
+    ensures opened { IsClean S.Store conn.new → OnOk result (IsOpen S.Store conn.new) }
+    ensures rows { IsClean S.Store conn.new → IfOk result (λ rows. IsLedgerSchema (state S.Store conn.old).now.schema
         → HaveSameRows (map shown_head rows.items) (map head_columns ((state S.Store conn.old).now.trees 0))) }
 {
     let rows = read(
@@ -51,7 +51,7 @@ pub fn all_heads<S: Alter>(alloc: Global, conn: &mut Connection<S>) -> Result<Ve
         "SELECT one, schema, interval, cap FROM head ORDER BY one",
         &[],
     )?;
-    heads_in(alloc, &rows)
+    rows_in(alloc, &rows)
 }
 
 /// The rows of `calls` with a key.
@@ -62,8 +62,8 @@ pub fn calls_with_key<S: Alter>(
     number: u32,
 ) -> Result<Vec<CallRow>, Error>
     ensures leaves { Leaves S.Store conn.old conn.new }
-    ensures opened { HasCleanDisk (state S.Store conn.new) → OnOk result (IsTrue (state S.Store conn.new).is_open) }
-    ensures rows { HasCleanDisk (state S.Store conn.new) → IfOk result (λ rows. (tables : Tables) → HasTables (state S.Store conn.old).now tables
+    ensures opened { IsClean S.Store conn.new → OnOk result (IsOpen S.Store conn.new) }
+    ensures rows { IsClean S.Store conn.new → IfOk result (λ rows. (tables : Tables) → HasTables (state S.Store conn.old).now tables
         → HaveSameRows (filter (has_key_columns customer number) tables.calls) rows.items) }
 {
     calls_shown(
@@ -83,8 +83,8 @@ pub fn calls_between<S: Alter>(
     high: u32,
 ) -> Result<Vec<CallRow>, Error>
     ensures leaves { Leaves S.Store conn.old conn.new }
-    ensures opened { HasCleanDisk (state S.Store conn.new) → OnOk result (IsTrue (state S.Store conn.new).is_open) }
-    ensures rows { HasCleanDisk (state S.Store conn.new) → IfOk result (λ rows. (tables : Tables) → HasTables (state S.Store conn.old).now tables
+    ensures opened { IsClean S.Store conn.new → OnOk result (IsOpen S.Store conn.new) }
+    ensures rows { IsClean S.Store conn.new → IfOk result (λ rows. (tables : Tables) → HasTables (state S.Store conn.old).now tables
         → HaveSameRows (filter (arrives_between (pos low) (pos high)) tables.calls) rows.items) }
 {
     calls_shown(
@@ -103,12 +103,12 @@ pub fn all_calls<S: Alter, W: Watch>(
     watch: &mut W,
 ) -> Result<Vec<CallRow>, Error>
     ensures leaves { Leaves S.Store conn.old conn.new }
-    ensures opened { HasCleanDisk (state S.Store conn.new) → OnOk result (IsTrue (state S.Store conn.new).is_open) }
-    ensures rows { HasCleanDisk (state S.Store conn.new) → IfOk result (λ rows. IsLedgerSchema (state S.Store conn.old).now.schema
+    ensures opened { IsClean S.Store conn.new → OnOk result (IsOpen S.Store conn.new) }
+    ensures rows { IsClean S.Store conn.new → IfOk result (λ rows. IsLedgerSchema (state S.Store conn.old).now.schema
         → HaveSameRows (map shown_call rows.items) (map call_columns ((state S.Store conn.old).now.trees 1))) }
-    ensures in_order { HasCleanDisk (state S.Store conn.new) → IfOk result (λ rows. (tables : Tables) → HasTables (state S.Store conn.old).now tables
+    ensures in_order { IsClean S.Store conn.new → IfOk result (λ rows. (tables : Tables) → HasTables (state S.Store conn.old).now tables
         → IsAscending (λ a b. int_cmp a.arrival b.arrival ≡ Ordering.Less) tables.calls → rows.items ≡ tables.calls) }
-    ensures sorted { HasCleanDisk (state S.Store conn.new) → IfOk result (λ rows. IsLedgerSchema (state S.Store conn.old).now.schema
+    ensures sorted { IsClean S.Store conn.new → IfOk result (λ rows. IsLedgerSchema (state S.Store conn.old).now.schema
         → IsAscending (λ a b. int_cmp a.arrival b.arrival ≢ Ordering.Greater) rows.items) }
 {
     calls_shown(
@@ -124,10 +124,10 @@ pub fn all_calls<S: Alter, W: Watch>(
 pub fn all_ranges<S: Alter>(alloc: Global, conn: &mut Connection<S>) -> Result<Vec<RangeRow>, Error>
     ensures spares { Spares S.Store conn.old conn.new }
     ensures leaves { Leaves S.Store conn.old conn.new }
-    ensures opened { HasCleanDisk (state S.Store conn.new) → OnOk result (IsTrue (state S.Store conn.new).is_open) }
-    ensures rows { HasCleanDisk (state S.Store conn.new) → IfOk result (λ rows. IsLedgerSchema (state S.Store conn.old).now.schema
+    ensures opened { IsClean S.Store conn.new → OnOk result (IsOpen S.Store conn.new) }
+    ensures rows { IsClean S.Store conn.new → IfOk result (λ rows. IsLedgerSchema (state S.Store conn.old).now.schema
         → HaveSameRows (map shown_range rows.items) (map range_columns ((state S.Store conn.old).now.trees 3))) }
-    ensures in_order { HasCleanDisk (state S.Store conn.new) → IfOk result (λ rows. (tables : Tables) → HasTables (state S.Store conn.old).now tables
+    ensures in_order { IsClean S.Store conn.new → IfOk result (λ rows. (tables : Tables) → HasTables (state S.Store conn.old).now tables
         → IsAscending (λ a b. int_cmp a.num b.num ≡ Ordering.Less) tables.ranges → rows.items ≡ tables.ranges) }
 {
     let rows = read(
@@ -135,7 +135,7 @@ pub fn all_ranges<S: Alter>(alloc: Global, conn: &mut Connection<S>) -> Result<V
         "SELECT num, holder, pair, low, high, mark FROM ranges ORDER BY num",
         &[],
     )?;
-    ranges_in(alloc, &rows)
+    rows_in(alloc, &rows)
 }
 
 /// The rows of `serials` of a pair whose serial is from `low` to `high`.
@@ -148,8 +148,8 @@ pub fn serials_within<S: Alter>(
 ) -> Result<Vec<SerialRow>, Error>
     ensures spares { Spares S.Store conn.old conn.new }
     ensures leaves { Leaves S.Store conn.old conn.new }
-    ensures opened { HasCleanDisk (state S.Store conn.new) → OnOk result (IsTrue (state S.Store conn.new).is_open) }
-    ensures rows { HasCleanDisk (state S.Store conn.new) → IfOk result (λ rows. (tables : Tables) → HasTables (state S.Store conn.old).now tables
+    ensures opened { IsClean S.Store conn.new → OnOk result (IsOpen S.Store conn.new) }
+    ensures rows { IsClean S.Store conn.new → IfOk result (λ rows. (tables : Tables) → HasTables (state S.Store conn.old).now tables
         → HaveSameRows (filter (is_within (pos pair) (pos low) (pos high)) tables.serials) rows.items) }
 {
     let rows = read(
@@ -157,7 +157,7 @@ pub fn serials_within<S: Alter>(
         "SELECT pair, serial, arrival, day, customer, number, voided FROM serials WHERE pair = ?1 AND serial BETWEEN ?2 AND ?3 ORDER BY pair, serial",
         params![pair, low, high],
     )?;
-    serials_in(alloc, &rows)
+    rows_in(alloc, &rows)
 }
 
 /// All rows of `serials`. Their rowids are read too, which shows that they are integers.
@@ -167,10 +167,10 @@ pub fn all_serials<S: Alter, W: Watch>(
     watch: &mut W,
 ) -> Result<Vec<SerialRow>, Error>
     ensures leaves { Leaves S.Store conn.old conn.new }
-    ensures opened { HasCleanDisk (state S.Store conn.new) → OnOk result (IsTrue (state S.Store conn.new).is_open) }
-    ensures rows { HasCleanDisk (state S.Store conn.new) → IfOk result (λ rows. IsLedgerSchema (state S.Store conn.old).now.schema
+    ensures opened { IsClean S.Store conn.new → OnOk result (IsOpen S.Store conn.new) }
+    ensures rows { IsClean S.Store conn.new → IfOk result (λ rows. IsLedgerSchema (state S.Store conn.old).now.schema
         → HaveSameRows (map shown_serial rows.items) (map serial_columns ((state S.Store conn.old).now.trees 4))) }
-    ensures numbered { HasCleanDisk (state S.Store conn.new) → OnOk result (IsLedgerSchema (state S.Store conn.old).now.schema → AllByRecursion IsNumbered ((state S.Store conn.old).now.trees 4)) }
+    ensures numbered { IsClean S.Store conn.new → OnOk result (IsLedgerSchema (state S.Store conn.old).now.schema → AllByRecursion IsNumbered ((state S.Store conn.old).now.trees 4)) }
 {
     numbered_serials_shown(
         alloc,
@@ -187,12 +187,12 @@ pub fn all_closed<S: Alter>(
 ) -> Result<Vec<ClosedRow>, Error>
     ensures spares { SparesWhere IsClosedSchema S.Store conn.old conn.new }
     ensures leaves { LeavesWhere IsClosedSchema S.Store conn.old conn.new }
-    ensures opened { HasCleanDisk (state S.Store conn.new) → OnOk result (IsTrue (state S.Store conn.new).is_open) }
-    ensures rows { HasCleanDisk (state S.Store conn.new) → IfOk result (λ rows. IsClosedSchema (state S.Store conn.old).now.schema
+    ensures opened { IsClean S.Store conn.new → OnOk result (IsOpen S.Store conn.new) }
+    ensures rows { IsClean S.Store conn.new → IfOk result (λ rows. IsClosedSchema (state S.Store conn.old).now.schema
         → HaveSameRows (map shown_closed rows.items) (map closed_columns ((state S.Store conn.old).now.trees 6))) }
-    ensures in_order { HasCleanDisk (state S.Store conn.new) → IfOk result (λ rows. (tables : Tables) → HasTables (state S.Store conn.old).now tables
+    ensures in_order { IsClean S.Store conn.new → IfOk result (λ rows. (tables : Tables) → HasTables (state S.Store conn.old).now tables
         → IsAscending (λ a b. int_cmp a.num b.num ≡ Ordering.Less) tables.closed → rows.items ≡ tables.closed) }
 {
     let rows = read(conn, "SELECT num, arrival FROM closed ORDER BY num", &[])?;
-    closed_rows_in(alloc, &rows)
+    rows_in(alloc, &rows)
 }

@@ -1,10 +1,11 @@
 //! Rows of an answer as typed rows.
 
-ghost use Rattle.std.specs.Prelude.{◌≡◌, length, IfOk, OnOk, IsTrue, All, map};
+ghost use Rattle.std.specs.Prelude.{◌≡◌, length, IfOk, OnOk, IsTrue, map};
 ghost use Rattle.sqlite_value.specs.Order.{column};
 ghost use Rattle.sqlite_trees.specs.View.{is_int};
 ghost use Rattle.s10_statements.specs.Shown.{shown_head, shown_call, shown_range, shown_serial, shown_closed, serial_front};
 
+use crate::from_row::FromRow;
 use s10_rows::{CallRow, ClosedRow, HeadRow, RangeRow, SerialRow};
 use sqlite::{Error, Row};
 use std::alloc::Global;
@@ -20,16 +21,20 @@ fn check_width(row: &Row, width: usize) -> Result<(), Error>
     }
 }
 
-fn head_in(row: &Row) -> Result<HeadRow, Error>
-    ensures { IfOk result (λ head. shown_head head ≡ row.now) }
-{
-    check_width(row, 4)?;
-    Ok(HeadRow {
-        one: row.get(0)?,
-        schema: row.get(1)?,
-        interval: row.get(2)?,
-        cap: row.get(3)?,
-    })
+impl FromRow for HeadRow {
+    ghost shown = { shown_head };
+
+    fn from_row(row: &Row) -> Result<HeadRow, Error>
+        ensures { IfOk result (λ head. shown_head head ≡ row.now) }
+    {
+        check_width(row, 4)?;
+        Ok(HeadRow {
+            one: row.get(0)?,
+            schema: row.get(1)?,
+            interval: row.get(2)?,
+            cap: row.get(3)?,
+        })
+    }
 }
 
 pub(crate) fn call_in(row: &Row) -> Result<CallRow, Error>
@@ -44,24 +49,28 @@ pub(crate) fn call_in(row: &Row) -> Result<CallRow, Error>
     Ok(CallRow::new(arrival, customer, number, day, reply))
 }
 
-fn range_in(row: &Row) -> Result<RangeRow, Error>
-    ensures { IfOk result (λ range. shown_range range ≡ row.now) }
-{
-    check_width(row, 6)?;
-    Ok(RangeRow {
-        num: row.get(0)?,
-        holder: row.get(1)?,
-        pair: row.get(2)?,
-        low: row.get(3)?,
-        high: row.get(4)?,
-        mark: row.get(5)?,
-    })
+impl FromRow for RangeRow {
+    ghost shown = { shown_range };
+
+    fn from_row(row: &Row) -> Result<RangeRow, Error>
+        ensures { IfOk result (λ range. shown_range range ≡ row.now) }
+    {
+        check_width(row, 6)?;
+        Ok(RangeRow {
+            num: row.get(0)?,
+            holder: row.get(1)?,
+            pair: row.get(2)?,
+            low: row.get(3)?,
+            high: row.get(4)?,
+            mark: row.get(5)?,
+        })
+    }
 }
 
-fn serial_in(row: &Row) -> Result<SerialRow, Error>
-    ensures { IfOk result (λ serial. shown_serial serial ≡ row.now) }
+// The columns of `serials`, which others may stand behind.
+fn serial_front_in(row: &Row) -> Result<SerialRow, Error>
+    ensures { IfOk result (λ serial. shown_serial serial ≡ serial_front row.now) }
 {
-    check_width(row, 7)?;
     Ok(SerialRow {
         pair: row.get(0)?,
         serial: row.get(1)?,
@@ -73,69 +82,47 @@ fn serial_in(row: &Row) -> Result<SerialRow, Error>
     })
 }
 
-fn closed_in(row: &Row) -> Result<ClosedRow, Error>
-    ensures { IfOk result (λ closed. shown_closed closed ≡ row.now) }
-{
-    check_width(row, 2)?;
-    Ok(ClosedRow {
-        num: row.get(0)?,
-        arrival: row.get(1)?,
-    })
-}
+impl FromRow for SerialRow {
+    ghost shown = { shown_serial };
 
-pub(crate) fn heads_in(alloc: Global, rows: &[Row]) -> Result<Vec<HeadRow>, Error>
-    ensures { IfOk result (λ heads. map shown_head heads.items ≡ rows.now) }
-{
-    let mut heads = Vec::new(alloc);
-    for row in rows {
-        heads.push(head_in(row)?)?;
+    fn from_row(row: &Row) -> Result<SerialRow, Error>
+        ensures { IfOk result (λ serial. shown_serial serial ≡ row.now) }
+    {
+        check_width(row, 7)?;
+        serial_front_in(row)
     }
-    Ok(heads)
 }
 
-pub(crate) fn ranges_in(alloc: Global, rows: &[Row]) -> Result<Vec<RangeRow>, Error>
-    ensures { IfOk result (λ ranges. map shown_range ranges.items ≡ rows.now) }
-{
-    let mut ranges = Vec::new(alloc);
-    for row in rows {
-        ranges.push(range_in(row)?)?;
-    }
-    Ok(ranges)
-}
-
-pub(crate) fn serials_in(alloc: Global, rows: &[Row]) -> Result<Vec<SerialRow>, Error>
-    ensures { IfOk result (λ serials. map shown_serial serials.items ≡ rows.now) }
-{
-    let mut serials = Vec::new(alloc);
-    for row in rows {
-        serials.push(serial_in(row)?)?;
-    }
-    Ok(serials)
-}
-
-pub(crate) fn closed_rows_in(alloc: Global, rows: &[Row]) -> Result<Vec<ClosedRow>, Error>
-    ensures { IfOk result (λ closed. map shown_closed closed.items ≡ rows.now) }
-{
-    let mut closed = Vec::new(alloc);
-    for row in rows {
-        closed.push(closed_in(row)?)?;
-    }
-    Ok(closed)
-}
-
-// A row with its rowid behind the columns.
+// A row of `serials` with its rowid behind the columns.
 pub(crate) fn numbered_serial_in(row: &Row) -> Result<SerialRow, Error>
     ensures columns { IfOk result (λ serial. shown_serial serial ≡ serial_front row.now) }
     ensures numbered { OnOk result (IsTrue (is_int (column row.now 7))) }
 {
     let _rowid: i64 = row.get(7)?;
-    Ok(SerialRow {
-        pair: row.get(0)?,
-        serial: row.get(1)?,
-        arrival: row.get(2)?,
-        day: row.get(3)?,
-        customer: row.get(4)?,
-        number: row.get(5)?,
-        voided: row.get(6)?,
-    })
+    serial_front_in(row)
+}
+
+impl FromRow for ClosedRow {
+    ghost shown = { shown_closed };
+
+    fn from_row(row: &Row) -> Result<ClosedRow, Error>
+        ensures { IfOk result (λ closed. shown_closed closed ≡ row.now) }
+    {
+        check_width(row, 2)?;
+        Ok(ClosedRow {
+            num: row.get(0)?,
+            arrival: row.get(1)?,
+        })
+    }
+}
+
+/// The rows of an answer, each as a typed row.
+pub(crate) fn rows_in<T: FromRow>(alloc: Global, rows: &[Row]) -> Result<Vec<T>, Error>
+    ensures { IfOk result (λ typed. map T.shown typed.items ≡ rows.now) }
+{
+    let mut typed = Vec::new(alloc);
+    for row in rows {
+        typed.push(T::from_row(row)?)?;
+    }
+    Ok(typed)
 }

@@ -5,13 +5,13 @@ ghost use Rattle.sqlite_value.specs.Order.{Row, column};
 ghost use Rattle.sqlite_trees.specs.View.{is_int};
 ghost use Rattle.sqlite_schema.specs.declared.schema.Schema.{Schema};
 ghost use Rattle.sqlite.specs.Held.{state};
-ghost use Rattle.sqlite.specs.State.{HasCleanDisk, Shown};
+ghost use Rattle.sqlite.specs.State.{Shown};
 ghost use Rattle.sqlite.specs.Given.{IsPlain};
 ghost use Rattle.sqlite.specs.Listing.{understood};
 ghost use Rattle.sqlite.specs.Values.{bound};
 ghost use Rattle.s10_schema.specs.Schema.{IsLedgerSchema, with_others};
 ghost use Rattle.s10_statements.specs.Shown.{shown_call, shown_serial, serial_front};
-ghost use Rattle.s10_statements.specs.Settled.{Spares};
+ghost use Rattle.s10_statements.specs.Settled.{Spares, IsClean, IsOpen};
 ghost use Rattle.s10_statements.specs.Statements.{Leaves};
 
 use crate::row_reading::{call_in, numbered_serial_in};
@@ -35,8 +35,8 @@ pub(crate) fn calls_shown<S: Alter, W: Watch>(
     requires plain { (o : Schema) → IsPlain (understood (with_others o) sql.now) }
     ensures leaves { Leaves S.Store conn.old conn.new }
     ensures spares { Spares S.Store conn.old conn.new }
-    ensures opened { HasCleanDisk (state S.Store conn.new) → OnOk result (IsTrue (state S.Store conn.new).is_open) }
-    ensures rows { HasCleanDisk (state S.Store conn.new) → IfOk result (λ calls. IsLedgerSchema (state S.Store conn.old).now.schema
+    ensures opened { IsClean S.Store conn.new → OnOk result (IsOpen S.Store conn.new) }
+    ensures rows { IsClean S.Store conn.new → IfOk result (λ calls. IsLedgerSchema (state S.Store conn.old).now.schema
         → (rows : List Row) × Shown sql.now (bound params.now) (state S.Store conn.old) (state S.Store conn.new) rows × (map shown_call calls.items ≡ rows)) }
 {
     let mut calls = Vec::new(alloc);
@@ -61,8 +61,8 @@ pub(crate) fn numbered_serials_shown<S: Alter, W: Watch>(
 ) -> Result<Vec<SerialRow>, Error>
     requires plain { (o : Schema) → IsPlain (understood (with_others o) sql.now) }
     ensures leaves { Leaves S.Store conn.old conn.new }
-    ensures opened { HasCleanDisk (state S.Store conn.new) → OnOk result (IsTrue (state S.Store conn.new).is_open) }
-    ensures rows { HasCleanDisk (state S.Store conn.new) → IfOk result (λ serials. IsLedgerSchema (state S.Store conn.old).now.schema
+    ensures opened { IsClean S.Store conn.new → OnOk result (IsOpen S.Store conn.new) }
+    ensures rows { IsClean S.Store conn.new → IfOk result (λ serials. IsLedgerSchema (state S.Store conn.old).now.schema
         → (rows : List Row) × Shown sql.now (bound []) (state S.Store conn.old) (state S.Store conn.new) rows × (map shown_serial serials.items ≡ map serial_front rows) × All (λ row. IsTrue (is_int (column row 7))) rows) }
 {
     let mut serials = Vec::new(alloc);

@@ -1,14 +1,13 @@
 //! The writes of a kept call.
 
-ghost use Rattle.std.specs.Prelude.{◌≡◌, ◌≤◌, ◌⊎◌, ◌++◌, ◌∷◌, [], pos, true, IsTrue, List, length, filter, option_to_list, OnOk, OnErr};
+ghost use Rattle.std.specs.Prelude.{◌≡◌, ◌≤◌, ◌⊎◌, ◌++◌, ◌∷◌, [], pos, true, List, length, filter, option_to_list, OnOk, OnErr};
 ghost use Rattle.sqlite_trees.specs.Tree.{Trees};
-ghost use Rattle.sqlite_trees.specs.View.{doubt};
 ghost use Rattle.sqlite.specs.Held.{state};
-ghost use Rattle.sqlite.specs.State.{HasCleanDisk, Shows, KeepsCommit, Survives};
+ghost use Rattle.sqlite.specs.State.{Shows, KeepsCommit, Survives};
 ghost use Rattle.s10_rows.specs.CallRow.{StoredCall};
 ghost use Rattle.s10_rows.specs.Tables.{Tables, closing};
 ghost use Rattle.s10_statements.specs.Shown.{HasTables};
-ghost use Rattle.s10_statements.specs.Settled.{IsSettled};
+ghost use Rattle.s10_statements.specs.Settled.{IsSettled, IsClean, IsOpen, IsInTransaction, StaysUnclean};
 ghost use Rattle.s10_rows.specs.Kept.{FindAtMostOne, is_at, row_of, with_range, with_ranges, with_serial, with_serials};
 
 use s10_book::Entry;
@@ -24,11 +23,11 @@ fn put_call<S: Alter>(
 ) -> Result<(), Error>
     ensures same_reference { tx.new.conn.ghost_name ≡ tx.old.conn.ghost_name }
     ensures made { let row : StoredCall = record { arrival = pos arrival; customer = pos entry.now.request.customer; number = pos entry.now.request.number; day = pos entry.now.day; reply = reply.now } in
-        HasCleanDisk (state S.Store tx.new.conn.now) → IsTrue (state S.Store tx.old.conn.now).in_transaction → OnOk result ((tables : Tables) → HasTables (state S.Store tx.old.conn.now).now tables
+        IsClean S.Store tx.new.conn.now → IsInTransaction S.Store tx.old.conn.now → OnOk result ((tables : Tables) → HasTables (state S.Store tx.old.conn.now).now tables
         → HasTables (state S.Store tx.new.conn.now).now (record tables { calls = tables.calls ++ row ∷ [] })) }
-    ensures inside { HasCleanDisk (state S.Store tx.new.conn.now) → IsTrue (state S.Store tx.old.conn.now).in_transaction
+    ensures inside { IsClean S.Store tx.new.conn.now → IsInTransaction S.Store tx.old.conn.now
         → OnOk result (Shows (state S.Store tx.old.conn.now) (state S.Store tx.new.conn.now) (state S.Store tx.new.conn.now).now (state S.Store tx.old.conn.now).committed true) }
-    ensures kept { HasCleanDisk (state S.Store tx.new.conn.now) → IsTrue (state S.Store tx.old.conn.now).in_transaction → KeepsCommit (state S.Store tx.old.conn.now) (state S.Store tx.new.conn.now) }
+    ensures kept { IsClean S.Store tx.new.conn.now → IsInTransaction S.Store tx.old.conn.now → KeepsCommit (state S.Store tx.old.conn.now) (state S.Store tx.new.conn.now) }
     ensures survives { Survives (state S.Store tx.old.conn.now) (state S.Store tx.new.conn.now) (λ _. ⊥) }
 {
     tx.execute(
@@ -47,11 +46,11 @@ fn put_call<S: Alter>(
 /// Adds the row of a range.
 fn add_range<S: Alter>(tx: &mut Transaction<'_, S>, range: &RangeRow) -> Result<(), Error>
     ensures same_reference { tx.new.conn.ghost_name ≡ tx.old.conn.ghost_name }
-    ensures made { HasCleanDisk (state S.Store tx.new.conn.now) → IsTrue (state S.Store tx.old.conn.now).in_transaction → OnOk result ((tables : Tables) → HasTables (state S.Store tx.old.conn.now).now tables
+    ensures made { IsClean S.Store tx.new.conn.now → IsInTransaction S.Store tx.old.conn.now → OnOk result ((tables : Tables) → HasTables (state S.Store tx.old.conn.now).now tables
         → HasTables (state S.Store tx.new.conn.now).now (record tables { ranges = with_range (RangeWrite.New range.now) tables.ranges })) }
-    ensures inside { HasCleanDisk (state S.Store tx.new.conn.now) → IsTrue (state S.Store tx.old.conn.now).in_transaction
+    ensures inside { IsClean S.Store tx.new.conn.now → IsInTransaction S.Store tx.old.conn.now
         → OnOk result (Shows (state S.Store tx.old.conn.now) (state S.Store tx.new.conn.now) (state S.Store tx.new.conn.now).now (state S.Store tx.old.conn.now).committed true) }
-    ensures kept { HasCleanDisk (state S.Store tx.new.conn.now) → IsTrue (state S.Store tx.old.conn.now).in_transaction → KeepsCommit (state S.Store tx.old.conn.now) (state S.Store tx.new.conn.now) }
+    ensures kept { IsClean S.Store tx.new.conn.now → IsInTransaction S.Store tx.old.conn.now → KeepsCommit (state S.Store tx.old.conn.now) (state S.Store tx.new.conn.now) }
     ensures survives { Survives (state S.Store tx.old.conn.now) (state S.Store tx.new.conn.now) (λ _. ⊥) }
 {
     let RangeRow {
@@ -72,11 +71,11 @@ fn add_range<S: Alter>(tx: &mut Transaction<'_, S>, range: &RangeRow) -> Result<
 /// Sets the mark of the range of that number. It fails unless one row is changed.
 fn set_mark<S: Alter>(tx: &mut Transaction<'_, S>, num: i64, mark: i64) -> Result<(), Error>
     ensures same_reference { tx.new.conn.ghost_name ≡ tx.old.conn.ghost_name }
-    ensures made { HasCleanDisk (state S.Store tx.new.conn.now) → IsTrue (state S.Store tx.old.conn.now).in_transaction → OnOk result ((tables : Tables) → HasTables (state S.Store tx.old.conn.now).now tables
+    ensures made { IsClean S.Store tx.new.conn.now → IsInTransaction S.Store tx.old.conn.now → OnOk result ((tables : Tables) → HasTables (state S.Store tx.old.conn.now).now tables
         → HasTables (state S.Store tx.new.conn.now).now (record tables { ranges = with_range (RangeWrite.Mark num mark) tables.ranges })) }
-    ensures inside { HasCleanDisk (state S.Store tx.new.conn.now) → IsTrue (state S.Store tx.old.conn.now).in_transaction
+    ensures inside { IsClean S.Store tx.new.conn.now → IsInTransaction S.Store tx.old.conn.now
         → OnOk result (Shows (state S.Store tx.old.conn.now) (state S.Store tx.new.conn.now) (state S.Store tx.new.conn.now).now (state S.Store tx.old.conn.now).committed true) }
-    ensures kept { HasCleanDisk (state S.Store tx.new.conn.now) → IsTrue (state S.Store tx.old.conn.now).in_transaction → KeepsCommit (state S.Store tx.old.conn.now) (state S.Store tx.new.conn.now) }
+    ensures kept { IsClean S.Store tx.new.conn.now → IsInTransaction S.Store tx.old.conn.now → KeepsCommit (state S.Store tx.old.conn.now) (state S.Store tx.new.conn.now) }
     ensures survives { Survives (state S.Store tx.old.conn.now) (state S.Store tx.new.conn.now) (λ _. ⊥) }
 {
     let changed = tx.execute(
@@ -93,11 +92,11 @@ fn set_mark<S: Alter>(tx: &mut Transaction<'_, S>, num: i64, mark: i64) -> Resul
 /// Makes of the ranges what a call makes of them.
 fn put_range<S: Alter>(tx: &mut Transaction<'_, S>, write: &RangeWrite) -> Result<(), Error>
     ensures same_reference { tx.new.conn.ghost_name ≡ tx.old.conn.ghost_name }
-    ensures made { HasCleanDisk (state S.Store tx.new.conn.now) → IsTrue (state S.Store tx.old.conn.now).in_transaction → OnOk result ((tables : Tables) → HasTables (state S.Store tx.old.conn.now).now tables
+    ensures made { IsClean S.Store tx.new.conn.now → IsInTransaction S.Store tx.old.conn.now → OnOk result ((tables : Tables) → HasTables (state S.Store tx.old.conn.now).now tables
         → HasTables (state S.Store tx.new.conn.now).now (record tables { ranges = with_range write.now tables.ranges })) }
-    ensures inside { HasCleanDisk (state S.Store tx.new.conn.now) → IsTrue (state S.Store tx.old.conn.now).in_transaction
+    ensures inside { IsClean S.Store tx.new.conn.now → IsInTransaction S.Store tx.old.conn.now
         → OnOk result (Shows (state S.Store tx.old.conn.now) (state S.Store tx.new.conn.now) (state S.Store tx.new.conn.now).now (state S.Store tx.old.conn.now).committed true) }
-    ensures kept { HasCleanDisk (state S.Store tx.new.conn.now) → IsTrue (state S.Store tx.old.conn.now).in_transaction → KeepsCommit (state S.Store tx.old.conn.now) (state S.Store tx.new.conn.now) }
+    ensures kept { IsClean S.Store tx.new.conn.now → IsInTransaction S.Store tx.old.conn.now → KeepsCommit (state S.Store tx.old.conn.now) (state S.Store tx.new.conn.now) }
     ensures survives { Survives (state S.Store tx.old.conn.now) (state S.Store tx.new.conn.now) (λ _. ⊥) }
 {
     match *write {
@@ -109,11 +108,11 @@ fn put_range<S: Alter>(tx: &mut Transaction<'_, S>, write: &RangeWrite) -> Resul
 /// Adds the row of a serial.
 fn add_serial<S: Alter>(tx: &mut Transaction<'_, S>, serial: &SerialRow) -> Result<(), Error>
     ensures same_reference { tx.new.conn.ghost_name ≡ tx.old.conn.ghost_name }
-    ensures made { HasCleanDisk (state S.Store tx.new.conn.now) → IsTrue (state S.Store tx.old.conn.now).in_transaction → OnOk result ((tables : Tables) → HasTables (state S.Store tx.old.conn.now).now tables
+    ensures made { IsClean S.Store tx.new.conn.now → IsInTransaction S.Store tx.old.conn.now → OnOk result ((tables : Tables) → HasTables (state S.Store tx.old.conn.now).now tables
         → HasTables (state S.Store tx.new.conn.now).now (record tables { serials = with_serial (SerialWrite.New serial.now) tables.serials })) }
-    ensures inside { HasCleanDisk (state S.Store tx.new.conn.now) → IsTrue (state S.Store tx.old.conn.now).in_transaction
+    ensures inside { IsClean S.Store tx.new.conn.now → IsInTransaction S.Store tx.old.conn.now
         → OnOk result (Shows (state S.Store tx.old.conn.now) (state S.Store tx.new.conn.now) (state S.Store tx.new.conn.now).now (state S.Store tx.old.conn.now).committed true) }
-    ensures kept { HasCleanDisk (state S.Store tx.new.conn.now) → IsTrue (state S.Store tx.old.conn.now).in_transaction → KeepsCommit (state S.Store tx.old.conn.now) (state S.Store tx.new.conn.now) }
+    ensures kept { IsClean S.Store tx.new.conn.now → IsInTransaction S.Store tx.old.conn.now → KeepsCommit (state S.Store tx.old.conn.now) (state S.Store tx.new.conn.now) }
     ensures survives { Survives (state S.Store tx.old.conn.now) (state S.Store tx.new.conn.now) (λ _. ⊥) }
 {
     let SerialRow {
@@ -135,11 +134,11 @@ fn add_serial<S: Alter>(tx: &mut Transaction<'_, S>, serial: &SerialRow) -> Resu
 /// Puts the row of a serial in the place of the one of its identifier, or adds it. It fails unless one row is changed.
 fn replace_serial<S: Alter>(tx: &mut Transaction<'_, S>, serial: &SerialRow) -> Result<(), Error>
     ensures same_reference { tx.new.conn.ghost_name ≡ tx.old.conn.ghost_name }
-    ensures made { HasCleanDisk (state S.Store tx.new.conn.now) → IsTrue (state S.Store tx.old.conn.now).in_transaction → OnOk result ((tables : Tables) → HasTables (state S.Store tx.old.conn.now).now tables
+    ensures made { IsClean S.Store tx.new.conn.now → IsInTransaction S.Store tx.old.conn.now → OnOk result ((tables : Tables) → HasTables (state S.Store tx.old.conn.now).now tables
         → length (filter (is_at serial.now.pair serial.now.serial) tables.serials) ≤ 1 → HasTables (state S.Store tx.new.conn.now).now (record tables { serials = with_serial (SerialWrite.Again serial.now) tables.serials })) }
-    ensures inside { HasCleanDisk (state S.Store tx.new.conn.now) → IsTrue (state S.Store tx.old.conn.now).in_transaction
+    ensures inside { IsClean S.Store tx.new.conn.now → IsInTransaction S.Store tx.old.conn.now
         → OnOk result (Shows (state S.Store tx.old.conn.now) (state S.Store tx.new.conn.now) (state S.Store tx.new.conn.now).now (state S.Store tx.old.conn.now).committed true) }
-    ensures kept { HasCleanDisk (state S.Store tx.new.conn.now) → IsTrue (state S.Store tx.old.conn.now).in_transaction → KeepsCommit (state S.Store tx.old.conn.now) (state S.Store tx.new.conn.now) }
+    ensures kept { IsClean S.Store tx.new.conn.now → IsInTransaction S.Store tx.old.conn.now → KeepsCommit (state S.Store tx.old.conn.now) (state S.Store tx.new.conn.now) }
     ensures survives { Survives (state S.Store tx.old.conn.now) (state S.Store tx.new.conn.now) (λ _. ⊥) }
 {
     let SerialRow {
@@ -165,11 +164,11 @@ fn replace_serial<S: Alter>(tx: &mut Transaction<'_, S>, serial: &SerialRow) -> 
 /// Makes of the serials what a call makes of them.
 fn put_serial<S: Alter>(tx: &mut Transaction<'_, S>, write: &SerialWrite) -> Result<(), Error>
     ensures same_reference { tx.new.conn.ghost_name ≡ tx.old.conn.ghost_name }
-    ensures made { HasCleanDisk (state S.Store tx.new.conn.now) → IsTrue (state S.Store tx.old.conn.now).in_transaction → OnOk result ((tables : Tables) → HasTables (state S.Store tx.old.conn.now).now tables
+    ensures made { IsClean S.Store tx.new.conn.now → IsInTransaction S.Store tx.old.conn.now → OnOk result ((tables : Tables) → HasTables (state S.Store tx.old.conn.now).now tables
         → length (filter (is_at (row_of write.now).pair (row_of write.now).serial) tables.serials) ≤ 1 → HasTables (state S.Store tx.new.conn.now).now (record tables { serials = with_serial write.now tables.serials })) }
-    ensures inside { HasCleanDisk (state S.Store tx.new.conn.now) → IsTrue (state S.Store tx.old.conn.now).in_transaction
+    ensures inside { IsClean S.Store tx.new.conn.now → IsInTransaction S.Store tx.old.conn.now
         → OnOk result (Shows (state S.Store tx.old.conn.now) (state S.Store tx.new.conn.now) (state S.Store tx.new.conn.now).now (state S.Store tx.old.conn.now).committed true) }
-    ensures kept { HasCleanDisk (state S.Store tx.new.conn.now) → IsTrue (state S.Store tx.old.conn.now).in_transaction → KeepsCommit (state S.Store tx.old.conn.now) (state S.Store tx.new.conn.now) }
+    ensures kept { IsClean S.Store tx.new.conn.now → IsInTransaction S.Store tx.old.conn.now → KeepsCommit (state S.Store tx.old.conn.now) (state S.Store tx.new.conn.now) }
     ensures survives { Survives (state S.Store tx.old.conn.now) (state S.Store tx.new.conn.now) (λ _. ⊥) }
 {
     match *write {
@@ -181,13 +180,13 @@ fn put_serial<S: Alter>(tx: &mut Transaction<'_, S>, write: &SerialWrite) -> Res
 /// Makes of the ranges what a call makes of them, write by write.
 fn put_ranges<S: Alter>(tx: &mut Transaction<'_, S>, ranges: &[RangeWrite]) -> Result<(), Error>
     ensures same_reference { tx.new.conn.ghost_name ≡ tx.old.conn.ghost_name }
-    ensures made { HasCleanDisk (state S.Store tx.new.conn.now) → IsTrue (state S.Store tx.old.conn.now).in_transaction → OnOk result ((tables : Tables) → HasTables (state S.Store tx.old.conn.now).now tables
+    ensures made { IsClean S.Store tx.new.conn.now → IsInTransaction S.Store tx.old.conn.now → OnOk result ((tables : Tables) → HasTables (state S.Store tx.old.conn.now).now tables
         → HasTables (state S.Store tx.new.conn.now).now (record tables { ranges = with_ranges ranges.now tables.ranges })) }
-    ensures inside { HasCleanDisk (state S.Store tx.new.conn.now) → IsTrue (state S.Store tx.old.conn.now).in_transaction
-        → OnOk result (IsTrue (state S.Store tx.new.conn.now).in_transaction) }
-    ensures kept { HasCleanDisk (state S.Store tx.new.conn.now) → IsTrue (state S.Store tx.old.conn.now).in_transaction → KeepsCommit (state S.Store tx.old.conn.now) (state S.Store tx.new.conn.now) }
+    ensures inside { IsClean S.Store tx.new.conn.now → IsInTransaction S.Store tx.old.conn.now
+        → OnOk result (IsInTransaction S.Store tx.new.conn.now) }
+    ensures kept { IsClean S.Store tx.new.conn.now → IsInTransaction S.Store tx.old.conn.now → KeepsCommit (state S.Store tx.old.conn.now) (state S.Store tx.new.conn.now) }
     ensures survives { Survives (state S.Store tx.old.conn.now) (state S.Store tx.new.conn.now) (λ _. ⊥) }
-    ensures clean { doubt (state S.Store tx.old.conn.now).is_clean ≤ doubt (state S.Store tx.new.conn.now).is_clean }
+    ensures clean { StaysUnclean S.Store tx.old.conn.now tx.new.conn.now }
 {
     for write in ranges {
         put_range(tx, write)?;
@@ -198,13 +197,13 @@ fn put_ranges<S: Alter>(tx: &mut Transaction<'_, S>, ranges: &[RangeWrite]) -> R
 /// Makes of the serials what a call makes of them, write by write.
 fn put_serials<S: Alter>(tx: &mut Transaction<'_, S>, serials: &[SerialWrite]) -> Result<(), Error>
     ensures same_reference { tx.new.conn.ghost_name ≡ tx.old.conn.ghost_name }
-    ensures made { HasCleanDisk (state S.Store tx.new.conn.now) → IsTrue (state S.Store tx.old.conn.now).in_transaction → OnOk result ((tables : Tables) → HasTables (state S.Store tx.old.conn.now).now tables
+    ensures made { IsClean S.Store tx.new.conn.now → IsInTransaction S.Store tx.old.conn.now → OnOk result ((tables : Tables) → HasTables (state S.Store tx.old.conn.now).now tables
         → FindAtMostOne serials.now tables.serials → HasTables (state S.Store tx.new.conn.now).now (record tables { serials = with_serials serials.now tables.serials })) }
-    ensures inside { HasCleanDisk (state S.Store tx.new.conn.now) → IsTrue (state S.Store tx.old.conn.now).in_transaction
-        → OnOk result (IsTrue (state S.Store tx.new.conn.now).in_transaction) }
-    ensures kept { HasCleanDisk (state S.Store tx.new.conn.now) → IsTrue (state S.Store tx.old.conn.now).in_transaction → KeepsCommit (state S.Store tx.old.conn.now) (state S.Store tx.new.conn.now) }
+    ensures inside { IsClean S.Store tx.new.conn.now → IsInTransaction S.Store tx.old.conn.now
+        → OnOk result (IsInTransaction S.Store tx.new.conn.now) }
+    ensures kept { IsClean S.Store tx.new.conn.now → IsInTransaction S.Store tx.old.conn.now → KeepsCommit (state S.Store tx.old.conn.now) (state S.Store tx.new.conn.now) }
     ensures survives { Survives (state S.Store tx.old.conn.now) (state S.Store tx.new.conn.now) (λ _. ⊥) }
-    ensures clean { doubt (state S.Store tx.old.conn.now).is_clean ≤ doubt (state S.Store tx.new.conn.now).is_clean }
+    ensures clean { StaysUnclean S.Store tx.old.conn.now tx.new.conn.now }
 {
     for write in serials {
         put_serial(tx, write)?;
@@ -215,11 +214,11 @@ fn put_serials<S: Alter>(tx: &mut Transaction<'_, S>, serials: &[SerialWrite]) -
 /// Adds the row of a closed range.
 fn add_closed<S: Alter>(tx: &mut Transaction<'_, S>, closed: &ClosedRow) -> Result<(), Error>
     ensures same_reference { tx.new.conn.ghost_name ≡ tx.old.conn.ghost_name }
-    ensures made { HasCleanDisk (state S.Store tx.new.conn.now) → IsTrue (state S.Store tx.old.conn.now).in_transaction → OnOk result ((tables : Tables) → HasTables (state S.Store tx.old.conn.now).now tables
+    ensures made { IsClean S.Store tx.new.conn.now → IsInTransaction S.Store tx.old.conn.now → OnOk result ((tables : Tables) → HasTables (state S.Store tx.old.conn.now).now tables
         → HasTables (state S.Store tx.new.conn.now).now (record tables { closed = tables.closed ++ closed.now ∷ [] })) }
-    ensures inside { HasCleanDisk (state S.Store tx.new.conn.now) → IsTrue (state S.Store tx.old.conn.now).in_transaction
-        → OnOk result (IsTrue (state S.Store tx.new.conn.now).in_transaction) }
-    ensures kept { HasCleanDisk (state S.Store tx.new.conn.now) → IsTrue (state S.Store tx.old.conn.now).in_transaction → KeepsCommit (state S.Store tx.old.conn.now) (state S.Store tx.new.conn.now) }
+    ensures inside { IsClean S.Store tx.new.conn.now → IsInTransaction S.Store tx.old.conn.now
+        → OnOk result (IsInTransaction S.Store tx.new.conn.now) }
+    ensures kept { IsClean S.Store tx.new.conn.now → IsInTransaction S.Store tx.old.conn.now → KeepsCommit (state S.Store tx.old.conn.now) (state S.Store tx.new.conn.now) }
     ensures survives { Survives (state S.Store tx.old.conn.now) (state S.Store tx.new.conn.now) (λ _. ⊥) }
 {
     let ClosedRow { num, arrival } = *closed;
@@ -237,13 +236,13 @@ fn put_closed<S: Alter>(
     entry: &Entry,
 ) -> Result<(), Error>
     ensures same_reference { tx.new.conn.ghost_name ≡ tx.old.conn.ghost_name }
-    ensures made { HasCleanDisk (state S.Store tx.new.conn.now) → IsTrue (state S.Store tx.old.conn.now).in_transaction → OnOk result ((tables : Tables) → HasTables (state S.Store tx.old.conn.now).now tables
+    ensures made { IsClean S.Store tx.new.conn.now → IsInTransaction S.Store tx.old.conn.now → OnOk result ((tables : Tables) → HasTables (state S.Store tx.old.conn.now).now tables
         → HasTables (state S.Store tx.new.conn.now).now (record tables { closed = tables.closed ++ option_to_list (closing arrival entry.now.request.body entry.now.outcome) })) }
-    ensures inside { HasCleanDisk (state S.Store tx.new.conn.now) → IsTrue (state S.Store tx.old.conn.now).in_transaction
-        → OnOk result (IsTrue (state S.Store tx.new.conn.now).in_transaction) }
-    ensures kept { HasCleanDisk (state S.Store tx.new.conn.now) → IsTrue (state S.Store tx.old.conn.now).in_transaction → KeepsCommit (state S.Store tx.old.conn.now) (state S.Store tx.new.conn.now) }
+    ensures inside { IsClean S.Store tx.new.conn.now → IsInTransaction S.Store tx.old.conn.now
+        → OnOk result (IsInTransaction S.Store tx.new.conn.now) }
+    ensures kept { IsClean S.Store tx.new.conn.now → IsInTransaction S.Store tx.old.conn.now → KeepsCommit (state S.Store tx.old.conn.now) (state S.Store tx.new.conn.now) }
     ensures survives { Survives (state S.Store tx.old.conn.now) (state S.Store tx.new.conn.now) (λ _. ⊥) }
-    ensures clean { doubt (state S.Store tx.old.conn.now).is_clean ≤ doubt (state S.Store tx.new.conn.now).is_clean }
+    ensures clean { StaysUnclean S.Store tx.old.conn.now tx.new.conn.now }
 {
     match ClosedRow::made_by(arrival, entry) {
         Some(row) => add_closed(tx, &row),
@@ -262,9 +261,9 @@ pub fn keep_rows<S: Alter>(
 ) -> Result<(), Error>
     requires settled { IsSettled S.Store conn.old }
     ensures settled { IsSettled S.Store conn.new }
-    ensures opened { HasCleanDisk (state S.Store conn.new) → OnOk result (IsTrue (state S.Store conn.new).is_open) }
+    ensures opened { IsClean S.Store conn.new → OnOk result (IsOpen S.Store conn.new) }
     ensures all { let row : StoredCall = record { arrival = pos arrival; customer = pos entry.now.request.customer; number = pos entry.now.request.number; day = pos entry.now.day; reply = reply.now } in
-        HasCleanDisk (state S.Store conn.new) → OnOk result ((tables : Tables) → HasTables (state S.Store conn.old).now tables
+        IsClean S.Store conn.new → OnOk result ((tables : Tables) → HasTables (state S.Store conn.old).now tables
         → FindAtMostOne serials.now tables.serials
         → HasTables (state S.Store conn.new).now (record tables {
           calls = tables.calls ++ row ∷ [];
@@ -272,12 +271,12 @@ pub fn keep_rows<S: Alter>(
           serials = with_serials serials.now tables.serials;
           closed = tables.closed ++ option_to_list (closing arrival entry.now.request.body entry.now.outcome);
         })) }
-    ensures none { HasCleanDisk (state S.Store conn.new) → IsTrue (state S.Store conn.new).is_open → OnErr result ((state S.Store conn.new).now ≡ (state S.Store conn.old).now) }
-    ensures was_open { HasCleanDisk (state S.Store conn.new) → IsTrue (state S.Store conn.new).is_open → IsTrue (state S.Store conn.old).is_open }
-    ensures clean { doubt (state S.Store conn.old).is_clean ≤ doubt (state S.Store conn.new).is_clean }
+    ensures none { IsClean S.Store conn.new → IsOpen S.Store conn.new → OnErr result ((state S.Store conn.new).now ≡ (state S.Store conn.old).now) }
+    ensures was_open { IsClean S.Store conn.new → IsOpen S.Store conn.new → IsOpen S.Store conn.old }
+    ensures clean { StaysUnclean S.Store conn.old conn.new }
     ensures crash { let row : StoredCall = record { arrival = pos arrival; customer = pos entry.now.request.customer; number = pos entry.now.request.number; day = pos entry.now.day; reply = reply.now } in
-        HasCleanDisk (state S.Store conn.new) → (db : Trees) → (state S.Store conn.new).may_leave db
-        → (state S.Store conn.old).may_leave db ⊎ (IsTrue (state S.Store conn.old).is_open × ((tables : Tables) → HasTables (state S.Store conn.old).now tables
+        IsClean S.Store conn.new → (db : Trees) → (state S.Store conn.new).may_leave db
+        → (state S.Store conn.old).may_leave db ⊎ (IsOpen S.Store conn.old × ((tables : Tables) → HasTables (state S.Store conn.old).now tables
         → FindAtMostOne serials.now tables.serials
         → HasTables (record (state S.Store conn.old).now { trees = db }) (record tables {
           calls = tables.calls ++ row ∷ [];

@@ -5,6 +5,5 @@ pub mod Asked
 pub mod Many
 pub mod Room
 pub mod Replied
-pub mod Writing
 pub mod Lengths
 pub mod SameIds

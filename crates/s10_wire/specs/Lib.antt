@@ -4,4 +4,3 @@ pub mod Room
 pub mod Kind
 pub mod Reply
 pub mod WireFault
-pub mod Lines

@@ -9,7 +9,6 @@ mod frame;
 mod ids;
 mod kind;
 mod laws;
-mod lines;
 mod outcome;
 mod reply;
 mod reply_decoder;
@@ -18,8 +17,6 @@ mod request_decoder;
 mod sameness;
 mod status;
 mod wire_fault;
-mod words;
-mod write_fault;
 
 pub use body::Body;
 pub use count::Count;
@@ -30,7 +27,6 @@ pub use laws::{
     datagrams_are_short, decoded_reply_encodes, decoded_request_encodes, encoded_reply_decodes,
     encoded_request_decodes, identifier_fields_are_spellings, one_datagram_each,
 };
-pub use lines::{write_reply_line, write_request_line};
 pub use outcome::Outcome;
 pub use reply::Reply;
 pub use reply_decoder::decode_reply;
@@ -39,8 +35,3 @@ pub use request_decoder::decode_request;
 pub use sameness::{same_outcome, same_request};
 pub use status::Status;
 pub use wire_fault::WireFault;
-pub use words::{
-    write_decimal, write_first_decimal, write_id, write_letters, write_serials, write_text,
-    write_word,
-};
-pub use write_fault::WriteFault;

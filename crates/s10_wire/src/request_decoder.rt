@@ -36,18 +36,6 @@ pub fn kind_at(bytes: &[u8], mark: u8) -> Result<Kind, WireFault>
     }
 }
 
-/// The body of a Draw.
-fn draw_at(bytes: &[u8]) -> Result<Body, WireFault>
-    requires { 16 ≤ length bytes.now }
-    ensures kind { IfOk result (λ body. kind_of body ≡ kinds.Draw) }
-    ensures read { IfOk result (λ body. IsBody body × (drop 12 bytes.now ≡ fields body ++ drop 16 bytes.now)) }
-    ensures refused { result_err result ≡ first_refusal (request_fields kinds.Draw bytes.now) }
-{
-    let service = service_at(bytes, 12)?;
-    let country = country_at(bytes, 14)?;
-    Ok(Body::Draw { service, country })
-}
-
 /// The body of a Grant.
 fn grant_at(bytes: &[u8]) -> Result<Body, WireFault>
     requires { 28 ≤ length bytes.now }
@@ -67,28 +55,6 @@ fn grant_at(bytes: &[u8]) -> Result<Body, WireFault>
         first,
         last,
     })
-}
-
-/// The body of a Void.
-fn void_at(bytes: &[u8]) -> Result<Body, WireFault>
-    requires { 25 ≤ length bytes.now }
-    ensures kind { IfOk result (λ body. kind_of body ≡ kinds.Void) }
-    ensures read { IfOk result (λ body. IsBody body × (drop 12 bytes.now ≡ fields body ++ drop 25 bytes.now)) }
-    ensures refused { result_err result ≡ first_refusal (request_fields kinds.Void bytes.now) }
-{
-    let id = id_at(bytes, 12)?;
-    Ok(Body::Void { id })
-}
-
-/// The body of a Query.
-fn query_at(bytes: &[u8]) -> Result<Body, WireFault>
-    requires { 25 ≤ length bytes.now }
-    ensures kind { IfOk result (λ body. kind_of body ≡ kinds.Query) }
-    ensures read { IfOk result (λ body. IsBody body × (drop 12 bytes.now ≡ fields body ++ drop 25 bytes.now)) }
-    ensures refused { result_err result ≡ first_refusal (request_fields kinds.Query bytes.now) }
-{
-    let id = id_at(bytes, 12)?;
-    Ok(Body::Query { id })
 }
 
 /// The body of a DrawMany.
@@ -117,9 +83,16 @@ fn body_at(kind: Kind, bytes: &[u8]) -> Result<Body, WireFault>
 {
     match kind {
         Kind::Grant => grant_at(bytes),
-        Kind::Draw => draw_at(bytes),
-        Kind::Void => void_at(bytes),
-        Kind::Query => query_at(bytes),
+        Kind::Draw => Ok(Body::Draw {
+            service: service_at(bytes, 12)?,
+            country: country_at(bytes, 14)?,
+        }),
+        Kind::Void => Ok(Body::Void {
+            id: id_at(bytes, 12)?,
+        }),
+        Kind::Query => Ok(Body::Query {
+            id: id_at(bytes, 12)?,
+        }),
         Kind::DrawMany => draw_many_at(bytes),
         Kind::Withdraw => Ok(Body::Withdraw {
             range: number_at(bytes, 12),

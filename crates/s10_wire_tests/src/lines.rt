@@ -3,7 +3,8 @@
 use crate::vectors::{
     draw, draw_many, drawn, drawn_many, grant, query, reply, request, void, withdraw,
 };
-use s10_wire::{Outcome, Reply, Request, Status, WriteFault, write_reply_line, write_request_line};
+use s10_lines::{WriteFault, write_reply_line, write_request_line};
+use s10_wire::{Outcome, Reply, Request, Status};
 use std::alloc::Global;
 use std::io;
 use std::io::Write;

@@ -1,6 +1,7 @@
 //! Why bytes are refused.
 
-use s10_wire::{WireFault, WriteFault, decode_reply, decode_request};
+use s10_lines::WriteFault;
+use s10_wire::{WireFault, decode_reply, decode_request};
 use std::test::Fail;
 
 #[test]

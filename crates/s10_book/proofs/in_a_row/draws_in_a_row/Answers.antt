@@ -16,8 +16,8 @@ returns-in_default-clause-answer g c = λ h.
     let e : c.in_ok-first.field-0 ≡ find (above (is_open first c.args.customer c.args.service c.args.country) 0) (ranges_of first) = c.in_ok-first.ensures.answer h in
     walked_nowhere first c.args.customer c.args.service c.args.country c.args.day _ c.args.count (omega (arith, c.value-wanted.ensures.value, c.value-wanted.ensures.in_range.0)) (sym e ∙ c.in_default.is)
 
-pub loop-service-init : goal.loop-service-init
-loop-service-init g c =
+pub loop-held-init : goal.loop-held-init
+loop-held-init g c =
     let first = g.B.Book.history c.args.book.now in
     let p = is_open first c.args.customer c.args.service c.args.country in
     record {
@@ -36,31 +36,31 @@ loop-service-init g c =
           (sym e ∙ c.in-Some.is));
     }
 
-pub loop-service-preserved-in-Some-2 : goal.loop-service-preserved-in-Some-2
-loop-service-preserved-in-Some-2 g c =
+pub loop-held-preserved-in-Some-2 : goal.loop-held-preserved-in-Some-2
+loop-held-preserved-in-Some-2 g c =
     let first = g.B.Book.history c.args.book.now in
     let p = is_open first c.args.customer c.args.service c.args.country in
-    let few : length c.loop-service.picks < c.value-wanted.result = omega (arith, c.len.ensures, c.loop-service-test.true) in
-    let one : length c.push.new.self ≡ length c.loop-service.picks + 1 = ap length c.push.ensures ∙ length-append c.loop-service.picks (c.in-Some-2.id ∷ []) in
+    let few : length c.loop-held.picks < c.value-wanted.result = omega (arith, c.len.ensures, c.loop-held-test.true) in
+    let one : length c.push.new.self ≡ length c.loop-held.picks + 1 = ap length c.push.ensures ∙ length-append c.loop-held.picks (c.in-Some-2.id ∷ []) in
     record {
-      faults = c.in_ok-id.ensures.faults ∙ c.loop-service.invariant.faults;
-      keeps = Keeps-trans c.loop-service.invariant.keeps c.free_pick.ensures.keeps;
-      interval = λ h. c.loop-service.invariant.interval (c.free_pick.ensures.keeps.was_honest h);
+      faults = c.in_ok-id.ensures.faults ∙ c.loop-held.invariant.faults;
+      keeps = Keeps-trans c.loop-held.invariant.keeps c.free_pick.ensures.keeps;
+      interval = λ h. c.loop-held.invariant.interval (c.free_pick.ensures.keeps.was_honest h);
       few = omega (arith, one, few);
-      fewer = omega (arith, one, c.loop-service.invariant.fewer);
+      fewer = omega (arith, one, c.loop-held.invariant.fewer);
       walk = λ h.
           let h0 = c.free_pick.ensures.keeps.was_honest h in
-          let same : g.B.Book.history c.loop-service.book ≡ first = c.loop-service.invariant.keeps.same_history h0 in
-          let legal = g.met.B.Book.legal c.args.book.now (c.loop-service.invariant.keeps.was_honest h0) in
-          let e : c.in_ok-id.field-0 ≡ free_pick_of first c.loop-service.range c.loop-service.issued c.args.day c.interval-interval.result =
-          c.in_ok-id.ensures.answer h ∙ ap (λ l. free_pick_of l c.loop-service.range c.loop-service.issued c.args.day c.interval-interval.result) same in
-          let next : suc c.loop-service.issued ≡ c.loop-service.issued + 1 = omega arith in
-          let P : List Id → Type 0 = λ l. IsAt (ranges_of first) p (drawn_on c.args.day) c.args.day c.interval-interval.result (issues_of first) c.value-wanted.result c.loop-service.range (c.loop-service.issued + 1) l in
-          let Q : ℕ → Type 0 = λ k. IsAt (ranges_of first) p (drawn_on c.args.day) c.args.day c.interval-interval.result (issues_of first) c.value-wanted.result c.loop-service.range k (c.loop-service.picks ++ c.in-Some-2.id ∷ []) in
+          let same : g.B.Book.history c.loop-held.book ≡ first = c.loop-held.invariant.keeps.same_history h0 in
+          let legal = g.met.B.Book.legal c.args.book.now (c.loop-held.invariant.keeps.was_honest h0) in
+          let e : c.in_ok-id.field-0 ≡ free_pick_of first c.loop-held.range c.loop-held.issued c.args.day c.interval-interval.result =
+          c.in_ok-id.ensures.answer h ∙ ap (λ l. free_pick_of l c.loop-held.range c.loop-held.issued c.args.day c.interval-interval.result) same in
+          let next : suc c.loop-held.issued ≡ c.loop-held.issued + 1 = omega arith in
+          let P : List Id → Type 0 = λ l. IsAt (ranges_of first) p (drawn_on c.args.day) c.args.day c.interval-interval.result (issues_of first) c.value-wanted.result c.loop-held.range (c.loop-held.issued + 1) l in
+          let Q : ℕ → Type 0 = λ k. IsAt (ranges_of first) p (drawn_on c.args.day) c.args.day c.interval-interval.result (issues_of first) c.value-wanted.result c.loop-held.range k (c.loop-held.picks ++ c.in-Some-2.id ∷ []) in
           subst P (sym c.push.ensures)
           (subst Q next
-          (at_given first (g.B.Book.terms c.args.book.now) p c.args.day c.interval-interval.result c.value-wanted.result c.loop-service.range c.loop-service.issued c.loop-service.picks c.in_ok-id.field-0 c.in-Some-2.id
-          legal c.interval-interval.ensures.range.0 few e c.in-Some-2.is (c.loop-service.invariant.walk h0)));
+          (at_given first (g.B.Book.terms c.args.book.now) p c.args.day c.interval-interval.result c.value-wanted.result c.loop-held.range c.loop-held.issued c.loop-held.picks c.in_ok-id.field-0 c.in-Some-2.id
+          legal c.interval-interval.ensures.range.0 few e c.in-Some-2.is (c.loop-held.invariant.walk h0)));
     }
 
 pub returns-in_default-3-clause-answer : goal.returns-in_default-3-clause-answer
@@ -68,48 +68,48 @@ returns-in_default-3-clause-answer g c = λ h.
     let first = g.B.Book.history c.args.book.now in
     let t = g.B.Book.terms c.args.book.now in
     let p = is_open first c.args.customer c.args.service c.args.country in
-    let r = c.loop-service.range in
-    let h1 = c.next_range-in-loop-service.ensures.keeps.was_honest h in
+    let r = c.loop-held.range in
+    let h1 = c.next_range-in-loop-held.ensures.keeps.was_honest h in
     let h0 = c.free_pick.ensures.keeps.was_honest h1 in
-    let same : g.B.Book.history c.loop-service.book ≡ first = c.loop-service.invariant.keeps.same_history h0 in
-    let legal = g.met.B.Book.legal c.args.book.now (c.loop-service.invariant.keeps.was_honest h0) in
-    let few : length c.loop-service.picks < c.value-wanted.result = omega (arith, c.len.ensures, c.loop-service-test.true) in
-    let e : c.in_ok-id.field-0 ≡ free_pick_of first c.loop-service.range c.loop-service.issued c.args.day c.interval-interval.result =
-    c.in_ok-id.ensures.answer h1 ∙ ap (λ l. free_pick_of l c.loop-service.range c.loop-service.issued c.args.day c.interval-interval.result) same in
-    let walk = c.loop-service.invariant.walk h0 in
-    let spent = at_none_given first t p c.args.day c.interval-interval.result c.value-wanted.result r c.loop-service.issued c.loop-service.picks c.in_ok-id.field-0 legal c.interval-interval.ensures.range.0 e c.in_default-2.is walk in
-    let n : c.in_ok-next.field-0 ≡ find (above (is_open (g.B.Book.history c.free_pick.new.book) c.args.customer c.args.service c.args.country) c.loop-service.range.num) (ranges_of (g.B.Book.history c.free_pick.new.book)) = c.in_ok-next.ensures.answer h in
-    let none : find (above (is_open first c.args.customer c.args.service c.args.country) c.loop-service.range.num) (ranges_of first) ≡ None =
-    sym (ap (λ l. find (above (is_open l c.args.customer c.args.service c.args.country) c.loop-service.range.num) (ranges_of l)) (c.free_pick.ensures.keeps.same_history h1 ∙ same)) ∙ sym n ∙ c.in_default-3.is in
-    walked_out first t c.args.customer c.args.service c.args.country c.args.day c.interval-interval.result c.value-wanted.result r c.loop-service.issued c.loop-service.picks legal c.interval-interval.ensures.range.0 few spent none walk
+    let same : g.B.Book.history c.loop-held.book ≡ first = c.loop-held.invariant.keeps.same_history h0 in
+    let legal = g.met.B.Book.legal c.args.book.now (c.loop-held.invariant.keeps.was_honest h0) in
+    let few : length c.loop-held.picks < c.value-wanted.result = omega (arith, c.len.ensures, c.loop-held-test.true) in
+    let e : c.in_ok-id.field-0 ≡ free_pick_of first c.loop-held.range c.loop-held.issued c.args.day c.interval-interval.result =
+    c.in_ok-id.ensures.answer h1 ∙ ap (λ l. free_pick_of l c.loop-held.range c.loop-held.issued c.args.day c.interval-interval.result) same in
+    let walk = c.loop-held.invariant.walk h0 in
+    let spent = at_none_given first t p c.args.day c.interval-interval.result c.value-wanted.result r c.loop-held.issued c.loop-held.picks c.in_ok-id.field-0 legal c.interval-interval.ensures.range.0 e c.in_default-2.is walk in
+    let n : c.in_ok-next.field-0 ≡ find (above (is_open (g.B.Book.history c.free_pick.new.book) c.args.customer c.args.service c.args.country) c.loop-held.range.num) (ranges_of (g.B.Book.history c.free_pick.new.book)) = c.in_ok-next.ensures.answer h in
+    let none : find (above (is_open first c.args.customer c.args.service c.args.country) c.loop-held.range.num) (ranges_of first) ≡ None =
+    sym (ap (λ l. find (above (is_open l c.args.customer c.args.service c.args.country) c.loop-held.range.num) (ranges_of l)) (c.free_pick.ensures.keeps.same_history h1 ∙ same)) ∙ sym n ∙ c.in_default-3.is in
+    walked_out first t c.args.customer c.args.service c.args.country c.args.day c.interval-interval.result c.value-wanted.result r c.loop-held.issued c.loop-held.picks legal c.interval-interval.ensures.range.0 few spent none walk
     ∙ ap (λ k. draws_in_a_row first c.args.customer c.args.service c.args.country c.args.day c.interval-interval.result k) c.value-wanted.ensures.value
-    ∙ ap (λ k. draws_in_a_row first c.args.customer c.args.service c.args.country c.args.day k c.args.count) (c.loop-service.invariant.interval h0)
+    ∙ ap (λ k. draws_in_a_row first c.args.customer c.args.service c.args.country c.args.day k c.args.count) (c.loop-held.invariant.interval h0)
 
-pub loop-service-preserved : goal.loop-service-preserved
-loop-service-preserved g c =
+pub loop-held-preserved : goal.loop-held-preserved
+loop-held-preserved g c =
     let first = g.B.Book.history c.args.book.now in
     let t = g.B.Book.terms c.args.book.now in
     let p = is_open first c.args.customer c.args.service c.args.country in
-    let r = c.loop-service.range in
+    let r = c.loop-held.range in
     record {
-      faults = c.in_ok-next.ensures.faults ∙ c.in_ok-id.ensures.faults ∙ c.loop-service.invariant.faults;
-      keeps = Keeps-trans c.loop-service.invariant.keeps (Keeps-trans c.free_pick.ensures.keeps c.next_range-in-loop-service.ensures.keeps);
-      interval = λ h. c.loop-service.invariant.interval (c.free_pick.ensures.keeps.was_honest (c.next_range-in-loop-service.ensures.keeps.was_honest h));
-      few = c.loop-service.invariant.few;
+      faults = c.in_ok-next.ensures.faults ∙ c.in_ok-id.ensures.faults ∙ c.loop-held.invariant.faults;
+      keeps = Keeps-trans c.loop-held.invariant.keeps (Keeps-trans c.free_pick.ensures.keeps c.next_range-in-loop-held.ensures.keeps);
+      interval = λ h. c.loop-held.invariant.interval (c.free_pick.ensures.keeps.was_honest (c.next_range-in-loop-held.ensures.keeps.was_honest h));
+      few = c.loop-held.invariant.few;
       fewer = omega arith;
       walk = λ h.
-          let h1 = c.next_range-in-loop-service.ensures.keeps.was_honest h in
+          let h1 = c.next_range-in-loop-held.ensures.keeps.was_honest h in
           let h0 = c.free_pick.ensures.keeps.was_honest h1 in
-          let same : g.B.Book.history c.loop-service.book ≡ first = c.loop-service.invariant.keeps.same_history h0 in
-          let legal = g.met.B.Book.legal c.args.book.now (c.loop-service.invariant.keeps.was_honest h0) in
-          let e : c.in_ok-id.field-0 ≡ free_pick_of first c.loop-service.range c.loop-service.issued c.args.day c.interval-interval.result =
-          c.in_ok-id.ensures.answer h1 ∙ ap (λ l. free_pick_of l c.loop-service.range c.loop-service.issued c.args.day c.interval-interval.result) same in
-          let walk = c.loop-service.invariant.walk h0 in
-          let spent = at_none_given first t p c.args.day c.interval-interval.result c.value-wanted.result r c.loop-service.issued c.loop-service.picks c.in_ok-id.field-0 legal c.interval-interval.ensures.range.0 e c.in_default-2.is walk in
-          let n : c.in_ok-next.field-0 ≡ find (above (is_open (g.B.Book.history c.free_pick.new.book) c.args.customer c.args.service c.args.country) c.loop-service.range.num) (ranges_of (g.B.Book.history c.free_pick.new.book)) = c.in_ok-next.ensures.answer h in
-          let found : find (above (is_open first c.args.customer c.args.service c.args.country) c.loop-service.range.num) (ranges_of first) ≡ Some c.in-Some-3.next =
-          sym (ap (λ l. find (above (is_open l c.args.customer c.args.service c.args.country) c.loop-service.range.num) (ranges_of l)) (c.free_pick.ensures.keeps.same_history h1 ∙ same)) ∙ sym n ∙ c.in-Some-3.is in
-          at_next (ranges_of first) p (drawn_on c.args.day) c.args.day c.interval-interval.result (issues_of first) c.value-wanted.result r c.loop-service.issued c.loop-service.picks c.in-Some-3.next
+          let same : g.B.Book.history c.loop-held.book ≡ first = c.loop-held.invariant.keeps.same_history h0 in
+          let legal = g.met.B.Book.legal c.args.book.now (c.loop-held.invariant.keeps.was_honest h0) in
+          let e : c.in_ok-id.field-0 ≡ free_pick_of first c.loop-held.range c.loop-held.issued c.args.day c.interval-interval.result =
+          c.in_ok-id.ensures.answer h1 ∙ ap (λ l. free_pick_of l c.loop-held.range c.loop-held.issued c.args.day c.interval-interval.result) same in
+          let walk = c.loop-held.invariant.walk h0 in
+          let spent = at_none_given first t p c.args.day c.interval-interval.result c.value-wanted.result r c.loop-held.issued c.loop-held.picks c.in_ok-id.field-0 legal c.interval-interval.ensures.range.0 e c.in_default-2.is walk in
+          let n : c.in_ok-next.field-0 ≡ find (above (is_open (g.B.Book.history c.free_pick.new.book) c.args.customer c.args.service c.args.country) c.loop-held.range.num) (ranges_of (g.B.Book.history c.free_pick.new.book)) = c.in_ok-next.ensures.answer h in
+          let found : find (above (is_open first c.args.customer c.args.service c.args.country) c.loop-held.range.num) (ranges_of first) ≡ Some c.in-Some-3.next =
+          sym (ap (λ l. find (above (is_open l c.args.customer c.args.service c.args.country) c.loop-held.range.num) (ranges_of l)) (c.free_pick.ensures.keeps.same_history h1 ∙ same)) ∙ sym n ∙ c.in-Some-3.is in
+          at_next (ranges_of first) p (drawn_on c.args.day) c.args.day c.interval-interval.result (issues_of first) c.value-wanted.result r c.loop-held.issued c.loop-held.picks c.in-Some-3.next
           (given_legal first t c.args.day c.interval-interval.result legal c.interval-interval.ensures.range.0) spent found walk;
     }
 
@@ -117,7 +117,7 @@ pub returns-clause-answer : goal.returns-clause-answer
 returns-clause-answer g c = λ h.
     let first = g.B.Book.history c.args.book.now in
     ap Some c.ids.ensures
-    ∙ walked first c.args.customer c.args.service c.args.country c.args.day c.interval-interval.result c.value-wanted.result c.loop-service.range c.loop-service.issued c.loop-service.picks
-    (omega (arith, c.len.ensures, c.loop-service-test.false)) (c.loop-service.invariant.walk h)
+    ∙ walked first c.args.customer c.args.service c.args.country c.args.day c.interval-interval.result c.value-wanted.result c.loop-held.range c.loop-held.issued c.loop-held.picks
+    (omega (arith, c.len.ensures, c.loop-held-test.false)) (c.loop-held.invariant.walk h)
     ∙ ap (λ k. draws_in_a_row first c.args.customer c.args.service c.args.country c.args.day c.interval-interval.result k) c.value-wanted.ensures.value
-    ∙ ap (λ k. draws_in_a_row first c.args.customer c.args.service c.args.country c.args.day k c.args.count) (c.loop-service.invariant.interval h)
+    ∙ ap (λ k. draws_in_a_row first c.args.customer c.args.service c.args.country c.args.day k c.args.count) (c.loop-held.invariant.interval h)

@@ -5,8 +5,8 @@ use Rattle.s10_book.specs.Book.{Keeps}
 use Rattle.s10_book.proofs.Taking.{IsAt, drawn_on}
 use Rattle.s10_book.proofs.in_a_row.draws_in_a_row.Given as goal
 
-abbrev pub invariant-loop-service : goal.invariant-loop-service
-invariant-loop-service g l =
+abbrev pub invariant-loop-held : goal.invariant-loop-held
+invariant-loop-held g l =
     let history = g.B.Book.history l.fn.book in
     record {
       faults : g.B.Book.faults l.book ≡ g.B.Book.faults l.fn.book;
@@ -14,8 +14,8 @@ invariant-loop-service g l =
       interval : g.B.Book.honest l.book → l.interval ≡ (g.B.Book.terms l.fn.book).interval;
       few : length l.picks ≤ l.wanted;
       fewer : l.issued ≤ length l.picks;
-      walk : g.B.Book.honest l.book → IsAt (ranges_of history) (is_open history l.customer l.service l.country) (drawn_on l.day) l.day l.interval (issues_of history) l.wanted l.range l.issued l.picks;
+      walk : g.B.Book.honest l.book → IsAt (ranges_of history) (is_open history l.held.holder l.held.service l.held.country) (drawn_on l.day) l.day l.interval (issues_of history) l.wanted l.range l.issued l.picks;
     }
 
-abbrev pub decreases-loop-service : goal.decreases-loop-service
-decreases-loop-service g l = 17 * (2 ^ 32 - l.range.num) + (l.wanted - length l.picks)
+abbrev pub decreases-loop-held : goal.decreases-loop-held
+decreases-loop-held g l = 17 * (2 ^ 32 - l.range.num) + (l.wanted - length l.picks)

@@ -8,8 +8,8 @@ use Rattle.s10_book.proofs.rules.decide_draw_many.Goals as goal
 
 pub returns-then-is_none-clause-answer : goal.returns-then-is_none-clause-answer
 returns-then-is_none-clause-answer g c = λ h.
-    many_nowhere (g.B.Book.history c.args.book.now) c.args.customer c.args.service c.args.country c.args.count c.args.day (g.B.Book.terms c.args.book.now).interval c.in_ok-held.held
-    (c.is_none.ensures ∙ ap not c.if-is_none.true) (c.in_ok-held.ensures.answer h)
+    many_nowhere (g.B.Book.history c.args.book.now) c.args.customer c.args.service c.args.country c.args.count c.args.day (g.B.Book.terms c.args.book.now).interval c.in_ok-next_range.field-0
+    (c.is_none.ensures ∙ ap not c.if-is_none.true) (c.in_ok-next_range.ensures.answer h)
 
 pub returns-in-None-clause-answer : goal.returns-in-None-clause-answer
 returns-in-None-clause-answer g c = λ h.
@@ -19,5 +19,5 @@ returns-in-None-clause-answer g c = λ h.
     ∙ ap (λ (l : List Entry). draws_in_a_row l c.args.customer c.args.service c.args.country c.args.day (g.B.Book.terms c.next_range.new.self).interval c.args.count) (c.next_range.ensures.keeps.same_history h1)
     ∙ ap (λ (t : Terms). draws_in_a_row (g.B.Book.history c.args.book.now) c.args.customer c.args.service c.args.country c.args.day t.interval c.args.count) (c.next_range.ensures.keeps.same_terms h1) in
     ap (told_of c.args.day) (sym c.in-None.is)
-    ∙ many_told (g.B.Book.history c.args.book.now) c.args.customer c.args.service c.args.country c.args.count c.args.day (g.B.Book.terms c.args.book.now).interval c.in_ok-held.held c.in_ok-drawn.drawn
-    (c.is_none.ensures ∙ ap not c.if-is_none.false) (c.in_ok-held.ensures.answer h1) row
+    ∙ many_told (g.B.Book.history c.args.book.now) c.args.customer c.args.service c.args.country c.args.count c.args.day (g.B.Book.terms c.args.book.now).interval c.in_ok-next_range.field-0 c.in_ok-drawn.drawn
+    (c.is_none.ensures ∙ ap not c.if-is_none.false) (c.in_ok-next_range.ensures.answer h1) row

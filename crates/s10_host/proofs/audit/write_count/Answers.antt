@@ -1,6 +1,6 @@
 use Rattle.std.proofs.Common.{[], ◌∷◌}
 use Rattle.std.specs.Prelude.{codes, decimal}
-use Rattle.s10_wire.proofs.Writing.{words_then, line_follows}
+use Rattle.s10_lines.proofs.Writing.{words_then, line_follows}
 use Rattle.s10_host.proofs.audit.write_count.Goals as goal
 
 pub returns : goal.returns

@@ -3,8 +3,8 @@ use Rattle.std.specs.Prelude.{codes}
 use Rattle.std.specs.Io.KnownBytes.{Appends}
 use Rattle.s10_core.specs.Letters.{group_of}
 use Rattle.s10_core.specs.Id.{spelling_of}
-use Rattle.s10_wire.specs.Lines.{spaced}
-use Rattle.s10_wire.proofs.Writing.{Appends-then, words_then}
+use Rattle.s10_lines.specs.Lines.{spaced}
+use Rattle.s10_lines.proofs.Writing.{Appends-then, words_then}
 use Rattle.s10_jobs.specs.Words.{group_words}
 use Rattle.s10_jobs.proofs.checking.write_valid.Goals as goal
 

@@ -1,7 +1,7 @@
 use Rattle.std.proofs.Common.{◌≡◌, ◌∙◌, ap, refl, ◌∷◌, [], ◌++◌}
 use Rattle.s10_core.specs.Serial.{number_of, digits_of, check_digit_of, character_of}
 use Rattle.s10_core.proofs.Spellings.{digits_of-number_of_text}
-use Rattle.s10_wire.proofs.Writing.{Appends-then}
+use Rattle.s10_lines.proofs.Writing.{Appends-then}
 use Rattle.s10_jobs.proofs.making.make.Goals as goal
 
 pub returns-clause-made : goal.returns-clause-made

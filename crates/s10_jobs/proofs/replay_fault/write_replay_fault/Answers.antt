@@ -1,6 +1,6 @@
 use Rattle.std.proofs.Common.{[], ◌∷◌, refl}
 use Rattle.std.specs.Prelude.{codes, decimal}
-use Rattle.s10_wire.proofs.Writing.{Appends-then, words_then}
+use Rattle.s10_lines.proofs.Writing.{Appends-then, words_then}
 use Rattle.s10_jobs.proofs.replay_fault.write_replay_fault.Goals as goal
 
 pub returns-in-Line : goal.returns-in-Line

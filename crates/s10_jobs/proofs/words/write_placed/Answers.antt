@@ -1,6 +1,6 @@
 use Rattle.std.proofs.Common.{[], ◌∷◌}
 use Rattle.std.specs.Prelude.{decimal}
-use Rattle.s10_wire.proofs.Writing.{words_follow}
+use Rattle.s10_lines.proofs.Writing.{words_follow}
 use Rattle.s10_jobs.proofs.words.write_placed.Goals as goal
 
 pub returns : goal.returns

@@ -1,7 +1,7 @@
 use Rattle.std.proofs.Common.{◌≡◌, ◌∙◌, ap, [], ◌∷◌, to_z-of_z}
 use Rattle.std.specs.Prelude.{codes}
 use Rattle.std.specs.Fmt.{signed_decimal}
-use Rattle.s10_wire.proofs.Writing.{words_follow, same_word}
+use Rattle.s10_lines.proofs.Writing.{words_follow, same_word}
 use Rattle.s10_jobs.proofs.words.write_schema.Goals as goal
 
 pub returns : goal.returns

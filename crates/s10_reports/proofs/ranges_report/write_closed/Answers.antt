@@ -1,4 +1,4 @@
-use Rattle.s10_wire.proofs.Writing.{Appends-nothing}
+use Rattle.s10_lines.proofs.Writing.{Appends-nothing}
 use Rattle.s10_reports.proofs.ranges_report.write_closed.Goals as goal
 
 pub returns-else-closed : goal.returns-else-closed

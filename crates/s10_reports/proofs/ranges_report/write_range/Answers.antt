@@ -2,7 +2,7 @@ use Rattle.std.proofs.Common.{[], ◌∷◌, ◌++◌, List, ℕ}
 use Rattle.std.specs.Prelude.{decimal}
 use Rattle.s10_core.specs.Letters.{letters_of}
 use Rattle.s10_core.specs.Serial.{digits_of}
-use Rattle.s10_wire.proofs.Writing.{words_then, line_follows}
+use Rattle.s10_lines.proofs.Writing.{words_then, line_follows}
 use Rattle.s10_reports.specs.Reports.{range_line, closed_words}
 use Rattle.s10_reports.proofs.ranges_report.write_range.Goals as goal
 

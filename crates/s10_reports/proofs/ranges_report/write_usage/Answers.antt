@@ -1,6 +1,6 @@
 use Rattle.std.proofs.Common.{[], ◌∷◌}
 use Rattle.std.specs.Prelude.{decimal}
-use Rattle.s10_wire.proofs.Writing.{words_then, words_follow}
+use Rattle.s10_lines.proofs.Writing.{words_then, words_follow}
 use Rattle.s10_reports.proofs.ranges_report.write_usage.Goals as goal
 
 pub returns : goal.returns

@@ -14,11 +14,11 @@ returns-clause-leaves g c = leaves_weaker g.S.Store c.args.conn.now c.read.new.c
 
 pub returns-clause-rows : goal.returns-clause-rows
 returns-clause-rows g c clean =
-    IfOk-weaker c.closed_rows_in.result _ _ (λ found typed has. closed_found [] (state g.S.Store c.args.conn.now) (state g.S.Store c.read.new.conn) c.in_ok-rows.rows.items has found.items (c.in_ok-rows.ensures.rows clean) (typed ∙ c.deref.ensures.value)) c.closed_rows_in.ensures
+    IfOk-weaker c.rows_in.result _ _ (λ found typed has. closed_found [] (state g.S.Store c.args.conn.now) (state g.S.Store c.read.new.conn) c.in_ok-rows.rows.items has found.items (c.in_ok-rows.ensures.rows clean) (typed ∙ c.deref.ensures.value)) c.rows_in.ensures
 
 pub returns-clause-in_order : goal.returns-clause-in_order
 returns-clause-in_order g c clean =
-    IfOk-weaker c.closed_rows_in.result _ _ (λ found typed tables held up. closed_in_order [] (state g.S.Store c.args.conn.now) (state g.S.Store c.read.new.conn) c.in_ok-rows.rows.items held.schema tables held up found.items (c.in_ok-rows.ensures.rows clean) (typed ∙ c.deref.ensures.value)) c.closed_rows_in.ensures
+    IfOk-weaker c.rows_in.result _ _ (λ found typed tables held up. closed_in_order [] (state g.S.Store c.args.conn.now) (state g.S.Store c.read.new.conn) c.in_ok-rows.rows.items held.schema tables held up found.items (c.in_ok-rows.ensures.rows clean) (typed ∙ c.deref.ensures.value)) c.rows_in.ensures
 
 pub returns-in_err-rows-clause-spares : goal.returns-in_err-rows-clause-spares
 returns-in_err-rows-clause-spares g c clean has = c.read.ensures.spares clean (known_closed (state g.S.Store c.args.conn.now).now.schema has)

@@ -16,4 +16,4 @@ returns-clause-leaves g c = leaves_weaker g.S.Store c.args.conn.now c.read.new.c
 
 pub returns-clause-rows : goal.returns-clause-rows
 returns-clause-rows g c clean =
-    IfOk-weaker c.heads_in.result _ _ (λ found typed has. head_found [] (state g.S.Store c.args.conn.now) (state g.S.Store c.read.new.conn) c.in_ok-rows.rows.items has found.items (c.in_ok-rows.ensures.rows clean) (typed ∙ c.deref.ensures.value)) c.heads_in.ensures
+    IfOk-weaker c.rows_in.result _ _ (λ found typed has. head_found [] (state g.S.Store c.args.conn.now) (state g.S.Store c.read.new.conn) c.in_ok-rows.rows.items has found.items (c.in_ok-rows.ensures.rows clean) (typed ∙ c.deref.ensures.value)) c.rows_in.ensures

@@ -11,8 +11,8 @@ use Rattle.s10_ledger.proofs.sql_book.SqlBookBook.next_range.Goals as goal
 pub returns-clause-answer : goal.returns-clause-answer
 returns-clause-answer g c =
     let kept = rw (← c.self.view_is) at c.ask_again.ensures.keeps in
-    rw (← c.self.view_is) (λ honest. c.open_after.ensures.open _ (subst (λ (r : Ranges). Mirrors r (history_in (state g.S.Store c.self.inside.conn).now)) (sym c.ranges-2.ensures) (c.self.invariant.3 honest.clean honest.is_open).ranges)
-    ∙ ap (λ (h : List Entry). find (is_open_above h c.args.after c.args.customer c.args.service c.args.country) (ranges_of h)) (kept.same_history honest))
+    rw (← c.self.view_is) (λ honest. c.open_after-next.ensures.open _ (subst (λ (r : Ranges). Mirrors r (history_in (state g.S.Store c.self.inside.conn).now)) (sym c.ranges-2.ensures) (c.self.invariant.3 honest.clean honest.is_open).ranges)
+    ∙ ap (λ (h : List Entry). find (is_open_above h c.args.after c.args.held.now.holder c.args.held.now.service c.args.held.now.country) (ranges_of h)) (kept.same_history honest))
 
 pub returns-clause-above : goal.returns-clause-above
-returns-clause-above g c = c.open_after.ensures.above
+returns-clause-above g c = c.open_after-next.ensures.above

@@ -1,0 +1,21 @@
+use Rattle.std.proofs.Common.{◌≡◌, ℕ, ◌+◌, ◌∷◌, ◌++◌, [], List, map, sym, ap, ◌∙◌, subst, take}
+use Rattle.std.specs.Io.KnownBytes.{Appends}
+use Rattle.std.proofs.lemmas.List.{map-append}
+use Rattle.s10_core.specs.declared.id.Id.{Id}
+use Rattle.s10_core.specs.Id.{spelling_of}
+use Rattle.s10_lines.specs.Lines.{spaced}
+use Rattle.s10_wire.proofs.Many.{one_more}
+use Rattle.s10_lines.proofs.Writing.{words_then, Appends-nothing}
+use Rattle.s10_lines.proofs.lines.write_ids.Goals as goal
+
+pub loop-id-init : goal.loop-id-init
+loop-id-init g c = Appends-nothing (g.W.Write.contents c.args.out.now)
+
+pub loop-id-preserved : goal.loop-id-preserved
+loop-id-preserved g c =
+    let ids : List Id = c.args.ids.now in
+    let before : List (List ℕ) = map spelling_of (take c.loop-id.id-index ids) in
+    let grown : before ++ spelling_of c.id-item.result ∷ [] ≡ map spelling_of (take (c.loop-id.id-index + 1) ids) =
+    sym (ap (map spelling_of) (one_more ids c.loop-id.id-index c.id-item.result c.loop-id-test.true c.id-item.is) ∙ map-append spelling_of (take c.loop-id.id-index ids) (c.id-item.result ∷ [])) in
+    let P : List (List ℕ) → Type 0 = λ words. Appends (g.W.Write.contents c.args.out.now) (g.W.Write.contents c.write_id.new.out) (spaced words) in
+    subst P grown (words_then _ _ _ before (spelling_of c.id-item.result ∷ []) c.loop-id.invariant c.in_ok-write_id.ensures)

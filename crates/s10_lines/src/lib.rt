@@ -1,0 +1,13 @@
+//! Requests and replies as lines, and the words that lines are made of.
+#![tactic(auto)]
+
+mod lines;
+mod words;
+mod write_fault;
+
+pub use lines::{write_reply_line, write_request_line};
+pub use words::{
+    write_decimal, write_first_decimal, write_id, write_letters, write_serials, write_text,
+    write_word,
+};
+pub use write_fault::WriteFault;

@@ -1,0 +1,36 @@
+//! The mark behind a serial that a range gave.
+
+ghost use Rattle.std.specs.Prelude.{◌≡◌, ◌==◌, ◌≤◌, ◌+◌, if◌then◌else◌};
+ghost use Rattle.s10_ranges.specs.Turns.{mark_behind};
+
+use crate::mark::Mark;
+use crate::turn::Turn;
+use s10_book::Range;
+use s10_core::Serial;
+
+// The serial behind that one of the range: the next, or the first one behind the last.
+fn serial_behind(range: &Range, serial: Serial) -> Serial
+    requires { serial ≤ range.now.last }
+    ensures { result ≡ (if serial == range.now.last then range.now.first else serial + 1) }
+{
+    let last = range.last.value();
+    if serial.value() == last {
+        return range.first;
+    }
+    Serial::new(serial.value() + 1).unwrap_or(range.first)
+}
+
+// The mark behind a serial that the range gave in that turn.
+pub(crate) fn next_mark(range: &Range, turn: Turn, serial: Serial) -> Mark
+    requires { serial ≤ range.now.last }
+    ensures { result ≡ mark_behind range.now turn serial }
+{
+    let next = serial_behind(range, serial);
+    if serial.value() == range.last.value() {
+        return Mark {
+            serial: next,
+            turn: Turn::Later,
+        };
+    }
+    Mark { serial: next, turn }
+}

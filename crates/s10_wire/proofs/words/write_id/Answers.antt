@@ -1,6 +1,0 @@
-use Rattle.s10_core.specs.Id.{spelling_of}
-use Rattle.s10_wire.proofs.Writing.{same_word}
-use Rattle.s10_wire.proofs.words.write_id.Goals as goal
-
-pub returns : goal.returns
-returns g c = same_word _ _ c.write.result (spelling_of c.args.id.now) c.write_word.result c.write.ensures.spelled c.write_word.ensures
