@@ -1,9 +1,8 @@
-//! Calls, ranges, issues and usage, read off rows.
+//! Calls and usage, read off rows.
 
-use s10_book::{BookFault, Entry, Issue, Range, Usage};
-use s10_core::{Country, Id, Serial, Service};
-use s10_rows::{CallRow, SerialRow, only_call, only_issue, pair_number, usage_among};
-use s10_wire::{Body, Outcome, Request};
+use s10_book::{PlainBook, Range, Settings, Usage};
+use s10_core::{Country, Serial, Service};
+use s10_rows::{CallRow, OpenFault, SerialRow, pair_number, replay_rows, usage_among};
 use std::alloc::Global;
 use std::process::Abort;
 
@@ -71,83 +70,35 @@ fn pairs_are_four_letters_as_a_number(rt: HostRuntime) {
     assert_eq!(rt; pair_number(ra, gb), 1380009794);
 }
 
-#[test]
-fn row_of_a_draw_reads_as_its_call(rt: HostRuntime) {
-    let row = call_row(&rt, rt.alloc(), 20000, REPLY);
-    let service = service(&rt, *b"RA");
-    let country = country(&rt, *b"GB");
-    let call = Entry {
-        request: Request {
-            customer: 7,
-            number: 1,
-            body: Body::Draw { service, country },
-        },
-        day: 20000,
-        outcome: Outcome::Drawn {
-            day: 20000,
-            id: Id {
-                service,
-                serial: serial(&rt, 0),
-                country,
-            },
-        },
+// What comes of the row of customer 7's first Draw as the second call of a ledger, with that day and that reply.
+fn replayed(rt: &impl Abort, alloc: Global, day: i64, reply: &[u8]) -> Result<(), OpenFault> {
+    let Some(settings) = Settings::new(30, 100) else {
+        panic!(rt)
     };
-    assert_eq!(rt; only_call(&[]), Ok(None));
-    assert_eq!(rt; only_call(&[row]), Ok(Some(call)));
-}
-
-// Whether a row of that day with that reply reads as no call.
-fn is_unread(rt: &impl Abort, alloc: Global, day: i64, reply: &[u8]) -> bool {
-    only_call(&[call_row(rt, alloc, day, reply)]) == Err(BookFault::Store)
-}
-
-fn are_unread(rows: &[CallRow]) -> bool {
-    only_call(rows) == Err(BookFault::Store)
+    let grant =
+        b"S1\x01\x81\x00\x00\x00\x00\x00\x00\x00\x01RAGB\x00\x00\x00\x07\x00\x00\x00\x00\x00\x00\x00\x02\x00\x00\x00\x00\x01";
+    let first = match Vec::from_slice(alloc, grant) {
+        Ok(grant) => CallRow::new(1, 0, 1, 20000, grant),
+        Err(_) => panic!(rt),
+    };
+    let mut book = PlainBook::new(alloc, settings);
+    replay_rows(&mut book, &[first, call_row(rt, alloc, day, reply)])
 }
 
 #[test]
-fn rows_that_do_not_read_are_faults_of_the_store(rt: HostRuntime) {
+fn rows_that_do_not_read_are_damage(rt: HostRuntime) {
     let long =
         b"S1\x01\x82\x00\x00\x00\x07\x00\x00\x00\x01RAGB\x00\x00\x00\x4e\x20RA000000005GB\x00";
     let request = b"S1\x01\x02\x00\x00\x00\x07\x00\x00\x00\x01RAGB";
-    let rows: [(i64, &[u8]); 4] = [
-        (20000, long),
-        (20000, request),
-        (-1, REPLY),
-        (4294967296, REPLY),
+    let rows: [(i64, &[u8], Result<(), OpenFault>); 5] = [
+        (20000, REPLY, Ok(())),
+        (20000, long, Err(OpenFault::Damaged(2))),
+        (20000, request, Err(OpenFault::Damaged(2))),
+        (-1, REPLY, Err(OpenFault::Damaged(2))),
+        (4294967296, REPLY, Err(OpenFault::Damaged(2))),
     ];
-    for (day, reply) in rows {
-        assert!(rt; is_unread(&rt, rt.alloc(), day, reply), "on {day}");
-    }
-    let row = call_row(&rt, rt.alloc(), 20000, REPLY);
-    let same = call_row(&rt, rt.alloc(), 20000, REPLY);
-    assert!(rt; are_unread(&[row, same]));
-}
-
-// Whether the rows of an identifier tell this.
-fn tell(rows: &[SerialRow], told: &Result<Option<Issue>, BookFault>) -> bool {
-    only_issue(rows) == *told
-}
-
-#[test]
-fn row_of_an_identifier_tells_its_last_issue(rt: HostRuntime) {
-    let issue = Issue {
-        day: 20000,
-        voided: true,
-        customer: 7,
-        number: 2,
-    };
-    assert!(rt; tell(&[], &Ok(None)));
-    let store = Err(BookFault::Store);
-    for (day, voided, told) in [
-        (20000, 1, Ok(Some(issue))),
-        (20000, 2, store),
-        (-5, 1, store),
-    ] {
-        assert!(rt;
-            tell(&[serial_row(1, 3, day, 2, voided)], &told),
-            "{day} {voided}"
-        );
+    for (day, reply, told) in rows {
+        assert!(rt; replayed(&rt, rt.alloc(), day, reply) == told, "on {day}");
     }
 }
 

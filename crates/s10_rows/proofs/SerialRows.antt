@@ -1,10 +1,8 @@
 -- The rows of serials that a statement selects, and the issue that they tell.
-use Rattle.std.proofs.Common.{◌≡◌, ℕ, ◌+◌, ◌≤◌, Bool, true, false, cond, pos, List, [], ◌∷◌, map, length, get_or, Option, Some, None, refl, sym, ap, ap₂, ◌∙◌, arith, subst}
+use Rattle.std.proofs.Common.{◌≡◌, ℕ, ◌+◌, ◌≤◌, Bool, true, false, cond, pos, List, [], ◌∷◌, map, Option, Some, None, refl, ap, ap₂, ◌∙◌, arith, subst}
 use Rattle.std.specs.Prelude.{filter, All, option_to_list}
-use Rattle.std.specs.Option.{option_map, unwrap_or}
 use Rattle.std.proofs.lemmas.Bool.{and_parts, and_from, leb-true, le-leb}
 use Rattle.std.proofs.lemmas.Bool.Decides.{same_from_decides, Decides-int_eq}
-use Rattle.std.proofs.lemmas.Option.{none-some}
 use Rattle.std.proofs.lemmas.List.Elements.{All-nil, All-head, All-tail, All-append, All-filter, All-weaker, filter_passes}
 use Rattle.s10_core.specs.declared.id.Id.{Id}
 use Rattle.s10_core.specs.Id.{IsId}
@@ -13,16 +11,14 @@ use Rattle.s10_wire.specs.Datagrams.{IsOutcome}
 use Rattle.s10_book.specs.declared.entry.Entry.{Entry}
 use Rattle.s10_book.specs.declared.issue.Issue.{Issue}
 use Rattle.s10_book.specs.declared.issuance.Issuance.{Issuance}
-use Rattle.s10_book.specs.Issues.{issues_at, issues_from, issues_of, is_of, last_issuance_of, last_issues, voided_after, is_voided, last_issue_of}
+use Rattle.s10_book.specs.Issues.{issues_at, issues_from, issues_of, is_of, last_issuance_of, last_issues, voided_after}
 use Rattle.s10_book.proofs.Free.{id_equal}
 use Rattle.s10_book.proofs.Spaced.{id_same}
 use Rattle.s10_book.proofs.Carried.{issued_at}
 use Rattle.s10_rows.specs.declared.serial_row.SerialRow.{SerialRow}
-use Rattle.s10_rows.specs.Tables.{HaveSameRows, pair_of, serial_row, serial_rows}
+use Rattle.s10_rows.specs.Tables.{pair_of, serial_row}
 use Rattle.s10_rows.specs.Selected.{IsCall, IsIssuance, is_within, issue_told}
-use Rattle.s10_rows.specs.contracts.serial_row.SerialRow.{the_row}
 use Rattle.s10_rows.proofs.Pairs.{one_pair, one_number}
-use Rattle.s10_rows.proofs.SameRows.{no_rows, one_row}
 use Rattle.s10_rows.proofs.LastIssues.{last_of, All-last_issues}
 
 -- the issues of a call whose parts are in their ranges have theirs in them too
@@ -89,23 +85,8 @@ abbrev pub Tell : List SerialRow → Option Issue → Type 0
 Tell rows None = rows ≡ []
 Tell rows (Some issue) = (v : Bool) × ((i : Issuance) × (IsIssuance i × (rows ≡ serial_row v i ∷ []) × (issue ≡ issue_told v i)))
 
-same_told : (xs ys : List SerialRow) (o : Option Issue) → HaveSameRows xs ys → Tell xs o → Tell ys o
-same_told xs ys None same are = let P : List SerialRow → Type 0 = λ l. HaveSameRows l ys in no_rows ys (subst P are same)
-same_told xs ys (Some issue) same (v, (i, tells)) =
-    let P : List SerialRow → Type 0 = λ l. HaveSameRows l ys in
-    (v, (i, (tells.0, one_row the_row.coded (serial_row v i) ys (subst P tells.1 same), tells.2)))
-
 abbrev last_row : List Entry → Issuance → SerialRow
 last_row h i = serial_row (voided_after i.arrival h i.id) i
-
-told_at : (h : List Entry) (x : Id) (o : Option Issuance) → ((i : Issuance) → o ≡ Some i → IsIssuance i × (i.id ≡ x)) → o ≡ last_issuance_of (issues_of h) x
-    → Tell (map (last_row h) (option_to_list o)) (option_map (λ i. record { day = i.day; voided = is_voided h x; customer = i.customer; number = i.number }) o)
-told_at h x None fits last = refl
-told_at h x (Some i) fits last =
-    let fit = fits i refl in
-    let voided : is_voided h x ≡ voided_after i.arrival h i.id =
-    ap (λ (o : Option Issuance). unwrap_or (option_map (λ (j : Issuance). voided_after j.arrival h x) o) false) (sym last) ∙ ap (voided_after i.arrival h) (sym fit.1) in
-    (voided_after i.arrival h i.id, (i, (fit.0, refl, ap (λ (b : Bool). issue_told b i) voided)))
 
 -- what holds of the elements that pass holds of the last of them
 pub last_passes : (P : Issuance → Type 0) (x : Id) (is : List Issuance) (i : Issuance) → All P is → last_issuance_of is x ≡ Some i → P i × (i.id ≡ x)
@@ -116,38 +97,3 @@ last_passes P x is i all last =
     let there : All P (i ∷ []) = subst Q alone (All-filter (is_of x) P (last_issues is) (All-last_issues P is all)) in
     let passes : All (λ j. is_of x j ≡ true) (i ∷ []) = subst R alone (filter_passes (is_of x) (last_issues is)) in
     (All-head P i [] there, id_equal i.id x (All-head (λ j. is_of x j ≡ true) i [] passes))
-
--- the rows of an identifier are the row of its last issue
-pub selected_by_id : (rows : List SerialRow) (h : List Entry) → All IsCall h → (x : Id) → IsId x
-    → HaveSameRows (filter (is_row_of x) (serial_rows h)) rows → Tell rows (last_issue_of h x)
-selected_by_id rows h calls x right same =
-    let fit : All IsIssuance (issues_of h) = issues_of_fit h calls in
-    let lasts : All IsIssuance (last_issues (issues_of h)) = All-last_issues IsIssuance (issues_of h) fit in
-    let chosen : filter (is_row_of x) (serial_rows h) ≡ map (last_row h) (option_to_list (last_issuance_of (issues_of h) x)) =
-    filter_image (is_row_of x) (is_of x) (last_row h) IsIssuance (λ i p. row_of_is (voided_after i.arrival h i.id) i x p.id right) (last_issues (issues_of h)) lasts
-    ∙ ap (map (last_row h)) (last_of (issues_of h) x) in
-    let P : List SerialRow → Type 0 = λ l. Tell l (last_issue_of h x) in
-    same_told _ rows (last_issue_of h x) same
-    (subst P (sym chosen) (told_at h x (last_issuance_of (issues_of h) x) (λ i last. last_passes IsIssuance x (issues_of h) i fit last) refl))
-
--- where there is no row there is no issue
-pub none_of_none : (rows : List SerialRow) (o : Option Issue) → Tell rows o → length rows ≡ 0 → None ≡ o
-none_of_none rows None tells none = refl
-none_of_none rows (Some issue) (v, (i, tells)) none = absurd (omega (arith, ap length tells.1))
-
--- there are no two rows
-pub never_two : (rows : List SerialRow) (o : Option Issue) → Tell rows o → 2 ≤ length rows → ⊥
-never_two rows None tells two = omega (arith, ap length tells)
-never_two rows (Some issue) (v, (i, tells)) two = omega (arith, ap length tells.1)
-
--- the one row tells the issue, where there is one
-pub one_of_one : (rows : List SerialRow) (d : SerialRow) (o r : Option Issue) → Tell rows o → length rows ≡ 1
-    → ((v : Bool) (i : Issuance) → IsIssuance i → get_or rows 0 d ≡ serial_row v i → r ≡ Some (issue_told v i)) → r ≡ o
-one_of_one rows d None r tells one read = absurd (omega (arith, ap length tells))
-one_of_one rows d (Some issue) r (v, (i, tells)) one read = read v i tells.0 (ap (λ l. get_or l 0 d) tells.1) ∙ ap Some (sym tells.2)
-
--- and it reads
-pub never_unread : (rows : List SerialRow) (d : SerialRow) (o : Option Issue) → Tell rows o → length rows ≡ 1
-    → ((v : Bool) (i : Issuance) → IsIssuance i → get_or rows 0 d ≡ serial_row v i → None ≡ Some (issue_told v i)) → ⊥
-never_unread rows d None tells one read = omega (arith, ap length tells)
-never_unread rows d (Some issue) (v, (i, tells)) one read = none-some (issue_told v i) (read v i tells.0 (ap (λ l. get_or l 0 d) tells.1))

@@ -1,5 +1,5 @@
 -- What the rows say that were read, whatever is under them.
-use Rattle.std.specs.Prelude.{◌≡◌, ℕ, ◌+◌, ◌-◌, nat_le, pos, Bool, not, length, count_by, List, [], ◌∷◌, Option, Some, None}
+use Rattle.std.specs.Prelude.{◌≡◌, ℕ, ◌+◌, ◌-◌, nat_le, pos, Bool, not, length, count_by, List}
 use Rattle.std.specs.Ordering.{int_eq}
 use Rattle.s10_wire.specs.Datagrams.{Replies}
 use Rattle.s10_book.specs.declared.entry.Entry.{Entry}
@@ -19,22 +19,12 @@ pub record IsCallOf (row : StoredCall) (e : Entry) : Type 0 where
   pub replies : Replies row.reply e.request e.outcome
   pub day : row.day ≡ pos e.day
 
--- there is one row, and it stands for the call, or there is none
-abbrev pub AreOfCall : List StoredCall → Option Entry → Type 0
-AreOfCall rows None = rows ≡ []
-AreOfCall rows (Some e) = (row : StoredCall) × (rows ≡ row ∷ []) × IsCallOf row e
-
 -- the row tells the issue
 pub record Tells (row : SerialRow) (i : Issue) : Type 0 where
   pub day : row.day ≡ pos i.day
   pub voided : row.voided ≡ pos (flag i.voided)
   pub customer : row.customer ≡ pos i.customer
   pub number : row.number ≡ pos i.number
-
--- there is one row, and it tells the issue, or there is none
-abbrev pub AreOfIssue : List SerialRow → Option Issue → Type 0
-AreOfIssue rows None = rows ≡ []
-AreOfIssue rows (Some i) = (row : SerialRow) × (rows ≡ row ∷ []) × Tells row i
 
 -- whether the row is of a voided issue
 abbrev pub is_voided_row : SerialRow → Bool

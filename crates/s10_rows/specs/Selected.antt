@@ -1,5 +1,5 @@
 -- Which rows the statements select, and what they are of a history.
-use Rattle.std.specs.Prelude.{ℕ, ◌^◌, ◌<◌, ℤ, pos, Bool, ◌&&◌, IsTrue, int_le}
+use Rattle.std.specs.Prelude.{◌^◌, ◌<◌, ℤ, Bool, ◌&&◌, IsTrue, int_le}
 use Rattle.std.specs.Ordering.{int_eq}
 use Rattle.s10_core.specs.Letters.{AreCapitals}
 use Rattle.s10_core.specs.Serial.{IsSerial}
@@ -39,10 +39,6 @@ pub record IsIssuance (i : Issuance) : Type 0 where
 -- the issue that its row tells
 abbrev pub issue_told : Bool → Issuance → Issue
 issue_told voided i = record { day = i.day; voided = voided; customer = i.customer; number = i.number }
-
--- whether the row has that key
-abbrev pub has_key_columns : ℕ → ℕ → StoredCall → Bool
-has_key_columns customer number c = int_eq c.customer (pos customer) && int_eq c.number (pos number)
 
 -- whether the arrival is one of these
 abbrev pub arrives_between : ℤ → ℤ → StoredCall → Bool

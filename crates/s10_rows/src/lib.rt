@@ -20,7 +20,6 @@ mod serial_row;
 mod serial_write;
 mod usage_reading;
 
-pub use call_reading::only_call;
 pub use call_row::CallRow;
 pub use closed_row::ClosedRow;
 pub use column::pair_number;
@@ -34,7 +33,6 @@ pub use range_row::RangeRow;
 pub use range_write::RangeWrite;
 pub use replaying::replay_rows;
 pub use same_rows::{same_closed, same_ranges, same_serials};
-pub use serial_reading::only_issue;
 pub use serial_row::SerialRow;
 pub use serial_write::SerialWrite;
 pub use usage_reading::usage_among;

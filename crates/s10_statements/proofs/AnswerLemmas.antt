@@ -23,9 +23,9 @@ use Rattle.s10_rows.specs.declared.closed_row.ClosedRow.{ClosedRow}
 use Rattle.s10_rows.specs.CallRow.{StoredCall}
 use Rattle.s10_schema.specs.Schema.{IsLedgerSchema, IsClosedSchema, with_others, with_closed, others_in, others_behind_closed}
 use Rattle.s10_statements.specs.Shown.{shown_call, shown_range, shown_serial, shown_closed, head_columns, call_columns, range_columns, serial_columns, closed_columns}
-use Rattle.s10_rows.specs.Selected.{has_key_columns, arrives_between, is_within}
-use Rattle.s10_statements.specs.Statements.{head_text, key_text, arrivals_text, calls_text, ranges_text, within_text, serials_text, closed_text}
-use Rattle.s10_statements.proofs.Texts.{head_query, head_is, head_plain, head_unlisted, key_query, key_is, key_plain, key_unlisted, arrivals_query, arrivals_is, arrivals_plain, arrivals_unlisted, calls_query, calls_is, calls_plain, calls_unlisted, ranges_query, ranges_is, ranges_plain, ranges_unlisted, within_query, within_is, within_plain, within_unlisted, serials_query, serials_is, serials_plain, serials_unlisted, closed_query, closed_is, closed_plain, closed_unlisted}
+use Rattle.s10_rows.specs.Selected.{arrives_between, is_within}
+use Rattle.s10_statements.specs.Statements.{head_text, calls_text, ranges_text, within_text, serials_text, closed_text}
+use Rattle.s10_statements.proofs.Texts.{head_query, head_is, head_plain, head_unlisted, calls_query, calls_is, calls_plain, calls_unlisted, ranges_query, ranges_is, ranges_plain, ranges_unlisted, within_query, within_is, within_plain, within_unlisted, serials_query, serials_is, serials_plain, serials_unlisted, closed_query, closed_is, closed_plain, closed_unlisted}
 use Rattle.s10_statements.proofs.ReadLemmas.{kept_are, rows_are, rows_rise, selected}
 
 -- ---- values read back
@@ -72,12 +72,6 @@ pair_key v = column v 0 ∷ column v 1 ∷ []
 abbrev pub always : Row → Bool
 always v = true
 
-abbrev pub key_test : Row → Row → Bool
-key_test params v = is_true (binary (Compare Eq Binary) (column v 1) (column params 0)) && (is_true (binary (Compare Eq Binary) (column v 2) (column params 1)) && true)
-
-abbrev pub arrivals_test : Row → Row → Bool
-arrivals_test params v = is_true (binary (Compare Ge Binary) (column v 0) (column params 0)) && (is_true (binary (Compare Le Binary) (column v 0) (column params 1)) && true)
-
 abbrev pub within_test : Row → Row → Bool
 within_test params v =
     is_true (binary (Compare Eq Binary) (column v 0) (column params 0))
@@ -99,24 +93,6 @@ module _ (params : Row) (old new : State) (rows : List Row) (has : IsLedgerSchem
       let a = head_answers h in
       subst (λ vs. IsPermutation vs rows) (all_pass (map head_columns (old.now.trees 0))) (rows_are params head_query (old.now.trees 0) head_columns first_key always (λ r. refl) (λ r. refl) a.kept a.ordered rows
       (kept_are params head_query (old.now.trees 0) head_columns first_key always (λ r. refl) (λ r. refl) a.staged a.kept a.grouped a.distinct) a.same a.shown)
-
-  key_answers : Shown key_text params old new rows → IsAnswer key_query (overlay old.now.trees []) params rows
-  key_answers h = (reads_as key_text params old new (with_others o) has.is _ (key_is o) (key_plain o) (key_unlisted o) rows h).answer Null
-
-  pub key_shows : Shown key_text params old new rows → IsPermutation (filter (key_test params) (map call_columns (old.now.trees 1))) rows
-  key_shows h =
-      let a = key_answers h in
-      rows_are params key_query (old.now.trees 1) call_columns first_key (key_test params) (λ r. refl) (λ r. refl) a.kept a.ordered rows
-      (kept_are params key_query (old.now.trees 1) call_columns first_key (key_test params) (λ r. refl) (λ r. refl) a.staged a.kept a.grouped a.distinct) a.same a.shown
-
-  arrivals_answers : Shown arrivals_text params old new rows → IsAnswer arrivals_query (overlay old.now.trees []) params rows
-  arrivals_answers h = (reads_as arrivals_text params old new (with_others o) has.is _ (arrivals_is o) (arrivals_plain o) (arrivals_unlisted o) rows h).answer Null
-
-  pub arrivals_shows : Shown arrivals_text params old new rows → IsPermutation (filter (arrivals_test params) (map call_columns (old.now.trees 1))) rows
-  arrivals_shows h =
-      let a = arrivals_answers h in
-      rows_are params arrivals_query (old.now.trees 1) call_columns first_key (arrivals_test params) (λ r. refl) (λ r. refl) a.kept a.ordered rows
-      (kept_are params arrivals_query (old.now.trees 1) call_columns first_key (arrivals_test params) (λ r. refl) (λ r. refl) a.staged a.kept a.grouped a.distinct) a.same a.shown
 
   pub calls_answers : Shown calls_text params old new rows → IsAnswer calls_query (overlay old.now.trees []) params rows
   calls_answers h = (reads_as calls_text params old new (with_others o) has.is _ (calls_is o) (calls_plain o) (calls_unlisted o) rows h).answer Null
@@ -194,26 +170,6 @@ module _ (params : Row) (old new : State) (rows : List Row) (has : IsClosedSchem
       (kept_are params closed_query (old.now.trees 6) closed_columns first_key always (λ r. refl) (λ r. refl) a.staged a.kept a.grouped a.distinct) a.same a.sorted a.shown
 
 -- ---- typed rows
-
-module _ (customer number : ℕ) where
-  abbrev pub key_params : Row
-  key_params = Int (pos customer) ∷ Int (pos number) ∷ []
-
-  pub key_selects : (calls found : List StoredCall) (vs : List Row) → IsPermutation (map shown_call calls) vs → IsPermutation (filter (key_test key_params) vs) (map shown_call found)
-      → IsPermutation (filter (has_key_columns customer number) calls) found
-  key_selects calls found vs has got =
-      selected shown_call call_from (λ c. refl) (key_test key_params) (has_key_columns customer number)
-      (λ c. then_term (at_ints false Eq c.customer (pos customer)) (last_term (at_ints false Eq c.number (pos number)))) calls found vs has got
-
-module _ (low high : ℤ) where
-  abbrev pub arrivals_params : Row
-  arrivals_params = Int low ∷ Int high ∷ []
-
-  pub arrivals_selects : (calls found : List StoredCall) (vs : List Row) → IsPermutation (map shown_call calls) vs → IsPermutation (filter (arrivals_test arrivals_params) vs) (map shown_call found)
-      → IsPermutation (filter (arrives_between low high) calls) found
-  arrivals_selects calls found vs has got =
-      selected shown_call call_from (λ c. refl) (arrivals_test arrivals_params) (arrives_between low high)
-      (λ c. then_term (at_ints false Ge c.arrival low) (last_term (at_ints false Le c.arrival high))) calls found vs has got
 
 regrouped : (a b c : Bool) → (a && (b && c)) ≡ (a && b && c)
 regrouped true b c = refl

@@ -19,11 +19,11 @@ use Rattle.s10_rows.specs.CallRow.{StoredCall}
 use Rattle.s10_schema.specs.Schema.{IsLedgerSchema, IsClosedSchema}
 use Rattle.s10_rows.specs.Tables.{Tables, HaveSameRows}
 use Rattle.s10_statements.specs.Shown.{HasTables, shown_head, shown_call, shown_range, shown_serial, shown_closed, head_columns, call_columns, range_columns, serial_columns, closed_columns, serial_front, IsNumbered}
-use Rattle.s10_rows.specs.Selected.{has_key_columns, arrives_between, is_within}
-use Rattle.s10_statements.specs.Statements.{head_text, key_text, arrivals_text, calls_text, ranges_text, within_text, serials_text, closed_text}
+use Rattle.s10_rows.specs.Selected.{arrives_between, is_within}
+use Rattle.s10_statements.specs.Statements.{head_text, calls_text, ranges_text, within_text, serials_text, closed_text}
 use Rattle.s10_statements.proofs.ReadLemmas.{read_back}
 use Rattle.s10_statements.proofs.GoneLemmas.{all_moved, all_of_map}
-use Rattle.s10_statements.proofs.AnswerLemmas.{wide_columns, call_from, range_from, head_shows, key_shows, key_params, key_test, key_selects, arrivals_shows, arrivals_params, arrivals_test, arrivals_selects, calls_shows, calls_rise, ranges_shows, ranges_rise, within_shows, within_params, within_test, within_selects, serials_shows, closed_from, closed_shows, closed_rise}
+use Rattle.s10_statements.proofs.AnswerLemmas.{wide_columns, call_from, range_from, head_shows, calls_shows, calls_rise, ranges_shows, ranges_rise, within_shows, within_params, within_test, within_selects, serials_shows, closed_from, closed_shows, closed_rise}
 
 all_in_turn : {X : Type 0} (P : X → Type 0) (xs : List X) → All P xs → AllByRecursion P xs
 all_in_turn P [] each = tt
@@ -74,20 +74,6 @@ module _ (params : Row) (old new : State) (rows : List Row) (has : IsClosedSchem
   closed_in_order tables held up found h typed =
       let same : rows ≡ map shown_closed tables.closed = ∥∥₁_elim held.closed (rows_set _ _) (λ p. closed_rise params old new rows has tables.closed up p h) in
       read_back shown_closed closed_from (λ x. refl) found tables.closed (typed ∙ same)
-
-pub key_found : (customer number : ℕ) (old new : State) (rows : List Row) → (tables : Tables) → HasTables old.now tables → (found : List StoredCall) → Shown key_text (key_params customer number) old new rows
-    → map shown_call found ≡ rows → HaveSameRows (filter (has_key_columns customer number) tables.calls) found
-key_found customer number old new rows tables held found h typed =
-    let shows : IsPermutation (filter (key_test (key_params customer number)) (map call_columns (old.now.trees 1))) (map shown_call found) =
-    subst (IsPermutation (filter (key_test (key_params customer number)) (map call_columns (old.now.trees 1)))) (sym typed) (key_shows (key_params customer number) old new rows held.schema.ledger h) in
-    ∥∥₁_map held.calls (λ p. key_selects customer number tables.calls found (map call_columns (old.now.trees 1)) p shows)
-
-pub arrivals_found : (low high : ℤ) (old new : State) (rows : List Row) → (tables : Tables) → HasTables old.now tables → (found : List StoredCall) → Shown arrivals_text (arrivals_params low high) old new rows
-    → map shown_call found ≡ rows → HaveSameRows (filter (arrives_between low high) tables.calls) found
-arrivals_found low high old new rows tables held found h typed =
-    let shows : IsPermutation (filter (arrivals_test (arrivals_params low high)) (map call_columns (old.now.trees 1))) (map shown_call found) =
-    subst (IsPermutation (filter (arrivals_test (arrivals_params low high)) (map call_columns (old.now.trees 1)))) (sym typed) (arrivals_shows (arrivals_params low high) old new rows held.schema.ledger h) in
-    ∥∥₁_map held.calls (λ p. arrivals_selects low high tables.calls found (map call_columns (old.now.trees 1)) p shows)
 
 pub within_found : (pair low high : ℤ) (old new : State) (rows : List Row) → (tables : Tables) → HasTables old.now tables → (found : List SerialRow) → Shown within_text (within_params pair low high) old new rows
     → map shown_serial found ≡ rows → HaveSameRows (filter (is_within pair low high) tables.serials) found

@@ -14,7 +14,7 @@ use Rattle.sqlite.specs.Listing.{understood, reads_listing}
 use Rattle.sqlite.specs.Given.{IsPlain}
 use Rattle.sqlite.proofs.Callers.{command_of}
 use Rattle.s10_schema.specs.Schema.{IsClosedSchema, with_others, with_closed, others_behind_closed}
-use Rattle.s10_statements.specs.Statements.{head_text, key_text, arrivals_text, calls_text, ranges_text, within_text, serials_text, closed_text}
+use Rattle.s10_statements.specs.Statements.{head_text, calls_text, ranges_text, within_text, serials_text, closed_text}
 
 -- a read of one table
 abbrev pub read_of : ℕ → List Term → List Term → List Term → Query
@@ -65,36 +65,6 @@ head_plain o = (refl, refl)
 pub head_unlisted : (o : Schema) → reads_listing (with_others o) head_text ≡ false
 unfolding understood everything
 head_unlisted o = refl
-
-abbrev pub key_query : Query
-key_query = read_of 1 (equals 2 0 ∷ equals 3 1 ∷ []) call_terms by_one
-
-pub key_is : (o : Schema) → command_of (understood (with_others o) key_text) ≡ Select (record { lets = []; body = key_query }) (call_names)
-unfolding understood everything
-key_is o = refl
-
-pub key_plain : (o : Schema) → IsPlain (understood (with_others o) key_text)
-unfolding understood everything
-key_plain o = (refl, refl)
-
-pub key_unlisted : (o : Schema) → reads_listing (with_others o) key_text ≡ false
-unfolding understood everything
-key_unlisted o = refl
-
-abbrev pub arrivals_query : Query
-arrivals_query = read_of 1 (from_to 0 0 1) call_terms by_one
-
-pub arrivals_is : (o : Schema) → command_of (understood (with_others o) arrivals_text) ≡ Select (record { lets = []; body = arrivals_query }) (call_names)
-unfolding understood everything
-arrivals_is o = refl
-
-pub arrivals_plain : (o : Schema) → IsPlain (understood (with_others o) arrivals_text)
-unfolding understood everything
-arrivals_plain o = (refl, refl)
-
-pub arrivals_unlisted : (o : Schema) → reads_listing (with_others o) arrivals_text ≡ false
-unfolding understood everything
-arrivals_unlisted o = refl
 
 abbrev pub calls_query : Query
 calls_query = read_of 1 [] call_terms by_one

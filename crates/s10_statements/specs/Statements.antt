@@ -9,12 +9,6 @@ use Rattle.s10_statements.specs.Settled.{IsSettled, IsClean, IsOpen, StaysUnclea
 abbrev pub head_text : List ℕ
 head_text = codes "SELECT one, schema, interval, cap FROM head ORDER BY one"
 
-abbrev pub key_text : List ℕ
-key_text = codes "SELECT arrival, customer, number, day, reply FROM calls WHERE customer = ?1 AND number = ?2 ORDER BY arrival"
-
-abbrev pub arrivals_text : List ℕ
-arrivals_text = codes "SELECT arrival, customer, number, day, reply FROM calls WHERE arrival BETWEEN ?1 AND ?2 ORDER BY arrival"
-
 abbrev pub calls_text : List ℕ
 calls_text = codes "SELECT arrival, customer, number, day, reply FROM calls ORDER BY arrival"
 

@@ -13,7 +13,7 @@ mod writes;
 pub use making::{make_ledger, refusal_of};
 pub use migrating::make_closed;
 pub use reads::{
-    all_calls, all_closed, all_heads, all_ranges, all_serials, calls_between, calls_with_key,
+    all_calls, all_closed, all_heads, all_ranges, all_serials,
     serials_within,
 };
 pub use watch::{Unwatched, Watch};

@@ -13,13 +13,13 @@ ghost use Rattle.sqlite.specs.Values.{bound};
 ghost use Rattle.s10_rows.specs.Tables.{Tables, HaveSameRows};
 ghost use Rattle.s10_schema.specs.Schema.{IsLedgerSchema, IsClosedSchema};
 ghost use Rattle.s10_statements.specs.Shown.{HasTables, shown_head, shown_call, shown_range, shown_serial, shown_closed, head_columns, call_columns, range_columns, serial_columns, closed_columns, IsNumbered};
-ghost use Rattle.s10_rows.specs.Selected.{has_key_columns, arrives_between, is_within};
+ghost use Rattle.s10_rows.specs.Selected.{is_within};
 ghost use Rattle.s10_statements.specs.Settled.{Spares, SparesWhere, IsClean, IsOpen};
 ghost use Rattle.s10_statements.specs.Statements.{Leaves, LeavesWhere};
 
 use crate::row_reading::rows_in;
 use crate::streams::{calls_shown, numbered_serials_shown};
-use crate::watch::{Unwatched, Watch};
+use crate::watch::Watch;
 use s10_rows::{CallRow, ClosedRow, HeadRow, RangeRow, SerialRow};
 use sqlite::types::ValueRef;
 use sqlite::{Alter, Connection, Error, Row, params};
@@ -52,48 +52,6 @@ pub fn all_heads<S: Alter>(alloc: Global, conn: &mut Connection<S>) -> Result<Ve
         &[],
     )?;
     rows_in(alloc, &rows)
-}
-
-/// The rows of `calls` with a key.
-pub fn calls_with_key<S: Alter>(
-    alloc: Global,
-    conn: &mut Connection<S>,
-    customer: u32,
-    number: u32,
-) -> Result<Vec<CallRow>, Error>
-    ensures leaves { Leaves S.Store conn.old conn.new }
-    ensures opened { IsClean S.Store conn.new → OnOk result (IsOpen S.Store conn.new) }
-    ensures rows { IsClean S.Store conn.new → IfOk result (λ rows. (tables : Tables) → HasTables (state S.Store conn.old).now tables
-        → HaveSameRows (filter (has_key_columns customer number) tables.calls) rows.items) }
-{
-    calls_shown(
-        alloc,
-        conn,
-        "SELECT arrival, customer, number, day, reply FROM calls WHERE customer = ?1 AND number = ?2 ORDER BY arrival",
-        params![customer, number],
-        &mut Unwatched,
-    )
-}
-
-/// The rows of `calls` whose arrival is from `low` to `high`.
-pub fn calls_between<S: Alter>(
-    alloc: Global,
-    conn: &mut Connection<S>,
-    low: u32,
-    high: u32,
-) -> Result<Vec<CallRow>, Error>
-    ensures leaves { Leaves S.Store conn.old conn.new }
-    ensures opened { IsClean S.Store conn.new → OnOk result (IsOpen S.Store conn.new) }
-    ensures rows { IsClean S.Store conn.new → IfOk result (λ rows. (tables : Tables) → HasTables (state S.Store conn.old).now tables
-        → HaveSameRows (filter (arrives_between (pos low) (pos high)) tables.calls) rows.items) }
-{
-    calls_shown(
-        alloc,
-        conn,
-        "SELECT arrival, customer, number, day, reply FROM calls WHERE arrival BETWEEN ?1 AND ?2 ORDER BY arrival",
-        params![low, high],
-        &mut Unwatched,
-    )
 }
 
 /// All rows of `calls`, in order of arrival.
