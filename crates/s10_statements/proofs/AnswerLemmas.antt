@@ -23,7 +23,7 @@ use Rattle.s10_rows.specs.declared.closed_row.ClosedRow.{ClosedRow}
 use Rattle.s10_rows.specs.CallRow.{StoredCall}
 use Rattle.s10_schema.specs.Schema.{IsLedgerSchema, IsClosedSchema, with_others, with_closed, others_in, others_behind_closed}
 use Rattle.s10_statements.specs.Shown.{shown_call, shown_range, shown_serial, shown_closed, head_columns, call_columns, range_columns, serial_columns, closed_columns}
-use Rattle.s10_rows.specs.Selected.{arrives_between, is_within}
+use Rattle.s10_rows.specs.Selected.{is_within}
 use Rattle.s10_statements.specs.Statements.{head_text, calls_text, ranges_text, within_text, serials_text, closed_text}
 use Rattle.s10_statements.proofs.Texts.{head_query, head_is, head_plain, head_unlisted, calls_query, calls_is, calls_plain, calls_unlisted, ranges_query, ranges_is, ranges_plain, ranges_unlisted, within_query, within_is, within_plain, within_unlisted, serials_query, serials_is, serials_plain, serials_unlisted, closed_query, closed_is, closed_plain, closed_unlisted}
 use Rattle.s10_statements.proofs.ReadLemmas.{kept_are, rows_are, rows_rise, selected}

@@ -1,5 +1,5 @@
 -- What the reads find, as typed rows.
-use Rattle.std.proofs.Common.{◌≡◌, ℕ, ℤ, List, [], ◌∷◌, map, filter, refl, sym, subst, ◌∙◌, int_cmp, Less, All, IsTrue, arith}
+use Rattle.std.proofs.Common.{◌≡◌, ℤ, List, [], ◌∷◌, map, filter, refl, sym, subst, ◌∙◌, int_cmp, Less, All, IsTrue, arith}
 use Rattle.std.proofs.Math.Logic.{∥∥₁_elim, ∥∥₁_map}
 use Rattle.std.specs.List.Sorted.{IsPermutation}
 use Rattle.std.proofs.lemmas.List.Sorted.{IsPermutation-sym, IsPermutation-map}
@@ -19,7 +19,7 @@ use Rattle.s10_rows.specs.CallRow.{StoredCall}
 use Rattle.s10_schema.specs.Schema.{IsLedgerSchema, IsClosedSchema}
 use Rattle.s10_rows.specs.Tables.{Tables, HaveSameRows}
 use Rattle.s10_statements.specs.Shown.{HasTables, shown_head, shown_call, shown_range, shown_serial, shown_closed, head_columns, call_columns, range_columns, serial_columns, closed_columns, serial_front, IsNumbered}
-use Rattle.s10_rows.specs.Selected.{arrives_between, is_within}
+use Rattle.s10_rows.specs.Selected.{is_within}
 use Rattle.s10_statements.specs.Statements.{head_text, calls_text, ranges_text, within_text, serials_text, closed_text}
 use Rattle.s10_statements.proofs.ReadLemmas.{read_back}
 use Rattle.s10_statements.proofs.GoneLemmas.{all_moved, all_of_map}

@@ -12,9 +12,6 @@ mod writes;
 
 pub use making::{make_ledger, refusal_of};
 pub use migrating::make_closed;
-pub use reads::{
-    all_calls, all_closed, all_heads, all_ranges, all_serials,
-    serials_within,
-};
+pub use reads::{all_calls, all_closed, all_heads, all_ranges, all_serials, serials_within};
 pub use watch::{Unwatched, Watch};
 pub use writes::keep_rows;
