@@ -8,3 +8,4 @@ pub mod Pending
 pub mod Turns
 pub mod Listening
 pub mod Trying
+pub mod Near

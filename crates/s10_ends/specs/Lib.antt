@@ -4,5 +4,6 @@ pub mod Served
 pub mod Respond
 pub mod Runs
 pub mod Turn
+pub mod NearLink
 pub mod Calls
 pub mod UdpLink

@@ -1,6 +1,7 @@
 //! A call of a client over a link.
 
 ghost use Rattle.std.specs.Prelude.{◌≡◌, ◌≤◌, IsSome};
+ghost use Rattle.s10_link.specs.Link.{LeadsTo};
 ghost use Rattle.s10_ends.specs.Calls.{Calls, Attempts, Listens};
 ghost use Rattle.s10_ends.specs.Client.{Receives};
 
@@ -21,7 +22,8 @@ pub fn call<L: Link>(
     tries: u32,
 ) -> Result<Reply, CallFault>
     requires { (1 ≤ tries) × (tries ≤ 100) }
-    ensures { Calls client.old client.new (L.trace_of link.old) (L.trace_of link.new) to body tries result }
+    ensures calls { Calls client.old client.new (L.trace_of link.old) (L.trace_of link.new) to body tries result }
+    ensures led { LeadsTo L.step link.old link.new }
 {
     let request = match client.submit(body) {
         Ok(request) => request,
@@ -50,7 +52,8 @@ fn attempt<L: Link>(
     frame: &Frame,
 ) -> Result<Option<Reply>, LinkFault>
     requires { IsSome client.old.pending }
-    ensures { Attempts client.old client.new (L.trace_of link.old) (L.trace_of link.new) (to, frame.now) result }
+    ensures attempts { Attempts client.old client.new (L.trace_of link.old) (L.trace_of link.new) (to, frame.now) result }
+    ensures led { LeadsTo L.step link.old link.new }
 {
     link.send(to, frame)?;
     first_accepted(client, link)
@@ -59,7 +62,8 @@ fn attempt<L: Link>(
 // The first reply that is accepted, of at most eight datagrams.
 fn first_accepted<L: Link>(client: &mut Client, link: &mut L) -> Result<Option<Reply>, LinkFault>
     requires { IsSome client.old.pending }
-    ensures { Listens client.old client.new (L.trace_of link.old) (L.trace_of link.new) result }
+    ensures listens { Listens client.old client.new (L.trace_of link.old) (L.trace_of link.new) result }
+    ensures led { LeadsTo L.step link.old link.new }
 {
     for _read in 0..8u32 {
         let Some((_, packet)) = link.receive()? else {

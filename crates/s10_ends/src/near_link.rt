@@ -24,8 +24,11 @@ impl<B: Book, F: Link, N: Link> Link for NearLink<B, F, N> {
     ghost use Rattle.s10_ends.specs.declared.served.Served.{Served};
     ghost use Rattle.s10_ends.specs.Server.{book_of};
     ghost use Rattle.s10_ends.specs.Turn.{Handles, ServesOne};
+    ghost use Rattle.s10_ends.specs.NearLink.{IsNearStep};
 
     ghost trace_of = { λ link. N.trace_of link.near };
+
+    ghost step = { IsNearStep B.faults B.honest B.terms B.history F.trace_of N.trace_of };
 
     fn receive(&mut self) -> Result<Option<(Peer, Packet)>, LinkFault>
         ensures trace { Receives (N.trace_of self.old.near) (N.trace_of self.new.near) result }
@@ -35,6 +38,7 @@ impl<B: Book, F: Link, N: Link> Link for NearLink<B, F, N> {
             × ServesOne (F.trace_of self.old.far) (F.trace_of self.new.far) (book_of self.new.server ≡ book_of self.old.server)
             (Handles B.faults B.honest B.terms B.history (book_of self.old.server) (book_of self.new.server) self.old.day) turn }
         ensures day { self.new.day ≡ self.old.day }
+        ensures step { IsNearStep B.faults B.honest B.terms B.history F.trace_of N.trace_of self.old self.new }
     {
         let _ = serve_one(&mut self.server, &mut self.far, self.day);
         self.near.receive()
@@ -43,6 +47,7 @@ impl<B: Book, F: Link, N: Link> Link for NearLink<B, F, N> {
     fn send(&mut self, to: Peer, frame: &Frame) -> Result<(), LinkFault>
         ensures trace { Sends (N.trace_of self.old.near) (N.trace_of self.new.near) (to, frame.now) result }
         ensures same { self.new ≡ record self.old { near = self.new.near } }
+        ensures step { IsNearStep B.faults B.honest B.terms B.history F.trace_of N.trace_of self.old self.new }
     {
         self.near.send(to, frame)
     }

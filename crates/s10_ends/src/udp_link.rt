@@ -81,9 +81,11 @@ impl Link for UdpLink {
 
     ghost trace_of = { λ link. link.trace };
 
+    ghost step = { λ old new. new.at ≡ old.at };
+
     fn receive(&mut self) -> Result<Option<(Peer, Packet)>, LinkFault>
         ensures trace { Receives self.old.trace self.new.trace result }
-        ensures same_address { self.new.at ≡ self.old.at }
+        ensures step { self.new.at ≡ self.old.at }
     {
         if self.trace.calls == u64::MAX {
             return Err(LinkFault::Spent);
@@ -107,7 +109,7 @@ impl Link for UdpLink {
     fn send(&mut self, to: Peer, frame: &Frame) -> Result<(), LinkFault>
         ensures trace { Sends self.old.trace self.new.trace (to, frame.now) result }
         ensures spent { result ≡ Err LinkFault.Spent → self.old.trace.calls ≡ 2 ^ 64 - 1 }
-        ensures same_address { self.new.at ≡ self.old.at }
+        ensures step { self.new.at ≡ self.old.at }
     {
         if self.trace.calls == u64::MAX {
             return Err(LinkFault::Spent);

@@ -21,6 +21,7 @@ use Rattle.s10_jobs.specs.declared.job.Job.{Job}
 use Rattle.s10_jobs.specs.Questions.{IsPeerText}
 use Rattle.s10_jobs.specs.declared.reporting.Report.{Report}
 use Rattle.s10_jobs.specs.declared.reporting.Report.TheVariants.{Ranges, Issues}
+use Rattle.s10_host.specs.declared.looped.Looped.{Looped}
 use Rattle.s10_host.specs.Unbound.{IsUnbound}
 use Rattle.s10_host.specs.Files.{FileLedger, ClosedFiles, PutsAway, WhereClean, IsFoundBook, IsNotOpened}
 use Rattle.s10_host.specs.Jobs.{ledger_line, FailsByLedger, IsAskedFor, Turns, IsServed, IsLost, IsUnlinked, Writes, IsReported, IsReportedAndLost, HasServed, HasReported, HasEnded}
@@ -179,8 +180,9 @@ module _ (S : RattleType) (first : Ghosts S.Denot) where
       record { reported = (report, asked, opened, found, reported); unreported = λ none. absurd cc }
 
   -- the same of what was handed on
-  pub ended_as : (job same : Job) (old new : Option (List ℕ)) (result handed : Result Status WriteFault) (files given : Option (ClosedFiles S first)) (link over : Option BoundLink)
-      → job ≡ same → handed ≡ result → given ≡ files → over ≡ link → HasEnded S first same old new result files link → HasEnded S first job old new handed given over
-  ended_as job same old new result handed files given link over is so put on ended =
-      subst (λ l. HasEnded S first job old new handed given l) (sym on)
-      (subst (λ f. HasEnded S first job old new handed f link) (sym put) (subst (λ r. HasEnded S first job old new r files link) (sym so) (subst (λ j. HasEnded S first j old new result files link) (sym is) ended)))
+  pub ended_as : (job same : Job) (old new : Option (List ℕ)) (result handed : Result Status WriteFault) (files given : Option (ClosedFiles S first)) (link over : Option BoundLink) (looped left : Option Looped)
+      → job ≡ same → handed ≡ result → given ≡ files → over ≡ link → left ≡ looped → HasEnded S first same old new result files link looped → HasEnded S first job old new handed given over left
+  ended_as job same old new result handed files given link over looped left is so put on lasts ended =
+      subst (λ l. HasEnded S first job old new handed given over l) (sym lasts)
+      (subst (λ l. HasEnded S first job old new handed given l looped) (sym on)
+      (subst (λ f. HasEnded S first job old new handed f link looped) (sym put) (subst (λ r. HasEnded S first job old new r files link looped) (sym so) (subst (λ j. HasEnded S first j old new result files link looped) (sym is) ended))))

@@ -1,5 +1,6 @@
 mod Auditing
 mod MemoryLedger
+mod Leaving
 mod Answering
 mod Looping
 mod Opening

@@ -7,8 +7,6 @@ use Rattle.s10_wire.specs.declared.body.Body.{Body}
 use Rattle.s10_wire.specs.declared.reply.Reply.{Reply}
 use Rattle.s10_link.specs.declared.peer.Peer.{Peer}
 use Rattle.s10_link.specs.declared.trace.Trace.{Trace}
-use Rattle.s10_link.specs.Trace.{new_trace}
-use Rattle.s10_ends.specs.UdpLink.{BoundLink}
 use Rattle.s10_ends.specs.declared.call_fault.CallFault.{CallFault}
 use Rattle.s10_ends.specs.declared.call_fault.CallFault.TheVariants.{Submit, GaveUp, Link}
 use Rattle.s10_ends.specs.Calls.{Calls}
@@ -18,7 +16,7 @@ use Rattle.s10_jobs.specs.declared.status.Status.{Status}
 use Rattle.s10_jobs.specs.declared.status.Status.TheVariants.{Done, Refused, CommandLine, Failed}
 use Rattle.s10_jobs.specs.Asked.{asked_status, asked_line}
 use Rattle.s10_jobs.specs.Shown.{Prints}
-use Rattle.s10_host.specs.Looped.{calls_of, loop_calls, AreAsked, IsLooped}
+use Rattle.s10_host.specs.Looped.{calls_of, AreAsked}
 
 abbrev pub after_call : ClientState → Body → ClientState
 after_call c body = settled (after_submit c body)
@@ -130,9 +128,3 @@ module _ (to : Peer) where
   post_stops calls more all t t1 u v status same undone (text, asked, first) =
       let P : List (ClientState × Body) → Type 0 = λ calls. Prints u v (AreAsked to calls t t1 status) in
       subst P same (text, AreAsked-stops calls more t t1 status text undone asked, first)
-
-  -- the same of a link that was new
-  pub looped_over : (begun : Trace) (link : BoundLink) (u v : Option (List ℕ)) (r : Result Status WriteFault) → begun ≡ new_trace
-      → IfOk r (λ status. Prints u v (AreAsked to loop_calls begun link.trace status)) → IsLooped u v r link
-  looped_over begun link u v (Ok status) fresh asked = (to, subst (λ (t : Trace). Prints u v (AreAsked to loop_calls t link.trace status)) fresh asked)
-  looped_over begun link u v (Err fault) fresh asked = tt

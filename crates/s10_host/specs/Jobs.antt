@@ -28,6 +28,7 @@ use Rattle.s10_host.specs.Audited.{IsFound, audit_line, audit_status}
 use Rattle.s10_jobs.specs.Reporting.{report_lines, PrintsReport}
 use Rattle.s10_jobs.specs.Serving.{IsDay, IsTurn, Serves}
 use Rattle.s10_host.specs.Questioning.{IsAsked, IsUnasked}
+use Rattle.s10_host.specs.declared.looped.Looped.{Looped}
 use Rattle.s10_host.specs.Looped.{HasLooped}
 use Rattle.s10_host.specs.Files.{FileConnection, FileLedger, ClosedFiles, WhereClean, IsFoundIn, IsEmptyBook, IsFoundBook, PutsAway, Leaves, IsFileFault, IsAbsenceOr, IsNotMade, IsNotOpened}
 
@@ -53,11 +54,11 @@ pub record HasAsked (question : Question) (old new : Option (List ℕ)) (result 
   pub asked : IfSome link (λ l. IsAsked question l old new result)
   pub unasked : link ≡ None → IfOk result (λ status. (line : List ℕ) × IsUnasked question status line × Appends old new line)
 
--- the calls of a loop were made; or the clock gives no day, where none was given, and nothing is bound
-abbrev pub IsRunOn : Option ℕ → Option (List ℕ) → Option (List ℕ) → Result Status WriteFault → Option BoundLink → Type 0
-IsRunOn day old new result link =
-    HasLooped old new result link
-    ⊎ ((day ≡ None) × (link ≡ None) × IfOk result (λ status. (status ≡ Failed) × Appends old new (codes "clock\n")))
+-- the calls of a loop were made on the day that was given, or on one of the clock; or that gives none, and nothing is bound
+abbrev pub IsRunOn : Option ℕ → Option (List ℕ) → Option (List ℕ) → Result Status WriteFault → Option Looped → Type 0
+IsRunOn day old new result looped =
+    ((d : ℕ) × IsDay day d × HasLooped d old new result looped)
+    ⊎ ((day ≡ None) × (looped ≡ None) × IfOk result (λ status. (status ≡ Failed) × Appends old new (codes "clock\n")))
 
 module _ (S : RattleType) (first : Ghosts S.Denot) where
   -- an empty ledger with these settings was made, and put away in these files
@@ -164,11 +165,11 @@ module _ (S : RattleType) (first : Ghosts S.Denot) where
     pub audited : IfSome files (IsAudited old new result)
     pub refused : files ≡ None → IfOk result (FailsByLedger (IsAbsenceOr IsFileFault) old new)
 
-  -- what a job has done as it ends, by its result and by the files and the link that it hands back
-  abbrev pub HasEnded : Job → Option (List ℕ) → Option (List ℕ) → Result Status WriteFault → Option (ClosedFiles S first) → Option BoundLink → Type 0
-  HasEnded (job.Create ledger settings) old new result files link = HasCreated settings old new result files
-  HasEnded (job.Serve ledger bind count day) old new result files link = HasServed bind.now day count old new result files link
-  HasEnded (job.Ask question) old new result files link = HasAsked question old new result link
-  HasEnded (job.Report ledger is_of_issues day) old new result files link = HasReported is_of_issues day old new result files
-  HasEnded (job.Audit ledger) old new result files link = HasAudited old new result files
-  HasEnded (job.Loop day) old new result files link = IsRunOn day old new result link
+  -- what a job has done as it ends, by its result and by the files, the link or what is left of a loop, which it hands back
+  abbrev pub HasEnded : Job → Option (List ℕ) → Option (List ℕ) → Result Status WriteFault → Option (ClosedFiles S first) → Option BoundLink → Option Looped → Type 0
+  HasEnded (job.Create ledger settings) old new result files link looped = HasCreated settings old new result files
+  HasEnded (job.Serve ledger bind count day) old new result files link looped = HasServed bind.now day count old new result files link
+  HasEnded (job.Ask question) old new result files link looped = HasAsked question old new result link
+  HasEnded (job.Report ledger is_of_issues day) old new result files link looped = HasReported is_of_issues day old new result files
+  HasEnded (job.Audit ledger) old new result files link looped = HasAudited old new result files
+  HasEnded (job.Loop day) old new result files link looped = IsRunOn day old new result looped

@@ -1,5 +1,8 @@
--- The calls that `loop` makes, and the lines that it prints of them.
+-- The calls that `loop` makes, the lines that it prints of them, and what it leaves behind it.
 use Rattle.std.specs.Prelude.{◌≡◌, ◌≢◌, ◌⊎◌, ℕ, List, [], ◌∷◌, ◌++◌, codes, Option, None, Result, IfOk, IfSome}
+use Rattle.sqlite_trees.specs.declared.memory.MemStore.{MemStore}
+use Rattle.sqlite.specs.Held.{state}
+use Rattle.sqlite.specs.Steps.{over_memory}
 use Rattle.s10_core.specs.declared.id.Id.{Id}
 use Rattle.s10_wire.specs.declared.body.Body.{Body}
 use Rattle.s10_wire.specs.declared.body.Body.TheVariants.{Grant, Draw, Void, Query}
@@ -9,7 +12,13 @@ use Rattle.s10_lines.specs.Lines.{line_of}
 use Rattle.s10_link.specs.declared.peer.Peer.{Peer}
 use Rattle.s10_link.specs.declared.trace.Trace.{Trace}
 use Rattle.s10_link.specs.Trace.{new_trace}
+use Rattle.s10_link.specs.Link.{LeadsTo}
+use Rattle.s10_book.specs.Settings.{Terms}
+use Rattle.s10_ledger.specs.Ledger.{Ledger, IsHonest, history_in, history_of}
 use Rattle.s10_ends.specs.UdpLink.{BoundLink}
+use Rattle.s10_ends.specs.declared.near_link.NearLink.{NearLink}
+use Rattle.s10_ends.specs.Server.{book_of}
+use Rattle.s10_ends.specs.NearLink.{IsNearStep, ServedOn}
 use Rattle.s10_ends.specs.declared.call_fault.CallFault.{CallFault}
 use Rattle.s10_ends.specs.Calls.{Calls}
 use Rattle.s10_ends.specs.Client.{ClientState, new_client, after_submit, settled}
@@ -19,6 +28,7 @@ use Rattle.s10_jobs.specs.declared.status.Status.TheVariants.{Done, Failed}
 use Rattle.s10_jobs.specs.Asked.{asked_status, asked_line}
 use Rattle.s10_jobs.specs.Shown.{Prints}
 use Rattle.s10_jobs.specs.Words.{open_fault_words}
+use Rattle.s10_host.specs.declared.looped.Looped.{Looped}
 use Rattle.s10_host.specs.Files.{IsFileFault}
 
 -- RA and GB
@@ -62,11 +72,45 @@ AreAsked to (call ∷ calls) old new status text =
 abbrev pub IsNoLoop : List ℕ → Type 0
 IsNoLoop line = (line ≡ line_of (codes "link") (codes "bind" ∷ [])) ⊎ ((fault : OpenFault) × IsFileFault fault × (line ≡ line_of (codes "ledger") (open_fault_words fault)))
 
--- the calls are all that this link carried; where the writer did not fail their lines were written
-abbrev pub IsLooped : Option (List ℕ) → Option (List ℕ) → Result Status WriteFault → BoundLink → Type 0
-IsLooped old new result link = IfOk result (λ status. (to : Peer) × Prints old new (AreAsked to loop_calls new_trace link.trace status))
+-- a link to a ledger in memory, over two sockets of this machine
+abbrev pub LoopLink : Type 0
+LoopLink = NearLink (Ledger MemStore) BoundLink BoundLink
+
+-- the settings of its ledger
+abbrev pub loop_terms : Terms
+loop_terms = record { interval = 30; limit = 100 }
+
+-- how a call changes it
+abbrev pub IsLoopStep : LoopLink → LoopLink → Type 0
+IsLoopStep = IsNearStep (λ (b : Ledger MemStore). b.faults) (IsHonest over_memory) (λ b. b.terms) (λ b. history_of over_memory b) (λ (l : BoundLink). l.trace) (λ (l : BoundLink). l.trace)
+
+-- it carried nothing, and its ledger is empty
+pub record IsNewLoop (day : ℕ) (link : LoopLink) : Type 0 where
+  pub day : link.day ≡ day
+  pub far : link.far.trace ≡ new_trace
+  pub near : link.near.trace ≡ new_trace
+  pub terms : (book_of link.server).terms ≡ loop_terms
+  pub empty : history_of over_memory (book_of link.server) ≡ []
+
+-- what is left of it once its ledger is closed, which was honest to the end
+pub record IsLeft (link : LoopLink) (looped : Looped) : Type 0 where
+  pub honest : IsHonest over_memory (book_of link.server)
+  pub closed : looped.connection ≡ (book_of link.server).conn
+  pub far : looped.far ≡ link.far
+  pub near : looped.near ≡ link.near
+
+-- the calls are all that a new link carried, of which this is left: what was served on the day is the history of the ledger; where
+-- the writer did not fail the lines of the calls were written
+pub record IsLooped (day : ℕ) (old new : Option (List ℕ)) (result : Result Status WriteFault) (looped : Looped) : Type 0 where
+  pub begun : LoopLink
+  pub fresh : IsNewLoop day begun
+  pub ended : LoopLink
+  pub led : LeadsTo IsLoopStep begun ended
+  pub left : IsLeft ended looped
+  pub served : ServedOn day [] loop_terms (history_in (state over_memory looped.connection).now)
+  pub asked : IfOk result (λ status. (to : Peer) × Prints old new (AreAsked to loop_calls new_trace looped.near.trace status))
 
 -- so were they, or the line says why nothing was asked
-pub record HasLooped (old new : Option (List ℕ)) (result : Result Status WriteFault) (link : Option BoundLink) : Type 0 where
-  pub asked : IfSome link (IsLooped old new result)
-  pub unasked : link ≡ None → IfOk result (λ status. (status ≡ Failed) × Prints old new IsNoLoop)
+pub record HasLooped (day : ℕ) (old new : Option (List ℕ)) (result : Result Status WriteFault) (looped : Option Looped) : Type 0 where
+  pub asked : IfSome looped (IsLooped day old new result)
+  pub unasked : looped ≡ None → IfOk result (λ status. (status ≡ Failed) × Prints old new IsNoLoop)

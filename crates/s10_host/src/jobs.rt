@@ -12,6 +12,7 @@ use crate::files::{
 };
 use crate::left::Left;
 use crate::loopback::run_loop;
+use crate::looped::Looped;
 use crate::onlooker::Onlooker;
 use crate::questioning::run_question;
 use crate::serving::serve_at;
@@ -39,7 +40,7 @@ pub fn run_job<S: Start, W: Write>(
     start: S,
     out: &mut W,
 ) -> (Result<Status, WriteFault>, Left<S>)
-    ensures { HasEnded S.row S.Start job.now (W.contents out.old) (W.contents out.new) result.0 result.1.files result.1.link }
+    ensures { HasEnded S.row S.Start job.now (W.contents out.old) (W.contents out.new) result.0 result.1.files result.1.link result.1.looped }
 {
     match job {
         Job::Create { ledger, settings } => {
@@ -58,7 +59,7 @@ pub fn run_job<S: Start, W: Write>(
             day,
         } => with_files(run_report(rt, *ledger, *is_of_issues, *day, start, out)),
         Job::Audit { ledger } => with_files(audit_file(rt, *ledger, start, out)),
-        Job::Loop { day } => with_link(run_loop_on(rt, *day, out)),
+        Job::Loop { day } => with_looped(run_loop_on(rt, *day, out)),
     }
 }
 
@@ -66,14 +67,42 @@ fn with_files<S: Start>(closed: Closed<S>) -> Ended<S>
     ensures same { (result.0 ≡ closed.0) × (result.1.files ≡ closed.1) }
 {
     let (done, files) = closed;
-    (done, Left { files, link: None })
+    (
+        done,
+        Left {
+            files,
+            link: None,
+            looped: None,
+        },
+    )
 }
 
 fn with_link<S: Start>(asked: (Result<Status, WriteFault>, Option<UdpLink>)) -> Ended<S>
     ensures same { (result.0 ≡ asked.0) × (result.1.link ≡ asked.1) }
 {
     let (done, link) = asked;
-    (done, Left { files: None, link })
+    (
+        done,
+        Left {
+            files: None,
+            link,
+            looped: None,
+        },
+    )
+}
+
+fn with_looped<S: Start>(ended: (Result<Status, WriteFault>, Option<Looped>)) -> Ended<S>
+    ensures same { (result.0 ≡ ended.0) × (result.1.looped ≡ ended.1) }
+{
+    let (done, looped) = ended;
+    (
+        done,
+        Left {
+            files: None,
+            link: None,
+            looped,
+        },
+    )
 }
 
 // `created` is printed once the ledger is in its file.
@@ -158,7 +187,14 @@ fn serve_book<S: Start, W: Write>(
     let (served, link) = serve_at(rt, at, &mut server, count, day, out);
     let closed = close_book(rt, ledger, server.into_book());
     let (done, files) = ended(served, closed, out);
-    (done, Left { files, link })
+    (
+        done,
+        Left {
+            files,
+            link,
+            looped: None,
+        },
+    )
 }
 
 // The day is known before the ledger is opened.
@@ -247,7 +283,7 @@ fn run_loop_on<W: Write>(
     rt: &HostRuntime,
     day: Option<u32>,
     out: &mut W,
-) -> (Result<Status, WriteFault>, Option<UdpLink>)
+) -> (Result<Status, WriteFault>, Option<Looped>)
     ensures { IsRunOn day (W.contents out.old) (W.contents out.new) result.0 result.1 }
 {
     match day_or_today(rt, day) {

@@ -3,11 +3,12 @@
 ghost use Rattle.std.specs.Prelude.{◌≡◌, ◌∷◌, [], None, IfOk, IfErr, IfSome};
 ghost use Rattle.s10_wire.specs.declared.body.Body.TheVariants.{Draw};
 ghost use Rattle.s10_link.specs.Trace.{new_trace};
+ghost use Rattle.s10_link.specs.Link.{LeadsTo};
 ghost use Rattle.s10_jobs.specs.Shown.{Prints};
-ghost use Rattle.s10_host.specs.Looped.{ra, gb, first_of_range, granted_range, customer_calls, calls_of, loop_calls, AreAsked, IsLooped, IsNoLoop};
+ghost use Rattle.s10_host.specs.Looped.{ra, gb, first_of_range, granted_range, customer_calls, calls_of, loop_calls, AreAsked, IsLeft, IsLooped, IsNoLoop};
 
 use crate::binding::bind_link;
-use crate::memory::let_go;
+use crate::looped::Looped;
 use s10_book::Settings;
 use s10_core::{Country, Id, Serial, Service};
 use s10_ends::{Client, NearLink, Server, UdpLink};
@@ -16,6 +17,7 @@ use s10_ledger::SqlBook;
 use s10_lines::WriteFault;
 use s10_link::{Link, LinkFault, Peer};
 use s10_wire::Body;
+use sqlite::MemStore;
 use std::io::Write;
 use std::net::Net;
 
@@ -31,13 +33,13 @@ const TRIES: u32 = 5;
 /// Makes a ledger in memory with a reuse interval of 30 days, serves it on this day over a socket of this machine, and
 /// writes the lines of five calls to it over another: the post grants RA GB 0 to 2 to customer 7, who draws twice,
 /// voids the first identifier and asks about it. Done where all were; the first call that is not ends the run, and a fault
-/// of the ledger or of a socket is written. Answers the link of the calls too: None where nothing was asked.
+/// of the ledger or of a socket is written. Answers what the loop leaves too: None where nothing was asked.
 pub fn run_loop<R: Net + Eprint + AllocGlobal, W: Write>(
     rt: &R,
     day: u32,
     out: &mut W,
-) -> (Result<Status, WriteFault>, Option<UdpLink>)
-    ensures asked { IfSome result.1 (IsLooped (W.contents out.old) (W.contents out.new) result.0) }
+) -> (Result<Status, WriteFault>, Option<Looped>)
+    ensures asked { IfSome result.1 (IsLooped day (W.contents out.old) (W.contents out.new) result.0) }
     ensures unasked { result.1 ≡ None → IfOk result.0 (λ status. (status ≡ Status.Failed) × Prints (W.contents out.old) (W.contents out.new) IsNoLoop) }
 {
     let (far, near) = match two_links(rt) {
@@ -59,19 +61,29 @@ pub fn run_loop<R: Net + Eprint + AllocGlobal, W: Write>(
         day,
     };
     let asked = make_calls(&mut link, to, out);
+    (asked, Some(closed_loop(link)))
+}
+
+// What is left of a link, its ledger closed.
+fn closed_loop(link: NearLink<SqlBook<MemStore>, UdpLink, UdpLink>) -> Looped
+    ensures { IsLeft link result }
+{
     let NearLink {
         server,
-        far: _,
+        far,
         near,
         day: _,
     } = link;
-    let_go(server.into_book());
-    (asked, Some(near))
+    Looped {
+        connection: server.into_book().close(),
+        far,
+        near,
+    }
 }
 
 // The far and the near end.
 fn two_links<R: Net + Eprint>(rt: &R) -> Result<(UdpLink, UdpLink), LinkFault>
-    ensures ok { IfOk result (λ links. links.1.trace ≡ new_trace) }
+    ensures ok { IfOk result (λ links. (links.0.trace ≡ new_trace) × (links.1.trace ≡ new_trace)) }
     ensures refused { IfErr result (λ fault. fault ≡ LinkFault.Bind) }
 {
     let far = bind_link(rt, LOCALHOST)?;
@@ -81,8 +93,9 @@ fn two_links<R: Net + Eprint>(rt: &R) -> Result<(UdpLink, UdpLink), LinkFault>
 
 // The five calls, up to the first that is not done.
 fn make_calls<L: Link, W: Write>(link: &mut L, to: Peer, out: &mut W) -> Result<Status, WriteFault>
-    ensures { IfOk result (λ status. Prints (W.contents out.old) (W.contents out.new)
+    ensures asked { IfOk result (λ status. Prints (W.contents out.old) (W.contents out.new)
         (AreAsked to loop_calls (L.trace_of link.old) (L.trace_of link.new) status)) }
+    ensures led { LeadsTo L.step link.old link.new }
 {
     let Ok(mut post) = Client::new(0, 1, 1) else {
         unreachable!()
@@ -105,8 +118,9 @@ fn ask_all<L: Link, W: Write>(
     bodies: &[Body],
     out: &mut W,
 ) -> Result<Status, WriteFault>
-    ensures { IfOk result (λ status. Prints (W.contents out.old) (W.contents out.new)
+    ensures asked { IfOk result (λ status. Prints (W.contents out.old) (W.contents out.new)
         (AreAsked to (calls_of client.old bodies.now) (L.trace_of link.old) (L.trace_of link.new) status)) }
+    ensures led { LeadsTo L.step link.old link.new }
 {
     for body in bodies {
         let status = ask(client, link, to, *body, TRIES, out)?;

@@ -3,6 +3,7 @@
 ghost use Rattle.std.specs.Prelude.{◌≡◌, ◌≤◌, Result, IfOk};
 ghost use Rattle.std.specs.Io.KnownBytes.{Appends};
 ghost use Rattle.s10_wire.specs.declared.reply.Reply.{Reply};
+ghost use Rattle.s10_link.specs.Link.{LeadsTo};
 ghost use Rattle.s10_ends.specs.declared.call_fault.CallFault.{CallFault};
 ghost use Rattle.s10_ends.specs.Calls.{Calls};
 ghost use Rattle.s10_jobs.specs.Asked.{outcome_status, asked_status, asked_line};
@@ -28,10 +29,11 @@ pub fn ask<L: Link, W: Write>(
     out: &mut W,
 ) -> Result<Status, WriteFault>
     requires { (1 ≤ tries) × (tries ≤ 100) }
-    ensures { (called : Result Reply CallFault)
+    ensures asked { (called : Result Reply CallFault)
         × Calls client.old client.new (L.trace_of link.old) (L.trace_of link.new) to body tries called
         × IfOk result (λ status. (status ≡ asked_status called)
         × Appends (W.contents out.old) (W.contents out.new) (asked_line called)) }
+    ensures led { LeadsTo L.step link.old link.new }
 {
     let called = call(client, link, to, body, tries);
     write_called(&called, out)

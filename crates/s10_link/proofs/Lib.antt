@@ -1,3 +1,4 @@
 mod SameFrames
 mod Scripts
 mod Numerals
+pub mod Led

@@ -1,4 +1,5 @@
 use Rattle.std.proofs.Common.{◌≡◌}
+use Rattle.s10_link.specs.Link.{LeadsTo}
 use Rattle.s10_ends.specs.Calls.{IsUnanswered}
 use Rattle.s10_ends.proofs.Listening.{Hearing}
 use Rattle.s10_ends.proofs.calls.first_accepted.Given as goal
@@ -7,6 +8,7 @@ use Rattle.s10_ends.proofs.calls.first_accepted.Given as goal
 abbrev pub invariant-loop-read : goal.invariant-loop-read
 invariant-loop-read g l = record {
   hearing : Hearing (g.L.Link.trace_of l.fn.link) (g.L.Link.trace_of l.link) l._read;
+  led : LeadsTo g.L.Link.step l.fn.link l.link;
   client : l.client ≡ l.fn.client;
   unanswered : IsUnanswered (g.L.Link.trace_of l.fn.link) (g.L.Link.trace_of l.link) l.fn.client.pending;
 }

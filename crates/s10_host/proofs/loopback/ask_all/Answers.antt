@@ -1,6 +1,8 @@
 use Rattle.std.proofs.Common.{rules, ◌≡◌, ◌<◌, ◌∙◌, ◌+◌, ◌++◌, ◌∷◌, [], List, ap, sym, arith, length, take, drop, take-append-drop}
 use Rattle.std.proofs.lemmas.List.{take_more}
 use Rattle.s10_wire.specs.declared.body.Body.{Body}
+use Rattle.s10_link.specs.Link.LeadsTo.{none}
+use Rattle.s10_link.proofs.Led.{led_on}
 use Rattle.s10_host.proofs.Looping.{one_done, last_done}
 use Rattle.s10_host.proofs.loopback.ask_all.Goals as goal
 
@@ -9,15 +11,18 @@ loop-body-preserved g c =
     let within : c.loop-body.body-index < length c.args.bodies.now = omega (arith, c.loop-body-test.true) in
     let all : take (c.loop-body.body-index + 1) c.args.bodies.now ≡ take c.loop-body.body-index c.args.bodies.now ++ c.body-item.result ∷ [] =
     take_more c.args.bodies.now c.loop-body.body-index c.body-item.result within ∙ ap (λ (b : Body). take c.loop-body.body-index c.args.bodies.now ++ b ∷ []) (sym c.body-item.is) in
-    rw all
-    (one_done c.args.to c.args.client.now c.loop-body.client c.ask.new.client
+    record {
+      done = rw all
+      (one_done c.args.to c.args.client.now c.loop-body.client c.ask.new.client
     (g.L.Link.trace_of c.args.link.now) (g.L.Link.trace_of c.loop-body.link) (g.L.Link.trace_of c.ask.new.link)
     (take c.loop-body.body-index c.args.bodies.now) c.body-item.result
     (g.W.Write.contents c.args.out.now) (g.W.Write.contents c.loop-body.out) (g.W.Write.contents c.ask.new.out)
-    c.ask.result c.in_ok-status.status c.in_ok-status.was (search rules) c.loop-body.invariant c.ask.ensures)
+    c.ask.result c.in_ok-status.status c.in_ok-status.was (search rules) c.loop-body.invariant.done c.ask.ensures.asked);
+      led = led_on c.loop-body.invariant.led c.ask.ensures.led;
+    }
 
-pub returns-then-ne : goal.returns-then-ne
-returns-then-ne g c =
+pub returns-then-ne-clause-asked : goal.returns-then-ne-clause-asked
+returns-then-ne-clause-asked g c =
     let within : c.loop-body.body-index < length c.args.bodies.now = omega (arith, c.loop-body-test.true) in
     let all : take (c.loop-body.body-index + 1) c.args.bodies.now ≡ take c.loop-body.body-index c.args.bodies.now ++ c.body-item.result ∷ [] =
     take_more c.args.bodies.now c.loop-body.body-index c.body-item.result within ∙ ap (λ (b : Body). take c.loop-body.body-index c.args.bodies.now ++ b ∷ []) (sym c.body-item.is) in
@@ -28,4 +33,7 @@ returns-then-ne g c =
     (g.L.Link.trace_of c.args.link.now) (g.L.Link.trace_of c.loop-body.link) (g.L.Link.trace_of c.ask.new.link)
     (take c.loop-body.body-index c.args.bodies.now) c.body-item.result rest c.args.bodies.now
     (g.W.Write.contents c.args.out.now) (g.W.Write.contents c.loop-body.out) (g.W.Write.contents c.ask.new.out)
-    c.ask.result c.in_ok-status.status c.in_ok-status.was (search rules) c.loop-body.invariant c.ask.ensures whole
+    c.ask.result c.in_ok-status.status c.in_ok-status.was (search rules) c.loop-body.invariant.done c.ask.ensures.asked whole
+
+pub returns-then-ne-clause-led : goal.returns-then-ne-clause-led
+returns-then-ne-clause-led g c = led_on c.loop-body.invariant.led c.ask.ensures.led

@@ -1,7 +1,9 @@
-use Rattle.s10_host.proofs.Looping.{looped_over}
+use Rattle.std.proofs.Common.{refl, ap, ◌∙◌}
+use Rattle.sqlite_trees.specs.declared.memory.MemStore.{MemStore}
+use Rattle.sqlite.specs.Steps.{over_memory}
+use Rattle.s10_ledger.specs.Ledger.{Ledger, history_of}
+use Rattle.s10_host.proofs.Leaving.{looped_over}
 use Rattle.s10_host.proofs.loopback.run_loop.Goals as goal
 
 pub returns-clause-asked : goal.returns-clause-asked
-returns-clause-asked g c =
-    looped_over _ c.in-Ok.links.1.trace c.make_calls-asked.new.link.near
-    (g.W.Write.contents c.args.out.now) (g.W.Write.contents c.make_calls-asked.new.out) c.make_calls-asked.result c.in-Ok.ensures.ok c.make_calls-asked.ensures
+returns-clause-asked g c = ?
