@@ -35,7 +35,8 @@ Example:
   s10 audit --ledger post.db
   ledger ok 9";
 
-/// The audit that the words ask for.
+/// The audit that the words ask for. `None` where an option that it needs is missing or its number is out of range, which
+/// matches of the command itself never are.
 pub fn audit_job<'a>(found: &ArgMatches<'a>) -> Option<Job<'a>>
     ensures { IfSome result (AsksFor (codes "audit") (rows_in found.now)) }
 {

@@ -36,7 +36,8 @@ Example:
   s10 create --ledger post.db --interval 365 --limit 1000000
   created";
 
-/// The ledger that the words ask for.
+/// The ledger that the words ask for. `None` where an option that it needs is missing or its number is out of range, which
+/// matches of the command itself never are.
 pub fn create_job<'a>(found: &ArgMatches<'a>) -> Option<Job<'a>>
     ensures { IfSome result (AsksFor (codes "create") (rows_in found.now)) }
 {

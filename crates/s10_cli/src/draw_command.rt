@@ -45,7 +45,8 @@ Example:
   s10 draw --to 127.0.0.1:4711 --customer 7 --number 2 --service RA --country GB --count 2
   reply draw-many customer 7 number 2 RA GB 2 done day 20000 RA000000014GB RA000000028GB";
 
-/// The request that the words ask.
+/// The request that the words ask. `None` where an option that it needs is missing or its number is out of range, which
+/// matches of the command itself never are.
 pub fn draw_job<'a>(found: &ArgMatches<'a>) -> Option<Job<'a>>
     ensures { IfSome result (AsksFor (codes "draw") (rows_in found.now)) }
 {

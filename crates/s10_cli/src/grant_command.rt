@@ -53,7 +53,8 @@ Example:
   s10 grant --to 127.0.0.1:4711 --number 1 --holder 7 --service RA --country GB --first 0 --last 2
   reply grant customer 0 number 1 holder 7 RA GB 00000000 00000002 done range 1";
 
-/// The request that the words ask.
+/// The request that the words ask. `None` where an option that it needs is missing or its number is out of range, which
+/// matches of the command itself never are.
 pub fn grant_job<'a>(found: &ArgMatches<'a>) -> Option<Job<'a>>
     ensures { IfSome result (AsksFor (codes "grant") (rows_in found.now)) }
 {

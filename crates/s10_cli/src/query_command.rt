@@ -40,7 +40,8 @@ Example:
   s10 query --to 127.0.0.1:4711 --customer 7 --number 4 --id RA000000005GB
   reply query customer 7 number 4 RA000000005GB done voided 20000";
 
-/// The request that the words ask.
+/// The request that the words ask. `None` where an option that it needs is missing or its number is out of range, which
+/// matches of the command itself never are.
 pub fn query_job<'a>(found: &ArgMatches<'a>) -> Option<Job<'a>>
     ensures { IfSome result (AsksFor (codes "query") (rows_in found.now)) }
 {

@@ -53,7 +53,8 @@ Example:
   range customer service country first last used voided free
   1 7 RA GB 00000000 00000002 3 0 1";
 
-/// The report that the words ask for.
+/// The report that the words ask for. `None` where an option that it needs is missing or its number is out of range, which
+/// matches of the command itself never are.
 pub fn report_job<'a>(found: &ArgMatches<'a>) -> Option<Job<'a>>
     ensures { IfSome result (AsksFor (codes "report") (rows_in found.now)) }
 {

@@ -66,7 +66,8 @@ Example:
   s10 serve --ledger post.db --bind 127.0.0.1:4711 --count 1
   replied 533101820000000700000001524147420000004e2052413030303030303030354742";
 
-/// The serving that the words ask for.
+/// The serving that the words ask for. `None` where an option that it needs is missing or its number is out of range, which
+/// matches of the command itself never are.
 pub fn serve_job<'a>(found: &ArgMatches<'a>) -> Option<Job<'a>>
     ensures { IfSome result (AsksFor (codes "serve") (rows_in found.now)) }
 {

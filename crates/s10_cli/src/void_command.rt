@@ -39,7 +39,8 @@ Example:
   s10 void --to 127.0.0.1:4711 --customer 7 --number 3 --id RA000000005GB
   reply void customer 7 number 3 RA000000005GB done";
 
-/// The request that the words ask.
+/// The request that the words ask. `None` where an option that it needs is missing or its number is out of range, which
+/// matches of the command itself never are.
 pub fn void_job<'a>(found: &ArgMatches<'a>) -> Option<Job<'a>>
     ensures { IfSome result (AsksFor (codes "void") (rows_in found.now)) }
 {

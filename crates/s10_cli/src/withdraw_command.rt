@@ -48,7 +48,8 @@ Example:
   s10 withdraw --to 127.0.0.1:4711 --number 2 --range 1
   reply withdraw customer 0 number 2 1 done";
 
-/// The request that the words ask.
+/// The request that the words ask. `None` where an option that it needs is missing or its number is out of range, which
+/// matches of the command itself never are.
 pub fn withdraw_job<'a>(found: &ArgMatches<'a>) -> Option<Job<'a>>
     ensures { IfSome result (AsksFor (codes "withdraw") (rows_in found.now)) }
 {
