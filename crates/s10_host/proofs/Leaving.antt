@@ -4,7 +4,7 @@ use Rattle.std.specs.Prelude.{IfOk}
 use Rattle.sqlite_trees.specs.declared.memory.MemStore.{MemStore}
 use Rattle.sqlite.specs.Held.{Held, state}
 use Rattle.sqlite.specs.Steps.{over_memory}
-use Rattle.s10_wire.specs.declared.write_fault.WriteFault.{WriteFault}
+use Rattle.s10_lines.specs.declared.write_fault.WriteFault.{WriteFault}
 use Rattle.s10_link.specs.declared.peer.Peer.{Peer}
 use Rattle.s10_link.specs.declared.trace.Trace.{Trace}
 use Rattle.s10_link.specs.Link.{LeadsTo}
@@ -28,7 +28,7 @@ served_over day begun ended fresh led honest =
     let on : LedOn (λ (b : Ledger MemStore). b.faults) (IsHonest over_memory) (λ b. b.terms) (λ b. history_of over_memory b) (λ (l : BoundLink). l.trace) (λ (l : BoundLink). l.trace) begun.day (book_of begun.server) (book_of ended.server) =
     near_led (λ (b : Ledger MemStore). b.faults) (IsHonest over_memory) (λ b. b.terms) (λ b. history_of over_memory b) (λ (l : BoundLink). l.trace) (λ (l : BoundLink). l.trace) begun ended led in
     let last : List Entry = history_of over_memory (book_of ended.server) in
-    subst (λ (d : ℕ). ServedOn d [] loop_terms last) fresh.day
+    subst (λ (d : ℕ). ServedOn d [] loop_terms last) fresh.on_day
     (subst (λ (t : Terms). ServedOn begun.day [] t last) fresh.terms
     (subst (λ (h : List Entry). ServedOn begun.day h (book_of begun.server).terms last) fresh.empty (on.served honest)))
 

@@ -86,7 +86,7 @@ IsLoopStep = IsNearStep (λ (b : Ledger MemStore). b.faults) (IsHonest over_memo
 
 -- it carried nothing, and its ledger is empty
 pub record IsNewLoop (day : ℕ) (link : LoopLink) : Type 0 where
-  pub day : link.day ≡ day
+  pub on_day : link.day ≡ day
   pub far : link.far.trace ≡ new_trace
   pub near : link.near.trace ≡ new_trace
   pub terms : (book_of link.server).terms ≡ loop_terms

@@ -75,8 +75,7 @@ fn replayed(rt: &impl Abort, alloc: Global, day: i64, reply: &[u8]) -> Result<()
     let Some(settings) = Settings::new(30, 100) else {
         panic!(rt)
     };
-    let grant =
-        b"S1\x01\x81\x00\x00\x00\x00\x00\x00\x00\x01RAGB\x00\x00\x00\x07\x00\x00\x00\x00\x00\x00\x00\x02\x00\x00\x00\x00\x01";
+    let grant = b"S1\x01\x81\0\0\0\0\0\0\0\x01\0\0\0\x07RAGB\0\0\0\0\0\0\0\x02\0\0\0\0\x01";
     let first = match Vec::from_slice(alloc, grant) {
         Ok(grant) => CallRow::new(1, 0, 1, 20000, grant),
         Err(_) => panic!(rt),
@@ -98,7 +97,11 @@ fn rows_that_do_not_read_are_damage(rt: HostRuntime) {
         (4294967296, REPLY, Err(OpenFault::Damaged(2))),
     ];
     for (day, reply, told) in rows {
-        assert!(rt; replayed(&rt, rt.alloc(), day, reply) == told, "on {day}");
+        let size = reply.len();
+        assert!(rt;
+            replayed(&rt, rt.alloc(), day, reply) == told,
+            "a reply of {size} bytes on {day}"
+        );
     }
 }
 

@@ -37,3 +37,9 @@ returns-then-ne-clause-asked g c =
 
 pub returns-then-ne-clause-led : goal.returns-then-ne-clause-led
 returns-then-ne-clause-led g c = led_on c.loop-body.invariant.led c.ask.ensures.led
+
+pub loop-body-init : goal.loop-body-init
+loop-body-init g c = record { done = search rules; led = none }
+
+pub returns-in_err-status-clause-led : goal.returns-in_err-status-clause-led
+returns-in_err-status-clause-led g c = led_on c.loop-body.invariant.led c.ask.ensures.led
