@@ -13,11 +13,11 @@ loop-body-preserved g c =
     take_more c.args.bodies.now c.loop-body.body-index c.body-item.result within ∙ ap (λ (b : Body). take c.loop-body.body-index c.args.bodies.now ++ b ∷ []) (sym c.body-item.is) in
     record {
       done = rw all
-      (one_done c.args.to c.args.client.now c.loop-body.client c.ask.new.client
-    (g.L.Link.trace_of c.args.link.now) (g.L.Link.trace_of c.loop-body.link) (g.L.Link.trace_of c.ask.new.link)
-    (take c.loop-body.body-index c.args.bodies.now) c.body-item.result
-    (g.W.Write.contents c.args.out.now) (g.W.Write.contents c.loop-body.out) (g.W.Write.contents c.ask.new.out)
-    c.ask.result c.in_ok-status.status c.in_ok-status.was (search rules) c.loop-body.invariant.done c.ask.ensures.asked);
+          (one_done c.args.to c.args.client.now c.loop-body.client c.ask.new.client
+          (g.L.Link.trace_of c.args.link.now) (g.L.Link.trace_of c.loop-body.link) (g.L.Link.trace_of c.ask.new.link)
+          (take c.loop-body.body-index c.args.bodies.now) c.body-item.result
+          (g.W.Write.contents c.args.out.now) (g.W.Write.contents c.loop-body.out) (g.W.Write.contents c.ask.new.out)
+          c.ask.result c.in_ok-status.status c.in_ok-status.was (search rules) c.loop-body.invariant.done c.ask.ensures.asked);
       led = led_on c.loop-body.invariant.led c.ask.ensures.led;
     }
 
