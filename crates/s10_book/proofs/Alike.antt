@@ -5,14 +5,14 @@ use Rattle.std.specs.List.{last_or}
 use Rattle.std.specs.Option.{option_map, option_or, unwrap_or}
 use Rattle.s10_core.specs.declared.id.Id.{Id}
 use Rattle.s10_core.specs.Id.{same_id}
-use Rattle.s10_book.specs.declared.entry.Entry.{Entry}
-use Rattle.s10_book.specs.declared.range.Range.{Range}
-use Rattle.s10_book.specs.declared.issuance.Issuance.{Issuance}
-use Rattle.s10_book.specs.History.{ranges_open, lies_in}
-use Rattle.s10_book.specs.Issues.{issues_of, is_of, last_issuance_of, is_issued, is_free_since, serial_issued_earliest, serials, pick_of, id_at}
+use Rattle.s10_history.specs.declared.entry.Entry.{Entry}
+use Rattle.s10_history.specs.declared.range.Range.{Range}
+use Rattle.s10_history.specs.declared.issuance.Issuance.{Issuance}
+use Rattle.s10_history.specs.History.{ranges_open, lies_in}
+use Rattle.s10_history.specs.Issues.{issues_of, is_of, last_issuance_of, is_issued, is_free_since, serial_issued_earliest, serials, pick_of, id_at}
 use Rattle.s10_book.specs.Rules.{has_free_pick, outcome_of_pick, draw_done, then_drawn, draws_in_a_row}
-use Rattle.s10_book.proofs.Earliest.{earliest_cons}
-use Rattle.s10_book.proofs.Push.{issues_from-push}
+use Rattle.s10_history.proofs.Earliest.{earliest_cons}
+use Rattle.s10_history.proofs.Push.{issues_from-push}
 use Rattle.s10_book.proofs.Closing.{draw_open}
 use Rattle.s10_book.proofs.Picking.{then_found, then_same, picks}
 

@@ -12,13 +12,13 @@ use Rattle.s10_wire.specs.declared.body.Body.{Body}
 use Rattle.s10_wire.specs.declared.body.Body.TheVariants.{Grant}
 use Rattle.s10_wire.specs.declared.outcome.Outcome.{Outcome}
 use Rattle.s10_wire.specs.declared.outcome.Outcome.TheVariants.{Granted, NotThePost, BadGrant, Overlap}
-use Rattle.s10_book.specs.declared.entry.Entry.{Entry}
-use Rattle.s10_book.specs.declared.range.Range.{Range}
-use Rattle.s10_book.specs.Settings.{Terms}
-use Rattle.s10_book.specs.History.{ranges_of, range_of_grant, lies_in, overlaps}
+use Rattle.s10_history.specs.declared.entry.Entry.{Entry}
+use Rattle.s10_history.specs.declared.range.Range.{Range}
+use Rattle.s10_history.specs.Settings.{Terms}
+use Rattle.s10_history.specs.History.{ranges_of, range_of_grant, lies_in, overlaps}
 use Rattle.s10_book.specs.Rules.{IsLegal, body_answer}
 use Rattle.s10_book.specs.Promises.{IsApart}
-use Rattle.s10_book.proofs.Push.{ranges_from-push}
+use Rattle.s10_history.proofs.Push.{ranges_from-push}
 use Rattle.s10_book.proofs.Legal.{legal_induction}
 
 -- what a range and an identifier in it share

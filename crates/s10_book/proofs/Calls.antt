@@ -1,7 +1,7 @@
 -- One call after another.
 use Rattle.std.proofs.Common.{◌∙◌, refl, List}
-use Rattle.s10_book.specs.declared.entry.Entry.{Entry}
-use Rattle.s10_book.specs.Settings.{Terms}
+use Rattle.s10_history.specs.declared.entry.Entry.{Entry}
+use Rattle.s10_history.specs.Settings.{Terms}
 use Rattle.s10_book.specs.Book.{Keeps}
 
 pub Keeps-refl : {B : Type 0} {history : B → List Entry} {terms : B → Terms} {honest : B → Type 0} (a : B) → Keeps history terms honest a a

@@ -11,15 +11,15 @@ use Rattle.s10_wire.specs.declared.body.Body.{Body}
 use Rattle.s10_wire.specs.declared.body.Body.TheVariants.{Grant, Draw, Void, Query, DrawMany, Withdraw}
 use Rattle.s10_wire.specs.declared.outcome.Outcome.{Outcome}
 use Rattle.s10_wire.specs.declared.outcome.Outcome.TheVariants.{Drawn, DrawnMany}
-use Rattle.s10_book.specs.declared.entry.Entry.{Entry}
-use Rattle.s10_book.specs.declared.range.Range.{Range}
-use Rattle.s10_book.specs.declared.issuance.Issuance.{Issuance}
-use Rattle.s10_book.specs.Settings.{Terms}
-use Rattle.s10_book.specs.History.{ranges_of, is_open, ranges_open}
-use Rattle.s10_book.specs.Issues.{issues_of, carried_by, is_free, id_at, pick_of}
+use Rattle.s10_history.specs.declared.entry.Entry.{Entry}
+use Rattle.s10_history.specs.declared.range.Range.{Range}
+use Rattle.s10_history.specs.declared.issuance.Issuance.{Issuance}
+use Rattle.s10_history.specs.Settings.{Terms}
+use Rattle.s10_history.specs.History.{ranges_of, is_open, ranges_open}
+use Rattle.s10_history.specs.Issues.{issues_of, carried_by, is_free, id_at, pick_of}
 use Rattle.s10_book.specs.Rules.{MayFollow, body_answer, outcome_of_pick, outcome_of_row, draws_in_a_row, has_free_pick}
-use Rattle.s10_book.proofs.Ranges.{Contains-find, found_passes}
-use Rattle.s10_book.proofs.Push.{issues_from-push}
+use Rattle.s10_history.proofs.Numbering.{Contains-find, found_passes}
+use Rattle.s10_history.proofs.Push.{issues_from-push}
 use Rattle.s10_book.proofs.Fitting.{answer_fits}
 use Rattle.s10_book.proofs.Picking.{then_found, picks}
 use Rattle.s10_book.proofs.Alike.{alike_itself, row_is}

@@ -3,11 +3,11 @@ use Rattle.std.proofs.Common.{◌≡◌, ℕ, ◌+◌, Bool, true, false, not, �
 use Rattle.std.specs.Prelude.{filter, option_to_list}
 use Rattle.std.proofs.lemmas.List.Folds.{list_any-append}
 use Rattle.s10_core.specs.declared.id.Id.{Id}
-use Rattle.s10_book.specs.declared.entry.Entry.{Entry}
-use Rattle.s10_book.specs.History.{ranges_of, range_of_grant, withdraws, is_closed, is_held, is_open, ranges_open}
+use Rattle.s10_history.specs.declared.entry.Entry.{Entry}
+use Rattle.s10_history.specs.History.{ranges_of, range_of_grant, withdraws, is_closed, is_held, is_open, ranges_open}
 use Rattle.s10_book.specs.Rules.{draw_done}
 use Rattle.s10_book.specs.Promises.{without_number}
-use Rattle.s10_book.proofs.Push.{ranges_from-push}
+use Rattle.s10_history.proofs.Push.{ranges_from-push}
 
 or_false : (a : Bool) → (a || (false || false)) ≡ a
 or_false true = refl

@@ -1,17 +1,18 @@
 -- A walk over ranges by their numbers, until one passes a test.
-use Rattle.std.proofs.Common.{◌≡◌, ℕ, ◌-◌, leb, ◌<◌, Bool, true, false, cond, List, [], ◌∷◌, Option, Some, None, refl, sym, ap, ◌∙◌, inl, inr, arith, length}
+use Rattle.std.proofs.Common.{◌≡◌, ℕ, ◌-◌, ◌<◌, Bool, true, false, cond, List, [], ◌∷◌, Option, Some, None, refl, sym, ap, ◌∙◌, inl, inr, arith, length}
 use Rattle.std.specs.Prelude.{find, filter}
 use Rattle.std.proofs.lemmas.Bool.{cases_lt}
 use Rattle.std.specs.Option.{option_map}
-use Rattle.s10_book.specs.declared.entry.Entry.{Entry}
-use Rattle.s10_book.specs.declared.range.Range.{Range}
-use Rattle.s10_book.specs.declared.issue.Issue.{Issue}
-use Rattle.s10_book.specs.declared.issuance.Issuance.{Issuance}
-use Rattle.s10_book.specs.declared.candidate.Candidate.{Candidate}
-use Rattle.s10_book.specs.Issues.{issues_of, last_issuance_of, id_at, pick_of, candidate_of, is_free_since}
+use Rattle.s10_history.specs.declared.entry.Entry.{Entry}
+use Rattle.s10_history.specs.declared.range.Range.{Range}
+use Rattle.s10_history.specs.declared.issue.Issue.{Issue}
+use Rattle.s10_history.specs.declared.issuance.Issuance.{Issuance}
+use Rattle.s10_history.specs.declared.candidate.Candidate.{Candidate}
+use Rattle.s10_history.specs.Issues.{issues_of, last_issuance_of, id_at, pick_of, candidate_of, is_free_since}
 use Rattle.s10_book.specs.Rules.{has_free_pick, outcome_of_pick}
 use Rattle.s10_wire.specs.declared.outcome.Outcome.TheVariants.{Drawn, NoRange, NoneFree}
-use Rattle.s10_book.proofs.Ranges.{above, Numbered, filter_above, next_above, filter_none}
+use Rattle.s10_history.proofs.Numbering.{above, Numbered, filter_above, next_above, filter_none}
+use Rattle.s10_history.proofs.Issued.{free_last}
 
 -- no range up to the number passes, and there is one if the number isn't 0
 pub record Remaining (passes p : Range → Bool) (rs : List Range) (after : ℕ) : Type 0 where
@@ -56,10 +57,6 @@ Remaining-none passes p rs after none left = left.free ∙ ap (find passes) (fil
 -- there never was one
 pub Remaining-empty : (p : Range → Bool) (rs : List Range) → Numbered 1 rs → find (above p 0) rs ≡ None → filter p rs ≡ []
 Remaining-empty p rs h none = sym (filter_above p 0 1 rs (omega arith) h) ∙ filter_none (above p 0) rs none
-
-pub free_last : (day interval : ℕ) (o : Option Issuance) (f : Issuance → Issue) → ((i : Issuance) → (f i).day ≡ i.day) → is_free_since day interval (option_map (λ (i : Issue). i.day) (option_map f o)) ≡ is_free_since day interval (option_map (λ (i : Issuance). i.day) o)
-free_last day interval None f same = refl
-free_last day interval (Some i) f same = ap (λ d. leb interval (day - d)) (same i)
 
 -- the test of the candidate's issue is the test of its range
 pub passes_is : (h : List Entry) (r : Range) (day interval : ℕ) (found : Candidate) (b : Bool) → found ≡ candidate_of h r → b ≡ is_free_since day interval (option_map (λ (i : Issue). i.day) found.issue) → has_free_pick (issues_of h) day interval r ≡ b

@@ -8,21 +8,21 @@ use Rattle.std.proofs.lemmas.Option.{none-some}
 use Rattle.std.proofs.lemmas.List.Elements.{All-head, All-tail, All-push, All-weaker}
 use Rattle.std.proofs.lemmas.List.Quantifiers.{all_pairs_push}
 use Rattle.s10_core.specs.declared.id.Id.{Id}
-use Rattle.s10_book.specs.declared.range.Range.{Range}
-use Rattle.s10_book.specs.declared.issuance.Issuance.{Issuance}
+use Rattle.s10_history.specs.declared.range.Range.{Range}
+use Rattle.s10_history.specs.declared.issuance.Issuance.{Issuance}
 use Rattle.s10_wire.specs.declared.body.Body.TheVariants.{DrawMany}
 use Rattle.s10_wire.specs.declared.outcome.Outcome.{Outcome}
 use Rattle.s10_wire.specs.declared.outcome.Outcome.TheVariants.{NoneFree}
 use Rattle.s10_book.specs.declared.book_fault.BookFault.{BookFault}
-use Rattle.s10_book.specs.declared.entry.Entry.{Entry}
-use Rattle.s10_book.specs.Settings.{Terms}
-use Rattle.s10_book.specs.History.{day_of, ranges_of, is_open, ranges_open, lies_in}
-use Rattle.s10_book.specs.Issues.{issues_of, last_issuance_of, is_free, is_free_since, serials, pick_of, id_at}
+use Rattle.s10_history.specs.declared.entry.Entry.{Entry}
+use Rattle.s10_history.specs.Settings.{Terms}
+use Rattle.s10_history.specs.History.{day_of, ranges_of, is_open, ranges_open, lies_in}
+use Rattle.s10_history.specs.Issues.{issues_of, last_issuance_of, is_free, is_free_since, serials, pick_of, id_at}
 use Rattle.s10_book.specs.Rules.{IsLegal, has_free_pick, free_serials, draws_in_a_row, outcome_of_row, draw_many_answer, FewFree}
 use Rattle.s10_book.proofs.Apart.{Apart, apart}
 use Rattle.s10_book.proofs.Own.{lies_at}
 use Rattle.s10_book.proofs.Free.{pick_free}
-use Rattle.s10_book.proofs.Ranges.{Contains-find, found_passes}
+use Rattle.s10_history.proofs.Numbering.{Contains-find, found_passes}
 use Rattle.s10_book.proofs.Spaced.{InDays, sound}
 use Rattle.std.proofs.lemmas.List.Sums.{sum_by-cons}
 use Rattle.s10_book.proofs.Picking.{then_found, picks}

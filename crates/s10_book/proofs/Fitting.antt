@@ -9,15 +9,15 @@ use Rattle.s10_wire.specs.declared.body.Body.{Body}
 use Rattle.s10_wire.specs.declared.body.Body.TheVariants.{Grant, Draw, Void, Query, DrawMany, Withdraw}
 use Rattle.s10_wire.specs.declared.outcome.Outcome.{Outcome}
 use Rattle.s10_wire.specs.declared.outcome.Outcome.TheVariants.{Granted, Drawn, Voided, Told, Withdrawn, NotThePost, BadGrant, Overlap, NotYours, AlreadyVoid, NoSuchRange, Closed}
-use Rattle.s10_book.specs.declared.entry.Entry.{Entry}
-use Rattle.s10_book.specs.declared.range.Range.{Range}
-use Rattle.s10_book.specs.declared.issue.Issue.{Issue}
-use Rattle.s10_book.specs.declared.issuance.Issuance.{Issuance}
-use Rattle.s10_book.specs.Settings.{Terms}
-use Rattle.s10_book.specs.History.{has_key, entry_with_key, ranges_of, ranges_open, is_own, overlaps, is_closed}
-use Rattle.s10_book.specs.Issues.{issues_of, last_issue_of}
+use Rattle.s10_history.specs.declared.entry.Entry.{Entry}
+use Rattle.s10_history.specs.declared.range.Range.{Range}
+use Rattle.s10_history.specs.declared.issue.Issue.{Issue}
+use Rattle.s10_history.specs.declared.issuance.Issuance.{Issuance}
+use Rattle.s10_history.specs.Settings.{Terms}
+use Rattle.s10_history.specs.History.{has_key, entry_with_key, ranges_of, ranges_open, is_own, overlaps, is_closed}
+use Rattle.s10_history.specs.Issues.{issues_of, last_issue_of}
 use Rattle.s10_book.specs.Rules.{IsLegal, body_answer, outcome_of_pick, outcome_of_row, then_drawn, draw_answer, draw_done, draws_in_a_row, void_issue, status_of}
-use Rattle.s10_book.proofs.Ranges.{find_cases}
+use Rattle.s10_history.proofs.Numbering.{find_cases}
 use Rattle.std.proofs.lemmas.Option.{none-some, same_Some}
 use Rattle.std.proofs.lemmas.Bool.{eq-eqb}
 

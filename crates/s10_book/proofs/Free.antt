@@ -8,20 +8,20 @@ use Rattle.std.proofs.lemmas.List.Folds.{list_any_none}
 use Rattle.std.proofs.lemmas.List.Elements.{All-nil, All-cons, All-head, All-tail, All-weaker}
 use Rattle.std.specs.Option.{option_map, option_or, unwrap_or}
 use Rattle.s10_core.specs.declared.id.Id.{Id}
-use Rattle.s10_book.proofs.Earliest.{earliest_cons}
+use Rattle.s10_history.proofs.Earliest.{earliest_cons}
 use Rattle.s10_core.specs.Id.{same_id}
 use Rattle.s10_wire.specs.declared.body.Body.TheVariants.{Draw}
 use Rattle.s10_wire.specs.declared.outcome.Outcome.{Outcome}
 use Rattle.s10_wire.specs.declared.outcome.Outcome.TheVariants.{NoneFree}
 use Rattle.s10_book.specs.declared.book_fault.BookFault.{BookFault}
-use Rattle.s10_book.specs.declared.entry.Entry.{Entry}
-use Rattle.s10_book.specs.declared.range.Range.{Range}
-use Rattle.s10_book.specs.declared.issuance.Issuance.{Issuance}
-use Rattle.s10_book.specs.Settings.{Terms}
-use Rattle.s10_book.specs.History.{day_of, lies_in, ranges_open}
-use Rattle.s10_book.specs.Issues.{issues_of, is_of, last_issuance_of, is_issued, serial_issued_earliest, serials, pick_of, id_at, is_free, is_free_since}
+use Rattle.s10_history.specs.declared.entry.Entry.{Entry}
+use Rattle.s10_history.specs.declared.range.Range.{Range}
+use Rattle.s10_history.specs.declared.issuance.Issuance.{Issuance}
+use Rattle.s10_history.specs.Settings.{Terms}
+use Rattle.s10_history.specs.History.{day_of, lies_in, ranges_open}
+use Rattle.s10_history.specs.Issues.{issues_of, is_of, last_issuance_of, is_issued, serial_issued_earliest, serials, pick_of, id_at, is_free, is_free_since}
 use Rattle.s10_book.specs.Rules.{IsLegal, draw_answer, outcome_of_pick, has_free_pick, NothingFree}
-use Rattle.s10_book.proofs.Ranges.{found_passes}
+use Rattle.s10_history.proofs.Numbering.{found_passes}
 use Rattle.s10_book.proofs.Apart.{within, letters_equal}
 use Rattle.s10_book.proofs.Spaced.{InDays, tail_days, head_days, last_none, id_itself, sound}
 

@@ -4,9 +4,9 @@ use Rattle.std.specs.Prelude.{find, is_some}
 use Rattle.std.specs.List.{list_any}
 use Rattle.std.proofs.lemmas.Bool.{eq-eqb, ne_eqb, le-ltb, or_from}
 use Rattle.s10_wire.specs.declared.outcome.Outcome.TheVariants.{Overlap, Granted}
-use Rattle.s10_book.specs.declared.entry.Entry.{Entry}
-use Rattle.s10_book.specs.declared.range.Range.{Range}
-use Rattle.s10_book.specs.History.{ranges_of, overlaps}
+use Rattle.s10_history.specs.declared.entry.Entry.{Entry}
+use Rattle.s10_history.specs.declared.range.Range.{Range}
+use Rattle.s10_history.specs.History.{ranges_of, overlaps}
 use Rattle.s10_book.specs.Rules.{grant_answer}
 
 any_at : {A : Type 0} (b rest : Bool) (x : A) (o : Option A) → rest ≡ is_some o → (b || rest) ≡ is_some (cond b (Some x) o)

@@ -4,11 +4,11 @@ use Rattle.std.specs.Prelude.{find, filter, is_some}
 use Rattle.s10_core.specs.declared.id.Id.{Id}
 use Rattle.s10_wire.specs.declared.outcome.Outcome.{Outcome}
 use Rattle.s10_wire.specs.declared.outcome.Outcome.TheVariants.{DrawnMany, NoRange, NoneFree}
-use Rattle.s10_book.specs.declared.entry.Entry.{Entry}
-use Rattle.s10_book.specs.declared.range.Range.{Range}
-use Rattle.s10_book.specs.History.{ranges_of, is_open, ranges_open}
+use Rattle.s10_history.specs.declared.entry.Entry.{Entry}
+use Rattle.s10_history.specs.declared.range.Range.{Range}
+use Rattle.s10_history.specs.History.{ranges_of, is_open, ranges_open}
 use Rattle.s10_book.specs.Rules.{outcome_of_row, draw_many_answer, draws_in_a_row}
-use Rattle.s10_book.proofs.Ranges.{above, numbered, filter_above, next_above, filter_none}
+use Rattle.s10_history.proofs.Numbering.{above, numbered, filter_above, next_above, filter_none}
 
 -- what a customer who holds such a range is told
 abbrev pub told_of : ℕ → Option (List Id) → Outcome

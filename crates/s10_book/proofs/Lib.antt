@@ -1,11 +1,7 @@
-pub mod Ranges
 pub mod Drawing
 pub mod Calls
-pub mod Issued
-pub mod Earliest
 pub mod Push
 pub mod Closing
-pub mod Serials
 pub mod Fitting
 pub mod Legal
 pub mod Apart
@@ -26,7 +22,6 @@ pub mod Larger
 pub mod Owning
 pub mod Numbers
 pub mod Granting
-pub mod Counting
 pub mod Determined
 pub mod Making
 pub mod Overlapping

@@ -1,9 +1,9 @@
 -- The issues of one call, one after another.
 use Rattle.std.proofs.Common.{◌≡◌, ℕ, suc, ◌+◌, ◌<◌, List, [], ◌∷◌, ◌++◌, Option, sym, ap, ◌∙◌, arith, length, take, append_assoc}
 use Rattle.std.specs.Prelude.{slice_get, option_to_list}
-use Rattle.s10_book.specs.declared.entry.Entry.{Entry}
-use Rattle.s10_book.specs.declared.issuance.Issuance.{Issuance}
-use Rattle.s10_book.specs.Issues.{issues_at, carried_by}
+use Rattle.s10_history.specs.declared.entry.Entry.{Entry}
+use Rattle.s10_history.specs.declared.issuance.Issuance.{Issuance}
+use Rattle.s10_history.specs.Issues.{issues_at, carried_by}
 use Rattle.s10_book.proofs.Carried.{made_by}
 use Rattle.s10_book.proofs.Determined.{length-mapped}
 use Rattle.s10_book.proofs.Legal.{element}

@@ -8,19 +8,19 @@ use Rattle.std.proofs.lemmas.List.Folds.{list_any-append, list_any_none, list_an
 use Rattle.std.proofs.lemmas.List.Elements.{All-nil, All-push, All-head, All-tail, All-weaker, filter-append, Contains-push_cases}
 use Rattle.std.specs.Option.{option_or, unwrap_or}
 use Rattle.s10_core.specs.declared.id.Id.{Id}
-use Rattle.s10_book.proofs.Earliest.{earliest_cons}
+use Rattle.s10_history.proofs.Earliest.{earliest_cons}
 use Rattle.s10_wire.specs.declared.body.Body.{Body}
 use Rattle.s10_wire.specs.declared.body.Body.TheVariants.{Grant}
 use Rattle.s10_wire.specs.declared.outcome.Outcome.{Outcome}
 use Rattle.s10_wire.specs.declared.outcome.Outcome.TheVariants.{Drawn, Granted}
-use Rattle.s10_book.specs.declared.entry.Entry.{Entry}
-use Rattle.s10_book.specs.declared.range.Range.{Range}
-use Rattle.s10_book.specs.declared.issuance.Issuance.{Issuance}
-use Rattle.s10_book.specs.Settings.{Terms}
-use Rattle.s10_book.specs.History.{ranges_of, range_of_grant, lies_in}
-use Rattle.s10_book.specs.Issues.{issues_of, carried_by, is_of, is_issued, serial_issued_earliest, serials, pick_of, id_at, serial_behind, pick_behind}
+use Rattle.s10_history.specs.declared.entry.Entry.{Entry}
+use Rattle.s10_history.specs.declared.range.Range.{Range}
+use Rattle.s10_history.specs.declared.issuance.Issuance.{Issuance}
+use Rattle.s10_history.specs.Settings.{Terms}
+use Rattle.s10_history.specs.History.{ranges_of, range_of_grant, lies_in}
+use Rattle.s10_history.specs.Issues.{issues_of, carried_by, is_of, is_issued, serial_issued_earliest, serials, pick_of, id_at, serial_behind, pick_behind}
 use Rattle.s10_book.specs.Rules.{IsLegal, MayFollow}
-use Rattle.s10_book.proofs.Push.{ranges_from-push, issues_from-push}
+use Rattle.s10_history.proofs.Push.{ranges_from-push, issues_from-push}
 use Rattle.s10_book.proofs.Legal.{legal_induction}
 use Rattle.s10_book.proofs.Apart.{Apart, apart, new_apart}
 use Rattle.s10_book.proofs.Spaced.{id_same}

@@ -2,8 +2,8 @@
 use Rattle.std.proofs.Common.{◌≡◌, ℕ, ◌+◌, ◌<◌, ◌≤◌, Bool, true, false, cond, eqb, List, [], ◌∷◌, Option, Some, refl, sym, ap, ◌∙◌, arith, length}
 use Rattle.std.specs.Prelude.{find, is_some, ◌==◌}
 use Rattle.std.proofs.lemmas.Bool.{eqb-true, eqb-false, true≢false}
-use Rattle.s10_book.specs.declared.range.Range.{Range}
-use Rattle.s10_book.proofs.Ranges.{Numbered}
+use Rattle.s10_history.specs.declared.range.Range.{Range}
+use Rattle.s10_history.proofs.Numbering.{Numbered}
 
 -- a number that is found lies among the numbers, and one that isn't doesn't
 record Counted (m n : ℕ) (rs : List Range) (found : Bool) : Type 0 where

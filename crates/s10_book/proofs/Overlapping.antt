@@ -2,9 +2,9 @@
 use Rattle.std.proofs.Common.{◌≡◌, ℕ, ◌≤◌, true, inl, inr, arith, ◌∙◌, sym}
 use Rattle.std.proofs.lemmas.Bool.{and_parts, leb-true, cases_lt}
 use Rattle.s10_core.specs.declared.id.Id.{Id}
-use Rattle.s10_book.specs.declared.range.Range.{Range}
-use Rattle.s10_book.specs.History.{overlaps}
-use Rattle.s10_book.specs.Issues.{id_at}
+use Rattle.s10_history.specs.declared.range.Range.{Range}
+use Rattle.s10_history.specs.History.{overlaps}
+use Rattle.s10_history.specs.Issues.{id_at}
 use Rattle.s10_book.specs.Promises.{IsInCommon}
 use Rattle.s10_book.proofs.Apart.{within, letters_equal, overlapping}
 use Rattle.s10_book.proofs.Own.{lies_at}

@@ -12,18 +12,18 @@ use Rattle.s10_wire.specs.declared.body.Body.{Body}
 use Rattle.s10_wire.specs.declared.body.Body.TheVariants.{Grant}
 use Rattle.s10_wire.specs.declared.outcome.Outcome.{Outcome}
 use Rattle.s10_wire.specs.declared.outcome.Outcome.TheVariants.{Granted, NotThePost, BadGrant, Overlap}
-use Rattle.s10_book.specs.declared.entry.Entry.{Entry}
-use Rattle.s10_book.specs.declared.range.Range.{Range}
-use Rattle.s10_book.specs.declared.issuance.Issuance.{Issuance}
-use Rattle.s10_book.specs.Settings.{Terms}
-use Rattle.s10_book.specs.History.{ranges_of, range_of_grant, lies_in, is_own}
-use Rattle.s10_book.specs.Issues.{issues_of, is_issued, serial_issued_earliest, pick_of, id_at}
+use Rattle.s10_history.specs.declared.entry.Entry.{Entry}
+use Rattle.s10_history.specs.declared.range.Range.{Range}
+use Rattle.s10_history.specs.declared.issuance.Issuance.{Issuance}
+use Rattle.s10_history.specs.Settings.{Terms}
+use Rattle.s10_history.specs.History.{ranges_of, range_of_grant, lies_in, is_own}
+use Rattle.s10_history.specs.Issues.{issues_of, is_issued, serial_issued_earliest, pick_of, id_at}
 use Rattle.s10_book.specs.Rules.{IsLegal, body_answer}
 use Rattle.s10_book.specs.Promises.{IsOwn}
-use Rattle.s10_book.proofs.Ranges.{chosen, find_cases}
-use Rattle.s10_book.proofs.Push.{ranges_from-push}
+use Rattle.s10_history.proofs.Numbering.{chosen, find_cases}
+use Rattle.s10_history.proofs.Push.{ranges_from-push}
 use Rattle.std.specs.Option.{option_or, unwrap_or}
-use Rattle.s10_book.proofs.Earliest.{earliest_cons}
+use Rattle.s10_history.proofs.Earliest.{earliest_cons}
 use Rattle.s10_book.proofs.Legal.{legal_induction}
 use Rattle.s10_book.proofs.Apart.{within}
 use Rattle.s10_book.proofs.Spaced.{letters_itself}

@@ -5,13 +5,13 @@ use Rattle.std.specs.List.{list_any}
 use Rattle.std.proofs.lemmas.Bool.{le-leb, and_right, false_from_ne_true}
 use Rattle.std.proofs.lemmas.List.Folds.{list_any_none}
 use Rattle.s10_core.specs.declared.id.Id.{Id}
-use Rattle.s10_book.specs.declared.range.Range.{Range}
-use Rattle.s10_book.specs.History.{lies_in, overlaps, is_own}
+use Rattle.s10_history.specs.declared.range.Range.{Range}
+use Rattle.s10_history.specs.History.{lies_in, overlaps, is_own}
 use Rattle.std.specs.Prelude.{is_some, not}
 use Rattle.s10_wire.specs.declared.status.Status.TheVariants.{Unknown}
-use Rattle.s10_book.specs.declared.entry.Entry.{Entry}
-use Rattle.s10_book.specs.History.{ranges_of}
-use Rattle.s10_book.specs.Issues.{last_issue_of}
+use Rattle.s10_history.specs.declared.entry.Entry.{Entry}
+use Rattle.s10_history.specs.History.{ranges_of}
+use Rattle.s10_history.specs.Issues.{last_issue_of}
 use Rattle.s10_wire.specs.declared.outcome.Outcome.TheVariants.{Told, NotYours}
 use Rattle.s10_book.specs.Rules.{status_of, status_of_issue, query_answer}
 use Rattle.s10_book.proofs.Granting.{any_is}

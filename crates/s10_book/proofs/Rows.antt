@@ -1,77 +1,24 @@
 -- Draws in a row, over a list of issues that each of them makes longer.
-use Rattle.std.proofs.Common.{◌≡◌, ℕ, zero, suc, ◌+◌, ◌-◌, ◌<◌, ◌≤◌, true, false, List, [], ◌∷◌, ◌++◌, Option, Some, None, refl, sym, ap, ◌∙◌, ◌⊎◌, inl, inr, arith, subst}
+use Rattle.std.proofs.Common.{◌≡◌, ℕ, zero, suc, ◌+◌, ◌-◌, true, false, List, [], ◌∷◌, ◌++◌, refl, sym, ap, ◌∙◌, inl, inr, subst}
 use Rattle.std.specs.Prelude.{find, AllPairs, Contains}
-use Rattle.std.specs.Option.{option_map, unwrap_or, SomeIff}
-use Rattle.std.proofs.lemmas.Bool.{both_ways, cases_Bool, cases_eq, eq-eqb, ne_eqb}
+use Rattle.std.specs.Option.{option_map}
+use Rattle.std.proofs.lemmas.Bool.{both_ways, cases_Bool}
 use Rattle.s10_core.specs.declared.id.Id.{Id}
-use Rattle.s10_book.specs.declared.entry.Entry.{Entry}
-use Rattle.s10_book.specs.declared.range.Range.{Range}
-use Rattle.s10_book.specs.declared.issuance.Issuance.{Issuance}
-use Rattle.s10_book.specs.declared.candidate.Candidate.{Candidate}
-use Rattle.s10_book.specs.Settings.{Terms}
-use Rattle.s10_book.specs.History.{ranges_of, lies_in}
-use Rattle.s10_book.specs.Issues.{issues_of, is_of, last_issuance_of, is_free_since, pick_of, id_at, serial_behind, serials_behind, size_of, pick_behind, issue_of, with_picks, candidate_after_of, last_issue_of}
+use Rattle.s10_history.specs.declared.entry.Entry.{Entry}
+use Rattle.s10_history.specs.declared.range.Range.{Range}
+use Rattle.s10_history.specs.declared.issuance.Issuance.{Issuance}
+use Rattle.s10_history.specs.declared.candidate.Candidate.{Candidate}
+use Rattle.s10_history.specs.Settings.{Terms}
+use Rattle.s10_history.specs.History.{ranges_of, lies_in}
+use Rattle.s10_history.specs.Issues.{issues_of, is_of, last_issuance_of, is_free_since, pick_of, id_at, serial_behind, serials_behind, pick_behind, issue_of, with_picks, candidate_after_of, last_issue_of}
 use Rattle.s10_book.specs.Rules.{IsLegal, has_free_pick}
 use Rattle.s10_book.proofs.Picking.{then_same, picks}
 use Rattle.s10_book.proofs.Apart.{Apart}
 use Rattle.s10_book.proofs.Own.{lies_at}
 use Rattle.s10_book.proofs.Free.{id_equal}
-use Rattle.s10_book.proofs.Issued.{last_issuance_of-push}
-use Rattle.s10_book.proofs.Ranges.{Contains-find}
+use Rattle.s10_history.proofs.Issued.{last_issuance_of-push}
+use Rattle.s10_history.proofs.Numbering.{Contains-find}
 use Rattle.s10_book.proofs.Marks.{Turns, pick_turns, turns_outside, turns_inside, mark_step, one_range, turns_pick, all_at_pick}
-
--- the serial so many behind the mark, going round
-abbrev pub IsBehind : Range → ℕ → ℕ → ℕ → Type 0
-IsBehind r m k v = ((v ≡ m + k) × (m + k ≤ r.last)) ⊎ ((v + (r.last + 1 - r.first) ≡ m + k) × (r.last < m + k))
-
-behind_next : (r : Range) (m k v : ℕ) → r.first ≤ m → m ≤ r.last → k < size_of r → IsBehind r m k v → IsBehind r m (suc k) (serial_behind r v)
-behind_next r m k v low high lt (inl w) =
-    elim (cases_eq v r.last) [
-      | inl e ↦ rw (eq-eqb v r.last e) (inr (omega (arith, w.0, w.1, e), omega (arith, w.0, w.1, e)))
-      | inr ne ↦ rw (ne_eqb v r.last ne) (inl (omega (arith, w.0), omega (arith, w.0, w.1, ne)))
-    ]
-behind_next r m k v low high lt (inr w) =
-    rw (ne_eqb v r.last (λ e. omega (arith, w.0, w.1, e, lt, low, high))) (inr (omega (arith, w.0), omega (arith, w.1)))
-
-pub behind : (r : Range) (m k : ℕ) → r.first ≤ m → m ≤ r.last → k ≤ size_of r → IsBehind r m k (serials_behind r m k)
-behind r m zero low high le = inl (omega arith, omega arith)
-behind r m (suc k) low high le = behind_next r m k (serials_behind r m k) low high (omega arith) (behind r m k low high (omega arith))
-
--- they are serials of the range
-pub behind_within : (r : Range) (m k v : ℕ) → r.first ≤ m → m ≤ r.last → k ≤ size_of r → IsBehind r m k v → (r.first ≤ v) × (v ≤ r.last)
-behind_within r m k v low high le (inl w) = (omega (arith, w.0), omega (arith, w.0, w.1))
-behind_within r m k v low high le (inr w) = (omega (arith, w.0, w.1), omega (arith, w.0, w.1))
-
--- no two of fewer than the range has are the same
-pub behind_apart : (r : Range) (m i j u v : ℕ) → r.first ≤ m → m ≤ r.last → i < j → j < size_of r → IsBehind r m i u → IsBehind r m j v → u ≡ v → ⊥
-behind_apart r m i j u v low high lt few (inl a) (inl b) e = omega (arith, a.0, b.0, e)
-behind_apart r m i j u v low high lt few (inl a) (inr b) e = omega (arith, a.0, b.0, e)
-behind_apart r m i j u v low high lt few (inr a) (inl b) e = omega (arith, a.1, b.1)
-behind_apart r m i j u v low high lt few (inr a) (inr b) e = omega (arith, a.0, b.0, e)
-
--- and the mark comes again behind all of them
-pub behind_round : (r : Range) (m k v : ℕ) → r.first ≤ m → m ≤ r.last → k ≡ size_of r → IsBehind r m k v → v ≡ m
-behind_round r m k v low high e (inl w) = absurd (omega (arith, w.1, e))
-behind_round r m k v low high e (inr w) = omega (arith, w.0, e)
-
--- the serial so many behind, by its number
-pub behind_low : (r : Range) (m k v : ℕ) → r.first ≤ m → m ≤ r.last → k < size_of r → m + k ≤ r.last → v ≡ m + k → v ≡ serials_behind r m k
-behind_low r m k v low high few le is =
-    elim (behind r m k low high (omega (arith, few))) [
-      | inl w ↦ omega (arith, w.0, is)
-      | inr w ↦ absurd (omega (arith, w.1, le))
-    ]
-
-pub behind_high : (r : Range) (m k v : ℕ) → r.first ≤ m → m ≤ r.last → k < size_of r → r.last < m + k → v ≡ m + k - size_of r → v ≡ serials_behind r m k
-behind_high r m k v low high few lt is =
-    elim (behind r m k low high (omega (arith, few))) [
-      | inl w ↦ absurd (omega (arith, w.1, lt))
-      | inr w ↦ omega (arith, w.0, is)
-    ]
-
-pub some_value : (o : Option ℕ) (P : Type 0) (v d : ℕ) → SomeIff o P v → P → unwrap_or o d ≡ v
-some_value None P v d none holds = absurd (none holds)
-some_value (Some x) P v d some holds = some.1
 
 steps_from : (r : Range) (m k : ℕ) → serials_behind r (serial_behind r m) k ≡ serials_behind r m (suc k)
 steps_from r m zero = refl

@@ -6,15 +6,15 @@ use Rattle.std.proofs.lemmas.Option.{none-some, same_Some}
 use Rattle.s10_core.specs.declared.id.Id.{Id}
 use Rattle.s10_wire.specs.declared.outcome.Outcome.{Outcome}
 use Rattle.s10_wire.specs.declared.outcome.Outcome.TheVariants.{Drawn, DrawnMany}
-use Rattle.s10_book.specs.declared.entry.Entry.{Entry}
-use Rattle.s10_book.specs.declared.range.Range.{Range}
-use Rattle.s10_book.specs.declared.issuance.Issuance.{Issuance}
-use Rattle.s10_book.specs.Settings.{Terms}
-use Rattle.s10_book.specs.History.{ranges_open}
-use Rattle.s10_book.specs.Issues.{issues_of, issues_at, carried_by, pick_of, id_at}
+use Rattle.s10_history.specs.declared.entry.Entry.{Entry}
+use Rattle.s10_history.specs.declared.range.Range.{Range}
+use Rattle.s10_history.specs.declared.issuance.Issuance.{Issuance}
+use Rattle.s10_history.specs.Settings.{Terms}
+use Rattle.s10_history.specs.History.{ranges_open}
+use Rattle.s10_history.specs.Issues.{issues_of, issues_at, carried_by, pick_of, id_at}
 use Rattle.s10_book.specs.Rules.{IsLegal, answer_of, body_answer, draw_answer, draw_done, draw_many_answer, draws_in_a_row, then_drawn, has_free_pick, outcome_of_pick, outcome_of_row}
 use Rattle.s10_book.specs.Promises.{without_number}
-use Rattle.s10_book.proofs.Push.{issues_from-push}
+use Rattle.s10_history.proofs.Push.{issues_from-push}
 use Rattle.s10_book.proofs.Closing.{draw_open}
 use Rattle.s10_book.proofs.Carried.{made_by}
 use Rattle.s10_book.proofs.Picking.{picks}

@@ -10,11 +10,11 @@ use Rattle.std.specs.Option.{option_map}
 use Rattle.s10_core.specs.declared.id.Id.{Id}
 use Rattle.s10_core.specs.Letters.{same_letters}
 use Rattle.s10_core.specs.Id.{same_id}
-use Rattle.s10_book.specs.declared.entry.Entry.{Entry}
-use Rattle.s10_book.specs.declared.issuance.Issuance.{Issuance}
-use Rattle.s10_book.specs.Settings.{Terms}
-use Rattle.s10_book.specs.History.{day_of}
-use Rattle.s10_book.specs.Issues.{issues_of, is_of, last_issuance_of, is_free, is_free_since}
+use Rattle.s10_history.specs.declared.entry.Entry.{Entry}
+use Rattle.s10_history.specs.declared.issuance.Issuance.{Issuance}
+use Rattle.s10_history.specs.Settings.{Terms}
+use Rattle.s10_history.specs.History.{day_of}
+use Rattle.s10_history.specs.Issues.{issues_of, is_of, last_issuance_of, is_free, is_free_since}
 use Rattle.s10_book.specs.Rules.{IsLegal}
 use Rattle.s10_book.specs.Promises.{IsSpaced}
 use Rattle.s10_book.proofs.Carried.{made_by, after_call}

@@ -6,26 +6,27 @@ use Rattle.std.proofs.lemmas.Bool.{cases_Bool, cases_lt, leb-true, ltb-true, ltb
 use Rattle.std.proofs.lemmas.List.{map-append}
 use Rattle.std.proofs.lemmas.List.Elements.{All-contains, filter_passes}
 use Rattle.s10_core.specs.declared.id.Id.{Id}
-use Rattle.s10_book.specs.declared.entry.Entry.{Entry}
-use Rattle.s10_book.specs.declared.range.Range.{Range}
-use Rattle.s10_book.specs.declared.issuance.Issuance.{Issuance}
-use Rattle.s10_book.specs.declared.issue.Issue.{Issue}
-use Rattle.s10_book.specs.declared.candidate.Candidate.{Candidate}
-use Rattle.s10_book.specs.Settings.{Terms}
-use Rattle.s10_book.specs.History.{ranges_of, is_open, ranges_open, lies_in}
-use Rattle.s10_book.specs.Issues.{issues_of, last_issuance_of, is_free_since, pick_of, id_at, serial_behind, serials_behind, size_of, candidate_after_of, free_pick_of}
+use Rattle.s10_history.specs.declared.entry.Entry.{Entry}
+use Rattle.s10_history.specs.declared.range.Range.{Range}
+use Rattle.s10_history.specs.declared.issuance.Issuance.{Issuance}
+use Rattle.s10_history.specs.declared.issue.Issue.{Issue}
+use Rattle.s10_history.specs.declared.candidate.Candidate.{Candidate}
+use Rattle.s10_history.specs.Settings.{Terms}
+use Rattle.s10_history.specs.History.{ranges_of, is_open, ranges_open, lies_in}
+use Rattle.s10_history.specs.Issues.{issues_of, last_issuance_of, is_free_since, pick_of, id_at, serial_behind, serials_behind, size_of, candidate_after_of, free_pick_of}
 use Rattle.s10_book.specs.Rules.{IsLegal, has_free_pick, draws_in_a_row}
 use Rattle.std.proofs.lemmas.Option.{none-some, same_Some}
-use Rattle.s10_book.proofs.Ranges.{above, Numbered, numbered, filter_above, next_above, filter_none, Contains-find, found_passes}
+use Rattle.s10_history.proofs.Numbering.{above, Numbered, numbered, filter_above, next_above, filter_none, Contains-find, found_passes}
 use Rattle.s10_book.proofs.Apart.{Apart, apart}
 use Rattle.s10_book.proofs.Carried.{Contains-filter}
 use Rattle.s10_book.proofs.Own.{lies_at}
-use Rattle.s10_book.proofs.Issued.{last_issuance_of-push}
+use Rattle.s10_history.proofs.Issued.{last_issuance_of-push}
 use Rattle.s10_book.proofs.Spaced.{id_itself}
-use Rattle.s10_book.proofs.Drawing.{free_last}
+use Rattle.s10_history.proofs.Issued.{free_last}
 use Rattle.s10_book.proofs.Marks.{Turns, pick_turns, turns_inside, all_at_pick}
 use Rattle.s10_book.proofs.Alike.{alike_itself, row_is}
-use Rattle.s10_book.proofs.Rows.{IsBehind, behind, behind_within, behind_apart, behind_round, candidate_after_is, Ready, outside_other, ready_next, pick_outside, last_other, last_outside, picks_here, picks_past}
+use Rattle.s10_history.proofs.Behind.{IsBehind, behind, behind_within, behind_apart, behind_round}
+use Rattle.s10_book.proofs.Rows.{candidate_after_is, Ready, outside_other, ready_next, pick_outside, last_other, last_outside, picks_here, picks_past}
 use Rattle.s10_book.proofs.Picking.{picks}
 
 -- a range from which nothing was taken

@@ -13,16 +13,16 @@ use Rattle.s10_wire.specs.declared.body.Body.TheVariants.{Withdraw}
 use Rattle.s10_wire.specs.declared.status.Status.TheVariants.{Unknown}
 use Rattle.s10_wire.specs.declared.outcome.Outcome.{Outcome}
 use Rattle.s10_wire.specs.declared.outcome.Outcome.TheVariants.{Granted, Told, Withdrawn, NotThePost, BadGrant, Overlap, NotYours}
-use Rattle.s10_book.specs.declared.entry.Entry.{Entry}
-use Rattle.s10_book.specs.declared.issue.Issue.{Issue}
-use Rattle.s10_book.specs.declared.range.Range.{Range}
-use Rattle.s10_book.specs.declared.issuance.Issuance.{Issuance}
-use Rattle.s10_book.specs.Settings.{Terms}
-use Rattle.s10_book.specs.History.{ranges_of, range_of_grant, lies_in, is_own, overlaps, withdraws, is_closed, is_held, is_open, ranges_open}
-use Rattle.s10_book.specs.Issues.{issues_of, carried_by, last_issuance_of, last_issue_of, voids, voids_by, voided_after, id_at, pick_of}
+use Rattle.s10_history.specs.declared.entry.Entry.{Entry}
+use Rattle.s10_history.specs.declared.issue.Issue.{Issue}
+use Rattle.s10_history.specs.declared.range.Range.{Range}
+use Rattle.s10_history.specs.declared.issuance.Issuance.{Issuance}
+use Rattle.s10_history.specs.Settings.{Terms}
+use Rattle.s10_history.specs.History.{ranges_of, range_of_grant, lies_in, is_own, overlaps, withdraws, is_closed, is_held, is_open, ranges_open}
+use Rattle.s10_history.specs.Issues.{issues_of, carried_by, last_issuance_of, last_issue_of, voids, voids_by, voided_after, id_at, pick_of}
 use Rattle.s10_book.specs.Rules.{IsLegal, MayFollow, body_answer, has_free_pick, grant_answer, void_answer, void_issue, query_answer, status_of_issue}
-use Rattle.s10_book.proofs.Ranges.{Contains-find}
-use Rattle.s10_book.proofs.Push.{ranges_from-push, issues_from-push}
+use Rattle.s10_history.proofs.Numbering.{Contains-find}
+use Rattle.s10_history.proofs.Push.{ranges_from-push, issues_from-push}
 use Rattle.s10_book.proofs.Apart.{apart}
 use Rattle.s10_book.proofs.Carried.{made_by, InTurn, IsPicked, picked_from, carried}
 use Rattle.s10_book.proofs.Own.{lies_picked}

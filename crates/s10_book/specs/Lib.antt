@@ -1,7 +1,3 @@
-pub mod Settings
-pub mod History
-pub mod Issues
-pub mod Usage
 pub mod Rules
 pub mod BookFault
 pub mod Book

@@ -2,8 +2,8 @@
 use Rattle.std.specs.Prelude.{ℕ, max, ◌==◌, Bool, ◌&&◌, if◌then◌else◌, List, [], ◌∷◌, ◌++◌, map, fold}
 use Rattle.std.specs.List.{list_any}
 use Rattle.s10_wire.specs.declared.request.Request.{Request}
-use Rattle.s10_book.specs.declared.entry.Entry.{Entry}
-use Rattle.s10_book.specs.History.{day_of}
+use Rattle.s10_history.specs.declared.entry.Entry.{Entry}
+use Rattle.s10_history.specs.History.{day_of}
 use Rattle.s10_book.specs.Rules.{answer_of}
 
 -- whether two requests are one call of one customer

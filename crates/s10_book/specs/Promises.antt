@@ -3,10 +3,10 @@ use Rattle.std.specs.Prelude.{◌≡◌, ℕ, ◌+◌, ◌-◌, ◌≤◌, List,
 use Rattle.std.specs.List.{list_any}
 use Rattle.s10_core.specs.declared.id.Id.{Id}
 use Rattle.s10_wire.specs.declared.request.Request.{Request}
-use Rattle.s10_book.specs.declared.entry.Entry.{Entry}
-use Rattle.s10_book.specs.declared.range.Range.{Range}
-use Rattle.s10_book.specs.History.{ranges_of, lies_in, is_own}
-use Rattle.s10_book.specs.Issues.{issues_of}
+use Rattle.s10_history.specs.declared.entry.Entry.{Entry}
+use Rattle.s10_history.specs.declared.range.Range.{Range}
+use Rattle.s10_history.specs.History.{ranges_of, lies_in, is_own}
+use Rattle.s10_history.specs.Issues.{issues_of}
 
 -- of any two issues of one identifier, the later day is at least the interval past the earlier
 abbrev pub IsSpaced : List Entry → ℕ → Type 0

@@ -10,13 +10,13 @@ use Rattle.s10_wire.specs.declared.status.Status.{Status}
 use Rattle.s10_wire.specs.declared.status.Status.TheVariants.{Unknown, Never, Issued, Voided as StatusVoided}
 use Rattle.s10_wire.specs.declared.outcome.Outcome.{Outcome}
 use Rattle.s10_wire.specs.declared.outcome.Outcome.TheVariants.{Granted, Drawn, DrawnMany, Voided, Told, Withdrawn, NotThePost, BadGrant, Overlap, NoRange, NoneFree, NotYours, NotIssued, AlreadyVoid, NoSuchRange, Closed}
-use Rattle.s10_book.specs.declared.entry.Entry.{Entry}
-use Rattle.s10_book.specs.declared.range.Range.{Range}
-use Rattle.s10_book.specs.declared.issue.Issue.{Issue}
-use Rattle.s10_book.specs.declared.issuance.Issuance.{Issuance}
-use Rattle.s10_book.specs.Settings.{Terms}
-use Rattle.s10_book.specs.History.{has_key, entry_with_key, day_of, ranges_of, lies_in, is_own, overlaps, is_closed, ranges_open}
-use Rattle.s10_book.specs.Issues.{issues_of, last_issue_of, pick_of, id_at, serials, is_free}
+use Rattle.s10_history.specs.declared.entry.Entry.{Entry}
+use Rattle.s10_history.specs.declared.range.Range.{Range}
+use Rattle.s10_history.specs.declared.issue.Issue.{Issue}
+use Rattle.s10_history.specs.declared.issuance.Issuance.{Issuance}
+use Rattle.s10_history.specs.Settings.{Terms}
+use Rattle.s10_history.specs.History.{has_key, entry_with_key, day_of, ranges_of, lies_in, is_own, overlaps, is_closed, ranges_open}
+use Rattle.s10_history.specs.Issues.{issues_of, last_issue_of, pick_of, id_at, serials, is_free}
 
 -- the outcome of a Grant: the post alone makes ranges, and no two of them have a serial in common
 abbrev pub grant_answer : List Entry → ℕ → ℕ → ℕ × ℕ → ℕ × ℕ → ℕ → ℕ → Outcome

@@ -1,13 +1,6 @@
-use crate::block::Block;
 use crate::book_fault::BookFault;
-use crate::candidate::Candidate;
-use crate::entry::Entry;
-use crate::holding::Holding;
-use crate::issue::Issue;
-use crate::range::Range;
-use crate::settings::Settings;
-use crate::usage::Usage;
 use s10_core::Id;
+use s10_history::{Block, Candidate, Entry, Holding, Issue, Range, Settings, Usage};
 
 /// Kept calls in order of arrival, with what follows from them.
 ///
@@ -17,13 +10,13 @@ use s10_core::Id;
 /// that answers Memory counts one fault of memory, a call that answers Store one of the store (a count stays at the
 /// greatest u64), any other answer none, and no call answers Full. After a fault history and settings are as before.
 pub trait Book {
-    ghost use Rattle.s10_book.specs.declared.entry.Entry.{Entry};
+    ghost use Rattle.s10_history.specs.declared.entry.Entry.{Entry};
     ghost use Rattle.s10_book.specs.declared.faults.Faults.{Faults};
-    ghost use Rattle.s10_book.specs.Settings.{Terms};
+    ghost use Rattle.s10_history.specs.Settings.{Terms};
     ghost use Rattle.s10_wire.specs.Kind.{fits};
-    ghost use Rattle.s10_book.specs.History.{entry_with_key, entry_at, day_of, ranges_of, is_closed, is_open_above, overlaps};
-    ghost use Rattle.s10_book.specs.Issues.{last_issue_of, candidate_of, candidate_after_of, size_of};
-    ghost use Rattle.s10_book.specs.Usage.{usage_of};
+    ghost use Rattle.s10_history.specs.History.{entry_with_key, entry_at, day_of, ranges_of, is_closed, is_open_above, overlaps};
+    ghost use Rattle.s10_history.specs.Issues.{last_issue_of, candidate_of, candidate_after_of, size_of};
+    ghost use Rattle.s10_history.specs.Usage.{usage_of};
     ghost use Rattle.s10_book.specs.Rules.{MayFollow, IsLegal};
     ghost use Rattle.s10_book.specs.BookFault.{Counts};
     ghost use Rattle.s10_book.specs.Book.{Keeps};

@@ -1,19 +1,17 @@
 //! The identifiers of single Draws in a row.
 
 ghost use Rattle.std.specs.Prelude.{ℕ, ◌≡◌, length, IfOk, IfSome, Contains};
-ghost use Rattle.s10_book.specs.History.{ranges_of};
-ghost use Rattle.s10_book.specs.Issues.{free_pick_of};
+ghost use Rattle.s10_history.specs.History.{ranges_of};
+ghost use Rattle.s10_history.specs.Issues.{free_pick_of};
 ghost use Rattle.s10_book.specs.Rules.{draws_in_a_row as picks_in_a_row};
 ghost use Rattle.s10_book.specs.BookFault.{Counts};
 ghost use Rattle.s10_book.specs.Book.{Keeps};
 
 use crate::book::Book;
 use crate::book_fault::BookFault;
-use crate::holding::Holding;
 use crate::picks::Picks;
-use crate::range::Range;
-use crate::rules::is_free;
 use s10_core::{Country, Id, Service};
+use s10_history::{Holding, Range, is_free};
 use s10_wire::{Count, Ids};
 
 // The identifier that the range gives behind so many picks of its own: none where each of its serials is among them, or

@@ -1,13 +1,13 @@
 //! What every legal history keeps.
 
 ghost use Rattle.std.specs.Prelude.{◌≡◌, ◌≢◌, ℕ, ◌+◌, ◌≤◌, List, [], ◌∷◌, ◌++◌, length, map, take, slice_get, fold, Some, All, AllPairs, Contains, IsTrue};
-ghost use Rattle.s10_book.specs.declared.entry.Entry.{Entry};
-ghost use Rattle.s10_book.specs.Settings.{Terms};
+ghost use Rattle.s10_history.specs.declared.entry.Entry.{Entry};
+ghost use Rattle.s10_history.specs.Settings.{Terms};
 ghost use Rattle.s10_core.specs.declared.id.Id.{Id};
-ghost use Rattle.s10_book.specs.declared.range.Range.{Range};
-ghost use Rattle.s10_book.specs.declared.candidate.Candidate.{Candidate};
-ghost use Rattle.s10_book.specs.History.{day_of, lies_in, ranges_of, range_of_grant, is_closed, overlaps};
-ghost use Rattle.s10_book.specs.Issues.{issues_of, carried_by, is_free, pick_of, serial_behind, serials_behind, pick_behind, id_at, last_issue_of, candidate_after_of};
+ghost use Rattle.s10_history.specs.declared.range.Range.{Range};
+ghost use Rattle.s10_history.specs.declared.candidate.Candidate.{Candidate};
+ghost use Rattle.s10_history.specs.History.{day_of, lies_in, ranges_of, range_of_grant, is_closed, overlaps};
+ghost use Rattle.s10_history.specs.Issues.{issues_of, carried_by, is_free, pick_of, serial_behind, serials_behind, pick_behind, id_at, last_issue_of, candidate_after_of};
 ghost use Rattle.s10_book.specs.Rules.{IsLegal, MayFollow, has_free_pick, grant_answer, draw_answer, draw_done, draw_many_answer, void_answer, query_answer, NothingFree, FewFree};
 ghost use Rattle.s10_book.specs.Promises.{IsSpaced, IsOwn, IsApart, IsInCommon, request_on_day, without_number};
 

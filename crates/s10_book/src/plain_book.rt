@@ -1,30 +1,23 @@
 //! The book in memory.
 
-ghost use Rattle.std.specs.Prelude.{◌≡◌, ◌∷◌, ◌++◌, [], ⊤, OnOk, OnErr, IfOk, IfErr, IfSome, IsTrue, Contains, find, ◌==◌, ◌<◌, ◌≤◌, ◌+◌, vec_len, vec_capacity, length, option_to_list};
+ghost use Rattle.std.specs.Prelude.{◌≡◌, ◌∷◌, ◌++◌, [], ⊤, OnOk, OnErr, IfOk, IfErr, IfSome, IsTrue, Contains, find, ◌==◌, ◌<◌, ◌≤◌, ◌+◌, ◌-◌, ◌^◌, vec_len, vec_capacity, length, option_to_list};
 ghost use Rattle.s10_wire.specs.Kind.{fits};
-ghost use Rattle.s10_book.specs.History.{ranges_of, entry_with_key, entry_at, is_closed, is_open_above, overlaps};
-ghost use Rattle.s10_book.specs.Issues.{issues_of, issues_at, last_issue_of, candidate_of, candidate_after_of, size_of};
-ghost use Rattle.s10_book.specs.Usage.{usage_of};
+ghost use Rattle.s10_history.specs.Settings.{Terms};
+ghost use Rattle.s10_history.specs.History.{ranges_of, range_of_grant, entry_with_key, entry_at, is_closed, is_open_above, overlaps};
+ghost use Rattle.s10_history.specs.Issues.{issues_of, issues_at, last_issue_of, candidate_of, candidate_after_of, size_of};
+ghost use Rattle.s10_history.specs.Usage.{usage_of};
 ghost use Rattle.s10_book.specs.Rules.{IsLegal, MayFollow};
 ghost use Rattle.s10_book.specs.BookFault.{Counts, no_faults};
 
-use crate::block::Block;
 use crate::book::Book;
 use crate::book_fault::BookFault;
-use crate::candidate::Candidate;
-use crate::entry::Entry;
 use crate::faults::Faults;
-use crate::holding::Holding;
-use crate::issuance::Issuance;
-use crate::issue::Issue;
-use crate::lists::{
-    call_at, is_closed_in, kept_call, last_state, next_serial, range_after, range_made,
-    range_numbered, range_over, serial_after, usage_in,
-};
-use crate::range::Range;
-use crate::settings::Settings;
-use crate::usage::Usage;
 use s10_core::Id;
+use s10_history::{
+    Block, Candidate, Entry, Holding, Issuance, Issue, Range, Settings, Usage, call_at,
+    is_closed_in, kept_call, last_state, next_serial, range_after, range_numbered, range_over,
+    usage_in,
+};
 use std::alloc::{AllocError, Global};
 
 /// A book as lists in memory: the calls, and the ranges and issues that they make. It is always honest, and only `keep`
@@ -97,6 +90,35 @@ fn push_issues(list: &mut Vec<Issuance>, arrival: u32, entry: &Entry)
 {
     for place in 0..entry.issued() {
         push_made(list, entry.issue(arrival, place));
+    }
+}
+
+// The range that a call makes behind so many.
+fn range_made(count: usize, entry: &Entry) -> Option<Range>
+    requires { count < 2 ^ 32 - 1 }
+    ensures { result ≡ range_of_grant (count + 1) entry.now.request.body entry.now.outcome }
+{
+    entry.range_made(count as u32 + 1)
+}
+
+// The pick behind so many of the range's own, with its last issue.
+fn serial_after(entries: &[Entry], issues: &[Issuance], range: &Range, issued: u8) -> Candidate
+    requires issued { issues.now ≡ issues_of entries.now }
+    requires legal { (t : Terms) × IsLegal entries.now t }
+    requires there { Contains (ranges_of entries.now) range.now }
+    requires fewer { issued < size_of range.now }
+    ensures { result ≡ candidate_after_of entries.now range.now issued }
+{
+    let pick = next_serial(entries, issues, range);
+    let serial = range.serial_behind(pick.serial, issued);
+    let id = Id {
+        service: range.service,
+        serial,
+        country: range.country,
+    };
+    Candidate {
+        serial,
+        issue: last_state(entries, issues, &id),
     }
 }
 

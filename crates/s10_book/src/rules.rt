@@ -2,31 +2,19 @@
 
 ghost use Rattle.std.specs.Prelude.{ℕ, ◌≡◌, ◌≤◌, ◌+◌, length, IfOk, IsTrue};
 ghost use Rattle.std.specs.List.{list_any};
-ghost use Rattle.std.specs.Option.{option_map};
-ghost use Rattle.s10_book.specs.History.{day_of, ranges_of, is_own};
+ghost use Rattle.s10_history.specs.History.{day_of, ranges_of, is_own};
 ghost use Rattle.s10_book.specs.Rules.{grant_answer, draw_answer, draw_many_answer, void_answer, withdraw_answer, status_of, status_of_issue, query_answer, answer_of, NothingFree, FewFree};
 ghost use Rattle.s10_wire.specs.Kind.{fits};
-ghost use Rattle.s10_book.specs.Issues.{last_issue_of, is_free_since};
+ghost use Rattle.s10_history.specs.Issues.{last_issue_of};
 ghost use Rattle.s10_book.specs.BookFault.{Counts};
 ghost use Rattle.s10_book.specs.Book.{Keeps};
 
-use crate::block::Block;
 use crate::book::Book;
 use crate::book_fault::BookFault;
-use crate::holding::Holding;
 use crate::in_a_row::draws_in_a_row;
-use crate::issue::Issue;
 use s10_core::{Country, Id, Serial, Service};
+use s10_history::{Block, Holding, Issue, is_free};
 use s10_wire::{Body, Count, Outcome, Request, Status};
-
-pub(crate) fn is_free(issue: &Option<Issue>, day: u32, interval: u32) -> bool
-    ensures { result ≡ is_free_since day interval (option_map (λ i. i.day) issue.now) }
-{
-    match issue {
-        None => true,
-        Some(issue) => issue.is_free(day, interval),
-    }
-}
 
 // The outcome of a Draw: the pick of the lowest-numbered open range of the sender whose pick is free.
 fn decide_draw<B: Book>(

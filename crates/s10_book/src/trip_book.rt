@@ -4,17 +4,10 @@ ghost use Rattle.std.specs.Prelude.{◌≡◌, ◌||◌, false};
 ghost use Rattle.std.specs.Bool.{OnTrue};
 ghost use Rattle.s10_book.specs.BookFault.{with_trip};
 
-use crate::block::Block;
 use crate::book::Book;
 use crate::book_fault::BookFault;
-use crate::candidate::Candidate;
-use crate::entry::Entry;
-use crate::holding::Holding;
-use crate::issue::Issue;
-use crate::range::Range;
-use crate::settings::Settings;
-use crate::usage::Usage;
 use s10_core::Id;
+use s10_history::{Block, Candidate, Entry, Holding, Issue, Range, Settings, Usage};
 
 /// A book over a book, to show what a failure does. Of its calls that answer a Result, counted from 0, the one with the
 /// number that it was made with answers Store without asking the inner book, and counts as one fault more. All other

@@ -1,7 +1,8 @@
 //! Calls in rows, and books after them.
 
-use s10_book::{Book, BookFault, Entry, PlainBook, Settings, decide};
+use s10_book::{Book, BookFault, PlainBook, decide};
 use s10_core::{Country, Id, Serial, Service};
+use s10_history::{Entry, Settings};
 use s10_wire::{Body, Count, Ids, Outcome, Request};
 use std::alloc::Global;
 use std::process::Abort;

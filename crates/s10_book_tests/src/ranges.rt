@@ -1,7 +1,7 @@
 //! How many serials a range has, and which it gives in turn.
 
 use crate::books::{gb, ra, serial};
-use s10_book::Range;
+use s10_history::Range;
 use std::test::Fail;
 
 fn range(first: u32, last: u32) -> Result<Range, &'static str> {

@@ -1,5 +1,6 @@
 use crate::books::{Asked, NINE_CALLS, book_after, first_unlike, gb, id, ra, request, serial};
-use s10_book::{Block, Book, Candidate, Entry, Holding, Issuance, Issue, PlainBook, Range, Usage};
+use s10_book::{Book, PlainBook};
+use s10_history::{Block, Candidate, Entry, Holding, Issuance, Issue, Range, Usage};
 use s10_wire::Outcome;
 use std::test::Fail;
 

@@ -1,8 +1,9 @@
 //! Which call of a book that fails once is the one that fails.
 
 use crate::books::{OPENING, answer, empty_book, first_unlike, id};
-use s10_book::{Block, Book, BookFault, Holding, TripBook, decide, draws_in_a_row};
+use s10_book::{Book, BookFault, TripBook, decide, draws_in_a_row};
 use s10_core::Id;
+use s10_history::{Block, Holding};
 use s10_reports::{ReportFault, write_ranges};
 use s10_wire::{Body, Count, Request};
 use std::alloc::Global;

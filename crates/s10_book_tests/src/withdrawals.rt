@@ -3,7 +3,8 @@
 use crate::books::Answered::{Drawn, DrawnMany, Full, Other};
 use crate::books::Asked::{Draw, DrawMany, DrawOfRb, Grant, GrantOfRb, Query, Void, Withdraw};
 use crate::books::{OPENING, Step, book_after, gb, ra, serial};
-use s10_book::{Block, Book, Holding, PlainBook};
+use s10_book::{Book, PlainBook};
+use s10_history::{Block, Holding};
 use s10_wire::{Outcome, Status};
 use std::test::Fail;
 

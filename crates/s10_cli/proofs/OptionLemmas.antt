@@ -11,7 +11,7 @@ use Rattle.clap.specs.Words.{Row, ReadsOne, first_of, first_value, one_of, one_t
 use Rattle.clap.specs.declared.parser.matches.Found.{Found}
 use Rattle.clap.proofs.WalkLemmas.{first_value-rows, one_text-rows}
 use Rattle.s10_wire.specs.Ids.{IsCount}
-use Rattle.s10_book.specs.Settings.{Terms, AreTerms}
+use Rattle.s10_history.specs.Settings.{Terms, AreTerms}
 use Rattle.s10_cli.specs.CommandLine.{RunsLine, word}
 use Rattle.s10_cli.specs.Options.{Finds, HasCount, HasNumber, HasSettings, HasText, HasTries, IsFlag}
 

@@ -7,7 +7,7 @@ use Rattle.clap.specs.declared.error.kind.ErrorKind.TheVariants.{OutOfMemory, Di
 use Rattle.clap.specs.declared.error.Error.{Error}
 use Rattle.clap.specs.declared.parser.matches.ArgMatches.{ArgMatches}
 use Rattle.s10_lines.specs.declared.write_fault.WriteFault.{WriteFault}
-use Rattle.s10_book.specs.Settings.{Terms}
+use Rattle.s10_history.specs.Settings.{Terms}
 use Rattle.s10_jobs.specs.declared.status.Status.{Status}
 use Rattle.s10_jobs.specs.declared.status.Status.TheVariants.{Done, Refused, CommandLine, Failed}
 use Rattle.s10_cli.specs.Grammar.{Parses}

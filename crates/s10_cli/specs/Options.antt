@@ -4,7 +4,7 @@ use Rattle.std.specs.Str.Parse.{IsNumeral, digits_value, without_leading_plus}
 use Rattle.clap.specs.Words.{Row, first_of, one_of, found_of, rows_of}
 use Rattle.clap.specs.declared.parser.matches.ArgMatches.{ArgMatches}
 use Rattle.s10_wire.specs.Ids.{IsCount}
-use Rattle.s10_book.specs.Settings.{Terms, AreTerms}
+use Rattle.s10_history.specs.Settings.{Terms, AreTerms}
 
 -- the rows that were found
 abbrev pub rows_in : ArgMatches → List Row

@@ -3,7 +3,7 @@ ghost use Rattle.std.specs.Prelude.{option_map};
 ghost use Rattle.s10_cli.specs.Options.{rows_in, Finds, HasText, HasNumber, IsFlag, HasSettings, HasCount, HasTries};
 
 use clap::ArgMatches;
-use s10_book::Settings;
+use s10_history::Settings;
 use s10_jobs::Tries;
 use s10_wire::Count;
 

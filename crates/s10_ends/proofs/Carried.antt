@@ -17,12 +17,12 @@ use Rattle.s10_wire.specs.declared.outcome.Outcome.TheVariants.{Drawn, DrawnMany
 use Rattle.s10_wire.specs.Ids.{spellings_of}
 use Rattle.s10_wire.specs.Datagrams.{datagram, outcome_bytes, IsOutcome, Replies}
 use Rattle.s10_wire.proofs.Replied.{one_reply}
-use Rattle.s10_book.specs.declared.entry.Entry.{Entry}
-use Rattle.s10_book.specs.Settings.{Terms}
-use Rattle.s10_book.specs.History.{has_key, entry_with_key}
-use Rattle.s10_book.specs.Issues.{issues_from, issues_of, issues_at, carried_by}
+use Rattle.s10_history.specs.declared.entry.Entry.{Entry}
+use Rattle.s10_history.specs.Settings.{Terms}
+use Rattle.s10_history.specs.History.{has_key, entry_with_key}
+use Rattle.s10_history.specs.Issues.{issues_from, issues_of, issues_at, carried_by}
 use Rattle.s10_book.proofs.Carried.{made_by}
-use Rattle.s10_book.proofs.Ranges.{find_cases}
+use Rattle.s10_history.proofs.Numbering.{find_cases}
 use Rattle.s10_ends.specs.declared.answer.Answer.{Answer}
 use Rattle.s10_ends.specs.declared.answer.Answer.TheVariants.{Reply, Dropped, Faulted}
 use Rattle.s10_ends.specs.Served.{Dated, Gives, IsOwed, IsAnswered, Served}

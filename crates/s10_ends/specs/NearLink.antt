@@ -5,9 +5,9 @@ use Rattle.s10_link.specs.declared.peer.Peer.{Peer}
 use Rattle.s10_link.specs.declared.trace.Trace.{Trace}
 use Rattle.s10_link.specs.declared.link_fault.LinkFault.{LinkFault}
 use Rattle.s10_link.specs.Link.{Received, Sent, Receives, Sends}
-use Rattle.s10_book.specs.declared.entry.Entry.{Entry}
+use Rattle.s10_history.specs.declared.entry.Entry.{Entry}
 use Rattle.s10_book.specs.declared.faults.Faults.{Faults}
-use Rattle.s10_book.specs.Settings.{Terms}
+use Rattle.s10_history.specs.Settings.{Terms}
 use Rattle.s10_ends.specs.declared.answer.Answer.{Answer}
 use Rattle.s10_ends.specs.declared.near_link.NearLink.{NearLink}
 use Rattle.s10_ends.specs.declared.served.Served.{Served}

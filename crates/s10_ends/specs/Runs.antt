@@ -8,11 +8,11 @@ use Rattle.s10_wire.specs.declared.outcome.Outcome.{Outcome}
 use Rattle.s10_wire.specs.declared.kind.Kind.{Kind}
 use Rattle.s10_wire.specs.Kind.{kind_of, request_length}
 use Rattle.s10_wire.specs.Datagrams.{Replies}
-use Rattle.s10_book.specs.declared.entry.Entry.{Entry}
+use Rattle.s10_history.specs.declared.entry.Entry.{Entry}
 use Rattle.s10_book.specs.declared.book_fault.BookFault.TheVariants.{Memory, Store}
 use Rattle.s10_book.specs.declared.faults.Faults.{Faults}
-use Rattle.s10_book.specs.Settings.{Terms}
-use Rattle.s10_book.specs.Issues.{carried_by, issues_of}
+use Rattle.s10_history.specs.Settings.{Terms}
+use Rattle.s10_history.specs.Issues.{carried_by, issues_of}
 use Rattle.s10_book.specs.Rules.{IsLegal}
 use Rattle.s10_book.specs.Promises.{IsSpaced, IsOwn, IsApart}
 use Rattle.s10_ends.specs.declared.answer.Answer.{Answer}

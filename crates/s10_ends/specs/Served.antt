@@ -6,11 +6,11 @@ use Rattle.s10_wire.specs.declared.outcome.Outcome.{Outcome}
 use Rattle.s10_wire.specs.declared.outcome.Outcome.TheVariants.{NumberReused}
 use Rattle.s10_wire.specs.Datagrams.{Asks, Replies}
 use Rattle.s10_wire.specs.WireFault.{IsFirstRefusalOfRequest}
-use Rattle.s10_book.specs.declared.entry.Entry.{Entry}
+use Rattle.s10_history.specs.declared.entry.Entry.{Entry}
 use Rattle.s10_book.specs.declared.book_fault.BookFault.{BookFault}
 use Rattle.s10_book.specs.declared.book_fault.BookFault.TheVariants.{Memory, Store, Full}
-use Rattle.s10_book.specs.Settings.{Terms}
-use Rattle.s10_book.specs.History.{entry_with_key}
+use Rattle.s10_history.specs.Settings.{Terms}
+use Rattle.s10_history.specs.History.{entry_with_key}
 use Rattle.s10_book.specs.Once.{applied_once}
 use Rattle.s10_book.specs.declared.faults.Faults.{Faults}
 use Rattle.s10_book.specs.BookFault.{CountsFault}

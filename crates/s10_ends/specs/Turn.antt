@@ -10,9 +10,9 @@ use Rattle.s10_link.specs.declared.link_fault.LinkFault.TheVariants.{Bind, Recei
 use Rattle.s10_link.specs.Trace.{after_call, after_failure, after_datagram, Gives}
 use Rattle.s10_link.specs.Link.{Sends}
 use Rattle.s10_wire.specs.WireFault.{IsFirstRefusalOfRequest}
-use Rattle.s10_book.specs.declared.entry.Entry.{Entry}
+use Rattle.s10_history.specs.declared.entry.Entry.{Entry}
 use Rattle.s10_book.specs.declared.faults.Faults.{Faults}
-use Rattle.s10_book.specs.Settings.{Terms}
+use Rattle.s10_history.specs.Settings.{Terms}
 use Rattle.s10_ends.specs.declared.answer.Answer.{Answer}
 use Rattle.s10_ends.specs.declared.answer.Answer.TheVariants as answers
 use Rattle.s10_ends.specs.declared.served.Served.{Served}

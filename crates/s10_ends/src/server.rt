@@ -2,14 +2,15 @@
 
 ghost use Rattle.std.specs.Prelude.{◌≡◌, ◌∷◌, [], IfOk, OnErr, IsTrue, Ok, Err};
 ghost use Rattle.s10_wire.specs.Kind.{fits};
-ghost use Rattle.s10_book.specs.History.{entry_with_key};
+ghost use Rattle.s10_history.specs.History.{entry_with_key};
 ghost use Rattle.s10_book.specs.Once.{applied_once};
 ghost use Rattle.s10_ends.specs.Served.{Gives, IsFullFor};
 ghost use Rattle.s10_ends.specs.Respond.{CountsFull};
 
 use crate::answer::Answer;
 use crate::delivery::Delivery;
-use s10_book::{Book, BookFault, Entry, decide};
+use s10_book::{Book, BookFault, decide};
+use s10_history::Entry;
 use s10_wire::{Outcome, Reply, Request, decode_request, encode_reply, same_request};
 use std::alloc::{AllocError, Global};
 

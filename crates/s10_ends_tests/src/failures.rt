@@ -1,7 +1,8 @@
 use crate::scripts::Want::Faulted;
 use crate::scripts::{DRAW, GRANT, Step, bytes_of, is_as_wanted};
-use s10_book::{Book, BookFault, PlainBook, Settings, TripBook};
+use s10_book::{Book, BookFault, PlainBook, TripBook};
 use s10_ends::Server;
+use s10_history::Settings;
 use std::alloc::{AllocError, Global};
 use std::test::Fail;
 

@@ -1,8 +1,9 @@
 //! What several of these tests use: a server over an empty book, a scripted link, and two calls.
 
-use s10_book::{PlainBook, Settings};
+use s10_book::PlainBook;
 use s10_core::{Country, Service};
 use s10_ends::Server;
+use s10_history::Settings;
 use s10_link::{Packet, Peer, Receipt, ScriptLink};
 use s10_wire::Body;
 use std::alloc::{AllocError, Global};

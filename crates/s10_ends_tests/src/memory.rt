@@ -1,6 +1,7 @@
 use crate::fixtures::new_server;
-use s10_book::{Book, BookFault, Entry};
+use s10_book::{Book, BookFault};
 use s10_ends::{Answer, Delivery, Server};
+use s10_history::Entry;
 use s10_link::Packet;
 use std::test::Fail;
 

@@ -20,7 +20,7 @@ use Rattle.sqlite_wal.specs.Files.{image_at}
 use Rattle.sqlite.specs.Files.{file_state, over_files, AreFoundIn}
 use Rattle.sqlite.specs.Closing.{IsCopied}
 use Rattle.s10_book.specs.BookFault.{no_faults}
-use Rattle.s10_book.specs.Settings.{Terms}
+use Rattle.s10_history.specs.Settings.{Terms}
 use Rattle.s10_schema.specs.Schema.{IsClosedSchema}
 use Rattle.s10_ledger.specs.Ledger.{Ledger, IsLedger, IsAnyLedger, IsHonest, history_in}
 use Rattle.s10_statements.specs.Settled.{WasSound}

@@ -9,7 +9,7 @@ use Rattle.s10_link.specs.Trace.{new_trace}
 use Rattle.s10_ends.specs.UdpLink.{BoundLink}
 use Rattle.s10_lines.specs.declared.write_fault.WriteFault.{WriteFault}
 use Rattle.s10_lines.specs.Lines.{line_of}
-use Rattle.s10_book.specs.Settings.{Terms}
+use Rattle.s10_history.specs.Settings.{Terms}
 use Rattle.s10_book.specs.Book.{Keeps}
 use Rattle.s10_ledger.specs.Ledger.{IsHonest, history_in}
 use Rattle.s10_rows.specs.declared.open_fault.OpenFault.{OpenFault}

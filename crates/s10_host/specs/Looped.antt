@@ -13,7 +13,7 @@ use Rattle.s10_link.specs.declared.peer.Peer.{Peer}
 use Rattle.s10_link.specs.declared.trace.Trace.{Trace}
 use Rattle.s10_link.specs.Trace.{new_trace}
 use Rattle.s10_link.specs.Link.{LeadsTo}
-use Rattle.s10_book.specs.Settings.{Terms}
+use Rattle.s10_history.specs.Settings.{Terms}
 use Rattle.s10_ledger.specs.Ledger.{Ledger, IsHonest, history_in, history_of}
 use Rattle.s10_ends.specs.UdpLink.{BoundLink}
 use Rattle.s10_ends.specs.declared.near_link.NearLink.{NearLink}

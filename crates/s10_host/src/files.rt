@@ -6,7 +6,7 @@ ghost use Rattle.s10_host.specs.Files.{IsFoundIn, IsPlain, IsEmptyBook, IsFoundB
 
 use crate::front::{fault_of_front, fault_of_place};
 use crate::onlooker::Onlooker;
-use s10_book::Settings;
+use s10_history::Settings;
 use s10_ledger::{OpenFault, Refused, SqlBook};
 use sqlite::{Connection, Error, ErrorCode, FileFrom, FileStore, Files, Start};
 use std::fs;

@@ -16,8 +16,8 @@ use crate::looped::Looped;
 use crate::onlooker::Onlooker;
 use crate::questioning::run_question;
 use crate::serving::serve_at;
-use s10_book::Settings;
 use s10_ends::{Server, UdpLink};
+use s10_history::Settings;
 use s10_jobs::{
     Job, Report, Status, day_or_today, fail_by_clock, fail_by_ledger, refuse, write_report,
 };

@@ -9,9 +9,9 @@ ghost use Rattle.s10_host.specs.Looped.{ra, gb, first_of_range, granted_range, c
 
 use crate::binding::bind_link;
 use crate::looped::Looped;
-use s10_book::Settings;
 use s10_core::{Country, Id, Serial, Service};
 use s10_ends::{Client, NearLink, Server, UdpLink};
+use s10_history::Settings;
 use s10_jobs::{Status, ask, fail_by_ledger, fail_by_link};
 use s10_ledger::SqlBook;
 use s10_lines::WriteFault;

@@ -1,9 +1,10 @@
 //! The worked ledger of nine calls in tables: its replies and reports, and audits of it.
 
 use crate::refusing::Refusing;
-use s10_book::{Book, PlainBook, Settings};
+use s10_book::{Book, PlainBook};
 use s10_core::{Country, Id, Serial, Service};
 use s10_ends::{Answer, Delivery, Server};
+use s10_history::Settings;
 use s10_host::run_audit;
 use s10_jobs::{Status, write_answer};
 use s10_ledger::{OpenFault, SqlBook, Unwatched};

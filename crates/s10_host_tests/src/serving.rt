@@ -1,7 +1,8 @@
 //! Servers at addresses of this machine.
 
-use s10_book::{PlainBook, Settings};
+use s10_book::PlainBook;
 use s10_ends::{Server, UdpLink};
+use s10_history::Settings;
 use s10_host::serve_at;
 use s10_jobs::Status;
 use s10_link::Peer;

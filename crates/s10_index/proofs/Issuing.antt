@@ -15,14 +15,14 @@ use Rattle.s10_wire.specs.declared.body.Body.{Body}
 use Rattle.s10_wire.specs.declared.body.Body.TheVariants.{Void}
 use Rattle.s10_wire.specs.declared.outcome.Outcome.{Outcome}
 use Rattle.s10_wire.specs.declared.outcome.Outcome.TheVariants.{Voided}
-use Rattle.s10_book.specs.declared.entry.Entry.{Entry}
-use Rattle.s10_book.specs.declared.issue.Issue.{Issue}
-use Rattle.s10_book.specs.declared.issuance.Issuance.{Issuance}
-use Rattle.s10_book.specs.Settings.{Terms}
+use Rattle.s10_history.specs.declared.entry.Entry.{Entry}
+use Rattle.s10_history.specs.declared.issue.Issue.{Issue}
+use Rattle.s10_history.specs.declared.issuance.Issuance.{Issuance}
+use Rattle.s10_history.specs.Settings.{Terms}
 use Rattle.s10_book.specs.Rules.{IsLegal}
-use Rattle.s10_book.specs.Issues.{issues_of, issues_at, is_of, carried_by, voids, voids_by, voided_after, last_issuance_of, last_issue_of}
-use Rattle.s10_book.proofs.Push.{issues_from-push}
-use Rattle.s10_book.proofs.Issued.{last_issuance_of-push}
+use Rattle.s10_history.specs.Issues.{issues_of, issues_at, is_of, carried_by, voids, voids_by, voided_after, last_issuance_of, last_issue_of}
+use Rattle.s10_history.proofs.Push.{issues_from-push}
+use Rattle.s10_history.proofs.Issued.{last_issuance_of-push}
 use Rattle.s10_book.proofs.Own.{IsOwned, owned}
 use Rattle.s10_book.proofs.Carried.{made_by}
 use Rattle.s10_book.proofs.Free.{id_equal}

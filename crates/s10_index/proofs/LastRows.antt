@@ -6,12 +6,12 @@ use Rattle.std.specs.Option.{option_map, unwrap_or}
 use Rattle.std.proofs.lemmas.Option.{none-some, same_Some, slice_get_within, get_or_from_slice_get}
 use Rattle.std.proofs.lemmas.List.{drop_all, take-append-drop}
 use Rattle.s10_core.specs.declared.id.Id.{Id}
-use Rattle.s10_book.specs.declared.entry.Entry.{Entry}
-use Rattle.s10_book.specs.declared.issue.Issue.{Issue}
-use Rattle.s10_book.specs.declared.issuance.Issuance.{Issuance}
-use Rattle.s10_book.specs.Settings.{Terms}
+use Rattle.s10_history.specs.declared.entry.Entry.{Entry}
+use Rattle.s10_history.specs.declared.issue.Issue.{Issue}
+use Rattle.s10_history.specs.declared.issuance.Issuance.{Issuance}
+use Rattle.s10_history.specs.Settings.{Terms}
 use Rattle.s10_book.specs.Rules.{IsLegal}
-use Rattle.s10_book.specs.Issues.{issues_at, issues_from, issues_of, is_of, is_issued, voided_after, last_issues, last_issuance_of, last_issue_of}
+use Rattle.s10_history.specs.Issues.{issues_at, issues_from, issues_of, is_of, is_issued, voided_after, last_issues, last_issuance_of, last_issue_of}
 use Rattle.s10_book.proofs.Free.{issued_latest}
 use Rattle.s10_book.proofs.Spaced.{id_same, sound}
 use Rattle.s10_rows.specs.declared.serial_row.SerialRow.{SerialRow}

@@ -1,8 +1,8 @@
 -- What room for one more leaves as it was.
 use Rattle.std.proofs.Common.{◌∙◌, ℕ, List}
 use Rattle.std.specs.HashMap.{HashMap, IsReordered}
-use Rattle.s10_book.specs.declared.entry.Entry.{Entry}
-use Rattle.s10_book.specs.declared.issue.Issue.{Issue}
+use Rattle.s10_history.specs.declared.entry.Entry.{Entry}
+use Rattle.s10_history.specs.declared.issue.Issue.{Issue}
 use Rattle.s10_index.specs.Keys.{same_key, id_key}
 use Rattle.s10_index.specs.Places.{HasPlaces}
 use Rattle.s10_index.specs.LastIssues.{HasIssues}

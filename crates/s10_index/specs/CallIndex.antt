@@ -1,8 +1,8 @@
 -- What an index of calls holds.
 use Rattle.std.specs.Prelude.{◌≡◌, ◌≤◌, ◌<◌, List, length, vec_len, vec_capacity}
 use Rattle.std.specs.HashMap.{spare}
-use Rattle.s10_book.specs.declared.entry.Entry.{Entry}
-use Rattle.s10_book.specs.Issues.{carried_by}
+use Rattle.s10_history.specs.declared.entry.Entry.{Entry}
+use Rattle.s10_history.specs.Issues.{carried_by}
 use Rattle.s10_ranges.specs.Mirror.{Mirrors}
 use Rattle.s10_ranges.specs.Room.{HasRoom}
 use Rattle.s10_index.specs.declared.call_index.CallIndex.{CallIndex}

@@ -2,8 +2,8 @@
 use Rattle.std.specs.Prelude.{◌≡◌, ℕ, List}
 use Rattle.std.specs.List.{position_from}
 use Rattle.std.specs.HashMap.{HashMap, get}
-use Rattle.s10_book.specs.declared.entry.Entry.{Entry}
-use Rattle.s10_book.specs.History.{has_key}
+use Rattle.s10_history.specs.declared.entry.Entry.{Entry}
+use Rattle.s10_history.specs.History.{has_key}
 use Rattle.s10_index.specs.Keys.{same_key}
 
 -- at each key the map has the place of the call with that key, if there is one; the first call has place 0

@@ -2,16 +2,16 @@
 
 ghost use Rattle.std.specs.Prelude.{◌≡◌, ◌∷◌, ◌++◌, [], ◌<◌, OnOk, IfSome, IsTrue, All, Contains, List, length, vec_len, vec_capacity};
 ghost use Rattle.s10_wire.specs.Kind.{fits};
-ghost use Rattle.s10_book.specs.declared.entry.Entry.{Entry};
-ghost use Rattle.s10_book.specs.Settings.{Terms};
-ghost use Rattle.s10_book.specs.History.{day_of, ranges_of, entry_with_key, entry_at};
-ghost use Rattle.s10_book.specs.Issues.{issues_of, last_issue_of, candidate_after_of, size_of, pick_of};
+ghost use Rattle.s10_history.specs.declared.entry.Entry.{Entry};
+ghost use Rattle.s10_history.specs.Settings.{Terms};
+ghost use Rattle.s10_history.specs.History.{day_of, ranges_of, entry_with_key, entry_at};
+ghost use Rattle.s10_history.specs.Issues.{issues_of, last_issue_of, candidate_after_of, size_of, pick_of};
 ghost use Rattle.s10_book.specs.Rules.{IsLegal, MayFollow};
 
 use crate::last_issues::{note_call, noted_issue};
 use crate::places::{kept_call, note_place};
-use s10_book::{Candidate, Entry, Issue, Range};
 use s10_core::{Id, Serial};
+use s10_history::{Candidate, Entry, Issue, Range};
 use s10_ranges::Ranges;
 use std::alloc::{AllocError, Global};
 use std::collections::HashMap;

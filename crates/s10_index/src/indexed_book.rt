@@ -2,19 +2,18 @@
 
 ghost use Rattle.std.specs.Prelude.{◌≡◌, ◌∷◌, ◌++◌, [], ⊤, OnOk, OnErr, IfOk, IfErr, IfSome, IsTrue, Contains, find, ◌==◌, ◌<◌, ◌≤◌, length, count_by};
 ghost use Rattle.s10_wire.specs.Kind.{fits};
-ghost use Rattle.s10_book.specs.History.{ranges_of, entry_with_key, entry_at, is_closed, is_open_above, overlaps};
-ghost use Rattle.s10_book.specs.Issues.{issues_of, last_issue_of, candidate_of, candidate_after_of, size_of, pick_of, is_issued, is_voided as is_voided_in, is_free as is_free_on, id_at, serials};
-ghost use Rattle.s10_book.specs.Usage.{usage_of};
+ghost use Rattle.s10_history.specs.History.{ranges_of, entry_with_key, entry_at, is_closed, is_open_above, overlaps};
+ghost use Rattle.s10_history.specs.Issues.{issues_of, last_issue_of, candidate_of, candidate_after_of, size_of, pick_of, is_issued, is_voided as is_voided_in, is_free as is_free_on, id_at, serials};
+ghost use Rattle.s10_history.specs.Usage.{usage_of};
 ghost use Rattle.s10_book.specs.Rules.{IsLegal, MayFollow};
 ghost use Rattle.s10_book.specs.BookFault.{Counts, no_faults};
 ghost use Rattle.s10_index.specs.CallIndex.{Indexes};
 
 use crate::call_index::CallIndex;
 use crate::tally::{count_if, id_with, is_free, is_voided};
-use s10_book::{
-    Block, Book, BookFault, Candidate, Entry, Faults, Holding, Issue, Range, Settings, Usage,
-};
+use s10_book::{Book, BookFault, Faults};
 use s10_core::Id;
+use s10_history::{Block, Candidate, Entry, Holding, Issue, Range, Settings, Usage};
 use std::alloc::{AllocError, Global};
 
 /// A book in memory over an index of its calls. It is always honest, and only `keep` can be refused, by Memory. Of its calls

@@ -3,16 +3,16 @@
 ghost use Rattle.std.specs.Prelude.{◌≡◌, ◌<◌, ◌≤◌, ◌+◌, ◌++◌, ◌∷◌, [], List, length, false};
 ghost use Rattle.std.specs.HashMap.{get, spare};
 ghost use Rattle.s10_core.specs.Id.{IsId};
-ghost use Rattle.s10_book.specs.declared.entry.Entry.{Entry};
-ghost use Rattle.s10_book.specs.Settings.{Terms};
-ghost use Rattle.s10_book.specs.Issues.{issues_of, carried_by};
+ghost use Rattle.s10_history.specs.declared.entry.Entry.{Entry};
+ghost use Rattle.s10_history.specs.Settings.{Terms};
+ghost use Rattle.s10_history.specs.Issues.{issues_of, carried_by};
 ghost use Rattle.s10_book.specs.Rules.{IsLegal};
 ghost use Rattle.s10_index.specs.Keys.{same_key, id_key};
 ghost use Rattle.s10_index.specs.LastIssues.{HasIssues, HasLast, Notes, Voids, as_issue};
 
 use crate::id_key::key_of;
-use s10_book::{Entry, Issuance, Issue};
 use s10_core::Id;
+use s10_history::{Entry, Issuance, Issue};
 use s10_wire::{Body, Outcome};
 use std::collections::HashMap;
 

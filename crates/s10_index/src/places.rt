@@ -2,11 +2,11 @@
 
 ghost use Rattle.std.specs.Prelude.{◌≡◌, ◌<◌, ◌++◌, ◌∷◌, [], List, None, IfSome, Contains, length};
 ghost use Rattle.std.specs.HashMap.{spare};
-ghost use Rattle.s10_book.specs.declared.entry.Entry.{Entry};
-ghost use Rattle.s10_book.specs.History.{entry_with_key};
+ghost use Rattle.s10_history.specs.declared.entry.Entry.{Entry};
+ghost use Rattle.s10_history.specs.History.{entry_with_key};
 ghost use Rattle.s10_index.specs.Places.{HasPlaces};
 
-use s10_book::Entry;
+use s10_history::Entry;
 use std::collections::HashMap;
 
 pub(crate) fn kept_call(

@@ -1,10 +1,10 @@
 //! The rows of a ledger's tables that the history of a book makes.
 
 ghost use Rattle.std.specs.Prelude.{◌≡◌, ◌++◌, ◌∷◌, ◌+◌, ◌<◌, ◌≤◌, List, IfOk, OnOk, Some, drop, slice_get, option_to_list};
-ghost use Rattle.s10_book.specs.declared.entry.Entry.{Entry};
-ghost use Rattle.s10_book.specs.declared.issuance.Issuance.{Issuance};
-ghost use Rattle.s10_book.specs.Settings.{Terms};
-ghost use Rattle.s10_book.specs.Issues.{issues_of};
+ghost use Rattle.s10_history.specs.declared.entry.Entry.{Entry};
+ghost use Rattle.s10_history.specs.declared.issuance.Issuance.{Issuance};
+ghost use Rattle.s10_history.specs.Settings.{Terms};
+ghost use Rattle.s10_history.specs.Issues.{issues_of};
 ghost use Rattle.s10_book.specs.Rules.{IsLegal};
 ghost use Rattle.s10_rows.specs.Tables.{closing, closed_rows, closed_rows_from, range_rows, serial_rows};
 ghost use Rattle.s10_index.specs.LastIssues.{HasIssues};
@@ -12,7 +12,8 @@ ghost use Rattle.s10_index.specs.RowsBehind.{last_rows, rows_behind};
 
 use crate::indexed_book::IndexedBook;
 use crate::last_issues::noted_issue;
-use s10_book::{Book, Entry, Issuance, Issue};
+use s10_book::Book;
+use s10_history::{Entry, Issuance, Issue};
 use s10_rows::{ClosedRow, RangeRow, SerialRow};
 use std::alloc::{AllocError, Global};
 use std::collections::HashMap;

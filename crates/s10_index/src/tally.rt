@@ -2,10 +2,10 @@
 
 ghost use Rattle.std.specs.Prelude.{◌≡◌, ◌+◌, ◌<◌, ◌≤◌, if◌then◌else◌, false};
 ghost use Rattle.std.specs.Option.{option_map, unwrap_or};
-ghost use Rattle.s10_book.specs.Issues.{id_at, is_free_since};
+ghost use Rattle.s10_history.specs.Issues.{id_at, is_free_since};
 
-use s10_book::{Issue, Range};
 use s10_core::{Id, Serial};
+use s10_history::{Issue, Range};
 
 // The identifier of the range with that serial.
 pub(crate) fn id_with(range: &Range, serial: u32) -> Id

@@ -1,6 +1,7 @@
 //! Books, and what they answer.
 
-use s10_book::{Book, BookFault, Entry, PlainBook, Settings, decide};
+use s10_book::{Book, BookFault, PlainBook, decide};
+use s10_history::{Entry, Settings};
 use s10_index::IndexedBook;
 use s10_reports::{write_issues, write_ranges};
 use s10_wire::{Outcome, Request};

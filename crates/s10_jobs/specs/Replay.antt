@@ -1,8 +1,8 @@
 -- What a replay writes.
 use Rattle.std.specs.Prelude.{◌≡◌, ℕ, ◌-◌, ◌≤◌, List, [], ◌++◌, length, take, drop, Option, Some, None, Result, Ok, Err, IfOk, ⊤}
 use Rattle.std.specs.Io.KnownBytes.{Appends}
-use Rattle.s10_book.specs.declared.entry.Entry.{Entry}
-use Rattle.s10_book.specs.Settings.{Terms}
+use Rattle.s10_history.specs.declared.entry.Entry.{Entry}
+use Rattle.s10_history.specs.Settings.{Terms}
 use Rattle.s10_lines.specs.declared.write_fault.WriteFault.{WriteFault}
 use Rattle.s10_ends.specs.declared.answer.Answer.{Answer}
 use Rattle.s10_ends.specs.Served.{Served}

@@ -5,9 +5,9 @@ use Rattle.std.specs.Io.KnownBytes.{Appends}
 use Rattle.s10_link.specs.declared.trace.Trace.{Trace}
 use Rattle.s10_link.specs.declared.link_fault.LinkFault.{LinkFault}
 use Rattle.s10_lines.specs.declared.write_fault.WriteFault.{WriteFault}
-use Rattle.s10_book.specs.declared.entry.Entry.{Entry}
+use Rattle.s10_history.specs.declared.entry.Entry.{Entry}
 use Rattle.s10_book.specs.declared.faults.Faults.{Faults}
-use Rattle.s10_book.specs.Settings.{Terms}
+use Rattle.s10_history.specs.Settings.{Terms}
 use Rattle.s10_ends.specs.declared.served.Served.{Served}
 use Rattle.s10_ends.specs.Turn.{Handles, ServesOne}
 use Rattle.s10_jobs.specs.declared.status.Status.{Status}

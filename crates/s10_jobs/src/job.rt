@@ -1,6 +1,6 @@
 //! What a command line asks of the program itself.
 use crate::question::Question;
-use s10_book::Settings;
+use s10_history::Settings;
 
 /// A subcommand that needs files, sockets or the clock. Texts are as they were given. Where no day
 /// is given it is the clock's.

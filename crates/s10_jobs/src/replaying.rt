@@ -1,6 +1,6 @@
 //! A replay: datagrams from the lines of an input, answers as lines of output.
 ghost use Rattle.std.specs.Prelude.{[], ℕ, List, Option, Result, IfSome};
-ghost use Rattle.s10_book.specs.declared.entry.Entry.{Entry};
+ghost use Rattle.s10_history.specs.declared.entry.Entry.{Entry};
 ghost use Rattle.s10_ends.specs.Server.{book_of};
 ghost use Rattle.s10_jobs.specs.Replay.{Replayed, TellsReplay};
 ghost use Rattle.s10_jobs.specs.declared.replay_fault.ReplayFault.{ReplayFault};
@@ -10,8 +10,9 @@ use crate::delivery_line::{read_delivery, without_return};
 use crate::line_reader::{LINE_ROOM, NextLine, next_byte, read_line};
 use crate::replay_fault::{ReplayFault, write_replay_fault};
 use crate::status::Status;
-use s10_book::{Book, Settings};
+use s10_book::Book;
 use s10_ends::Server;
+use s10_history::Settings;
 use s10_index::IndexedBook;
 use s10_lines::WriteFault;
 use std::alloc::Global;

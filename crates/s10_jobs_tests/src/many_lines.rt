@@ -1,7 +1,8 @@
 //! A replay of as many lines as an input may have, and of more.
 
-use s10_book::{PlainBook, Settings};
+use s10_book::PlainBook;
 use s10_ends::Server;
+use s10_history::Settings;
 use s10_jobs::{ReplayFault, replay_on};
 use std::alloc::Global;
 use std::io;

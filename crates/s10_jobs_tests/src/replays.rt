@@ -1,6 +1,6 @@
 //! Replays of inputs over a new ledger.
 
-use s10_book::Settings;
+use s10_history::Settings;
 use s10_jobs::{ReplayFault, Status, replay, run_replay};
 use std::alloc::{AllocError, Global};
 use std::io;

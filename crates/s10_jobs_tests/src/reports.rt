@@ -1,8 +1,9 @@
 //! Reports, and the lines of those that end early.
 
 use crate::refusing::Refusing;
-use s10_book::{Book, PlainBook, Settings, TripBook};
+use s10_book::{Book, PlainBook, TripBook};
 use s10_ends::Server;
+use s10_history::Settings;
 use s10_jobs::{Report, Status, write_report};
 use s10_lines::WriteFault;
 use std::alloc::Global;

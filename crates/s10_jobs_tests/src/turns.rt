@@ -1,8 +1,9 @@
 //! The turns of a server.
 
 use crate::hiccup::Hiccup;
-use s10_book::{Book, PlainBook, Settings};
+use s10_book::{Book, PlainBook};
 use s10_ends::Server;
+use s10_history::Settings;
 use s10_jobs::{Status, day_or_today, serve_turns, today};
 use s10_lines::WriteFault;
 use s10_link::{Packet, Peer, Receipt, ScriptLink};

@@ -5,8 +5,8 @@ use Rattle.std.proofs.Math.Bool.{or-true}
 use Rattle.std.proofs.lemmas.Bool.{or_parts}
 use Rattle.std.proofs.lemmas.Option.{none-some}
 use Rattle.s10_core.specs.declared.id.Id.{Id}
-use Rattle.s10_book.specs.declared.issuance.Issuance.{Issuance}
-use Rattle.s10_book.specs.Issues.{is_of, is_issued}
+use Rattle.s10_history.specs.declared.issuance.Issuance.{Issuance}
+use Rattle.s10_history.specs.Issues.{is_of, is_issued}
 
 pub issued_before : (is : List Issuance) (place k : ℕ) (i : Issuance) (x : Id) → slice_get is k ≡ Some i → k < place → is_of x i ≡ true → is_issued (take place is) x ≡ true
 issued_before [] place k i x there before same = absurd (none-some i there)

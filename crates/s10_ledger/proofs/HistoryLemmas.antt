@@ -4,8 +4,8 @@ use Rattle.std.proofs.Math.Logic.{∥∥₁_map}
 use Rattle.std.specs.List.Sorted.{IsPermutation}
 use Rattle.std.proofs.lemmas.List.Sorted.{IsPermutation-map}
 use Rattle.sqlite.specs.Effect.{Database}
-use Rattle.s10_book.specs.declared.entry.Entry.{Entry}
-use Rattle.s10_book.specs.Settings.{Terms}
+use Rattle.s10_history.specs.declared.entry.Entry.{Entry}
+use Rattle.s10_history.specs.Settings.{Terms}
 use Rattle.s10_rows.specs.CallRow.{StoredCall}
 use Rattle.s10_rows.specs.RightRows.{entry_of}
 use Rattle.s10_rows.specs.Tables.{HaveSameRows, call_row, call_rows, call_rows_from}

@@ -6,17 +6,17 @@ use Rattle.std.proofs.lemmas.Option.{none-some}
 use Rattle.std.proofs.lemmas.List.Folds.{list_any-append}
 use Rattle.std.proofs.lemmas.List.Elements.{All-contains}
 use Rattle.s10_core.specs.declared.id.Id.{Id}
-use Rattle.s10_book.specs.declared.entry.Entry.{Entry}
-use Rattle.s10_book.specs.declared.range.Range.{Range}
-use Rattle.s10_book.specs.declared.issuance.Issuance.{Issuance}
-use Rattle.s10_book.specs.Settings.{Terms}
-use Rattle.s10_book.specs.History.{ranges_of, lies_in, overlaps}
-use Rattle.s10_book.specs.Issues.{issues_at, issues_of, id_at, is_of, is_issued, pick_of}
+use Rattle.s10_history.specs.declared.entry.Entry.{Entry}
+use Rattle.s10_history.specs.declared.range.Range.{Range}
+use Rattle.s10_history.specs.declared.issuance.Issuance.{Issuance}
+use Rattle.s10_history.specs.Settings.{Terms}
+use Rattle.s10_history.specs.History.{ranges_of, lies_in, overlaps}
+use Rattle.s10_history.specs.Issues.{issues_at, issues_of, id_at, is_of, is_issued, pick_of}
 use Rattle.s10_book.specs.Rules.{IsLegal, MayFollow}
 use Rattle.s10_book.proofs.Apart.{apart}
 use Rattle.s10_book.proofs.Marks.{one_range}
 use Rattle.s10_book.proofs.Own.{lies_picked, ordered}
-use Rattle.s10_book.proofs.Ranges.{Contains-find, found_passes}
+use Rattle.s10_history.proofs.Numbering.{Contains-find, found_passes}
 use Rattle.s10_ranges.specs.declared.turn.Turn.TheVariants.{First, Later}
 use Rattle.s10_ranges.specs.Turns.{turn_of}
 use Rattle.s10_ranges.proofs.Turning.{pick_unissued}

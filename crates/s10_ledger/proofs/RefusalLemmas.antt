@@ -16,8 +16,8 @@ use Rattle.sqlite_trees.specs.Tree.{IsAscending}
 use Rattle.sqlite_keyed.proofs.SortLemmas.{sorted_unique}
 use Rattle.sqlite.specs.Effect.{Database}
 use Rattle.s10_wire.specs.Datagrams.{Replies}
-use Rattle.s10_book.specs.declared.entry.Entry.{Entry}
-use Rattle.s10_book.specs.Settings.{Terms, AreTerms}
+use Rattle.s10_history.specs.declared.entry.Entry.{Entry}
+use Rattle.s10_history.specs.Settings.{Terms, AreTerms}
 use Rattle.s10_book.specs.Rules.{IsLegal, MayFollow}
 use Rattle.s10_book.proofs.Legal.{MayFollow-at}
 use Rattle.s10_rows.specs.declared.head_row.HeadRow.{HeadRow}

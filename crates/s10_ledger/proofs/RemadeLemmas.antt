@@ -1,7 +1,7 @@
 -- What a book in memory of the same calls tells of the rows.
 use Rattle.std.proofs.Common.{◌≡◌, Bool, IsTrue, List, subst}
 use Rattle.std.specs.Prelude.{◌↔◌}
-use Rattle.s10_book.specs.declared.entry.Entry.{Entry}
+use Rattle.s10_history.specs.declared.entry.Entry.{Entry}
 use Rattle.s10_rows.specs.Tables.{HaveSameRows}
 
 -- what is told of the kept calls is so of the calls of the rows

@@ -3,7 +3,7 @@ use Rattle.std.proofs.Common.{◌≡◌, List, [], ◌∷◌}
 use Rattle.std.specs.Ordering.{int_cmp}
 use Rattle.std.specs.declared.cmp.Ordering.TheVariants.{Less}
 use Rattle.sqlite_trees.specs.Tree.{IsAscending}
-use Rattle.s10_book.specs.declared.entry.Entry.{Entry}
+use Rattle.s10_history.specs.declared.entry.Entry.{Entry}
 use Rattle.s10_rows.specs.Ascending as rows
 use Rattle.s10_rows.specs.CallRow.{StoredCall}
 use Rattle.s10_rows.specs.Tables.{call_rows}

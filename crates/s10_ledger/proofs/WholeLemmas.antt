@@ -6,9 +6,9 @@ use Rattle.std.proofs.lemmas.List.{take_more, take_all, map-append, length-map}
 use Rattle.std.proofs.lemmas.List.Sorted.{IsPermutation-map, IsPermutation-trans}
 use Rattle.sqlite_value.specs.Order.{Row}
 use Rattle.sqlite.specs.Effect.{Database}
-use Rattle.s10_book.specs.declared.entry.Entry.{Entry}
-use Rattle.s10_book.specs.Settings.{Terms}
-use Rattle.s10_book.specs.History.{day_of}
+use Rattle.s10_history.specs.declared.entry.Entry.{Entry}
+use Rattle.s10_history.specs.Settings.{Terms}
+use Rattle.s10_history.specs.History.{day_of}
 use Rattle.s10_book.specs.Rules.{IsLegal}
 use Rattle.s10_book.proofs.Push.{IsLegal-push, IsLegal-nil}
 use Rattle.s10_rows.specs.declared.open_fault.OpenFault.{OpenFault}

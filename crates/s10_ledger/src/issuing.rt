@@ -2,11 +2,11 @@
 
 ghost use Rattle.std.specs.Prelude.{◌≡◌, ◌≢◌, ℕ, ◌+◌, ◌++◌, ◌∷◌, [], false, List, length, take, slice_get, All, Err, Some, IfOk, IfErr, IsOk};
 ghost use Rattle.s10_wire.specs.declared.outcome.Outcome.TheVariants.{Granted, Voided};
-ghost use Rattle.s10_book.specs.declared.entry.Entry.{Entry};
+ghost use Rattle.s10_history.specs.declared.entry.Entry.{Entry};
 ghost use Rattle.s10_book.specs.declared.book_fault.BookFault.TheVariants.{Full};
-ghost use Rattle.s10_book.specs.Settings.{Terms};
+ghost use Rattle.s10_history.specs.Settings.{Terms};
 ghost use Rattle.s10_book.specs.Rules.{IsLegal, MayFollow};
-ghost use Rattle.s10_book.specs.Issues.{id_at, is_issued, issues_at};
+ghost use Rattle.s10_history.specs.Issues.{id_at, is_issued, issues_at};
 ghost use Rattle.s10_ranges.specs.Mirror.{Mirrors};
 ghost use Rattle.s10_rows.specs.declared.range_write.RangeWrite.{RangeWrite};
 ghost use Rattle.s10_rows.specs.declared.serial_write.SerialWrite.{SerialWrite};
@@ -14,8 +14,9 @@ ghost use Rattle.s10_rows.specs.Selected.{IsCall};
 ghost use Rattle.s10_rows.specs.Kept.{IssuesMake, Makes};
 
 use crate::made::Made;
-use s10_book::{BookFault, Entry, Issuance, Range};
+use s10_book::BookFault;
 use s10_core::Id;
+use s10_history::{Entry, Issuance, Range};
 use s10_ranges::{Ranges, Turn};
 use s10_rows::{Issued, RangeWrite, SerialWrite, issue_rows};
 use std::alloc::Global;

@@ -3,18 +3,19 @@
 ghost use Rattle.std.specs.Prelude.{◌≡◌, ◌≢◌, ℕ, ◌<◌, ◌^◌, max, List, length, All, Contains, Err, IfOk, IsTrue, OnOk};
 ghost use Rattle.sqlite.specs.Held.{state};
 ghost use Rattle.sqlite.specs.State.{HasCleanDisk};
-ghost use Rattle.s10_book.specs.declared.entry.Entry.{Entry};
+ghost use Rattle.s10_history.specs.declared.entry.Entry.{Entry};
 ghost use Rattle.s10_book.specs.declared.book_fault.BookFault.TheVariants.{Full};
-ghost use Rattle.s10_book.specs.Settings.{Terms};
-ghost use Rattle.s10_book.specs.History.{day_of, ranges_of};
-ghost use Rattle.s10_book.specs.Usage.{usage_of};
+ghost use Rattle.s10_history.specs.Settings.{Terms};
+ghost use Rattle.s10_history.specs.History.{day_of, ranges_of};
+ghost use Rattle.s10_history.specs.Usage.{usage_of};
 ghost use Rattle.s10_book.specs.Rules.{IsLegal};
 ghost use Rattle.s10_statements.specs.Shown.{StandsFor};
 ghost use Rattle.s10_rows.specs.Selected.{IsCall};
 ghost use Rattle.s10_statements.specs.Statements.{Leaves};
 
 use crate::faults::fault_of;
-use s10_book::{BookFault, Range, Usage};
+use s10_book::BookFault;
+use s10_history::{Range, Usage};
 use s10_rows::{pair_number, usage_among};
 use s10_statements::{all_heads, serials_within};
 use sqlite::{Alter, Connection};

@@ -1,7 +1,7 @@
 //! The ledger that a connection holds is opened.
 
 ghost use Rattle.std.specs.Prelude.{◌≡◌, ◌≤◌, ◌⊎◌, length, IfOk, IfErr, OnOk, OnErr, IsTrue};
-ghost use Rattle.s10_book.specs.History.{day_of};
+ghost use Rattle.s10_history.specs.History.{day_of};
 ghost use Rattle.sqlite.specs.Held.{state};
 ghost use Rattle.sqlite.specs.State.{HasCleanDisk};
 ghost use Rattle.s10_rows.specs.Tables.{Tables};
@@ -113,7 +113,7 @@ impl<S: Alter> SqlBook<S> {
     ghost use Rattle.std.specs.Prelude.{◌≡◌, ◌⊎◌, ℕ, IfOk, IfErr, IsTrue, false};
     ghost use Rattle.sqlite.specs.Held.{state};
     ghost use Rattle.sqlite.specs.State.{HasCleanDisk};
-    ghost use Rattle.s10_book.specs.Settings.{Terms, AreTerms};
+    ghost use Rattle.s10_history.specs.Settings.{Terms, AreTerms};
     ghost use Rattle.s10_book.specs.BookFault.{no_faults};
     ghost use Rattle.s10_statements.specs.Settled.{WasSound};
     ghost use Rattle.s10_schema.specs.Schema.{IsClosedSchema};

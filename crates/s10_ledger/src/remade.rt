@@ -5,7 +5,8 @@ ghost use Rattle.s10_rows.specs.Tables.{Tables};
 ghost use Rattle.s10_rows.specs.RightRows.{AreRight, kept_of};
 ghost use Rattle.s10_rows.specs.Verdict.{IsHead, IsRefusal};
 
-use s10_book::{Book, Settings};
+use s10_book::Book;
+use s10_history::Settings;
 use s10_index::IndexedBook;
 use s10_rows::{CallRow, HeadRow, OpenFault, Opened, replay_rows, settings_in};
 use std::alloc::Global;

@@ -10,10 +10,9 @@ use crate::faults::opening_fault;
 use crate::keeping::keep_followed;
 use crate::lookups::{ask, usage_in};
 use crate::refused::Refused;
-use s10_book::{
-    Block, Book, BookFault, Candidate, Entry, Faults, Holding, Issue, Range, Settings, Usage,
-};
+use s10_book::{Book, BookFault, Faults};
 use s10_core::Id;
+use s10_history::{Block, Candidate, Entry, Holding, Issue, Range, Settings, Usage};
 use s10_index::CallIndex;
 use s10_rows::OpenFault;
 use s10_statements::{Unwatched, Watch, make_ledger, refusal_of};
@@ -35,7 +34,7 @@ pub struct SqlBook<S: Alter> {
 
 impl<S: Alter> Model for SqlBook<S> {
     ghost use Rattle.std.specs.Prelude.{IsTrue, ◌≤◌, length};
-    ghost use Rattle.s10_book.specs.History.{day_of};
+    ghost use Rattle.s10_history.specs.History.{day_of};
     ghost use Rattle.sqlite.specs.Held.{state};
     ghost use Rattle.sqlite.specs.State.{HasCleanDisk};
     ghost use Rattle.s10_statements.specs.Settled.{IsSettled, IsOpenIf};
@@ -52,7 +51,7 @@ impl<S: Alter> Model for SqlBook<S> {
 
 impl<S: Alter> SqlBook<S> {
     ghost use Rattle.std.specs.Prelude.{◌≡◌, ◌≤◌, IfOk, IfErr, IsTrue, [], length, false};
-    ghost use Rattle.s10_book.specs.History.{day_of};
+    ghost use Rattle.s10_history.specs.History.{day_of};
     ghost use Rattle.sqlite.specs.Held.{state};
     ghost use Rattle.sqlite.specs.State.{HasCleanDisk};
     ghost use Rattle.s10_ledger.specs.Ledger.{Ledger, IsLedger, IsIndexed, IsHonest, history_in};
@@ -229,9 +228,9 @@ impl<S: Alter> Book for SqlBook<S> {
     ghost use Rattle.std.specs.Prelude.{◌⊎◌, ◌++◌, ◌∷◌, [], ◌<◌, ◌==◌, find, IfOk, IfSome, IsTrue, OnErr, OnOk, Contains};
     ghost use Rattle.sqlite.specs.State.{HasCleanDisk};
     ghost use Rattle.s10_wire.specs.Kind.{fits};
-    ghost use Rattle.s10_book.specs.History.{entry_with_key, entry_at, ranges_of, is_closed, is_open_above, overlaps};
-    ghost use Rattle.s10_book.specs.Issues.{last_issue_of, candidate_of, candidate_after_of, size_of};
-    ghost use Rattle.s10_book.specs.Usage.{usage_of};
+    ghost use Rattle.s10_history.specs.History.{entry_with_key, entry_at, ranges_of, is_closed, is_open_above, overlaps};
+    ghost use Rattle.s10_history.specs.Issues.{last_issue_of, candidate_of, candidate_after_of, size_of};
+    ghost use Rattle.s10_history.specs.Usage.{usage_of};
     ghost use Rattle.s10_book.specs.Rules.{MayFollow};
     ghost use Rattle.s10_book.specs.Book.{Keeps};
     ghost use Rattle.s10_ledger.specs.Ledger.{history_of, IsLonger};

@@ -4,8 +4,9 @@ use crate::calls::{
     Step, draw, drawn, gb, grant, granted, id, ledger, nine_calls, opening, query, ra, rb, run,
     serial, settings, six_calls, told, us, void,
 };
-use s10_book::{Block, Book, BookFault, Candidate, Entry, Holding, Issue, PlainBook, Range, Usage};
+use s10_book::{Book, BookFault, PlainBook};
 use s10_core::{Id, Serial};
+use s10_history::{Block, Candidate, Entry, Holding, Issue, Range, Usage};
 use s10_ledger::SqlBook;
 use s10_wire::{Body, Outcome, Request, Status};
 use sqlite::MemStore;

@@ -2,8 +2,9 @@
 
 ghost use Rattle.std.specs.Prelude.{◌<◌};
 
-use s10_book::{Book, BookFault, Entry, Settings, decide};
+use s10_book::{Book, BookFault, decide};
 use s10_core::{Country, Id, Serial, Service};
+use s10_history::{Entry, Settings};
 use s10_ledger::SqlBook;
 use s10_wire::{Body, Outcome, Request, Status};
 use sqlite::MemStore;

@@ -2,7 +2,8 @@
 
 use crate::calls::{ledger, nine_calls, run, settings};
 use crate::tables::numbers;
-use s10_book::{Book, Settings};
+use s10_book::Book;
+use s10_history::Settings;
 use s10_ledger::{OpenFault, Refused, SqlBook, Unwatched};
 use sqlite::{Connection, Error, MemStore};
 use std::alloc::Global;

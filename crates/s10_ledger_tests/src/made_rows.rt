@@ -1,7 +1,8 @@
 //! The rows that calls make.
 
-use s10_book::{BookFault, Entry, Issuance, Range};
+use s10_book::BookFault;
 use s10_core::{Country, Id, Serial, Service};
+use s10_history::{Entry, Issuance, Range};
 use s10_rows::{
     ClosedRow, Issued, RangeRow, RangeWrite, SerialRow, SerialWrite, granted_row, issue_rows,
     voided_row,

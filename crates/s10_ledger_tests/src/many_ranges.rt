@@ -3,7 +3,8 @@
 ghost use Rattle.std.specs.Prelude.{◌≤◌};
 
 use crate::calls::{answer, draw, gb, grant, ledger, ra, serial, settings};
-use s10_book::{Block, Book, Holding, PlainBook};
+use s10_book::{Book, PlainBook};
+use s10_history::{Block, Holding};
 use s10_ledger::{SqlBook, Unwatched};
 use s10_wire::Request;
 use sqlite::MemStore;

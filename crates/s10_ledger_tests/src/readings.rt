@@ -1,7 +1,8 @@
 //! Calls and usage, read off rows.
 
-use s10_book::{PlainBook, Range, Settings, Usage};
+use s10_book::PlainBook;
 use s10_core::{Country, Serial, Service};
+use s10_history::{Range, Settings, Usage};
 use s10_rows::{CallRow, OpenFault, SerialRow, pair_number, replay_rows, usage_among};
 use std::alloc::Global;
 use std::process::Abort;

@@ -1,6 +1,7 @@
 //! Databases made by statements, and what opening finds in them.
 
-use s10_book::{Book, Settings};
+use s10_book::Book;
+use s10_history::Settings;
 use s10_ledger::{OpenFault, Refused, SqlBook, Unwatched};
 use s10_rows::Opened;
 use sqlite::{Alter, Connection, Error, MemStore};

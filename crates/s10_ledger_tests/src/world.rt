@@ -3,9 +3,10 @@
 ghost use Rattle.std.specs.Prelude.{◌≡◌, IfOk, All, length};
 ghost use Rattle.s10_ends.specs.Client.{IsNew};
 
-use s10_book::{Book, BookFault, Entry, Settings};
+use s10_book::{Book, BookFault};
 use s10_core::{Country, Id, Serial, Service};
 use s10_ends::{Client, Server};
+use s10_history::{Entry, Settings};
 use s10_ledger::SqlBook;
 use s10_wire::{Body, Frame, Outcome, Reply, Request};
 use s10_world::{Event, World};

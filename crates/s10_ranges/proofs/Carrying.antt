@@ -4,15 +4,15 @@ use Rattle.std.specs.Prelude.{slice_get}
 use Rattle.std.specs.Option.{option_map}
 use Rattle.std.proofs.lemmas.Option.{none-some, same_Some, slice_get_within, slice_get-get_or, get_or_from_slice_get, slice_get-map}
 use Rattle.std.proofs.lemmas.List.{map-append, take_more}
-use Rattle.s10_book.specs.declared.entry.Entry.{Entry}
-use Rattle.s10_book.specs.declared.issuance.Issuance.{Issuance}
+use Rattle.s10_history.specs.declared.entry.Entry.{Entry}
+use Rattle.s10_history.specs.declared.issuance.Issuance.{Issuance}
 use Rattle.s10_core.specs.declared.id.Id.{Id}
-use Rattle.s10_book.specs.Settings.{Terms}
-use Rattle.s10_book.specs.History.{ranges_of}
-use Rattle.s10_book.specs.Issues.{issues_of, issues_at, carried_by}
+use Rattle.s10_history.specs.Settings.{Terms}
+use Rattle.s10_history.specs.History.{ranges_of}
+use Rattle.s10_history.specs.Issues.{issues_of, issues_at, carried_by}
 use Rattle.s10_book.specs.Rules.{MayFollow}
 use Rattle.s10_book.proofs.Carried.{made_by, InTurn, IsPicked, in_turn, carried_call}
-use Rattle.s10_book.proofs.Push.{issues_from-push}
+use Rattle.s10_history.proofs.Push.{issues_from-push}
 
 -- the issues of a history, and of one more call those before a place
 abbrev pub issues_upto : List Entry → Entry → ℕ → List Issuance

@@ -9,15 +9,15 @@ use Rattle.s10_wire.specs.declared.body.Body.{Body}
 use Rattle.s10_wire.specs.declared.body.Body.TheVariants.{Grant}
 use Rattle.s10_wire.specs.declared.outcome.Outcome.{Outcome}
 use Rattle.s10_wire.specs.declared.outcome.Outcome.TheVariants.{Granted, NotThePost, BadGrant, Overlap}
-use Rattle.s10_book.specs.declared.entry.Entry.{Entry}
-use Rattle.s10_book.specs.declared.range.Range.{Range}
-use Rattle.s10_book.specs.declared.issuance.Issuance.{Issuance}
-use Rattle.s10_book.specs.Settings.{Terms}
-use Rattle.s10_book.specs.History.{ranges_of, range_of_grant, overlaps, lies_in}
-use Rattle.s10_book.specs.Issues.{issues_of, issues_at}
+use Rattle.s10_history.specs.declared.entry.Entry.{Entry}
+use Rattle.s10_history.specs.declared.range.Range.{Range}
+use Rattle.s10_history.specs.declared.issuance.Issuance.{Issuance}
+use Rattle.s10_history.specs.Settings.{Terms}
+use Rattle.s10_history.specs.History.{ranges_of, range_of_grant, overlaps, lies_in}
+use Rattle.s10_history.specs.Issues.{issues_of, issues_at}
 use Rattle.s10_book.specs.Rules.{IsLegal, MayFollow, body_answer}
-use Rattle.s10_book.proofs.Ranges.{Contains-find, found_passes}
-use Rattle.s10_book.proofs.Push.{ranges_from-push, length-ranges_from}
+use Rattle.s10_history.proofs.Numbering.{Contains-find, found_passes}
+use Rattle.s10_history.proofs.Push.{ranges_from-push, length-ranges_from}
 use Rattle.s10_book.proofs.Own.{new_ordered, lies_picked}
 use Rattle.s10_book.proofs.Carried.{made_by, IsPicked}
 use Rattle.s10_book.proofs.Marks.{picked_mark}

@@ -3,7 +3,7 @@ use Rattle.std.proofs.Common.{◌≡◌, ◌∙◌, ℕ, zero, suc, ◌-◌, ◌
 use Rattle.std.specs.Prelude.{find}
 use Rattle.std.proofs.lemmas.Bool.{both_ways, false_from_ne_true, eq-eqb, ne_eqb}
 use Rattle.std.proofs.lemmas.Option.{none-some}
-use Rattle.s10_book.specs.declared.range.Range.{Range}
+use Rattle.s10_history.specs.declared.range.Range.{Range}
 use Rattle.s10_ranges.specs.Order.{range_at, IsOrder}
 use Rattle.s10_ranges.specs.Sound.{AreSound}
 

@@ -3,8 +3,8 @@ use Rattle.std.proofs.Common.{◌≡◌, ◌∙◌, ℕ, ◌+◌, ◌*◌, ◌<�
 use Rattle.std.specs.Prelude.{find, Some, None}
 use Rattle.std.proofs.lemmas.Bool.{cases_lt, both_ways, false_from_ne_true, and_parts, and_from, ltb-true, lt-ltb, eqb-true, eq-eqb}
 use Rattle.s10_core.specs.Letters.{AreCapitals}
-use Rattle.s10_book.specs.declared.range.Range.{Range}
-use Rattle.s10_book.specs.History.{is_held_above}
+use Rattle.s10_history.specs.declared.range.Range.{Range}
+use Rattle.s10_history.specs.History.{is_held_above}
 use Rattle.s10_book.proofs.Apart.{letters_equal, letters_same}
 use Rattle.s10_ranges.specs.declared.sort_key.SortKey.TheVariants.{Holder}
 use Rattle.s10_ranges.specs.Keys.{pair_of, holder_key, key_by, IsFitting}

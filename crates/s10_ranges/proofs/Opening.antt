@@ -1,11 +1,11 @@
 -- The open ranges among those that a customer holds.
 use Rattle.std.proofs.Common.{◌≡◌, ℕ, Bool, true, false, cond, not, ◌&&◌, List, [], ◌∷◌, Some, None, refl, sym, ap, ◌∙◌}
 use Rattle.std.specs.Prelude.{find, filter, nat_lt}
-use Rattle.s10_book.specs.declared.entry.Entry.{Entry}
-use Rattle.s10_book.specs.declared.range.Range.{Range}
-use Rattle.s10_book.specs.History.{ranges_of, is_held, is_closed, is_open_above}
+use Rattle.s10_history.specs.declared.entry.Entry.{Entry}
+use Rattle.s10_history.specs.declared.range.Range.{Range}
+use Rattle.s10_history.specs.History.{ranges_of, is_held, is_closed, is_open_above}
 use Rattle.s10_book.proofs.Alike.{find_same}
-use Rattle.s10_book.proofs.Ranges.{above, numbered, next_above, filter_none}
+use Rattle.s10_history.proofs.Numbering.{above, numbered, next_above, filter_none}
 
 -- what is found of two tests is found of the second among those that pass the first
 find_filter : {A : Type 0} (p q : A → Bool) (xs : List A) → find (λ x. p x && q x) xs ≡ find q (filter p xs)

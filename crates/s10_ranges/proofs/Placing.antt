@@ -4,8 +4,8 @@ use Rattle.std.specs.Prelude.{find, Some, None}
 use Rattle.std.proofs.lemmas.Bool.{cases_lt, both_ways, false_from_ne_true, and_parts, leb-true}
 use Rattle.s10_core.specs.Letters.{AreCapitals}
 use Rattle.s10_core.specs.Serial.{IsSerial}
-use Rattle.s10_book.specs.declared.range.Range.{Range}
-use Rattle.s10_book.specs.History.{overlaps}
+use Rattle.s10_history.specs.declared.range.Range.{Range}
+use Rattle.s10_history.specs.History.{overlaps}
 use Rattle.s10_book.proofs.Apart.{letters_equal, overlapping}
 use Rattle.s10_ranges.specs.declared.sort_key.SortKey.TheVariants.{First, Last}
 use Rattle.s10_ranges.specs.Keys.{pair_of, place_key, key_by, IsFitting}

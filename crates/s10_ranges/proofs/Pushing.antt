@@ -4,7 +4,7 @@ use Rattle.std.specs.Prelude.{insert}
 use Rattle.std.proofs.lemmas.Bool.{cases_lt, cases_order}
 use Rattle.std.proofs.lemmas.List.{get_or_push, get_or_append_left}
 use Rattle.std.proofs.lemmas.List.Edits.{length-insert, get_or-insert_below, get_or-insert_at, get_or-insert_above}
-use Rattle.s10_book.specs.declared.range.Range.{Range}
+use Rattle.s10_history.specs.declared.range.Range.{Range}
 use Rattle.s10_ranges.specs.Order.{range_at, IsOrder}
 use Rattle.s10_ranges.specs.Sound.{IsSound, AreSound}
 

@@ -10,14 +10,14 @@ use Rattle.s10_core.specs.declared.id.Id.{Id}
 use Rattle.s10_core.specs.Id.{same_id}
 use Rattle.s10_wire.specs.declared.outcome.Outcome.{Outcome}
 use Rattle.s10_wire.specs.declared.outcome.Outcome.TheVariants.{Granted}
-use Rattle.s10_book.specs.declared.candidate.Candidate.{Candidate}
-use Rattle.s10_book.specs.declared.entry.Entry.{Entry}
-use Rattle.s10_book.specs.declared.range.Range.{Range}
-use Rattle.s10_book.specs.declared.issue.Issue.{Issue}
-use Rattle.s10_book.specs.declared.issuance.Issuance.{Issuance}
-use Rattle.s10_book.specs.Settings.{Terms}
-use Rattle.s10_book.specs.History.{ranges_of, range_of_grant, lies_in}
-use Rattle.s10_book.specs.Issues.{issues_of, carried_by, is_of, is_issued, id_at, serials, least_serial_unissued, serial_issued_earliest, pick_of, serial_behind, pick_behind, is_voided, last_issue_of, candidate_of}
+use Rattle.s10_history.specs.declared.candidate.Candidate.{Candidate}
+use Rattle.s10_history.specs.declared.entry.Entry.{Entry}
+use Rattle.s10_history.specs.declared.range.Range.{Range}
+use Rattle.s10_history.specs.declared.issue.Issue.{Issue}
+use Rattle.s10_history.specs.declared.issuance.Issuance.{Issuance}
+use Rattle.s10_history.specs.Settings.{Terms}
+use Rattle.s10_history.specs.History.{ranges_of, range_of_grant, lies_in}
+use Rattle.s10_history.specs.Issues.{issues_of, carried_by, is_of, is_issued, id_at, serials, least_serial_unissued, serial_issued_earliest, pick_of, serial_behind, pick_behind, is_voided, last_issue_of, candidate_of}
 use Rattle.s10_book.specs.Rules.{IsLegal, MayFollow}
 use Rattle.s10_book.proofs.Apart.{new_apart}
 use Rattle.s10_book.proofs.Carried.{made_by, IsPicked, after_call}
@@ -25,8 +25,8 @@ use Rattle.s10_book.proofs.Free.{id_equal, id_within, none_within}
 use Rattle.s10_book.proofs.Legal.{legal_induction}
 use Rattle.s10_book.proofs.Marks.{Turns, turns_inside, turns_outside, pick_turns, turns_pick, mark_step, picked_mark, all_at_pick, pick_new}
 use Rattle.s10_book.proofs.Own.{ordered, lies_at, lies_picked, new_ordered}
-use Rattle.s10_book.proofs.Push.{ranges_from-push, issues_from-push}
-use Rattle.s10_book.proofs.Ranges.{found_passes}
+use Rattle.s10_history.proofs.Push.{ranges_from-push, issues_from-push}
+use Rattle.s10_history.proofs.Numbering.{found_passes}
 use Rattle.s10_book.proofs.Spaced.{id_same}
 use Rattle.s10_ranges.specs.declared.mark.Mark.{Mark}
 use Rattle.s10_ranges.specs.declared.turn.Turn.{Turn}

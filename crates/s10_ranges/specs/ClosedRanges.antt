@@ -1,8 +1,8 @@
 -- The closed ranges of a history, held in memory.
 use Rattle.std.specs.Prelude.{◌≡◌, ℕ, ◌==◌, List}
 use Rattle.std.specs.HashSet.{contains}
-use Rattle.s10_book.specs.declared.entry.Entry.{Entry}
-use Rattle.s10_book.specs.History.{is_closed}
+use Rattle.s10_history.specs.declared.entry.Entry.{Entry}
+use Rattle.s10_history.specs.History.{is_closed}
 use Rattle.s10_ranges.specs.declared.closed_ranges.ClosedRanges.{ClosedRanges}
 
 -- it has the numbers of the closed ranges of the history, and no other

@@ -3,7 +3,7 @@ use Rattle.std.specs.Prelude.{ℕ, ◌+◌, ◌*◌, ◌++◌}
 use Rattle.std.specs.Int.{w32, from_be_bytes}
 use Rattle.s10_core.specs.Letters.{AreCapitals, letters_of}
 use Rattle.s10_core.specs.Serial.{IsSerial}
-use Rattle.s10_book.specs.declared.range.Range.{Range}
+use Rattle.s10_history.specs.declared.range.Range.{Range}
 use Rattle.s10_ranges.specs.declared.sort_key.SortKey.{SortKey}
 use Rattle.s10_ranges.specs.declared.sort_key.SortKey.TheVariants.{First, Last, Holder}
 

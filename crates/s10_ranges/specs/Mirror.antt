@@ -1,10 +1,10 @@
 -- Ranges held in memory that are those of a history.
 use Rattle.std.specs.Prelude.{◌≡◌, List, map}
-use Rattle.s10_book.specs.declared.entry.Entry.{Entry}
-use Rattle.s10_book.specs.declared.range.Range.{Range}
-use Rattle.s10_book.specs.declared.issuance.Issuance.{Issuance}
-use Rattle.s10_book.specs.History.{ranges_of}
-use Rattle.s10_book.specs.Issues.{issues_of}
+use Rattle.s10_history.specs.declared.entry.Entry.{Entry}
+use Rattle.s10_history.specs.declared.range.Range.{Range}
+use Rattle.s10_history.specs.declared.issuance.Issuance.{Issuance}
+use Rattle.s10_history.specs.History.{ranges_of}
+use Rattle.s10_history.specs.Issues.{issues_of}
 use Rattle.s10_ranges.specs.declared.ranges.Ranges.{Ranges}
 use Rattle.s10_ranges.specs.Turns.{mark_of}
 use Rattle.s10_ranges.specs.ClosedRanges.{HasClosed}

@@ -1,6 +1,6 @@
 -- Places of ranges in an order of their own.
 use Rattle.std.specs.Prelude.{◌≡◌, ℕ, ◌<◌, ◌≤◌, List, length, Option, Some, None, slice_index, slice_index_or}
-use Rattle.s10_book.specs.declared.range.Range.{Range}
+use Rattle.s10_history.specs.declared.range.Range.{Range}
 
 -- the range whose place is the j-th of the order
 abbrev pub range_at : List Range → List ℕ → ℕ → Range → Range

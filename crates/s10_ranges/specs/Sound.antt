@@ -1,6 +1,6 @@
 -- What every range has that is held.
 use Rattle.std.specs.Prelude.{◌≡◌, ℕ, ◌+◌, ◌<◌, ◌≤◌, List, length, slice_index_or}
-use Rattle.s10_book.specs.declared.range.Range.{Range}
+use Rattle.s10_history.specs.declared.range.Range.{Range}
 use Rattle.s10_ranges.specs.Keys.{IsFitting}
 
 -- its number is one more than its place, and it isn't empty

@@ -1,8 +1,8 @@
 -- The marks of ranges, each with the turn that the range is in.
 use Rattle.std.specs.Prelude.{ℕ, ◌==◌, if◌then◌else◌, List}
-use Rattle.s10_book.specs.declared.range.Range.{Range}
-use Rattle.s10_book.specs.declared.issuance.Issuance.{Issuance}
-use Rattle.s10_book.specs.Issues.{is_issued, id_at, pick_of, serial_behind}
+use Rattle.s10_history.specs.declared.range.Range.{Range}
+use Rattle.s10_history.specs.declared.issuance.Issuance.{Issuance}
+use Rattle.s10_history.specs.Issues.{is_issued, id_at, pick_of, serial_behind}
 use Rattle.s10_ranges.specs.declared.turn.Turn.{Turn}
 use Rattle.s10_ranges.specs.declared.turn.Turn.TheVariants.{First, Later}
 use Rattle.s10_ranges.specs.declared.mark.Mark.{Mark}

@@ -2,11 +2,11 @@
 
 ghost use Rattle.std.specs.Prelude.{◌≡◌, ◌<◌, ◌++◌, ◌∷◌, [], List, OnOk};
 ghost use Rattle.std.specs.HashSet.{spare};
-ghost use Rattle.s10_book.specs.declared.entry.Entry.{Entry};
-ghost use Rattle.s10_book.specs.History.{is_closed};
+ghost use Rattle.s10_history.specs.declared.entry.Entry.{Entry};
+ghost use Rattle.s10_history.specs.History.{is_closed};
 ghost use Rattle.s10_ranges.specs.ClosedRanges.{HasClosed};
 
-use s10_book::Entry;
+use s10_history::Entry;
 use s10_wire::{Body, Outcome};
 use std::alloc::{AllocError, Global};
 use std::collections::HashSet;

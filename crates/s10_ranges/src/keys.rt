@@ -6,8 +6,8 @@ ghost use Rattle.s10_core.specs.Serial.{IsSerial};
 ghost use Rattle.s10_ranges.specs.Keys.{pair_of, place_key, holder_key, key_by, IsFitting};
 
 use crate::sort_key::SortKey;
-use s10_book::Range;
 use s10_core::{Country, Serial, Service};
+use s10_history::Range;
 
 // The four letters as a big-endian number.
 fn pair_number(service: Service, country: Country) -> u32

@@ -1,7 +1,7 @@
 //! Look-ups among ranges by the orders of their places.
 
 ghost use Rattle.std.specs.Prelude.{◌≡◌, ◌-◌, ◌<◌, ◌==◌, find, slice_get, None};
-ghost use Rattle.s10_book.specs.History.{is_held_above, overlaps};
+ghost use Rattle.s10_history.specs.History.{is_held_above, overlaps};
 ghost use Rattle.s10_ranges.specs.declared.sort_key.SortKey.TheVariants.{First, Last, Holder};
 ghost use Rattle.s10_ranges.specs.Keys.{key_by};
 ghost use Rattle.s10_ranges.specs.Order.{IsOrder};
@@ -11,8 +11,8 @@ use crate::keys::{holder_number, place_number};
 use crate::mark::Mark;
 use crate::order::{first_at, least_in};
 use crate::sort_key::SortKey;
-use s10_book::Range;
 use s10_core::{Country, Serial, Service};
+use s10_history::Range;
 
 pub(crate) fn range_numbered(ranges: &[Range], num: u32) -> Option<Range>
     requires sound { AreSound ranges.now }

@@ -5,8 +5,8 @@ ghost use Rattle.s10_ranges.specs.Turns.{mark_behind};
 
 use crate::mark::Mark;
 use crate::turn::Turn;
-use s10_book::Range;
 use s10_core::Serial;
+use s10_history::Range;
 
 // The serial behind that one of the range: the next, or the first one behind the last.
 fn serial_behind(range: &Range, serial: Serial) -> Serial

@@ -1,13 +1,13 @@
 //! Places of ranges in an order of their own.
 
 ghost use Rattle.std.specs.Prelude.{◌≡◌, ℕ, ◌<◌, ◌≤◌, length, MatchOption, slice_index};
-ghost use Rattle.s10_book.specs.declared.range.Range.{Range};
+ghost use Rattle.s10_history.specs.declared.range.Range.{Range};
 ghost use Rattle.s10_ranges.specs.Keys.{key_by};
 ghost use Rattle.s10_ranges.specs.Order.{range_at, ArePlaces, IsRising, IsLeastIn};
 
 use crate::keys::key_number;
 use crate::sort_key::SortKey;
-use s10_book::Range;
+use s10_history::Range;
 
 // How many ranges, in the order, come before the key. By halving.
 pub(crate) fn first_at(ranges: &[Range], order: &[u32], by: SortKey, key: u128) -> usize

@@ -1,8 +1,8 @@
 //! The place of a new range in each order.
 
 ghost use Rattle.std.specs.Prelude.{◌≡◌, ℕ, ◌+◌, ◌≤◌, ◌<◌, length, find, None};
-ghost use Rattle.s10_book.specs.declared.range.Range.{Range};
-ghost use Rattle.s10_book.specs.History.{overlaps};
+ghost use Rattle.s10_history.specs.declared.range.Range.{Range};
+ghost use Rattle.s10_history.specs.History.{overlaps};
 ghost use Rattle.s10_ranges.specs.declared.sort_key.SortKey.TheVariants.{First, Last, Holder};
 ghost use Rattle.s10_ranges.specs.Keys.{key_by, IsFitting};
 ghost use Rattle.s10_ranges.specs.Order.{range_at, IsOrder};
@@ -11,7 +11,7 @@ ghost use Rattle.s10_ranges.specs.Sound.{AreSound};
 use crate::keys::{key_number, parts_fit};
 use crate::order::first_at;
 use crate::sort_key::SortKey;
-use s10_book::Range;
+use s10_history::Range;
 
 // Behind all ranges that end before it, and before all others.
 pub(crate) fn place_among(ranges: &[Range], by_place: &[u32], range: &Range) -> usize

@@ -1,7 +1,7 @@
 //! Ranges with their marks in memory.
 
 ghost use Rattle.std.specs.Prelude.{◌≡◌, ◌≤◌, ◌<◌, ◌+◌, ◌-◌, ◌==◌, ◌++◌, ◌∷◌, [], length, find, set, None, OnOk, slice_get};
-ghost use Rattle.s10_book.specs.History.{is_held_above, overlaps};
+ghost use Rattle.s10_history.specs.History.{is_held_above, overlaps};
 ghost use Rattle.s10_ranges.specs.declared.sort_key.SortKey.TheVariants.{First, Last, Holder};
 ghost use Rattle.s10_ranges.specs.Keys.{key_by};
 ghost use Rattle.s10_ranges.specs.Order.{IsOrder};
@@ -14,8 +14,8 @@ use crate::mark::Mark;
 use crate::next_mark::next_mark;
 use crate::places::{place_among, place_among_held};
 use crate::turn::Turn;
-use s10_book::{Entry, Range};
 use s10_core::{Country, Id, Serial, Service};
+use s10_history::{Entry, Range};
 use s10_wire::Outcome;
 use std::alloc::{AllocError, Global};
 
@@ -38,13 +38,13 @@ pub struct Ranges {
 
 impl Ranges {
     ghost use Rattle.std.specs.Prelude.{List, Some};
-    ghost use Rattle.s10_book.specs.declared.entry.Entry.{Entry};
-    ghost use Rattle.s10_book.specs.declared.range.Range.{Range};
+    ghost use Rattle.s10_history.specs.declared.entry.Entry.{Entry};
+    ghost use Rattle.s10_history.specs.declared.range.Range.{Range};
     ghost use Rattle.s10_ranges.specs.declared.mark.Mark.{Mark};
-    ghost use Rattle.s10_book.specs.Settings.{Terms};
+    ghost use Rattle.s10_history.specs.Settings.{Terms};
     ghost use Rattle.std.specs.Prelude.{IfSome};
-    ghost use Rattle.s10_book.specs.History.{ranges_of, is_closed, is_open_above};
-    ghost use Rattle.s10_book.specs.Issues.{issues_of};
+    ghost use Rattle.s10_history.specs.History.{ranges_of, is_closed, is_open_above};
+    ghost use Rattle.s10_history.specs.Issues.{issues_of};
     ghost use Rattle.s10_book.specs.Rules.{IsLegal, MayFollow};
     ghost use Rattle.s10_ranges.specs.Mirror.{Mirrors, MirrorsAt};
     ghost use Rattle.s10_ranges.specs.Room.{HasRoom};

@@ -1,7 +1,7 @@
 //! Ranges that calls made.
 
-use s10_book::{Entry, Range};
 use s10_core::{Country, Id, Serial, Service};
+use s10_history::{Entry, Range};
 use s10_ranges::Ranges;
 use s10_wire::{Body, Outcome, Request};
 use std::process::Abort;

@@ -8,18 +8,18 @@ use Rattle.std.proofs.lemmas.Option.{none-some, same_Some, slice_get_within, get
 use Rattle.std.proofs.lemmas.List.{append-nil, take_all, take_more, take-append-drop, take-append-le, length-take-le, map-append}
 use Rattle.std.proofs.lemmas.Grind.{flat_map-append, common_steps}
 use Rattle.s10_lines.proofs.Writing.{Appends-then}
-use Rattle.s10_book.specs.declared.entry.Entry.{Entry}
-use Rattle.s10_book.specs.declared.range.Range.{Range}
-use Rattle.s10_book.specs.declared.issuance.Issuance.{Issuance}
-use Rattle.s10_book.specs.History.{ranges_of, entry_at, is_closed}
-use Rattle.s10_book.specs.Issues.{issues_of, issues_from, issues_at, last_issue_of}
-use Rattle.s10_book.specs.Usage.{usage_of}
+use Rattle.s10_history.specs.declared.entry.Entry.{Entry}
+use Rattle.s10_history.specs.declared.range.Range.{Range}
+use Rattle.s10_history.specs.declared.issuance.Issuance.{Issuance}
+use Rattle.s10_history.specs.History.{ranges_of, entry_at, is_closed}
+use Rattle.s10_history.specs.Issues.{issues_of, issues_from, issues_at, last_issue_of}
+use Rattle.s10_history.specs.Usage.{usage_of}
 use Rattle.s10_reports.specs.Reports.{joined, range_line, ranges_header, ranges_report, issue_line, issue_lines, issues_header, issues_report}
 use Rattle.s10_reports.specs.declared.report_fault.ReportFault.{ReportFault}
 use Rattle.s10_reports.specs.declared.report_fault.ReportFault.TheVariants.{Book, Write}
 use Rattle.s10_reports.specs.ReportFault.{Reported}
-use Rattle.s10_book.proofs.Push.{issues_from-push}
-use Rattle.s10_book.proofs.Ranges.{Numbered, numbered, find_cases}
+use Rattle.s10_history.proofs.Push.{issues_from-push}
+use Rattle.s10_history.proofs.Numbering.{Numbered, numbered, find_cases}
 
 -- a report begins with its first line
 pub joined_one : (u v : Option (List ℕ)) (line : List ℕ) → Appends u v line → Appends u v (joined (line ∷ []))

@@ -5,14 +5,14 @@ use Rattle.s10_core.specs.Letters.{letters_of}
 use Rattle.s10_core.specs.Serial.{digits_of}
 use Rattle.s10_core.specs.Id.{spelling_of}
 use Rattle.s10_lines.specs.Lines.{line_of}
-use Rattle.s10_book.specs.declared.entry.Entry.{Entry}
-use Rattle.s10_book.specs.declared.range.Range.{Range}
-use Rattle.s10_book.specs.declared.usage.Usage.{Usage}
-use Rattle.s10_book.specs.declared.issue.Issue.{Issue}
-use Rattle.s10_book.specs.declared.issuance.Issuance.{Issuance}
-use Rattle.s10_book.specs.History.{ranges_of, is_closed}
-use Rattle.s10_book.specs.Issues.{issues_of, last_issue_of}
-use Rattle.s10_book.specs.Usage.{usage_of}
+use Rattle.s10_history.specs.declared.entry.Entry.{Entry}
+use Rattle.s10_history.specs.declared.range.Range.{Range}
+use Rattle.s10_history.specs.declared.usage.Usage.{Usage}
+use Rattle.s10_history.specs.declared.issue.Issue.{Issue}
+use Rattle.s10_history.specs.declared.issuance.Issuance.{Issuance}
+use Rattle.s10_history.specs.History.{ranges_of, is_closed}
+use Rattle.s10_history.specs.Issues.{issues_of, last_issue_of}
+use Rattle.s10_history.specs.Usage.{usage_of}
 
 -- lines as one text
 abbrev pub joined : List (List ℕ) → List ℕ

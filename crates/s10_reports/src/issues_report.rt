@@ -3,12 +3,13 @@
 ghost use Rattle.std.specs.Prelude.{◌≡◌, OnOk};
 ghost use Rattle.std.specs.Io.KnownBytes.{Appends};
 ghost use Rattle.s10_book.specs.Book.{Keeps};
-ghost use Rattle.s10_book.specs.Issues.{issues_at};
+ghost use Rattle.s10_history.specs.Issues.{issues_at};
 ghost use Rattle.s10_reports.specs.Reports.{issue_line, issue_lines, issues_report, state_of};
 ghost use Rattle.s10_reports.specs.ReportFault.{Reported, CountsReport};
 
 use crate::report_fault::ReportFault;
-use s10_book::{Book, Entry, Issuance, Issue};
+use s10_book::Book;
+use s10_history::{Entry, Issuance, Issue};
 use s10_lines::{WriteFault, write_decimal, write_first_decimal, write_id, write_text, write_word};
 use std::io::Write;
 

@@ -8,7 +8,8 @@ ghost use Rattle.s10_reports.specs.Reports.{range_line, closed_words, ranges_rep
 ghost use Rattle.s10_reports.specs.ReportFault.{Reported, CountsReport};
 
 use crate::report_fault::ReportFault;
-use s10_book::{Book, Range, Usage};
+use s10_book::Book;
+use s10_history::{Range, Usage};
 use s10_lines::{
     WriteFault, write_decimal, write_first_decimal, write_letters, write_serials, write_text,
     write_word,

@@ -15,9 +15,9 @@ use Rattle.std.proofs.lemmas.List.Sorted.{IsPermutation-sym, IsPermutation-trans
 use Rattle.s10_rows.specs.Ascending.{IsAscending}
 use Rattle.s10_rows.proofs.Sorting.{sorted_unique, sorted_is-sort_by}
 use Rattle.s10_core.specs.declared.id.Id.{Id}
-use Rattle.s10_book.specs.declared.entry.Entry.{Entry}
-use Rattle.s10_book.specs.declared.issuance.Issuance.{Issuance}
-use Rattle.s10_book.specs.Issues.{issues_of, is_of, is_issued, last_issues, voided_after}
+use Rattle.s10_history.specs.declared.entry.Entry.{Entry}
+use Rattle.s10_history.specs.declared.issuance.Issuance.{Issuance}
+use Rattle.s10_history.specs.Issues.{issues_of, is_of, is_issued, last_issues, voided_after}
 use Rattle.s10_book.proofs.Spaced.{id_same}
 use Rattle.s10_rows.specs.declared.closed_row.ClosedRow.{ClosedRow}
 use Rattle.s10_rows.specs.declared.range_row.RangeRow.{RangeRow}
@@ -25,7 +25,7 @@ use Rattle.s10_rows.specs.declared.serial_row.SerialRow.{SerialRow}
 use Rattle.s10_rows.specs.CallRow.{StoredCall}
 use Rattle.s10_rows.specs.Tables.{HaveSameRows, serial_row, serial_rows, pair_of}
 use Rattle.s10_rows.specs.RightRows.{AreRight, kept_of, entry_of}
-use Rattle.s10_book.specs.Settings.{Terms}
+use Rattle.s10_history.specs.Settings.{Terms}
 use Rattle.s10_rows.specs.Selected.{IsCall, IsIssuance}
 use Rattle.s10_rows.proofs.Pairs.{one_pair, one_number}
 use Rattle.s10_rows.proofs.LastIssues.{All-last_issues}

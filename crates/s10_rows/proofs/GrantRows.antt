@@ -6,14 +6,14 @@ use Rattle.s10_wire.specs.declared.body.Body.{Body}
 use Rattle.s10_wire.specs.declared.body.Body.TheVariants.{Grant}
 use Rattle.s10_wire.specs.declared.outcome.Outcome.{Outcome}
 use Rattle.s10_wire.specs.declared.outcome.Outcome.TheVariants.{Granted, Voided, NotThePost, BadGrant, Overlap}
-use Rattle.s10_book.specs.declared.entry.Entry.{Entry}
-use Rattle.s10_book.specs.declared.range.Range.{Range}
-use Rattle.s10_book.specs.declared.issuance.Issuance.{Issuance}
-use Rattle.s10_book.specs.Settings.{Terms}
-use Rattle.s10_book.specs.History.{ranges_of, range_of_grant}
-use Rattle.s10_book.specs.Issues.{issues_of, pick_of, carried_by}
+use Rattle.s10_history.specs.declared.entry.Entry.{Entry}
+use Rattle.s10_history.specs.declared.range.Range.{Range}
+use Rattle.s10_history.specs.declared.issuance.Issuance.{Issuance}
+use Rattle.s10_history.specs.Settings.{Terms}
+use Rattle.s10_history.specs.History.{ranges_of, range_of_grant}
+use Rattle.s10_history.specs.Issues.{issues_of, pick_of, carried_by}
 use Rattle.s10_book.specs.Rules.{IsLegal, MayFollow, body_answer}
-use Rattle.s10_book.proofs.Push.{ranges_from-push}
+use Rattle.s10_history.proofs.Push.{ranges_from-push}
 use Rattle.s10_book.proofs.Marks.{pick_new}
 use Rattle.s10_rows.specs.declared.range_row.RangeRow.{RangeRow}
 use Rattle.s10_rows.specs.declared.range_write.RangeWrite.TheVariants.{New}

@@ -12,15 +12,15 @@ use Rattle.std.proofs.lemmas.List.Elements.{All-append, All-contains, All-contai
 use Rattle.s10_core.specs.declared.id.Id.{Id}
 use Rattle.s10_core.specs.Id.{IsId}
 use Rattle.s10_wire.specs.declared.outcome.Outcome.TheVariants.{Granted, Voided}
-use Rattle.s10_book.specs.declared.entry.Entry.{Entry}
-use Rattle.s10_book.specs.declared.range.Range.{Range}
-use Rattle.s10_book.specs.declared.issuance.Issuance.{Issuance}
-use Rattle.s10_book.specs.Settings.{Terms}
-use Rattle.s10_book.specs.History.{ranges_of, lies_in}
-use Rattle.s10_book.specs.Issues.{issues_at, issues_of, is_of, is_issued, last_issues, last_issuance_of, voids, voided_after, pick_of, pick_behind, serial_behind}
+use Rattle.s10_history.specs.declared.entry.Entry.{Entry}
+use Rattle.s10_history.specs.declared.range.Range.{Range}
+use Rattle.s10_history.specs.declared.issuance.Issuance.{Issuance}
+use Rattle.s10_history.specs.Settings.{Terms}
+use Rattle.s10_history.specs.History.{ranges_of, lies_in}
+use Rattle.s10_history.specs.Issues.{issues_at, issues_of, is_of, is_issued, last_issues, last_issuance_of, voids, voided_after, pick_of, pick_behind, serial_behind}
 use Rattle.s10_book.specs.Rules.{IsLegal, MayFollow}
-use Rattle.s10_book.proofs.Ranges.{Numbered, numbered}
-use Rattle.s10_book.proofs.Push.{issues_from-push}
+use Rattle.s10_history.proofs.Numbering.{Numbered, numbered}
+use Rattle.s10_history.proofs.Push.{issues_from-push}
 use Rattle.s10_book.proofs.Apart.{apart}
 use Rattle.s10_book.proofs.Carried.{made_by}
 use Rattle.s10_book.proofs.Marks.{one_range}

@@ -6,8 +6,8 @@ use Rattle.std.proofs.lemmas.Bool.{or_parts}
 use Rattle.std.proofs.lemmas.Option.{none-some}
 use Rattle.std.proofs.lemmas.List.Elements.{All-cons, All-head, All-tail}
 use Rattle.s10_core.specs.declared.id.Id.{Id}
-use Rattle.s10_book.specs.declared.issuance.Issuance.{Issuance}
-use Rattle.s10_book.specs.Issues.{is_of, is_issued, last_issuance_of, last_issues}
+use Rattle.s10_history.specs.declared.issuance.Issuance.{Issuance}
+use Rattle.s10_history.specs.Issues.{is_of, is_issued, last_issuance_of, last_issues}
 use Rattle.s10_book.proofs.Free.{id_equal, issued_latest}
 
 -- where none passes

@@ -10,13 +10,13 @@ use Rattle.s10_wire.specs.declared.body.Body.{Body}
 use Rattle.s10_wire.specs.declared.body.Body.TheVariants.{Grant, Void}
 use Rattle.s10_wire.specs.declared.outcome.Outcome.{Outcome}
 use Rattle.s10_wire.specs.declared.outcome.Outcome.TheVariants.{Granted, Voided}
-use Rattle.s10_book.specs.declared.entry.Entry.{Entry}
-use Rattle.s10_book.specs.declared.range.Range.{Range}
-use Rattle.s10_book.specs.declared.issuance.Issuance.{Issuance}
-use Rattle.s10_book.specs.History.{ranges_of, range_of_grant}
-use Rattle.s10_book.specs.Issues.{issues_of, carried_by, last_issues, voids, voids_by, voided_after, pick_of}
+use Rattle.s10_history.specs.declared.entry.Entry.{Entry}
+use Rattle.s10_history.specs.declared.range.Range.{Range}
+use Rattle.s10_history.specs.declared.issuance.Issuance.{Issuance}
+use Rattle.s10_history.specs.History.{ranges_of, range_of_grant}
+use Rattle.s10_history.specs.Issues.{issues_of, carried_by, last_issues, voids, voids_by, voided_after, pick_of}
 use Rattle.s10_book.proofs.Carried.{made_by}
-use Rattle.s10_book.proofs.Push.{ranges_from-push, issues_from-push}
+use Rattle.s10_history.proofs.Push.{ranges_from-push, issues_from-push}
 use Rattle.s10_rows.specs.Tables.{range_row, range_rows, serial_row, serial_rows}
 use Rattle.s10_rows.specs.declared.serial_row.SerialRow.{SerialRow}
 use Rattle.s10_rows.proofs.Replaced.{same_images}

@@ -8,9 +8,9 @@ use Rattle.s10_wire.specs.declared.body.Body.TheVariants.{Grant}
 use Rattle.s10_wire.specs.declared.outcome.Outcome.{Outcome}
 use Rattle.s10_wire.specs.declared.outcome.Outcome.TheVariants.{Granted}
 use Rattle.s10_wire.specs.Datagrams.{IsBody}
-use Rattle.s10_book.specs.declared.entry.Entry.{Entry}
-use Rattle.s10_book.specs.declared.range.Range.{Range}
-use Rattle.s10_book.specs.History.{range_of_grant, then_ranges, ranges_from, ranges_of}
+use Rattle.s10_history.specs.declared.entry.Entry.{Entry}
+use Rattle.s10_history.specs.declared.range.Range.{Range}
+use Rattle.s10_history.specs.History.{range_of_grant, then_ranges, ranges_from, ranges_of}
 use Rattle.s10_rows.specs.Selected.{IsCall, IsRange}
 
 -- a granted range

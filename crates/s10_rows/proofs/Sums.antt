@@ -5,10 +5,10 @@ use Rattle.std.specs.List.{sum_by, range_with_len}
 use Rattle.std.proofs.lemmas.List.Sums.{sum_by-cons}
 use Rattle.std.proofs.lemmas.Bool.Decides.{nat_tests}
 use Rattle.s10_core.specs.Letters.{same_letters}
-use Rattle.s10_book.specs.declared.range.Range.{Range}
-use Rattle.s10_book.specs.declared.issuance.Issuance.{Issuance}
-use Rattle.s10_book.specs.History.{lies_in}
-use Rattle.s10_book.specs.Issues.{is_of, id_at, serials}
+use Rattle.s10_history.specs.declared.range.Range.{Range}
+use Rattle.s10_history.specs.declared.issuance.Issuance.{Issuance}
+use Rattle.s10_history.specs.History.{lies_in}
+use Rattle.s10_history.specs.Issues.{is_of, id_at, serials}
 
 pub sum_same : {X : Type 0} (f g : X → ℕ) (xs : List X) → ((x : X) → f x ≡ g x) → sum_by f xs ≡ sum_by g xs
 sum_same f g xs same = ap (λ h. sum_by h xs) (λ i x. same x i)

@@ -15,16 +15,16 @@ use Rattle.std.proofs.lemmas.List.Elements.{All-nil, All-cons, All-head, All-tai
 use Rattle.s10_core.specs.declared.id.Id.{Id}
 use Rattle.s10_core.specs.Letters.{AreCapitals, same_letters}
 use Rattle.s10_core.specs.Id.{IsId}
-use Rattle.s10_book.specs.declared.entry.Entry.{Entry}
-use Rattle.s10_book.specs.declared.range.Range.{Range}
-use Rattle.s10_book.specs.declared.issue.Issue.{Issue}
-use Rattle.s10_book.specs.declared.issuance.Issuance.{Issuance}
-use Rattle.s10_book.specs.declared.usage.Usage.{Usage}
-use Rattle.s10_book.specs.History.{day_of, lies_in}
-use Rattle.s10_book.specs.Issues.{issues_of, is_issued, is_voided, is_free, is_free_since, last_issuance_of, last_issues, voided_after, id_at, serials}
-use Rattle.s10_book.specs.Usage.{usage_of}
+use Rattle.s10_history.specs.declared.entry.Entry.{Entry}
+use Rattle.s10_history.specs.declared.range.Range.{Range}
+use Rattle.s10_history.specs.declared.issue.Issue.{Issue}
+use Rattle.s10_history.specs.declared.issuance.Issuance.{Issuance}
+use Rattle.s10_history.specs.declared.usage.Usage.{Usage}
+use Rattle.s10_history.specs.History.{day_of, lies_in}
+use Rattle.s10_history.specs.Issues.{issues_of, is_issued, is_voided, is_free, is_free_since, last_issuance_of, last_issues, voided_after, id_at, serials}
+use Rattle.s10_history.specs.Usage.{usage_of}
 use Rattle.s10_book.proofs.Apart.{letters_equal, letters_same}
-use Rattle.s10_book.proofs.Counting.{issued_is}
+use Rattle.s10_history.proofs.Counting.{issued_is}
 use Rattle.s10_rows.specs.declared.serial_row.SerialRow.{SerialRow}
 use Rattle.s10_rows.specs.Tables.{HaveSameRows, pair_of, serial_row, serial_rows, flag}
 use Rattle.s10_rows.specs.RightRows.{day_in}

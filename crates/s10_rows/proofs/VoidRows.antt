@@ -11,12 +11,12 @@ use Rattle.s10_wire.specs.declared.body.Body.TheVariants.{Void}
 use Rattle.s10_wire.specs.declared.outcome.Outcome.{Outcome}
 use Rattle.s10_wire.specs.declared.outcome.Outcome.TheVariants.{Granted, Voided, NotYours}
 use Rattle.s10_wire.specs.Datagrams.{IsBody}
-use Rattle.s10_book.specs.declared.entry.Entry.{Entry}
-use Rattle.s10_book.specs.declared.issue.Issue.{Issue}
-use Rattle.s10_book.specs.declared.issuance.Issuance.{Issuance}
-use Rattle.s10_book.specs.Settings.{Terms}
-use Rattle.s10_book.specs.History.{ranges_of, is_own}
-use Rattle.s10_book.specs.Issues.{issues_of, is_of, carried_by, voids, voids_by, voided_after, is_voided, last_issues, last_issuance_of}
+use Rattle.s10_history.specs.declared.entry.Entry.{Entry}
+use Rattle.s10_history.specs.declared.issue.Issue.{Issue}
+use Rattle.s10_history.specs.declared.issuance.Issuance.{Issuance}
+use Rattle.s10_history.specs.Settings.{Terms}
+use Rattle.s10_history.specs.History.{ranges_of, is_own}
+use Rattle.s10_history.specs.Issues.{issues_of, is_of, carried_by, voids, voids_by, voided_after, is_voided, last_issues, last_issuance_of}
 use Rattle.s10_book.specs.Rules.{IsLegal, MayFollow, body_answer, void_issue}
 use Rattle.s10_book.proofs.Own.{IsOwned, owned}
 use Rattle.s10_book.proofs.Spaced.{id_same}

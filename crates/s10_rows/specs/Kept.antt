@@ -1,10 +1,10 @@
 -- What keeping a call makes of the rows.
 use Rattle.std.specs.Prelude.{◌≡◌, ⊤, ℕ, ◌+◌, ◌≤◌, ℤ, Bool, not, ◌&&◌, if◌then◌else◌, List, [], ◌∷◌, ◌++◌, map, length, filter, take}
 use Rattle.std.specs.Ordering.{int_eq}
-use Rattle.s10_book.specs.declared.entry.Entry.{Entry}
-use Rattle.s10_book.specs.declared.issuance.Issuance.{Issuance}
-use Rattle.s10_book.specs.History.{ranges_of}
-use Rattle.s10_book.specs.Issues.{issues_at, issues_of, last_issues, voided_after, pick_of}
+use Rattle.s10_history.specs.declared.entry.Entry.{Entry}
+use Rattle.s10_history.specs.declared.issuance.Issuance.{Issuance}
+use Rattle.s10_history.specs.History.{ranges_of}
+use Rattle.s10_history.specs.Issues.{issues_at, issues_of, last_issues, voided_after, pick_of}
 use Rattle.s10_rows.specs.declared.issued.Issued.{Issued}
 use Rattle.s10_rows.specs.declared.issued.Issued.TheVariants.{Never, Before}
 use Rattle.s10_rows.specs.declared.range_row.RangeRow.{RangeRow}

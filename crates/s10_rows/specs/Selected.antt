@@ -6,10 +6,10 @@ use Rattle.s10_core.specs.Serial.{IsSerial}
 use Rattle.s10_core.specs.Id.{IsId}
 use Rattle.s10_wire.specs.Kind.{fits}
 use Rattle.s10_wire.specs.Datagrams.{IsRequest, IsOutcome}
-use Rattle.s10_book.specs.declared.entry.Entry.{Entry}
-use Rattle.s10_book.specs.declared.range.Range.{Range}
-use Rattle.s10_book.specs.declared.issue.Issue.{Issue}
-use Rattle.s10_book.specs.declared.issuance.Issuance.{Issuance}
+use Rattle.s10_history.specs.declared.entry.Entry.{Entry}
+use Rattle.s10_history.specs.declared.range.Range.{Range}
+use Rattle.s10_history.specs.declared.issue.Issue.{Issue}
+use Rattle.s10_history.specs.declared.issuance.Issuance.{Issuance}
 use Rattle.s10_rows.specs.declared.serial_row.SerialRow.{SerialRow}
 use Rattle.s10_rows.specs.CallRow.{StoredCall}
 

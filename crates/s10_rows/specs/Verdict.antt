@@ -1,7 +1,7 @@
 -- What is found of the rows of the five tables.
 use Rattle.std.specs.Prelude.{◌≡◌, ◌≢◌, ℕ, zero, suc, ℤ, pos, List, [], ◌∷◌, length, take, slice_get, Some, ⊤}
-use Rattle.s10_book.specs.Settings.{Terms, AreTerms}
-use Rattle.s10_book.specs.History.{day_of}
+use Rattle.s10_history.specs.Settings.{Terms, AreTerms}
+use Rattle.s10_history.specs.History.{day_of}
 use Rattle.s10_rows.specs.declared.head_row.HeadRow.{HeadRow}
 use Rattle.s10_rows.specs.declared.open_fault.OpenFault.{OpenFault}
 use Rattle.s10_rows.specs.declared.open_fault.OpenFault.TheVariants.{NotALedger, Schema, Damaged, NotEmpty, Memory, Store}

@@ -2,14 +2,14 @@
 
 ghost use Rattle.std.specs.Prelude.{◌≡◌, ℕ, pos, Some, IfSome, IfNone};
 ghost use Rattle.s10_wire.specs.Datagrams.{Replies};
-ghost use Rattle.s10_book.specs.declared.entry.Entry.{Entry};
+ghost use Rattle.s10_history.specs.declared.entry.Entry.{Entry};
 ghost use Rattle.s10_rows.specs.Tables.{call_row};
 ghost use Rattle.s10_rows.specs.Selected.{IsCall};
 ghost use Rattle.s10_rows.specs.ReadRows.{IsCallOf};
 
 use crate::call_row::CallRow;
 use crate::column::number_in;
-use s10_book::Entry;
+use s10_history::Entry;
 use s10_wire::decode_reply;
 
 impl CallRow {

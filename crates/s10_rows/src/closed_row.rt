@@ -1,7 +1,7 @@
 ghost use Rattle.std.specs.Prelude.{◌≡◌};
 ghost use Rattle.s10_rows.specs.Tables.{closing};
 
-use s10_book::Entry;
+use s10_history::Entry;
 use s10_wire::{Body, Outcome};
 
 /// A row of `closed`: the number of a range, and the arrival of the Withdraw that closed it.

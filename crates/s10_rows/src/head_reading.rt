@@ -1,14 +1,14 @@
 //! The row of `head` is read.
 
 ghost use Rattle.std.specs.Prelude.{◌≡◌, ◌≢◌, ℤ, pos, IfSome, IfNone, IfOk, IfErr};
-ghost use Rattle.s10_book.specs.Settings.{Terms, AreTerms};
+ghost use Rattle.s10_history.specs.Settings.{Terms, AreTerms};
 ghost use Rattle.s10_rows.specs.Tables.{Tables, head_row};
 ghost use Rattle.s10_rows.specs.Verdict.{IsHead, IsRefusal};
 
 use crate::column::number_in;
 use crate::head_row::HeadRow;
 use crate::open_fault::OpenFault;
-use s10_book::Settings;
+use s10_history::Settings;
 
 // The settings of the row, whatever its number of the schema.
 fn settings_of(head: &HeadRow) -> Option<Settings>

@@ -4,11 +4,11 @@ ghost use Rattle.std.specs.Prelude.{◌≡◌, ℕ, ◌+◌, pos, true, false, L
 ghost use Rattle.s10_core.specs.declared.id.Id.{Id};
 ghost use Rattle.s10_wire.specs.declared.body.Body.TheVariants.{Void};
 ghost use Rattle.s10_wire.specs.declared.outcome.Outcome.TheVariants.{Granted, Voided};
-ghost use Rattle.s10_book.specs.declared.entry.Entry.{Entry};
-ghost use Rattle.s10_book.specs.Settings.{Terms};
+ghost use Rattle.s10_history.specs.declared.entry.Entry.{Entry};
+ghost use Rattle.s10_history.specs.Settings.{Terms};
 ghost use Rattle.s10_book.specs.Rules.{IsLegal, MayFollow};
-ghost use Rattle.s10_book.specs.History.{ranges_of, lies_in};
-ghost use Rattle.s10_book.specs.Issues.{issues_at, is_issued, serial_behind};
+ghost use Rattle.s10_history.specs.History.{ranges_of, lies_in};
+ghost use Rattle.s10_history.specs.Issues.{issues_at, is_issued, serial_behind};
 ghost use Rattle.s10_rows.specs.declared.serial_row.SerialRow.{SerialRow};
 ghost use Rattle.s10_rows.specs.declared.range_write.RangeWrite.{RangeWrite};
 ghost use Rattle.s10_rows.specs.declared.serial_write.SerialWrite.{SerialWrite};
@@ -21,8 +21,9 @@ use crate::range_row::RangeRow;
 use crate::range_write::RangeWrite;
 use crate::serial_row::SerialRow;
 use crate::serial_write::SerialWrite;
-use s10_book::{BookFault, Entry, Issuance, Range};
+use s10_book::BookFault;
 use s10_core::Serial;
+use s10_history::{Entry, Issuance, Range};
 use s10_wire::Outcome;
 
 // The write of the mark behind a serial that the range gave.

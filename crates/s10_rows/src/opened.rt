@@ -1,4 +1,4 @@
-use s10_book::Settings;
+use s10_history::Settings;
 
 /// What was found of a ledger as it was opened: its settings, how many calls are kept, and the day of the last one.
 #[derive(Clone, Copy, Debug, PartialEq, Eq)]

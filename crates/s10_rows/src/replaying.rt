@@ -2,7 +2,7 @@
 
 ghost use Rattle.std.specs.Prelude.{◌≡◌, ◌↔◌, ◌<◌, ◌≤◌, pos, length, IfSome, IfNone, IfOk, IfErr, IsTrue, None, OnOk, []};
 ghost use Rattle.s10_book.specs.Book.{Keeps};
-ghost use Rattle.s10_book.specs.History.{day_of, entry_with_key};
+ghost use Rattle.s10_history.specs.History.{day_of, entry_with_key};
 ghost use Rattle.s10_rows.specs.Tables.{Tables};
 ghost use Rattle.s10_rows.specs.RightRows.{IsRightRow, AreRight, kept_of, entry_of};
 ghost use Rattle.s10_rows.specs.Verdict.{IsHead, IsRefusal};
@@ -10,7 +10,8 @@ ghost use Rattle.s10_rows.specs.Selected.{IsCall};
 
 use crate::call_row::CallRow;
 use crate::open_fault::OpenFault;
-use s10_book::{Book, BookFault, Entry, decide};
+use s10_book::{Book, BookFault, decide};
+use s10_history::Entry;
 use s10_wire::same_outcome;
 
 // Whether the row is call number `arrival`, with the key of the call.

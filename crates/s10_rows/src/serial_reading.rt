@@ -1,14 +1,14 @@
 //! Rows of `serials` are read.
 
 ghost use Rattle.std.specs.Prelude.{◌≡◌, Bool, Some, IfSome};
-ghost use Rattle.s10_book.specs.declared.issuance.Issuance.{Issuance};
+ghost use Rattle.s10_history.specs.declared.issuance.Issuance.{Issuance};
 ghost use Rattle.s10_rows.specs.Tables.{serial_row};
 ghost use Rattle.s10_rows.specs.Selected.{IsIssuance, issue_told};
 ghost use Rattle.s10_rows.specs.ReadRows.{Tells};
 
 use crate::column::{flag_in, number_in};
 use crate::serial_row::SerialRow;
-use s10_book::Issue;
+use s10_history::Issue;
 
 // The issue that the row tells. None where a column of it does not read.
 pub(crate) fn issue_in(row: &SerialRow) -> Option<Issue>

@@ -1,16 +1,17 @@
 //! How the serials of a range were used, by its rows of `serials`.
 
 ghost use Rattle.std.specs.Prelude.{◌≡◌, ℕ, ◌+◌, ◌-◌, ◌<◌, ◌≤◌, ◌^◌, pos, max, nat_le, not, if◌then◌else◌, List, filter, All, Ok, IfOk, IfErr};
-ghost use Rattle.s10_book.specs.declared.entry.Entry.{Entry};
-ghost use Rattle.s10_book.specs.History.{day_of};
-ghost use Rattle.s10_book.specs.Usage.{usage_of};
+ghost use Rattle.s10_history.specs.declared.entry.Entry.{Entry};
+ghost use Rattle.s10_history.specs.History.{day_of};
+ghost use Rattle.s10_history.specs.Usage.{usage_of};
 ghost use Rattle.s10_rows.specs.Tables.{HaveSameRows, pair_of, serial_rows};
 ghost use Rattle.s10_rows.specs.Selected.{IsCall, IsRange, is_within};
 ghost use Rattle.s10_rows.specs.ReadRows.{IsUsageOf};
 
 use crate::serial_reading::issue_in;
 use crate::serial_row::SerialRow;
-use s10_book::{BookFault, Issue, Range, Usage};
+use s10_book::BookFault;
+use s10_history::{Issue, Range, Usage};
 
 // The usage with one more issue, of a serial that was counted as free.
 fn with_issue(usage: Usage, issue: &Issue, day: u32, interval: u32) -> Usage

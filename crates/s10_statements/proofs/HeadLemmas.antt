@@ -19,7 +19,7 @@ use Rattle.sqlite.specs.Given.{IsPlain}
 use Rattle.sqlite.specs.Listing.{understood}
 use Rattle.sqlite.specs.State.{State, mode_of, Executes}
 use Rattle.sqlite.proofs.Callers.{command_of, statement_of, runs_as, one_step}
-use Rattle.s10_book.specs.Settings.{Terms}
+use Rattle.s10_history.specs.Settings.{Terms}
 use Rattle.s10_schema.specs.Schema.{with_others, with_closed, closed_first, others_behind_closed, head_table}
 use Rattle.s10_rows.specs.Tables.{Tables, head_row}
 use Rattle.s10_statements.specs.Shown.{HasTables, shown_head, head_columns}

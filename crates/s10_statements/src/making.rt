@@ -10,7 +10,7 @@ ghost use Rattle.s10_rows.specs.Tables.{Tables, no_rows, head_row};
 ghost use Rattle.s10_statements.specs.Shown.{HasTables, StandsFor};
 ghost use Rattle.s10_statements.specs.Settled.{IsSettled, WasSound, IsClean, IsOpen, IsInTransaction, StaysUnclean};
 
-use s10_book::Settings;
+use s10_history::Settings;
 use s10_rows::OpenFault;
 use sqlite::{Alter, Connection, Error, Transaction, params};
 

@@ -10,7 +10,7 @@ ghost use Rattle.s10_statements.specs.Shown.{HasTables};
 ghost use Rattle.s10_statements.specs.Settled.{IsSettled, IsClean, IsOpen, IsInTransaction, StaysUnclean};
 ghost use Rattle.s10_rows.specs.Kept.{FindAtMostOne, is_at, row_of, with_range, with_ranges, with_serial, with_serials};
 
-use s10_book::Entry;
+use s10_history::Entry;
 use s10_rows::{ClosedRow, RangeRow, RangeWrite, SerialRow, SerialWrite};
 use sqlite::{Alter, Connection, Error, Transaction, params};
 

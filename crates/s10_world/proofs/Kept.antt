@@ -13,10 +13,10 @@ use Rattle.s10_wire.specs.declared.request.Request.{Request}
 use Rattle.s10_wire.specs.declared.outcome.Outcome.{Outcome}
 use Rattle.s10_wire.specs.Datagrams.{Replies}
 use Rattle.s10_wire.proofs.Replied.{one_reply}
-use Rattle.s10_book.specs.declared.entry.Entry.{Entry}
+use Rattle.s10_history.specs.declared.entry.Entry.{Entry}
 use Rattle.s10_book.specs.declared.faults.Faults.{Faults}
-use Rattle.s10_book.specs.Settings.{Terms}
-use Rattle.s10_book.specs.History.{has_key, entry_with_key}
+use Rattle.s10_history.specs.Settings.{Terms}
+use Rattle.s10_history.specs.History.{has_key, entry_with_key}
 use Rattle.s10_book.specs.Once.{applied_once}
 use Rattle.s10_ends.specs.declared.submit_fault.SubmitFault.{SubmitFault}
 use Rattle.s10_ends.specs.declared.submit_fault.SubmitFault.TheVariants.{Busy, NumbersSpent}

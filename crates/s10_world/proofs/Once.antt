@@ -6,8 +6,8 @@ use Rattle.std.proofs.lemmas.List.{length_push}
 use Rattle.s10_wire.specs.declared.request.Request.{Request}
 use Rattle.s10_wire.specs.Datagrams.{Asks}
 use Rattle.s10_wire.proofs.Asked.{one_request}
-use Rattle.s10_book.specs.declared.entry.Entry.{Entry}
-use Rattle.s10_book.specs.History.{has_key, entry_with_key}
+use Rattle.s10_history.specs.declared.entry.Entry.{Entry}
+use Rattle.s10_history.specs.History.{has_key, entry_with_key}
 use Rattle.s10_book.specs.Once.{same_key, applied, applied_once}
 use Rattle.s10_ends.specs.Served.{Dated, AskNothing, AreAsked}
 use Rattle.s10_ends.specs.Served.AreAsked.{none, nothing, request}

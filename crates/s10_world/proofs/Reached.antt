@@ -5,9 +5,9 @@ use Rattle.std.proofs.lemmas.List.Elements.{All-nil, All-same}
 use Rattle.std.proofs.lemmas.Option.{none-some}
 use Rattle.s10_wire.specs.declared.body.Body.{Body}
 use Rattle.s10_wire.specs.declared.request.Request.{Request}
-use Rattle.s10_book.specs.declared.entry.Entry.{Entry}
-use Rattle.s10_book.specs.Settings.{Terms}
-use Rattle.s10_book.specs.History.{entry_with_key, day_of}
+use Rattle.s10_history.specs.declared.entry.Entry.{Entry}
+use Rattle.s10_history.specs.Settings.{Terms}
+use Rattle.s10_history.specs.History.{entry_with_key, day_of}
 use Rattle.s10_book.specs.Once.{entry_for, applied}
 use Rattle.s10_book.specs.Rules.{IsLegal}
 use Rattle.s10_book.proofs.Push.{IsLegal-push}

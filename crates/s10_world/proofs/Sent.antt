@@ -11,13 +11,13 @@ use Rattle.s10_wire.specs.declared.frame.Frame.{Frame}
 use Rattle.s10_wire.specs.Reply.{request_of, outcome_of}
 use Rattle.s10_wire.specs.Datagrams.{Asks}
 use Rattle.s10_wire.proofs.Replied.{one_reply}
-use Rattle.s10_book.specs.declared.entry.Entry.{Entry}
+use Rattle.s10_history.specs.declared.entry.Entry.{Entry}
 use Rattle.s10_book.specs.declared.book_fault.BookFault.{BookFault}
 use Rattle.s10_book.specs.declared.book_fault.BookFault.TheVariants.{Memory, Store, Full}
 use Rattle.s10_book.specs.declared.faults.Faults.{Faults}
 use Rattle.s10_book.specs.BookFault.{CountsFault}
-use Rattle.s10_book.specs.Settings.{Terms}
-use Rattle.s10_book.specs.History.{entry_with_key}
+use Rattle.s10_history.specs.Settings.{Terms}
+use Rattle.s10_history.specs.History.{entry_with_key}
 use Rattle.s10_book.specs.Once.{applied, applied_once}
 use Rattle.s10_ends.specs.declared.answer.Answer.TheVariants.{Reply as replied_with, Faulted}
 use Rattle.s10_ends.specs.declared.submit_fault.SubmitFault.{SubmitFault}

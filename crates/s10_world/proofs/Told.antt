@@ -11,12 +11,12 @@ use Rattle.s10_wire.specs.declared.request.Request.{Request}
 use Rattle.s10_wire.specs.declared.outcome.Outcome.{Outcome}
 use Rattle.s10_wire.specs.declared.outcome.Outcome.TheVariants.{Granted, Voided, Told, NotThePost, BadGrant, Overlap, NotYours, AlreadyVoid, NumberReused, Withdrawn, NoSuchRange, Closed}
 use Rattle.s10_wire.specs.declared.status.Status.{Status}
-use Rattle.s10_book.specs.declared.entry.Entry.{Entry}
-use Rattle.s10_book.specs.declared.range.Range.{Range}
-use Rattle.s10_book.specs.declared.issue.Issue.{Issue}
-use Rattle.s10_book.specs.declared.issuance.Issuance.{Issuance}
-use Rattle.s10_book.specs.Settings.{Terms}
-use Rattle.s10_book.specs.History.{has_key, entry_with_key}
+use Rattle.s10_history.specs.declared.entry.Entry.{Entry}
+use Rattle.s10_history.specs.declared.range.Range.{Range}
+use Rattle.s10_history.specs.declared.issue.Issue.{Issue}
+use Rattle.s10_history.specs.declared.issuance.Issuance.{Issuance}
+use Rattle.s10_history.specs.Settings.{Terms}
+use Rattle.s10_history.specs.History.{has_key, entry_with_key}
 use Rattle.s10_book.specs.Rules.{IsLegal, answer_of, outcome_of_pick, outcome_of_row, void_issue}
 use Rattle.s10_ends.specs.Served.{Gives}
 use Rattle.s10_world.specs.World.{Acceptance, WorldState}

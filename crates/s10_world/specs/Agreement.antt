@@ -4,9 +4,9 @@ use Rattle.s10_core.specs.declared.id.Id.{Id}
 use Rattle.s10_wire.specs.declared.request.Request.{Request}
 use Rattle.s10_wire.specs.declared.outcome.Outcome.{Outcome}
 use Rattle.s10_wire.specs.declared.outcome.Outcome.TheVariants.{NumberReused}
-use Rattle.s10_book.specs.declared.entry.Entry.{Entry}
-use Rattle.s10_book.specs.History.{has_key}
-use Rattle.s10_book.specs.Issues.{carried_by}
+use Rattle.s10_history.specs.declared.entry.Entry.{Entry}
+use Rattle.s10_history.specs.History.{has_key}
+use Rattle.s10_history.specs.Issues.{carried_by}
 use Rattle.s10_ends.specs.Client.{ClientState}
 use Rattle.s10_world.specs.World.{Acceptance, WorldState}
 

@@ -1,7 +1,7 @@
 //! What every reachable world keeps.
 
 ghost use Rattle.std.specs.Prelude.{List};
-ghost use Rattle.s10_book.specs.Settings.{Terms};
+ghost use Rattle.s10_history.specs.Settings.{Terms};
 ghost use Rattle.s10_book.specs.Rules.{IsLegal};
 ghost use Rattle.s10_ends.specs.Runs.{IsKept};
 ghost use Rattle.s10_world.specs.declared.event.Event.{Event};

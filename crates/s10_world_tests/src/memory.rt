@@ -1,5 +1,6 @@
 use crate::story::{EVENTS, empty_book, new_world, story};
-use s10_book::{Book, BookFault, Entry, PlainBook};
+use s10_book::{Book, BookFault, PlainBook};
+use s10_history::Entry;
 use s10_world::{Event, World, WorldFault};
 use std::alloc::{AllocError, Global};
 use std::test::Fail;

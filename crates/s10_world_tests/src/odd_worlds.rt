@@ -1,7 +1,8 @@
 //! Worlds of strange bytes and of a full book.
 
 use crate::story::{draw, grant, new_world, resend, story, submit, to_client, to_server};
-use s10_book::{Book, PlainBook, Settings};
+use s10_book::{Book, PlainBook};
+use s10_history::Settings;
 use s10_link::Packet;
 use s10_world::{Event, World};
 use std::alloc::Global;

@@ -3,9 +3,10 @@
 ghost use Rattle.std.specs.Prelude.{◌≡◌, IfOk, All, length};
 ghost use Rattle.s10_ends.specs.Client.{IsNew};
 
-use s10_book::{Book, PlainBook, Settings};
+use s10_book::{Book, PlainBook};
 use s10_core::{Country, Serial, Service};
 use s10_ends::{Client, Server};
+use s10_history::Settings;
 use s10_wire::Body;
 use s10_world::{Event, World};
 use std::alloc::{AllocError, Global};

@@ -1,6 +1,7 @@
 use crate::story::{draw, empty_book, grant, new_world, story};
-use s10_book::{Book, BookFault, Entry, TripBook};
+use s10_book::{Book, BookFault, TripBook};
 use s10_core::Id;
+use s10_history::Entry;
 use s10_wire::{Body, Frame, Outcome, Reply, Request};
 use s10_world::World;
 use std::alloc::Global;

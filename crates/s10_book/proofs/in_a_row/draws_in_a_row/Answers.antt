@@ -1,12 +1,12 @@
 use Rattle.std.proofs.Common.{◌≡◌, ℕ, suc, ◌+◌, ◌<◌, List, [], ◌∷◌, ◌++◌, length, length-append, sym, ap, ◌∙◌, subst, arith, Some, None}
 use Rattle.std.specs.Prelude.{find}
 use Rattle.s10_core.specs.declared.id.Id.{Id}
-use Rattle.s10_book.specs.History.{ranges_of, is_open}
-use Rattle.s10_book.specs.Issues.{issues_of, free_pick_of}
+use Rattle.s10_history.specs.History.{ranges_of, is_open}
+use Rattle.s10_history.specs.Issues.{issues_of, free_pick_of}
 use Rattle.s10_book.specs.Rules.{draws_in_a_row}
-use Rattle.s10_book.specs.Settings.{Terms}
+use Rattle.s10_history.specs.Settings.{Terms}
 use Rattle.s10_book.proofs.Calls.{Keeps-trans}
-use Rattle.s10_book.proofs.Ranges.{above}
+use Rattle.s10_history.proofs.Numbering.{above}
 use Rattle.s10_book.proofs.Taking.{IsAt, drawn_on, given_legal, at_first, at_given, at_next, at_none_given, walked, walked_out, walked_nowhere}
 use Rattle.s10_book.proofs.in_a_row.draws_in_a_row.Goals as goal
 

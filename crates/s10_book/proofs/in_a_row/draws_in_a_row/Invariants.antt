@@ -1,6 +1,6 @@
 use Rattle.std.proofs.Common.{◌≡◌, ◌+◌, ◌-◌, ◌*◌, ◌^◌, ◌≤◌, length}
-use Rattle.s10_book.specs.History.{ranges_of, is_open}
-use Rattle.s10_book.specs.Issues.{issues_of}
+use Rattle.s10_history.specs.History.{ranges_of, is_open}
+use Rattle.s10_history.specs.Issues.{issues_of}
 use Rattle.s10_book.specs.Book.{Keeps}
 use Rattle.s10_book.proofs.Taking.{IsAt, drawn_on}
 use Rattle.s10_book.proofs.in_a_row.draws_in_a_row.Given as goal

@@ -1,5 +1,5 @@
 use Rattle.std.proofs.Common.{◌<◌, length, arith}
-use Rattle.s10_book.specs.Issues.{issues_at}
+use Rattle.s10_history.specs.Issues.{issues_at}
 use Rattle.s10_book.proofs.Making.{issues_more, length-issues_at}
 use Rattle.s10_book.proofs.plain_book.push_issues.Goals as goal
 

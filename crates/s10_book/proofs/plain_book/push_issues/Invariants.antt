@@ -1,5 +1,5 @@
 use Rattle.std.proofs.Common.{◌≡◌, ◌≤◌, ◌+◌, ◌++◌, length, take, vec_len, vec_capacity}
-use Rattle.s10_book.specs.Issues.{issues_at}
+use Rattle.s10_history.specs.Issues.{issues_at}
 use Rattle.s10_book.proofs.plain_book.push_issues.Given as goal
 
 -- the issues so far were added, and there is room for all of them

@@ -1,5 +1,5 @@
 use Rattle.std.proofs.Common.{◌∙◌, ap, sym, arith}
-use Rattle.s10_book.specs.Settings.{Terms}
+use Rattle.s10_history.specs.Settings.{Terms}
 use Rattle.s10_book.proofs.Fewer.{few_told}
 use Rattle.s10_book.proofs.Free.{nothing_free}
 use Rattle.s10_book.proofs.rules.decide.Goals as goal

@@ -1,13 +1,13 @@
 use Rattle.std.proofs.Common.{arith, ◌≡◌, ◌<◌, true, false, sym, ap, ◌∙◌, refl, Some, None}
 use Rattle.std.specs.Prelude.{find}
 use Rattle.s10_wire.specs.declared.outcome.Outcome.TheVariants.{Drawn}
-use Rattle.s10_book.specs.declared.candidate.Candidate.{Candidate}
-use Rattle.s10_book.specs.Issues.{issues_of, candidate_of, id_at}
-use Rattle.s10_book.specs.History.{ranges_of, is_open, ranges_open}
+use Rattle.s10_history.specs.declared.candidate.Candidate.{Candidate}
+use Rattle.s10_history.specs.Issues.{issues_of, candidate_of, id_at}
+use Rattle.s10_history.specs.History.{ranges_of, is_open, ranges_open}
 use Rattle.s10_book.specs.Rules.{draw_answer, has_free_pick}
-use Rattle.s10_book.specs.Settings.{Terms}
+use Rattle.s10_history.specs.Settings.{Terms}
 use Rattle.s10_book.proofs.Calls.{Keeps-trans, Keeps-refl}
-use Rattle.s10_book.proofs.Ranges.{above, numbered, Contains-find}
+use Rattle.s10_history.proofs.Numbering.{above, numbered, Contains-find}
 use Rattle.s10_book.proofs.Drawing.{Remaining-start, Remaining-next, Remaining-found, Remaining-none, Remaining-empty, passes_is, drawn_found, drawn_none, drawn_empty}
 use Rattle.s10_book.proofs.rules.decide_draw.Goals as goal
 

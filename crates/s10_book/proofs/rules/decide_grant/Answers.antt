@@ -1,7 +1,7 @@
 use Rattle.std.proofs.Common.{◌≡◌, ◌∙◌, ◌≤◌, ◌+◌, true, false, sym, ap, arith, length}
 use Rattle.std.specs.List.{list_any}
 use Rattle.s10_wire.specs.declared.outcome.Outcome.TheVariants.{Granted}
-use Rattle.s10_book.specs.History.{ranges_of, overlaps}
+use Rattle.s10_history.specs.History.{ranges_of, overlaps}
 use Rattle.s10_book.proofs.Granting.{any_is, grant_of_post}
 use Rattle.s10_book.proofs.rules.decide_grant.Goals as goal
 

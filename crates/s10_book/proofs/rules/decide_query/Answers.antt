@@ -1,8 +1,8 @@
 use Rattle.std.proofs.Common.{◌≡◌, ◌∙◌, sym, ap, true}
 use Rattle.std.specs.List.{list_any}
 use Rattle.s10_wire.specs.declared.outcome.Outcome.TheVariants.{Told}
-use Rattle.s10_book.specs.History.{ranges_of, is_own}
-use Rattle.s10_book.specs.Issues.{last_issue_of}
+use Rattle.s10_history.specs.History.{ranges_of, is_own}
+use Rattle.s10_history.specs.Issues.{last_issue_of}
 use Rattle.s10_book.specs.Rules.{status_of_issue}
 use Rattle.s10_book.proofs.Owning.{own_query}
 use Rattle.s10_book.proofs.rules.decide_query.Goals as goal

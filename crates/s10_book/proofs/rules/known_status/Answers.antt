@@ -1,8 +1,8 @@
 use Rattle.std.proofs.Common.{◌≡◌, ◌∙◌, sym, ap, true, false}
 use Rattle.std.specs.Prelude.{not}
 use Rattle.std.proofs.lemmas.Result.{IfOk-weaker}
-use Rattle.s10_book.specs.History.{ranges_of}
-use Rattle.s10_book.specs.Issues.{last_issue_of}
+use Rattle.s10_history.specs.History.{ranges_of}
+use Rattle.s10_history.specs.Issues.{last_issue_of}
 use Rattle.s10_book.specs.Rules.{status_of, status_of_issue}
 use Rattle.s10_book.proofs.Owning.{lies_any, status_at}
 use Rattle.s10_book.proofs.rules.known_status.Goals as goal

@@ -1,5 +1,5 @@
 use Rattle.std.proofs.Common.{◌≡◌, ◌≤◌, ◌-◌, length}
-use Rattle.s10_book.specs.History.{ranges_of}
+use Rattle.s10_history.specs.History.{ranges_of}
 use Rattle.s10_book.specs.Book.{Keeps}
 use Rattle.s10_book.proofs.rules.next_number.Given as goal
 

@@ -1,7 +1,7 @@
 use Rattle.std.specs.Prelude.{◌==◌}
-use Rattle.s10_book.specs.declared.range.Range.{Range}
-use Rattle.s10_book.specs.History.{ranges_of}
-use Rattle.s10_book.proofs.Ranges.{Contains-answered}
+use Rattle.s10_history.specs.declared.range.Range.{Range}
+use Rattle.s10_history.specs.History.{ranges_of}
+use Rattle.s10_history.proofs.Numbering.{Contains-answered}
 use Rattle.s10_book_tests.proofs.reads.usage_of_first.Goals as goal
 
 pub usage-requires : goal.usage-requires

@@ -1,7 +1,7 @@
 use Rattle.std.proofs.Common.{◌≡◌, ◌∙◌, refl, sym, ap, Some, None, ◌++◌, ◌∷◌, [], max}
-use Rattle.s10_book.specs.History.{entry_with_key, day_of}
+use Rattle.s10_history.specs.History.{entry_with_key, day_of}
 use Rattle.s10_book.specs.Rules.{answer_of}
-use Rattle.s10_book.specs.Settings.{Terms}
+use Rattle.s10_history.specs.Settings.{Terms}
 use Rattle.s10_ends.proofs.Applied.{once_new, kept_new}
 use Rattle.s10_ends.proofs.server.respond.Goals as goal
 

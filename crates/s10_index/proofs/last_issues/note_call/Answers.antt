@@ -1,7 +1,7 @@
 use Rattle.std.proofs.Common.{◌∙◌, Bool, cond, ◌++◌, ◌∷◌, [], Option, sym, ap, ap₂}
 use Rattle.std.specs.Option.{option_map}
-use Rattle.s10_book.specs.Issues.{carried_by}
-use Rattle.s10_book.specs.declared.issue.Issue.{Issue}
+use Rattle.s10_history.specs.Issues.{carried_by}
+use Rattle.s10_history.specs.declared.issue.Issue.{Issue}
 use Rattle.s10_index.specs.Keys.{id_key}
 use Rattle.s10_index.specs.LastIssues.{voided_issue}
 use Rattle.s10_index.proofs.Issuing.{keys_tell, last_left, last_voided, last_told, told_before}

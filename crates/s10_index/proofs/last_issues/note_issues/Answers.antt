@@ -2,9 +2,9 @@ use Rattle.std.proofs.Common.{◌≡◌, ◌<◌, ◌≤◌, ◌++◌, ◌∷◌
 use Rattle.std.specs.Prelude.{slice_get}
 use Rattle.std.specs.Option.{option_map}
 use Rattle.std.specs.HashMap.{spare, get}
-use Rattle.s10_book.specs.declared.issue.Issue.{Issue}
-use Rattle.s10_book.specs.declared.issuance.Issuance.{Issuance}
-use Rattle.s10_book.specs.Issues.{carried_by, issues_at, last_issuance_of}
+use Rattle.s10_history.specs.declared.issue.Issue.{Issue}
+use Rattle.s10_history.specs.declared.issuance.Issuance.{Issuance}
+use Rattle.s10_history.specs.Issues.{carried_by, issues_at, last_issuance_of}
 use Rattle.s10_ranges.proofs.Carrying.{upto_all, issue_within}
 use Rattle.s10_index.specs.Keys.{same_key, id_key}
 use Rattle.s10_index.specs.LastIssues.{as_issue, told}

@@ -1,7 +1,7 @@
 use Rattle.std.proofs.Common.{◌≤◌, ◌+◌, List, ◌++◌, ◌∷◌, [], length}
 use Rattle.std.specs.HashMap.{spare}
-use Rattle.s10_book.specs.declared.entry.Entry.{Entry}
-use Rattle.s10_book.specs.Issues.{issues_of, carried_by}
+use Rattle.s10_history.specs.declared.entry.Entry.{Entry}
+use Rattle.s10_history.specs.Issues.{issues_of, carried_by}
 use Rattle.s10_ranges.proofs.Carrying.{issues_upto}
 use Rattle.s10_index.specs.LastIssues.{HasLast}
 use Rattle.s10_index.proofs.last_issues.note_issues.Given as goal

@@ -1,7 +1,7 @@
 use Rattle.std.proofs.Common.{◌≡◌, ◌∙◌, Some, None, sym, ap}
 use Rattle.std.specs.Option.{option_copied}
 use Rattle.std.specs.List.{position_from}
-use Rattle.s10_book.specs.History.{has_key}
+use Rattle.s10_history.specs.History.{has_key}
 use Rattle.s10_index.proofs.Placing.{none_placed, placed_call, item_at}
 use Rattle.s10_index.proofs.places.kept_call.Goals as goal
 

@@ -1,5 +1,5 @@
 use Rattle.std.proofs.Common.{◌≡◌, ◌∙◌, ◌∷◌, sym, ap, arith}
-use Rattle.s10_book.specs.Issues.{last_issue_of}
+use Rattle.s10_history.specs.Issues.{last_issue_of}
 use Rattle.s10_rows.specs.declared.serial_row.SerialRow.{SerialRow}
 use Rattle.s10_index.specs.RowsBehind.{last_rows}
 use Rattle.s10_index.proofs.LastRows.{some_issue, other_issue, own_issue}

@@ -1,7 +1,7 @@
 use Rattle.std.proofs.Common.{◌≡◌, ◌≤◌, List, ◌++◌, Some}
 use Rattle.std.specs.Prelude.{slice_get}
-use Rattle.s10_book.specs.declared.entry.Entry.{Entry}
-use Rattle.s10_book.specs.Settings.{Terms}
+use Rattle.s10_history.specs.declared.entry.Entry.{Entry}
+use Rattle.s10_history.specs.Settings.{Terms}
 use Rattle.s10_book.specs.Rules.{IsLegal}
 use Rattle.s10_index.specs.LastIssues.{HasIssues}
 use Rattle.s10_index.specs.RowsBehind.{last_rows, rows_behind}

@@ -1,5 +1,5 @@
 use Rattle.std.proofs.Common.{◌≡◌, ◌≢◌, ◌∙◌, ◌∷◌, [], ◌≤◌, ℕ, List, Some, None, refl, sym, subst, arith, take}
-use Rattle.s10_book.specs.Settings.{Terms}
+use Rattle.s10_history.specs.Settings.{Terms}
 use Rattle.s10_ends.specs.Served.{Served}
 use Rattle.s10_ends.specs.Runs.{dated}
 use Rattle.s10_jobs.specs.InputLines.{without_return}

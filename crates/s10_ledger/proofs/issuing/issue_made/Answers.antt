@@ -1,7 +1,7 @@
 use Rattle.std.proofs.Common.{◌≡◌, ◌+◌, ℕ, ◌∙◌, false, length, sym, ap, subst, arith, take, Some}
 use Rattle.std.specs.Prelude.{find, slice_get}
 use Rattle.std.proofs.lemmas.Option.{none-some, same_Some}
-use Rattle.s10_book.specs.Issues.{id_at, is_issued, issues_at, issues_of}
+use Rattle.s10_history.specs.Issues.{id_at, is_issued, issues_at, issues_of}
 use Rattle.s10_ranges.specs.declared.mark.Mark.{Mark}
 use Rattle.s10_ranges.specs.Turns.{mark_of}
 use Rattle.s10_ranges.proofs.Marked.{mark_above, mark_held}

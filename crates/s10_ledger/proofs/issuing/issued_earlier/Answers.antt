@@ -1,5 +1,5 @@
 use Rattle.std.proofs.Common.{◌≡◌, rules, sym, ◌∙◌, true, false, Some}
-use Rattle.s10_book.specs.Issues.{issues_at, is_of}
+use Rattle.s10_history.specs.Issues.{issues_at, is_of}
 use Rattle.s10_ledger.proofs.Earlier.{issued_before, not_issued_yet}
 use Rattle.s10_ledger.proofs.issuing.issued_earlier.Goals as goal
 use Rattle.s10_ledger.proofs.issuing.issued_earlier.Goals.{in-Some+else-eq, in_default}

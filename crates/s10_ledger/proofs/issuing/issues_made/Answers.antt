@@ -2,7 +2,7 @@ use Rattle.std.proofs.Common.{◌≡◌, ◌+◌, ◌++◌, ◌∷◌, [], ◌�
 use Rattle.std.specs.Prelude.{slice_get}
 use Rattle.std.proofs.lemmas.List.{length-map}
 use Rattle.std.proofs.lemmas.Option.{slice_get_past}
-use Rattle.s10_book.specs.Issues.{carried_by, issues_at}
+use Rattle.s10_history.specs.Issues.{carried_by, issues_at}
 use Rattle.s10_book.proofs.Carried.{made_by}
 use Rattle.s10_rows.specs.declared.serial_write.SerialWrite.{SerialWrite}
 use Rattle.s10_rows.proofs.IssueRows.{all_make}

@@ -1,5 +1,5 @@
 use Rattle.std.proofs.Common.{refl}
-use Rattle.s10_book.specs.History.{ranges_of}
+use Rattle.s10_history.specs.History.{ranges_of}
 use Rattle.s10_rows.specs.Tables.{tables_of}
 use Rattle.s10_rows.specs.Selected.{IsRange}
 use Rattle.s10_rows.proofs.Parts.{ranges_of_fit}

@@ -1,6 +1,6 @@
 use Rattle.std.proofs.Common.{sym, subst, pos}
 use Rattle.std.proofs.lemmas.Result.{err_from_is_err_and}
-use Rattle.s10_book.specs.Settings.{Terms}
+use Rattle.s10_history.specs.Settings.{Terms}
 use Rattle.s10_rows.specs.RightRows.{AreRight}
 use Rattle.s10_rows.specs.Verdict.{IsHead}
 use Rattle.s10_ledger.proofs.remade.replayed.Goals as goal

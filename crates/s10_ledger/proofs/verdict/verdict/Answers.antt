@@ -1,7 +1,7 @@
 use Rattle.std.proofs.Common.{sym, subst, All, List}
 use Rattle.std.proofs.lemmas.Result.{err_from_is_err_and}
 use Rattle.std.proofs.lemmas.Bool.{both_ways}
-use Rattle.s10_book.specs.declared.entry.Entry.{Entry}
+use Rattle.s10_history.specs.declared.entry.Entry.{Entry}
 use Rattle.s10_index.specs.CallIndex.{Indexes}
 use Rattle.s10_rows.specs.declared.range_row.RangeRow.{RangeRow}
 use Rattle.s10_rows.specs.declared.serial_row.SerialRow.{SerialRow}

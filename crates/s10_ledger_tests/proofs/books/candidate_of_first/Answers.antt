@@ -1,8 +1,8 @@
 use Rattle.std.proofs.Common.{◌≡◌, ◌∙◌, sym}
 use Rattle.std.specs.Prelude.{◌==◌, find}
-use Rattle.s10_book.specs.declared.range.Range.{Range}
-use Rattle.s10_book.specs.History.{ranges_of}
-use Rattle.s10_book.proofs.Ranges.{Contains-find}
+use Rattle.s10_history.specs.declared.range.Range.{Range}
+use Rattle.s10_history.specs.History.{ranges_of}
+use Rattle.s10_history.proofs.Numbering.{Contains-find}
 use Rattle.s10_ledger_tests.proofs.books.candidate_of_first.Goals as goal
 
 pub candidate-requires : goal.candidate-requires

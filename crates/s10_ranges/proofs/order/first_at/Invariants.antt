@@ -1,5 +1,5 @@
 use Rattle.std.proofs.Common.{ℕ, ◌-◌, ◌<◌, ◌≤◌, length}
-use Rattle.s10_book.specs.declared.range.Range.{Range}
+use Rattle.s10_history.specs.declared.range.Range.{Range}
 use Rattle.s10_ranges.specs.Keys.{key_by}
 use Rattle.s10_ranges.specs.Order.{range_at}
 use Rattle.s10_ranges.proofs.order.first_at.Given as goal

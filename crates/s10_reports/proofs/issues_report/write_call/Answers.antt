@@ -1,8 +1,8 @@
 use Rattle.std.proofs.Common.{◌≡◌, ◌∙◌, List, Option, sym, ap, subst}
 use Rattle.std.specs.Io.KnownBytes.{Appends}
-use Rattle.s10_book.specs.declared.entry.Entry.{Entry}
-use Rattle.s10_book.specs.declared.issue.Issue.{Issue}
-use Rattle.s10_book.specs.Issues.{issues_at, last_issue_of}
+use Rattle.s10_history.specs.declared.entry.Entry.{Entry}
+use Rattle.s10_history.specs.declared.issue.Issue.{Issue}
+use Rattle.s10_history.specs.Issues.{issues_at, last_issue_of}
 use Rattle.s10_book.proofs.Calls.{Keeps-trans}
 use Rattle.s10_reports.specs.Reports.{issue_line, issue_lines}
 use Rattle.s10_reports.proofs.Reporting.{issue_next, report_more}

@@ -1,7 +1,7 @@
 use Rattle.std.proofs.Common.{◌≡◌, take}
 use Rattle.std.specs.Io.KnownBytes.{Appends}
 use Rattle.s10_book.specs.Book.{Keeps}
-use Rattle.s10_book.specs.Issues.{issues_at}
+use Rattle.s10_history.specs.Issues.{issues_at}
 use Rattle.s10_reports.specs.Reports.{joined, issue_lines}
 use Rattle.s10_reports.proofs.issues_report.write_call.Given as goal
 

@@ -1,9 +1,9 @@
 use Rattle.std.proofs.Common.{◌≡◌, ◌+◌, List, take, ap, ◌∙◌, subst, arith}
 use Rattle.std.specs.Prelude.{⊤, Err}
 use Rattle.std.specs.Io.KnownBytes.{Appends}
-use Rattle.s10_book.specs.declared.entry.Entry.{Entry}
-use Rattle.s10_book.specs.History.{entry_at}
-use Rattle.s10_book.specs.Issues.{issues_at}
+use Rattle.s10_history.specs.declared.entry.Entry.{Entry}
+use Rattle.s10_history.specs.History.{entry_at}
+use Rattle.s10_history.specs.Issues.{issues_at}
 use Rattle.s10_reports.specs.Reports.{joined, issue_lines, issues_report}
 use Rattle.s10_reports.specs.ReportFault.{Reported}
 use Rattle.s10_book.proofs.Calls.{Keeps-trans}

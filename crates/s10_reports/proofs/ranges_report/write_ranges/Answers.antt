@@ -1,13 +1,13 @@
 use Rattle.std.proofs.Common.{◌≡◌, ◌+◌, List, Some, sym, ap, ◌∙◌, arith}
 use Rattle.std.specs.Prelude.{find, is_some, ◌==◌}
-use Rattle.s10_book.specs.declared.entry.Entry.{Entry}
-use Rattle.s10_book.specs.Settings.{Terms}
-use Rattle.s10_book.specs.History.{ranges_of, is_closed}
-use Rattle.s10_book.specs.Usage.{usage_of}
+use Rattle.s10_history.specs.declared.entry.Entry.{Entry}
+use Rattle.s10_history.specs.Settings.{Terms}
+use Rattle.s10_history.specs.History.{ranges_of, is_closed}
+use Rattle.s10_history.specs.Usage.{usage_of}
 use Rattle.s10_reports.specs.Reports.{range_line, ranges_report}
 use Rattle.s10_book.proofs.Calls.{Keeps-trans}
-use Rattle.s10_book.proofs.Push.{length-ranges_from}
-use Rattle.s10_book.proofs.Ranges.{numbered, Contains-find}
+use Rattle.s10_history.proofs.Push.{length-ranges_from}
+use Rattle.s10_history.proofs.Numbering.{numbered, Contains-find}
 use Rattle.s10_book.proofs.Numbers.{missing_above}
 use Rattle.s10_reports.proofs.Reporting.{report_whole, report_more, ranges_all, ranges_next}
 use Rattle.s10_reports.proofs.ranges_report.write_ranges.Goals as goal

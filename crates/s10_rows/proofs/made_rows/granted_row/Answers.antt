@@ -1,7 +1,7 @@
 use Rattle.std.proofs.Common.{◌≡◌, ℕ, sym, ap, ◌∙◌, subst, [], ◌∷◌, Some}
 use Rattle.s10_wire.specs.declared.outcome.Outcome.{Outcome}
 use Rattle.s10_wire.specs.declared.outcome.Outcome.TheVariants.{Granted}
-use Rattle.s10_book.specs.History.{range_of_grant}
+use Rattle.s10_history.specs.History.{range_of_grant}
 use Rattle.s10_rows.specs.declared.range_row.RangeRow.{RangeRow}
 use Rattle.s10_rows.specs.declared.range_write.RangeWrite.TheVariants.{New}
 use Rattle.s10_rows.specs.Tables.{range_row}

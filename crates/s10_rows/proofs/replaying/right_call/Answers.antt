@@ -1,6 +1,6 @@
 use Rattle.std.proofs.Common.{◌≡◌, sym, ap, ◌∙◌, refl, List, ◌+◌, pos}
-use Rattle.s10_book.specs.declared.entry.Entry.{Entry}
-use Rattle.s10_book.specs.Settings.{Terms}
+use Rattle.s10_history.specs.declared.entry.Entry.{Entry}
+use Rattle.s10_history.specs.Settings.{Terms}
 use Rattle.s10_book.specs.Rules.{answer_of, MayFollow}
 use Rattle.s10_rows.specs.ReadRows.{IsCallOf}
 use Rattle.s10_rows.proofs.Replayed.{unread_is_wrong, right_row}

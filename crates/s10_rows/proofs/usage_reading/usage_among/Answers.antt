@@ -1,5 +1,5 @@
 use Rattle.std.proofs.Common.{Ok, ap, arith}
-use Rattle.s10_book.specs.declared.usage.Usage.{Usage}
+use Rattle.s10_history.specs.declared.usage.Usage.{Usage}
 use Rattle.s10_rows.proofs.Usage.{UsedSoFar-start, UsedSoFar-room, UsedSoFar-step, UsedSoFar-end, usage_is, rows_counted, never_unread}
 use Rattle.s10_rows.proofs.usage_reading.usage_among.Goals as goal
 

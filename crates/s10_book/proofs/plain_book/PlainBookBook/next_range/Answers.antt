@@ -1,5 +1,5 @@
-use Rattle.s10_book.specs.History.{is_open}
-use Rattle.s10_book.proofs.Ranges.{found_above}
+use Rattle.s10_history.specs.History.{is_open}
+use Rattle.s10_history.proofs.Numbering.{found_above}
 use Rattle.s10_book.proofs.plain_book.PlainBookBook.next_range.Goals as goal
 
 pub returns-clause-above : goal.returns-clause-above

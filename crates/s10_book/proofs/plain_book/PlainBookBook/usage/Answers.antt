@@ -1,6 +1,6 @@
 use Rattle.std.proofs.Common.{◌∙◌, ap, Ok}
 use Rattle.std.specs.Prelude.{max}
-use Rattle.s10_book.proofs.Counting.{usage_is}
+use Rattle.s10_history.proofs.Counting.{usage_is}
 use Rattle.s10_book.proofs.plain_book.PlainBookBook.usage.Goals as goal
 
 pub returns-clause-answer : goal.returns-clause-answer

@@ -1,8 +1,8 @@
 use Rattle.std.proofs.Common.{◌≡◌, ◌∙◌, ℕ, sym, ap, ap₂, arith}
 use Rattle.std.specs.Prelude.{Option}
-use Rattle.s10_book.specs.declared.candidate.Candidate.{Candidate}
-use Rattle.s10_book.specs.declared.issue.Issue.{Issue}
-use Rattle.s10_book.specs.Issues.{issues_of, pick_of, id_at, serials_behind, last_issue_of}
+use Rattle.s10_history.specs.declared.candidate.Candidate.{Candidate}
+use Rattle.s10_history.specs.declared.issue.Issue.{Issue}
+use Rattle.s10_history.specs.Issues.{issues_of, pick_of, id_at, serials_behind, last_issue_of}
 use Rattle.s10_book.proofs.Marks.{all_at_pick}
 use Rattle.s10_book.proofs.Rows.{candidate_after_is}
 use Rattle.s10_index.proofs.call_index.CallIndex.candidate_after.Goals as goal

@@ -1,5 +1,5 @@
 use Rattle.std.proofs.Common.{◌≡◌, ◌∙◌, List, ◌++◌, ◌∷◌, [], sym, subst, ap}
-use Rattle.s10_book.specs.declared.entry.Entry.{Entry}
+use Rattle.s10_history.specs.declared.entry.Entry.{Entry}
 use Rattle.s10_book.proofs.Push.{IsLegal-push}
 use Rattle.s10_book.proofs.Fitting.{answer_fits}
 use Rattle.s10_index.specs.CallIndex.{Indexes}

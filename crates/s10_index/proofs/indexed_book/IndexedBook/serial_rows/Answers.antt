@@ -3,7 +3,7 @@ use Rattle.std.specs.Prelude.{slice_get}
 use Rattle.std.proofs.lemmas.Option.{slice_get_read}
 use Rattle.s10_rows.specs.declared.serial_row.SerialRow.{SerialRow}
 use Rattle.s10_rows.specs.Tables.{serial_rows}
-use Rattle.s10_book.specs.Settings.{Terms}
+use Rattle.s10_history.specs.Settings.{Terms}
 use Rattle.s10_index.specs.RowsBehind.{rows_behind}
 use Rattle.s10_index.proofs.LastRows.{none_behind, whole}
 use Rattle.s10_index.proofs.indexed_book.IndexedBook.serial_rows.Goals as goal

@@ -1,7 +1,7 @@
 use Rattle.std.proofs.Common.{◌≡◌, ◌∙◌, ◌≤◌, ◌<◌, ◌+◌, refl, ap, arith}
-use Rattle.s10_book.specs.Issues.{issues_of, is_issued, is_voided, is_free, id_at, last_issue_of, serials}
+use Rattle.s10_history.specs.Issues.{issues_of, is_issued, is_voided, is_free, id_at, last_issue_of, serials}
 use Rattle.std.specs.Prelude.{count_by}
-use Rattle.s10_book.proofs.Counting.{UsedBelow-start, UsedBelow-step, UsedBelow-few, Counted-all}
+use Rattle.s10_history.proofs.Counting.{UsedBelow-start, UsedBelow-step, UsedBelow-few, Counted-all}
 use Rattle.s10_index.proofs.indexed_book.IndexedBook.usage_on.Goals as goal
 
 pub loop-value-init : goal.loop-value-init

@@ -1,5 +1,5 @@
-use Rattle.s10_book.specs.Issues.{issues_of}
-use Rattle.s10_book.proofs.Counting.{UsedBelow}
+use Rattle.s10_history.specs.Issues.{issues_of}
+use Rattle.s10_history.proofs.Counting.{UsedBelow}
 use Rattle.s10_index.proofs.indexed_book.IndexedBook.usage_on.Given as goal
 
 abbrev pub invariant-loop-value : goal.invariant-loop-value

@@ -1,7 +1,7 @@
 use Rattle.std.proofs.Common.{◌∙◌, refl, ap, Ok}
 use Rattle.std.specs.Prelude.{max}
-use Rattle.s10_book.specs.Issues.{issues_of}
-use Rattle.s10_book.proofs.Counting.{usage_is}
+use Rattle.s10_history.specs.Issues.{issues_of}
+use Rattle.s10_history.proofs.Counting.{usage_is}
 use Rattle.s10_index.proofs.indexed_book.IndexedBookBook.usage.Goals as goal
 
 pub returns-clause-answer : goal.returns-clause-answer

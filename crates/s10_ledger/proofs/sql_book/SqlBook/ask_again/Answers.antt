@@ -1,5 +1,5 @@
 use Rattle.std.proofs.Common.{rules, length}
-use Rattle.s10_book.specs.History.{day_of}
+use Rattle.s10_history.specs.History.{day_of}
 use Rattle.s10_ledger.specs.Ledger.{Ledger}
 use Rattle.s10_ledger.proofs.BookLemmas.{still_kept, still_indexed, if_answered, read_keeps}
 use Rattle.s10_ledger.proofs.sql_book.SqlBook.ask_again.Goals as goal

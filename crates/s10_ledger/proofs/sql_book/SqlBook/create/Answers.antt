@@ -1,7 +1,7 @@
 use Rattle.std.proofs.Common.{List, length, arith, ap, sym, subst}
 use Rattle.sqlite.specs.Held.{state}
-use Rattle.s10_book.specs.declared.entry.Entry.{Entry}
-use Rattle.s10_book.specs.History.{day_of}
+use Rattle.s10_history.specs.declared.entry.Entry.{Entry}
+use Rattle.s10_history.specs.History.{day_of}
 use Rattle.s10_index.specs.CallIndex.{Indexes}
 use Rattle.s10_ledger.specs.Ledger.{IsLedger}
 use Rattle.s10_ledger.proofs.NewLedger.{no_history, new_ledger}

@@ -1,8 +1,8 @@
 use Rattle.std.proofs.Common.{◌∙◌, List, ap, sym, subst, arith}
 use Rattle.std.specs.Prelude.{Contains}
-use Rattle.s10_book.specs.declared.entry.Entry.{Entry}
-use Rattle.s10_book.specs.History.{ranges_of}
-use Rattle.s10_book.specs.Issues.{candidate_of}
+use Rattle.s10_history.specs.declared.entry.Entry.{Entry}
+use Rattle.s10_history.specs.History.{ranges_of}
+use Rattle.s10_history.specs.Issues.{candidate_of}
 use Rattle.s10_book.proofs.Marks.{all_at_pick}
 use Rattle.s10_ledger.proofs.sql_book.SqlBookBook.candidate.Goals as goal
 

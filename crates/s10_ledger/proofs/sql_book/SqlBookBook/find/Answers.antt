@@ -1,6 +1,6 @@
 use Rattle.std.proofs.Common.{◌∙◌, List, ap}
-use Rattle.s10_book.specs.declared.entry.Entry.{Entry}
-use Rattle.s10_book.specs.History.{entry_with_key}
+use Rattle.s10_history.specs.declared.entry.Entry.{Entry}
+use Rattle.s10_history.specs.History.{entry_with_key}
 use Rattle.s10_ledger.proofs.sql_book.SqlBookBook.find.Goals as goal
 
 pub returns-clause-answer : goal.returns-clause-answer

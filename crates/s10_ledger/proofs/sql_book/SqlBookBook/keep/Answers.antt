@@ -1,5 +1,5 @@
 use Rattle.std.proofs.Common.{◌+◌, length, arith, refl, ap, ◌∙◌}
-use Rattle.s10_book.specs.History.{day_of}
+use Rattle.s10_history.specs.History.{day_of}
 use Rattle.sqlite.specs.Effect.{Database}
 use Rattle.sqlite.specs.State.{HasCleanDisk}
 use Rattle.sqlite.specs.Held.{state}

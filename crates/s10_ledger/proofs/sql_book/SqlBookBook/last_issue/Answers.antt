@@ -1,6 +1,6 @@
 use Rattle.std.proofs.Common.{◌∙◌, List, ap}
-use Rattle.s10_book.specs.declared.entry.Entry.{Entry}
-use Rattle.s10_book.specs.Issues.{last_issue_of}
+use Rattle.s10_history.specs.declared.entry.Entry.{Entry}
+use Rattle.s10_history.specs.Issues.{last_issue_of}
 use Rattle.s10_ledger.proofs.sql_book.SqlBookBook.last_issue.Goals as goal
 
 pub returns-clause-answer : goal.returns-clause-answer

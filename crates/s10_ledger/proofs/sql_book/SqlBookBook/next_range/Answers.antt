@@ -2,8 +2,8 @@ use Rattle.std.proofs.Common.{◌∙◌, List, ap, sym, subst}
 use Rattle.s10_ranges.specs.declared.ranges.Ranges.{Ranges}
 use Rattle.s10_ranges.specs.Mirror.{Mirrors}
 use Rattle.std.specs.Prelude.{find}
-use Rattle.s10_book.specs.declared.entry.Entry.{Entry}
-use Rattle.s10_book.specs.History.{ranges_of, is_open_above}
+use Rattle.s10_history.specs.declared.entry.Entry.{Entry}
+use Rattle.s10_history.specs.History.{ranges_of, is_open_above}
 use Rattle.sqlite.specs.Held.{state}
 use Rattle.s10_ledger.specs.Ledger.{history_in}
 use Rattle.s10_ledger.proofs.sql_book.SqlBookBook.next_range.Goals as goal

@@ -1,8 +1,8 @@
 use Rattle.std.proofs.Common.{◌==◌, ◌∙◌, List, ap}
 use Rattle.s10_ranges.specs.declared.ranges.Ranges.{Ranges}
 use Rattle.std.specs.Prelude.{find}
-use Rattle.s10_book.specs.declared.entry.Entry.{Entry}
-use Rattle.s10_book.specs.History.{ranges_of}
+use Rattle.s10_history.specs.declared.entry.Entry.{Entry}
+use Rattle.s10_history.specs.History.{ranges_of}
 use Rattle.s10_ledger.proofs.sql_book.SqlBookBook.range.Goals as goal
 
 pub returns-clause-answer : goal.returns-clause-answer

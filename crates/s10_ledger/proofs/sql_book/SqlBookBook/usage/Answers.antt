@@ -1,10 +1,10 @@
 use Rattle.std.specs.Prelude.{max}
 use Rattle.std.proofs.Common.{◌∙◌, ap, arith, length}
 use base.Stored.{Coded-set}
-use Rattle.s10_book.specs.contracts.usage.Usage.{the_row}
+use Rattle.s10_history.specs.contracts.usage.Usage.{the_row}
 use Rattle.sqlite.specs.Held.{state}
-use Rattle.s10_book.specs.Usage.{usage_of}
-use Rattle.s10_book.specs.History.{day_of}
+use Rattle.s10_history.specs.Usage.{usage_of}
+use Rattle.s10_history.specs.History.{day_of}
 use Rattle.s10_ledger.specs.Ledger.{Ledger, history_in}
 use Rattle.s10_ledger.proofs.BookLemmas.{still_kept, still_indexed, if_answered, was_ledger, read_keeps, answered}
 use Rattle.s10_ledger.proofs.sql_book.SqlBookBook.usage.Goals as goal

@@ -1,6 +1,6 @@
 use Rattle.std.proofs.Common.{◌∙◌, sym, ap}
 use Rattle.s10_wire.specs.declared.outcome.Outcome.{Outcome}
-use Rattle.s10_book.specs.History.{range_of_grant}
+use Rattle.s10_history.specs.History.{range_of_grant}
 use Rattle.s10_ranges.proofs.Following.{grant_mirrors, other_mirrors}
 use Rattle.s10_ranges.proofs.ranges.Ranges.follow_made.Goals as goal
 

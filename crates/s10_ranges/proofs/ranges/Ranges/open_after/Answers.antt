@@ -1,7 +1,7 @@
 use Rattle.std.proofs.Common.{◌≡◌, ◌<◌, ◌∙◌, sym, ap, Some, None, arith}
 use Rattle.std.specs.Prelude.{find}
-use Rattle.s10_book.specs.History.{ranges_of, is_held}
-use Rattle.s10_book.proofs.Ranges.{above, found_above}
+use Rattle.s10_history.specs.History.{ranges_of, is_held}
+use Rattle.s10_history.proofs.Numbering.{above, found_above}
 use Rattle.s10_ranges.proofs.Opening.{next_open, this_open, none_open}
 use Rattle.s10_ranges.proofs.ranges.Ranges.open_after.Goals as goal
 

@@ -1,7 +1,7 @@
 use Rattle.std.proofs.Common.{◌≡◌, ◌≤◌, ◌-◌, ◌^◌, List}
 use Rattle.std.specs.Prelude.{find}
-use Rattle.s10_book.specs.declared.entry.Entry.{Entry}
-use Rattle.s10_book.specs.History.{ranges_of, is_open_above}
+use Rattle.s10_history.specs.declared.entry.Entry.{Entry}
+use Rattle.s10_history.specs.History.{ranges_of, is_open_above}
 use Rattle.s10_ranges.specs.Mirror.{Mirrors}
 use Rattle.s10_ranges.proofs.ranges.Ranges.open_after.Given as goal
 

@@ -1,8 +1,8 @@
 use Rattle.std.proofs.Common.{◌≡◌, ◌<◌, ◌≤◌, ◌+◌, List, Some, length, sym, ap, subst, arith, ◌∙◌}
 use Rattle.std.specs.Prelude.{slice_get}
-use Rattle.s10_book.specs.declared.issuance.Issuance.{Issuance}
-use Rattle.s10_book.specs.History.{ranges_of}
-use Rattle.s10_book.specs.Issues.{carried_by, issues_at}
+use Rattle.s10_history.specs.declared.issuance.Issuance.{Issuance}
+use Rattle.s10_history.specs.History.{ranges_of}
+use Rattle.s10_history.specs.Issues.{carried_by, issues_at}
 use Rattle.s10_ranges.specs.declared.ranges.Ranges.{Ranges}
 use Rattle.s10_ranges.specs.Mirror.{MirrorsAt}
 use Rattle.s10_ranges.proofs.Carrying.{issues_upto, upto_all, issue_within}

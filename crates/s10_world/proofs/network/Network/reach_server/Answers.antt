@@ -1,6 +1,6 @@
 use Rattle.std.proofs.Common.{◌≤◌, List, [], ◌∷◌, ◌++◌, length, ap, ◌∙◌, subst}
 use Rattle.s10_wire.specs.declared.frame.Frame.{Frame}
-use Rattle.s10_book.specs.Settings.{Terms}
+use Rattle.s10_history.specs.Settings.{Terms}
 use Rattle.s10_ends.specs.Server.{book_of}
 use Rattle.s10_world.specs.Parts.{server_of, state_of}
 use Rattle.s10_world.proofs.Sent.{reached_reply, reached_fault}

@@ -1,6 +1,0 @@
-use Rattle.std.proofs.Common.{◌≡◌, drop}
-use Rattle.s10_book.specs.Issues.{serial_issued_earliest}
-use Rattle.s10_book.proofs.lists.issued_earliest.Given as goal
-
-abbrev pub invariant-loop-place : goal.invariant-loop-place
-invariant-loop-place l = serial_issued_earliest l.range (drop l.place l.issues) ≡ serial_issued_earliest l.range l.issues

@@ -1,0 +1,7 @@
+pub mod Numbering
+pub mod Issued
+pub mod Earliest
+pub mod Push
+pub mod Walking
+pub mod Behind
+pub mod Counting

@@ -1,0 +1,4 @@
+pub mod Settings
+pub mod History
+pub mod Issues
+pub mod Usage

@@ -1,0 +1,47 @@
+//! The use of the serials of a range, counted.
+
+ghost use Rattle.std.specs.Prelude.{◌≡◌, ◌≤◌, ◌+◌, if◌then◌else◌, count_by};
+ghost use Rattle.s10_history.specs.Issues.{issues_of, is_issued, id_at, serials, is_voided as is_voided_in, is_free as is_free_on};
+
+use crate::entry::Entry;
+use crate::issuance::Issuance;
+use crate::issues::{is_free, is_voided, last_state};
+use crate::range::Range;
+use crate::ranges::id_with;
+use crate::usage::Usage;
+
+// The count, and one more where the test passed.
+fn count_if(count: u32, passed: bool) -> u32
+    requires { count ≤ 100000000 }
+    ensures { result ≡ count + (if passed then 1 else 0) }
+{
+    if passed { count + 1 } else { count }
+}
+
+/// How many serials of the range were issued, are voided, and are free on the day. `issues` are those that the calls made.
+pub fn usage_in(
+    entries: &[Entry],
+    issues: &[Issuance],
+    range: &Range,
+    day: u32,
+    interval: u32,
+) -> Usage
+    requires { issues.now ≡ issues_of entries.now }
+    ensures used { result.used ≡ count_by (λ serial. is_issued issues.now (id_at range.now serial)) (serials range.now) }
+    ensures voided { result.voided ≡ count_by (λ serial. is_voided_in entries.now (id_at range.now serial)) (serials range.now) }
+    ensures free { result.free ≡ count_by (λ serial. is_free_on issues.now (id_at range.now serial) day interval) (serials range.now) }
+{
+    let mut usage = Usage {
+        used: 0,
+        voided: 0,
+        free: 0,
+    };
+    for value in range.first.value()..=range.last.value() {
+        let id = id_with(range, value);
+        let last = last_state(entries, issues, &id);
+        usage.used = count_if(usage.used, last.is_some());
+        usage.voided = count_if(usage.voided, is_voided(&last));
+        usage.free = count_if(usage.free, is_free(&last, day, interval));
+    }
+    usage
+}

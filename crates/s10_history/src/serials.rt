@@ -1,0 +1,56 @@
+//! The serial that a range gives next.
+
+ghost use Rattle.std.specs.Prelude.{◌≡◌};
+ghost use Rattle.s10_history.specs.Issues.{issues_of, candidate_of, serial_issued_earliest, least_serial_unissued};
+
+use crate::candidate::Candidate;
+use crate::entry::Entry;
+use crate::issuance::Issuance;
+use crate::issues::{last_state, was_issued};
+use crate::range::Range;
+use crate::ranges::{id_with, lies_within};
+use s10_core::Serial;
+
+// The least serial of the range that was never issued.
+fn least_unissued(issues: &[Issuance], range: &Range) -> Option<Serial>
+    ensures { result ≡ least_serial_unissued range.now issues.now }
+{
+    for value in range.first.value()..=range.last.value() {
+        let id = id_with(range, value);
+        if !was_issued(issues, &id) {
+            return Some(id.serial);
+        }
+    }
+    None
+}
+
+// The serial of the first issue in the range that is not issued again behind it.
+fn issued_earliest(issues: &[Issuance], range: &Range) -> Option<Serial>
+    ensures { result ≡ serial_issued_earliest range.now issues.now }
+{
+    for (place, issue) in issues.iter().enumerate() {
+        if lies_within(range, &issue.id) && !was_issued(&issues[place + 1..], &issue.id) {
+            return Some(issue.id.serial);
+        }
+    }
+    None
+}
+
+/// The pick of a range with its last issue: the serial that the range gives next. `issues` are those that the calls made.
+pub fn next_serial(entries: &[Entry], issues: &[Issuance], range: &Range) -> Candidate
+    requires { issues.now ≡ issues_of entries.now }
+    ensures { result ≡ candidate_of entries.now range.now }
+{
+    let serial = match least_unissued(issues, range) {
+        Some(serial) => serial,
+        None => match issued_earliest(issues, range) {
+            Some(serial) => serial,
+            None => range.first,
+        },
+    };
+    let id = id_with(range, serial.value());
+    Candidate {
+        serial,
+        issue: last_state(entries, issues, &id),
+    }
+}

@@ -1,0 +1,53 @@
+ghost use Rattle.std.specs.Prelude.{◌≡◌, ◌≤◌, SomeIff};
+ghost use Rattle.s10_history.specs.Settings.{Terms, AreTerms};
+
+use std::marker::Model;
+
+/// What a ledger is made with and keeps: the reuse interval in days, and how many calls it holds at most. The bounds of
+/// both are this project's choice.
+#[derive(Clone, Copy, Debug, PartialEq, Eq)]
+pub struct Settings {
+    interval: u32,
+    limit: u32,
+}
+
+impl Model for Settings {
+    ghost use Rattle.s10_history.specs.Settings.{Terms, AreTerms};
+
+    ghost Value = { Terms };
+
+    ghost view = { λ s. record { interval = s.interval; limit = s.limit } };
+
+    ghost invariant = { λ s. AreTerms (record { interval = s.interval; limit = s.limit }) };
+
+    ghost inverse = { λ t. record { interval = t.interval; limit = t.limit } };
+}
+
+impl Settings {
+    /// An interval of 1 to 3,650 days and a limit of 1 to 1,000,000,000 calls; None for any other numbers.
+    pub fn new(interval: u32, limit: u32) -> Option<Settings>
+        ensures { let terms : Terms = record { interval = interval; limit = limit } in SomeIff result (AreTerms terms) terms }
+    {
+        if 1 <= interval && interval <= 3_650 && 1 <= limit && limit <= 1_000_000_000 {
+            Some(Settings { interval, limit })
+        } else {
+            None
+        }
+    }
+
+    /// The reuse interval in days.
+    pub fn interval(&self) -> u32
+        ensures value { result ≡ self.now.interval }
+        ensures range { (1 ≤ result) × (result ≤ 3650) }
+    {
+        self.interval
+    }
+
+    /// How many calls the ledger keeps at most.
+    pub fn limit(&self) -> u32
+        ensures value { result ≡ self.now.limit }
+        ensures range { (1 ≤ result) × (result ≤ 1000000000) }
+    {
+        self.limit
+    }
+}
