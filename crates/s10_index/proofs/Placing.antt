@@ -1,13 +1,20 @@
 -- The place of the first call that passes.
 use Rattle.std.proofs.Common.{◌≡◌, ◌∙◌, ℕ, suc, ◌+◌, ◌-◌, ◌≤◌, Bool, true, false, cond, eqb, List, [], ◌∷◌, ◌++◌, Option, Some, None, length, refl, sym, ap, ap₂, arith, Bor}
-use Rattle.std.specs.Prelude.{find, slice_get}
+use Rattle.std.specs.Prelude.{find, slice_get, All}
 use Rattle.std.specs.List.{position_from}
 use Rattle.std.specs.Option.{option_copied}
 use Rattle.std.specs.Slice.{IsItemAt}
-use Rattle.std.proofs.lemmas.Bool.{eqb-true, and_parts}
+use Rattle.std.proofs.lemmas.Bool.{eqb-true, eq-eqb, and_parts, and_from}
 use Rattle.std.proofs.lemmas.Option.{none-some, same_Some, slice_get_past, slice_get_read}
 use Rattle.s10_history.specs.declared.entry.Entry.{Entry}
+use Rattle.std.proofs.lemmas.List.Elements.{All-nil, All-push, All-weaker}
+use Rattle.s10_history.specs.declared.issuance.Issuance.{Issuance}
+use Rattle.s10_history.specs.Settings.{Terms}
 use Rattle.s10_history.specs.History.{has_key, entry_with_key}
+use Rattle.s10_history.specs.Issues.{issues_of}
+use Rattle.s10_book.specs.Rules.{IsLegal}
+use Rattle.s10_book.proofs.Legal.{legal_induction}
+use Rattle.s10_book.proofs.Carried.{made_by, after_call}
 
 -- where no call has a place, none is found
 pub none_placed : (p : Entry → Bool) (xs : List Entry) (i : ℕ) → position_from p i xs ≡ None → find p xs ≡ None
@@ -68,3 +75,33 @@ place_behind h e customer number place o new is old = at (has_key customer numbe
 pub item_at : (xs : List Entry) (k : ℕ) (o : Option (Bor Entry)) → IsItemAt xs k o → option_copied o ≡ slice_get xs k
 item_at xs k None is = sym (slice_get_past xs k is.3)
 item_at xs k (Some x) is = sym (slice_get_read xs (length xs) k x.now refl is.3.0 is.1)
+
+-- one more call leaves the place of a call that has one
+place_kept : (p : Entry → Bool) (xs : List Entry) (i k : ℕ) (e : Entry) → position_from p i xs ≡ Some k → position_from p i (xs ++ e ∷ []) ≡ Some k
+place_kept p [] i k e found = absurd (none-some k found)
+place_kept p (x ∷ xs) i k e found = at (p x) refl (place_kept p xs (i + 1) k e)
+  where
+    at : (b : Bool) → p x ≡ b → (position_from p (i + 1) xs ≡ Some k → position_from p (i + 1) (xs ++ e ∷ []) ≡ Some k) → position_from p i ((x ∷ xs) ++ e ∷ []) ≡ Some k
+    at true is rest = rw is (rw is at found)
+    at false is rest = rw is (rest (rw is at found))
+
+-- the call that made an issue stands at the place of its key
+abbrev pub IsPlaced : List Entry → Issuance → Type 0
+IsPlaced h i = (place : ℕ) × (position_from (has_key i.customer i.number) 0 h ≡ Some place) × (i.arrival ≡ place + 1)
+
+placed_more : (g : List Entry) (e : Entry) (i : Issuance) → IsPlaced g i → IsPlaced (g ++ e ∷ []) i
+placed_more g e i it = (it.0, place_kept (has_key i.customer i.number) g 0 it.0 e it.1, it.2)
+
+own_key : (e : Entry) → has_key e.request.customer e.request.number e ≡ true
+own_key e = and_from _ _ (eq-eqb e.request.customer e.request.customer refl) (eq-eqb e.request.number e.request.number refl)
+
+pub placed_issues : (h : List Entry) (t : Terms) → IsLegal h t → All (IsPlaced h) (issues_of h)
+placed_issues h t legal = legal_induction (λ g. All (IsPlaced g) (issues_of g)) h t legal (All-nil (IsPlaced []))
+    (λ g e legal_g before may.
+    let P : Issuance → Type 0 = IsPlaced (g ++ e ∷ []) in
+    after_call (All P) g t e may (All-weaker (IsPlaced g) P (placed_more g e) (issues_of g) before)
+    (λ is c picked all. All-push P is (made_by e (1 + length g) c) all (
+      length g,
+      place_new (has_key e.request.customer e.request.number) g 0 e may.new_key ∙ ap (λ b. cond b (Some (0 + length g)) None) (own_key e) ∙ ap Some (omega arith),
+      omega arith,
+    )))

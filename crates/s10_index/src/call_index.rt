@@ -5,13 +5,13 @@ ghost use Rattle.s10_wire.specs.Kind.{fits};
 ghost use Rattle.s10_history.specs.declared.entry.Entry.{Entry};
 ghost use Rattle.s10_history.specs.Settings.{Terms};
 ghost use Rattle.s10_history.specs.History.{day_of, ranges_of, entry_with_key, entry_at};
-ghost use Rattle.s10_history.specs.Issues.{issues_of, last_issue_of, candidate_after_of, size_of, pick_of};
+ghost use Rattle.s10_history.specs.Issues.{issues_of, last_issuance_of, last_issue_of, candidate_after_of, size_of, pick_of};
 ghost use Rattle.s10_book.specs.Rules.{IsLegal, MayFollow};
 
 use crate::last_issues::{note_call, noted_issue};
-use crate::places::{kept_call, note_place};
+use crate::places::{kept_call, kept_place, note_place};
 use s10_core::{Id, Serial};
-use s10_history::{Candidate, Entry, Issue, Range};
+use s10_history::{Candidate, Entry, Issuance, Issue, Range};
 use s10_ranges::Ranges;
 use std::alloc::{AllocError, Global};
 use std::collections::HashMap;
@@ -90,6 +90,22 @@ impl CallIndex {
         ensures { (h : List Entry) → Indexes self.now h → result ≡ last_issue_of h id.now }
     {
         noted_issue(&self.issues, id)
+    }
+
+    /// The last issue of an identifier with the call that made it, if it was ever issued.
+    pub fn last_issuance(&self, id: &Id) -> Option<Issuance>
+        ensures { (h : List Entry) (t : Terms) → IsLegal h t → length h < 4294967295 → Indexes self.now h → result ≡ last_issuance_of (issues_of h) id.now }
+    {
+        let issue = self.last_issue(id)?;
+        let place = kept_place(&self.places, issue.customer, issue.number)?;
+        let arrival = place.checked_add(1)?;
+        Some(Issuance {
+            id: *id,
+            day: issue.day,
+            customer: issue.customer,
+            number: issue.number,
+            arrival,
+        })
     }
 
     // The serial that one of its ranges gives next.

@@ -1,9 +1,10 @@
 //! Where the call of each key stands.
 
 ghost use Rattle.std.specs.Prelude.{◌≡◌, ◌<◌, ◌++◌, ◌∷◌, [], List, None, IfSome, Contains, length};
-ghost use Rattle.std.specs.HashMap.{spare};
+ghost use Rattle.std.specs.HashMap.{get, spare};
 ghost use Rattle.s10_history.specs.declared.entry.Entry.{Entry};
 ghost use Rattle.s10_history.specs.History.{entry_with_key};
+ghost use Rattle.s10_index.specs.Keys.{same_key};
 ghost use Rattle.s10_index.specs.Places.{HasPlaces};
 
 use s10_history::Entry;
@@ -18,8 +19,19 @@ pub(crate) fn kept_call(
     ensures answer { HasPlaces places.now calls.now → result ≡ entry_with_key calls.now customer number }
     ensures among { IfSome result (Contains calls.now) }
 {
-    let place = *places.get(&(customer, number))?;
+    let place = kept_place(places, customer, number)?;
     calls.get(place as usize).copied()
+}
+
+// The place of the call with that key, if there is one.
+pub(crate) fn kept_place(
+    places: &HashMap<(u32, u32), u32>,
+    customer: u32,
+    number: u32,
+) -> Option<u32>
+    ensures { result ≡ get same_key places.now (customer, number) }
+{
+    places.get(&(customer, number)).copied()
 }
 
 // Notes the place of the next call. Its key is new, and there is room for it.

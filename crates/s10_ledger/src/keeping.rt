@@ -13,13 +13,10 @@ ghost use Rattle.s10_book.specs.Rules.{IsLegal, MayFollow};
 ghost use Rattle.s10_schema.specs.Schema.{IsLedgerSchema};
 ghost use Rattle.s10_statements.specs.Shown.{StandsFor};
 ghost use Rattle.s10_wire.specs.Kind.{fits};
-ghost use Rattle.s10_ranges.specs.Mirror.{Mirrors};
 ghost use Rattle.s10_index.specs.CallIndex.{Indexes};
 ghost use Rattle.s10_rows.specs.Selected.{IsCall};
-ghost use Rattle.s10_rows.specs.Tables.{serial_rows};
-ghost use Rattle.s10_rows.specs.Kept.{Makes, is_at};
-ghost use Rattle.s10_statements.specs.Settled.{IsSettled, Spares};
-ghost use Rattle.s10_statements.specs.Statements.{Leaves};
+ghost use Rattle.s10_rows.specs.Kept.{Makes};
+ghost use Rattle.s10_statements.specs.Settled.{IsSettled};
 
 use crate::faults::fault_of;
 use crate::issuing::issues_made;
@@ -27,9 +24,8 @@ use crate::made::Made;
 use s10_book::BookFault;
 use s10_history::Entry;
 use s10_index::CallIndex;
-use s10_ranges::Ranges;
-use s10_rows::{granted_row, pair_number, voided_row};
-use s10_statements::{keep_rows, serials_within};
+use s10_rows::{granted_row, voided_row};
+use s10_statements::keep_rows;
 use s10_wire::{Body, Outcome, Reply, encode_reply};
 use sqlite::{Alter, Connection};
 use std::alloc::Global;
@@ -48,52 +44,39 @@ fn granted_made(alloc: Global, entry: &Entry) -> Result<Made, BookFault>
     Ok(made)
 }
 
-// What a Done Void makes, by the row of its identifier.
-fn voided_made<S: Alter>(
-    alloc: Global,
-    conn: &mut Connection<S>,
-    entry: &Entry,
-) -> Result<Made, BookFault>
-    ensures spares { Spares S.Store conn.old conn.new }
-    ensures leaves { Leaves S.Store conn.old conn.new }
+// What a Done Void makes, by the last issue of its identifier.
+fn voided_made(alloc: Global, index: &CallIndex, entry: &Entry) -> Result<Made, BookFault>
     ensures fault { result ≢ Err Full }
-    ensures answer { HasCleanDisk (state S.Store conn.new) → (h : List Entry) (t : Terms) → IsLegal h t → MayFollow h t entry.now → All IsCall h → IsCall entry.now → StandsFor (state S.Store conn.old).now h t
+    ensures answer { (h : List Entry) (t : Terms) → IsLegal h t → MayFollow h t entry.now → All IsCall h → IsCall entry.now → length h < 4294967295 → Indexes index.now h
         → entry.now.outcome ≡ Voided → IfOk result (λ made. Makes h entry.now made.ranges.items made.serials.items) }
 {
     let body = entry.request.body;
     let Body::Void { id } = body else {
         return Err(BookFault::Store);
     };
-    let pair = pair_number(id.service, id.country);
-    let serial = id.serial.value();
-    let rows = match serials_within(alloc, conn, pair, serial, serial) {
-        Ok(rows) => rows,
-        Err(error) => return Err(fault_of(error)),
+    let Some(issuance) = index.last_issuance(&id) else {
+        return Err(BookFault::Store);
     };
-    let write = voided_row(&rows)?;
     let mut made = Made::new(alloc);
-    made.add_serial(write)?;
+    made.add_serial(voided_row(&issuance))?;
     Ok(made)
 }
 
-// The rows of ranges and of serials that the call makes behind the history that the tables stand for.
-fn rows_made<S: Alter>(
+// The rows of ranges and of serials that the call makes behind those of the index.
+fn rows_made(
     alloc: Global,
-    conn: &mut Connection<S>,
-    ranges: &Ranges,
+    index: &CallIndex,
     arrival: u32,
     entry: &Entry,
 ) -> Result<Made, BookFault>
-    ensures spares { Spares S.Store conn.old conn.new }
-    ensures leaves { Leaves S.Store conn.old conn.new }
     ensures fault { result ≢ Err Full }
-    ensures answer { HasCleanDisk (state S.Store conn.new) → (h : List Entry) (t : Terms) → IsLegal h t → MayFollow h t entry.now → All IsCall h → IsCall entry.now → StandsFor (state S.Store conn.old).now h t
-        → Mirrors ranges.now h → arrival ≡ length h + 1 → IfOk result (λ made. Makes h entry.now made.ranges.items made.serials.items) }
+    ensures answer { (h : List Entry) (t : Terms) → IsLegal h t → MayFollow h t entry.now → All IsCall h → IsCall entry.now → Indexes index.now h
+        → arrival ≡ length h + 1 → IfOk result (λ made. Makes h entry.now made.ranges.items made.serials.items) }
 {
     match entry.outcome {
         Outcome::Granted { .. } => granted_made(alloc, entry),
-        Outcome::Voided => voided_made(alloc, conn, entry),
-        _ => issues_made(alloc, ranges, arrival, entry),
+        Outcome::Voided => voided_made(alloc, index, entry),
+        _ => issues_made(alloc, index.ranges(), arrival, entry),
     }
 }
 
@@ -101,7 +84,7 @@ fn rows_made<S: Alter>(
 pub(crate) fn keep_call<S: Alter>(
     alloc: Global,
     conn: &mut Connection<S>,
-    ranges: &Ranges,
+    index: &CallIndex,
     arrival: u32,
     entry: &Entry,
 ) -> Result<(), BookFault>
@@ -113,19 +96,19 @@ pub(crate) fn keep_call<S: Alter>(
     ensures clean { doubt (state S.Store conn.old).is_clean ≤ doubt (state S.Store conn.new).is_clean }
     ensures was_open { HasCleanDisk (state S.Store conn.new) → IsTrue (state S.Store conn.new).is_open → IsTrue (state S.Store conn.old).is_open }
     ensures ok { HasCleanDisk (state S.Store conn.new) → IsTrue (state S.Store conn.new).is_open → (h : List Entry) (t : Terms) → IsLegal h t → MayFollow h t entry.now → All IsCall h → StandsFor (state S.Store conn.old).now h t
-        → Mirrors ranges.now h → arrival ≡ length h + 1 → OnOk result (IsCall entry.now × StandsFor (state S.Store conn.new).now (h ++ entry.now ∷ []) t) }
+        → Indexes index.now h → arrival ≡ length h + 1 → OnOk result (IsCall entry.now × StandsFor (state S.Store conn.new).now (h ++ entry.now ∷ []) t) }
     ensures err { HasCleanDisk (state S.Store conn.new) → IsTrue (state S.Store conn.new).is_open → IsLedgerSchema (state S.Store conn.old).now.schema
         → OnErr result ((state S.Store conn.new).now ≡ (state S.Store conn.old).now) }
     ensures crash { HasCleanDisk (state S.Store conn.new) → IsLedgerSchema (state S.Store conn.old).now.schema → (db : Trees) → (state S.Store conn.new).may_leave db
         → (state S.Store conn.old).may_leave db ⊎ ((h : List Entry) (t : Terms) → IsLegal h t → MayFollow h t entry.now → All IsCall h → StandsFor (state S.Store conn.old).now h t
-        → Mirrors ranges.now h → arrival ≡ length h + 1 → IsCall entry.now × StandsFor (record (state S.Store conn.old).now { trees = db }) (h ++ entry.now ∷ []) t) }
+        → Indexes index.now h → arrival ≡ length h + 1 → IsCall entry.now × StandsFor (record (state S.Store conn.old).now { trees = db }) (h ++ entry.now ∷ []) t) }
 {
     let _day = entry.day;
     let Some(reply) = Reply::new(entry.request, entry.outcome) else {
         return Err(BookFault::Store);
     };
     let frame = encode_reply(&reply);
-    let made = rows_made(alloc, conn, ranges, arrival, entry)?;
+    let made = rows_made(alloc, index, arrival, entry)?;
     match keep_rows(
         conn,
         arrival,
@@ -175,7 +158,7 @@ pub(crate) fn keep_followed<S: Alter>(
     if index.reserve(entry).is_err() {
         return Err(BookFault::Memory);
     }
-    let kept = keep_call(alloc, conn, index.ranges(), held as u32 + 1, entry);
+    let kept = keep_call(alloc, conn, index, held as u32 + 1, entry);
     if kept.is_ok() {
         index.follow(*entry);
     }

@@ -34,35 +34,14 @@ use Rattle.s10_rows.proofs.Replaced.{replaced, same_rows}
 use Rattle.s10_rows.proofs.MadeRows.{row_in, same_issues, same_range_rows, same_voided, now_voided, none_made}
 use Rattle.s10_rows.proofs.IssueRows.{few_at, rows_but_at}
 
--- a Done Void has an issue behind it
-issued_at : (f : Issuance → Issue) (own : Bool) (o : Option Issuance) → cond own (void_issue (option_map f o)) NotYours ≡ Voided → (i : Issuance) × (o ≡ Some i)
-issued_at f false o is = absurd cc
-issued_at f true None is = absurd cc
-issued_at f true (Some i) is = (i, refl)
-
-void_issued : (h : List Entry) (t : Terms) (e : Entry) (x : Id) → MayFollow h t e → e.request.body ≡ Void x → e.outcome ≡ Voided → (i : Issuance) × (last_issuance_of (issues_of h) x ≡ Some i)
-void_issued h t e x may asks done =
-    issued_at (λ i. record { day = i.day; voided = is_voided h x; customer = i.customer; number = i.number }) (list_any (is_own e.request.customer x) (ranges_of h)) (last_issuance_of (issues_of h) x)
-    (sym (may.right ∙ ap (λ (b : Body). body_answer h e.request.customer b e.day t.interval) asks) ∙ done)
-
-one_selected : (rows : List SerialRow) (h : List Entry) (x : Id) (i : Issuance) → All IsCall h → IsId x → last_issuance_of (issues_of h) x ≡ Some i
-    → HaveSameRows (filter (is_within (pos (pair_of x.service x.country)) (pos x.serial) (pos x.serial)) (serial_rows h)) rows → rows ≡ row_in h i ∷ []
-one_selected rows h x i calls right last same =
-    let p : SerialRow → Bool = is_within (pos (pair_of x.service x.country)) (pos x.serial) (pos x.serial) in
-    let lasts : All IsIssuance (last_issues (issues_of h)) = All-last_issues IsIssuance (issues_of h) (issues_of_fit h calls) in
-    let chosen : filter p (serial_rows h) ≡ row_in h i ∷ [] =
-    filter_image p (is_of x) (row_in h) IsIssuance (λ j fit. row_of_is (voided_after j.arrival h j.id) j x fit.id right) (last_issues (issues_of h)) lasts
-    ∙ ap (map (row_in h)) (last_of (issues_of h) x ∙ ap option_to_list last) in
-    let P : List SerialRow → Type 0 = λ l. HaveSameRows l rows in
-    one_row the_row.coded (row_in h i) rows (subst P chosen same)
-
 other_id : (x y : Id) → same_id x y ≡ same_id y x
 other_id x y = same_from_decides (same_id x y) (same_id y x) (id_equal x y, id_same x y) (λ e. sym (id_equal y x e), λ e. id_same y x (sym e))
 
 voids_is : (e : Entry) (x y : Id) → e.request.body ≡ Void x → e.outcome ≡ Voided → voids y e ≡ same_id x y
 voids_is e x y asks done = ap₂ (λ (b : Body) (o : Outcome). voids_by y b o) asks done
 
-void_makes : (h : List Entry) (t : Terms) (e : Entry) (x : Id) (i : Issuance) → IsLegal h t → All IsCall h → IsCall e → e.request.body ≡ Void x → e.outcome ≡ Voided → last_issuance_of (issues_of h) x ≡ Some i
+-- the row of the last issue is made anew as voided
+pub void_makes : (h : List Entry) (t : Terms) (e : Entry) (x : Id) (i : Issuance) → IsLegal h t → All IsCall h → IsCall e → e.request.body ≡ Void x → e.outcome ≡ Voided → last_issuance_of (issues_of h) x ≡ Some i
     → Makes h e [] (Again (serial_row true i) ∷ [])
 void_makes h t e x i legal calls call asks done last =
     let body : IsBody (Void x) = subst IsBody asks call.request.2 in
@@ -91,18 +70,3 @@ void_makes h t e x i legal calls call asks done last =
   where
     not_both : (n : ℕ) → Voided ≡ Granted n → ⊥
     not_both n e = cc
-
--- the one row is that of the last issue, and it is made anew as voided
-pub voided_one : (rows : List SerialRow) (h : List Entry) (t : Terms) (e : Entry) (x : Id) → IsLegal h t → MayFollow h t e → All IsCall h → IsCall e → e.request.body ≡ Void x → e.outcome ≡ Voided
-    → HaveSameRows (filter (is_within (pos (pair_of x.service x.country)) (pos x.serial) (pos x.serial)) (serial_rows h)) rows
-    → (i : Issuance) × (rows ≡ row_in h i ∷ []) × Makes h e [] (Again (serial_row true i) ∷ [])
-voided_one rows h t e x legal may calls call asks done same =
-    let last = void_issued h t e x may asks done in
-    let body : IsBody (Void x) = subst IsBody asks call.request.2 in
-    (last.0, one_selected rows h x last.0 calls body last.1 same, void_makes h t e x last.0 legal calls call asks done last.1)
-
-abbrev pub with_void : SerialRow → SerialRow
-with_void row = record row { voided = pos 1 }
-
-pub row_voided : (rows : List SerialRow) (h : List Entry) (i : Issuance) (d row : SerialRow) → rows ≡ row_in h i ∷ [] → row ≡ with_void (get_or rows 0 d) → serial_row true i ≡ row
-row_voided rows h i d row is read = sym (read ∙ ap (λ (l : List SerialRow). with_void (get_or l 0 d)) is)

@@ -8,7 +8,7 @@ ghost use Rattle.s10_history.specs.declared.entry.Entry.{Entry};
 ghost use Rattle.s10_history.specs.Settings.{Terms};
 ghost use Rattle.s10_book.specs.Rules.{IsLegal, MayFollow};
 ghost use Rattle.s10_history.specs.History.{ranges_of, lies_in};
-ghost use Rattle.s10_history.specs.Issues.{issues_at, is_issued, serial_behind};
+ghost use Rattle.s10_history.specs.Issues.{issues_at, issues_of, is_issued, last_issuance_of, serial_behind};
 ghost use Rattle.s10_rows.specs.declared.serial_row.SerialRow.{SerialRow};
 ghost use Rattle.s10_rows.specs.declared.range_write.RangeWrite.{RangeWrite};
 ghost use Rattle.s10_rows.specs.declared.serial_write.SerialWrite.{SerialWrite};
@@ -21,7 +21,6 @@ use crate::range_row::RangeRow;
 use crate::range_write::RangeWrite;
 use crate::serial_row::SerialRow;
 use crate::serial_write::SerialWrite;
-use s10_book::BookFault;
 use s10_core::Serial;
 use s10_history::{Entry, Issuance, Range};
 use s10_wire::Outcome;
@@ -86,26 +85,10 @@ pub fn granted_row(entry: &Entry) -> Option<RangeWrite>
     Some(RangeWrite::New(RangeRow::of(&range, range.first.value())))
 }
 
-// The row, voided.
-fn as_voided(row: &SerialRow) -> SerialRow
-    ensures { let voided : SerialRow = record row.now { voided = pos 1 } in result ≡ voided }
+/// What a Done Void makes of the rows: that of the last issue of its identifier, voided.
+pub fn voided_row(issuance: &Issuance) -> SerialWrite
+    ensures { (h : List Entry) (t : Terms) (e : Entry) (id : Id) → IsLegal h t → MayFollow h t e → All IsCall h → IsCall e → e.request.body ≡ Void id → e.outcome ≡ Voided
+        → last_issuance_of (issues_of h) id ≡ Some issuance.now → Makes h e [] (result ∷ []) }
 {
-    SerialRow { voided: 1, ..*row }
-}
-
-/// What a Done Void makes of the rows of its identifier: the one that is there, voided. A fault of the store where there is not
-/// one.
-pub fn voided_row(rows: &[SerialRow]) -> Result<SerialWrite, BookFault>
-    ensures store { IfErr result (λ f. f ≡ BookFault.Store) }
-    ensures makes { (h : List Entry) (t : Terms) (e : Entry) (id : Id) → IsLegal h t → MayFollow h t e → All IsCall h → IsCall e → e.request.body ≡ Void id → e.outcome ≡ Voided
-        → HaveSameRows (filter (is_within (pos (pair_of id.service id.country)) (pos id.serial) (pos id.serial)) (serial_rows h)) rows.now
-        → IfOk result (λ write. Makes h e [] (write ∷ [])) }
-    ensures done { (h : List Entry) (t : Terms) (e : Entry) (id : Id) → IsLegal h t → MayFollow h t e → All IsCall h → IsCall e → e.request.body ≡ Void id → e.outcome ≡ Voided
-        → HaveSameRows (filter (is_within (pos (pair_of id.service id.country)) (pos id.serial) (pos id.serial)) (serial_rows h)) rows.now
-        → IsOk result }
-{
-    match rows {
-        [row] => Ok(SerialWrite::Again(as_voided(row))),
-        _ => Err(BookFault::Store),
-    }
+    SerialWrite::Again(SerialRow::of(issuance, true))
 }
