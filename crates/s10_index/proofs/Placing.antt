@@ -1,20 +1,26 @@
 -- The place of the first call that passes.
-use Rattle.std.proofs.Common.{◌≡◌, ◌∙◌, ℕ, suc, ◌+◌, ◌-◌, ◌≤◌, Bool, true, false, cond, eqb, List, [], ◌∷◌, ◌++◌, Option, Some, None, length, refl, sym, ap, ap₂, arith, Bor}
+use Rattle.std.proofs.Common.{◌≡◌, ◌∙◌, ℕ, suc, ◌+◌, ◌-◌, ◌≤◌, Bool, true, false, cond, eqb, List, [], ◌∷◌, ◌++◌, Option, Some, None, length, refl, sym, ap, ap₂, subst, arith, Bor}
 use Rattle.std.specs.Prelude.{find, slice_get, All}
 use Rattle.std.specs.List.{position_from}
-use Rattle.std.specs.Option.{option_copied}
+use Rattle.std.specs.Option.{option_copied, option_map}
 use Rattle.std.specs.Slice.{IsItemAt}
 use Rattle.std.proofs.lemmas.Bool.{eqb-true, eq-eqb, and_parts, and_from}
 use Rattle.std.proofs.lemmas.Option.{none-some, same_Some, slice_get_past, slice_get_read}
+use Rattle.s10_core.specs.declared.id.Id.{Id}
 use Rattle.s10_history.specs.declared.entry.Entry.{Entry}
+use Rattle.s10_history.specs.declared.issue.Issue.{Issue}
 use Rattle.std.proofs.lemmas.List.Elements.{All-nil, All-push, All-weaker}
 use Rattle.s10_history.specs.declared.issuance.Issuance.{Issuance}
 use Rattle.s10_history.specs.Settings.{Terms}
 use Rattle.s10_history.specs.History.{has_key, entry_with_key}
-use Rattle.s10_history.specs.Issues.{issues_of}
+use Rattle.s10_history.specs.Issues.{issues_of, last_issuance_of, last_issue_of}
 use Rattle.s10_book.specs.Rules.{IsLegal}
 use Rattle.s10_book.proofs.Legal.{legal_induction}
 use Rattle.s10_book.proofs.Carried.{made_by, after_call}
+use Rattle.s10_book.proofs.Own.{IsOwned, owned}
+use Rattle.s10_rows.proofs.SerialRows.{last_passes}
+use Rattle.s10_index.specs.LastIssues.{told}
+use Rattle.s10_index.proofs.Issuing.{last_told}
 
 -- where no call has a place, none is found
 pub none_placed : (p : Entry → Bool) (xs : List Entry) (i : ℕ) → position_from p i xs ≡ None → find p xs ≡ None
@@ -105,3 +111,23 @@ placed_issues h t legal = legal_induction (λ g. All (IsPlaced g) (issues_of g))
       place_new (has_key e.request.customer e.request.number) g 0 e may.new_key ∙ ap (λ b. cond b (Some (0 + length g)) None) (own_key e) ∙ ap Some (omega arith),
       omega arith,
     )))
+
+-- a last issue that is known was made by the call at the place of its key
+pub last_placed : (h : List Entry) (t : Terms) (x : Id) (known : Issue) (found : Option ℕ) → IsLegal h t → last_issue_of h x ≡ Some known → found ≡ position_from (has_key known.customer known.number) 0 h
+    → (place : ℕ) × (found ≡ Some place) × (place + 1 ≤ length h)
+    × (last_issuance_of (issues_of h) x ≡ Some (record { id = x; day = known.day; customer = known.customer; number = known.number; arrival = place + 1 }))
+last_placed h t x known found legal is at = by (last_issuance_of (issues_of h) x) refl (sym (last_told h x) ∙ is)
+  where
+    Known : Issue → Type 0
+    Known k = found ≡ position_from (has_key k.customer k.number) 0 h
+        → (place : ℕ) × (found ≡ Some place) × (place + 1 ≤ length h) × (last_issuance_of (issues_of h) x ≡ Some (record { id = x; day = k.day; customer = k.customer; number = k.number; arrival = place + 1 }))
+
+    by : (o : Option Issuance) → last_issuance_of (issues_of h) x ≡ o → option_map (told h x) o ≡ Some known
+        → (place : ℕ) × (found ≡ Some place) × (place + 1 ≤ length h) × (last_issuance_of (issues_of h) x ≡ Some (record { id = x; day = known.day; customer = known.customer; number = known.number; arrival = place + 1 }))
+    by None last e = absurd (none-some known e)
+    by (Some i) last e =
+        let it = last_passes (IsPlaced h) x (issues_of h) i (placed_issues h t legal) last in
+        let made = last_passes (IsOwned h) x (issues_of h) i (owned h t legal) last in
+        let same : i ≡ record { id = x; day = i.day; customer = i.customer; number = i.number; arrival = it.0.0 + 1 } = ap₂ (λ (y : Id) (n : ℕ). record i { id = y; arrival = n }) it.1 it.0.2 in
+        let here : Known (told h x i) = λ stands. (it.0.0, stands ∙ it.0.1, omega (arith, made.0.1, it.0.2), last ∙ ap Some same) in
+        subst Known (same_Some (told h x i) known e) here at

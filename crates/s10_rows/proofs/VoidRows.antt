@@ -1,35 +1,30 @@
 -- The row that a Done Void makes.
-use Rattle.std.proofs.Common.{◌≡◌, ℕ, ◌+◌, Bool, true, false, not, cond, pos, List, [], ◌∷◌, ◌++◌, map, length, get_or, Option, Some, None, refl, sym, ap, ap₂, ◌∙◌, subst}
+use Rattle.std.proofs.Common.{◌≡◌, ℕ, ◌+◌, Bool, true, false, not, pos, List, [], ◌∷◌, ◌++◌, map, length, get_or, Some, sym, ap, ap₂, ◌∙◌, subst}
 use Rattle.std.specs.Prelude.{filter, All, option_to_list}
-use Rattle.std.specs.Option.{option_map}
-use Rattle.std.specs.List.{list_any}
 use Rattle.std.proofs.lemmas.Bool.Decides.{same_from_decides}
 use Rattle.s10_core.specs.declared.id.Id.{Id}
 use Rattle.s10_core.specs.Id.{IsId, same_id}
 use Rattle.s10_wire.specs.declared.body.Body.{Body}
 use Rattle.s10_wire.specs.declared.body.Body.TheVariants.{Void}
 use Rattle.s10_wire.specs.declared.outcome.Outcome.{Outcome}
-use Rattle.s10_wire.specs.declared.outcome.Outcome.TheVariants.{Granted, Voided, NotYours}
+use Rattle.s10_wire.specs.declared.outcome.Outcome.TheVariants.{Granted, Voided}
 use Rattle.s10_wire.specs.Datagrams.{IsBody}
 use Rattle.s10_history.specs.declared.entry.Entry.{Entry}
-use Rattle.s10_history.specs.declared.issue.Issue.{Issue}
 use Rattle.s10_history.specs.declared.issuance.Issuance.{Issuance}
 use Rattle.s10_history.specs.Settings.{Terms}
-use Rattle.s10_history.specs.History.{ranges_of, is_own}
-use Rattle.s10_history.specs.Issues.{issues_of, is_of, carried_by, voids, voids_by, voided_after, is_voided, last_issues, last_issuance_of}
-use Rattle.s10_book.specs.Rules.{IsLegal, MayFollow, body_answer, void_issue}
+use Rattle.s10_history.specs.History.{ranges_of}
+use Rattle.s10_history.specs.Issues.{issues_of, is_of, carried_by, voids, voids_by, last_issues, last_issuance_of}
+use Rattle.s10_book.specs.Rules.{IsLegal}
 use Rattle.s10_book.proofs.Own.{IsOwned, owned}
 use Rattle.s10_book.proofs.Spaced.{id_same}
 use Rattle.s10_book.proofs.Free.{id_equal}
 use Rattle.s10_rows.specs.declared.serial_row.SerialRow.{SerialRow}
 use Rattle.s10_rows.specs.declared.serial_write.SerialWrite.TheVariants.{Again}
-use Rattle.s10_rows.specs.contracts.serial_row.SerialRow.{the_row}
 use Rattle.s10_rows.specs.Tables.{HaveSameRows, pair_of, range_rows, serial_row, serial_rows}
-use Rattle.s10_rows.specs.Selected.{IsCall, IsIssuance, is_within}
+use Rattle.s10_rows.specs.Selected.{IsCall, IsIssuance}
 use Rattle.s10_rows.specs.Kept.{Makes, is_at}
-use Rattle.s10_rows.proofs.SameRows.{one_row}
-use Rattle.s10_rows.proofs.LastIssues.{last_of, All-last_issues}
-use Rattle.s10_rows.proofs.SerialRows.{issues_of_fit, row_of_is, filter_image, last_passes}
+use Rattle.s10_rows.proofs.LastIssues.{last_of}
+use Rattle.s10_rows.proofs.SerialRows.{issues_of_fit, last_passes}
 use Rattle.s10_rows.proofs.Replaced.{replaced, same_rows}
 use Rattle.s10_rows.proofs.MadeRows.{row_in, same_issues, same_range_rows, same_voided, now_voided, none_made}
 use Rattle.s10_rows.proofs.IssueRows.{few_at, rows_but_at}

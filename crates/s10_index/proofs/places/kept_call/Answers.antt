@@ -1,4 +1,4 @@
-use Rattle.std.proofs.Common.{◌≡◌, ◌∙◌, Some, None, sym, ap}
+use Rattle.std.proofs.Common.{◌≡◌, ◌∙◌, Some, None, sym}
 use Rattle.std.specs.List.{position_from}
 use Rattle.s10_history.specs.History.{has_key}
 use Rattle.s10_index.proofs.Placing.{none_placed, placed_call, item_at}

@@ -1,59 +1,50 @@
-use Rattle.std.proofs.Common.{rules, ◌≡◌, pos, ◌∷◌, [], ◌++◌, ◌+◌, length, sym, subst, arith, refl, ◌∙◌}
+use Rattle.std.proofs.Common.{rules, ◌≡◌, pos, ◌+◌, length, ◌∙◌}
 use Rattle.sqlite.specs.Effect.{Database}
-use Rattle.sqlite.specs.State.{HasCleanDisk}
 use Rattle.sqlite.specs.Held.{state}
 use Rattle.s10_wire.specs.Datagrams.{Replies}
 use Rattle.s10_rows.specs.CallRow.{StoredCall}
 use Rattle.s10_rows.specs.Tables.{tables_of, call_row}
 use Rattle.s10_rows.specs.Kept.{Makes}
 use Rattle.s10_rows.specs.Selected.{IsCall}
-use Rattle.s10_statements.specs.Shown.{StandsFor}
 use Rattle.s10_rows.proofs.Replies.{reply_replies}
 use Rattle.s10_ledger.proofs.KeyLemmas.{stands_after, row_is}
-use Rattle.s10_statements.proofs.CrashLemmas.{either, tables_left}
+use Rattle.s10_statements.proofs.CrashLemmas.{either}
 use Rattle.s10_ledger.proofs.keeping.keep_call.Goals as goal
 
 pub returns-in-Ok-clause-ok : goal.returns-in-Ok-clause-ok
-returns-in-Ok-clause-ok g c clean opened h t legal follows calls stands m arrival =
+returns-in-Ok-clause-ok g c clean opened h t legal follows calls stands indexes arrival =
     let e = c.args.entry.now in
     let replies : Replies c.encode_reply-frame.result e.request e.outcome = rw (c.in-Some.ensures.parts.0, c.in-Some.ensures.parts.1) at c.encode_reply-frame.ensures in
     let call : IsCall e = record { request = replies.0; outcome = replies.1; fitting = replies.2; day = search rules } in
-    let mid : HasCleanDisk (state g.S.Store c.rows_made.new.conn) = omega (arith, c.keep_rows.ensures.clean) in
-    let still : StandsFor (state g.S.Store c.rows_made.new.conn).now h t =
-    subst (λ (d : Database). StandsFor d h t) (sym (c.rows_made.ensures.leaves.now mid (c.keep_rows.ensures.was_open clean opened) c.requires.settled stands.schema.ledger)) stands in
-    let makes : Makes h e c.deref.result.now c.deref-2.result.now = rw (c.deref.ensures.value, c.deref-2.ensures.value) (c.in_ok-made.ensures.answer mid h t legal follows calls call stands m arrival) in
+    let makes : Makes h e c.deref.result.now c.deref-2.result.now = rw (c.deref.ensures.value, c.deref-2.ensures.value) (c.in_ok-made.ensures.answer h t legal follows calls call indexes arrival) in
     let row : StoredCall = record { arrival = pos c.args.arrival; customer = pos e.request.customer; number = pos e.request.number; day = pos e.day; reply = c.bytes.result.now } in
     let is : row ≡ call_row (length h + 1) e = row_is c.args.arrival (length h + 1) e c.bytes.result.now arrival (c.bytes.ensures.bytes ∙ reply_replies e.request e.outcome c.encode_reply-frame.result replies) in
-    (call, stands_after (state g.S.Store c.keep_rows.new.conn).now h t e row c.deref.result.now c.deref-2.result.now c.args.arrival arrival is makes (c.in-Ok.ensures.all clean (tables_of h t) still makes.few))
+    (call, stands_after (state g.S.Store c.keep_rows.new.conn).now h t e row c.deref.result.now c.deref-2.result.now c.args.arrival arrival is makes (c.in-Ok.ensures.all clean (tables_of h t) stands makes.few))
 
 pub returns-in-Ok-clause-crash : goal.returns-in-Ok-clause-crash
 returns-in-Ok-clause-crash g c clean has db left =
     let e = c.args.entry.now in
     let replies : Replies c.encode_reply-frame.result e.request e.outcome = rw (c.in-Some.ensures.parts.0, c.in-Some.ensures.parts.1) at c.encode_reply-frame.ensures in
     let call : IsCall e = record { request = replies.0; outcome = replies.1; fitting = replies.2; day = search rules } in
-    let mid : HasCleanDisk (state g.S.Store c.rows_made.new.conn) = omega (arith, c.keep_rows.ensures.clean) in
-    let before = (state g.S.Store c.rows_made.new.conn).now in
+    let before = (state g.S.Store c.args.conn.now).now in
     let row : StoredCall = record { arrival = pos c.args.arrival; customer = pos e.request.customer; number = pos e.request.number; day = pos e.day; reply = c.bytes.result.now } in
-    either (c.keep_rows.ensures.crash clean db left) (c.rows_made.ensures.spares mid has db) (λ f h t legal follows calls stands m arrival.
-    let still : StandsFor before h t = subst (λ (d : Database). StandsFor d h t) (sym (c.rows_made.ensures.leaves.now mid f.0 c.requires.settled stands.schema.ledger)) stands in
-    let makes : Makes h e c.deref.result.now c.deref-2.result.now = rw (c.deref.ensures.value, c.deref-2.ensures.value) (c.in_ok-made.ensures.answer mid h t legal follows calls call stands m arrival) in
+    either (c.keep_rows.ensures.crash clean db left) (λ was. was) (λ f h t legal follows calls stands indexes arrival.
+    let makes : Makes h e c.deref.result.now c.deref-2.result.now = rw (c.deref.ensures.value, c.deref-2.ensures.value) (c.in_ok-made.ensures.answer h t legal follows calls call indexes arrival) in
     let is : row ≡ call_row (length h + 1) e = row_is c.args.arrival (length h + 1) e c.bytes.result.now arrival (c.bytes.ensures.bytes ∙ reply_replies e.request e.outcome c.encode_reply-frame.result replies) in
     let found : Database = record before { trees = db } in
-    let kept = stands_after found h t e row c.deref.result.now c.deref-2.result.now c.args.arrival arrival is makes (f.1 (tables_of h t) still makes.few) in
-    (call, tables_left found c.args.conn.now.schema db (tables_of (h ++ e ∷ []) t) stands.schema refl kept))
+    let kept = stands_after found h t e row c.deref.result.now c.deref-2.result.now c.args.arrival arrival is makes (f.1 (tables_of h t) stands makes.few) in
+    (call, kept))
 
 pub returns-clause-crash : goal.returns-clause-crash
 returns-clause-crash g c clean has db left =
     let e = c.args.entry.now in
     let replies : Replies c.encode_reply-frame.result e.request e.outcome = rw (c.in-Some.ensures.parts.0, c.in-Some.ensures.parts.1) at c.encode_reply-frame.ensures in
     let call : IsCall e = record { request = replies.0; outcome = replies.1; fitting = replies.2; day = search rules } in
-    let mid : HasCleanDisk (state g.S.Store c.rows_made.new.conn) = omega (arith, c.keep_rows.ensures.clean) in
-    let before = (state g.S.Store c.rows_made.new.conn).now in
+    let before = (state g.S.Store c.args.conn.now).now in
     let row : StoredCall = record { arrival = pos c.args.arrival; customer = pos e.request.customer; number = pos e.request.number; day = pos e.day; reply = c.bytes.result.now } in
-    either (c.keep_rows.ensures.crash clean db left) (c.rows_made.ensures.spares mid has db) (λ f h t legal follows calls stands m arrival.
-    let still : StandsFor before h t = subst (λ (d : Database). StandsFor d h t) (sym (c.rows_made.ensures.leaves.now mid f.0 c.requires.settled stands.schema.ledger)) stands in
-    let makes : Makes h e c.deref.result.now c.deref-2.result.now = rw (c.deref.ensures.value, c.deref-2.ensures.value) (c.in_ok-made.ensures.answer mid h t legal follows calls call stands m arrival) in
+    either (c.keep_rows.ensures.crash clean db left) (λ was. was) (λ f h t legal follows calls stands indexes arrival.
+    let makes : Makes h e c.deref.result.now c.deref-2.result.now = rw (c.deref.ensures.value, c.deref-2.ensures.value) (c.in_ok-made.ensures.answer h t legal follows calls call indexes arrival) in
     let is : row ≡ call_row (length h + 1) e = row_is c.args.arrival (length h + 1) e c.bytes.result.now arrival (c.bytes.ensures.bytes ∙ reply_replies e.request e.outcome c.encode_reply-frame.result replies) in
     let found : Database = record before { trees = db } in
-    let kept = stands_after found h t e row c.deref.result.now c.deref-2.result.now c.args.arrival arrival is makes (f.1 (tables_of h t) still makes.few) in
-    (call, tables_left found c.args.conn.now.schema db (tables_of (h ++ e ∷ []) t) stands.schema refl kept))
+    let kept = stands_after found h t e row c.deref.result.now c.deref-2.result.now c.args.arrival arrival is makes (f.1 (tables_of h t) stands makes.few) in
+    (call, kept))
