@@ -27,7 +27,7 @@ use Rattle.s10_statements.specs.Settled.{WasSound}
 use Rattle.s10_rows.specs.declared.open_fault.OpenFault.{OpenFault}
 use Rattle.s10_ledger.specs.Refusals.{IsOpeningRefusal}
 use Rattle.s10_statements.specs.Making.{IsMakingRefusal}
-use Rattle.s10_host.specs.Files.{FileConnection, IsFoundIn, WhereClean, IsEmptyBook, IsFoundBook, Copies, PutsAway, Leaves, IsNotMade, IsNotOpened}
+use Rattle.s10_host.specs.Files.{FileConnection, IsFoundIn, WhereClean, IsEmptyBook, IsFoundBook, Copies, PutsAway, LeavesClean, IsNotMade, IsNotOpened}
 
 -- what follows from three facts of the value that was made holds of it where it was kept
 kept_with_three : {A E F : Type 0} (P Q R T : A → Type 0) → ((a : A) → P a → Q a → R a → T a) → (made : Result A E) (kept : Result A F)
@@ -158,7 +158,7 @@ module _ {D : Type 0} {g : Ghosts D} where
 
   -- files are as clean as the store that gave them back, and that one as the connection before
   pub left_clean : (c : Held (FileStore D g)) (store : FileStore D g) (files : Files D)
-      → doubt (view c.store).is_clean ≤ doubt (view store).is_clean → (files.log, files.db) ≡ store_files store → Leaves c files
+      → doubt (view c.store).is_clean ≤ doubt (view store).is_clean → (files.log, files.db) ≡ store_files store → LeavesClean c files
   left_clean c store files falls same clean =
       let sure = subst (λ p. AreClean g p.0 p.1) same clean in
       let none : doubt (view store).is_clean ≡ 0 = no_doubt _ (subst IsTrue (sym (clean_is store.pool)) sure) in

@@ -73,8 +73,8 @@ module _ {D : Type 0} {g : Ghosts D} where
   PutsAway book files = AreClean g files.log files.db → IsPutAway book files
 
   -- both files kept what they were given only where the connection's disk did
-  abbrev pub Leaves : Held (FileStore D g) → Files D → Type 0
-  Leaves c files = AreClean g files.log files.db → HasCleanDisk (file_state c)
+  abbrev pub LeavesClean : Held (FileStore D g) → Files D → Type 0
+  LeavesClean c files = AreClean g files.log files.db → HasCleanDisk (file_state c)
 
 -- a file of the system
 abbrev pub SystemFile : (S : RattleType) → start.Ghosts S.Denot → Type 0
