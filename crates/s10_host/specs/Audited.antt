@@ -1,15 +1,14 @@
 -- What an audit finds of a database, and prints.
-use Rattle.std.specs.Prelude.{◌≡◌, ℕ, IsTrue, List, [], ◌∷◌, length, codes, decimal, Result, Ok, Err, OnOk}
+use Rattle.std.specs.Prelude.{◌≡◌, ℕ, List, [], ◌∷◌, length, codes, decimal, Result, Ok, Err, OnOk}
 use Rattle.sqlite_trees.specs.declared.store.Store.{Ghosts}
 use Rattle.sqlite.specs.Effect.{Database}
 use Rattle.sqlite.specs.Held.{Held, state}
-use Rattle.sqlite.specs.State.{HasCleanDisk}
 use Rattle.s10_book.specs.Settings.{Terms}
 use Rattle.s10_lines.specs.Lines.{line_of}
 use Rattle.s10_rows.specs.declared.open_fault.OpenFault.{OpenFault}
 use Rattle.s10_schema.specs.Schema.{IsClosedSchema}
 use Rattle.s10_ledger.specs.Ledger.{IsAnyLedger, history_in}
-use Rattle.s10_statements.specs.Settled.{WasSound}
+use Rattle.s10_statements.specs.Settled.{IsClean, IsOpen, WasSound}
 use Rattle.s10_ledger.specs.Refusals.{IsOpeningRefusal}
 use Rattle.s10_jobs.specs.declared.job_status.JobStatus.{JobStatus}
 use Rattle.s10_jobs.specs.declared.job_status.JobStatus.TheVariants.{Done, Failed}
@@ -37,9 +36,9 @@ IsLeftByAudit before after (Err fault) = after ≡ before
 -- one is open over disks that kept what they were given, and those are clean only where they were so before
 pub record HasFound {S : Type 0} (g : Ghosts S) (before left : Held S) (found : Result ℕ OpenFault) : Type 0 where
   pub sound : WasSound g before left
-  pub opened : HasCleanDisk (state g left) → OnOk found (IsTrue (state g left).is_open)
-  pub finding : HasCleanDisk (state g left) → IsTrue (state g left).is_open → IsFinding (state g before).now found
-  pub leaves : HasCleanDisk (state g left) → IsTrue (state g left).is_open → IsLeftByAudit (state g before).now (state g left).now found
+  pub opened : IsClean g left → OnOk found (IsOpen g left)
+  pub finding : IsClean g left → IsOpen g left → IsFinding (state g before).now found
+  pub leaves : IsClean g left → IsOpen g left → IsLeftByAudit (state g before).now (state g left).now found
 
 abbrev pub audit_line : Result ℕ OpenFault → List ℕ
 audit_line (Ok count) = line_of (codes "ledger") (codes "ok" ∷ decimal count ∷ [])
