@@ -5,14 +5,14 @@ ghost use Rattle.std.specs.Prelude.{◌≡◌, ℕ, List, Option, Result, map, I
 ghost use Rattle.std.specs.Io.KnownBytes.{Keeps};
 ghost use Rattle.s10_lines.specs.declared.write_fault.WriteFault.{WriteFault};
 ghost use Rattle.s10_jobs.specs.declared.job.Job.{Job};
-ghost use Rattle.s10_jobs.specs.declared.status.Status.{Status};
+ghost use Rattle.s10_jobs.specs.declared.job_status.JobStatus.{JobStatus};
 ghost use Rattle.s10_host.specs.Jobs.{HasEnded};
 ghost use Rattle.s10_cli.specs.Jobs.{AsksInWords};
 ghost use Rattle.s10_cli.specs.CommandLine.{exit_status};
 
 use s10_cli::{parse_job, run_buffered, written_out};
 use s10_host::{Left, run_job};
-use s10_jobs::Status;
+use s10_jobs::JobStatus;
 use s10_lines::WriteFault;
 use sqlite::{Start, Unknown};
 use std::convert::AsStr;
@@ -47,7 +47,7 @@ fn run_words<S: Start, W: AsStr, O: Write + Drop>(
     start: S,
     output: O,
 ) -> io::Result<(u8, O, Left<S>)>
-    ensures { IfOk result (λ ended. (job : Job) × (done : Result Status WriteFault) × (printed : Option (List ℕ))
+    ensures { IfOk result (λ ended. (job : Job) × (done : Result JobStatus WriteFault) × (printed : Option (List ℕ))
         × AsksInWords (map W.text words.now) job
         × HasEnded S.row S.Start job (O.contents output) printed done ended.2.files ended.2.link ended.2.looped
         × Keeps printed (O.contents ended.1) × (ended.0 ≡ exit_status done)) }
@@ -65,19 +65,19 @@ fn run_words<S: Start, W: AsStr, O: Write + Drop>(
 }
 
 // Says why there is no more output.
-fn tell<R: Print + Eprint>(rt: &R, error: &io::Error) -> Status {
+fn tell<R: Print + Eprint>(rt: &R, error: &io::Error) -> JobStatus {
     match error.kind() {
         ErrorKind::InvalidData => {
             let _ = rt.eprintln("error: the command line is not UTF-8");
-            Status::CommandLine
+            JobStatus::CommandLine
         }
         ErrorKind::OutOfMemory => {
             let _ = rt.println("memory");
-            Status::Failed
+            JobStatus::Failed
         }
         _ => {
             let _ = eprintln!(rt; "error: the output cannot be written: {error}");
-            Status::Failed
+            JobStatus::Failed
         }
     }
 }

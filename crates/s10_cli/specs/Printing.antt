@@ -10,8 +10,8 @@ use Rattle.s10_lines.specs.declared.write_fault.WriteFault.{WriteFault}
 use Rattle.s10_history.specs.declared.entry.Entry.{Entry}
 use Rattle.s10_history.specs.Settings.{Terms}
 use Rattle.s10_jobs.specs.declared.replay_fault.ReplayFault.{ReplayFault}
-use Rattle.s10_jobs.specs.declared.status.Status.{Status}
-use Rattle.s10_jobs.specs.declared.status.Status.TheVariants.{Done, Refused}
+use Rattle.s10_jobs.specs.declared.job_status.JobStatus.{JobStatus}
+use Rattle.s10_jobs.specs.declared.job_status.JobStatus.TheVariants.{Done, Refused}
 use Rattle.s10_jobs.specs.InputLines.{bytes_in}
 use Rattle.s10_jobs.specs.Lines.{AreTwoCapitals, made_line, refused_line, text_read, valid_line}
 use Rattle.s10_jobs.specs.Replay.{Replayed, TellsReplay}
@@ -19,26 +19,26 @@ use Rattle.s10_jobs.specs.Shown.{IsShown, Prints}
 use Rattle.s10_jobs.specs.Words.{text_fault_words}
 
 -- what the output held before a job and after it, and how the job ended
-module _ (old new : Option (List ℕ)) (done : Result Status WriteFault) where
+module _ (old new : Option (List ℕ)) (done : Result JobStatus WriteFault) where
   -- it ended with this status, and printed this line
-  abbrev pub Tells : Status → List ℕ → Type 0
-  Tells status line = IfOk done (λ ended. (ended ≡ status) × Appends old new line)
+  abbrev pub EndsWithLine : JobStatus → List ℕ → Type 0
+  EndsWithLine status line = IfOk done (λ ended. (ended ≡ status) × Appends old new line)
 
   -- the text was checked
   pub record Checks (is_label : Bool) (text : List ℕ) : Type 0 where
-    pub valid : (id : Id) → Spells (text_read is_label text) id → Tells Done (valid_line id)
-    pub refused : (fault : TextFault) → IsFirstRefusal (text_read is_label text) fault → Tells Refused (refused_line (text_fault_words fault))
+    pub valid : (id : Id) → Spells (text_read is_label text) id → EndsWithLine Done (valid_line id)
+    pub refused : (fault : TextFault) → IsFirstRefusal (text_read is_label text) fault → EndsWithLine Refused (refused_line (text_fault_words fault))
 
   -- the identifier of these parts was written, or the first part that is wrong
-  pub record Makes (service serial country : List ℕ) : Type 0 where
-    pub made : AreTwoCapitals service → AreEightDigits serial → AreTwoCapitals country → Tells Done (made_line service serial country)
-    pub no_service : ¬ AreTwoCapitals service → Tells Refused (refused_line (codes "service" ∷ []))
-    pub no_serial : AreTwoCapitals service → ¬ AreEightDigits serial → Tells Refused (refused_line (codes "serial" ∷ []))
-    pub no_country : AreTwoCapitals service → AreEightDigits serial → ¬ AreTwoCapitals country → Tells Refused (refused_line (codes "country" ∷ []))
+  pub record MakesIdentifier (service serial country : List ℕ) : Type 0 where
+    pub made : AreTwoCapitals service → AreEightDigits serial → AreTwoCapitals country → EndsWithLine Done (made_line service serial country)
+    pub no_service : ¬ AreTwoCapitals service → EndsWithLine Refused (refused_line (codes "service" ∷ []))
+    pub no_serial : AreTwoCapitals service → ¬ AreEightDigits serial → EndsWithLine Refused (refused_line (codes "serial" ∷ []))
+    pub no_country : AreTwoCapitals service → AreEightDigits serial → ¬ AreTwoCapitals country → EndsWithLine Refused (refused_line (codes "country" ∷ []))
 
   -- the datagram of these digits was shown
-  pub record Shows (digits : List ℕ) : Type 0 where
-    pub hex : bytes_in digits ≡ None → Tells Refused (refused_line (codes "hex" ∷ []))
+  pub record ShowsDatagram (digits : List ℕ) : Type 0 where
+    pub hex : bytes_in digits ≡ None → EndsWithLine Refused (refused_line (codes "hex" ∷ []))
     pub datagram : (bytes : List ℕ) → bytes_in digits ≡ Some bytes → IfOk done (λ ended. Prints old new (IsShown bytes ended))
 
   -- an input was replayed over an empty ledger with these settings, and this is left of it

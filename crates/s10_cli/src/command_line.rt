@@ -10,7 +10,7 @@ use crate::command::parse;
 use crate::found::{flag_of, settings_of, text_of};
 use clap::error::ErrorKind;
 use clap::{ArgMatches, Error};
-use s10_jobs::{Status, check, make, run_replay, show};
+use s10_jobs::{JobStatus, check, make, run_replay, show};
 use s10_lines::{WriteFault, write_text};
 use std::alloc::Global;
 use std::convert::AsStr;
@@ -41,12 +41,12 @@ pub fn run_line<R: Eprint + AllocGlobal, S: AsStr, I: Read, O: Write>(
     }
 }
 
-fn status_of(done: Result<Status, WriteFault>) -> u8
+fn status_of(done: Result<JobStatus, WriteFault>) -> u8
     ensures { result ≡ exit_status done }
 {
     match done {
         Ok(status) => status as u8,
-        Err(WriteFault) => Status::Failed as u8,
+        Err(WriteFault) => JobStatus::Failed as u8,
     }
 }
 
@@ -77,7 +77,7 @@ fn run_subcommand<I: Read, O: Write>(
     matches: &ArgMatches<'_>,
     input: &mut I,
     output: &mut O,
-) -> Option<Result<Status, WriteFault>>
+) -> Option<Result<JobStatus, WriteFault>>
     ensures { IsSubcommandDone (I.remaining input.old) (I.remaining input.new) (O.contents output.old) (O.contents output.new) result (subcommand_rows_of matches.now) }
 {
     match matches.subcommand() {
@@ -95,7 +95,7 @@ fn run_subcommand<I: Read, O: Write>(
         Some(("replay", found)) => {
             // A parsed command line has both settings within their limits.
             let Some(settings) = settings_of(found) else {
-                return Some(Ok(Status::CommandLine));
+                return Some(Ok(JobStatus::CommandLine));
             };
             Some(run_replay(alloc, settings, input, output))
         }
@@ -114,21 +114,21 @@ fn value_of<'a>(found: &ArgMatches<'a>, id: &str) -> &'a str
 }
 
 // Prints help, the version or a fault of the command line.
-fn tell<R: Eprint, O: Write>(rt: &R, error: &Error, output: &mut O) -> Result<Status, WriteFault>
+fn tell<R: Eprint, O: Write>(rt: &R, error: &Error, output: &mut O) -> Result<JobStatus, WriteFault>
     ensures { IsTold (kind_of error.now) (O.contents output.old) (O.contents output.new) result }
 {
     if matches!(error.kind(), ErrorKind::OutOfMemory) {
         write_text(b"memory\n", output)?;
-        return Ok(Status::Failed);
+        return Ok(JobStatus::Failed);
     }
     if error.use_stderr() {
         let Ok(()) = rt.eprint(error) else {
             return Err(WriteFault);
         };
-        return Ok(Status::CommandLine);
+        return Ok(JobStatus::CommandLine);
     }
     let Ok(()) = write!(output, "{error}") else {
         return Err(WriteFault);
     };
-    Ok(Status::Done)
+    Ok(JobStatus::Done)
 }

@@ -5,7 +5,8 @@ ghost use Rattle.s10_cli.specs.Options.{rows_in};
 ghost use Rattle.s10_cli.specs.Jobs.{AsksFor};
 
 use crate::builders::{named, with};
-use crate::found::{count_of, number_of, text_of, tries_of};
+use crate::found::{count_of, number_of, text_of};
+use crate::heading::heading_of;
 use crate::options::{count_option, country_option, service_option, tries_option};
 use crate::questions::with_asker;
 use clap::{ArgMatches, Command};
@@ -60,11 +61,14 @@ pub fn draw_job<'a>(found: &ArgMatches<'a>) -> Option<Job<'a>>
             count,
         },
     };
+    let Some(heading) = heading_of(found) else {
+        return None;
+    };
     Some(Job::Ask(Question {
-        to: text_of(found, "to")?,
+        to: heading.to,
         customer: number_of(found, "customer")?,
-        number: number_of(found, "number")?,
+        number: heading.number,
         body,
-        tries: tries_of(found)?,
+        tries: heading.tries,
     }))
 }

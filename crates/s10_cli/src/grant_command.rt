@@ -5,7 +5,8 @@ ghost use Rattle.s10_cli.specs.Options.{rows_in};
 ghost use Rattle.s10_cli.specs.Jobs.{AsksFor};
 
 use crate::builders::{named, number_option, serial_option, with};
-use crate::found::{POST, number_of, text_of, tries_of};
+use crate::found::{POST, number_of, text_of};
+use crate::heading::heading_of;
 use crate::options::{country_option, service_option, tries_option};
 use crate::questions::with_request;
 use clap::{ArgMatches, Command};
@@ -65,11 +66,14 @@ pub fn grant_job<'a>(found: &ArgMatches<'a>) -> Option<Job<'a>>
         first: Serial::new(number_of(found, "first")?)?,
         last: Serial::new(number_of(found, "last")?)?,
     };
+    let Some(heading) = heading_of(found) else {
+        return None;
+    };
     Some(Job::Ask(Question {
-        to: text_of(found, "to")?,
+        to: heading.to,
         customer: POST,
-        number: number_of(found, "number")?,
+        number: heading.number,
         body,
-        tries: tries_of(found)?,
+        tries: heading.tries,
     }))
 }

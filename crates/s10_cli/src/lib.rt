@@ -11,6 +11,7 @@ mod create_command;
 mod draw_command;
 mod found;
 mod grant_command;
+mod heading;
 mod job_words;
 mod loop_command;
 mod make_command;

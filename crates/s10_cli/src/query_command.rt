@@ -5,7 +5,8 @@ ghost use Rattle.s10_cli.specs.Options.{rows_in};
 ghost use Rattle.s10_cli.specs.Jobs.{AsksFor};
 
 use crate::builders::{named, with};
-use crate::found::{number_of, text_of, tries_of};
+use crate::found::{number_of, text_of};
+use crate::heading::heading_of;
 use crate::options::{id_option, tries_option};
 use crate::questions::with_asker;
 use clap::{ArgMatches, Command};
@@ -48,11 +49,14 @@ pub fn query_job<'a>(found: &ArgMatches<'a>) -> Option<Job<'a>>
     let body = BodyWords::Query {
         id: text_of(found, "id")?,
     };
+    let Some(heading) = heading_of(found) else {
+        return None;
+    };
     Some(Job::Ask(Question {
-        to: text_of(found, "to")?,
+        to: heading.to,
         customer: number_of(found, "customer")?,
-        number: number_of(found, "number")?,
+        number: heading.number,
         body,
-        tries: tries_of(found)?,
+        tries: heading.tries,
     }))
 }

@@ -5,7 +5,8 @@ ghost use Rattle.s10_cli.specs.Options.{rows_in};
 ghost use Rattle.s10_cli.specs.Jobs.{AsksFor};
 
 use crate::builders::{named, number_option, with};
-use crate::found::{POST, number_of, text_of, tries_of};
+use crate::found::{POST, number_of};
+use crate::heading::heading_of;
 use crate::options::tries_option;
 use crate::questions::with_request;
 use clap::{ArgMatches, Command};
@@ -56,11 +57,14 @@ pub fn withdraw_job<'a>(found: &ArgMatches<'a>) -> Option<Job<'a>>
     let body = BodyWords::Withdraw {
         range: number_of(found, "range")?,
     };
+    let Some(heading) = heading_of(found) else {
+        return None;
+    };
     Some(Job::Ask(Question {
-        to: text_of(found, "to")?,
+        to: heading.to,
         customer: POST,
-        number: number_of(found, "number")?,
+        number: heading.number,
         body,
-        tries: tries_of(found)?,
+        tries: heading.tries,
     }))
 }

@@ -13,12 +13,12 @@ use Rattle.s10_link.specs.declared.link_fault.LinkFault.{LinkFault}
 use Rattle.s10_link.specs.declared.link_fault.LinkFault.TheVariants.{Bind, Receive, Send, Spent}
 use Rattle.s10_wire.specs.Datagrams.{Replies}
 use Rattle.s10_link.specs.Trace.{after_call, after_datagram}
-use Rattle.s10_link.specs.Link.{Receives as LinkReceives}
+use Rattle.s10_link.specs.Link.{Receives}
 use Rattle.s10_wire.proofs.Replied.{one_reply}
 use Rattle.s10_ends.specs.declared.received.Received.{Received}
 use Rattle.s10_ends.specs.declared.received.Received.TheVariants.{Malformed, Idle, NotMine, Accepted}
 use Rattle.s10_wire.specs.Reply.{request_of, outcome_of}
-use Rattle.s10_ends.specs.Client.{ClientState, Receives, settled}
+use Rattle.s10_ends.specs.Client.{ClientState, ClientReceives, settled}
 use Rattle.s10_ends.specs.Calls.{Heard, TookAllBut, IsUnanswered, IsTakenReply, failures_of}
 
 -- k receives, each of which took a datagram
@@ -78,7 +78,7 @@ heard_quiet t m m' k h few is =
     )
 
 -- a receive that was refused after k others
-pub heard_refused : (t m m' : Trace) (k : ℕ) (fault : LinkFault) → Hearing t m k → k < 8 → LinkReceives m m' (Err fault) → Heard t m' (failures_of fault)
+pub heard_refused : (t m m' : Trace) (k : ℕ) (fault : LinkFault) → Hearing t m k → k < 8 → Receives m m' (Err fault) → Heard t m' (failures_of fault)
 heard_refused t m m' k Receive h few refused =
     let calls : m'.calls ≡ m.calls + 1 = ap (λ (x : Trace). x.calls) refused in
     let failures : m'.failures ≡ m.failures + 1 = ap (λ (x : Trace). x.failures) refused in
@@ -95,7 +95,7 @@ heard_refused t m m' k Spent h few refused = let P : Trace → Type 0 = λ x. He
 heard_refused t m m' k Send h few refused = absurd refused
 heard_refused t m m' k Bind h few refused = absurd refused
 
-pub took_all_refused : (t m m' : Trace) (k : ℕ) (fault : LinkFault) → Hearing t m k → LinkReceives m m' (Err fault) → TookAllBut t m' (failures_of fault)
+pub took_all_refused : (t m m' : Trace) (k : ℕ) (fault : LinkFault) → Hearing t m k → Receives m m' (Err fault) → TookAllBut t m' (failures_of fault)
 took_all_refused t m m' k Receive h refused =
     let calls : m'.calls ≡ m.calls + 1 = ap (λ (x : Trace). x.calls) refused in
     let received : m'.received ≡ m.received = ap (λ (x : Trace). x.received) refused in
@@ -105,14 +105,14 @@ took_all_refused t m m' k Send h refused = absurd refused
 took_all_refused t m m' k Bind h refused = absurd refused
 
 -- a receive is not refused with Send
-pub receive_not_send : (m m' : Trace) (fault : LinkFault) → LinkReceives m m' (Err fault) → fault ≢ Send
+pub receive_not_send : (m m' : Trace) (fault : LinkFault) → Receives m m' (Err fault) → fault ≢ Send
 receive_not_send m m' Receive refused = λ wrong. cc
 receive_not_send m m' Spent refused = λ wrong. cc
 receive_not_send m m' Send refused = absurd refused
 receive_not_send m m' Bind refused = absurd refused
 
 -- a receive is not refused with Bind
-pub receive_not_bind : (m m' : Trace) (fault : LinkFault) → LinkReceives m m' (Err fault) → fault ≢ Bind
+pub receive_not_bind : (m m' : Trace) (fault : LinkFault) → Receives m m' (Err fault) → fault ≢ Bind
 receive_not_bind m m' Receive refused = λ wrong. cc
 receive_not_bind m m' Spent refused = λ wrong. cc
 receive_not_bind m m' Send refused = absurd refused
@@ -132,7 +132,7 @@ no_reply_to : (b : List ℕ) (q p : Request) (o : Outcome) → Replies b q o →
 no_reply_to b q p o replies other o' wrong = other (one_reply b p q o' o wrong replies).0
 
 -- a datagram that was not accepted leaves the client, and is no reply to what is pending
-pub unaccepted : (c c' : ClientState) (b : List ℕ) (received : Received) → Receives c b received c' → ((reply : Reply) → received ≡ Accepted reply → ⊥) → IsSome c.pending
+pub unaccepted : (c c' : ClientState) (b : List ℕ) (received : Received) → ClientReceives c b received c' → ((reply : Reply) → received ≡ Accepted reply → ⊥) → IsSome c.pending
     → (c' ≡ c) × ((q : Request) → c.pending ≡ Some q → (o : Outcome) → ¬ (Replies b q o))
 unaccepted c c' b (Malformed fault) r other some = (r.2, λ q pends o replies. r.0 (q, o, replies))
 unaccepted c c' b Idle r other some =
@@ -156,11 +156,11 @@ unaccepted_packet c c0 b packet client is none =
     subst P is (subst Q client none)
 
 -- a receive in which nothing came
-pub quiet_is : (old new : Trace) (o : Option (Peer × Packet)) → LinkReceives old new (Ok o) → o ≡ None → new ≡ after_call old
-quiet_is old new o received is = let P : Option (Peer × Packet) → Type 0 = λ x. LinkReceives old new (Ok x) in subst P is received
+pub quiet_is : (old new : Trace) (o : Option (Peer × Packet)) → Receives old new (Ok o) → o ≡ None → new ≡ after_call old
+quiet_is old new o received is = let P : Option (Peer × Packet) → Type 0 = λ x. Receives old new (Ok x) in subst P is received
 
 -- a datagram that was accepted is the reply to what was pending
-pub accepted_reply : (c0 c c' : ClientState) (b : List ℕ) (t : Trace) (from : Peer) (packet : Packet) (reply : Reply) → c ≡ c0 → b ≡ packet → Receives c b (Accepted reply) c'
+pub accepted_reply : (c0 c c' : ClientState) (b : List ℕ) (t : Trace) (from : Peer) (packet : Packet) (reply : Reply) → c ≡ c0 → b ≡ packet → ClientReceives c b (Accepted reply) c'
     → t.taken ≡ Some (from, packet) → (c0.pending ≡ Some (request_of reply)) × (c' ≡ settled c0) × IsTakenReply t reply
 accepted_reply c0 c c' b t from packet reply client is accepted taken =
     let P : List ℕ → Type 0 = λ x. Replies x (request_of reply) (outcome_of reply) in

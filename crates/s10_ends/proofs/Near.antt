@@ -12,9 +12,9 @@ use Rattle.s10_history.specs.Settings.{Terms}
 use Rattle.s10_ends.specs.declared.answer.Answer.{Answer}
 use Rattle.s10_ends.specs.declared.near_link.NearLink.{NearLink}
 use Rattle.s10_ends.specs.declared.server.Server.{Server}
-use Rattle.s10_ends.specs.declared.served.Served.{Served}
-use Rattle.s10_ends.specs.declared.served.Served.TheVariants.{Quiet, Dropped, Faulted, Replied}
-use Rattle.s10_ends.specs.Served.{Dated, Served as IsServed}
+use Rattle.s10_ends.specs.declared.server_turn.ServerTurn.{ServerTurn}
+use Rattle.s10_ends.specs.declared.server_turn.ServerTurn.TheVariants.{Quiet, Dropped, Faulted, Replied}
+use Rattle.s10_ends.specs.Served.{Dated, Served}
 use Rattle.s10_ends.specs.Server.{book_of}
 use Rattle.s10_ends.specs.Turn.{Handles, ServesOne}
 use Rattle.s10_ends.specs.NearLink.{IsNearStep, ServedOn}
@@ -23,12 +23,12 @@ use Rattle.s10_ends.proofs.Whole.{Served-nil, Served-push}
 none_on : (day : ℕ) (h : List Entry) (t : Terms) → ServedOn day h t h
 none_on day h t = record { deliveries = []; answers = []; days = All-nil (λ (d : Dated). d.1 ≡ day); served = Served-nil h t }
 
-one_more_on : (day : ℕ) (h h1 h2 : List Entry) (t t1 : Terms) (b : List ℕ) (answer : Answer) → ServedOn day h t h1 → t1 ≡ t → IsServed h1 t1 ((b, day) ∷ []) (answer ∷ []) h2 → ServedOn day h t h2
+one_more_on : (day : ℕ) (h h1 h2 : List Entry) (t t1 : Terms) (b : List ℕ) (answer : Answer) → ServedOn day h t h1 → t1 ≡ t → Served h1 t1 ((b, day) ∷ []) (answer ∷ []) h2 → ServedOn day h t h2
 one_more_on day h h1 h2 t t1 b answer before same one = record {
   deliveries = before.deliveries ++ (b, day) ∷ [];
   answers = before.answers ++ answer ∷ [];
   days = All-push (λ (d : Dated). d.1 ≡ day) before.deliveries (b, day) before.days refl;
-  served = Served-push h h1 h2 t before.deliveries before.answers (b, day) answer before.served (subst (λ (u : Terms). IsServed h1 u ((b, day) ∷ []) (answer ∷ []) h2) same one);
+  served = Served-push h h1 h2 t before.deliveries before.answers (b, day) answer before.served (subst (λ (u : Terms). Served h1 u ((b, day) ∷ []) (answer ∷ []) h2) same one);
 }
 
 module _ {B F N : Type 0} (faults : B → Faults) (honest : B → Type 0) (terms : B → Terms) (history : B → List Entry) (far : F → Trace) (near : N → Trace) where
@@ -53,7 +53,7 @@ module _ {B F N : Type 0} (faults : B → Faults) (honest : B → Type 0) (terms
         one_more_on day (history old) (history between) (history new) (terms old) (terms between) b answer (led.served before) (led.same_terms before) (handles.served h);
   }
 
-  turned : (day : ℕ) (old between new : B) (t t' : Trace) (turn : Result Served LinkFault) → LedOn day old between
+  turned : (day : ℕ) (old between new : B) (t t' : Trace) (turn : Result ServerTurn LinkFault) → LedOn day old between
       → ServesOne t t' (new ≡ between) (Handles faults honest terms history between new day) turn → LedOn day old new
   turned day old between new t t' (Ok Quiet) led (link, same) = still day old between new led same
   turned day old between new t t' (Ok (Dropped from fault)) led (packet, link, handles) = handled day old between new _ _ led handles

@@ -6,7 +6,7 @@ use Rattle.s10_wire.specs.declared.frame.Frame.{Frame}
 use Rattle.s10_wire.specs.declared.request.Request.{Request}
 use Rattle.s10_link.specs.declared.link_fault.LinkFault.{LinkFault}
 use Rattle.s10_link.specs.declared.link_fault.LinkFault.TheVariants.{Bind, Receive, Send, Spent}
-use Rattle.s10_link.specs.Trace.{Gives}
+use Rattle.s10_link.specs.Trace.{IsAfterFrame}
 use Rattle.s10_link.specs.Link.{Sends}
 use Rattle.std.proofs.lemmas.Option.{same_Some}
 use Rattle.s10_wire.specs.declared.body.Body.{Body}
@@ -26,12 +26,12 @@ tried_none t p = record {
   failures = refl;
 }
 
-alike_again : (m s : Trace) (p : Peer × Frame) (k : ℕ) → (0 < k → m.given ≡ Some p) → (0 < k → k ≤ m.alike) → Gives m s p → k + 1 ≤ s.alike
+alike_again : (m s : Trace) (p : Peer × Frame) (k : ℕ) → (0 < k → m.given ≡ Some p) → (0 < k → k ≤ m.alike) → IsAfterFrame m s p → k + 1 ≤ s.alike
 alike_again m s p zero given alike g = omega (arith, g.some)
 alike_again m s p (suc k) given alike g = let on : s.alike ≡ m.alike + 1 = g.again (given (omega arith)) in let low : suc k ≤ m.alike = alike (omega arith) in omega (arith, on, low)
 
 -- one more send
-pub sent_again : (t m s : Trace) (p : Peer × Frame) (k : ℕ) → SentOnly t m p k → Gives m s p → SentOnly t s p (k + 1)
+pub sent_again : (t m s : Trace) (p : Peer × Frame) (k : ℕ) → SentOnly t m p k → IsAfterFrame m s p → SentOnly t s p (k + 1)
 sent_again t m s p k sent g =
     let sends : s.sends ≡ m.sends + 1 = ap (λ (x : Trace). x.sends) g.after in
     record {
@@ -49,7 +49,7 @@ sent_heard t s t' p k failed sent h = record {
 }
 
 -- one more try, which was not cut short
-ended_again : (t m s t' : Trace) (p : Peer × Frame) (k : ℕ) → Ended t m k 0 0 → Gives m s p → s.received ≤ t'.received → EndsTry s t' → Ended t t' (k + 1) 0 0
+ended_again : (t m s t' : Trace) (p : Peer × Frame) (k : ℕ) → Ended t m k 0 0 → IsAfterFrame m s p → s.received ≤ t'.received → EndsTry s t' → Ended t t' (k + 1) 0 0
 ended_again t m s t' p k e g more (inl took) =
     let calls : s.calls ≡ m.calls + 1 = ap (λ (x : Trace). x.calls) g.after in
     let received : s.received ≡ m.received = ap (λ (x : Trace). x.received) g.after in
@@ -72,7 +72,7 @@ ended_again t m s t' p k e g more (inr whole) =
     }
 
 -- one more try, which was cut short
-ended_cut : (t m s t' : Trace) (p : Peer × Frame) (k failed : ℕ) → Ended t m k 0 0 → Gives m s p → s.received ≤ t'.received → TookAllBut s t' failed
+ended_cut : (t m s t' : Trace) (p : Peer × Frame) (k failed : ℕ) → Ended t m k 0 0 → IsAfterFrame m s p → s.received ≤ t'.received → TookAllBut s t' failed
     → Ended t t' (k + 1) 1 failed
 ended_cut t m s t' p k failed e g more took =
     let calls : s.calls ≡ m.calls + 1 = ap (λ (x : Trace). x.calls) g.after in
@@ -86,7 +86,7 @@ ended_cut t m s t' p k failed e g more took =
     }
 
 -- one more try
-tried_again : (t m s t' : Trace) (p : Peer × Frame) (k cut : ℕ) → Tried t m p k 0 → Gives m s p → Heard s t' 0 → s.calls < t'.calls → Ended t t' (k + 1) cut 0 → Tried t t' p (k + 1) cut
+tried_again : (t m s t' : Trace) (p : Peer × Frame) (k cut : ℕ) → Tried t m p k 0 → IsAfterFrame m s p → Heard s t' 0 → s.calls < t'.calls → Ended t t' (k + 1) cut 0 → Tried t t' p (k + 1) cut
 tried_again t m s t' p k cut tried g h more ended =
     let calls : s.calls ≡ m.calls + 1 = ap (λ (x : Trace). x.calls) g.after in
     let failures : s.failures ≡ m.failures = ap (λ (x : Trace). x.failures) g.after in
@@ -143,7 +143,7 @@ is_cut Send other another = absurd (another refl)
 is_cut Bind other another = absurd (other refl)
 
 -- a try in which a receive was refused
-stopped_sent : (t m s t' : Trace) (p : Peer × Frame) (k tries : ℕ) (fault : LinkFault) → Tried t m p k 0 → k < tries → Gives m s p → Heard s t' (failures_of fault) → fault ≢ Bind → fault ≢ Send
+stopped_sent : (t m s t' : Trace) (p : Peer × Frame) (k tries : ℕ) (fault : LinkFault) → Tried t m p k 0 → k < tries → IsAfterFrame m s p → Heard s t' (failures_of fault) → fault ≢ Bind → fault ≢ Send
     → TookAllBut s t' (failures_of fault) → Stopped t t' p tries fault
 stopped_sent t m s t' p k tries fault tried few g h other another took =
     let calls : s.calls ≡ m.calls + 1 = ap (λ (x : Trace). x.calls) g.after in
@@ -162,7 +162,7 @@ stopped_sent t m s t' p k tries fault tried few g h other another took =
     }
 
 -- another try without a reply
-pub unanswered_again : (t m s t' : Trace) (p : Peer × Frame) (pending : Option Request) → IsUnanswered t m pending → Gives m s p → IsUnanswered s t' pending → IsUnanswered t t' pending
+pub unanswered_again : (t m s t' : Trace) (p : Peer × Frame) (pending : Option Request) → IsUnanswered t m pending → IsAfterFrame m s p → IsUnanswered s t' pending → IsUnanswered t t' pending
 unanswered_again t m s t' p pending before g after =
     let received : s.received ≡ m.received = ap (λ (x : Trace). x.received) g.after in
     let taken : s.taken ≡ m.taken = ap (λ (x : Trace). x.taken) g.after in

@@ -7,11 +7,11 @@ use Rattle.s10_link.specs.declared.packet.Packet.{Packet}
 use Rattle.s10_wire.specs.declared.frame.Frame.{Frame}
 use Rattle.s10_link.specs.declared.link_fault.LinkFault.{LinkFault}
 use Rattle.s10_link.specs.declared.link_fault.LinkFault.TheVariants.{Bind, Receive, Send, Spent}
-use Rattle.s10_link.specs.Trace.{after_datagram, Gives, after_failure}
+use Rattle.s10_link.specs.Trace.{after_datagram, IsAfterFrame, after_failure}
 use Rattle.s10_link.specs.Link.{Receives, Sends}
 use Rattle.s10_ends.specs.declared.answer.Answer.{Answer}
 use Rattle.s10_ends.specs.declared.answer.Answer.TheVariants as answers
-use Rattle.s10_ends.specs.declared.served.Served.{Served}
+use Rattle.s10_ends.specs.declared.server_turn.ServerTurn.{ServerTurn}
 use Rattle.s10_ends.specs.Turn.{Takes, TakesAndGives, SendsReply, ServesOne}
 
 -- an error that is passed on
@@ -43,13 +43,13 @@ reply_unsent old mid new same handles from packet b frame Receive taken is handl
 reply_unsent old mid new same handles from packet b frame Bind taken is handled sent = absurd sent
 
 -- a reply
-pub reply_sent : (old mid new : Trace) (same : Type 0) (handles : List ℕ → Answer → Type 0) (from : Peer) (packet : Packet) (b : List ℕ) (frame : Frame) (result : Result Served LinkFault)
+pub reply_sent : (old mid new : Trace) (same : Type 0) (handles : List ℕ → Answer → Type 0) (from : Peer) (packet : Packet) (b : List ℕ) (frame : Frame) (result : Result ServerTurn LinkFault)
     → mid ≡ after_datagram old (from, packet) → b ≡ packet → handles b (answers.Reply frame) → SendsReply mid new (from, frame) result
     → ServesOne old new same handles result
 reply_sent old mid new same handles from packet b frame (Ok served) taken is handled sent =
     let P : List ℕ → Type 0 = λ x. handles x (answers.Reply frame) in
-    let Q : Trace → Type 0 = λ t. Gives t new (from, frame) in
-    let R : Served → Type 0 = λ x. ServesOne old new same handles (Ok x) in
+    let Q : Trace → Type 0 = λ t. IsAfterFrame t new (from, frame) in
+    let R : ServerTurn → Type 0 = λ x. ServesOne old new same handles (Ok x) in
     let here : TakesAndGives old new handles from frame = (packet, subst Q taken sent.0, subst P is handled) in
     subst R (sym sent.1) here
 reply_sent old mid new same handles from packet b frame (Err fault) taken is handled sent =

@@ -12,7 +12,7 @@ use Rattle.s10_link.specs.declared.link_fault.LinkFault.{LinkFault}
 use Rattle.s10_link.specs.declared.link_fault.LinkFault.TheVariants.{Bind, Receive, Send, Spent}
 use Rattle.s10_wire.specs.Datagrams.{Asks, Replies}
 use Rattle.s10_wire.specs.Reply.{request_of, outcome_of}
-use Rattle.s10_link.specs.Trace.{Gives}
+use Rattle.s10_link.specs.Trace.{IsAfterFrame}
 use Rattle.s10_link.specs.Link.{Sends}
 use Rattle.s10_ends.specs.declared.call_fault.CallFault.{CallFault}
 use Rattle.s10_ends.specs.declared.call_fault.CallFault.TheVariants.{Submit, GaveUp, Link}
@@ -121,6 +121,6 @@ Listens c c' t t' (Err fault) = Heard t t' (failures_of fault) × (c' ≡ c) × 
 
 -- what one try does: the frame is sent, and then its reply is listened for
 abbrev pub Attempts : ClientState → ClientState → Trace → Trace → Peer × Frame → Result (Option Reply) LinkFault → Type 0
-Attempts c c' t t' p (Ok found) = (sent : Trace) × Gives t sent p × Listens c c' sent t' (Ok found)
+Attempts c c' t t' p (Ok found) = (sent : Trace) × IsAfterFrame t sent p × Listens c c' sent t' (Ok found)
 Attempts c c' t t' p (Err fault) =
-    (Sends t t' p (Err fault) × (c' ≡ c)) ⊎ ((sent : Trace) × Gives t sent p × Listens c c' sent t' (Err fault))
+    (Sends t t' p (Err fault) × (c' ≡ c)) ⊎ ((sent : Trace) × IsAfterFrame t sent p × Listens c c' sent t' (Err fault))

@@ -60,11 +60,11 @@ pub record IsClient (c : ClientState) : Type 0 where
   pub latest : IfSome c.pending (IsLatest c)
 
 -- a frame that asks what is pending, and none where nothing is
-abbrev pub Resends : Option Request → Option Frame → Type 0
-Resends None None = ⊤
-Resends None (Some frame) = ⊥
-Resends (Some q) None = ⊥
-Resends (Some q) (Some frame) = Asks frame q
+abbrev pub AsksPending : Option Request → Option Frame → Type 0
+AsksPending None None = ⊤
+AsksPending None (Some frame) = ⊥
+AsksPending (Some q) None = ⊥
+AsksPending (Some q) (Some frame) = Asks frame q
 
 -- the bytes are a reply to exactly what is pending
 abbrev pub IsOwnReply : ClientState → List ℕ → Request → Outcome → Type 0
@@ -75,8 +75,8 @@ abbrev pub IsReply : List ℕ → Type 0
 IsReply b = (q : Request) × (o : Outcome) × Replies b q o
 
 -- what becomes of bytes that came, and of the client
-abbrev pub Receives : ClientState → List ℕ → Received → ClientState → Type 0
-Receives c b (Malformed fault) c' = ¬ (IsReply b) × IsFirstRefusalOfReply b fault × (c' ≡ c)
-Receives c b Idle c' = IsReply b × (c.pending ≡ None) × (c' ≡ c)
-Receives c b NotMine c' = (q p : Request) × (o : Outcome) × Replies b q o × (c.pending ≡ Some p) × (p ≢ q) × (c' ≡ c)
-Receives c b (Accepted reply) c' = IsOwnReply c b (request_of reply) (outcome_of reply) × (c' ≡ settled c)
+abbrev pub ClientReceives : ClientState → List ℕ → Received → ClientState → Type 0
+ClientReceives c b (Malformed fault) c' = ¬ (IsReply b) × IsFirstRefusalOfReply b fault × (c' ≡ c)
+ClientReceives c b Idle c' = IsReply b × (c.pending ≡ None) × (c' ≡ c)
+ClientReceives c b NotMine c' = (q p : Request) × (o : Outcome) × Replies b q o × (c.pending ≡ Some p) × (p ≢ q) × (c' ≡ c)
+ClientReceives c b (Accepted reply) c' = IsOwnReply c b (request_of reply) (outcome_of reply) × (c' ≡ settled c)

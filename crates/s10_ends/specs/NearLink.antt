@@ -4,14 +4,14 @@ use Rattle.s10_wire.specs.declared.frame.Frame.{Frame}
 use Rattle.s10_link.specs.declared.peer.Peer.{Peer}
 use Rattle.s10_link.specs.declared.trace.Trace.{Trace}
 use Rattle.s10_link.specs.declared.link_fault.LinkFault.{LinkFault}
-use Rattle.s10_link.specs.Link.{Received, Sent, Receives, Sends}
+use Rattle.s10_link.specs.Link.{ReceiveResult, SendResult, Receives, Sends}
 use Rattle.s10_history.specs.declared.entry.Entry.{Entry}
 use Rattle.s10_book.specs.declared.faults.Faults.{Faults}
 use Rattle.s10_history.specs.Settings.{Terms}
 use Rattle.s10_ends.specs.declared.answer.Answer.{Answer}
 use Rattle.s10_ends.specs.declared.near_link.NearLink.{NearLink}
-use Rattle.s10_ends.specs.declared.served.Served.{Served}
-use Rattle.s10_ends.specs.Served.{Dated, Served as IsServed}
+use Rattle.s10_ends.specs.declared.server_turn.ServerTurn.{ServerTurn}
+use Rattle.s10_ends.specs.Served.{Dated, Served}
 use Rattle.s10_ends.specs.Server.{book_of}
 use Rattle.s10_ends.specs.Turn.{Handles, ServesOne}
 
@@ -20,19 +20,19 @@ pub record ServedOn (day : ℕ) (h : List Entry) (t : Terms) (h' : List Entry) :
   pub deliveries : List Dated
   pub answers : List Answer
   pub days : All (λ d. d.1 ≡ day) deliveries
-  pub served : IsServed h t deliveries answers h'
+  pub served : Served h t deliveries answers h'
 
 module _ {B F N : Type 0} (faults : B → Faults) (honest : B → Type 0) (terms : B → Terms) (history : B → List Entry) (far : F → Trace) (near : N → Trace) where
   -- before the receive the server had a turn on the far end, on the day
   abbrev pub IsNearReceive : NearLink B F N → NearLink B F N → Type 0
   IsNearReceive old new =
-      (turn : Result Served LinkFault) × (came : Received)
+      (turn : Result ServerTurn LinkFault) × (came : ReceiveResult)
       × ServesOne (far old.far) (far new.far) (book_of new.server ≡ book_of old.server) (Handles faults honest terms history (book_of old.server) (book_of new.server) old.day) turn
       × Receives (near old.near) (near new.near) came
 
   -- the server was left alone
   abbrev pub IsNearSend : NearLink B F N → NearLink B F N → Type 0
-  IsNearSend old new = (p : Peer × Frame) × (sent : Sent) × Sends (near old.near) (near new.near) p sent × (new.server ≡ old.server) × (new.far ≡ old.far)
+  IsNearSend old new = (p : Peer × Frame) × (sent : SendResult) × Sends (near old.near) (near new.near) p sent × (new.server ≡ old.server) × (new.far ≡ old.far)
 
   -- one call, which leaves the day
   pub record IsNearStep (old new : NearLink B F N) : Type 0 where

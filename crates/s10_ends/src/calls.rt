@@ -3,7 +3,7 @@
 ghost use Rattle.std.specs.Prelude.{◌≡◌, ◌≤◌, IsSome};
 ghost use Rattle.s10_link.specs.Link.{LeadsTo};
 ghost use Rattle.s10_ends.specs.Calls.{Calls, Attempts, Listens};
-ghost use Rattle.s10_ends.specs.Client.{Receives};
+ghost use Rattle.s10_ends.specs.Client.{ClientReceives};
 
 use crate::call_fault::CallFault;
 use crate::client::Client;
@@ -78,7 +78,7 @@ fn first_accepted<L: Link>(client: &mut Client, link: &mut L) -> Result<Option<R
 
 // What the client makes of a packet.
 fn take(client: &mut Client, packet: Packet) -> Received
-    ensures { Receives client.old packet result client.new }
+    ensures { ClientReceives client.old packet result client.new }
 {
     client.receive(packet.bytes())
 }

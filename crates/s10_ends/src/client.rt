@@ -2,7 +2,7 @@
 
 ghost use Rattle.std.specs.Prelude.{◌≡◌, ◌≤◌, ◌↔◌, IsTrue, IfOk, IfSome, OnErr};
 ghost use Rattle.std.specs.Result.{OkIff, result_err};
-ghost use Rattle.s10_ends.specs.Client.{ClientState, IsNew, IsClient, IsLatest, new_client, next_request, after_submit, submit_fault, settled, Resends, Receives};
+ghost use Rattle.s10_ends.specs.Client.{ClientState, IsNew, IsClient, IsLatest, new_client, next_request, after_submit, submit_fault, settled, AsksPending, ClientReceives};
 
 use crate::bad_numbers::BadNumbers;
 use crate::received::Received;
@@ -99,7 +99,7 @@ impl Client {
 
     /// The datagram of the pending request, as often as it is wanted.
     pub fn resend(&self) -> Option<Frame>
-        ensures { Resends self.now.pending result }
+        ensures { AsksPending self.now.pending result }
     {
         match &self.pending {
             None => None,
@@ -110,7 +110,7 @@ impl Client {
     /// Takes a datagram that came. Whoever sent it, it is accepted only as the reply to the
     /// pending request, which is compared in every field.
     pub fn receive(&mut self, datagram: &[u8]) -> Received
-        ensures { Receives self.old datagram.now result self.new }
+        ensures { ClientReceives self.old datagram.now result self.new }
     {
         let reply = match decode_reply(datagram) {
             Ok(reply) => reply,

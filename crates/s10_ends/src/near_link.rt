@@ -21,7 +21,7 @@ pub struct NearLink<B, F, N> {
 impl<B: Book, F: Link, N: Link> Link for NearLink<B, F, N> {
     ghost use Rattle.s10_link.specs.Link.{Receives, Sends};
     ghost use Rattle.s10_link.specs.declared.link_fault.LinkFault.{LinkFault};
-    ghost use Rattle.s10_ends.specs.declared.served.Served.{Served};
+    ghost use Rattle.s10_ends.specs.declared.server_turn.ServerTurn.{ServerTurn};
     ghost use Rattle.s10_ends.specs.Server.{book_of};
     ghost use Rattle.s10_ends.specs.Turn.{Handles, ServesOne};
     ghost use Rattle.s10_ends.specs.NearLink.{IsNearStep};
@@ -34,7 +34,7 @@ impl<B: Book, F: Link, N: Link> Link for NearLink<B, F, N> {
         ensures trace { Receives (N.trace_of self.old.near) (N.trace_of self.new.near) result }
 
         // The server has one turn on the far end.
-        ensures turn { (turn : Result Served LinkFault)
+        ensures turn { (turn : Result ServerTurn LinkFault)
             × ServesOne (F.trace_of self.old.far) (F.trace_of self.new.far) (book_of self.new.server ≡ book_of self.old.server)
             (Handles B.faults B.honest B.terms B.history (book_of self.old.server) (book_of self.new.server) self.old.day) turn }
         ensures day { self.new.day ≡ self.old.day }

@@ -5,8 +5,8 @@ ghost use Rattle.s10_ends.specs.Server.{book_of};
 ghost use Rattle.s10_ends.specs.Turn.{Handles, SendsReply, ServesOne};
 
 use crate::answer::Answer;
-use crate::served::Served;
 use crate::server::Server;
+use crate::server_turn::ServerTurn;
 use s10_book::Book;
 use s10_link::{Link, LinkFault, Packet, Peer};
 use s10_wire::Frame;
@@ -19,17 +19,17 @@ pub fn serve_one<B: Book, L: Link>(
     server: &mut Server<B>,
     link: &mut L,
     day: u32,
-) -> Result<Served, LinkFault>
+) -> Result<ServerTurn, LinkFault>
     ensures { ServesOne (L.trace_of link.old) (L.trace_of link.new) (book_of server.new ≡ book_of server.old)
         (Handles B.faults B.honest B.terms B.history (book_of server.old) (book_of server.new) day) result }
 {
     let Some((from, packet)) = link.receive()? else {
-        return Ok(Served::Quiet);
+        return Ok(ServerTurn::Quiet);
     };
     match handle_packet(server, packet, day) {
         Answer::Reply(frame) => send_reply(link, from, frame),
-        Answer::Dropped(fault) => Ok(Served::Dropped(from, fault)),
-        Answer::Faulted(fault) => Ok(Served::Faulted(from, fault)),
+        Answer::Dropped(fault) => Ok(ServerTurn::Dropped(from, fault)),
+        Answer::Faulted(fault) => Ok(ServerTurn::Faulted(from, fault)),
     }
 }
 
@@ -41,9 +41,9 @@ fn handle_packet<B: Book>(server: &mut Server<B>, packet: Packet, day: u32) -> A
 }
 
 // Sends a reply back to the peer.
-fn send_reply<L: Link>(link: &mut L, to: Peer, frame: Frame) -> Result<Served, LinkFault>
+fn send_reply<L: Link>(link: &mut L, to: Peer, frame: Frame) -> Result<ServerTurn, LinkFault>
     ensures { SendsReply (L.trace_of link.old) (L.trace_of link.new) (to, frame) result }
 {
     link.send(to, &frame)?;
-    Ok(Served::Replied(to, frame))
+    Ok(ServerTurn::Replied(to, frame))
 }

@@ -2,7 +2,7 @@
 
 use crate::fixtures::{ANY_PORT, FIRST_DRAW, FIRST_GRANT, draw, new_server};
 use s10_book::{Book, PlainBook};
-use s10_ends::{Client, Served, Server, UdpLink, call, serve_one};
+use s10_ends::{Client, Server, ServerTurn, UdpLink, call, serve_one};
 use s10_link::{Link, LinkFault, Packet, Peer};
 use s10_wire::{Body, Frame, Request, WireFault, decode_reply, encode_reply, encode_request};
 use std::io;
@@ -81,7 +81,7 @@ fn a_client_that_gets_each_datagram_twice_sends_each_frame_once(
 fn serves(
     server: &mut Server<PlainBook>,
     link: &mut UdpLink,
-    turn: Result<Served, LinkFault>,
+    turn: Result<ServerTurn, LinkFault>,
 ) -> bool {
     serve_one(server, link, 20_000) == turn
 }
@@ -130,7 +130,7 @@ fn a_grant_of_29_bytes_is_dropped_unanswered(rt: HostRuntime) -> Result<(), Fail
     longer.push(0)?;
     assert_eq!(rt; longer.len(), 29);
     assert!(rt; sends_raw(&socket, far.local().port, &longer));
-    let dropped = Ok(Served::Dropped(from, WireFault::Length));
+    let dropped = Ok(ServerTurn::Dropped(from, WireFault::Length));
     assert!(rt; serves(&mut server, &mut far, dropped));
     assert_eq!(rt; server.book().len(), 0);
     assert_eq!(rt; next_length(&socket), None);

@@ -1,6 +1,6 @@
 use crate::fixtures::{FIRST_DRAW, FIRST_GRANT, deliver, new_server, script};
 use s10_book::{Book, BookFault, PlainBook};
-use s10_ends::{Served, Server, serve_one};
+use s10_ends::{Server, ServerTurn, serve_one};
 use s10_link::{LinkFault, Peer, Receipt, ScriptLink};
 use s10_wire::WireFault;
 use std::alloc::{AllocError, Global};
@@ -45,7 +45,7 @@ fn granted_server(alloc: Global, limit: u32) -> Result<Server<PlainBook>, Fail> 
 fn serves(
     server: &mut Server<PlainBook>,
     link: &mut ScriptLink,
-    turn: Result<Served, LinkFault>,
+    turn: Result<ServerTurn, LinkFault>,
 ) -> bool {
     serve_one(server, link, 20_000) == turn
 }
@@ -53,7 +53,7 @@ fn serves(
 /// Whether one turn sends this reply back to the peer.
 fn replies(server: &mut Server<PlainBook>, link: &mut ScriptLink, reply: &[u8]) -> bool {
     match &serve_one(server, link, 20_000) {
-        Ok(Served::Replied(peer, frame)) => *peer == PEER && frame.bytes() == reply,
+        Ok(ServerTurn::Replied(peer, frame)) => *peer == PEER && frame.bytes() == reply,
         _ => false,
     }
 }
@@ -90,12 +90,12 @@ fn turns_without_a_reply(rt: HostRuntime) -> Result<(), Fail> {
     ];
     let mut link = script(rt.alloc(), &receipts, &[])?;
     let turns = [
-        Ok(Served::Quiet),
-        Ok(Served::Dropped(PEER, WireFault::Short)),
-        Ok(Served::Dropped(OTHER, WireFault::Kind)),
-        Ok(Served::Faulted(PEER, BookFault::Full)),
+        Ok(ServerTurn::Quiet),
+        Ok(ServerTurn::Dropped(PEER, WireFault::Short)),
+        Ok(ServerTurn::Dropped(OTHER, WireFault::Kind)),
+        Ok(ServerTurn::Faulted(PEER, BookFault::Full)),
         Err(LinkFault::Spent),
-        Ok(Served::Quiet),
+        Ok(ServerTurn::Quiet),
     ];
     for (at, turn) in turns.iter().enumerate() {
         assert!(rt; serves(&mut server, &mut link, *turn), "turn {at}");

@@ -16,26 +16,26 @@ use Rattle.s10_ends.specs.UdpLink.{BoundLink}
 use Rattle.s10_ends.specs.Client.{ClientState, new_client}
 use Rattle.s10_ends.specs.Calls.{Calls}
 use Rattle.s10_ends.specs.declared.call_fault.CallFault.{CallFault}
-use Rattle.s10_jobs.specs.declared.status.Status.{Status}
-use Rattle.s10_jobs.specs.declared.status.Status.TheVariants.{Refused, Failed}
+use Rattle.s10_jobs.specs.declared.job_status.JobStatus.{JobStatus}
+use Rattle.s10_jobs.specs.declared.job_status.JobStatus.TheVariants.{Refused, Failed}
 use Rattle.s10_jobs.specs.declared.refusal.Refusal.{Refusal}
 use Rattle.s10_jobs.specs.declared.question.Question.{Question}
 use Rattle.s10_jobs.specs.Asked.{asked_status, asked_line}
 use Rattle.s10_jobs.specs.Lines.{refused_line}
 use Rattle.s10_jobs.specs.Words.{link_fault_words}
-use Rattle.s10_jobs.specs.Questions.{refusal_words, IsBody, IsRefusal}
+use Rattle.s10_jobs.specs.Questions.{refusal_words, WordsAsk, IsQuestionRefusal}
 use Rattle.s10_host.specs.Questioning.{IsUnasked, IsAsked}
 
 -- of a text that does not read
-pub refused_unasked : (question : Question) (refusal : Refusal) (old new : Option (List ℕ)) (r : Result Status WriteFault) → IsRefusal question refusal
+pub refused_unasked : (question : Question) (refusal : Refusal) (old new : Option (List ℕ)) (r : Result JobStatus WriteFault) → IsQuestionRefusal question refusal
     → IfOk r (λ status. (status ≡ Refused) × Appends old new (refused_line (refusal_words refusal)))
     → IfOk r (λ status. (line : List ℕ) × IsUnasked question status line × Appends old new line)
 refused_unasked question refusal old new (Ok status) is (same, line) = (refused_line (refusal_words refusal), inl (refusal, is, same, refl), line)
 refused_unasked question refusal old new (Err fault) is says = tt
 
 -- of a link that there is not
-pub unbound_unasked : (question : Question) (to : Peer) (body : Body) (fault : LinkFault) (old new : Option (List ℕ)) (r : Result Status WriteFault)
-    → SpellsPeer question.to.now to → IsBody question.body body → fault ≡ Bind
+pub unbound_unasked : (question : Question) (to : Peer) (body : Body) (fault : LinkFault) (old new : Option (List ℕ)) (r : Result JobStatus WriteFault)
+    → SpellsPeer question.to.now to → WordsAsk question.body body → fault ≡ Bind
     → IfOk r (λ status. (status ≡ Failed) × Appends old new (line_of (codes "link") (link_fault_words fault)))
     → IfOk r (λ status. (line : List ℕ) × IsUnasked question status line × Appends old new line)
 unbound_unasked question to body Bind old new (Ok status) peer asks is (same, line) =
@@ -44,8 +44,8 @@ unbound_unasked question to body fault old new (Ok status) peer asks is says = a
 unbound_unasked question to body fault old new (Err failed) peer asks is says = tt
 
 -- of a call that began on a new link
-pub asked_over : (question : Question) (to : Peer) (body : Body) (begun : Trace) (link : BoundLink) (old new : Option (List ℕ)) (r : Result Status WriteFault)
-    → SpellsPeer question.to.now to → IsBody question.body body → begun ≡ new_trace
+pub asked_over : (question : Question) (to : Peer) (body : Body) (begun : Trace) (link : BoundLink) (old new : Option (List ℕ)) (r : Result JobStatus WriteFault)
+    → SpellsPeer question.to.now to → WordsAsk question.body body → begun ≡ new_trace
     → ((client : ClientState) × (called : Result Reply CallFault)
     × Calls (new_client question.customer question.number question.number) client begun link.trace to body question.tries called
     × IfOk r (λ status. (status ≡ asked_status called) × Appends old new (asked_line called)))

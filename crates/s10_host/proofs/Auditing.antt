@@ -1,24 +1,22 @@
 -- What an audit finds.
 use Rattle.std.proofs.Common.{◌≡◌, ◌∙◌, ap, ℕ, List, Ok, sym, subst, length}
-use Rattle.std.specs.Prelude.{IsTrue}
 use Rattle.sqlite_trees.specs.declared.store.Store.{Ghosts}
 use Rattle.sqlite.specs.Held.{Held, state}
-use Rattle.sqlite.specs.State.{HasCleanDisk}
 use Rattle.s10_history.specs.declared.entry.Entry.{Entry}
 use Rattle.s10_schema.specs.Schema.{IsClosedSchema}
 use Rattle.s10_ledger.specs.Ledger.{Ledger, IsAnyLedger, IsHonest, history_in, history_of}
-use Rattle.s10_statements.specs.Settled.{WasSound}
-use Rattle.s10_host.specs.Audited.{IsFound}
+use Rattle.s10_statements.specs.Settled.{IsClean, IsOpen, WasSound}
+use Rattle.s10_host.specs.Audited.{HasFound}
 
 -- a ledger that was opened and closed is found, with its calls
 pub found_calls : {S : Type 0} (g : Ghosts S) (before closed : Held S) (book : Ledger S) (count : ℕ) → closed ≡ book.conn
-    → (HasCleanDisk (state g book.conn) → IsTrue (state g book.conn).is_open)
-    → (HasCleanDisk (state g book.conn) → IsTrue (state g book.conn).is_open → IsHonest g book)
+    → (IsClean g book.conn → IsOpen g book.conn)
+    → (IsClean g book.conn → IsOpen g book.conn → IsHonest g book)
     → (IsHonest g book → IsAnyLedger (state g before).now book.terms book.len book.day)
     → (IsHonest g book → IsClosedSchema (state g before).now.schema → (state g book.conn).now ≡ (state g before).now) → (IsHonest g book → history_in (state g book.conn).now ≡ history_in (state g before).now) → WasSound g before book.conn
-    → (IsHonest g book → count ≡ length (history_of g book)) → IsFound g before closed (Ok count)
+    → (IsHonest g book → count ≡ length (history_of g book)) → HasFound g before closed (Ok count)
 found_calls g before closed book count same opened honest ledger shows history sound counts =
-    let found : IsFound g before book.conn (Ok count) = record {
+    let found : HasFound g before book.conn (Ok count) = record {
       sound = sound;
       opened = opened;
       finding = λ clean live.
@@ -32,4 +30,4 @@ found_calls g before closed book count same opened honest ledger shows history s
           };
       leaves = λ clean live. (shows (honest clean live), history (honest clean live));
     } in
-    subst (λ c. IsFound g before c (Ok count)) (sym same) found
+    subst (λ c. HasFound g before c (Ok count)) (sym same) found

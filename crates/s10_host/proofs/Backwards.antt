@@ -6,12 +6,12 @@ use Rattle.s10_link.specs.declared.link_fault.LinkFault.TheVariants.{Bind, Recei
 use Rattle.s10_history.specs.declared.entry.Entry.{Entry}
 use Rattle.s10_book.specs.declared.faults.Faults.{Faults}
 use Rattle.s10_history.specs.Settings.{Terms}
-use Rattle.s10_ends.specs.declared.served.Served.{Served}
-use Rattle.s10_ends.specs.declared.served.Served.TheVariants.{Quiet, Dropped, Faulted, Replied}
+use Rattle.s10_ends.specs.declared.server_turn.ServerTurn.{ServerTurn}
+use Rattle.s10_ends.specs.declared.server_turn.ServerTurn.TheVariants.{Quiet, Dropped, Faulted, Replied}
 use Rattle.s10_jobs.specs.Serving.{IsTurn, Lead}
 
 module _ {B : Type 0} (faults : B → Faults) (honest : B → Type 0) (terms : B → Terms) (history : B → List Entry) (given : Option ℕ) where
-  before_turn : (old new : Trace × B) (turn : Result Served LinkFault) → IsTurn faults honest terms history given old turn new → honest new.1 → honest old.1
+  before_turn : (old new : Trace × B) (turn : Result ServerTurn LinkFault) → IsTurn faults honest terms history given old turn new → honest new.1 → honest old.1
   before_turn old new (Ok Quiet) (day, is, (link, same)) kept = subst honest same kept
   before_turn old new (Ok (Dropped from fault)) (day, is, (packet, link, handles)) kept = handles.was_honest kept
   before_turn old new (Ok (Faulted from fault)) (day, is, (packet, link, handles)) kept = handles.was_honest kept
@@ -22,7 +22,7 @@ module _ {B : Type 0} (faults : B → Faults) (honest : B → Type 0) (terms : B
   before_turn old new (Err Spent) (day, is, inr (from, packet, frame, link, handles)) kept = handles.was_honest kept
   before_turn old new (Err Bind) (day, is, never) kept = absurd never
 
-  pub before_turns : (old new : Trace × B) (turns : List (Result Served LinkFault)) → Lead (IsTurn faults honest terms history given) old turns new → honest new.1 → honest old.1
+  pub before_turns : (old new : Trace × B) (turns : List (Result ServerTurn LinkFault)) → Lead (IsTurn faults honest terms history given) old turns new → honest new.1 → honest old.1
   unfolding Lead
   before_turns old new [] same kept = subst (λ (s : Trace × B). honest s.1) same kept
   before_turns old new (turn ∷ turns) (next, step, rest) kept = before_turn old next turn step (before_turns next new turns rest kept)

@@ -15,8 +15,8 @@ use Rattle.s10_book.specs.Book.{Keeps}
 use Rattle.s10_ledger.specs.Ledger.{IsHonest, history_in}
 use Rattle.s10_rows.specs.declared.open_fault.OpenFault.{OpenFault}
 use Rattle.s10_rows.specs.declared.open_fault.OpenFault.TheVariants.{Store}
-use Rattle.s10_jobs.specs.declared.status.Status.{Status}
-use Rattle.s10_jobs.specs.declared.status.Status.TheVariants.{Failed}
+use Rattle.s10_jobs.specs.declared.job_status.JobStatus.{JobStatus}
+use Rattle.s10_jobs.specs.declared.job_status.JobStatus.TheVariants.{Failed}
 use Rattle.s10_jobs.specs.declared.job.Job.{Job}
 use Rattle.s10_jobs.specs.Questions.{IsPeerText}
 use Rattle.s10_jobs.specs.declared.reporting.Report.{Report}
@@ -28,20 +28,20 @@ use Rattle.s10_host.specs.Jobs.{ledger_line, FailsByLedger, IsAskedFor, Turns, I
 use Rattle.s10_host.proofs.Backwards.{before_turns}
 
 -- of a fault that was written
-pub fails_by : (IsFault : OpenFault → Type 0) (fault : OpenFault) (old new : Option (List ℕ)) (r : Result Status WriteFault) → IsFault fault
+pub fails_by : (IsFault : OpenFault → Type 0) (fault : OpenFault) (old new : Option (List ℕ)) (r : Result JobStatus WriteFault) → IsFault fault
     → IfOk r (λ status. (status ≡ Failed) × Appends old new (ledger_line fault)) → IfOk r (FailsByLedger IsFault old new)
 fails_by IsFault fault old new (Ok status) is (failed, written) = (failed, fault, is, written)
 fails_by IsFault fault old new (Err e) is says = tt
 
 -- what was done, where the files were put away, and what was not
-abbrev Kept : {A : Type 0} → Result A OpenFault → Result Status WriteFault → Result Status WriteFault → Option (List ℕ) → Option (List ℕ) → Option A → Type 0
+abbrev Kept : {A : Type 0} → Result A OpenFault → Result JobStatus WriteFault → Result JobStatus WriteFault → Option (List ℕ) → Option (List ℕ) → Option A → Type 0
 Kept put done result new last files = IfSome files (λ f. (put ≡ Ok f) × (result ≡ done) × (last ≡ new))
 
-abbrev Unkept : {A : Type 0} → Result A OpenFault → Result Status WriteFault → Result Status WriteFault → Option (List ℕ) → Option (List ℕ) → Option A → Type 0
+abbrev Unkept : {A : Type 0} → Result A OpenFault → Result JobStatus WriteFault → Result JobStatus WriteFault → Option (List ℕ) → Option (List ℕ) → Option A → Type 0
 Unkept put done result new last files =
     files ≡ None → (fault : OpenFault) × (put ≡ Err fault) × IfOk result (λ status. IsOk done × (status ≡ Failed) × Appends new last (ledger_line fault))
 
-closed_by : {A : Type 0} (put : Result A OpenFault) (done result : Result Status WriteFault) (new last : Option (List ℕ)) → IfErr put (λ fault. fault ≡ Store)
+closed_by : {A : Type 0} (put : Result A OpenFault) (done result : Result JobStatus WriteFault) (new last : Option (List ℕ)) → IfErr put (λ fault. fault ≡ Store)
     → (fault : OpenFault) × (put ≡ Err fault) × IfOk result (λ status. IsOk done × (status ≡ Failed) × Appends new last (ledger_line fault))
     → IfOk result (λ status. IsOk done × FailsByLedger (λ fault. fault ≡ Store) new last status)
 closed_by put done (Ok status) new last store (fault, is, (well, failed, written)) = (well, (failed, fault, subst (λ r. IfErr r (λ fault. fault ≡ Store)) is store, written))
@@ -65,13 +65,13 @@ no_report false None made is issues ranges = (refl, refl)
 no_report false (Some d) made is issues ranges = absurd (let one = ranges d refl refl in cc)
 
 module _ (S : RattleType) (first : Ghosts S.Denot) where
-  was_honest : (day : Option ℕ) (count : ℕ) (old new : Option (List ℕ)) (opened after : FileLedger S first) (result : Result Status WriteFault) (link : BoundLink)
+  was_honest : (day : Option ℕ) (count : ℕ) (old new : Option (List ℕ)) (opened after : FileLedger S first) (result : Result JobStatus WriteFault) (link : BoundLink)
       → Turns S first day count opened after old new result link → IsHonest over_files after → IsHonest over_files opened
   was_honest day count old new opened after result link turns =
       before_turns (λ (b : FileLedger S first). b.faults) (IsHonest over_files) (λ b. b.terms) (λ b. history_in (file_state b.conn).now) day
       (new_trace, opened) (link.trace, after) turns.turns turns.lead
 
-  pub served_away : (day : Option ℕ) (count : ℕ) (old new last : Option (List ℕ)) (opened before after closed : FileLedger S first) (done result : Result Status WriteFault)
+  pub served_away : (day : Option ℕ) (count : ℕ) (old new last : Option (List ℕ)) (opened before after closed : FileLedger S first) (done result : Result JobStatus WriteFault)
       (put : Result (ClosedFiles S first) OpenFault) (files : Option (ClosedFiles S first)) (link : Option BoundLink)
       → before ≡ opened → closed ≡ after → IfSome link (Turns S first day count before after old new done)
       → IfOk put (PutsAway closed) → Kept put done result new last files → IfSome link (λ l. IfSome files (IsServed S first opened day count old last result l))
@@ -86,7 +86,7 @@ module _ (S : RattleType) (first : Ghosts S.Denot) where
         away = subst (λ b. PutsAway b f) given (subst (λ r. IfOk r (PutsAway closed)) there away);
       }
 
-  pub served_lost : (day : Option ℕ) (count : ℕ) (old new last : Option (List ℕ)) (opened before after : FileLedger S first) (done result : Result Status WriteFault)
+  pub served_lost : (day : Option ℕ) (count : ℕ) (old new last : Option (List ℕ)) (opened before after : FileLedger S first) (done result : Result JobStatus WriteFault)
       (put : Result (ClosedFiles S first) OpenFault) (files : Option (ClosedFiles S first)) (link : Option BoundLink)
       → before ≡ opened → IfSome link (Turns S first day count before after old new done)
       → IfErr put (λ fault. fault ≡ Store) → Unkept put done result new last files → IfSome link (λ l. files ≡ None → IsLost S first opened day count old last result l)
@@ -102,14 +102,14 @@ module _ (S : RattleType) (first : Ghosts S.Denot) where
         told = closed_by put done result new last store (unkept none);
       }
 
-  unlinked_kept : (old new last : Option (List ℕ)) (done result : Result Status WriteFault)
+  unlinked_kept : (old new last : Option (List ℕ)) (done result : Result JobStatus WriteFault)
       → IfOk done (λ status. (status ≡ Failed) × Appends old new (line_of (codes "link") (codes "bind" ∷ []))) → result ≡ done → last ≡ new
       → IfOk result (λ status. (status ≡ Failed) × Appends old last (line_of (codes "link") (codes "bind" ∷ [])))
   unlinked_kept old new last done result told same still =
-      let Told : Result Status WriteFault → Option (List ℕ) → Type 0 = λ r text. IfOk r (λ status. (status ≡ Failed) × Appends old text (line_of (codes "link") (codes "bind" ∷ []))) in
+      let Told : Result JobStatus WriteFault → Option (List ℕ) → Type 0 = λ r text. IfOk r (λ status. (status ≡ Failed) × Appends old text (line_of (codes "link") (codes "bind" ∷ []))) in
       subst (λ text. Told result text) (sym still) (subst (λ r. Told r new) (sym same) told)
 
-  unlinked_lost : (old new last : Option (List ℕ)) (done result : Result Status WriteFault)
+  unlinked_lost : (old new last : Option (List ℕ)) (done result : Result JobStatus WriteFault)
       → IfOk done (λ status. (status ≡ Failed) × Appends old new (line_of (codes "link") (codes "bind" ∷ [])))
       → IfOk result (λ status. IsOk done × FailsByLedger (λ fault. fault ≡ Store) new last status)
       → IfOk result (λ status. (status ≡ Failed) × Appends old last (line_of (codes "link") (codes "bind" ∷ []) ++ ledger_line Store))
@@ -118,7 +118,7 @@ module _ (S : RattleType) (first : Ghosts S.Denot) where
   unlinked_lost old new last (Err e) (Ok other) told (well, rest) = absurd (let one = well in cc)
   unlinked_lost old new last done (Err e) told says = tt
 
-  pub unlinked : (old new last : Option (List ℕ)) (opened before after closed : FileLedger S first) (done result : Result Status WriteFault)
+  pub unlinked : (old new last : Option (List ℕ)) (opened before after closed : FileLedger S first) (done result : Result JobStatus WriteFault)
       (put : Result (ClosedFiles S first) OpenFault) (files : Option (ClosedFiles S first))
       → before ≡ opened → closed ≡ after → IsUnbound before after old new done
       → IfOk put (PutsAway closed) → IfErr put (λ fault. fault ≡ Store) → Kept put done result new last files → Unkept put done result new last files
@@ -133,7 +133,7 @@ module _ (S : RattleType) (first : Ghosts S.Denot) where
         lost = λ none. absurd (let one : Some f ≡ None = none in cc);
       }
 
-  pub reported_away : (old new last : Option (List ℕ)) (report : Report) (opened after : FileLedger S first) (done result : Result Status WriteFault)
+  pub reported_away : (old new last : Option (List ℕ)) (report : Report) (opened after : FileLedger S first) (done result : Result JobStatus WriteFault)
       (put : Result (ClosedFiles S first) OpenFault) (files : Option (ClosedFiles S first))
       → Keeps (λ (b : FileLedger S first). history_in (file_state b.conn).now) (λ b. b.terms) (IsHonest over_files) opened after
       → Writes S first report opened after old new done
@@ -146,14 +146,14 @@ module _ (S : RattleType) (first : Ghosts S.Denot) where
     away = subst (λ r. IfOk r (PutsAway after)) there away;
   }
 
-  pub reported_lost : (old new last : Option (List ℕ)) (report : Report) (opened after : FileLedger S first) (done result : Result Status WriteFault)
+  pub reported_lost : (old new last : Option (List ℕ)) (report : Report) (opened after : FileLedger S first) (done result : Result JobStatus WriteFault)
       (put : Result (ClosedFiles S first) OpenFault) (files : Option (ClosedFiles S first))
       → Writes S first report opened after old new done
       → IfErr put (λ fault. fault ≡ Store) → Unkept put done result new last files → files ≡ None → IsReportedAndLost S first opened report old last result
   reported_lost old new last report opened after done result put files written store unkept none =
       record { reported = after; done = done; between = new; written = written; told = closed_by put done result new last store (unkept none) }
 
-  pub served_in : (bind : List ℕ) (day : Option ℕ) (count : ℕ) (old new : Option (List ℕ)) (opened : FileLedger S first) (result : Result Status WriteFault)
+  pub served_in : (bind : List ℕ) (day : Option ℕ) (count : ℕ) (old new : Option (List ℕ)) (opened : FileLedger S first) (result : Result JobStatus WriteFault)
       (files : Option (ClosedFiles S first)) (link : Option BoundLink) → IsPeerText bind → WhereClean (IsFoundBook (image_at first)) opened
       → IfSome link (λ l. IfSome files (IsServed S first opened day count old new result l)) → IfSome link (λ l. files ≡ None → IsLost S first opened day count old new result l)
       → (link ≡ None → IsUnlinked S first opened old new result files) → HasServed S first bind day count old new result files link
@@ -162,7 +162,7 @@ module _ (S : RattleType) (first : Ghosts S.Denot) where
   served_in bind day count old new opened result files (Some l) text found served lost unlinked =
       record { served = (opened, found, served, lost); unlinked = λ none. absurd cc }
 
-  pub not_served : (bind : List ℕ) (day : Option ℕ) (count : ℕ) (old new : Option (List ℕ)) (fault : OpenFault) (told result : Result Status WriteFault)
+  pub not_served : (bind : List ℕ) (day : Option ℕ) (count : ℕ) (old new : Option (List ℕ)) (fault : OpenFault) (told result : Result JobStatus WriteFault)
       (files : Option (ClosedFiles S first)) (link : Option BoundLink) → IsPeerText bind → IsNotOpened S first fault
       → IfOk told (λ status. (status ≡ Failed) × Appends old new (ledger_line fault)) → result ≡ told → link ≡ None
       → HasServed S first bind day count old new result files link
@@ -170,7 +170,7 @@ module _ (S : RattleType) (first : Ghosts S.Denot) where
   not_served bind day count old new fault told result files None text refused says same none =
       record { served = tt; unlinked = λ _. inr (inl (text, subst (λ r. IfOk r (FailsByLedger (IsNotOpened S first) old new)) (sym same) (fails_by (IsNotOpened S first) fault old new told refused says))) }
 
-  pub reported_in : (is_of_issues : Bool) (day : Option ℕ) (old new : Option (List ℕ)) (report : Report) (opened : FileLedger S first) (result : Result Status WriteFault)
+  pub reported_in : (is_of_issues : Bool) (day : Option ℕ) (old new : Option (List ℕ)) (report : Report) (opened : FileLedger S first) (result : Result JobStatus WriteFault)
       (files : Option (ClosedFiles S first)) → IsAskedFor is_of_issues day report → WhereClean (IsFoundBook (image_at first)) opened
       → IfSome files (IsReported S first opened report old new result) → (files ≡ None → IsReportedAndLost S first opened report old new result)
       → HasReported S first is_of_issues day old new result files
@@ -180,7 +180,7 @@ module _ (S : RattleType) (first : Ghosts S.Denot) where
       record { reported = (report, asked, opened, found, reported); unreported = λ none. absurd cc }
 
   -- the same of what was handed on
-  pub ended_as : (job same : Job) (old new : Option (List ℕ)) (result handed : Result Status WriteFault) (files given : Option (ClosedFiles S first)) (link over : Option BoundLink) (looped left : Option Looped)
+  pub ended_as : (job same : Job) (old new : Option (List ℕ)) (result handed : Result JobStatus WriteFault) (files given : Option (ClosedFiles S first)) (link over : Option BoundLink) (looped left : Option Looped)
       → job ≡ same → handed ≡ result → given ≡ files → over ≡ link → left ≡ looped → HasEnded S first same old new result files link looped → HasEnded S first job old new handed given over left
   ended_as job same old new result handed files given link over looped left is so put on lasts ended =
       subst (λ l. HasEnded S first job old new handed given over l) (sym lasts)

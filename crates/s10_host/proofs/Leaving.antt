@@ -16,10 +16,10 @@ use Rattle.s10_ends.specs.UdpLink.{BoundLink}
 use Rattle.s10_ends.specs.Server.{book_of}
 use Rattle.s10_ends.specs.NearLink.{ServedOn}
 use Rattle.s10_ends.proofs.Near.{LedOn, near_led}
-use Rattle.s10_jobs.specs.declared.status.Status.{Status}
+use Rattle.s10_jobs.specs.declared.job_status.JobStatus.{JobStatus}
 use Rattle.s10_jobs.specs.Shown.{Prints}
 use Rattle.s10_host.specs.declared.looped.Looped.{Looped}
-use Rattle.s10_host.specs.Looped.{LoopLink, IsLoopStep, IsNewLoop, IsLeft, IsLooped, AreAsked, loop_calls, loop_terms}
+use Rattle.s10_host.specs.Looped.{LoopLink, IsLoopStep, IsNewLoop, IsLeftOfLoop, IsLooped, AreMadeInTurn, loop_calls, loop_terms}
 
 -- what was served over calls that lead from a new link to another
 served_over : (day : ℕ) (begun ended : LoopLink) → IsNewLoop day begun → LeadsTo IsLoopStep begun ended → IsHonest over_memory (book_of ended.server)
@@ -32,17 +32,17 @@ served_over day begun ended fresh led honest =
     (subst (λ (t : Terms). ServedOn begun.day [] t last) fresh.terms
     (subst (λ (h : List Entry). ServedOn begun.day h (book_of begun.server).terms last) fresh.empty (on.served honest)))
 
-asked_over : (to : Peer) (u v : Option (List ℕ)) (r : Result Status WriteFault) (begun ended : Trace) (first last : Trace) → begun ≡ first → ended ≡ last
-    → IfOk r (λ status. Prints u v (AreAsked to loop_calls begun ended status))
-    → IfOk r (λ status. (to : Peer) × Prints u v (AreAsked to loop_calls first last status))
+asked_over : (to : Peer) (u v : Option (List ℕ)) (r : Result JobStatus WriteFault) (begun ended : Trace) (first last : Trace) → begun ≡ first → ended ≡ last
+    → IfOk r (λ status. Prints u v (AreMadeInTurn to loop_calls begun ended status))
+    → IfOk r (λ status. (to : Peer) × Prints u v (AreMadeInTurn to loop_calls first last status))
 asked_over to u v (Ok status) begun ended first last fresh same asked =
-    (to, subst (λ (t : Trace). Prints u v (AreAsked to loop_calls t last status)) fresh (subst (λ (t : Trace). Prints u v (AreAsked to loop_calls begun t status)) same asked))
+    (to, subst (λ (t : Trace). Prints u v (AreMadeInTurn to loop_calls t last status)) fresh (subst (λ (t : Trace). Prints u v (AreMadeInTurn to loop_calls begun t status)) same asked))
 asked_over to u v (Err fault) begun ended first last fresh same asked = tt
 
 -- of calls over a link that was new
-pub looped_over : (to : Peer) (day : ℕ) (begun ended : LoopLink) (looped : Looped) (u v : Option (List ℕ)) (r : Result Status WriteFault)
-    → IsNewLoop day begun → LeadsTo IsLoopStep begun ended → IsLeft ended looped
-    → IfOk r (λ status. Prints u v (AreAsked to loop_calls begun.near.trace ended.near.trace status)) → IsLooped day u v r looped
+pub looped_over : (to : Peer) (day : ℕ) (begun ended : LoopLink) (looped : Looped) (u v : Option (List ℕ)) (r : Result JobStatus WriteFault)
+    → IsNewLoop day begun → LeadsTo IsLoopStep begun ended → IsLeftOfLoop ended looped
+    → IfOk r (λ status. Prints u v (AreMadeInTurn to loop_calls begun.near.trace ended.near.trace status)) → IsLooped day u v r looped
 looped_over to day begun ended looped u v r fresh led left asked = record {
   begun = begun;
   fresh = fresh;

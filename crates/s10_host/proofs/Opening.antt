@@ -14,7 +14,6 @@ use Rattle.sqlite_store.specs.declared.store.FileStore.{FileStore}
 use Rattle.sqlite_store.specs.FileStore.{view, files as store_files}
 use Rattle.sqlite.specs.Effect.{Database}
 use Rattle.sqlite.specs.Held.{Held}
-use Rattle.sqlite.specs.State.{HasCleanDisk}
 use Rattle.sqlite_disk.specs.declared.start.Start as start
 use Rattle.sqlite_wal.specs.Files.{image_at}
 use Rattle.sqlite.specs.Files.{file_state, over_files, AreFoundIn}
@@ -23,11 +22,11 @@ use Rattle.s10_book.specs.BookFault.{no_faults}
 use Rattle.s10_history.specs.Settings.{Terms}
 use Rattle.s10_schema.specs.Schema.{IsClosedSchema}
 use Rattle.s10_ledger.specs.Ledger.{Ledger, IsLedger, IsAnyLedger, IsHonest, history_in}
-use Rattle.s10_statements.specs.Settled.{WasSound}
+use Rattle.s10_statements.specs.Settled.{IsClean, IsOpen, WasSound}
 use Rattle.s10_rows.specs.declared.open_fault.OpenFault.{OpenFault}
 use Rattle.s10_ledger.specs.Refusals.{IsOpeningRefusal}
 use Rattle.s10_statements.specs.Making.{IsMakingRefusal}
-use Rattle.s10_host.specs.Files.{FileConnection, IsFoundIn, WhereClean, IsEmptyBook, IsFoundBook, Copies, PutsAway, Leaves, IsNotMade, IsNotOpened}
+use Rattle.s10_host.specs.Files.{FileConnection, IsFoundIn, WhereClean, IsEmptyBook, IsFoundBook, Copies, PutsAway, LeavesClean, IsNotMade, IsNotOpened}
 
 -- what follows from three facts of the value that was made holds of it where it was kept
 kept_with_three : {A E F : Type 0} (P Q R T : A → Type 0) → ((a : A) → P a → Q a → R a → T a) → (made : Result A E) (kept : Result A F)
@@ -62,16 +61,16 @@ module _ (S : RattleType) (first : start.Ghosts S.Denot) where
 
   pub not_opened : {A B E : Type 0} (was : FileConnection S first) (made : Result A E) (kept : Result B OpenFault) (fault_in : E → OpenFault) (left : E → FileConnection S first)
       → IsFoundIn (image_at first) was
-      → IfErr made (λ refusal. HasCleanDisk (file_state (left refusal)) → IsTrue (file_state (left refusal)).is_open → IsOpeningRefusal (file_state was).now (fault_in refusal))
+      → IfErr made (λ refusal. IsClean over_files (left refusal) → IsOpen over_files (left refusal) → IsOpeningRefusal (file_state was).now (fault_in refusal))
       → IfErr kept (λ fault. IsErrAnd made (λ refusal. fault_in refusal ≡ fault)) → IfErr kept (IsNotOpened S first)
   not_opened was made kept fault_in left found says is =
       if_err_weaker _ (IsNotOpened S first) kept (λ fault refused. inr (inr (record { was = was; found = found; left = left refused.0; refusal = refused.1 })))
-      (each_passed_on made kept fault_in (λ refusal fault. HasCleanDisk (file_state (left refusal)) → IsTrue (file_state (left refusal)).is_open → IsOpeningRefusal (file_state was).now fault) says is)
+      (each_passed_on made kept fault_in (λ refusal fault. IsClean over_files (left refusal) → IsOpen over_files (left refusal) → IsOpeningRefusal (file_state was).now fault) says is)
 
 module _ {D : Type 0} {g : Ghosts D} where
   pub kept_empty : {E F : Type 0} (made : Result (Ledger (FileStore D g)) E) (kept : Result (Ledger (FileStore D g)) F)
-      → IfOk made (λ book. HasCleanDisk (file_state book.conn) → IsTrue (file_state book.conn).is_open)
-      → IfOk made (λ book. HasCleanDisk (file_state book.conn) → IsTrue (file_state book.conn).is_open → IsHonest over_files book)
+      → IfOk made (λ book. IsClean over_files book.conn → IsOpen over_files book.conn)
+      → IfOk made (λ book. IsClean over_files book.conn → IsOpen over_files book.conn → IsHonest over_files book)
       → IfOk made (λ book. IsHonest over_files book → history_in (file_state book.conn).now ≡ [])
       → IfOk kept (λ book. made ≡ Ok book) → IfOk kept (WhereClean IsEmptyBook)
   kept_empty made kept opened honest empty is =
@@ -85,8 +84,8 @@ module _ {D : Type 0} {g : Ghosts D} where
 
   -- what the opening of a ledger says of the connection that it was handed, and of the book
   pub record Opening (was : Held (FileStore D g)) (book : Ledger (FileStore D g)) : Type 0 where
-    pub opened : HasCleanDisk (file_state book.conn) → IsTrue (file_state book.conn).is_open
-    pub honest : HasCleanDisk (file_state book.conn) → IsTrue (file_state book.conn).is_open → IsHonest over_files book
+    pub opened : IsClean over_files book.conn → IsOpen over_files book.conn
+    pub honest : IsClean over_files book.conn → IsOpen over_files book.conn → IsHonest over_files book
     pub found : IsHonest over_files book → IsAnyLedger (file_state was).now book.terms book.len book.day
     pub same : IsHonest over_files book → IsClosedSchema (file_state was).now.schema → (file_state book.conn).now ≡ (file_state was).now
     pub history : IsHonest over_files book → history_in (file_state book.conn).now ≡ history_in (file_state was).now
@@ -109,8 +108,8 @@ module _ {D : Type 0} {g : Ghosts D} where
       }
 
   all_of : {E : Type 0} (was : Held (FileStore D g)) (opened : Result (Ledger (FileStore D g)) E)
-      → IfOk opened (λ book. HasCleanDisk (file_state book.conn) → IsTrue (file_state book.conn).is_open)
-      → IfOk opened (λ book. HasCleanDisk (file_state book.conn) → IsTrue (file_state book.conn).is_open → IsHonest over_files book)
+      → IfOk opened (λ book. IsClean over_files book.conn → IsOpen over_files book.conn)
+      → IfOk opened (λ book. IsClean over_files book.conn → IsOpen over_files book.conn → IsHonest over_files book)
       → IfOk opened (λ book. IsHonest over_files book → IsAnyLedger (file_state was).now book.terms book.len book.day)
       → IfOk opened (λ book. IsHonest over_files book → IsClosedSchema (file_state was).now.schema → (file_state book.conn).now ≡ (file_state was).now)
       → IfOk opened (λ book. IsHonest over_files book → history_in (file_state book.conn).now ≡ history_in (file_state was).now)
@@ -120,8 +119,8 @@ module _ {D : Type 0} {g : Ghosts D} where
 
   pub kept_found : {E F : Type 0} (held : Image) (was : Held (FileStore D g)) (opened : Result (Ledger (FileStore D g)) E) (kept : Result (Ledger (FileStore D g)) F)
       → IsFoundIn held was
-      → IfOk opened (λ book. HasCleanDisk (file_state book.conn) → IsTrue (file_state book.conn).is_open)
-      → IfOk opened (λ book. HasCleanDisk (file_state book.conn) → IsTrue (file_state book.conn).is_open → IsHonest over_files book)
+      → IfOk opened (λ book. IsClean over_files book.conn → IsOpen over_files book.conn)
+      → IfOk opened (λ book. IsClean over_files book.conn → IsOpen over_files book.conn → IsHonest over_files book)
       → IfOk opened (λ book. IsHonest over_files book → IsAnyLedger (file_state was).now book.terms book.len book.day)
       → IfOk opened (λ book. IsHonest over_files book → IsClosedSchema (file_state was).now.schema → (file_state book.conn).now ≡ (file_state was).now)
       → IfOk opened (λ book. IsHonest over_files book → history_in (file_state book.conn).now ≡ history_in (file_state was).now)
@@ -133,8 +132,8 @@ module _ {D : Type 0} {g : Ghosts D} where
 
   -- a connection whose last commit the files hold showed a ledger of which what was true is true of the book
   pub put_away : (book : Ledger (FileStore D g)) (closed : Held (FileStore D g)) (files : Files D) → closed ≡ book.conn → Copies closed files
-      → (HasCleanDisk (file_state closed) → IsTrue (file_state closed).is_open → (file_state closed).committed ≡ (file_state closed).now)
-      → (HasCleanDisk (file_state closed) → IsTrue (file_state closed).is_open → IsLedger (file_state closed).now book.terms book.len book.day)
+      → (IsClean over_files closed → IsOpen over_files closed → (file_state closed).committed ≡ (file_state closed).now)
+      → (IsClean over_files closed → IsOpen over_files closed → IsLedger (file_state closed).now book.terms book.len book.day)
       → PutsAway book files
   put_away book closed files same copies committed ledger clean =
       let copied = copies clean in
@@ -150,15 +149,15 @@ module _ {D : Type 0} {g : Ghosts D} where
       }
 
   pub closed_away : {E : Type 0} (book : Ledger (FileStore D g)) (closed : Held (FileStore D g)) (made : Result (Files D) E) → closed ≡ book.conn → IfOk made (Copies closed)
-      → (HasCleanDisk (file_state closed) → IsTrue (file_state closed).is_open → (file_state closed).committed ≡ (file_state closed).now)
-      → (HasCleanDisk (file_state closed) → IsTrue (file_state closed).is_open → IsLedger (file_state closed).now book.terms book.len book.day)
+      → (IsClean over_files closed → IsOpen over_files closed → (file_state closed).committed ≡ (file_state closed).now)
+      → (IsClean over_files closed → IsOpen over_files closed → IsLedger (file_state closed).now book.terms book.len book.day)
       → IfOk made (PutsAway book)
   closed_away book closed made same copies committed ledger =
       IfOk-weaker made (Copies closed) (PutsAway book) (λ files copies. put_away book closed files same copies committed ledger) copies
 
   -- files are as clean as the store that gave them back, and that one as the connection before
   pub left_clean : (c : Held (FileStore D g)) (store : FileStore D g) (files : Files D)
-      → doubt (view c.store).is_clean ≤ doubt (view store).is_clean → (files.log, files.db) ≡ store_files store → Leaves c files
+      → doubt (view c.store).is_clean ≤ doubt (view store).is_clean → (files.log, files.db) ≡ store_files store → LeavesClean c files
   left_clean c store files falls same clean =
       let sure = subst (λ p. AreClean g p.0 p.1) same clean in
       let none : doubt (view store).is_clean ≡ 0 = no_doubt _ (subst IsTrue (sym (clean_is store.pool)) sure) in

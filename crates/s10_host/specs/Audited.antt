@@ -1,18 +1,17 @@
 -- What an audit finds of a database, and prints.
-use Rattle.std.specs.Prelude.{◌≡◌, ℕ, IsTrue, List, [], ◌∷◌, length, codes, decimal, Result, Ok, Err, OnOk}
+use Rattle.std.specs.Prelude.{◌≡◌, ℕ, List, [], ◌∷◌, length, codes, decimal, Result, Ok, Err, OnOk}
 use Rattle.sqlite_trees.specs.declared.store.Store.{Ghosts}
 use Rattle.sqlite.specs.Effect.{Database}
 use Rattle.sqlite.specs.Held.{Held, state}
-use Rattle.sqlite.specs.State.{HasCleanDisk}
 use Rattle.s10_history.specs.Settings.{Terms}
 use Rattle.s10_lines.specs.Lines.{line_of}
 use Rattle.s10_rows.specs.declared.open_fault.OpenFault.{OpenFault}
 use Rattle.s10_schema.specs.Schema.{IsClosedSchema}
 use Rattle.s10_ledger.specs.Ledger.{IsAnyLedger, history_in}
-use Rattle.s10_statements.specs.Settled.{WasSound}
+use Rattle.s10_statements.specs.Settled.{IsClean, IsOpen, WasSound}
 use Rattle.s10_ledger.specs.Refusals.{IsOpeningRefusal}
-use Rattle.s10_jobs.specs.declared.status.Status.{Status}
-use Rattle.s10_jobs.specs.declared.status.Status.TheVariants.{Done, Failed}
+use Rattle.s10_jobs.specs.declared.job_status.JobStatus.{JobStatus}
+use Rattle.s10_jobs.specs.declared.job_status.JobStatus.TheVariants.{Done, Failed}
 use Rattle.s10_jobs.specs.Words.{open_fault_words}
 
 -- the database is a ledger of so many calls, of this build or of an earlier one
@@ -29,22 +28,22 @@ IsFinding db (Ok count) = HoldsCalls db count
 IsFinding db (Err fault) = IsOpeningRefusal db fault
 
 -- what is left of a database: it is as it was, or that of an earlier build completed, with its history
-abbrev pub IsLeft : Database → Database → Result ℕ OpenFault → Type 0
-IsLeft before after (Ok count) = (IsClosedSchema before.schema → after ≡ before) × (history_in after ≡ history_in before)
-IsLeft before after (Err fault) = after ≡ before
+abbrev pub IsLeftByAudit : Database → Database → Result ℕ OpenFault → Type 0
+IsLeftByAudit before after (Ok count) = (IsClosedSchema before.schema → after ≡ before) × (history_in after ≡ history_in before)
+IsLeftByAudit before after (Err fault) = after ≡ before
 
 -- what was found of the database that a connection showed, by the connection that the audit leaves: it holds where that
 -- one is open over disks that kept what they were given, and those are clean only where they were so before
-pub record IsFound {S : Type 0} (g : Ghosts S) (before left : Held S) (found : Result ℕ OpenFault) : Type 0 where
+pub record HasFound {S : Type 0} (g : Ghosts S) (before left : Held S) (found : Result ℕ OpenFault) : Type 0 where
   pub sound : WasSound g before left
-  pub opened : HasCleanDisk (state g left) → OnOk found (IsTrue (state g left).is_open)
-  pub finding : HasCleanDisk (state g left) → IsTrue (state g left).is_open → IsFinding (state g before).now found
-  pub leaves : HasCleanDisk (state g left) → IsTrue (state g left).is_open → IsLeft (state g before).now (state g left).now found
+  pub opened : IsClean g left → OnOk found (IsOpen g left)
+  pub finding : IsClean g left → IsOpen g left → IsFinding (state g before).now found
+  pub leaves : IsClean g left → IsOpen g left → IsLeftByAudit (state g before).now (state g left).now found
 
 abbrev pub audit_line : Result ℕ OpenFault → List ℕ
 audit_line (Ok count) = line_of (codes "ledger") (codes "ok" ∷ decimal count ∷ [])
 audit_line (Err fault) = line_of (codes "ledger") (open_fault_words fault)
 
-abbrev pub audit_status : Result ℕ OpenFault → Status
+abbrev pub audit_status : Result ℕ OpenFault → JobStatus
 audit_status (Ok count) = Done
 audit_status (Err fault) = Failed

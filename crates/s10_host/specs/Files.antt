@@ -1,6 +1,6 @@
 -- Ledgers in files, as they are made, opened and put away.
 use denote.RattleType.{RattleType}
-use Rattle.std.specs.Prelude.{◌≡◌, ◌⊎◌, IsTrue, false, []}
+use Rattle.std.specs.Prelude.{◌≡◌, ◌⊎◌, false, []}
 use Rattle.sqlite_disk.specs.declared.Disk.{Ghosts}
 use Rattle.sqlite_disk.specs.declared.Files.{Files}
 use Rattle.sqlite_disk.specs.declared.modelled.Modelled.{Modelled}
@@ -16,7 +16,6 @@ use Rattle.sqlite_trees.specs.Tree.{Trees}
 use Rattle.sqlite_store.specs.declared.store.FileStore.{FileStore}
 use Rattle.sqlite_store.specs.FileStore.{view}
 use Rattle.sqlite.specs.Held.{Held}
-use Rattle.sqlite.specs.State.{HasCleanDisk}
 use Rattle.sqlite.specs.Files.{file_state, over_files, HoldsDatabase, AreFoundIn, IsBlankAs, IsOpened}
 use Rattle.sqlite.specs.Start.{FindsIn}
 use Rattle.sqlite.specs.Closing.{IsCopied}
@@ -26,19 +25,20 @@ use Rattle.s10_rows.specs.declared.open_fault.OpenFault.{OpenFault}
 use Rattle.s10_rows.specs.declared.open_fault.OpenFault.TheVariants.{NotALedger, Memory, Store}
 use Rattle.s10_ledger.specs.Refusals.{IsOpeningRefusal}
 use Rattle.s10_statements.specs.Making.{IsMakingRefusal}
+use Rattle.s10_statements.specs.Settled.{IsClean, IsOpen}
 
 module _ {D : Type 0} {g : Ghosts D} where
   -- the connection is open, and shows what the files held, where the disk has returned what was written
   abbrev pub IsFoundIn : Image → Held (FileStore D g) → Type 0
-  IsFoundIn held c = HasCleanDisk (file_state c) → IsOpened c × FindsIn held (file_state c)
+  IsFoundIn held c = IsClean over_files c → IsOpened c × FindsIn held (file_state c)
 
   -- files that are new have no checksums: a write by a program that knows of none would spoil them
   abbrev pub IsPlain : Image → Held (FileStore D g) → Type 0
-  IsPlain held c = HasCleanDisk (file_state c) → IsBlankAs false held → (view c.store).has_sums ≡ false
+  IsPlain held c = IsClean over_files c → IsBlankAs false held → (view c.store).has_sums ≡ false
 
   -- a fact of a book, where its disk has returned what was written
   abbrev pub WhereClean : (Ledger (FileStore D g) → Type 0) → Ledger (FileStore D g) → Type 0
-  WhereClean Is book = HasCleanDisk (file_state book.conn) → Is book
+  WhereClean Is book = IsClean over_files book.conn → Is book
 
   -- a ledger with no call
   pub record IsEmptyBook (book : Ledger (FileStore D g)) : Type 0 where
@@ -73,8 +73,8 @@ module _ {D : Type 0} {g : Ghosts D} where
   PutsAway book files = AreClean g files.log files.db → IsPutAway book files
 
   -- both files kept what they were given only where the connection's disk did
-  abbrev pub Leaves : Held (FileStore D g) → Files D → Type 0
-  Leaves c files = AreClean g files.log files.db → HasCleanDisk (file_state c)
+  abbrev pub LeavesClean : Held (FileStore D g) → Files D → Type 0
+  LeavesClean c files = AreClean g files.log files.db → IsClean over_files c
 
 -- a file of the system
 abbrev pub SystemFile : (S : RattleType) → start.Ghosts S.Denot → Type 0
@@ -117,7 +117,7 @@ module _ (S : RattleType) (first : start.Ghosts S.Denot) where
     pub was : FileConnection S first
     pub found : IsFoundIn (image_at first) was
     pub left : FileConnection S first
-    pub refusal : HasCleanDisk (file_state left) → IsTrue (file_state left).is_open → IsOpeningRefusal (file_state was).now fault
+    pub refusal : IsClean over_files left → IsOpen over_files left → IsOpeningRefusal (file_state was).now fault
 
   abbrev pub IsNotOpened : OpenFault → Type 0
   IsNotOpened fault = IsAbsenceOr (λ f. IsFileFault f ⊎ IsRefusedLedger f) fault

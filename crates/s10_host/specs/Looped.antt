@@ -23,8 +23,8 @@ use Rattle.s10_ends.specs.declared.call_fault.CallFault.{CallFault}
 use Rattle.s10_ends.specs.Calls.{Calls}
 use Rattle.s10_ends.specs.Client.{ClientState, new_client, after_submit, settled}
 use Rattle.s10_rows.specs.declared.open_fault.OpenFault.{OpenFault}
-use Rattle.s10_jobs.specs.declared.status.Status.{Status}
-use Rattle.s10_jobs.specs.declared.status.Status.TheVariants.{Done, Failed}
+use Rattle.s10_jobs.specs.declared.job_status.JobStatus.{JobStatus}
+use Rattle.s10_jobs.specs.declared.job_status.JobStatus.TheVariants.{Done, Failed}
 use Rattle.s10_jobs.specs.Asked.{asked_status, asked_line}
 use Rattle.s10_jobs.specs.Shown.{Prints}
 use Rattle.s10_jobs.specs.Words.{open_fault_words}
@@ -61,11 +61,11 @@ loop_calls = calls_of (new_client 0 1 1) (granted_range ∷ []) ++ calls_of (new
 
 -- the calls went over a link one after another, each in five tries, up to the first that was not done: the text has the line of
 -- each, and the status is that of the last
-abbrev pub AreAsked : Peer → List (ClientState × Body) → Trace → Trace → Status → List ℕ → Type 0
-AreAsked to [] old new status text = (new ≡ old) × (status ≡ Done) × (text ≡ [])
-AreAsked to (call ∷ calls) old new status text =
+abbrev pub AreMadeInTurn : Peer → List (ClientState × Body) → Trace → Trace → JobStatus → List ℕ → Type 0
+AreMadeInTurn to [] old new status text = (new ≡ old) × (status ≡ Done) × (text ≡ [])
+AreMadeInTurn to (call ∷ calls) old new status text =
     (left : ClientState) × (between : Trace) × (called : Result Reply CallFault) × Calls call.0 left old between to call.1 5 called
-    × (((asked_status called ≡ Done) × (rest : List ℕ) × (text ≡ asked_line called ++ rest) × AreAsked to calls between new status rest)
+    × (((asked_status called ≡ Done) × (rest : List ℕ) × (text ≡ asked_line called ++ rest) × AreMadeInTurn to calls between new status rest)
     ⊎ ((asked_status called ≢ Done) × (new ≡ between) × (status ≡ asked_status called) × (text ≡ asked_line called)))
 
 -- why nothing was asked: a socket cannot be bound, or else no ledger can be made in memory
@@ -93,7 +93,7 @@ pub record IsNewLoop (day : ℕ) (link : LoopLink) : Type 0 where
   pub empty : history_of over_memory (book_of link.server) ≡ []
 
 -- what is left of it once its ledger is closed, which was honest to the end
-pub record IsLeft (link : LoopLink) (looped : Looped) : Type 0 where
+pub record IsLeftOfLoop (link : LoopLink) (looped : Looped) : Type 0 where
   pub honest : IsHonest over_memory (book_of link.server)
   pub closed : looped.connection ≡ (book_of link.server).conn
   pub far : looped.far ≡ link.far
@@ -101,16 +101,16 @@ pub record IsLeft (link : LoopLink) (looped : Looped) : Type 0 where
 
 -- the calls are all that a new link carried, of which this is left: what was served on the day is the history of the ledger; where
 -- the writer did not fail the lines of the calls were written
-pub record IsLooped (day : ℕ) (old new : Option (List ℕ)) (result : Result Status WriteFault) (looped : Looped) : Type 0 where
+pub record IsLooped (day : ℕ) (old new : Option (List ℕ)) (result : Result JobStatus WriteFault) (looped : Looped) : Type 0 where
   pub begun : LoopLink
   pub fresh : IsNewLoop day begun
   pub ended : LoopLink
   pub led : LeadsTo IsLoopStep begun ended
-  pub left : IsLeft ended looped
+  pub left : IsLeftOfLoop ended looped
   pub served : ServedOn day [] loop_terms (history_in (state over_memory looped.connection).now)
-  pub asked : IfOk result (λ status. (to : Peer) × Prints old new (AreAsked to loop_calls new_trace looped.near.trace status))
+  pub asked : IfOk result (λ status. (to : Peer) × Prints old new (AreMadeInTurn to loop_calls new_trace looped.near.trace status))
 
 -- so were they, or the line says why nothing was asked
-pub record HasLooped (day : ℕ) (old new : Option (List ℕ)) (result : Result Status WriteFault) (looped : Option Looped) : Type 0 where
+pub record HasLooped (day : ℕ) (old new : Option (List ℕ)) (result : Result JobStatus WriteFault) (looped : Option Looped) : Type 0 where
   pub asked : IfSome looped (IsLooped day old new result)
   pub unasked : looped ≡ None → IfOk result (λ status. (status ≡ Failed) × Prints old new IsNoLoop)

@@ -12,27 +12,27 @@ use Rattle.s10_ends.specs.UdpLink.{BoundLink}
 use Rattle.s10_ends.specs.Client.{ClientState, new_client}
 use Rattle.s10_ends.specs.Calls.{Calls}
 use Rattle.s10_ends.specs.declared.call_fault.CallFault.{CallFault}
-use Rattle.s10_jobs.specs.declared.status.Status.{Status}
-use Rattle.s10_jobs.specs.declared.status.Status.TheVariants.{Refused, Failed}
+use Rattle.s10_jobs.specs.declared.job_status.JobStatus.{JobStatus}
+use Rattle.s10_jobs.specs.declared.job_status.JobStatus.TheVariants.{Refused, Failed}
 use Rattle.s10_jobs.specs.declared.refusal.Refusal.{Refusal}
 use Rattle.s10_jobs.specs.declared.question.Question.{Question}
 use Rattle.s10_jobs.specs.Asked.{asked_status, asked_line}
 use Rattle.s10_jobs.specs.Lines.{refused_line}
-use Rattle.s10_jobs.specs.Questions.{refusal_words, IsBody, IsRefusal}
+use Rattle.s10_jobs.specs.Questions.{refusal_words, WordsAsk, IsQuestionRefusal}
 
 -- nothing was asked: the first text that does not read is refused; else there is no link
-abbrev pub IsUnasked : Question → Status → List ℕ → Type 0
+abbrev pub IsUnasked : Question → JobStatus → List ℕ → Type 0
 IsUnasked question status line =
-    ((refusal : Refusal) × IsRefusal question refusal × (status ≡ Refused) × (line ≡ refused_line (refusal_words refusal)))
-    ⊎ ((to : Peer) × (body : Body) × SpellsPeer question.to.now to × IsBody question.body body × (status ≡ Failed) × (line ≡ line_of (codes "link") (codes "bind" ∷ [])))
+    ((refusal : Refusal) × IsQuestionRefusal question refusal × (status ≡ Refused) × (line ≡ refused_line (refusal_words refusal)))
+    ⊎ ((to : Peer) × (body : Body) × SpellsPeer question.to.now to × WordsAsk question.body body × (status ≡ Failed) × (line ≡ line_of (codes "link") (codes "bind" ∷ [])))
 
 -- what the words say was asked in one call of a new client of the customer, with the question's one number, and that is all that
 -- this link carried; where the writer did not fail the call's line was written
-pub record IsAsked (question : Question) (link : BoundLink) (old new : Option (List ℕ)) (result : Result Status WriteFault) : Type 0 where
+pub record IsAsked (question : Question) (link : BoundLink) (old new : Option (List ℕ)) (result : Result JobStatus WriteFault) : Type 0 where
   pub to : Peer
   pub body : Body
   pub peer : SpellsPeer question.to.now to
-  pub asks : IsBody question.body body
+  pub asks : WordsAsk question.body body
   pub left : ClientState
   pub called : Result Reply CallFault
   pub calls : Calls (new_client question.customer question.number question.number) left new_trace link.trace to body question.tries called

@@ -4,10 +4,10 @@ ghost use Rattle.std.specs.Prelude.{◌≡◌, ◌∷◌, [], ℕ, false, codes,
 ghost use Rattle.std.specs.Io.KnownBytes.{Appends};
 ghost use Rattle.s10_lines.specs.Lines.{line_of};
 ghost use Rattle.s10_rows.specs.declared.open_fault.OpenFault.{OpenFault};
-ghost use Rattle.s10_host.specs.Audited.{IsFound, audit_line, audit_status};
+ghost use Rattle.s10_host.specs.Audited.{HasFound, audit_line, audit_status};
 
 use s10_book::Book;
-use s10_jobs::{Status, write_ledger_fault};
+use s10_jobs::{JobStatus, write_ledger_fault};
 use s10_ledger::{OpenFault, Refused, SqlBook, Watch};
 use s10_lines::{WriteFault, write_decimal, write_text, write_word};
 use sqlite::{Alter, Connection};
@@ -21,9 +21,9 @@ pub fn run_audit<S: Alter, K: Watch, W: Write>(
     connection: Connection<S>,
     watch: &mut K,
     output: &mut W,
-) -> (Result<Status, WriteFault>, Connection<S>)
+) -> (Result<JobStatus, WriteFault>, Connection<S>)
     requires idle { connection.in_transaction ≡ false }
-    ensures { (found : Result ℕ OpenFault) × IsFound S.Store connection result.1 found × IfOk result.0 (λ status. (status ≡ audit_status found)
+    ensures { (found : Result ℕ OpenFault) × HasFound S.Store connection result.1 found × IfOk result.0 (λ status. (status ≡ audit_status found)
         × Appends (W.contents output.old) (W.contents output.new) (audit_line found)) }
 {
     let (found, left) = count_calls(alloc, connection, watch);
@@ -37,7 +37,7 @@ fn count_calls<S: Alter, K: Watch>(
     watch: &mut K,
 ) -> (Result<u32, OpenFault>, Connection<S>)
     requires idle { connection.in_transaction ≡ false }
-    ensures { IsFound S.Store connection result.1 result.0 }
+    ensures { HasFound S.Store connection result.1 result.0 }
 {
     match SqlBook::open(alloc, connection, watch) {
         Ok(book) => {
@@ -48,18 +48,21 @@ fn count_calls<S: Alter, K: Watch>(
     }
 }
 
-fn write_found<W: Write>(found: Result<u32, OpenFault>, out: &mut W) -> Result<Status, WriteFault>
+fn write_found<W: Write>(
+    found: Result<u32, OpenFault>,
+    out: &mut W,
+) -> Result<JobStatus, WriteFault>
     ensures { IfOk result (λ status. (status ≡ audit_status found)
         × Appends (W.contents out.old) (W.contents out.new) (audit_line found)) }
 {
     match found {
         Ok(count) => {
             write_count(count, out)?;
-            Ok(Status::Done)
+            Ok(JobStatus::Done)
         }
         Err(fault) => {
             write_ledger_fault(fault, out)?;
-            Ok(Status::Failed)
+            Ok(JobStatus::Failed)
         }
     }
 }

@@ -2,7 +2,7 @@
 
 ghost use Rattle.std.specs.Prelude.{◌≡◌, false, Ok, IfOk, IfErr, IsErrAnd};
 ghost use Rattle.sqlite_wal.specs.Files.{image_at};
-ghost use Rattle.s10_host.specs.Files.{IsFoundIn, IsPlain, IsEmptyBook, IsFoundBook, WhereClean, PutsAway, Copies, Leaves, IsFileFault, IsAbsenceOr, IsNotMade, IsNotOpened};
+ghost use Rattle.s10_host.specs.Files.{IsFoundIn, IsPlain, IsEmptyBook, IsFoundBook, WhereClean, PutsAway, Copies, LeavesClean, IsFileFault, IsAbsenceOr, IsNotMade, IsNotOpened};
 
 use crate::front::{fault_of_front, fault_of_place};
 use crate::onlooker::Onlooker;
@@ -96,7 +96,7 @@ fn fault_of_closing<S: Start>(
 
 /// The files of a connection, as it leaves them: its last commits may stand in the log alone.
 pub fn leave_files<S: Start>(connection: FileConnection<S>) -> ClosedFiles<S>
-    ensures { Leaves connection result }
+    ensures { LeavesClean connection result }
 {
     connection.into_store().close()
 }

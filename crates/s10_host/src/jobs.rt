@@ -4,7 +4,7 @@ ghost use Rattle.std.specs.Prelude.{◌≡◌, codes, None, Ok, Err, IsOk, IfOk,
 ghost use Rattle.std.specs.Io.KnownBytes.{Appends};
 ghost use Rattle.s10_rows.specs.declared.open_fault.OpenFault.{OpenFault};
 ghost use Rattle.s10_host.specs.Files.{IsNotMade};
-ghost use Rattle.s10_host.specs.Jobs.{ledger_line, HasMade, HasCreated, IsServed, IsLost, IsUnlinked, HasServed, IsReported, IsReportedAndLost, HasReported, HasAudited, IsRunOn, HasEnded};
+ghost use Rattle.s10_host.specs.Jobs.{ledger_line, HasMadeLedger, HasCreated, IsServed, IsLost, IsUnlinked, HasServed, IsReported, IsReportedAndLost, HasReported, HasAudited, IsRunOn, HasEnded};
 
 use crate::audit::run_audit;
 use crate::files::{
@@ -19,7 +19,7 @@ use crate::serving::serve_at;
 use s10_ends::{Server, UdpLink};
 use s10_history::Settings;
 use s10_jobs::{
-    Job, Report, Status, day_or_today, fail_by_clock, fail_by_ledger, refuse, write_report,
+    Job, JobStatus, Report, day_or_today, fail_by_clock, fail_by_ledger, refuse, write_report,
 };
 use s10_ledger::OpenFault;
 use s10_lines::{WriteFault, write_text};
@@ -28,10 +28,10 @@ use sqlite::Start;
 use std::io::Write;
 
 /// What came of a job, and what it leaves behind it.
-type Ended<S> = (Result<Status, WriteFault>, Left<S>);
+type Ended<S> = (Result<JobStatus, WriteFault>, Left<S>);
 
 /// What came of a job over the ledger of a file alone, and its files, where they were closed.
-type Closed<S> = (Result<Status, WriteFault>, Option<ClosedFiles<S>>);
+type Closed<S> = (Result<JobStatus, WriteFault>, Option<ClosedFiles<S>>);
 
 /// Does a job, and answers how it ended, and what it leaves behind it.
 pub fn run_job<S: Start, W: Write>(
@@ -39,7 +39,7 @@ pub fn run_job<S: Start, W: Write>(
     job: &Job<'_>,
     start: S,
     out: &mut W,
-) -> (Result<Status, WriteFault>, Left<S>)
+) -> (Result<JobStatus, WriteFault>, Left<S>)
     ensures { HasEnded S.row S.Start job.now (W.contents out.old) (W.contents out.new) result.0 result.1.files result.1.link result.1.looped }
 {
     match job {
@@ -77,7 +77,7 @@ fn with_files<S: Start>(closed: Closed<S>) -> Ended<S>
     )
 }
 
-fn with_link<S: Start>(asked: (Result<Status, WriteFault>, Option<UdpLink>)) -> Ended<S>
+fn with_link<S: Start>(asked: (Result<JobStatus, WriteFault>, Option<UdpLink>)) -> Ended<S>
     ensures same { (result.0 ≡ asked.0) × (result.1.link ≡ asked.1) }
 {
     let (done, link) = asked;
@@ -91,7 +91,7 @@ fn with_link<S: Start>(asked: (Result<Status, WriteFault>, Option<UdpLink>)) -> 
     )
 }
 
-fn with_looped<S: Start>(ended: (Result<Status, WriteFault>, Option<Looped>)) -> Ended<S>
+fn with_looped<S: Start>(ended: (Result<JobStatus, WriteFault>, Option<Looped>)) -> Ended<S>
     ensures same { (result.0 ≡ ended.0) × (result.1.looped ≡ ended.1) }
 {
     let (done, looped) = ended;
@@ -121,11 +121,11 @@ fn run_create<S: Start, W: Write>(
     }
 }
 
-fn write_created<W: Write>(out: &mut W) -> Result<Status, WriteFault>
-    ensures { IfOk result (λ status. (status ≡ Status.Done) × Appends (W.contents out.old) (W.contents out.new) (codes "created\n")) }
+fn write_created<W: Write>(out: &mut W) -> Result<JobStatus, WriteFault>
+    ensures { IfOk result (λ status. (status ≡ JobStatus.Done) × Appends (W.contents out.old) (W.contents out.new) (codes "created\n")) }
 {
     write_text(b"created\n", out)?;
-    Ok(Status::Done)
+    Ok(JobStatus::Done)
 }
 
 fn make_ledger<S: Start>(
@@ -134,7 +134,7 @@ fn make_ledger<S: Start>(
     settings: Settings,
     start: S,
 ) -> Result<ClosedFiles<S>, OpenFault>
-    ensures made { IfOk result (HasMade S.row S.Start settings) }
+    ensures made { IfOk result (HasMadeLedger S.row S.Start settings) }
     ensures refused { IfErr result (IsNotMade S.row S.Start) }
 {
     match create_book(rt, ledger, settings, start) {
@@ -234,12 +234,12 @@ fn report_on<S: Start, W: Write>(
 
 // What was done with a ledger, unless it could not be closed.
 fn ended<T, W: Write>(
-    done: Result<Status, WriteFault>,
+    done: Result<JobStatus, WriteFault>,
     closed: Result<T, OpenFault>,
     out: &mut W,
-) -> (Result<Status, WriteFault>, Option<T>)
+) -> (Result<JobStatus, WriteFault>, Option<T>)
     ensures kept { IfSome result.1 (λ files. (closed ≡ Ok files) × (result.0 ≡ done) × (W.contents out.new ≡ W.contents out.old)) }
-    ensures lost { result.1 ≡ None → (fault : OpenFault) × (closed ≡ Err fault) × IfOk result.0 (λ status. IsOk done × (status ≡ Status.Failed)
+    ensures lost { result.1 ≡ None → (fault : OpenFault) × (closed ≡ Err fault) × IfOk result.0 (λ status. IsOk done × (status ≡ JobStatus.Failed)
         × Appends (W.contents out.old) (W.contents out.new) (ledger_line fault)) }
 {
     match closed {
@@ -249,11 +249,11 @@ fn ended<T, W: Write>(
 }
 
 fn fail_by_closing<W: Write>(
-    done: Result<Status, WriteFault>,
+    done: Result<JobStatus, WriteFault>,
     fault: OpenFault,
     out: &mut W,
-) -> Result<Status, WriteFault>
-    ensures { IfOk result (λ status. IsOk done × (status ≡ Status.Failed)
+) -> Result<JobStatus, WriteFault>
+    ensures { IfOk result (λ status. IsOk done × (status ≡ JobStatus.Failed)
         × Appends (W.contents out.old) (W.contents out.new) (ledger_line fault)) }
 {
     let _status = done?;
@@ -283,7 +283,7 @@ fn run_loop_on<W: Write>(
     rt: &HostRuntime,
     day: Option<u32>,
     out: &mut W,
-) -> (Result<Status, WriteFault>, Option<Looped>)
+) -> (Result<JobStatus, WriteFault>, Option<Looped>)
     ensures { IsRunOn day (W.contents out.old) (W.contents out.new) result.0 result.1 }
 {
     match day_or_today(rt, day) {

@@ -5,14 +5,14 @@ ghost use Rattle.s10_wire.specs.declared.body.Body.TheVariants.{Draw};
 ghost use Rattle.s10_link.specs.Trace.{new_trace};
 ghost use Rattle.s10_link.specs.Link.{LeadsTo};
 ghost use Rattle.s10_jobs.specs.Shown.{Prints};
-ghost use Rattle.s10_host.specs.Looped.{ra, gb, first_of_range, granted_range, customer_calls, calls_of, loop_calls, AreAsked, IsLeft, IsLooped, IsNoLoop};
+ghost use Rattle.s10_host.specs.Looped.{ra, gb, first_of_range, granted_range, customer_calls, calls_of, loop_calls, AreMadeInTurn, IsLeftOfLoop, IsLooped, IsNoLoop};
 
 use crate::binding::bind_link;
 use crate::looped::Looped;
 use s10_core::{Country, Id, Serial, Service};
 use s10_ends::{Client, NearLink, Server, UdpLink};
 use s10_history::Settings;
-use s10_jobs::{Status, ask, fail_by_ledger, fail_by_link};
+use s10_jobs::{JobStatus, ask, fail_by_ledger, fail_by_link};
 use s10_ledger::SqlBook;
 use s10_lines::WriteFault;
 use s10_link::{Link, LinkFault, Peer};
@@ -38,9 +38,9 @@ pub fn run_loop<R: Net + Eprint + AllocGlobal, W: Write>(
     rt: &R,
     day: u32,
     out: &mut W,
-) -> (Result<Status, WriteFault>, Option<Looped>)
+) -> (Result<JobStatus, WriteFault>, Option<Looped>)
     ensures asked { IfSome result.1 (IsLooped day (W.contents out.old) (W.contents out.new) result.0) }
-    ensures unasked { result.1 ≡ None → IfOk result.0 (λ status. (status ≡ Status.Failed) × Prints (W.contents out.old) (W.contents out.new) IsNoLoop) }
+    ensures unasked { result.1 ≡ None → IfOk result.0 (λ status. (status ≡ JobStatus.Failed) × Prints (W.contents out.old) (W.contents out.new) IsNoLoop) }
 {
     let (far, near) = match two_links(rt) {
         Ok(links) => links,
@@ -66,7 +66,7 @@ pub fn run_loop<R: Net + Eprint + AllocGlobal, W: Write>(
 
 // What is left of a link, its ledger closed.
 fn closed_loop(link: NearLink<SqlBook<MemStore>, UdpLink, UdpLink>) -> Looped
-    ensures { IsLeft link result }
+    ensures { IsLeftOfLoop link result }
 {
     let NearLink {
         server,
@@ -92,9 +92,13 @@ fn two_links<R: Net + Eprint>(rt: &R) -> Result<(UdpLink, UdpLink), LinkFault>
 }
 
 // The five calls, up to the first that is not done.
-fn make_calls<L: Link, W: Write>(link: &mut L, to: Peer, out: &mut W) -> Result<Status, WriteFault>
+fn make_calls<L: Link, W: Write>(
+    link: &mut L,
+    to: Peer,
+    out: &mut W,
+) -> Result<JobStatus, WriteFault>
     ensures asked { IfOk result (λ status. Prints (W.contents out.old) (W.contents out.new)
-        (AreAsked to loop_calls (L.trace_of link.old) (L.trace_of link.new) status)) }
+        (AreMadeInTurn to loop_calls (L.trace_of link.old) (L.trace_of link.new) status)) }
     ensures led { LeadsTo L.step link.old link.new }
 {
     let Ok(mut post) = Client::new(0, 1, 1) else {
@@ -104,7 +108,7 @@ fn make_calls<L: Link, W: Write>(link: &mut L, to: Peer, out: &mut W) -> Result<
         unreachable!()
     };
     let granted = ask_all(&mut post, link, to, &[first_range()], out)?;
-    if granted != Status::Done {
+    if granted != JobStatus::Done {
         return Ok(granted);
     }
     ask_all(&mut customer, link, to, &customer_bodies(), out)
@@ -117,18 +121,18 @@ fn ask_all<L: Link, W: Write>(
     to: Peer,
     bodies: &[Body],
     out: &mut W,
-) -> Result<Status, WriteFault>
+) -> Result<JobStatus, WriteFault>
     ensures asked { IfOk result (λ status. Prints (W.contents out.old) (W.contents out.new)
-        (AreAsked to (calls_of client.old bodies.now) (L.trace_of link.old) (L.trace_of link.new) status)) }
+        (AreMadeInTurn to (calls_of client.old bodies.now) (L.trace_of link.old) (L.trace_of link.new) status)) }
     ensures led { LeadsTo L.step link.old link.new }
 {
     for body in bodies {
         let status = ask(client, link, to, *body, TRIES, out)?;
-        if status != Status::Done {
+        if status != JobStatus::Done {
             return Ok(status);
         }
     }
-    Ok(Status::Done)
+    Ok(JobStatus::Done)
 }
 
 // RA GB 0 to 2 for customer 7.

@@ -11,7 +11,7 @@ ghost use Rattle.s10_host.specs.Questioning.{IsUnasked, IsAsked};
 
 use crate::binding::bind_link;
 use s10_ends::{Client, UdpLink};
-use s10_jobs::{Question, Status, ask, fail_by_link, write_refusal};
+use s10_jobs::{JobStatus, Question, ask, fail_by_link, write_refusal};
 use s10_lines::WriteFault;
 use s10_link::{Link, Peer};
 use s10_wire::Body;
@@ -30,7 +30,7 @@ pub fn run_question<R: Net + Eprint, W: Write>(
     rt: &R,
     question: &Question<'_>,
     out: &mut W,
-) -> (Result<Status, WriteFault>, Option<UdpLink>)
+) -> (Result<JobStatus, WriteFault>, Option<UdpLink>)
     ensures unasked { result.1 ≡ None → IfOk result.0 (λ status. (line : List ℕ) × IsUnasked question.now status line
         × Appends (W.contents out.old) (W.contents out.new) line) }
     ensures asked { IfSome result.1 (λ link. IsAsked question.now link (W.contents out.old) (W.contents out.new) result.0) }
@@ -54,7 +54,7 @@ fn ask_once<L: Link, W: Write>(
     to: Peer,
     body: Body,
     out: &mut W,
-) -> Result<Status, WriteFault>
+) -> Result<JobStatus, WriteFault>
     ensures { (client : ClientState) × (called : Result Reply CallFault)
         × Calls (new_client question.now.customer question.now.number question.now.number) client
         (L.trace_of link.old) (L.trace_of link.new) to body question.now.tries called

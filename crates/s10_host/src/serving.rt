@@ -9,7 +9,7 @@ ghost use Rattle.s10_host.specs.Unbound.{IsUnbound};
 use crate::binding::bind_link;
 use s10_book::Book;
 use s10_ends::{Server, UdpLink};
-use s10_jobs::{Status, fail_by_link, serve_turns};
+use s10_jobs::{JobStatus, fail_by_link, serve_turns};
 use s10_lines::WriteFault;
 use s10_link::Peer;
 use std::io::Write;
@@ -25,7 +25,7 @@ pub fn serve_at<R, B, W>(
     count: u32,
     day: Option<u32>,
     out: &mut W,
-) -> (Result<Status, WriteFault>, Option<UdpLink>)
+) -> (Result<JobStatus, WriteFault>, Option<UdpLink>)
 where
     R: Net + Clock + Eprint,
     B: Book,

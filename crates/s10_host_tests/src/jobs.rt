@@ -2,11 +2,11 @@
 
 use s10_cli::parse_job;
 use s10_host::run_job;
-use s10_jobs::Status;
+use s10_jobs::JobStatus;
 use sqlite::Unknown;
 
 /// Whether the job of a command line has this status and prints this line.
-fn ends_with(rt: &HostRuntime, words: &[&str], status: Status, line: &[u8]) -> bool {
+fn ends_with(rt: &HostRuntime, words: &[&str], status: JobStatus, line: &[u8]) -> bool {
     let Some(job) = parse_job(rt.alloc(), words) else {
         return false;
     };
@@ -17,7 +17,7 @@ fn ends_with(rt: &HostRuntime, words: &[&str], status: Status, line: &[u8]) -> b
 
 #[test]
 fn what_cannot_be_done_has_its_line_and_status(rt: HostRuntime) {
-    let cases: [(&[&str], Status, &[u8]); 5] = [
+    let cases: [(&[&str], JobStatus, &[u8]); 5] = [
         (
             &[
                 "s10",
@@ -29,7 +29,7 @@ fn what_cannot_be_done_has_its_line_and_status(rt: HostRuntime) {
                 "--limit",
                 "100",
             ],
-            Status::Failed,
+            JobStatus::Failed,
             b"ledger store\n",
         ),
         (
@@ -43,7 +43,7 @@ fn what_cannot_be_done_has_its_line_and_status(rt: HostRuntime) {
                 "--count",
                 "1",
             ],
-            Status::Refused,
+            JobStatus::Refused,
             b"refused peer\n",
         ),
         (
@@ -57,17 +57,17 @@ fn what_cannot_be_done_has_its_line_and_status(rt: HostRuntime) {
                 "--count",
                 "1",
             ],
-            Status::Failed,
+            JobStatus::Failed,
             b"ledger store\n",
         ),
         (
             &["s10", "report", "--ledger", "nowhere/a.db", "--issues"],
-            Status::Failed,
+            JobStatus::Failed,
             b"ledger store\n",
         ),
         (
             &["s10", "audit", "--ledger", "nothing.db"],
-            Status::Failed,
+            JobStatus::Failed,
             b"ledger not-a-ledger\n",
         ),
     ];

@@ -6,7 +6,7 @@ use s10_core::{Country, Id, Serial, Service};
 use s10_ends::{Answer, Delivery, Server};
 use s10_history::Settings;
 use s10_host::run_audit;
-use s10_jobs::{Status, write_answer};
+use s10_jobs::{JobStatus, write_answer};
 use s10_ledger::{OpenFault, SqlBook, Unwatched};
 use s10_lines::WriteFault;
 use s10_link::Packet;
@@ -178,7 +178,7 @@ fn audited<R: Abort + AllocGlobal, W: Write>(
     rt: &R,
     connection: Connection<MemStore>,
     out: &mut W,
-) -> Result<Status, WriteFault> {
+) -> Result<JobStatus, WriteFault> {
     assert!(rt; connection.is_autocommit());
     let (done, _left) = run_audit(rt.alloc(), connection, &mut Unwatched, out);
     done
@@ -188,7 +188,7 @@ fn audited<R: Abort + AllocGlobal, W: Write>(
 fn audit<R: Abort + AllocGlobal>(
     rt: &R,
     connection: Connection<MemStore>,
-    status: Status,
+    status: JobStatus,
     line: &str,
     change: &str,
 ) {
@@ -202,12 +202,12 @@ fn ledger_as_it_was_kept_is_sound(rt: HostRuntime) -> Result<(), Fail> {
     audit(
         &rt,
         worked_ledger(&rt)?,
-        Status::Done,
+        JobStatus::Done,
         "ledger ok 9\n",
         "none",
     );
     let empty = tables(new_server(rt.alloc(), settings(&rt))?);
-    audit(&rt, empty, Status::Done, "ledger ok 0\n", "none");
+    audit(&rt, empty, JobStatus::Done, "ledger ok 0\n", "none");
     assert_eq!(rt;
         audited(&rt, worked_ledger(&rt)?, &mut Refusing),
         Err(WriteFault)
@@ -222,7 +222,7 @@ fn ledger_without_the_table_of_closed_ranges_is_of_an_earlier_build(
     let change = "DROP TABLE closed";
     let mut connection = worked_ledger(&rt)?;
     connection.execute(change, &[])?;
-    audit(&rt, connection, Status::Done, "ledger ok 9\n", change);
+    audit(&rt, connection, JobStatus::Done, "ledger ok 9\n", change);
     Ok(())
 }
 
@@ -232,7 +232,7 @@ fn database_without_tables_is_no_ledger(rt: HostRuntime) -> Result<(), Fail> {
     audit(
         &rt,
         connection,
-        Status::Failed,
+        JobStatus::Failed,
         "ledger not-a-ledger\n",
         "no tables",
     );
@@ -299,7 +299,7 @@ fn one_change_of_the_tables_is_found(rt: HostRuntime) -> Result<(), Fail> {
         let mut connection = worked_ledger(&rt)?;
         connection.execute(change, &[])?;
         let line = format!(in rt.alloc(); "ledger {fault}\n")?;
-        audit(&rt, connection, Status::Failed, &line, change);
+        audit(&rt, connection, JobStatus::Failed, &line, change);
     }
     Ok(())
 }

@@ -2,7 +2,7 @@
 
 use crate::refusing::Refusing;
 use s10_host::run_loop;
-use s10_jobs::Status;
+use s10_jobs::JobStatus;
 use s10_lines::WriteFault;
 use std::net::Net;
 
@@ -19,7 +19,7 @@ fn prints_five_replies<R: Net + Eprint + AllocGlobal>(rt: &R) -> bool {
     let mut out = Vec::new(rt.alloc());
     let (looped, _link) = run_loop(rt, 20_000, &mut out);
     let (failed, _other) = run_loop(rt, 20_000, &mut Refusing);
-    looped == Ok(Status::Done) && out.as_slice() == LINES.as_bytes() && failed == Err(WriteFault)
+    looped == Ok(JobStatus::Done) && out.as_slice() == LINES.as_bytes() && failed == Err(WriteFault)
 }
 
 #[test]

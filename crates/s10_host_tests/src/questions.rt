@@ -2,7 +2,7 @@
 
 use crate::refusing::Refusing;
 use s10_host::run_question;
-use s10_jobs::{BodyWords, Question, Status, Tries};
+use s10_jobs::{BodyWords, JobStatus, Question, Tries};
 use s10_lines::WriteFault;
 use std::net::Net;
 use std::test::Fail;
@@ -43,7 +43,7 @@ fn withdraw<'a>(tries: Tries, to: &'a str) -> Question<'a> {
 fn is_told<R: Net + Eprint + AllocGlobal>(
     rt: &R,
     question: &Question<'_>,
-    status: Status,
+    status: JobStatus,
     line: &str,
 ) -> bool {
     let mut out = Vec::new(rt.alloc());
@@ -56,66 +56,66 @@ fn is_told<R: Net + Eprint + AllocGlobal>(
 fn what_is_not_asked_has_its_line(rt: HostRuntime) -> Result<(), Fail> {
     let tries = Tries::new(1).ok_or("tries")?;
     let server = "127.0.0.1:4711";
-    let cases: [(Question<'_>, Status, &str); 12] = [
+    let cases: [(Question<'_>, JobStatus, &str); 12] = [
         (
             draw(tries, "127.0.0.1", "ra", "gb"),
-            Status::Refused,
+            JobStatus::Refused,
             "refused peer\n",
         ),
         (
             draw(tries, "127.0.0.1:04711", "RA", "GB"),
-            Status::Refused,
+            JobStatus::Refused,
             "refused peer\n",
         ),
         (
             draw(tries, server, "ra", "gb"),
-            Status::Refused,
+            JobStatus::Refused,
             "refused service\n",
         ),
         (
             draw(tries, server, "RAA", "GB"),
-            Status::Refused,
+            JobStatus::Refused,
             "refused service\n",
         ),
         (
             draw(tries, server, "RA", "G8"),
-            Status::Refused,
+            JobStatus::Refused,
             "refused country\n",
         ),
         (
             query(tries, "post:4711", "RA"),
-            Status::Refused,
+            JobStatus::Refused,
             "refused peer\n",
         ),
         (
             query(tries, server, "RA"),
-            Status::Refused,
+            JobStatus::Refused,
             "refused length\n",
         ),
         (
             query(tries, server, "ra 473 124 82x us"),
-            Status::Refused,
+            JobStatus::Refused,
             "refused digit 10\n",
         ),
         (
             query(tries, server, "RA 000 000 006 GB"),
-            Status::Refused,
+            JobStatus::Refused,
             "refused check-digit\n",
         ),
         (
             withdraw(tries, "127.0.0.1"),
-            Status::Refused,
+            JobStatus::Refused,
             "refused peer\n",
         ),
         // No datagram can be sent to port 0.
         (
             query(tries, "127.0.0.1:0", "ra 000 000 005 gb"),
-            Status::Failed,
+            JobStatus::Failed,
             "link send\n",
         ),
         (
             withdraw(tries, "127.0.0.1:0"),
-            Status::Failed,
+            JobStatus::Failed,
             "link send\n",
         ),
     ];

@@ -2,7 +2,7 @@
 
 use s10_cli::parse_job;
 use s10_host::run_job;
-use s10_jobs::Status;
+use s10_jobs::JobStatus;
 use sqlite::Unknown;
 use std::fs;
 use std::test::Fail;
@@ -21,7 +21,7 @@ fn is_refused(rt: &HostRuntime, words: &[&str], line: &str) -> bool {
     };
     let mut output = Vec::new(rt.alloc());
     let (ended, _left) = run_job(rt, &job, Unknown, &mut output);
-    ended == Ok(Status::Failed) && output.as_slice() == line.as_bytes()
+    ended == Ok(JobStatus::Failed) && output.as_slice() == line.as_bytes()
 }
 
 /// Whether each job over the ledger at the path is.

@@ -4,7 +4,7 @@ use s10_book::PlainBook;
 use s10_ends::{Server, UdpLink};
 use s10_history::Settings;
 use s10_host::serve_at;
-use s10_jobs::Status;
+use s10_jobs::JobStatus;
 use s10_link::Peer;
 use std::alloc::Global;
 use std::net::Net;
@@ -21,7 +21,7 @@ fn is_served_at<R: Net + Clock + Eprint + AllocGlobal>(
     rt: &R,
     at: Peer,
     count: u32,
-    status: Status,
+    status: JobStatus,
     text: &str,
 ) -> Result<bool, Fail> {
     let settings = Settings::new(30, 2).ok_or("settings")?;
@@ -33,10 +33,10 @@ fn is_served_at<R: Net + Clock + Eprint + AllocGlobal>(
 
 #[test]
 fn a_server_is_bound_before_its_turns(rt: HostRuntime) -> Result<(), Fail> {
-    assert!(rt; is_served_at(&rt, ANY, 0, Status::Done, "")?);
+    assert!(rt; is_served_at(&rt, ANY, 0, JobStatus::Done, "")?);
     let Ok(taken) = UdpLink::bind(&rt, ANY, 1) else {
         panic!(rt; "no socket");
     };
-    assert!(rt; is_served_at(&rt, taken.local(), 1, Status::Failed, "link bind\n")?);
+    assert!(rt; is_served_at(&rt, taken.local(), 1, JobStatus::Failed, "link bind\n")?);
     Ok(())
 }

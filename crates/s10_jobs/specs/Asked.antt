@@ -7,12 +7,12 @@ use Rattle.s10_wire.specs.Reply.{request_of, outcome_of}
 use Rattle.s10_lines.specs.Lines.{line_of, reply_line}
 use Rattle.s10_ends.specs.declared.call_fault.CallFault.{CallFault}
 use Rattle.s10_ends.specs.declared.call_fault.CallFault.TheVariants.{Submit, GaveUp, Link}
-use Rattle.s10_jobs.specs.declared.status.Status.{Status}
-use Rattle.s10_jobs.specs.declared.status.Status.TheVariants.{Done, Refused, CommandLine, Failed}
+use Rattle.s10_jobs.specs.declared.job_status.JobStatus.{JobStatus}
+use Rattle.s10_jobs.specs.declared.job_status.JobStatus.TheVariants.{Done, Refused, CommandLine, Failed}
 use Rattle.s10_jobs.specs.Words.{link_fault_words}
 
 -- the first six outcomes say that what was asked was done
-abbrev pub outcome_status : Outcome → Status
+abbrev pub outcome_status : Outcome → JobStatus
 outcome_status (Granted range) = Done
 outcome_status (Drawn day id) = Done
 outcome_status (DrawnMany day ids) = Done
@@ -31,7 +31,7 @@ outcome_status NoSuchRange = Refused
 outcome_status Closed = Refused
 outcome_status NumberReused = Refused
 
-abbrev pub asked_status : Result Reply CallFault → Status
+abbrev pub asked_status : Result Reply CallFault → JobStatus
 asked_status (Ok reply) = outcome_status (outcome_of reply)
 asked_status (Err (Submit fault)) = CommandLine
 asked_status (Err (GaveUp q)) = Failed

@@ -26,8 +26,8 @@ abbrev pub without_return : List ℕ → List ℕ
 without_return line = if slice_index line (length line - 1) == 13 then take (length line - 1) line else line
 
 -- DAY: one to ten digits, at most 4294967295
-abbrev pub day_in : List ℕ → Option ℕ
-day_in text =
+abbrev pub day_of_text : List ℕ → Option ℕ
+day_of_text text =
     if nat_le 1 (length text) && nat_le (length text) 10 && list_all is_ascii_digit text && nat_lt (number_of text) (2 ^ 32)
     then Some (number_of text) else None
 
@@ -43,7 +43,7 @@ dated_by None bytes = None
 -- what stands before a space and behind it
 abbrev pub parted_at : Option ℕ → List ℕ → Option Dated
 parted_at None text = None
-parted_at (Some at) text = dated_by (day_in (take at text)) (bytes_in (drop (at + 1) text))
+parted_at (Some at) text = dated_by (day_of_text (take at text)) (bytes_in (drop (at + 1) text))
 
 -- the delivery that a line hands in: DAY, one space, HEX
 abbrev pub delivery_in : List ℕ → Option Dated

@@ -22,15 +22,15 @@ refusal_words refused.Country = codes "country" ∷ []
 refusal_words (refused.Text fault) = text_fault_words fault
 
 -- the body asks what the words say
-abbrev pub IsBody : BodyWords → Body → Type 0
-IsBody (Grant holder service country first last) (asked.Grant h s c f l) =
+abbrev pub WordsAsk : BodyWords → Body → Type 0
+WordsAsk (Grant holder service country first last) (asked.Grant h s c f l) =
     (h ≡ holder) × (letters_of s ≡ service.now) × (letters_of c ≡ country.now) × (f ≡ first) × (l ≡ last)
-IsBody (Draw service country) (asked.Draw s c) = (letters_of s ≡ service.now) × (letters_of c ≡ country.now)
-IsBody (DrawMany service country count) (asked.DrawMany s c n) = (letters_of s ≡ service.now) × (letters_of c ≡ country.now) × (n ≡ count)
-IsBody (Withdraw range) (asked.Withdraw num) = num ≡ range
-IsBody (Void id) (asked.Void x) = SpellsLoosely id.now x
-IsBody (Query id) (asked.Query x) = SpellsLoosely id.now x
-IsBody words body = ⊥
+WordsAsk (Draw service country) (asked.Draw s c) = (letters_of s ≡ service.now) × (letters_of c ≡ country.now)
+WordsAsk (DrawMany service country count) (asked.DrawMany s c n) = (letters_of s ≡ service.now) × (letters_of c ≡ country.now) × (n ≡ count)
+WordsAsk (Withdraw range) (asked.Withdraw num) = num ≡ range
+WordsAsk (Void id) (asked.Void x) = SpellsLoosely id.now x
+WordsAsk (Query id) (asked.Query x) = SpellsLoosely id.now x
+WordsAsk words body = ⊥
 
 -- the service is read before the country
 abbrev pub IsPairRefusal : List ℕ → List ℕ → Refusal → Type 0
@@ -57,8 +57,8 @@ abbrev pub IsPeerText : List ℕ → Type 0
 IsPeerText text = (p : Peer) × SpellsPeer text p
 
 -- the server's address is read before the body
-abbrev pub IsRefusal : Question → Refusal → Type 0
-IsRefusal question refused.Peer = ¬ IsPeerText question.to.now
-IsRefusal question refused.Service = IsPeerText question.to.now × IsBodyRefusal question.body refused.Service
-IsRefusal question refused.Country = IsPeerText question.to.now × IsBodyRefusal question.body refused.Country
-IsRefusal question (refused.Text fault) = IsPeerText question.to.now × IsBodyRefusal question.body (refused.Text fault)
+abbrev pub IsQuestionRefusal : Question → Refusal → Type 0
+IsQuestionRefusal question refused.Peer = ¬ IsPeerText question.to.now
+IsQuestionRefusal question refused.Service = IsPeerText question.to.now × IsBodyRefusal question.body refused.Service
+IsQuestionRefusal question refused.Country = IsPeerText question.to.now × IsBodyRefusal question.body refused.Country
+IsQuestionRefusal question (refused.Text fault) = IsPeerText question.to.now × IsBodyRefusal question.body (refused.Text fault)

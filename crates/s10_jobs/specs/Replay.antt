@@ -11,8 +11,8 @@ use Rattle.s10_jobs.specs.LineReader.{BeginsLine}
 use Rattle.s10_jobs.specs.AnswerLines.{shown}
 use Rattle.s10_jobs.specs.declared.replay_fault.ReplayFault.{ReplayFault}
 use Rattle.s10_jobs.specs.declared.replay_fault.ReplayFault.TheVariants.{Line, Read, Write}
-use Rattle.s10_jobs.specs.declared.status.Status.{Status}
-use Rattle.s10_jobs.specs.declared.status.Status.TheVariants.{Done}
+use Rattle.s10_jobs.specs.declared.job_status.JobStatus.{JobStatus}
+use Rattle.s10_jobs.specs.declared.job_status.JobStatus.TheVariants.{Done}
 use Rattle.s10_jobs.specs.Words.{replay_fault_line, replay_fault_status}
 
 -- what was written behind what the output held is the lines of answers that serve exactly the deliveries of the lines,
@@ -48,6 +48,6 @@ Replayed h t bytes left held None (Err Write) h' = ⊤
 Replayed h t bytes left held None result h' = ⊥
 
 -- a whole replay is all that is written; behind one that ended early stands the line of what ended it
-abbrev pub TellsReplay : Result ℕ ReplayFault → Option (List ℕ) → Option (List ℕ) → Result Status WriteFault → Type 0
+abbrev pub TellsReplay : Result ℕ ReplayFault → Option (List ℕ) → Option (List ℕ) → Result JobStatus WriteFault → Type 0
 TellsReplay (Ok count) between new result = (result ≡ Ok Done) × (new ≡ between)
 TellsReplay (Err fault) between new result = IfOk result (λ status. (status ≡ replay_fault_status fault) × Appends between new (replay_fault_line fault))

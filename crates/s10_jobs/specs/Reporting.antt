@@ -10,8 +10,8 @@ use Rattle.s10_history.specs.Settings.{Terms}
 use Rattle.s10_reports.specs.Reports.{joined, ranges_report, issues_report}
 use Rattle.s10_jobs.specs.declared.reporting.Report.{Report}
 use Rattle.s10_jobs.specs.declared.reporting.Report.TheVariants.{Ranges, Issues}
-use Rattle.s10_jobs.specs.declared.status.Status.{Status}
-use Rattle.s10_jobs.specs.declared.status.Status.TheVariants.{Done, Refused, CommandLine, Failed}
+use Rattle.s10_jobs.specs.declared.job_status.JobStatus.{JobStatus}
+use Rattle.s10_jobs.specs.declared.job_status.JobStatus.TheVariants.{Done, Refused, CommandLine, Failed}
 use Rattle.s10_jobs.specs.Words.{book_fault_words}
 
 -- the lines of a report of a history
@@ -30,7 +30,7 @@ abbrev pub EndsByWriter : Faults → Faults → Option (List ℕ) → Type 0
 EndsByWriter was now new = (now ≡ was) × ((before : Option (List ℕ)) × Appends before new (codes "output\n"))
 
 -- the whole report where it is done, by the faults that the book had counted before it and has behind it
-abbrev pub PrintsReport : Faults → Faults → Option (List ℕ) → Option (List ℕ) → List (List ℕ) → Status → Type 0
+abbrev pub PrintsReport : Faults → Faults → Option (List ℕ) → Option (List ℕ) → List (List ℕ) → JobStatus → Type 0
 PrintsReport was now old new lines Done = (now ≡ was) × Appends old new (joined lines)
 PrintsReport was now old new lines Refused = ⊥
 PrintsReport was now old new lines CommandLine = ⊥

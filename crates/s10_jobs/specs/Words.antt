@@ -14,8 +14,8 @@ use Rattle.s10_link.specs.declared.link_fault.LinkFault.TheVariants.{Bind, Recei
 use Rattle.s10_rows.specs.declared.open_fault.OpenFault.{OpenFault}
 use Rattle.s10_rows.specs.declared.open_fault.OpenFault.TheVariants.{NotALedger, Schema, Damaged, NotEmpty, Memory as NoMemory, Store as NotStored}
 use Rattle.s10_lines.specs.Lines.{line_of}
-use Rattle.s10_jobs.specs.declared.status.Status.{Status}
-use Rattle.s10_jobs.specs.declared.status.Status.TheVariants.{Refused, Failed}
+use Rattle.s10_jobs.specs.declared.job_status.JobStatus.{JobStatus}
+use Rattle.s10_jobs.specs.declared.job_status.JobStatus.TheVariants.{Refused, Failed}
 use Rattle.s10_jobs.specs.declared.replay_fault.ReplayFault.{ReplayFault}
 use Rattle.s10_jobs.specs.declared.replay_fault.ReplayFault.TheVariants.{Line, Read, Write}
 
@@ -70,7 +70,7 @@ replay_fault_line Read = codes "input\n"
 replay_fault_line Write = codes "output\n"
 
 -- a refused line is refused by a rule, all else failed
-abbrev pub replay_fault_status : ReplayFault → Status
+abbrev pub replay_fault_status : ReplayFault → JobStatus
 replay_fault_status (Line number) = Refused
 replay_fault_status Read = Failed
 replay_fault_status Write = Failed

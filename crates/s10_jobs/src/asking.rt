@@ -8,8 +8,8 @@ ghost use Rattle.s10_ends.specs.declared.call_fault.CallFault.{CallFault};
 ghost use Rattle.s10_ends.specs.Calls.{Calls};
 ghost use Rattle.s10_jobs.specs.Asked.{outcome_status, asked_status, asked_line};
 
+use crate::job_status::JobStatus;
 use crate::link_fault::write_link_fault;
-use crate::status::Status;
 use s10_ends::{CallFault, Client, call};
 use s10_lines::{WriteFault, write_reply_line, write_text};
 use s10_link::{Link, Peer};
@@ -27,7 +27,7 @@ pub fn ask<L: Link, W: Write>(
     body: Body,
     tries: u32,
     out: &mut W,
-) -> Result<Status, WriteFault>
+) -> Result<JobStatus, WriteFault>
     requires { (1 ≤ tries) × (tries ≤ 100) }
     ensures asked { (called : Result Reply CallFault)
         × Calls client.old client.new (L.trace_of link.old) (L.trace_of link.new) to body tries called
@@ -42,7 +42,7 @@ pub fn ask<L: Link, W: Write>(
 fn write_called<W: Write>(
     called: &Result<Reply, CallFault>,
     out: &mut W,
-) -> Result<Status, WriteFault>
+) -> Result<JobStatus, WriteFault>
     ensures { IfOk result (λ status. (status ≡ asked_status called.now)
         × Appends (W.contents out.old) (W.contents out.new) (asked_line called.now)) }
 {
@@ -51,20 +51,20 @@ fn write_called<W: Write>(
             write_reply_line(reply, out)?;
             Ok(status_of(&reply.outcome()))
         }
-        Err(CallFault::Submit(_)) => Ok(Status::CommandLine),
+        Err(CallFault::Submit(_)) => Ok(JobStatus::CommandLine),
         Err(CallFault::GaveUp(_)) => {
             write_text(b"gave-up\n", out)?;
-            Ok(Status::Failed)
+            Ok(JobStatus::Failed)
         }
         Err(CallFault::Link(_, fault)) => {
             write_link_fault(*fault, out)?;
-            Ok(Status::Failed)
+            Ok(JobStatus::Failed)
         }
     }
 }
 
 // Whether the outcome says that what was asked was done.
-fn status_of(outcome: &Outcome) -> Status
+fn status_of(outcome: &Outcome) -> JobStatus
     ensures { result ≡ outcome_status outcome.now }
 {
     match outcome {
@@ -73,7 +73,7 @@ fn status_of(outcome: &Outcome) -> Status
         | Outcome::DrawnMany { .. }
         | Outcome::Voided
         | Outcome::Told(_)
-        | Outcome::Withdrawn => Status::Done,
-        _ => Status::Refused,
+        | Outcome::Withdrawn => JobStatus::Done,
+        _ => JobStatus::Refused,
     }
 }

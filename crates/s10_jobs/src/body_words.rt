@@ -42,12 +42,12 @@ pub enum BodyWords<'a> {
 
 impl BodyWords<'_> {
     ghost use Rattle.std.specs.Prelude.{IfOk, IfErr};
-    ghost use Rattle.s10_jobs.specs.Questions.{IsBody, IsBodyRefusal};
+    ghost use Rattle.s10_jobs.specs.Questions.{WordsAsk, IsBodyRefusal};
 
     /// Reads the texts: the service before the country, an identifier as on a label. Refused with
     /// the first that does not read.
     pub fn read(&self) -> Result<Body, Refusal>
-        ensures ok { IfOk result (IsBody self.now) }
+        ensures ok { IfOk result (WordsAsk self.now) }
         ensures refused { IfErr result (IsBodyRefusal self.now) }
     {
         match *self {

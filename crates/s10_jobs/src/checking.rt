@@ -8,19 +8,19 @@ ghost use Rattle.s10_core.specs.TextFault.{IsFirstRefusal};
 ghost use Rattle.s10_jobs.specs.Words.{text_fault_words};
 ghost use Rattle.s10_jobs.specs.Lines.{text_read, valid_line, refused_line};
 
+use crate::job_status::JobStatus;
 use crate::refusals::refuse_text;
-use crate::status::Status;
 use crate::words::group_word;
 use s10_core::{Id, TextFault};
 use s10_lines::{WriteFault, write_text, write_word};
 use std::io::Write;
 
 /// Writes the line of a text.
-pub fn check<W: Write>(text: &str, is_label: bool, out: &mut W) -> Result<Status, WriteFault>
+pub fn check<W: Write>(text: &str, is_label: bool, out: &mut W) -> Result<JobStatus, WriteFault>
     ensures valid { (id : Id) → Spells (text_read is_label text.now) id → IfOk result (λ status.
-        (status ≡ Status.Done) × Appends (W.contents out.old) (W.contents out.new) (valid_line id)) }
+        (status ≡ JobStatus.Done) × Appends (W.contents out.old) (W.contents out.new) (valid_line id)) }
     ensures refused { (fault : TextFault) → IsFirstRefusal (text_read is_label text.now) fault → IfOk result (λ status.
-        (status ≡ Status.Refused) × Appends (W.contents out.old) (W.contents out.new) (refused_line (text_fault_words fault))) }
+        (status ≡ JobStatus.Refused) × Appends (W.contents out.old) (W.contents out.new) (refused_line (text_fault_words fault))) }
 {
     match read(text, is_label) {
         Ok(id) => write_valid(&id, out),
@@ -39,13 +39,13 @@ fn read(text: &str, is_label: bool) -> Result<Id, TextFault>
     }
 }
 
-fn write_valid<W: Write>(id: &Id, out: &mut W) -> Result<Status, WriteFault>
+fn write_valid<W: Write>(id: &Id, out: &mut W) -> Result<JobStatus, WriteFault>
     ensures { IfOk result (λ status.
-        (status ≡ Status.Done) × Appends (W.contents out.old) (W.contents out.new) (valid_line id.now)) }
+        (status ≡ JobStatus.Done) × Appends (W.contents out.old) (W.contents out.new) (valid_line id.now)) }
 {
     write_text(&id.write(), out)?;
     write_word(b"valid", out)?;
     write_word(group_word(id.service.group()).as_bytes(), out)?;
     write_text(b"\n", out)?;
-    Ok(Status::Done)
+    Ok(JobStatus::Done)
 }

@@ -5,7 +5,7 @@ ghost use Rattle.std.specs.Option.{option_map};
 ghost use Rattle.std.specs.Char.{IsAsciiDigit, is_ascii_digit};
 ghost use Rattle.s10_core.specs.Serial.{number_of};
 ghost use Rattle.s10_ends.specs.Runs.{dated};
-ghost use Rattle.s10_jobs.specs.InputLines.{without_return, day_in, bytes_in, delivery_in};
+ghost use Rattle.s10_jobs.specs.InputLines.{without_return, day_of_text, bytes_in, delivery_in};
 
 use s10_ends::Delivery;
 use s10_link::Packet;
@@ -42,7 +42,7 @@ fn are_digits(text: &[u8]) -> bool
 
 // A day: one to ten digits, at most 4294967295.
 fn read_day(text: &[u8]) -> Option<u32>
-    ensures { result ≡ day_in text.now }
+    ensures { result ≡ day_of_text text.now }
 {
     if text.is_empty() || text.len() > 10 || !are_digits(text) {
         return None;

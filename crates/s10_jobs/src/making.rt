@@ -4,9 +4,9 @@ ghost use Rattle.std.specs.Io.KnownBytes.{Appends};
 ghost use Rattle.s10_core.specs.Serial.{AreEightDigits};
 ghost use Rattle.s10_jobs.specs.Lines.{AreTwoCapitals, made_line, refused_line};
 
+use crate::job_status::JobStatus;
 use crate::parts::{read_country, read_service};
 use crate::refusals::refuse;
-use crate::status::Status;
 use s10_core::{Id, Serial};
 use s10_lines::{WriteFault, write_text};
 use std::io::Write;
@@ -17,16 +17,16 @@ pub fn make<W: Write>(
     serial: &str,
     country: &str,
     out: &mut W,
-) -> Result<Status, WriteFault>
+) -> Result<JobStatus, WriteFault>
     ensures made { AreTwoCapitals service.now → AreEightDigits serial.now → AreTwoCapitals country.now → IfOk result (λ status.
-        (status ≡ Status.Done)
+        (status ≡ JobStatus.Done)
         × Appends (W.contents out.old) (W.contents out.new) (made_line service.now serial.now country.now)) }
     ensures service { ¬ AreTwoCapitals service.now → IfOk result (λ status.
-        (status ≡ Status.Refused) × Appends (W.contents out.old) (W.contents out.new) (refused_line (codes "service" ∷ []))) }
+        (status ≡ JobStatus.Refused) × Appends (W.contents out.old) (W.contents out.new) (refused_line (codes "service" ∷ []))) }
     ensures serial { AreTwoCapitals service.now → ¬ AreEightDigits serial.now → IfOk result (λ status.
-        (status ≡ Status.Refused) × Appends (W.contents out.old) (W.contents out.new) (refused_line (codes "serial" ∷ []))) }
+        (status ≡ JobStatus.Refused) × Appends (W.contents out.old) (W.contents out.new) (refused_line (codes "serial" ∷ []))) }
     ensures country { AreTwoCapitals service.now → AreEightDigits serial.now → ¬ AreTwoCapitals country.now → IfOk result (λ status.
-        (status ≡ Status.Refused) × Appends (W.contents out.old) (W.contents out.new) (refused_line (codes "country" ∷ []))) }
+        (status ≡ JobStatus.Refused) × Appends (W.contents out.old) (W.contents out.new) (refused_line (codes "country" ∷ []))) }
 {
     let Some(service) = read_service(service) else {
         return refuse(b"service", out);
@@ -44,5 +44,5 @@ pub fn make<W: Write>(
     };
     write_text(&id.write(), out)?;
     write_text(b"\n", out)?;
-    Ok(Status::Done)
+    Ok(JobStatus::Done)
 }

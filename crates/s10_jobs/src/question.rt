@@ -19,13 +19,13 @@ pub struct Question<'a> {
 impl Question<'_> {
     ghost use Rattle.std.specs.Prelude.{IfOk, IfErr};
     ghost use Rattle.s10_link.specs.Peer.{SpellsPeer};
-    ghost use Rattle.s10_jobs.specs.Questions.{IsBody, IsRefusal};
+    ghost use Rattle.s10_jobs.specs.Questions.{WordsAsk, IsQuestionRefusal};
 
     /// Reads the texts: the server's address before the body's. Refused with the first that does
     /// not read.
     pub fn read(&self) -> Result<(Peer, Body), Refusal>
-        ensures ok { IfOk result (λ read. SpellsPeer self.now.to.now read.0 × IsBody self.now.body read.1) }
-        ensures refused { IfErr result (IsRefusal self.now) }
+        ensures ok { IfOk result (λ read. SpellsPeer self.now.to.now read.0 × WordsAsk self.now.body read.1) }
+        ensures refused { IfErr result (IsQuestionRefusal self.now) }
     {
         let Some(to) = Peer::read(self.to.as_bytes()) else {
             return Err(Refusal::Peer);

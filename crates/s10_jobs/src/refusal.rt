@@ -5,8 +5,8 @@ ghost use Rattle.std.specs.Io.KnownBytes.{Appends};
 ghost use Rattle.s10_jobs.specs.Lines.{refused_line};
 ghost use Rattle.s10_jobs.specs.Questions.{refusal_words};
 
+use crate::job_status::JobStatus;
 use crate::refusals::{refuse, refuse_text};
-use crate::status::Status;
 use s10_core::TextFault;
 use s10_lines::WriteFault;
 use std::io::Write;
@@ -25,8 +25,8 @@ pub enum Refusal {
 }
 
 /// Writes the line of a refusal.
-pub fn write_refusal<W: Write>(refusal: Refusal, out: &mut W) -> Result<Status, WriteFault>
-    ensures { IfOk result (λ status. (status ≡ Status.Refused)
+pub fn write_refusal<W: Write>(refusal: Refusal, out: &mut W) -> Result<JobStatus, WriteFault>
+    ensures { IfOk result (λ status. (status ≡ JobStatus.Refused)
         × Appends (W.contents out.old) (W.contents out.new) (refused_line (refusal_words refusal))) }
 {
     match refusal {

@@ -4,7 +4,7 @@ ghost use Rattle.std.specs.Io.KnownBytes.{Appends};
 ghost use Rattle.s10_jobs.specs.Words.{text_fault_words, wire_fault_words};
 ghost use Rattle.s10_jobs.specs.Lines.{refused_line};
 
-use crate::status::Status;
+use crate::job_status::JobStatus;
 use crate::words::{write_text_fault, write_wire_fault};
 use s10_core::TextFault;
 use s10_lines::{WriteFault, write_text, write_word};
@@ -12,34 +12,34 @@ use s10_wire::WireFault;
 use std::io::Write;
 
 /// Refuses what the word names.
-pub fn refuse<W: Write>(word: &[u8], out: &mut W) -> Result<Status, WriteFault>
-    ensures { IfOk result (λ status. (status ≡ Status.Refused)
+pub fn refuse<W: Write>(word: &[u8], out: &mut W) -> Result<JobStatus, WriteFault>
+    ensures { IfOk result (λ status. (status ≡ JobStatus.Refused)
         × Appends (W.contents out.old) (W.contents out.new) (refused_line (word.now ∷ []))) }
 {
     write_text(b"refused", out)?;
     write_word(word, out)?;
     write_text(b"\n", out)?;
-    Ok(Status::Refused)
+    Ok(JobStatus::Refused)
 }
 
 /// Refuses a text that spells no identifier.
-pub fn refuse_text<W: Write>(fault: TextFault, out: &mut W) -> Result<Status, WriteFault>
-    ensures { IfOk result (λ status. (status ≡ Status.Refused)
+pub fn refuse_text<W: Write>(fault: TextFault, out: &mut W) -> Result<JobStatus, WriteFault>
+    ensures { IfOk result (λ status. (status ≡ JobStatus.Refused)
         × Appends (W.contents out.old) (W.contents out.new) (refused_line (text_fault_words fault))) }
 {
     write_text(b"refused", out)?;
     write_text_fault(fault, out)?;
     write_text(b"\n", out)?;
-    Ok(Status::Refused)
+    Ok(JobStatus::Refused)
 }
 
 /// Refuses bytes that are no datagram.
-pub fn refuse_datagram<W: Write>(fault: WireFault, out: &mut W) -> Result<Status, WriteFault>
-    ensures { IfOk result (λ status. (status ≡ Status.Refused)
+pub fn refuse_datagram<W: Write>(fault: WireFault, out: &mut W) -> Result<JobStatus, WriteFault>
+    ensures { IfOk result (λ status. (status ≡ JobStatus.Refused)
         × Appends (W.contents out.old) (W.contents out.new) (refused_line (wire_fault_words fault))) }
 {
     write_text(b"refused", out)?;
     write_wire_fault(fault, out)?;
     write_text(b"\n", out)?;
-    Ok(Status::Refused)
+    Ok(JobStatus::Refused)
 }

@@ -2,7 +2,7 @@ ghost use Rattle.std.specs.Prelude.{◌≡◌, IfOk};
 ghost use Rattle.std.specs.Io.KnownBytes.{Appends};
 ghost use Rattle.s10_jobs.specs.Words.{replay_fault_line, replay_fault_status};
 
-use crate::status::Status;
+use crate::job_status::JobStatus;
 use s10_lines::{WriteFault, write_decimal, write_text, write_word};
 use std::io::Write;
 use thiserror::Error;
@@ -23,7 +23,10 @@ pub enum ReplayFault {
 
 /// Writes the line of a replay that ended early, and answers its status: Refused for a line that is refused, else
 /// Failed.
-pub fn write_replay_fault<W: Write>(fault: ReplayFault, out: &mut W) -> Result<Status, WriteFault>
+pub fn write_replay_fault<W: Write>(
+    fault: ReplayFault,
+    out: &mut W,
+) -> Result<JobStatus, WriteFault>
     ensures { IfOk result (λ status. (status ≡ replay_fault_status fault)
         × Appends (W.contents out.old) (W.contents out.new) (replay_fault_line fault)) }
 {
@@ -33,10 +36,10 @@ pub fn write_replay_fault<W: Write>(fault: ReplayFault, out: &mut W) -> Result<S
             write_word(b"line", out)?;
             write_decimal(number, out)?;
             write_text(b"\n", out)?;
-            return Ok(Status::Refused);
+            return Ok(JobStatus::Refused);
         }
         ReplayFault::Read => write_text(b"input\n", out)?,
         ReplayFault::Write => write_text(b"output\n", out)?,
     }
-    Ok(Status::Failed)
+    Ok(JobStatus::Failed)
 }

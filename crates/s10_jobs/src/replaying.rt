@@ -7,9 +7,9 @@ ghost use Rattle.s10_jobs.specs.declared.replay_fault.ReplayFault.{ReplayFault};
 
 use crate::answer_line::write_answer;
 use crate::delivery_line::{read_delivery, without_return};
+use crate::job_status::JobStatus;
 use crate::line_reader::{LINE_ROOM, NextLine, next_byte, read_line};
 use crate::replay_fault::{ReplayFault, write_replay_fault};
-use crate::status::Status;
 use s10_book::Book;
 use s10_ends::Server;
 use s10_history::Settings;
@@ -92,13 +92,13 @@ pub fn run_replay<R: Read, W: Write>(
     settings: Settings,
     input: &mut R,
     output: &mut W,
-) -> Result<Status, WriteFault>
+) -> Result<JobStatus, WriteFault>
     ensures { IfSome (R.remaining input.old) (λ bytes. IfSome (W.contents output.old) (λ held.
         (after : List Entry) × (replayed : Result ℕ ReplayFault) × (between : Option (List ℕ))
         × Replayed [] settings bytes (R.remaining input.new) held between replayed after × TellsReplay replayed between (W.contents output.new) result)) }
 {
     match replay(alloc, settings, input, output) {
-        Ok(_) => Ok(Status::Done),
+        Ok(_) => Ok(JobStatus::Done),
         Err(fault) => write_replay_fault(fault, output),
     }
 }

@@ -6,7 +6,7 @@ ghost use Rattle.std.specs.Prelude.{IfOk};
 
 use crate::answer_line::write_faulted;
 use crate::day::day_or_today;
-use crate::status::Status;
+use crate::job_status::JobStatus;
 use s10_book::Book;
 use s10_lines::{WriteFault, write_text};
 use s10_reports::{ReportFault, write_issues, write_ranges};
@@ -46,7 +46,7 @@ pub fn write_report<B: Book, W: Write>(
     book: &mut B,
     report: Report,
     out: &mut W,
-) -> Result<Status, WriteFault>
+) -> Result<JobStatus, WriteFault>
     ensures keeps { Keeps B.history B.terms B.honest book.old book.new }
     ensures written { B.honest book.new → IfOk result (PrintsReport (B.faults book.old) (B.faults book.new) (W.contents out.old) (W.contents out.new)
         (report_lines report (B.history book.old) (B.terms book.old))) }
@@ -56,9 +56,9 @@ pub fn write_report<B: Book, W: Write>(
         Report::Issues => write_issues(book, out),
     };
     match written {
-        Ok(()) => return Ok(Status::Done),
+        Ok(()) => return Ok(JobStatus::Done),
         Err(ReportFault::Book(fault)) => write_faulted(fault, out)?,
         Err(ReportFault::Write) => write_text(b"output\n", out)?,
     }
-    Ok(Status::Failed)
+    Ok(JobStatus::Failed)
 }

@@ -6,15 +6,15 @@ ghost use Rattle.s10_jobs.specs.InputLines.{bytes_in};
 ghost use Rattle.s10_jobs.specs.Shown.{is_marked_reply, IsRequestShown, IsReplyShown, IsShown, Prints};
 
 use crate::delivery_line::read_bytes;
+use crate::job_status::JobStatus;
 use crate::refusals::{refuse, refuse_datagram};
-use crate::status::Status;
 use s10_lines::{WriteFault, write_reply_line, write_request_line};
 use s10_wire::{decode_reply, decode_request};
 use std::io::Write;
 
 /// Writes the line of the datagram that the hexadecimal digits stand for.
-pub fn show<W: Write>(text: &str, out: &mut W) -> Result<Status, WriteFault>
-    ensures hex { bytes_in text.now ≡ None → IfOk result (λ status. (status ≡ Status.Refused)
+pub fn show<W: Write>(text: &str, out: &mut W) -> Result<JobStatus, WriteFault>
+    ensures hex { bytes_in text.now ≡ None → IfOk result (λ status. (status ≡ JobStatus.Refused)
         × Appends (W.contents out.old) (W.contents out.new) (refused_line (codes "hex" ∷ []))) }
     ensures datagram { (bytes : List ℕ) → bytes_in text.now ≡ Some bytes → IfOk result (λ status.
         Prints (W.contents out.old) (W.contents out.new) (IsShown bytes status)) }
@@ -25,7 +25,7 @@ pub fn show<W: Write>(text: &str, out: &mut W) -> Result<Status, WriteFault>
     }
 }
 
-fn show_datagram<W: Write>(bytes: &[u8], out: &mut W) -> Result<Status, WriteFault>
+fn show_datagram<W: Write>(bytes: &[u8], out: &mut W) -> Result<JobStatus, WriteFault>
     ensures { IfOk result (λ status. Prints (W.contents out.old) (W.contents out.new) (IsShown bytes.now status)) }
 {
     if is_reply(bytes) {
@@ -41,25 +41,25 @@ fn is_reply(bytes: &[u8]) -> bool
     bytes.len() >= 4 && bytes[3] >= 0x80
 }
 
-fn show_request<W: Write>(bytes: &[u8], out: &mut W) -> Result<Status, WriteFault>
+fn show_request<W: Write>(bytes: &[u8], out: &mut W) -> Result<JobStatus, WriteFault>
     ensures { IfOk result (λ status. Prints (W.contents out.old) (W.contents out.new) (IsRequestShown bytes.now status)) }
 {
     match decode_request(bytes) {
         Ok(request) => {
             write_request_line(&request, out)?;
-            Ok(Status::Done)
+            Ok(JobStatus::Done)
         }
         Err(fault) => refuse_datagram(fault, out),
     }
 }
 
-fn show_reply<W: Write>(bytes: &[u8], out: &mut W) -> Result<Status, WriteFault>
+fn show_reply<W: Write>(bytes: &[u8], out: &mut W) -> Result<JobStatus, WriteFault>
     ensures { IfOk result (λ status. Prints (W.contents out.old) (W.contents out.new) (IsReplyShown bytes.now status)) }
 {
     match decode_reply(bytes) {
         Ok(reply) => {
             write_reply_line(&reply, out)?;
-            Ok(Status::Done)
+            Ok(JobStatus::Done)
         }
         Err(fault) => refuse_datagram(fault, out),
     }

@@ -6,7 +6,7 @@ ghost use Rattle.s10_jobs.specs.TurnLines.{turn_line, replied_line};
 
 use crate::answer_line::{write_dropped, write_faulted, write_hex};
 use crate::link_fault::write_link_fault;
-use s10_ends::Served;
+use s10_ends::ServerTurn;
 use s10_lines::{WriteFault, write_text};
 use s10_link::LinkFault;
 use s10_wire::Frame;
@@ -14,14 +14,17 @@ use std::io::Write;
 
 /// Writes what a turn came to: `quiet`, `dropped` or `faulted` and why, `replied` and the reply in lower-case hex, or
 /// `link` and why. Peers are not told. A fault of the writer may leave part of the line written.
-pub fn write_turn<W: Write>(turn: &Result<Served, LinkFault>, out: &mut W) -> Result<(), WriteFault>
+pub fn write_turn<W: Write>(
+    turn: &Result<ServerTurn, LinkFault>,
+    out: &mut W,
+) -> Result<(), WriteFault>
     ensures { OnOk result (Appends (W.contents out.old) (W.contents out.new) (turn_line turn.now)) }
 {
     match turn {
-        Ok(Served::Quiet) => write_text(b"quiet\n", out),
-        Ok(Served::Dropped(_, fault)) => write_dropped(*fault, out),
-        Ok(Served::Faulted(_, fault)) => write_faulted(*fault, out),
-        Ok(Served::Replied(_, frame)) => write_replied(frame, out),
+        Ok(ServerTurn::Quiet) => write_text(b"quiet\n", out),
+        Ok(ServerTurn::Dropped(_, fault)) => write_dropped(*fault, out),
+        Ok(ServerTurn::Faulted(_, fault)) => write_faulted(*fault, out),
+        Ok(ServerTurn::Replied(_, frame)) => write_replied(frame, out),
         Err(fault) => write_link_fault(*fault, out),
     }
 }

@@ -3,7 +3,7 @@
 ghost use Rattle.std.specs.Prelude.{◌≡◌, ◌≢◌, None, Ok, OnOk, Result};
 ghost use Rattle.std.specs.Io.KnownBytes.{Appends};
 ghost use Rattle.s10_link.specs.declared.link_fault.LinkFault.{LinkFault};
-ghost use Rattle.s10_ends.specs.declared.served.Served.{Served};
+ghost use Rattle.s10_ends.specs.declared.server_turn.ServerTurn.{ServerTurn};
 ghost use Rattle.s10_ends.specs.Server.{book_of};
 ghost use Rattle.s10_ends.specs.Turn.{Handles, ServesOne};
 ghost use Rattle.s10_jobs.specs.TurnLines.{turn_line};
@@ -11,10 +11,10 @@ ghost use Rattle.s10_jobs.specs.Serving.{IsTurn, Serves};
 
 use crate::day::day_or_today;
 use crate::failures::fail_by_clock;
-use crate::status::Status;
+use crate::job_status::JobStatus;
 use crate::turn_line::write_turn;
 use s10_book::Book;
-use s10_ends::{Served, Server, serve_one};
+use s10_ends::{Server, ServerTurn, serve_one};
 use s10_lines::WriteFault;
 use s10_link::{Link, LinkFault};
 use std::io::Write;
@@ -30,11 +30,11 @@ pub fn serve_turns<R: Clock + Eprint, B: Book, L: Link, W: Write>(
     count: u32,
     day: Option<u32>,
     out: &mut W,
-) -> Result<Status, WriteFault>
+) -> Result<JobStatus, WriteFault>
     ensures turns { Serves (IsTurn B.faults B.honest B.terms B.history day)
         (L.trace_of link.old, book_of server.old) (L.trace_of link.new, book_of server.new)
         (W.contents out.old) (W.contents out.new) count result }
-    ensures given { day ≢ None → result ≢ Ok Status.Failed }
+    ensures given { day ≢ None → result ≢ Ok JobStatus.Failed }
 {
     for _done in 0..count {
         let Some(today) = day_or_today(rt, day) else {
@@ -42,7 +42,7 @@ pub fn serve_turns<R: Clock + Eprint, B: Book, L: Link, W: Write>(
         };
         serve_turn(rt, server, link, today, out)?;
     }
-    Ok(Status::Done)
+    Ok(JobStatus::Done)
 }
 
 fn serve_turn<R: Eprint, B: Book, L: Link, W: Write>(
@@ -52,7 +52,7 @@ fn serve_turn<R: Eprint, B: Book, L: Link, W: Write>(
     day: u32,
     out: &mut W,
 ) -> Result<(), WriteFault>
-    ensures { (turn : Result Served LinkFault)
+    ensures { (turn : Result ServerTurn LinkFault)
         × ServesOne (L.trace_of link.old) (L.trace_of link.new) (book_of server.new ≡ book_of server.old)
         (Handles B.faults B.honest B.terms B.history (book_of server.old) (book_of server.new) day) turn
         × OnOk result (Appends (W.contents out.old) (W.contents out.new) (turn_line turn)) }
@@ -67,8 +67,8 @@ fn serve_turn<R: Eprint, B: Book, L: Link, W: Write>(
 }
 
 // The turns go on where standard error is closed.
-fn tell_sender<R: Eprint>(rt: &R, turn: &Result<Served, LinkFault>) {
-    if let Ok(Served::Dropped(from, _)) = turn {
+fn tell_sender<R: Eprint>(rt: &R, turn: &Result<ServerTurn, LinkFault>) {
+    if let Ok(ServerTurn::Dropped(from, _)) = turn {
         let _ = eprintln!(rt; "dropped from {from}");
     }
 }

@@ -3,7 +3,7 @@
 use crate::refusing::Refusing;
 use s10_core::{Country, Service};
 use s10_ends::Client;
-use s10_jobs::{Status, ask};
+use s10_jobs::{JobStatus, ask};
 use s10_lines::WriteFault;
 use s10_link::{Packet, Peer, Receipt, ScriptLink};
 use s10_wire::Body;
@@ -41,7 +41,7 @@ fn is_told(
     alloc: Global,
     client: &mut Client,
     link: &mut ScriptLink,
-    status: Status,
+    status: JobStatus,
     line: &str,
 ) -> Result<bool, Fail> {
     let mut out = Vec::new(alloc);
@@ -55,14 +55,14 @@ fn is_asked_once(
     alloc: Global,
     receipts: &[Receipt],
     sends: &[bool],
-    status: Status,
+    status: JobStatus,
     line: &str,
 ) -> Result<bool, Fail> {
     let mut link = script(alloc, receipts, sends)?;
     let mut client = Client::new(7, 1, 1)?;
     Ok(
         is_told(alloc, &mut client, &mut link, status, line)?
-            && is_told(alloc, &mut client, &mut link, Status::CommandLine, "")?,
+            && is_told(alloc, &mut client, &mut link, JobStatus::CommandLine, "")?,
     )
 }
 
@@ -71,29 +71,34 @@ fn what_came_of_a_call_is_printed(rt: HostRuntime) -> Result<(), Fail> {
     let drawn = delivered(DRAWN);
     let drawn_late = delivered(DRAWN);
     let none_free = delivered(NONE_FREE);
-    let cases: [(&[Receipt], &[bool], Status, &str); 7] = [
+    let cases: [(&[Receipt], &[bool], JobStatus, &str); 7] = [
         (
             &[drawn],
             &[true],
-            Status::Done,
+            JobStatus::Done,
             "reply draw customer 7 number 1 RA GB done day 20000 RA000000005GB\n",
         ),
         (
             &[Receipt::Nothing, drawn_late],
             &[true, true],
-            Status::Done,
+            JobStatus::Done,
             "reply draw customer 7 number 1 RA GB done day 20000 RA000000005GB\n",
         ),
         (
             &[none_free],
             &[true],
-            Status::Refused,
+            JobStatus::Refused,
             "reply draw customer 7 number 1 RA GB none-free\n",
         ),
-        (&[], &[true, true], Status::Failed, "gave-up\n"),
-        (&[], &[false], Status::Failed, "link send\n"),
-        (&[Receipt::Fail], &[true], Status::Failed, "link receive\n"),
-        (&[], &[true], Status::Failed, "link spent\n"),
+        (&[], &[true, true], JobStatus::Failed, "gave-up\n"),
+        (&[], &[false], JobStatus::Failed, "link send\n"),
+        (
+            &[Receipt::Fail],
+            &[true],
+            JobStatus::Failed,
+            "link receive\n",
+        ),
+        (&[], &[true], JobStatus::Failed, "link spent\n"),
     ];
     for (receipts, sends, status, line) in cases {
         let is_asked = is_asked_once(rt.alloc(), receipts, sends, status, line)?;
@@ -118,7 +123,7 @@ fn has_sent(link: &ScriptLink, bytes: &[u8]) -> bool {
 
 /// Whether a withdrawal whose reply has this code sends its datagram once, has this status and prints
 /// this line.
-fn is_withdrawn(alloc: Global, code: u8, status: Status, line: &str) -> Result<bool, Fail> {
+fn is_withdrawn(alloc: Global, code: u8, status: JobStatus, line: &str) -> Result<bool, Fail> {
     let mut reply = WITHDRAWN;
     reply[16] = code;
     let mut link = script(alloc, &[delivered(&reply)], &[true])?;
@@ -134,31 +139,31 @@ fn what_came_of_a_withdrawal_is_printed(rt: HostRuntime) -> Result<(), Fail> {
     let cases = [
         (
             0,
-            Status::Done,
+            JobStatus::Done,
             "reply withdraw customer 0 number 2 1 done\n",
         ),
         (
             1,
-            Status::Refused,
+            JobStatus::Refused,
             "reply withdraw customer 0 number 2 1 not-the-post\n",
         ),
         (
             9,
-            Status::Refused,
+            JobStatus::Refused,
             "reply withdraw customer 0 number 2 1 number-reused\n",
         ),
         (
             10,
-            Status::Refused,
+            JobStatus::Refused,
             "reply withdraw customer 0 number 2 1 no-such-range\n",
         ),
         (
             11,
-            Status::Refused,
+            JobStatus::Refused,
             "reply withdraw customer 0 number 2 1 closed\n",
         ),
         // An overlap is nothing that a withdrawal comes to.
-        (3, Status::Failed, "gave-up\n"),
+        (3, JobStatus::Failed, "gave-up\n"),
     ];
     for (code, status, line) in cases {
         assert!(rt; is_withdrawn(rt.alloc(), code, status, line)?, "{code}");

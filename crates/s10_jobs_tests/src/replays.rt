@@ -1,7 +1,7 @@
 //! Replays of inputs over a new ledger.
 
 use s10_history::Settings;
-use s10_jobs::{ReplayFault, Status, replay, run_replay};
+use s10_jobs::{JobStatus, ReplayFault, replay, run_replay};
 use std::alloc::{AllocError, Global};
 use std::io;
 use std::io::{ErrorKind, Read, Write};
@@ -358,7 +358,7 @@ fn a_refused_line_is_no_unreadable_input(rt: HostRuntime) -> Result<(), Fail> {
 }
 
 /// Whether a replay of a reader that fails after these bytes has this status, and writes this text.
-fn is_run_until(alloc: Global, bytes: &[u8], want: Status, text: &str) -> Result<bool, Fail> {
+fn is_run_until(alloc: Global, bytes: &[u8], want: JobStatus, text: &str) -> Result<bool, Fail> {
     let mut input = Failing {
         bytes,
         is_interrupted: false,
@@ -370,12 +370,16 @@ fn is_run_until(alloc: Global, bytes: &[u8], want: Status, text: &str) -> Result
 
 #[test]
 fn an_input_that_fails_has_its_line_and_status(rt: HostRuntime) -> Result<(), Fail> {
-    let cases: [(&[u8], Status, &str); 3] = [
-        (b"20000 \n", Status::Failed, "dropped short\ninput\n"),
-        (b"20000 \n20000 5", Status::Failed, "dropped short\ninput\n"),
+    let cases: [(&[u8], JobStatus, &str); 3] = [
+        (b"20000 \n", JobStatus::Failed, "dropped short\ninput\n"),
+        (
+            b"20000 \n20000 5",
+            JobStatus::Failed,
+            "dropped short\ninput\n",
+        ),
         (
             b"20000 \n20000 5\n",
-            Status::Refused,
+            JobStatus::Refused,
             "dropped short\nrefused line 2\n",
         ),
     ];

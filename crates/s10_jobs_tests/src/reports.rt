@@ -4,7 +4,7 @@ use crate::refusing::Refusing;
 use s10_book::{Book, PlainBook, TripBook};
 use s10_ends::Server;
 use s10_history::Settings;
-use s10_jobs::{Report, Status, write_report};
+use s10_jobs::{JobStatus, Report, write_report};
 use s10_lines::WriteFault;
 use std::alloc::Global;
 use std::io;
@@ -39,7 +39,7 @@ fn prints<B: Book>(
     alloc: Global,
     book: &mut B,
     report: Report,
-    status: Status,
+    status: JobStatus,
     text: &str,
 ) -> bool {
     let mut out = Vec::new(alloc);
@@ -52,7 +52,7 @@ fn reports_are_written_whole(rt: HostRuntime) -> Result<(), Fail> {
         let mut book = one_issue(rt.alloc())?;
         let report = Report::new(&rt, is_of_issues, Some(20_000)).ok_or("day")?;
         assert!(rt;
-            prints(rt.alloc(), &mut book, report, Status::Done, text),
+            prints(rt.alloc(), &mut book, report, JobStatus::Done, text),
             "{text}"
         );
     }
@@ -75,7 +75,7 @@ fn a_withdrawn_range_is_reported_as_closed(rt: HostRuntime) -> Result<(), Fail> 
     ] {
         let mut book = one_withdrawn(rt.alloc())?;
         assert!(rt;
-            prints(rt.alloc(), &mut book, report, Status::Done, text),
+            prints(rt.alloc(), &mut book, report, JobStatus::Done, text),
             "{text}"
         );
     }
@@ -106,7 +106,7 @@ fn a_fault_of_the_book_ends_a_report(rt: HostRuntime) -> Result<(), Fail> {
     for (report, text) in cases {
         let mut book = TripBook::new(one_issue(rt.alloc())?, 0);
         assert!(rt;
-            prints(rt.alloc(), &mut book, report, Status::Failed, text),
+            prints(rt.alloc(), &mut book, report, JobStatus::Failed, text),
             "{text}"
         );
     }
@@ -142,7 +142,7 @@ fn is_told_to_have_ended(alloc: Global) -> Result<bool, Fail> {
         bytes: Vec::new(alloc),
     };
     let written = write_report(&mut book, Report::Issues, &mut once);
-    Ok(written == Ok(Status::Failed) && once.bytes.as_slice() == b"output\n".as_slice())
+    Ok(written == Ok(JobStatus::Failed) && once.bytes.as_slice() == b"output\n".as_slice())
 }
 
 #[test]

@@ -3,7 +3,7 @@
 use crate::hiccup::Hiccup;
 use crate::refusing::Refusing;
 use s10_book::BookFault;
-use s10_ends::Served;
+use s10_ends::ServerTurn;
 use s10_jobs::{write_ledger_fault, write_link_fault, write_turn};
 use s10_lines::WriteFault;
 use s10_link::{LinkFault, Peer};
@@ -27,7 +27,7 @@ fn drawn() -> Result<Frame, WireFault> {
 }
 
 /// Whether this is the line of the turn, and a writer that fails once has got its beginning.
-fn is_line_of_turn(alloc: Global, turn: &Result<Served, LinkFault>, line: &[u8]) -> bool {
+fn is_line_of_turn(alloc: Global, turn: &Result<ServerTurn, LinkFault>, line: &[u8]) -> bool {
     for room in 0..line.len() {
         let mut out = Hiccup::new(alloc, room);
         if write_turn(turn, &mut out) != Err(WriteFault) || out.bytes.as_slice() != &line[..room] {
@@ -56,22 +56,25 @@ fn is_line_of_link_fault(alloc: Global, fault: LinkFault, line: &str) -> bool {
 fn turns_have_their_lines(rt: HostRuntime) -> Result<(), Fail> {
     let frame = drawn()?;
     let turns = [
-        (Ok(Served::Quiet), "quiet\n"),
+        (Ok(ServerTurn::Quiet), "quiet\n"),
         (
-            Ok(Served::Dropped(PEER, WireFault::Short)),
+            Ok(ServerTurn::Dropped(PEER, WireFault::Short)),
             "dropped short\n",
         ),
         (
-            Ok(Served::Dropped(PEER, WireFault::Field(12))),
+            Ok(ServerTurn::Dropped(PEER, WireFault::Field(12))),
             "dropped field 12\n",
         ),
-        (Ok(Served::Faulted(PEER, BookFault::Full)), "faulted full\n"),
         (
-            Ok(Served::Faulted(PEER, BookFault::Memory)),
+            Ok(ServerTurn::Faulted(PEER, BookFault::Full)),
+            "faulted full\n",
+        ),
+        (
+            Ok(ServerTurn::Faulted(PEER, BookFault::Memory)),
             "faulted memory\n",
         ),
         (
-            Ok(Served::Replied(PEER, frame)),
+            Ok(ServerTurn::Replied(PEER, frame)),
             "replied 533101820000000700000001524147420000004e2052413030303030303030354742\n",
         ),
         (Err(LinkFault::Receive), "link receive\n"),

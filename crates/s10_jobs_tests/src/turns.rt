@@ -4,7 +4,7 @@ use crate::hiccup::Hiccup;
 use s10_book::{Book, PlainBook};
 use s10_ends::Server;
 use s10_history::Settings;
-use s10_jobs::{Status, day_or_today, serve_turns, today};
+use s10_jobs::{JobStatus, day_or_today, serve_turns, today};
 use s10_lines::WriteFault;
 use s10_link::{Packet, Peer, Receipt, ScriptLink};
 use std::alloc::{AllocError, Global};
@@ -139,7 +139,7 @@ impl Write for Flushed {
 /// What turns on a link come to.
 #[derive(Clone, Copy)]
 struct Expected<'a> {
-    status: Result<Status, WriteFault>,
+    status: Result<JobStatus, WriteFault>,
     lines: &'a str,
     /// How many whole lines were flushed.
     flushed: u32,
@@ -207,7 +207,7 @@ fn each_turn_has_its_line(rt: HostRuntime) -> Result<(), Fail> {
     ] {
         let lines = first_lines(rt.alloc(), count)?;
         let expected = Expected {
-            status: Ok(Status::Done),
+            status: Ok(JobStatus::Done),
             lines: &lines,
             flushed: count,
             calls,
@@ -238,7 +238,7 @@ fn the_clock_gives_the_day_where_none_is_given(rt: HostRuntime) -> Result<(), Fa
     ]?;
     let lines = format!(in rt.alloc(); "{GRANTED}{DRAWN}")?;
     let expected = Expected {
-        status: Ok(Status::Done),
+        status: Ok(JobStatus::Done),
         lines: &lines,
         flushed: 2,
         calls: 2,
@@ -281,7 +281,7 @@ fn are_told(alloc: Global, count: u32, lines: &str, told: &str) -> Result<bool, 
         told: RefCell::new(Vec::new(alloc)),
     };
     let expected = Expected {
-        status: Ok(Status::Done),
+        status: Ok(JobStatus::Done),
         lines,
         flushed: count,
         calls: if count < 3 { 0 } else { 1 },
@@ -320,7 +320,7 @@ fn standard_error_is_told_who_sent_what_is_dropped(rt: HostRuntime) -> Result<()
 fn a_closed_standard_error_ends_no_turn(rt: HostRuntime) -> Result<(), Fail> {
     let lines = first_lines(rt.alloc(), 7)?;
     let expected = Expected {
-        status: Ok(Status::Done),
+        status: Ok(JobStatus::Done),
         lines: &lines,
         flushed: 7,
         calls: 2,
@@ -343,7 +343,7 @@ fn a_closed_standard_error_ends_no_turn(rt: HostRuntime) -> Result<(), Fail> {
 #[test]
 fn a_clock_that_gives_no_day_ends_the_turns(rt: HostRuntime) -> Result<(), Fail> {
     let expected = Expected {
-        status: Ok(Status::Failed),
+        status: Ok(JobStatus::Failed),
         lines: "clock\n",
         flushed: 0,
         calls: 0,

@@ -6,15 +6,15 @@ use Rattle.std.specs.Option.{option_copied}
 use Rattle.std.specs.Slice.{IsItemAt}
 use Rattle.std.proofs.lemmas.Option.{none-some, same_Some, slice_get_read}
 use Rattle.s10_link.specs.declared.receipt.Receipt.{Receipt}
-use Rattle.s10_link.specs.Link.{Received}
-use Rattle.s10_link.specs.ScriptLink.{answer_of, TakesReceipt}
+use Rattle.s10_link.specs.Link.{ReceiveResult}
+use Rattle.s10_link.specs.ScriptLink.{result_of, TakesReceipt}
 
-takes_suc : (xs : List Receipt) (k : ℕ) (r : Receipt) (result : Received) → slice_get xs k ≡ Some r → result ≡ answer_of r → TakesReceipt (drop k xs) (drop (suc k) xs) result
+takes_suc : (xs : List Receipt) (k : ℕ) (r : Receipt) (result : ReceiveResult) → slice_get xs k ≡ Some r → result ≡ result_of r → TakesReceipt (drop k xs) (drop (suc k) xs) result
 takes_suc [] k r result found is = absurd (none-some r found)
-takes_suc (x ∷ xs) zero r result found is = (is ∙ ap answer_of (sym (same_Some x r found)), refl)
+takes_suc (x ∷ xs) zero r result found is = (is ∙ ap result_of (sym (same_Some x r found)), refl)
 takes_suc (x ∷ xs) (suc k) r result found is = takes_suc xs k r result found is
 
-pub takes_receipt : (xs : List Receipt) (k : ℕ) (r : Receipt) (result : Received) → slice_get xs k ≡ Some r → result ≡ answer_of r → TakesReceipt (drop k xs) (drop (k + 1) xs) result
+pub takes_receipt : (xs : List Receipt) (k : ℕ) (r : Receipt) (result : ReceiveResult) → slice_get xs k ≡ Some r → result ≡ result_of r → TakesReceipt (drop k xs) (drop (k + 1) xs) result
 takes_receipt xs k r result found is = rw (add-one k) (takes_suc xs k r result found is)
 
 -- the receipt that was looked up stands at its place

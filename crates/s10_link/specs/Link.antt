@@ -6,18 +6,18 @@ use Rattle.s10_link.specs.declared.packet.Packet.{Packet}
 use Rattle.s10_wire.specs.declared.frame.Frame.{Frame}
 use Rattle.s10_link.specs.declared.link_fault.LinkFault.{LinkFault}
 use Rattle.s10_link.specs.declared.link_fault.LinkFault.TheVariants.{Bind, Receive, Send, Spent}
-use Rattle.s10_link.specs.Trace.{after_call, after_failure, after_datagram, Gives}
+use Rattle.s10_link.specs.Trace.{after_call, after_failure, after_datagram, IsAfterFrame}
 
 -- what a receive answers
-abbrev pub Received : Type 0
-Received = Result (Option (Peer × Packet)) LinkFault
+abbrev pub ReceiveResult : Type 0
+ReceiveResult = Result (Option (Peer × Packet)) LinkFault
 
 -- what a send answers
-abbrev pub Sent : Type 0
-Sent = Result (Unit {0}) LinkFault
+abbrev pub SendResult : Type 0
+SendResult = Result (Unit {0}) LinkFault
 
 -- what a receive does
-abbrev pub Receives : Trace → Trace → Received → Type 0
+abbrev pub Receives : Trace → Trace → ReceiveResult → Type 0
 Receives old new (Ok None) = new ≡ after_call old
 Receives old new (Ok (Some p)) = new ≡ after_datagram old p
 Receives old new (Err Receive) = new ≡ after_failure old
@@ -26,8 +26,8 @@ Receives old new (Err Bind) = ⊥
 Receives old new (Err Send) = ⊥
 
 -- what a send of a frame to a peer does
-abbrev pub Sends : Trace → Trace → Peer × Frame → Sent → Type 0
-Sends old new p (Ok _) = Gives old new p
+abbrev pub Sends : Trace → Trace → Peer × Frame → SendResult → Type 0
+Sends old new p (Ok _) = IsAfterFrame old new p
 Sends old new p (Err Send) = new ≡ after_failure old
 Sends old new p (Err Spent) = new ≡ old
 Sends old new p (Err Bind) = ⊥

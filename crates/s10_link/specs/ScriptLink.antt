@@ -6,7 +6,7 @@ use Rattle.s10_link.specs.declared.peer.Peer.{Peer}
 use Rattle.s10_wire.specs.declared.frame.Frame.{Frame}
 use Rattle.s10_link.specs.declared.trace.Trace.{Trace}
 use Rattle.s10_link.specs.declared.link_fault.LinkFault.TheVariants.{Receive, Send, Spent}
-use Rattle.s10_link.specs.Link.{Received, Sent}
+use Rattle.s10_link.specs.Link.{ReceiveResult, SendResult}
 
 -- the receipts and the sends that are still to come, the frames sent, and the trace
 pub record Script : Type 0 where
@@ -16,36 +16,36 @@ pub record Script : Type 0 where
   pub trace : Trace
 
 -- what a receive answers at a receipt
-abbrev pub answer_of : Receipt → Received
-answer_of (Deliver from packet) = Ok (Some (from, packet))
-answer_of Nothing = Ok None
-answer_of Fail = Err Receive
+abbrev pub result_of : Receipt → ReceiveResult
+result_of (Deliver from packet) = Ok (Some (from, packet))
+result_of Nothing = Ok None
+result_of Fail = Err Receive
 
 -- a receive takes the next receipt; past the last one nothing comes
-abbrev pub TakesReceipt : List Receipt → List Receipt → Received → Type 0
+abbrev pub TakesReceipt : List Receipt → List Receipt → ReceiveResult → Type 0
 TakesReceipt [] left result = (result ≡ Ok None) × (left ≡ [])
-TakesReceipt (receipt ∷ others) left result = (result ≡ answer_of receipt) × (left ≡ others)
+TakesReceipt (receipt ∷ others) left result = (result ≡ result_of receipt) × (left ≡ others)
 
 -- a send takes the next bool, which says whether it succeeds; past the last one it is refused
-abbrev pub TakesSend : List Bool → List Bool → Sent → Type 0
+abbrev pub TakesSend : List Bool → List Bool → SendResult → Type 0
 TakesSend [] left result = (result ≡ Err Spent) × (left ≡ [])
 TakesSend (true ∷ others) left result = (result ≡ Ok tt) × (left ≡ others)
 TakesSend (false ∷ others) left result = (result ≡ Err Send) × (left ≡ others)
 
 -- the frames sent after a send of one more
-abbrev pub log_after : List (Peer × Frame) → Peer × Frame → Sent → List (Peer × Frame)
+abbrev pub log_after : List (Peer × Frame) → Peer × Frame → SendResult → List (Peer × Frame)
 log_after log p (Ok _) = log ++ p ∷ []
 log_after log p (Err _) = log
 
 -- what a receive does to the script
-pub record FollowsReceipts (old new : Script) (result : Received) : Type 0 where
+pub record FollowsReceipts (old new : Script) (result : ReceiveResult) : Type 0 where
   pub receipts : old.trace.calls < 2 ^ 64 - 1 → TakesReceipt old.receipts new.receipts result
   pub spent : result ≡ Err Spent → new.receipts ≡ old.receipts
   pub sends : new.sends ≡ old.sends
   pub log : new.log ≡ old.log
 
 -- what a send does to the script
-pub record FollowsSends (old new : Script) (p : Peer × Frame) (result : Sent) : Type 0 where
+pub record FollowsSends (old new : Script) (p : Peer × Frame) (result : SendResult) : Type 0 where
   pub sends : old.trace.calls < 2 ^ 64 - 1 → TakesSend old.sends new.sends result
   pub spent : result ≡ Err Spent → new.sends ≡ old.sends
   pub receipts : new.receipts ≡ old.receipts

@@ -25,7 +25,7 @@ pub struct Trace {
 
 impl Trace {
     ghost use Rattle.std.specs.Prelude.{◌≡◌, ◌-◌, ◌^◌, ◌<◌, ◌↔◌, IsTrue, Some};
-    ghost use Rattle.s10_link.specs.Trace.{IsCounted, new_trace, after_call, after_failure, after_datagram, Gives};
+    ghost use Rattle.s10_link.specs.Trace.{IsCounted, new_trace, after_call, after_failure, after_datagram, IsAfterFrame};
 
     /// The trace of a link that did nothing yet.
     pub fn new() -> Trace
@@ -89,7 +89,7 @@ impl Trace {
     pub fn after_send(&self, to: Peer, frame: &Frame) -> Trace
         requires counted { IsCounted self.now }
         requires room { self.now.calls < 2 ^ 64 - 1 }
-        ensures trace { Gives self.now result (to, frame.now) }
+        ensures trace { IsAfterFrame self.now result (to, frame.now) }
         ensures counted { IsCounted result }
     {
         let is_again = self.is_given(to, frame);

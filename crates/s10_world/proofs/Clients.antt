@@ -11,7 +11,7 @@ use Rattle.s10_world.specs.declared.event.Event.{Event}
 use Rattle.s10_world.specs.declared.event.Event.TheVariants.{Submit, Resend, GiveUp, ToServer, Strange, ToClient}
 use Rattle.s10_world.specs.declared.world_fault.WorldFault.{WorldFault}
 use Rattle.s10_world.specs.Parts.{place_of}
-use Rattle.s10_world.specs.World.{WorldState, after_submit_by, after_give_up_by, Sends, Resends, Serves, ReachesServer, DeliversRequest, DeliversReply, Step, Steps}
+use Rattle.s10_world.specs.World.{WorldState, after_submit_by, after_give_up_by, SendsPending, Resends, ServesRequest, ReachesServer, DeliversRequest, DeliversReply, Step, Steps}
 use Rattle.s10_world.specs.Agreement.{IsApartFrom, HaveOwnNumbers}
 use Rattle.s10_world.proofs.Places.{after_set}
 
@@ -58,7 +58,7 @@ left w w' v is same = same_lists w.clients w'.clients (ap (λ (x : WorldState). 
 made : (w w' v : WorldState) → w' ≡ v → AreSame w.clients v.clients → AreSame w.clients w'.clients
 made w w' v is same = subst (λ (x : WorldState). AreSame w.clients x.clients) (sym is) same
 
-sends_same : (w w' : WorldState) (pending : Option Request) → Sends w pending w' → AreSame w.clients w'.clients
+sends_same : (w w' : WorldState) (pending : Option Request) → SendsPending w pending w' → AreSame w.clients w'.clients
 sends_same w w' None is = left w w' w is refl
 sends_same w w' (Some q) is = left w w' _ is.2 refl
 
@@ -66,7 +66,7 @@ resends_same : (w w' : WorldState) (client : Option ClientState) → Resends w c
 resends_same w w' None is = left w w' w is refl
 resends_same w w' (Some c) is = sends_same w w' c.pending is
 
-serves_same : (t : Terms) (w w' : WorldState) (b : List ℕ) (q : Request) (day : ℕ) → Serves t w b q day w' → AreSame w.clients w'.clients
+serves_same : (t : Terms) (w w' : WorldState) (b : List ℕ) (q : Request) (day : ℕ) → ServesRequest t w b q day w' → AreSame w.clients w'.clients
 serves_same t w w' b q day serves = elim serves [
   | inl fault ↦ left w w' _ fault.1 refl
   | inr other ↦ elim other [ inl full ↦ left w w' w full.1 refl | inr replied ↦ left w w' _ replied.3 refl ]

@@ -24,10 +24,10 @@ use Rattle.s10_ends.specs.Served.{Gives, IsOwed}
 use Rattle.s10_ends.specs.Client.{ClientState, next_number, next_request, after_submit, submit_fault, settled}
 use Rattle.s10_world.specs.declared.event.Event.{Event}
 use Rattle.s10_world.specs.declared.event.Event.TheVariants.{Submit, Resend, GiveUp, ToServer, Strange, ToClient}
-use Rattle.s10_world.specs.World.{Acceptance, WorldState, after_submit_by, after_give_up_by, Sends, Resends, Serves, ReachesServer, DeliversRequest, DeliversReply, Step, Steps}
+use Rattle.s10_world.specs.World.{Acceptance, WorldState, after_submit_by, after_give_up_by, SendsPending, Resends, ServesRequest, ReachesServer, DeliversRequest, DeliversReply, Step, Steps}
 use Rattle.s10_world.specs.declared.world_fault.WorldFault.{WorldFault}
 use Rattle.s10_world.specs.Parts.{place_of}
-use Rattle.s10_world.specs.Sound.{GivesIn, IsGivenBy, IsTakenBy, IsOfClient, IsAwaited, IsSound}
+use Rattle.s10_world.specs.Sound.{GivesIn, IsGivenBy, IsTakenBy, IsOfClient, IsAwaited, IsSoundWorld}
 use Rattle.s10_world.proofs.Places.{after_set, set_here, set_elsewhere}
 use Rattle.s10_world.proofs.Once.{once_one}
 
@@ -67,7 +67,7 @@ below_next clients k c s there is e =
     let same : is.0 ≡ c = same_Some is.0 c (sym is.1 ∙ ap (slice_get clients) e ∙ there) in
     subst (λ (x : ClientState). s.1.number < next_number x) same is.2.2
 
-accepted_below : (w : WorldState) (k : ℕ) (c : ClientState) → IsSound w → slice_get w.clients k ≡ Some c → All (λ a. a.client ≡ k → a.request.number < next_number c) w.accepted
+accepted_below : (w : WorldState) (k : ℕ) (c : ClientState) → IsSoundWorld w → slice_get w.clients k ≡ Some c → All (λ a. a.client ≡ k → a.request.number < next_number c) w.accepted
 accepted_below w k c sound there =
     All-weaker (λ a. Contains w.submitted (a.client, a.request)) (λ a. a.client ≡ k → a.request.number < next_number c)
     (λ a is e. below_next w.clients k c (a.client, a.request) there (All-contains (IsOfClient w.clients) w.submitted (a.client, a.request) sound.taken is) e)
@@ -76,8 +76,8 @@ accepted_below w k c sound there =
 awaited_same : (w : WorldState) (k j : ℕ) (c d : ClientState) (q p : Request) → j ≡ k → d ≡ c → p ≡ q → IsAwaited w k c q → IsAwaited w j d p
 awaited_same w k j c d q p place client request is = rw (place, client, request) is
 
-sound_submit : (w : WorldState) (k : ℕ) (c : ClientState) (body : Body) → slice_get w.clients k ≡ Some c → next_number c ≤ c.last → IsSound w
-    → IsSound (record w { submitted = w.submitted ++ (k, next_request c body) ∷ []; clients = slice_set w.clients k (after_submit c body) })
+sound_submit : (w : WorldState) (k : ℕ) (c : ClientState) (body : Body) → slice_get w.clients k ≡ Some c → next_number c ≤ c.last → IsSoundWorld w
+    → IsSoundWorld (record w { submitted = w.submitted ++ (k, next_request c body) ∷ []; clients = slice_set w.clients k (after_submit c body) })
 sound_submit w k c body there left sound =
     let q : Request = next_request c body in
     let d : ClientState = after_submit c body in
@@ -100,28 +100,28 @@ sound_submit w k c body there left sound =
       given = sound.given;
     }
 
-submit_at : (w : WorldState) (k : ℕ) (c : ClientState) (body : Body) (fault : Option SubmitFault) → slice_get w.clients k ≡ Some c → submit_fault c ≡ fault → IsSound w
-    → IsSound (cond (is_some fault) w (record w { submitted = w.submitted ++ (k, next_request c body) ∷ []; clients = slice_set w.clients k (after_submit c body) }))
+submit_at : (w : WorldState) (k : ℕ) (c : ClientState) (body : Body) (fault : Option SubmitFault) → slice_get w.clients k ≡ Some c → submit_fault c ≡ fault → IsSoundWorld w
+    → IsSoundWorld (cond (is_some fault) w (record w { submitted = w.submitted ++ (k, next_request c body) ∷ []; clients = slice_set w.clients k (after_submit c body) }))
 submit_at w k c body (Some fault) there is sound = sound
 submit_at w k c body None there is sound = sound_submit w k c body there (free c is).1 sound
 
-sound_submit_by : (w : WorldState) (k : ℕ) (body : Body) (client : Option ClientState) → slice_get w.clients k ≡ client → IsSound w → IsSound (after_submit_by w k body client)
+sound_submit_by : (w : WorldState) (k : ℕ) (body : Body) (client : Option ClientState) → slice_get w.clients k ≡ client → IsSoundWorld w → IsSoundWorld (after_submit_by w k body client)
 sound_submit_by w k body None there sound = sound
 sound_submit_by w k body (Some c) there sound = submit_at w k c body (submit_fault c) there refl sound
 
 -- what is pending at another place
-awaited_settled : (w : WorldState) (k j : ℕ) (c x : ClientState) (p : Request) → IsSound w → slice_get (slice_set w.clients k (settled c)) j ≡ Some x → x.pending ≡ Some p
+awaited_settled : (w : WorldState) (k j : ℕ) (c x : ClientState) (p : Request) → IsSoundWorld w → slice_get (slice_set w.clients k (settled c)) j ≡ Some x → x.pending ≡ Some p
     → (j ≢ k) × IsAwaited w j x p
 awaited_settled w k j c x p sound is pending = elim (after_set w.clients k (settled c) j x is) [
   | inl e ↦ absurd (none-some p (sym (ap (λ (y : ClientState). y.pending) e.1) ∙ pending))
   | inr e ↦ (e.0, sound.awaited j x p e.1 pending)
 ]
 
-settled_taken : (w : WorldState) (k : ℕ) (c : ClientState) → IsSound w → slice_get w.clients k ≡ Some c → All (IsOfClient (slice_set w.clients k (settled c))) w.submitted
+settled_taken : (w : WorldState) (k : ℕ) (c : ClientState) → IsSoundWorld w → slice_get w.clients k ≡ Some c → All (IsOfClient (slice_set w.clients k (settled c))) w.submitted
 settled_taken w k c sound there =
     All-weaker (IsOfClient w.clients) (IsOfClient (slice_set w.clients k (settled c))) (λ s. of_client_later w.clients k c (settled c) s there (refl, refl, refl, omega arith)) w.submitted sound.taken
 
-sound_give_up_by : (w : WorldState) (k : ℕ) (client : Option ClientState) → slice_get w.clients k ≡ client → IsSound w → IsSound (after_give_up_by w k client)
+sound_give_up_by : (w : WorldState) (k : ℕ) (client : Option ClientState) → slice_get w.clients k ≡ client → IsSoundWorld w → IsSoundWorld (after_give_up_by w k client)
 sound_give_up_by w k None there sound = sound
 sound_give_up_by w k (Some c) there sound =
     record {
@@ -134,22 +134,22 @@ sound_give_up_by w k (Some c) there sound =
       given = sound.given;
     }
 
-sound_same : (w w' : WorldState) → w' ≡ w → IsSound w → IsSound w'
-sound_same w w' same sound = subst IsSound (sym same) sound
+sound_same : (w w' : WorldState) → w' ≡ w → IsSoundWorld w → IsSoundWorld w'
+sound_same w w' same sound = subst IsSoundWorld (sym same) sound
 
-sound_asked : (w : WorldState) (asked : List (List ℕ)) → IsSound w → IsSound (record w { asked = asked })
+sound_asked : (w : WorldState) (asked : List (List ℕ)) → IsSoundWorld w → IsSoundWorld (record w { asked = asked })
 sound_asked w asked sound =
     record { replied = sound.replied; taken = sound.taken; in_turn = sound.in_turn; awaited = sound.awaited; submitted = sound.submitted; accepted_in_turn = sound.accepted_in_turn; given = sound.given }
 
-sound_faults : (w : WorldState) (faults : Faults) → IsSound w → IsSound (record w { faults = faults })
+sound_faults : (w : WorldState) (faults : Faults) → IsSoundWorld w → IsSoundWorld (record w { faults = faults })
 sound_faults w faults sound =
     record { replied = sound.replied; taken = sound.taken; in_turn = sound.in_turn; awaited = sound.awaited; submitted = sound.submitted; accepted_in_turn = sound.accepted_in_turn; given = sound.given }
 
-sound_sends : (w w' : WorldState) (pending : Option Request) → Sends w pending w' → IsSound w → IsSound w'
+sound_sends : (w w' : WorldState) (pending : Option Request) → SendsPending w pending w' → IsSoundWorld w → IsSoundWorld w'
 sound_sends w w' None is sound = sound_same w w' is sound
 sound_sends w w' (Some q) is sound = sound_same (record w { asked = w.asked ++ is.0 ∷ [] }) w' is.2 (sound_asked w (w.asked ++ is.0 ∷ []) sound)
 
-sound_resends : (w w' : WorldState) (client : Option ClientState) → Resends w client w' → IsSound w → IsSound w'
+sound_resends : (w w' : WorldState) (client : Option ClientState) → Resends w client w' → IsSoundWorld w → IsSoundWorld w'
 sound_resends w w' None is sound = sound_same w w' is sound
 sound_resends w w' (Some c) is sound = sound_sends w w' c.pending is sound
 
@@ -165,8 +165,8 @@ gives_grown false h e q o is = rw (find-append (has_key q.customer q.number) h (
 pub gives_later : (h : List Entry) (p : Request) (day n : ℕ) (q : Request) (o : Outcome) → GivesIn h q o → GivesIn (applied_once h ((p, day) ∷ []) n) q o
 gives_later h p day n q o is = subst (λ (l : List Entry). GivesIn l q o) (sym (once_one h p day n)) (gives_grown (is_some (entry_with_key h p.customer p.number)) h _ q o is)
 
-sound_replied : (w : WorldState) (b f : List ℕ) (p : Request) (day n : ℕ) → IsOwed (applied_once w.history ((p, day) ∷ []) n) b f → IsSound w
-    → IsSound (record w { history = applied_once w.history ((p, day) ∷ []) n; replied = w.replied ++ f ∷ [] })
+sound_replied : (w : WorldState) (b f : List ℕ) (p : Request) (day n : ℕ) → IsOwed (applied_once w.history ((p, day) ∷ []) n) b f → IsSoundWorld w
+    → IsSoundWorld (record w { history = applied_once w.history ((p, day) ∷ []) n; replied = w.replied ++ f ∷ [] })
 sound_replied w b f p day n owed sound =
     let h = applied_once w.history ((p, day) ∷ []) n in
     record {
@@ -181,7 +181,7 @@ sound_replied w b f p day n owed sound =
       given = All-weaker (λ a. GivesIn w.history a.request a.outcome) (λ a. GivesIn h a.request a.outcome) (λ a. gives_later w.history p day n a.request a.outcome) w.accepted sound.given;
     }
 
-sound_serves : (t : Terms) (w w' : WorldState) (b : List ℕ) (q : Request) (day : ℕ) → Serves t w b q day w' → IsSound w → IsSound w'
+sound_serves : (t : Terms) (w w' : WorldState) (b : List ℕ) (q : Request) (day : ℕ) → ServesRequest t w b q day w' → IsSoundWorld w → IsSoundWorld w'
 sound_serves t w w' b q day serves sound = elim serves [
   | inl fault ↦ sound_same (record w { faults = w'.faults }) w' fault.1 (sound_faults w w'.faults sound)
   | inr other ↦ elim other [
@@ -190,13 +190,13 @@ sound_serves t w w' b q day serves sound = elim serves [
   ]
 ]
 
-sound_reaches : (t : Terms) (w w' : WorldState) (b : List ℕ) (day : ℕ) → ReachesServer t w b day w' → IsSound w → IsSound w'
+sound_reaches : (t : Terms) (w w' : WorldState) (b : List ℕ) (day : ℕ) → ReachesServer t w b day w' → IsSoundWorld w → IsSoundWorld w'
 sound_reaches t w w' b day reaches sound = elim reaches [
   | inl nothing ↦ sound_same w w' nothing.1 sound
   | inr asks ↦ sound_serves t w w' b asks.0 day asks.2 sound
 ]
 
-sound_request : (t : Terms) (w w' : WorldState) (b : Option (List ℕ)) (day : ℕ) → DeliversRequest t w b day w' → IsSound w → IsSound w'
+sound_request : (t : Terms) (w w' : WorldState) (b : Option (List ℕ)) (day : ℕ) → DeliversRequest t w b day w' → IsSoundWorld w → IsSoundWorld w'
 sound_request t w w' None day is sound = sound_same w w' is sound
 sound_request t w w' (Some b) day is sound = sound_reaches t w w' b day is sound
 
@@ -206,8 +206,8 @@ given_by h b q o is replies =
     let same = one_reply b is.0 q is.1 o is.3 replies in
     subst (λ (x : Request). GivesIn h x o) same.0 (subst (λ (u : Outcome). GivesIn h is.0 u) same.1 is.2)
 
-sound_accept : (w : WorldState) (k : ℕ) (c : ClientState) (q : Request) (o : Outcome) → slice_get w.clients k ≡ Some c → c.pending ≡ Some q → GivesIn w.history q o → IsSound w
-    → IsSound (record w { accepted = w.accepted ++ record { client = k; request = q; outcome = o } ∷ []; clients = slice_set w.clients k (settled c) })
+sound_accept : (w : WorldState) (k : ℕ) (c : ClientState) (q : Request) (o : Outcome) → slice_get w.clients k ≡ Some c → c.pending ≡ Some q → GivesIn w.history q o → IsSoundWorld w
+    → IsSoundWorld (record w { accepted = w.accepted ++ record { client = k; request = q; outcome = o } ∷ []; clients = slice_set w.clients k (settled c) })
 sound_accept w k c q o there pending gives sound =
     let a : Acceptance = record { client = k; request = q; outcome = o } in
     let mine = sound.awaited k c q there pending in
@@ -225,7 +225,7 @@ sound_accept w k c q o there pending gives sound =
     }
 
 sound_reply : (w w' : WorldState) (k i : ℕ) (client : Option ClientState) (b : Option (List ℕ)) → slice_get w.clients k ≡ client → slice_get w.replied i ≡ b
-    → DeliversReply w k client b w' → IsSound w → IsSound w'
+    → DeliversReply w k client b w' → IsSoundWorld w → IsSoundWorld w'
 sound_reply w w' k i None b there came is sound = sound_same w w' is sound
 sound_reply w w' k i (Some c) None there came is sound = sound_same w w' is sound
 sound_reply w w' k i (Some c) (Some b) there came is sound = elim is [
@@ -233,7 +233,7 @@ sound_reply w w' k i (Some c) (Some b) there came is sound = elim is [
   | inr other ↦ sound_same w w' other.1 sound
 ]
 
-step_sound : (t : Terms) (w w' : WorldState) (e : Event) → Step t w e w' → IsSound w → IsSound w'
+step_sound : (t : Terms) (w w' : WorldState) (e : Event) → Step t w e w' → IsSoundWorld w → IsSoundWorld w'
 step_sound t w w' (Submit k body) is sound = sound_same (after_submit_by w k body (slice_get w.clients k)) w' is (sound_submit_by w k body (slice_get w.clients k) refl sound)
 step_sound t w w' (Resend k) is sound = sound_resends w w' (slice_get w.clients k) is sound
 step_sound t w w' (GiveUp k) is sound = sound_same (after_give_up_by w k (slice_get w.clients k)) w' is (sound_give_up_by w k (slice_get w.clients k) refl sound)
@@ -241,12 +241,12 @@ step_sound t w w' (ToServer index day) is sound = sound_request t w w' (slice_ge
 step_sound t w w' (Strange packet day) is sound = sound_reaches t w w' packet day is sound
 step_sound t w w' (ToClient k index) is sound = sound_reply w w' k index (slice_get w.clients k) (slice_get w.replied index) refl refl is sound
 
-pub steps_sound : (t : Terms) (w w' : WorldState) (es : List Event) → Steps t w es w' → IsSound w → IsSound w'
+pub steps_sound : (t : Terms) (w w' : WorldState) (es : List Event) → Steps t w es w' → IsSoundWorld w → IsSoundWorld w'
 steps_sound t w w' [] is sound = sound_same w w' is sound
 steps_sound t w w' (e ∷ es) is sound = steps_sound t is.0 w' es is.2 (step_sound t w is.0 e is.1 sound)
 
 -- a run that ended, or that stopped before an event
 pub run_sound : (t : Terms) (w w' : WorldState) (es : List Event) (r : Result (Unit {0}) WorldFault) → OnOk r (Steps t w es w')
-    → IfErr r (λ fault. Steps t w (take (place_of fault) es) w') → IsSound w → IsSound w'
+    → IfErr r (λ fault. Steps t w (take (place_of fault) es) w') → IsSoundWorld w → IsSoundWorld w'
 run_sound t w w' es (Ok done) ok stopped sound = steps_sound t w w' es ok sound
 run_sound t w w' es (Err fault) ok stopped sound = steps_sound t w w' (take (place_of fault) es) stopped sound

@@ -10,7 +10,7 @@ use Rattle.s10_history.specs.Settings.{Terms}
 use Rattle.s10_history.specs.History.{entry_with_key, day_of}
 use Rattle.s10_book.specs.Once.{entry_for, applied}
 use Rattle.s10_book.specs.Rules.{IsLegal}
-use Rattle.s10_book.proofs.Push.{IsLegal-push}
+use Rattle.s10_history.proofs.Push.{IsLegal-push}
 use Rattle.s10_book.proofs.Spaced.{spaced}
 use Rattle.s10_book.proofs.Own.{own}
 use Rattle.s10_book.proofs.Apart.{apart}
@@ -18,15 +18,15 @@ use Rattle.s10_ends.specs.Runs.{IsKept}
 use Rattle.s10_ends.specs.Client.{ClientState, IsNew, submit_fault}
 use Rattle.s10_world.specs.declared.event.Event.{Event}
 use Rattle.s10_world.specs.declared.event.Event.TheVariants.{Submit, Resend, GiveUp, ToServer, Strange, ToClient}
-use Rattle.s10_world.specs.World.{WorldState, after_submit_by, after_give_up_by, Sends, Resends, Serves, ReachesServer, DeliversRequest, DeliversReply, Step, Steps}
-use Rattle.s10_world.specs.Sound.{IsGivenBy, IsOfClient, IsStart, IsSound}
+use Rattle.s10_world.specs.World.{WorldState, after_submit_by, after_give_up_by, SendsPending, Resends, ServesRequest, ReachesServer, DeliversRequest, DeliversReply, Step, Steps}
+use Rattle.s10_world.specs.Sound.{IsGivenBy, IsOfClient, IsStart, IsSoundWorld}
 use Rattle.s10_world.proofs.Once.{once_one}
 use Rattle.s10_world.proofs.Kept.{all_at}
 
 none_within : {X : Type 0} (xs : List X) (j : ℕ) → xs ≡ [] → ¬ (j < length xs)
 none_within xs j empty within = let none : length xs ≡ 0 = ap length empty in omega (arith, within, none)
 
-pub start_sound : (w : WorldState) → IsStart w → IsSound w
+pub start_sound : (w : WorldState) → IsStart w → IsSoundWorld w
 start_sound w start =
     record {
       replied = All-same (IsGivenBy w.history) w.replied [] start.replied (All-nil (IsGivenBy w.history));
@@ -48,7 +48,7 @@ applied_at h t q day None is (inr known) legal = absurd (none-some known (cc))
 applied_at h t q day None is (inl left) legal =
     IsLegal-push h t (entry_for h q t.interval (max (day_of h) day)) legal (record { new_key = is; in_order = omega arith; room = left; right = refl })
 
-legal_serves : (t : Terms) (w w' : WorldState) (b : List ℕ) (q : Request) (day : ℕ) → Serves t w b q day w' → IsLegal w.history t → IsLegal w'.history t
+legal_serves : (t : Terms) (w w' : WorldState) (b : List ℕ) (q : Request) (day : ℕ) → ServesRequest t w b q day w' → IsLegal w.history t → IsLegal w'.history t
 legal_serves t w w' b q day serves legal = elim serves [
   | inl fault ↦ legal_same t w w' (ap (λ (v : WorldState). v.history) fault.1) legal
   | inr other ↦ elim other [
@@ -82,7 +82,7 @@ give_up_history : (w : WorldState) (k : ℕ) (client : Option ClientState) → (
 give_up_history w k None = refl
 give_up_history w k (Some c) = refl
 
-sends_history : (w w' : WorldState) (pending : Option Request) → Sends w pending w' → w'.history ≡ w.history
+sends_history : (w w' : WorldState) (pending : Option Request) → SendsPending w pending w' → w'.history ≡ w.history
 sends_history w w' None is = ap (λ (v : WorldState). v.history) is
 sends_history w w' (Some q) is = ap (λ (v : WorldState). v.history) is.2
 

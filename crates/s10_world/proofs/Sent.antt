@@ -24,8 +24,8 @@ use Rattle.s10_ends.specs.declared.submit_fault.SubmitFault.{SubmitFault}
 use Rattle.s10_ends.specs.declared.received.Received.{Received}
 use Rattle.s10_ends.specs.declared.received.Received.TheVariants.{Malformed, Idle, NotMine, Accepted}
 use Rattle.s10_ends.specs.Served.{AskNothing, IsOwed, IsFullFor, Served}
-use Rattle.s10_ends.specs.Client.{ClientState, next_request, after_submit, submit_fault, IsOwnReply, Receives, Resends as ResendsBy}
-use Rattle.s10_world.specs.World.{Acceptance, WorldState, after_submit_by, Sends, Resends, ReachesServer, DeliversReply}
+use Rattle.s10_ends.specs.Client.{ClientState, next_request, after_submit, submit_fault, IsOwnReply, ClientReceives, AsksPending}
+use Rattle.s10_world.specs.World.{Acceptance, WorldState, after_submit_by, SendsPending, Resends, ReachesServer, DeliversReply}
 use Rattle.s10_world.specs.Parts.{acceptance}
 use Rattle.s10_world.proofs.Places.{set_same}
 use Rattle.s10_world.proofs.Once.{once_one, none_asked, one_asked, room_at}
@@ -45,8 +45,8 @@ submit_taken w k body c c' q submitted there free next asks sub =
     let now : record w { submitted = submitted; clients = slice_set w.clients k c' } ≡ record w { submitted = w.submitted ++ (k, next_request c body) ∷ []; clients = slice_set w.clients k (after_submit c body) } = rw (sub, next, asks) refl in
     now ∙ sym (ap (after_submit_by w k body) there ∙ ap (λ (o : Option SubmitFault). cond (is_some o) w (record w { submitted = w.submitted ++ (k, next_request c body) ∷ []; clients = slice_set w.clients k (after_submit c body) })) (sym free))
 
-sends : (w : WorldState) (pending : Option Request) (frame : Frame) (asked : List (List ℕ)) → ResendsBy pending (Some frame)
-    → asked ≡ w.asked ++ frame ∷ [] → Sends w pending (record w { asked = asked })
+sends : (w : WorldState) (pending : Option Request) (frame : Frame) (asked : List (List ℕ)) → AsksPending pending (Some frame)
+    → asked ≡ w.asked ++ frame ∷ [] → SendsPending w pending (record w { asked = asked })
 sends w None frame asked is grown = absurd is
 sends w (Some q) frame asked is grown = (frame, is, ap (λ (l : List (List ℕ)). record w { asked = l }) grown)
 
@@ -55,7 +55,7 @@ pub one_more : {X Y : Type 0} (f : X → Y) (xs reserved pushed : List X) (x : X
 one_more f xs reserved pushed x grown same = ap (map f) (grown ∙ ap (λ l. l ++ x ∷ []) same) ∙ map-append f xs (x ∷ [])
 
 pub resent : (w : WorldState) (k : ℕ) (c : ClientState) (frame : Frame) (asked : List (List ℕ))
-    → slice_get w.clients k ≡ Some c → ResendsBy c.pending (Some frame) → asked ≡ w.asked ++ frame ∷ []
+    → slice_get w.clients k ≡ Some c → AsksPending c.pending (Some frame) → asked ≡ w.asked ++ frame ∷ []
     → Resends w (slice_get w.clients k) (record w { asked = asked })
 resent w k c frame asked there is grown = rw there (sends w c.pending frame asked is grown)
 
@@ -87,11 +87,11 @@ reached_fault w t b day Full h faults served same count =
     inr (full.1, full.3, inr (inl (subst (λ (l : List Entry). IsFullFor l t full.1) was full.4, rw (same, count) refl)))
 
 pub accepts : (w : WorldState) (k i : ℕ) (c c' : ClientState) (b : List ℕ) (reply : Reply) (accepted : List Acceptance)
-    → slice_get w.clients k ≡ Some c → slice_get w.replied i ≡ Some b → Receives c b (Accepted reply) c' → accepted ≡ w.accepted ++ acceptance (k, reply) ∷ []
+    → slice_get w.clients k ≡ Some c → slice_get w.replied i ≡ Some b → ClientReceives c b (Accepted reply) c' → accepted ≡ w.accepted ++ acceptance (k, reply) ∷ []
     → DeliversReply w k (slice_get w.clients k) (slice_get w.replied i) (record w { accepted = accepted; clients = slice_set w.clients k c' })
 accepts w k i c c' b reply accepted there came is grown = rw (there, came) (inl (request_of reply, outcome_of reply, is.0, rw (grown, is.1) refl))
 
-not_own : (c c' : ClientState) (b : List ℕ) (received : Received) → Receives c b received c' → ((reply : Reply) → received ≡ Accepted reply → ⊥)
+not_own : (c c' : ClientState) (b : List ℕ) (received : Received) → ClientReceives c b received c' → ((reply : Reply) → received ≡ Accepted reply → ⊥)
     → ((q : Request) (o : Outcome) → ¬ (IsOwnReply c b q o)) × (c' ≡ c)
 not_own c c' b (Malformed fault) is other = (λ q o own. is.0 (q, o, own.1), is.2)
 not_own c c' b Idle is other = (λ q o own. none-some q (sym is.1 ∙ own.0), is.2)
@@ -102,7 +102,7 @@ not_own c c' b NotMine is other = (
 not_own c c' b (Accepted reply) is other = absurd (other reply refl)
 
 pub leaves : (w : WorldState) (k i : ℕ) (c c' : ClientState) (b : List ℕ) (received : Received) (accepted : List Acceptance)
-    → slice_get w.clients k ≡ Some c → slice_get w.replied i ≡ Some b → Receives c b received c' → ((reply : Reply) → received ≡ Accepted reply → ⊥) → accepted ≡ w.accepted
+    → slice_get w.clients k ≡ Some c → slice_get w.replied i ≡ Some b → ClientReceives c b received c' → ((reply : Reply) → received ≡ Accepted reply → ⊥) → accepted ≡ w.accepted
     → DeliversReply w k (slice_get w.clients k) (slice_get w.replied i) (record w { accepted = accepted; clients = slice_set w.clients k c' })
 leaves w k i c c' b received accepted there came is other same =
     let kept = not_own c c' b received is other in

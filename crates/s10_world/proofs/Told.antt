@@ -21,7 +21,7 @@ use Rattle.s10_book.specs.Rules.{IsLegal, answer_of, outcome_of_pick, outcome_of
 use Rattle.s10_ends.specs.Served.{Gives}
 use Rattle.s10_world.specs.World.{Acceptance, WorldState}
 use Rattle.s10_world.specs.Agreement.{HasOutcome, HasOther, IsOutcomeIn, Agrees, IsExecutedAtMostOnce, TellsExecution, IsAtMostOnce}
-use Rattle.s10_world.specs.Sound.{GivesIn, IsSound}
+use Rattle.s10_world.specs.Sound.{GivesIn, IsSoundWorld}
 use Rattle.s10_ends.proofs.Equal.{same_request_or_not}
 
 chosen : {A : Type 0} (b : Bool) (x r : A) (o : Option A) → cond b (Some x) o ≡ Some r → ((b ≡ true) × (x ≡ r)) ⊎ (o ≡ Some r)
@@ -49,7 +49,7 @@ outcome_at h q o (Some e) is gives =
 outcome_in : (h : List Entry) (q : Request) (o : Outcome) → GivesIn h q o → HasOutcome h q o ⊎ ((o ≡ NumberReused) × HasOther h q)
 outcome_in h q o gives = outcome_at h q o (entry_with_key h q.customer q.number) refl gives
 
-pub agrees : (w : WorldState) → IsSound w → Agrees w
+pub agrees : (w : WorldState) → IsSoundWorld w → Agrees w
 agrees w sound =
     record {
       submitted = sound.submitted;
@@ -154,7 +154,7 @@ tells h t a legal gives =
       ];
     }
 
-pub once : (w : WorldState) (t : Terms) → IsLegal w.history t → IsSound w → IsAtMostOnce w
+pub once : (w : WorldState) (t : Terms) → IsLegal w.history t → IsSoundWorld w → IsAtMostOnce w
 once w t legal sound =
     record {
       submitted = λ i d within. at_most_once w.history t (get_or w.submitted i d).1 legal;

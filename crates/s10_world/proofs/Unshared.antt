@@ -16,7 +16,7 @@ use Rattle.s10_ends.specs.Client.{ClientState}
 use Rattle.s10_ends.proofs.Carried.{carrying, issued_here, issued}
 use Rattle.s10_world.specs.World.{Acceptance, WorldState}
 use Rattle.s10_world.specs.Agreement.{HaveOwnNumbers, AreOneCallEach, AreDaysApart, IsUnshared}
-use Rattle.s10_world.specs.Sound.{GivesIn, IsOfClient, IsSound}
+use Rattle.s10_world.specs.Sound.{GivesIn, IsOfClient, IsSoundWorld}
 
 pairs_head : {X : Type 0} (R : X → X → Type 0) (x : X) (xs : List X) → AllPairs R (x ∷ xs) → All (R x) xs
 pairs_head R x xs pairs = λ k d within. pairs 0 (suc k) d (omega arith) (omega (arith, within))
@@ -81,7 +81,7 @@ keys_apart clients s u own first second places customers numbers =
       ]
     ]
 
-one_call_each : (w : WorldState) → IsSound w → HaveOwnNumbers w.clients → AreOneCallEach w.submitted
+one_call_each : (w : WorldState) → IsSoundWorld w → HaveOwnNumbers w.clients → AreOneCallEach w.submitted
 one_call_each w sound own i j z before within customers numbers =
     let s = get_or w.submitted i z in
     let u = get_or w.submitted j z in
@@ -91,11 +91,11 @@ one_call_each w sound own i j z before within customers numbers =
           (All-get_or (IsOfClient w.clients) w.submitted j z within sound.taken) other.1 customers numbers
     ]
 
-of_client : (w : WorldState) (a : Acceptance) → IsSound w → Contains w.submitted (a.client, a.request) → IsOfClient w.clients (a.client, a.request)
+of_client : (w : WorldState) (a : Acceptance) → IsSoundWorld w → Contains w.submitted (a.client, a.request) → IsOfClient w.clients (a.client, a.request)
 of_client w a sound is = All-contains (IsOfClient w.clients) w.submitted (a.client, a.request) sound.taken is
 
 -- two accepted replies are to requests of two keys
-accepted_keys : (w : WorldState) (i j : ℕ) (z : Acceptance) → IsSound w → HaveOwnNumbers w.clients → i < j → j < length w.accepted
+accepted_keys : (w : WorldState) (i j : ℕ) (z : Acceptance) → IsSoundWorld w → HaveOwnNumbers w.clients → i < j → j < length w.accepted
     → (get_or w.accepted i z).request ≢ (get_or w.accepted j z).request
 accepted_keys w i j z sound own before within same =
     let a = get_or w.accepted i z in
@@ -110,7 +110,7 @@ accepted_keys w i j z sound own before within same =
           other.1 (ap (λ (q : Request). q.customer) same) numbers
     ]
 
-days_apart : (w : WorldState) (interval : ℕ) → IsSpaced w.history interval → IsSound w → HaveOwnNumbers w.clients → AllPairs (AreDaysApart interval) w.accepted
+days_apart : (w : WorldState) (interval : ℕ) → IsSpaced w.history interval → IsSoundWorld w → HaveOwnNumbers w.clients → AllPairs (AreDaysApart interval) w.accepted
 days_apart w interval spaced sound own i j z before within x d e first second =
     let a = get_or w.accepted i z in
     let b = get_or w.accepted j z in
@@ -126,5 +126,5 @@ days_apart w interval spaced sound own i j z before within x d e first second =
       ]
     ]
 
-pub unshared : (w : WorldState) (interval : ℕ) → IsSpaced w.history interval → IsSound w → HaveOwnNumbers w.clients → IsUnshared interval w
+pub unshared : (w : WorldState) (interval : ℕ) → IsSpaced w.history interval → IsSoundWorld w → HaveOwnNumbers w.clients → IsUnshared interval w
 unshared w interval spaced sound own = record { calls = one_call_each w sound own; drawn = days_apart w interval spaced sound own }

@@ -41,8 +41,8 @@ abbrev pub acceptance : ℕ × Reply → Acceptance
 acceptance a = record { client = a.0; request = request_of a.1; outcome = outcome_of a.1 }
 
 -- the state of a world, by what its book's history and counts of faults are
-abbrev pub state_of : {B : Type 0} → (B → List Entry) → (B → Faults) → Network B → WorldState
-state_of history faults w =
+abbrev pub world_state_of : {B : Type 0} → (B → List Entry) → (B → Faults) → Network B → WorldState
+world_state_of history faults w =
     record {
       history = history (book_in w);
       faults = faults (book_in w);

@@ -37,7 +37,7 @@ pub record IsStart (w : WorldState) : Type 0 where
   pub accepted : w.accepted ≡ []
   pub clients : All IsNew w.clients
 
-pub record IsSound (w : WorldState) : Type 0 where
+pub record IsSoundWorld (w : WorldState) : Type 0 where
   pub replied : All (IsGivenBy w.history) w.replied
   pub taken : All (IsOfClient w.clients) w.submitted
   pub in_turn : AllPairs (λ s u. s.0 ≡ u.0 → s.1.number < u.1.number) w.submitted

@@ -41,13 +41,13 @@ after_submit_by w k body (Some c) =
     else record w { submitted = w.submitted ++ (k, next_request c body) ∷ []; clients = slice_set w.clients k (after_submit c body) }
 
 -- Resend: where something is pending, the bytes that ask it are sent
-abbrev pub Sends : WorldState → Option Request → WorldState → Type 0
-Sends w None w' = w' ≡ w
-Sends w (Some q) w' = (b : List ℕ) × Asks b q × (w' ≡ record w { asked = w.asked ++ b ∷ [] })
+abbrev pub SendsPending : WorldState → Option Request → WorldState → Type 0
+SendsPending w None w' = w' ≡ w
+SendsPending w (Some q) w' = (b : List ℕ) × Asks b q × (w' ≡ record w { asked = w.asked ++ b ∷ [] })
 
 abbrev pub Resends : WorldState → Option ClientState → WorldState → Type 0
 Resends w None w' = w' ≡ w
-Resends w (Some c) w' = Sends w c.pending w'
+Resends w (Some c) w' = SendsPending w c.pending w'
 
 -- GiveUp: nothing is pending any more
 abbrev pub after_give_up_by : WorldState → ℕ → Option ClientState → WorldState
@@ -59,22 +59,22 @@ abbrev pub Fails : WorldState → WorldState → Type 0
 Fails w w' = (MemoryRises w.faults w'.faults ⊎ StoreRises w.faults w'.faults) × (w' ≡ record w { faults = w'.faults })
 
 -- there are fewer calls than the limit allows, or one has the key of the request
-abbrev pub HasRoomFor : List Entry → Terms → Request → Type 0
-HasRoomFor h t q = (length h < t.limit) ⊎ IsSome (entry_with_key h q.customer q.number)
+abbrev pub HasPlaceFor : List Entry → Terms → Request → Type 0
+HasPlaceFor h t q = (length h < t.limit) ⊎ IsSome (entry_with_key h q.customer q.number)
 
 -- the request is executed, unless it was before, and the reply that is owed is sent
 abbrev pub RepliesTo : Terms → WorldState → List ℕ → Request → ℕ → WorldState → Type 0
 RepliesTo t w b q day w' =
     let h = applied_once w.history ((q, day) ∷ []) t.interval in
-    HasRoomFor w.history t q × (f : List ℕ) × IsOwed h b f × (w' ≡ record w { history = h; replied = w.replied ++ f ∷ [] })
+    HasPlaceFor w.history t q × (f : List ℕ) × IsOwed h b f × (w' ≡ record w { history = h; replied = w.replied ++ f ∷ [] })
 
 -- a request reaches the server on a day
-abbrev pub Serves : Terms → WorldState → List ℕ → Request → ℕ → WorldState → Type 0
-Serves t w b q day w' = Fails w w' ⊎ ((IsFullFor w.history t q × (w' ≡ w)) ⊎ RepliesTo t w b q day w')
+abbrev pub ServesRequest : Terms → WorldState → List ℕ → Request → ℕ → WorldState → Type 0
+ServesRequest t w b q day w' = Fails w w' ⊎ ((IsFullFor w.history t q × (w' ≡ w)) ⊎ RepliesTo t w b q day w')
 
 -- bytes reach the server on a day
 abbrev pub ReachesServer : Terms → WorldState → List ℕ → ℕ → WorldState → Type 0
-ReachesServer t w b day w' = (AskNothing b × (w' ≡ w)) ⊎ ((q : Request) × Asks b q × Serves t w b q day w')
+ReachesServer t w b day w' = (AskNothing b × (w' ≡ w)) ⊎ ((q : Request) × Asks b q × ServesRequest t w b q day w')
 
 -- ToServer: bytes that were sent
 abbrev pub DeliversRequest : Terms → WorldState → Option (List ℕ) → ℕ → WorldState → Type 0

@@ -19,14 +19,14 @@ pub struct World<B: Book> {
 
 impl<B: Book> Model for World<B> {
     ghost use Rattle.s10_world.specs.declared.network.Network.{Network};
-    ghost use Rattle.s10_world.specs.Parts.{book_in, state_of};
-    ghost use Rattle.s10_world.specs.Sound.{IsSound};
+    ghost use Rattle.s10_world.specs.Parts.{book_in, world_state_of};
+    ghost use Rattle.s10_world.specs.Sound.{IsSoundWorld};
 
     ghost Value = { Network B };
 
     ghost view = { λ w. w.network };
 
-    ghost invariant = { λ w. B.honest (book_in w.network) → IsSound (state_of B.history B.faults w.network) };
+    ghost invariant = { λ w. B.honest (book_in w.network) → IsSoundWorld (world_state_of B.history B.faults w.network) };
 }
 
 impl<B: Book> World<B> {
@@ -35,7 +35,7 @@ impl<B: Book> World<B> {
     ghost use Rattle.s10_ends.specs.Runs.{IsKept};
     ghost use Rattle.s10_world.specs.World.{Steps};
     ghost use Rattle.s10_world.specs.Agreement.{Agrees, IsAtMostOnce, HaveOwnNumbers, IsUnshared};
-    ghost use Rattle.s10_world.specs.Parts.{server_of, book_in, clients_of, asked_of, replied_of, submitted_of, accepted_of, state_of, place_of};
+    ghost use Rattle.s10_world.specs.Parts.{server_of, book_in, clients_of, asked_of, replied_of, submitted_of, accepted_of, world_state_of, place_of};
 
     /// A world in which nothing was sent yet.
     pub fn new(alloc: Global, server: Server<B>, clients: Vec<Client>) -> World<B>
@@ -107,25 +107,25 @@ impl<B: Book> World<B> {
         ensures same_terms { B.honest (book_in self.new) → B.terms (book_in self.new) ≡ B.terms (book_in self.old) }
 
         // The state is one that the steps reach by the events in order.
-        ensures ok { B.honest (book_in self.new) → OnOk result (Steps (B.terms (book_in self.old)) (state_of B.history B.faults self.old) events.now (state_of B.history B.faults self.new)) }
+        ensures ok { B.honest (book_in self.new) → OnOk result (Steps (B.terms (book_in self.old)) (world_state_of B.history B.faults self.old) events.now (world_state_of B.history B.faults self.new)) }
 
         // Where memory was wanting, by the events before that place.
         ensures place { IfErr result (λ fault. place_of fault < length events.now) }
         ensures memory { B.honest (book_in self.new) → IfErr result (λ fault.
-            Steps (B.terms (book_in self.old)) (state_of B.history B.faults self.old) (take (place_of fault) events.now) (state_of B.history B.faults self.new)) }
+            Steps (B.terms (book_in self.old)) (world_state_of B.history B.faults self.old) (take (place_of fault) events.now) (world_state_of B.history B.faults self.new)) }
 
         // What was accepted agrees with the history, which keeps what legal histories keep.
         ensures kept { B.honest (book_in self.new) → IsKept (B.history (book_in self.new)) (B.terms (book_in self.new)) }
-        ensures agrees { B.honest (book_in self.new) → Agrees (state_of B.history B.faults self.new) }
+        ensures agrees { B.honest (book_in self.new) → Agrees (world_state_of B.history B.faults self.new) }
 
         // Each submitted request was executed at most once; a call whose reply was accepted exactly once, or not at all
         // where that is NumberReused.
-        ensures once { B.honest (book_in self.new) → IsAtMostOnce (state_of B.history B.faults self.new) }
+        ensures once { B.honest (book_in self.new) → IsAtMostOnce (world_state_of B.history B.faults self.new) }
 
         // Where no two clients of one customer had a number in common, each request is that of one call, and no
         // identifier is accepted twice within the interval.
         ensures unshared { B.honest (book_in self.new) → HaveOwnNumbers (clients_of self.old)
-            → IsUnshared (B.terms (book_in self.new)).interval (state_of B.history B.faults self.new) }
+            → IsUnshared (B.terms (book_in self.new)).interval (world_state_of B.history B.faults self.new) }
     {
         self.network.run(events)
     }

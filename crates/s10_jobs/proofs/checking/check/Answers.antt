@@ -5,7 +5,7 @@ use Rattle.s10_core.specs.declared.text_fault.TextFault.{TextFault}
 use Rattle.s10_core.proofs.Spellings.{one_spelled, one_refusal, spelled_unrefused}
 use Rattle.s10_jobs.specs.Words.{text_fault_words}
 use Rattle.s10_jobs.specs.Lines.{valid_line, refused_line}
-use Rattle.s10_jobs.specs.declared.status.Status.TheVariants.{Done, Refused}
+use Rattle.s10_jobs.specs.declared.job_status.JobStatus.TheVariants.{Done, Refused}
 use Rattle.s10_jobs.proofs.checking.check.Goals as goal
 
 pub returns-in-Ok-clause-valid : goal.returns-in-Ok-clause-valid

@@ -2,7 +2,7 @@ use Rattle.std.proofs.Common.{◌≤◌, List, [], ◌∷◌, ◌++◌, length, 
 use Rattle.s10_wire.specs.declared.frame.Frame.{Frame}
 use Rattle.s10_history.specs.Settings.{Terms}
 use Rattle.s10_ends.specs.Server.{book_of}
-use Rattle.s10_world.specs.Parts.{server_of, state_of}
+use Rattle.s10_world.specs.Parts.{server_of, world_state_of}
 use Rattle.s10_world.proofs.Sent.{reached_reply, reached_fault}
 use Rattle.s10_world.proofs.network.Network.reach_server.Goals as goal
 
@@ -12,7 +12,7 @@ returns-in-Reply-clause-ok g c = λ h.
     let now = book_of c.handle.new.self in
     let few : length (g.B.Book.history now) ≤ (g.B.Book.terms book).limit =
     subst (λ (t : Terms). length (g.B.Book.history now) ≤ t.limit) (c.in-Reply.ensures.same_terms h) (g.met.B.Book.legal now h).few in
-    reached_reply (state_of g.B.Book.history g.B.Book.faults c.args.self.now) (g.B.Book.terms book) c.args.bytes.now c.args.day c.in-Reply.frame (g.B.Book.history now) (g.B.Book.faults now) _
+    reached_reply (world_state_of g.B.Book.history g.B.Book.faults c.args.self.now) (g.B.Book.terms book) c.args.bytes.now c.args.day c.in-Reply.frame (g.B.Book.history now) (g.B.Book.faults now) _
     (c.in-Reply.ensures.served h) few c.in-Reply.ensures.faults
     (c.push_reserved.ensures.items ∙ ap (λ (l : List Frame). l ++ c.in-Reply.frame ∷ []) c.in_ok-reserve.ensures.items)
 
@@ -20,5 +20,5 @@ pub returns-in-Faulted-clause-ok : goal.returns-in-Faulted-clause-ok
 returns-in-Faulted-clause-ok g c = λ h.
     let now = book_of c.handle.new.self in
     rw c.in_ok-reserve.ensures.items
-    (reached_fault (state_of g.B.Book.history g.B.Book.faults c.args.self.now) (g.B.Book.terms (book_of (server_of c.args.self.now))) c.args.bytes.now c.args.day c.in-Faulted.field-0 (g.B.Book.history now) (g.B.Book.faults now)
+    (reached_fault (world_state_of g.B.Book.history g.B.Book.faults c.args.self.now) (g.B.Book.terms (book_of (server_of c.args.self.now))) c.args.bytes.now c.args.day c.in-Faulted.field-0 (g.B.Book.history now) (g.B.Book.faults now)
     (c.in-Faulted.ensures.served h) (c.in-Faulted.ensures.unchanged h) c.in-Faulted.ensures.faults)

@@ -4,7 +4,7 @@ use Rattle.s10_history.specs.Settings.{Terms}
 use Rattle.s10_ends.specs.Server.{book_of}
 use Rattle.s10_world.specs.declared.event.Event.{Event}
 use Rattle.s10_world.specs.World.{Step}
-use Rattle.s10_world.specs.Parts.{server_of, state_of}
+use Rattle.s10_world.specs.Parts.{server_of, world_state_of}
 use Rattle.s10_world.proofs.Run.{Steps-push}
 use Rattle.s10_world.proofs.network.Network.run.Goals as goal
 
@@ -26,8 +26,8 @@ loop-place-preserved g c =
           let event = c.index-events-place.result in
           let all : take (c.loop-place.place + 1) c.args.events.now ≡ take c.loop-place.place c.args.events.now ++ event ∷ [] =
           take_more c.args.events.now c.loop-place.place event c.loop-place-test.true ∙ ap (λ (e : Event). take c.loop-place.place c.args.events.now ++ e ∷ []) (sym c.index-events-place.is) in
-          let mid = state_of g.B.Book.history g.B.Book.faults c.loop-place.self in
-          let after = state_of g.B.Book.history g.B.Book.faults c.step.new.self in
-          rw all (Steps-push (g.B.Book.terms book) (state_of g.B.Book.history g.B.Book.faults old) mid after (take c.loop-place.place c.args.events.now) event
+          let mid = world_state_of g.B.Book.history g.B.Book.faults c.loop-place.self in
+          let after = world_state_of g.B.Book.history g.B.Book.faults c.step.new.self in
+          rw all (Steps-push (g.B.Book.terms book) (world_state_of g.B.Book.history g.B.Book.faults old) mid after (take c.loop-place.place c.args.events.now) event
           (before.reached h0) (subst (λ (t : Terms). Step t mid event after) (before.same_terms h0) (c.in-Ok.ensures.ok h)));
     }

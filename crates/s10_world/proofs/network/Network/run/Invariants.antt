@@ -1,7 +1,7 @@
 use Rattle.std.proofs.Common.{◌≡◌, take}
 use Rattle.s10_ends.specs.Server.{book_of}
 use Rattle.s10_world.specs.World.{Steps}
-use Rattle.s10_world.specs.Parts.{server_of, state_of}
+use Rattle.s10_world.specs.Parts.{server_of, world_state_of}
 use Rattle.s10_world.proofs.network.Network.run.Given as goal
 
 abbrev pub invariant-loop-place : goal.invariant-loop-place
@@ -11,5 +11,5 @@ invariant-loop-place g l =
     record {
       was_honest : g.B.Book.honest now → g.B.Book.honest book;
       same_terms : g.B.Book.honest now → g.B.Book.terms now ≡ g.B.Book.terms book;
-      reached : g.B.Book.honest now → Steps (g.B.Book.terms book) (state_of g.B.Book.history g.B.Book.faults l.fn.self) (take l.place l.events) (state_of g.B.Book.history g.B.Book.faults l.self);
+      reached : g.B.Book.honest now → Steps (g.B.Book.terms book) (world_state_of g.B.Book.history g.B.Book.faults l.fn.self) (take l.place l.events) (world_state_of g.B.Book.history g.B.Book.faults l.self);
     }

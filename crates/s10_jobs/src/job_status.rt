@@ -1,6 +1,6 @@
 /// How a run of the program ended: its exit status. This project's own choice.
 #[derive(Clone, Copy, Debug, PartialEq, Eq)]
-pub enum Status {
+pub enum JobStatus {
     /// What was asked for was done.
     Done = 0,
     /// A rule refused it.

@@ -4,7 +4,7 @@ use s10_wire::{Frame, WireFault};
 
 /// What one turn of a server did, with the peer that the datagram came from.
 #[derive(Clone, Copy, Debug, PartialEq, Eq)]
-pub enum Served {
+pub enum ServerTurn {
     /// Nothing came.
     Quiet,
     /// The datagram asks nothing.
