@@ -8,7 +8,7 @@ use Rattle.s10_history.specs.declared.entry.Entry.{Entry}
 use Rattle.s10_history.specs.Settings.{Terms}
 use Rattle.s10_history.specs.History.{has_key}
 use Rattle.s10_book.specs.Rules.{IsLegal, MayFollow}
-use Rattle.s10_history.proofs.Push.{IsLegal-push, IsLegal-nil}
+use Rattle.s10_book.proofs.Push.{IsLegal-push, IsLegal-nil}
 
 -- the element at a place, and the list up to it and with it
 pub element : {A : Type 0} (xs : List A) (n : ℕ) → n < length xs → (x : A) × (slice_get xs n ≡ Some x) × (take (suc n) xs ≡ take n xs ++ x ∷ [])

@@ -14,7 +14,7 @@ use Rattle.s10_history.specs.declared.entry.Entry.{Entry}
 use Rattle.s10_history.specs.contracts.entry.Entry as entry
 use Rattle.s10_history.specs.History.{day_of}
 use Rattle.s10_book.specs.Rules.{MayFollow}
-use Rattle.s10_history.proofs.Push.{IsLegal-push}
+use Rattle.s10_book.proofs.Push.{IsLegal-push}
 use Rattle.s10_book.specs.Book.{Keeps}
 use Rattle.s10_book.specs.declared.faults.Faults.{Faults}
 use Rattle.s10_history.specs.Settings.{Terms}

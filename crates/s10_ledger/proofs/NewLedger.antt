@@ -3,7 +3,7 @@ use Rattle.std.proofs.Common.{◌≡◌, [], refl}
 use Rattle.std.proofs.lemmas.List.Elements.{All-nil}
 use Rattle.sqlite.specs.Effect.{Database}
 use Rattle.s10_history.specs.Settings.{Terms}
-use Rattle.s10_history.proofs.Push.{IsLegal-nil}
+use Rattle.s10_book.proofs.Push.{IsLegal-nil}
 use Rattle.s10_ledger.specs.Ledger.{IsLedger, history_in}
 use Rattle.s10_rows.specs.Selected.{IsCall}
 use Rattle.s10_statements.specs.Shown.{StandsFor}

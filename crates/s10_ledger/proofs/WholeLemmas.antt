@@ -10,7 +10,7 @@ use Rattle.s10_history.specs.declared.entry.Entry.{Entry}
 use Rattle.s10_history.specs.Settings.{Terms}
 use Rattle.s10_history.specs.History.{day_of}
 use Rattle.s10_book.specs.Rules.{IsLegal}
-use Rattle.s10_history.proofs.Push.{IsLegal-push, IsLegal-nil}
+use Rattle.s10_book.proofs.Push.{IsLegal-push, IsLegal-nil}
 use Rattle.s10_rows.specs.declared.open_fault.OpenFault.{OpenFault}
 use Rattle.s10_rows.specs.declared.open_fault.OpenFault.TheVariants.{NotALedger, Schema as OtherSchema, Damaged, NotEmpty, Memory, Store}
 use Rattle.s10_rows.specs.declared.opened.Opened.{Opened}

@@ -10,7 +10,7 @@ use Rattle.s10_history.specs.Settings.{Terms}
 use Rattle.s10_history.specs.History.{entry_with_key, day_of}
 use Rattle.s10_book.specs.Once.{entry_for, applied}
 use Rattle.s10_book.specs.Rules.{IsLegal}
-use Rattle.s10_history.proofs.Push.{IsLegal-push}
+use Rattle.s10_book.proofs.Push.{IsLegal-push}
 use Rattle.s10_book.proofs.Spaced.{spaced}
 use Rattle.s10_book.proofs.Own.{own}
 use Rattle.s10_book.proofs.Apart.{apart}

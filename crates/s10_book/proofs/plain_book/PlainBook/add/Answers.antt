@@ -1,7 +1,7 @@
 use Rattle.std.proofs.Common.{◌≡◌, ◌∙◌, ◌++◌, ◌∷◌, [], length, ap, arith}
 use Rattle.s10_history.specs.History.{ranges_of}
 use Rattle.s10_history.proofs.Push.{length-ranges_from, granted-push, issued-push}
-use Rattle.s10_history.proofs.Push.{IsLegal-push}
+use Rattle.s10_book.proofs.Push.{IsLegal-push}
 use Rattle.s10_book.proofs.plain_book.PlainBook.add.Goals as goal
 
 pub range_made-made-requires : goal.range_made-made-requires

@@ -1,6 +1,6 @@
 use Rattle.std.proofs.Common.{◌≡◌, ◌∙◌, List, ◌++◌, ◌∷◌, [], sym, subst, ap}
 use Rattle.s10_history.specs.declared.entry.Entry.{Entry}
-use Rattle.s10_history.proofs.Push.{IsLegal-push}
+use Rattle.s10_book.proofs.Push.{IsLegal-push}
 use Rattle.s10_book.proofs.Fitting.{answer_fits}
 use Rattle.s10_index.specs.CallIndex.{Indexes}
 use Rattle.s10_index.proofs.indexed_book.IndexedBook.add.Goals as goal
