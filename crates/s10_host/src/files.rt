@@ -12,6 +12,9 @@ use sqlite::{Connection, Error, ErrorCode, FileFrom, FileStore, Files, Start};
 use std::fs;
 use std::fs::OpenOptions;
 
+/// How many megabytes a file has at least whose opening begins with its size.
+const LARGE: u64 = 10;
+
 /// A connection over a file.
 pub type FileConnection<S> = Connection<FileStore<FileFrom<S>>>;
 
@@ -160,12 +163,25 @@ fn connect<S: Start>(rt: &HostRuntime, path: &str, start: S) -> Result<FileConne
     ensures plain { IfOk result (IsPlain (image_at S.Start)) }
     ensures refused { IfErr result IsFileFault }
 {
+    tell_size(rt, path);
     match Connection::open_from(rt, path, false, start) {
         Ok(connection) => Ok(connection),
         Err((error, _files)) => {
             tell_cause(rt, path, &error);
             Err(fault_of_opening(&error))
         }
+    }
+}
+
+// Says on standard error how large a file is whose opening takes a second or more: the store looks through it first, and
+// tells nobody meanwhile.
+fn tell_size(rt: &HostRuntime, path: &str) {
+    let Ok(metadata) = fs::metadata(rt, path) else {
+        return;
+    };
+    let megabytes = metadata.len() / 1_000_000;
+    if megabytes >= LARGE {
+        let _ = eprintln!(rt; "opening {path}: {megabytes} MB");
     }
 }
 
