@@ -1,0 +1,310 @@
+#!/bin/sh
+# Hands each command what a person may hand it by mistake or by misfortune: no file, a file that is no ledger, one of another user,
+# a mount that is read-only, a full disk, a ledger or a port that is taken, an output that is closed or full. Each has to end with
+# the status, the line and the words on standard error that stand beside it, which are those of docs/OPERATING.md, and to change
+# the folder as it says: `+ledger-wal 41` is a file of 41 bytes that was not there, `~ledger 4096` one that was another, `-text` one
+# that is gone. It mounts small filesystems, in a namespace of its own, and runs commands as `nobody`, so it has to be root.
+#
+#     sh checks/trials.sh [PROGRAM]
+set -eu
+
+if [ "${2:-}" != inside ]; then
+    program=$(readlink -f "${1:-$(dirname "$(readlink -f "$0")")/../crates/s10/out/s10}")
+    exec unshare --mount --propagation private sh "$0" "$program" inside
+fi
+
+room=$(mktemp -d)
+server=
+trap 'stop; cd /; umount -q "$room/read-only" "$room/full" "$room/small" 2>/dev/null || true; rm -rf --one-file-system "$room"' EXIT
+cp "$1" "$room/s10"
+chmod 755 "$room" "$room/s10"
+s10=$room/s10
+cd "$room"
+count=0
+
+fail() {
+    echo "failed: $1"
+    exit 1
+}
+
+stop() {
+    if [ -n "$server" ]; then
+        kill -9 "$server" 2>/dev/null || true
+        wait "$server" 2>/dev/null || true
+        server=
+    fi
+}
+
+# Every file below the folder: its name, its size, and the rest that may change.
+state() {
+    find . -type f -printf '%P %s %m %U:%G ' -exec sh -c 'sha256sum <"$1"' sh {} \; | sort
+    find . ! -type f -printf '%P %y %m %U:%G\n' | sort
+}
+
+# What became of the files between two states.
+changes() {
+    awk 'NR == FNR { was[$1] = $0; next }
+        !($1 in was) { print "+" $1 " " $2; next }
+        was[$1] != $0 { print "~" $1 " " $2 }
+        { delete was[$1] }
+        END { for (name in was) print "-" name }' ../before ../after | sort | paste -sd, -
+}
+
+# A command's words follow its status, its line, its words on standard error and the changes; several are joined by `|`.
+# `as` starts it as another user, and `sink` says where its output goes.
+as=
+sink=kept
+tries() { # STATUS LINE WORDS CHANGES COMMAND..
+    status=$1 line=$2 words=$3 changed=$4
+    shift 4
+    state >../before
+    got=0
+    case $sink in
+        kept) $as "$s10" "$@" >../out 2>../err || got=$? ;;
+        closed) : >../out && $as "$s10" "$@" 2>../err >&- || got=$? ;;
+        full) : >../out && $as "$s10" "$@" >/dev/full 2>../err || got=$? ;;
+    esac </dev/null
+    state >../after
+    found=$(printf '%s; %s; %s; %s' "$got" "$(paste -sd'|' ../out)" "$(paste -sd'|' ../err)" "$(changes)")
+    # Where the port or the size is another each time, a star stands for it.
+    # shellcheck disable=SC2254
+    case $found in
+        $(printf '%s; %s; %s; %s' "$status" "$line" "$words" "$changed" | sed 's/[][?\\]/\\&/g')) ;;
+        *)
+            echo "expected: $status; $line; $words; $changed"
+            echo "came:     $found"
+            fail "s10 $*"
+            ;;
+    esac
+    count=$((count + 1))
+}
+
+# The same of the three commands that look for a ledger: the words on standard error of `serve` begin with what it opens.
+refused() { # FILE LINE WORDS CHANGES
+    tries 3 "$2" "$3" "$4" audit --ledger "$1"
+    tries 3 "$2" "$3" "$4" report --ledger "$1" --day 20000
+    tries 3 "$2" "opening $1${3:+|$3}" "$4" serve --ledger "$1" --bind 127.0.0.1:0 --count 1
+}
+
+create() { # STATUS LINE WORDS CHANGES FILE
+    tries "$1" "$2" "$3" "$4" create --ledger "$5" --interval 30 --limit 1000
+}
+
+# A server over a ledger; sets `server` and `address`.
+serve() { # FILE
+    $as "$s10" serve --ledger "$1" --bind 127.0.0.1:0 --count 4294967295 --day 20000 >../turns 2>../told </dev/null &
+    server=$!
+    for _ in $(seq 100); do
+        address=$(sed -n 's/^serving on //p' ../told)
+        if [ -n "$address" ]; then return; fi
+        sleep 0.1
+    done
+    fail "the server over $1 does not start"
+}
+
+ask() { # COMMAND OPTIONS..
+    command=$1
+    shift
+    "$s10" "$command" --to "$address" --tries 1 "$@"
+}
+
+draw() { # NUMBER
+    ask draw --customer 7 --number "$1" --service RA --country GB
+}
+
+# Leaves a disk no room.
+fill() {
+    dd if=/dev/zero of=filler bs=4096 2>/dev/null || true
+}
+
+# A folder of its own for each group, which any user may look into.
+group() {
+    cd "$room"
+    mkdir "$1"
+    cd "$1"
+    echo "$1"
+}
+
+nobody='setpriv --reuid=nobody --regid=nogroup --clear-groups'
+note='CREATE TABLE note (serial INTEGER NOT NULL, text TEXT NOT NULL) STRICT'
+
+group files
+: >empty
+printf 'a text, and longer than sixteen bytes\n' >text
+printf 'short' >short
+head -c 8192 /dev/zero >zeros
+mkdir folder
+mkfifo pipe
+ln -s nothing dangling
+refused missing 'ledger not-a-ledger' '' ''
+refused empty 'ledger not-a-ledger' '' ''
+refused dangling 'ledger not-a-ledger' '' ''
+refused nowhere/missing 'ledger store' '' ''
+create 3 'ledger store' 'cannot open nowhere/missing: No such file or directory (os error 2)' '' nowhere/missing
+create 3 'ledger store' 'cannot open dangling: No such file or directory (os error 2)' '' dangling
+for file in text short zeros; do
+    refused "$file" 'ledger store' "cannot open $file: it is no database" ''
+    create 3 'ledger store' "cannot open $file: it is no database" '' "$file"
+done
+refused folder 'ledger store' 'cannot open folder: Is a directory (os error 21)' ''
+create 3 'ledger store' 'cannot open folder: Is a directory (os error 21)' '' folder
+for file in pipe /dev/null; do
+    refused "$file" 'ledger store' "cannot open $file: unable to open database file" ''
+    create 3 'ledger store' "cannot open $file: unable to open database file" '' "$file"
+done
+create 0 created '' '+ledger 32768,+ledger-wal 41' ledger
+create 3 'ledger not-empty' '' '~ledger-wal 41' ledger
+create 0 created '' '+empty-wal 41,~empty 32768' empty
+ln -s ledger link
+tries 0 'ledger ok 0' '' '~ledger-wal 41' audit --ledger link
+
+group databases
+sqlite3 notes "$note"
+tries 3 'ledger store' 'cannot make a ledger in notes: it has tables of its own' '+notes-wal 41' \
+    create --ledger notes --interval 30 --limit 1000
+refused notes 'ledger not-a-ledger' '' '~notes-wal 41'
+[ "$(sqlite3 notes "INSERT INTO note VALUES (1, 'a'); SELECT * FROM note; PRAGMA integrity_check" | paste -sd' ')" = '1|a ok' ] ||
+    fail 'a refused database is another'
+create 0 created '' '+ledger 32768,+ledger-wal 41' ledger
+head -c 8192 ledger >'cut'
+tries 3 'ledger store' 'cannot open cut: database disk image is malformed' '+cut-wal 41' audit --ledger cut
+refused cut 'ledger store' 'cannot open cut: database disk image is malformed' '~cut-wal 41'
+create 3 'ledger store' 'cannot open cut: database disk image is malformed' '~cut-wal 41' cut
+cp ledger journal
+printf hot >journal-journal
+cp ledger twice
+ln twice again
+for file in journal twice again; do
+    refused "$file" 'ledger store' "cannot open $file: unable to open database file" ''
+    create 3 'ledger store' "cannot open $file: unable to open database file" '' "$file"
+done
+sqlite3 ledger "$note; INSERT INTO note VALUES (1, CAST(zeroblob(12000000) AS TEXT))"
+tries 0 'ledger ok 0' 'opening ledger: 12 MB' '+ledger-wal 41' audit --ledger ledger
+
+group users
+create 0 created '' '+ledger 32768,+ledger-wal 41' ledger
+mkdir -m 700 inside
+cp ledger inside/
+install -m 600 ledger private
+install -m 444 -o nobody ledger read-only
+install -m 644 -o nobody ledger own
+as=$nobody
+for file in ledger private read-only; do
+    refused "$file" 'ledger store' "cannot open $file: Permission denied (os error 13)" ''
+    create 3 'ledger store' "cannot open $file: Permission denied (os error 13)" '' "$file"
+done
+refused own 'ledger store' 'cannot open own: unable to open database file' ''
+create 3 'ledger store' 'cannot open own: unable to open database file' '' own
+create 3 'ledger store' 'cannot open new: No such file or directory (os error 2)' '' new
+refused inside/ledger 'ledger store' '' ''
+as=
+
+group read-only
+mount -t tmpfs -o size=1m tmpfs "$room/read-only"
+cd "$room/read-only"
+create 0 created '' '+ledger 32768,+ledger-wal 41' ledger
+cp ledger alone
+sqlite3 notes "$note"
+mount -o remount,ro "$room/read-only"
+refused missing 'ledger not-a-ledger' '' ''
+create 3 'ledger store' 'cannot open missing: No such file or directory (os error 2)' '' missing
+for file in ledger alone notes; do
+    refused "$file" 'ledger store' "cannot open $file: Read-only file system (os error 30)" ''
+    create 3 'ledger store' "cannot open $file: Read-only file system (os error 30)" '' "$file"
+done
+
+group full
+mount -t tmpfs -o size=1m tmpfs "$room/full"
+cd "$room/full"
+create 0 created '' '+ledger 32768,+ledger-wal 41' ledger
+cp ledger alone
+: >empty
+fill
+create 3 'ledger store' 'cannot open new: database or disk is full' '+new 0,+new-wal 0' new
+create 3 'ledger store' 'cannot open empty: database or disk is full' '+empty-wal 0' empty
+tries 3 'ledger store' 'cannot open alone: database or disk is full' '+alone-wal 0' audit --ledger alone
+refused alone 'ledger store' 'cannot open alone: database or disk is full' ''
+tries 0 'ledger ok 0' '' '~ledger-wal 41' audit --ledger ledger
+rm filler
+create 0 created '' '~new 32768,~new-wal 41' new
+tries 0 'ledger ok 0' '' '~alone-wal 41' audit --ledger alone
+
+# A server whose disk fills faults what is new, answers what is kept, and goes on once there is room. No answered call is lost.
+group small
+mount -t tmpfs -o size=4m tmpfs "$room/small"
+cd "$room/small"
+create 0 created '' '+ledger 32768,+ledger-wal 41' ledger
+serve ledger
+ask grant --number 1 --holder 7 --service RA --country GB --first 0 --last 99999 >../answers
+draw 1 >>../answers
+fill
+number=2
+while draw "$number" >>../answers; do
+    number=$((number + 1))
+done
+[ "$(grep -c '^faulted store$' ../turns)" = 1 ] || fail 'a full disk is no fault of one turn'
+[ "$(draw 1)" = "$(sed -n 2p ../answers)" ] || fail 'a repeat on a full disk'
+rm filler
+draw "$number" >../again || fail 'a draw once there is room'
+[ "$(wc -l <../told)" = 2 ] || fail 'words on standard error of a full disk'
+stop
+tries 0 "ledger ok $((number + 1))" '' '' audit --ledger ledger
+
+group taken
+create 0 created '' '+ledger 32768,+ledger-wal 41' ledger
+cp ledger other
+serve ledger
+refused ledger 'ledger store' 'cannot open ledger: database is locked' ''
+create 3 'ledger store' 'cannot open ledger: database is locked' '' ledger
+tries 3 'link bind' "opening other|cannot bind $address: Address already in use (os error 98)" '+other-wal 41' \
+    serve --ledger other --bind "$address" --count 1
+tries 3 'link bind' 'opening other|cannot bind 192.0.2.1:4000: Cannot assign requested address (os error 99)' '~other-wal 41' \
+    serve --ledger other --bind 192.0.2.1:4000 --count 1
+tries 1 'refused peer' '' '' serve --ledger missing --bind localhost:4000 --count 1
+stop
+(
+    echo 'BEGIN EXCLUSIVE;'
+    sleep 4
+) | sqlite3 other &
+server=$!
+sleep 1
+refused other 'ledger store' 'cannot open other: database is locked' ''
+create 3 'ledger store' 'cannot open other: database is locked' '' other
+stop
+
+# What asks a server, where none is at the address any more.
+group unanswered
+unanswered() { # STATUS LINE WORDS
+    tries "$1" "$2" "$3" '' grant --to "$address" --number 1 --holder 7 --service RA --country GB --first 0 --last 2 --tries 1
+    tries "$1" "$2" "$3" '' draw --to "$address" --customer 7 --number 1 --service RA --country GB --tries 1
+    tries "$1" "$2" "$3" '' void --to "$address" --customer 7 --number 2 --id RA000000005GB --tries 1
+    tries "$1" "$2" "$3" '' query --to "$address" --customer 7 --number 3 --id RA000000005GB --tries 1
+    tries "$1" "$2" "$3" '' withdraw --to "$address" --number 2 --range 1 --tries 1
+}
+unanswered 3 gave-up ''
+
+group outputs
+create 0 created '' '+ledger 32768,+ledger-wal 41' ledger
+for sink in closed full; do
+    case $sink in
+        closed) why='Bad file descriptor (os error 9)' of_link='Destination address required (os error 89)' ;;
+        full) why='No space left on device (os error 28)' of_link=$why ;;
+    esac
+    why="error: the output cannot be written: $why"
+    of_link="error: the output cannot be written: $of_link"
+    tries 3 '' "$why" '' check RA473124829US
+    tries 3 '' "$why" '' make RA 00000008 GB
+    tries 3 '' "$why" '' show 5331018200000007000000065241474205
+    tries 3 '' "$why" '' --version
+    tries 3 '' "$why" '' help create
+    tries 0 '' '' '' replay
+    tries 3 '' "$why" '~ledger-wal 41' audit --ledger ledger
+    tries 3 '' "$why" '~ledger-wal 41' report --ledger ledger --day 20000
+    tries 3 '' "$why" "+$sink 32768,+$sink-wal 41" create --ledger "$sink" --interval 30 --limit 1000
+    tries 3 '' "opening missing|$why" '' serve --ledger missing --bind 127.0.0.1:0 --count 1
+    tries 3 '' "opening ledger|serving on *|$of_link" '~ledger-wal 41' serve --ledger ledger --bind 127.0.0.1:0 --count 1
+    tries 3 '' "$of_link" '' loop --day 20000
+    unanswered 3 '' "$of_link"
+done
+
+echo "$count commands: each ended as is written, and left its folder as is written"
