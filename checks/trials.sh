@@ -139,7 +139,7 @@ ln -s nothing dangling
 refused missing 'ledger not-a-ledger' '' ''
 refused empty 'ledger not-a-ledger' '' ''
 refused dangling 'ledger not-a-ledger' '' ''
-refused nowhere/missing 'ledger store' '' ''
+refused nowhere/missing 'ledger store' 'cannot open nowhere/missing: No such file or directory (os error 2)' ''
 create 3 'ledger store' 'cannot open nowhere/missing: No such file or directory (os error 2)' '' nowhere/missing
 create 3 'ledger store' 'cannot open dangling: No such file or directory (os error 2)' '' dangling
 for file in text short zeros; do
@@ -160,16 +160,15 @@ tries 0 'ledger ok 0' '' '~ledger-wal 41' audit --ledger link
 
 group databases
 sqlite3 notes "$note"
-tries 3 'ledger store' 'cannot make a ledger in notes: it has tables of its own' '+notes-wal 41' \
+tries 3 'ledger store' 'cannot make a ledger in notes: it has tables of its own' '' \
     create --ledger notes --interval 30 --limit 1000
-refused notes 'ledger not-a-ledger' '' '~notes-wal 41'
+refused notes 'ledger not-a-ledger' '' ''
 [ "$(sqlite3 notes "INSERT INTO note VALUES (1, 'a'); SELECT * FROM note; PRAGMA integrity_check" | paste -sd' ')" = '1|a ok' ] ||
     fail 'a refused database is another'
 create 0 created '' '+ledger 32768,+ledger-wal 41' ledger
 head -c 8192 ledger >'cut'
-tries 3 'ledger store' 'cannot open cut: database disk image is malformed' '+cut-wal 41' audit --ledger cut
-refused cut 'ledger store' 'cannot open cut: database disk image is malformed' '~cut-wal 41'
-create 3 'ledger store' 'cannot open cut: database disk image is malformed' '~cut-wal 41' cut
+refused cut 'ledger store' 'cannot open cut: database disk image is malformed' ''
+create 3 'ledger store' 'cannot open cut: database disk image is malformed' '' cut
 cp ledger journal
 printf hot >journal-journal
 cp ledger twice
@@ -195,8 +194,8 @@ for file in ledger private read-only; do
 done
 refused own 'ledger store' 'cannot open own: unable to open database file' ''
 create 3 'ledger store' 'cannot open own: unable to open database file' '' own
-create 3 'ledger store' 'cannot open new: No such file or directory (os error 2)' '' new
-refused inside/ledger 'ledger store' '' ''
+create 3 'ledger store' 'cannot open new: Permission denied (os error 13)' '' new
+refused inside/ledger 'ledger store' 'cannot open inside/ledger: Permission denied (os error 13)' ''
 as=
 
 group read-only
@@ -207,7 +206,7 @@ cp ledger alone
 sqlite3 notes "$note"
 mount -o remount,ro "$room/read-only"
 refused missing 'ledger not-a-ledger' '' ''
-create 3 'ledger store' 'cannot open missing: No such file or directory (os error 2)' '' missing
+create 3 'ledger store' 'cannot open missing: Read-only file system (os error 30)' '' missing
 for file in ledger alone notes; do
     refused "$file" 'ledger store' "cannot open $file: Read-only file system (os error 30)" ''
     create 3 'ledger store' "cannot open $file: Read-only file system (os error 30)" '' "$file"
@@ -221,13 +220,12 @@ cp ledger alone
 : >empty
 fill
 create 3 'ledger store' 'cannot open new: database or disk is full' '+new 0,+new-wal 0' new
-create 3 'ledger store' 'cannot open empty: database or disk is full' '+empty-wal 0' empty
-tries 3 'ledger store' 'cannot open alone: database or disk is full' '+alone-wal 0' audit --ledger alone
+create 3 'ledger store' 'cannot open empty: database or disk is full' '' empty
 refused alone 'ledger store' 'cannot open alone: database or disk is full' ''
 tries 0 'ledger ok 0' '' '~ledger-wal 41' audit --ledger ledger
 rm filler
 create 0 created '' '~new 32768,~new-wal 41' new
-tries 0 'ledger ok 0' '' '~alone-wal 41' audit --ledger alone
+tries 0 'ledger ok 0' '' '+alone-wal 41' audit --ledger alone
 
 # A server whose disk fills faults what is new, answers what is kept, and goes on once there is room. No answered call is lost.
 group small

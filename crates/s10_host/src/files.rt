@@ -4,13 +4,14 @@ ghost use Rattle.std.specs.Prelude.{◌≡◌, false, Ok, IfOk, IfErr, IsErrAnd}
 ghost use Rattle.sqlite_wal.specs.Files.{image_at};
 ghost use Rattle.s10_host.specs.Files.{IsFoundIn, IsPlain, IsEmptyBook, IsFoundBook, WhereClean, PutsAway, Copies, LeavesClean, IsFileFault, IsAbsenceOr, IsNotMade, IsNotOpened};
 
-use crate::front::{fault_of_front, fault_of_place};
+use crate::front::{fault_of_front, fault_of_place, missing_log, remove_log};
 use crate::onlooker::Onlooker;
 use s10_history::Settings;
 use s10_ledger::{OpenFault, Refused, SqlBook};
 use sqlite::{Connection, Error, ErrorCode, FileFrom, FileStore, Files, Start};
-use std::fs;
 use std::fs::OpenOptions;
+use std::io::ErrorKind;
+use std::{fs, io};
 
 /// How many megabytes a file has at least whose opening begins with its size.
 const LARGE: u64 = 10;
@@ -36,11 +37,13 @@ pub fn create_book<S: Start>(
     ensures made { IfOk result (WhereClean IsEmptyBook) }
     ensures refused { IfErr result (IsNotMade S.row S.Start) }
 {
+    let missing = missing_log(rt, path);
     let connection = connect_to_place(rt, path, start)?;
     let mut onlooker = Onlooker::new(rt, path);
     let made = SqlBook::create(rt.alloc(), connection, settings, &mut onlooker);
     if let Err(refusal) = &made {
         onlooker.tell_place(refusal.fault);
+        remove_log(rt, missing);
     }
     kept_or_closed(made)
 }
@@ -50,9 +53,14 @@ pub fn open_book<S: Start>(rt: &HostRuntime, path: &str, start: S) -> Result<Fil
     ensures opened { IfOk result (WhereClean (IsFoundBook (image_at S.Start))) }
     ensures refused { IfErr result (IsNotOpened S.row S.Start) }
 {
+    let missing = missing_log(rt, path);
     let connection = connect_to_ledger(rt, path, start)?;
     let mut onlooker = Onlooker::new(rt, path);
-    kept_or_closed(SqlBook::open(rt.alloc(), connection, &mut onlooker))
+    let found = SqlBook::open(rt.alloc(), connection, &mut onlooker);
+    if found.is_err() {
+        remove_log(rt, missing);
+    }
+    kept_or_closed(found)
 }
 
 /// Ends a book: what it committed is then in the database file itself.
@@ -122,8 +130,16 @@ pub fn connect_to_ledger<S: Start>(
             Some(fault) => Err(fault),
         },
         Ok(false) => Err(absence(rt, path)),
-        Err(_) => Err(OpenFault::Store),
+        Err(cause) => Err(fault_of_look(rt, path, &cause)),
     }
+}
+
+// Says on standard error why a file could not be looked for.
+fn fault_of_look(rt: &HostRuntime, path: &str, cause: &io::Error) -> OpenFault
+    ensures { result ≡ OpenFault.Store }
+{
+    let _ = eprintln!(rt; "cannot open {path}: {cause}");
+    OpenFault::Store
 }
 
 // Opens the file of a new ledger as a database, or makes it.
@@ -151,7 +167,8 @@ fn absence(rt: &HostRuntime, path: &str) -> OpenFault
         None | Some(("", _)) => OpenFault::NotALedger,
         Some((folder, _)) => match fs::exists(rt, folder) {
             Ok(true) => OpenFault::NotALedger,
-            _ => OpenFault::Store,
+            Ok(false) => fault_of_look(rt, path, &io::Error::from_raw_os_error(2)),
+            Err(cause) => fault_of_look(rt, path, &cause),
         },
     }
 }
@@ -164,9 +181,14 @@ fn connect<S: Start>(rt: &HostRuntime, path: &str, start: S) -> Result<FileConne
     ensures refused { IfErr result IsFileFault }
 {
     tell_size(rt, path);
+    let missing = missing_log(rt, path);
     match Connection::open_from(rt, path, false, start) {
         Ok(connection) => Ok(connection),
-        Err((error, _files)) => {
+        Err((error, files)) => {
+            // Without the files in hand another program may have them open.
+            if files.is_some() {
+                remove_log(rt, missing);
+            }
             tell_cause(rt, path, &error);
             Err(fault_of_opening(&error))
         }
@@ -187,7 +209,17 @@ fn tell_size(rt: &HostRuntime, path: &str) {
 
 // Says on standard error why a file could not be opened, in the system's words where these say more.
 fn tell_cause(rt: &HostRuntime, path: &str, error: &Error) {
-    let opened = OpenOptions::new().read(true).write(true).open(rt, path);
+    let mut options = OpenOptions::new();
+    options.read(true).write(true);
+    let opened = match options.open(rt, path) {
+        Err(absent) if absent.kind() == ErrorKind::NotFound => {
+            match options.create_new(true).open(rt, path) {
+                Err(cause) if cause.kind() != ErrorKind::AlreadyExists => Err(cause),
+                _ => Err(absent),
+            }
+        }
+        opened => opened,
+    };
     let _ = match opened {
         Err(cause) => eprintln!(rt; "cannot open {path}: {cause}"),
         Ok(_) => eprintln!(rt; "cannot open {path}: {error}"),

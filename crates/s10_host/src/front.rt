@@ -11,6 +11,9 @@ use std::{fs, io};
 /// The first bytes of every database file.
 const MAGIC: [u8; 16] = *b"SQLite format 3\0";
 
+/// How long a log is that holds nothing: its header, and its mark.
+const EMPTY_LOG: u64 = 41;
+
 #[derive(Clone, Copy, Debug, PartialEq, Eq)]
 enum Front {
     Empty,
@@ -58,6 +61,29 @@ fn front_of(rt: &HostRuntime, path: &str) -> io::Result<Front> {
         return Ok(Front::Empty);
     }
     read_front(rt, real.as_str())
+}
+
+/// Where the log of a file is to be, where the file is there and has none.
+pub(crate) fn missing_log(rt: &HostRuntime, path: &str) -> Option<String> {
+    let real = fs::canonicalize(rt, path).ok()?;
+    let log = format!(in rt.alloc(); "{}-wal", real.as_str()).ok()?;
+    match fs::exists(rt, log.as_str()) {
+        Ok(false) => Some(log),
+        _ => None,
+    }
+}
+
+/// Takes away a log that an opening made and that holds nothing, where the opening was refused: who may only read the file
+/// could not open it beside a log. The file has to be locked still, so that nobody else has the log open.
+pub(crate) fn remove_log(rt: &HostRuntime, made: Option<String>) {
+    let Some(log) = made else {
+        return;
+    };
+    if let Ok(metadata) = fs::metadata(rt, log.as_str())
+        && metadata.len() <= EMPTY_LOG
+    {
+        let _ = fs::remove_file(rt, log.as_str());
+    }
 }
 
 // The log stands beside the file that a link leads to.

@@ -10,6 +10,7 @@ use crate::audit::run_audit;
 use crate::files::{
     ClosedFiles, FileBook, close_book, connect_to_ledger, create_book, leave_files, open_book,
 };
+use crate::front::{missing_log, remove_log};
 use crate::left::Left;
 use crate::loopback::run_loop;
 use crate::looped::Looped;
@@ -268,13 +269,22 @@ fn audit_file<S: Start, W: Write>(
 ) -> Closed<S>
     ensures { HasAudited S.row S.Start (W.contents out.old) (W.contents out.new) result.0 result.1 }
 {
+    let missing = missing_log(rt, ledger);
     match connect_to_ledger(rt, ledger, start) {
         Ok(connection) => {
             let mut onlooker = Onlooker::new(rt, ledger);
             let (audited, left) = run_audit(rt.alloc(), connection, &mut onlooker, out);
+            forget_log(rt, missing, &audited);
             (audited, Some(leave_files(left)))
         }
         Err(fault) => (fail_by_ledger(fault, out), None),
+    }
+}
+
+// Takes away the log of a file that is refused.
+fn forget_log(rt: &HostRuntime, missing: Option<String>, audited: &Result<Status, WriteFault>) {
+    if let Ok(Status::Failed) = audited {
+        remove_log(rt, missing);
     }
 }
 
