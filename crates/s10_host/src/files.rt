@@ -16,6 +16,9 @@ use std::{fs, io};
 /// How many megabytes a file has at least whose opening begins with its size.
 const LARGE: u64 = 10;
 
+/// The system's number for a file or a folder that is not there.
+const NOT_THERE: i32 = 2;
+
 /// A connection over a file.
 pub type FileConnection<S> = Connection<FileStore<FileFrom<S>>>;
 
@@ -167,7 +170,7 @@ fn absence(rt: &HostRuntime, path: &str) -> OpenFault
         None | Some(("", _)) => OpenFault::NotALedger,
         Some((folder, _)) => match fs::exists(rt, folder) {
             Ok(true) => OpenFault::NotALedger,
-            Ok(false) => fault_of_look(rt, path, &io::Error::from_raw_os_error(2)),
+            Ok(false) => fault_of_look(rt, path, &io::Error::from_raw_os_error(NOT_THERE)),
             Err(cause) => fault_of_look(rt, path, &cause),
         },
     }
@@ -209,21 +212,29 @@ fn tell_size(rt: &HostRuntime, path: &str) {
 
 // Says on standard error why a file could not be opened, in the system's words where these say more.
 fn tell_cause(rt: &HostRuntime, path: &str, error: &Error) {
+    let _ = match cause_of(rt, path) {
+        Some(cause) => eprintln!(rt; "cannot open {path}: {cause}"),
+        None => eprintln!(rt; "cannot open {path}: {error}"),
+    };
+}
+
+// What the system says where a file is opened again, or made where it is not there. One that was made so is taken away.
+fn cause_of(rt: &HostRuntime, path: &str) -> Option<io::Error> {
     let mut options = OpenOptions::new();
     options.read(true).write(true);
-    let opened = match options.open(rt, path) {
-        Err(absent) if absent.kind() == ErrorKind::NotFound => {
-            match options.create_new(true).open(rt, path) {
-                Err(cause) if cause.kind() != ErrorKind::AlreadyExists => Err(cause),
-                _ => Err(absent),
-            }
+    let absent = match options.open(rt, path) {
+        Ok(_) => return None,
+        Err(cause) if cause.kind() == ErrorKind::NotFound => cause,
+        Err(cause) => return Some(cause),
+    };
+    match options.create_new(true).open(rt, path) {
+        Ok(_) => {
+            let _ = fs::remove_file(rt, path);
+            Some(absent)
         }
-        opened => opened,
-    };
-    let _ = match opened {
-        Err(cause) => eprintln!(rt; "cannot open {path}: {cause}"),
-        Ok(_) => eprintln!(rt; "cannot open {path}: {error}"),
-    };
+        Err(cause) if cause.kind() == ErrorKind::AlreadyExists => Some(absent),
+        Err(cause) => Some(cause),
+    }
 }
 
 fn fault_of_opening(error: &Error) -> OpenFault

@@ -282,8 +282,8 @@ fn audit_file<S: Start, W: Write>(
 }
 
 // Takes away the log of a file that is refused.
-fn forget_log(rt: &HostRuntime, missing: Option<String>, audited: &Result<Status, WriteFault>) {
-    if let Ok(Status::Failed) = audited {
+fn forget_log(rt: &HostRuntime, missing: Option<String>, audited: &Result<JobStatus, WriteFault>) {
+    if let Ok(JobStatus::Failed) = audited {
         remove_log(rt, missing);
     }
 }
