@@ -13,6 +13,7 @@ pub trait Book {
     ghost use Rattle.s10_history.specs.declared.entry.Entry.{Entry};
     ghost use Rattle.s10_book.specs.declared.faults.Faults.{Faults};
     ghost use Rattle.s10_history.specs.Settings.{Terms};
+    ghost use Rattle.s10_history.specs.declared.settings.TheConstants.{GREATEST_LIMIT};
     ghost use Rattle.s10_wire.specs.Kind.{fits};
     ghost use Rattle.s10_history.specs.History.{entry_with_key, entry_at, day_of, ranges_of, is_closed, is_open_above, overlaps};
     ghost use Rattle.s10_history.specs.Issues.{last_issue_of, candidate_of, candidate_after_of, size_of};
@@ -41,7 +42,7 @@ pub trait Book {
     /// How many calls are kept.
     fn len(&self) -> u32
         ensures answer { honest self.now → result ≡ length (history self.now) }
-        ensures few { result ≤ 1000000000 };
+        ensures few { result ≤ GREATEST_LIMIT };
 
     /// The day of the last kept call, 0 where there is none.
     fn day(&self) -> u32

@@ -10,6 +10,7 @@ use Rattle.clap.specs.declared.builder.command.Command.TheViews.{out-Command as 
 use Rattle.clap.specs.declared.builder.value_parser.ValueParser.TheVariants.{Signed}
 use Rattle.clap.specs.declared.error.Error.{Error}
 use Rattle.clap.specs.declared.parser.matches.ArgMatches.{ArgMatches}
+use Rattle.s10_history.specs.declared.settings.TheConstants.{LONGEST_INTERVAL, GREATEST_LIMIT}
 
 -- a word in its place
 abbrev pub a_word : Text → Rule
@@ -46,10 +47,10 @@ abbrev pub a_number : Text → Rule
 a_number name = whole (a_text name)
 
 abbrev pub interval : Rule
-interval = between 1 3650 (an_option (codes "interval"))
+interval = between 1 LONGEST_INTERVAL (an_option (codes "interval"))
 
 abbrev pub limit : Rule
-limit = between 1 1000000000 (an_option (codes "limit"))
+limit = between 1 GREATEST_LIMIT (an_option (codes "limit"))
 
 abbrev pub day : Rule
 day = whole (an_option (codes "day"))

@@ -28,5 +28,5 @@ pub use issues::{is_free, last_state};
 pub use range::Range;
 pub use ranges::{range_after, range_numbered, range_over};
 pub use serials::next_serial;
-pub use settings::Settings;
+pub use settings::{GREATEST_LIMIT, LONGEST_INTERVAL, Settings};
 pub use usage::Usage;

@@ -5,6 +5,7 @@ ghost use Rattle.s10_wire.specs.Kind.{fits};
 ghost use Rattle.s10_history.specs.History.{ranges_of, entry_with_key, entry_at, is_closed, is_open_above, overlaps};
 ghost use Rattle.s10_history.specs.Issues.{issues_of, last_issue_of, candidate_of, candidate_after_of, size_of, pick_of, is_issued, is_voided as is_voided_in, is_free as is_free_on, id_at, serials};
 ghost use Rattle.s10_history.specs.Usage.{usage_of};
+ghost use Rattle.s10_history.specs.declared.settings.TheConstants.{GREATEST_LIMIT};
 ghost use Rattle.s10_book.specs.Rules.{IsLegal, MayFollow};
 ghost use Rattle.s10_book.specs.BookFault.{Counts, no_faults};
 ghost use Rattle.s10_index.specs.CallIndex.{Indexes};
@@ -45,7 +46,7 @@ impl IndexedBook {
     /// Its calls, with their index.
     pub fn into_index(self) -> CallIndex
         ensures indexed { Indexes result self.index.entries.items }
-        ensures few { length result.entries.items ≤ 1000000000 }
+        ensures few { length result.entries.items ≤ GREATEST_LIMIT }
     {
         let _len = self.len();
         self.index

@@ -25,7 +25,7 @@ const MOST_LINES: u32 = 1_000_000;
 ///
 /// An input line is DAY, one space, HEX: one to ten digits, at most 4294967295, and an even number of hexadecimal digits,
 /// at most 1024, also none. A carriage return at the end of a line is dropped, and an empty line is passed over. A line
-/// of more than 1036 bytes, or past the millionth, is refused without reading more of it, so a replay ends on any reader.
+/// of more than [`LINE_ROOM`] bytes, or past the millionth, is refused without reading more of it, so a replay ends on any reader.
 /// An interrupted read is tried again.
 pub fn replay_on<B: Book, R: Read, W: Write>(
     server: &mut Server<B>,

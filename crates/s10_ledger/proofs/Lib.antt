@@ -10,3 +10,4 @@ pub mod OpeningLemmas
 pub mod RefusalLemmas
 pub mod Earlier
 pub mod IssueLemmas
+pub mod Voiding

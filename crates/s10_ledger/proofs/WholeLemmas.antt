@@ -8,6 +8,7 @@ use Rattle.sqlite_value.specs.Order.{Row}
 use Rattle.sqlite.specs.Effect.{Database}
 use Rattle.s10_history.specs.declared.entry.Entry.{Entry}
 use Rattle.s10_history.specs.Settings.{Terms}
+use Rattle.s10_history.specs.declared.settings.TheConstants.{GREATEST_LIMIT}
 use Rattle.s10_history.specs.History.{day_of}
 use Rattle.s10_book.specs.Rules.{IsLegal}
 use Rattle.s10_book.proofs.Push.{IsLegal-push, IsLegal-nil}
@@ -121,7 +122,7 @@ found_history Old db tables found has whole =
     calls_history db (kept_of tables.calls) (right_calls found.settings tables.calls whole.right) (rw (right_rows found.settings tables.calls whole.right) has.calls)
 
 -- and it has no more calls than the settings allow
-pub whole_few : (tables : Tables) (found : Opened) → IsWhole tables found → found.len ≤ 1000000000
+pub whole_few : (tables : Tables) (found : Opened) → IsWhole tables found → found.len ≤ GREATEST_LIMIT
 whole_few tables found whole =
     let legal = right_legal found.settings tables.calls whole.right in
     omega (arith, legal.few, whole.len, whole.head.in_limits, length-map tables.calls entry_of)

@@ -1,6 +1,6 @@
 //! A call is kept.
 
-ghost use Rattle.std.specs.Prelude.{◌≡◌, ◌≢◌, ◌⊎◌, ℕ, ◌≤◌, ◌<◌, ◌+◌, ◌^◌, ◌++◌, ◌∷◌, [], List, length, filter, All, Err, IfOk, IfSome, IsTrue, OnOk, OnErr};
+ghost use Rattle.std.specs.Prelude.{◌≡◌, ◌≢◌, ◌⊎◌, ℕ, ◌≤◌, ◌<◌, ◌+◌, ◌^◌, ◌++◌, ◌∷◌, [], List, length, filter, All, Err, IfErr, IfOk, IfSome, IsTrue, OnOk, OnErr};
 ghost use Rattle.sqlite_trees.specs.Tree.{Trees};
 ghost use Rattle.sqlite_trees.specs.View.{doubt};
 ghost use Rattle.sqlite.specs.Held.{state};
@@ -9,6 +9,7 @@ ghost use Rattle.s10_wire.specs.declared.outcome.Outcome.TheVariants.{Granted, V
 ghost use Rattle.s10_history.specs.declared.entry.Entry.{Entry};
 ghost use Rattle.s10_book.specs.declared.book_fault.BookFault.TheVariants.{Full};
 ghost use Rattle.s10_history.specs.Settings.{Terms};
+ghost use Rattle.s10_history.specs.declared.settings.TheConstants.{GREATEST_LIMIT};
 ghost use Rattle.s10_book.specs.Rules.{IsLegal, MayFollow};
 ghost use Rattle.s10_schema.specs.Schema.{IsLedgerSchema};
 ghost use Rattle.s10_statements.specs.Shown.{StandsFor};
@@ -33,6 +34,7 @@ use std::alloc::Global;
 // What a Done Grant makes.
 fn granted_made(alloc: Global, entry: &Entry) -> Result<Made, BookFault>
     ensures fault { result ≢ Err Full }
+    ensures done { (h : List Entry) (t : Terms) (n : ℕ) → MayFollow h t entry.now → entry.now.outcome ≡ Granted n → IfErr result (λ f. f ≡ BookFault.Memory) }
     ensures answer { (h : List Entry) (t : Terms) (n : ℕ) → IsLegal h t → MayFollow h t entry.now → entry.now.outcome ≡ Granted n
         → IfOk result (λ made. Makes h entry.now made.ranges.items made.serials.items) }
 {
@@ -47,6 +49,7 @@ fn granted_made(alloc: Global, entry: &Entry) -> Result<Made, BookFault>
 // What a Done Void makes, by the last issue of its identifier.
 fn voided_made(alloc: Global, index: &CallIndex, entry: &Entry) -> Result<Made, BookFault>
     ensures fault { result ≢ Err Full }
+    ensures done { (h : List Entry) (t : Terms) → IsLegal h t → MayFollow h t entry.now → length h < 4294967295 → Indexes index.now h → entry.now.outcome ≡ Voided → IfErr result (λ f. f ≡ BookFault.Memory) }
     ensures answer { (h : List Entry) (t : Terms) → IsLegal h t → MayFollow h t entry.now → All IsCall h → IsCall entry.now → length h < 4294967295 → Indexes index.now h
         → entry.now.outcome ≡ Voided → IfOk result (λ made. Makes h entry.now made.ranges.items made.serials.items) }
 {
@@ -70,6 +73,7 @@ fn rows_made(
     entry: &Entry,
 ) -> Result<Made, BookFault>
     ensures fault { result ≢ Err Full }
+    ensures done { (h : List Entry) (t : Terms) → IsLegal h t → MayFollow h t entry.now → length h < 4294967295 → Indexes index.now h → IfErr result (λ f. f ≡ BookFault.Memory) }
     ensures answer { (h : List Entry) (t : Terms) → IsLegal h t → MayFollow h t entry.now → All IsCall h → IsCall entry.now → Indexes index.now h
         → arrival ≡ length h + 1 → IfOk result (λ made. Makes h entry.now made.ranges.items made.serials.items) }
 {
@@ -131,14 +135,14 @@ pub(crate) fn keep_followed<S: Alter>(
     limit: u32,
     entry: &Entry,
 ) -> Result<(), BookFault>
-    requires limit { limit ≤ 1000000000 }
+    requires limit { limit ≤ GREATEST_LIMIT }
     requires settled { IsSettled S.Store conn.old }
     ensures settled { IsSettled S.Store conn.new }
     ensures opened { HasCleanDisk (state S.Store conn.new) → OnOk result (IsTrue (state S.Store conn.new).is_open) }
     ensures fault { result ≢ Err Full }
     ensures clean { doubt (state S.Store conn.old).is_clean ≤ doubt (state S.Store conn.new).is_clean }
     ensures was_open { HasCleanDisk (state S.Store conn.new) → IsTrue (state S.Store conn.new).is_open → IsTrue (state S.Store conn.old).is_open }
-    ensures few { length index.old.entries.items ≤ 1000000000 → length index.new.entries.items ≤ 1000000000 }
+    ensures few { length index.old.entries.items ≤ GREATEST_LIMIT → length index.new.entries.items ≤ GREATEST_LIMIT }
     ensures calls { OnOk result (index.new.entries.items ≡ index.old.entries.items ++ entry.now ∷ []) }
     ensures same_calls { OnErr result (index.new.entries.items ≡ index.old.entries.items) }
     ensures ok { HasCleanDisk (state S.Store conn.new) → IsTrue (state S.Store conn.new).is_open → (h : List Entry) (t : Terms) → IsLegal h t → MayFollow h t entry.now → All IsCall h → StandsFor (state S.Store conn.old).now h t

@@ -2,6 +2,7 @@
 
 ghost use Rattle.std.specs.Prelude.{◌≡◌, ◌≤◌, ◌⊎◌, length, IfOk, IfErr, OnOk, OnErr, IsTrue};
 ghost use Rattle.s10_history.specs.History.{day_of};
+ghost use Rattle.s10_history.specs.declared.settings.TheConstants.{GREATEST_LIMIT};
 ghost use Rattle.sqlite.specs.Held.{state};
 ghost use Rattle.sqlite.specs.State.{HasCleanDisk};
 ghost use Rattle.s10_rows.specs.Tables.{Tables};
@@ -38,7 +39,7 @@ fn found_in<S: Alter, W: Watch>(
     requires form { IsOfForm form (state S.Store conn.old).now.schema }
     ensures leaves { Leaves S.Store conn.old conn.new }
     ensures opened { HasCleanDisk (state S.Store conn.new) → OnOk result (IsTrue (state S.Store conn.new).is_open) }
-    ensures few { IfOk result (λ found. length found.1.entries.items ≤ 1000000000) }
+    ensures few { IfOk result (λ found. length found.1.entries.items ≤ GREATEST_LIMIT) }
     ensures found { HasCleanDisk (state S.Store conn.new) → IsTrue (state S.Store conn.new).is_open → IfOk result (λ found. IsFound form (state S.Store conn.old).now found.0 found.1) }
     ensures refused { HasCleanDisk (state S.Store conn.new) → IsTrue (state S.Store conn.new).is_open → IfErr result (IsOpeningRefusal (state S.Store conn.old).now) }
 {
@@ -90,7 +91,7 @@ pub(crate) fn ledger_in<S: Alter, W: Watch>(
     ensures settled { IsSettled S.Store conn.new }
     ensures was { WasSound S.Store conn.old conn.new }
     ensures opened { HasCleanDisk (state S.Store conn.new) → OnOk result (IsTrue (state S.Store conn.new).is_open) }
-    ensures few { IfOk result (λ found. length found.1.entries.items ≤ 1000000000) }
+    ensures few { IfOk result (λ found. length found.1.entries.items ≤ GREATEST_LIMIT) }
     ensures same { HasCleanDisk (state S.Store conn.new) → IsTrue (state S.Store conn.new).is_open → IsClosedSchema (state S.Store conn.old).now.schema → (state S.Store conn.new).now ≡ (state S.Store conn.old).now }
     ensures kept { HasCleanDisk (state S.Store conn.new) → IsTrue (state S.Store conn.new).is_open → OnErr result ((state S.Store conn.new).now ≡ (state S.Store conn.old).now) }
     ensures history { HasCleanDisk (state S.Store conn.new) → IsTrue (state S.Store conn.new).is_open → OnOk result (history_in (state S.Store conn.new).now ≡ history_in (state S.Store conn.old).now) }

@@ -35,6 +35,7 @@ pub struct SqlBook<S: Alter> {
 impl<S: Alter> Model for SqlBook<S> {
     ghost use Rattle.std.specs.Prelude.{IsTrue, ◌≤◌, length};
     ghost use Rattle.s10_history.specs.History.{day_of};
+    ghost use Rattle.s10_history.specs.declared.settings.TheConstants.{GREATEST_LIMIT};
     ghost use Rattle.sqlite.specs.Held.{state};
     ghost use Rattle.sqlite.specs.State.{HasCleanDisk};
     ghost use Rattle.s10_statements.specs.Settled.{IsSettled, IsOpenIf};
@@ -46,12 +47,13 @@ impl<S: Alter> Model for SqlBook<S> {
 
     ghost view = { λ b. record { conn = b.conn; terms = b.settings; len = length b.index.entries.items; day = day_of b.index.entries.items; faults = b.faults } };
 
-    ghost invariant = { λ b. (length b.index.entries.items ≤ 1000000000) × (HasCleanDisk (state S.Store b.conn) → IsTrue (state S.Store b.conn).is_open → IsLedger (state S.Store b.conn).now b.settings (length b.index.entries.items) (day_of b.index.entries.items)) × IsSettled S.Store b.conn × IsIndexed S.Store b.conn b.index × IsOpenIf S.Store b.conn b.answered };
+    ghost invariant = { λ b. (length b.index.entries.items ≤ GREATEST_LIMIT) × (HasCleanDisk (state S.Store b.conn) → IsTrue (state S.Store b.conn).is_open → IsLedger (state S.Store b.conn).now b.settings (length b.index.entries.items) (day_of b.index.entries.items)) × IsSettled S.Store b.conn × IsIndexed S.Store b.conn b.index × IsOpenIf S.Store b.conn b.answered };
 }
 
 impl<S: Alter> SqlBook<S> {
     ghost use Rattle.std.specs.Prelude.{◌≡◌, ◌≤◌, IfOk, IfErr, IsTrue, [], length, false};
     ghost use Rattle.s10_history.specs.History.{day_of};
+    ghost use Rattle.s10_history.specs.declared.settings.TheConstants.{GREATEST_LIMIT};
     ghost use Rattle.sqlite.specs.Held.{state};
     ghost use Rattle.sqlite.specs.State.{HasCleanDisk};
     ghost use Rattle.s10_ledger.specs.Ledger.{Ledger, IsLedger, IsIndexed, IsHonest, history_in};
@@ -109,7 +111,7 @@ impl<S: Alter> SqlBook<S> {
         settings: Settings,
         index: CallIndex,
     ) -> SqlBook<S>
-        requires few { length index.entries.items ≤ 1000000000 }
+        requires few { length index.entries.items ≤ GREATEST_LIMIT }
         requires settled { IsSettled S.Store conn }
         requires ledger { HasCleanDisk (state S.Store conn) → IsTrue (state S.Store conn).is_open → IsLedger (state S.Store conn).now settings (length index.entries.items) (day_of index.entries.items) }
         requires indexed { IsIndexed S.Store conn index }

@@ -1,6 +1,7 @@
 //! The rows of a ledger are compared with those that its calls make.
 
 ghost use Rattle.std.specs.Prelude.{◌≡◌, ◌≤◌, ◌↔◌, length, All, IfOk, IfErr, IsTrue};
+ghost use Rattle.s10_history.specs.declared.settings.TheConstants.{GREATEST_LIMIT};
 ghost use Rattle.s10_index.specs.CallIndex.{Indexes};
 ghost use Rattle.s10_rows.specs.Tables.{Tables, HaveSameRows, range_rows, serial_rows, closed_rows};
 ghost use Rattle.s10_rows.specs.RightRows.{kept_of};
@@ -55,7 +56,7 @@ pub(crate) fn verdict(
     made: Remade,
     rows: MadeRows,
 ) -> Result<(Opened, CallIndex), OpenFault>
-    ensures few { IfOk result (λ found. length found.1.entries.items ≤ 1000000000) }
+    ensures few { IfOk result (λ found. length found.1.entries.items ≤ GREATEST_LIMIT) }
     ensures indexed { (tables : Tables) → IsRemade tables.heads tables.calls made → IfOk result (λ found. Indexes found.1 (kept_of tables.calls)) }
     ensures ok { (tables : Tables) → AreTheirs tables rows → IsRemade tables.heads tables.calls made → IfOk result (λ found. IsWhole tables found.0) }
     ensures err { (tables : Tables) → AreTheirs tables rows → IsRemade tables.heads tables.calls made → IfErr result (IsRefusal tables) }

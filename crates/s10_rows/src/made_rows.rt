@@ -1,6 +1,6 @@
 //! The rows that a kept call makes.
 
-ghost use Rattle.std.specs.Prelude.{◌≡◌, ℕ, ◌+◌, pos, true, false, List, [], ◌++◌, ◌∷◌, length, filter, option_to_list, slice_get, All, Contains, Some, None, IfOk, IfErr, IsOk};
+ghost use Rattle.std.specs.Prelude.{◌≡◌, ℕ, ◌+◌, pos, true, false, List, [], ◌++◌, ◌∷◌, length, filter, option_to_list, slice_get, All, Contains, Some, None, IfOk, IfErr, IsOk, IsSome};
 ghost use Rattle.s10_core.specs.declared.id.Id.{Id};
 ghost use Rattle.s10_wire.specs.declared.body.Body.TheVariants.{Void};
 ghost use Rattle.s10_wire.specs.declared.outcome.Outcome.TheVariants.{Granted, Voided};
@@ -75,8 +75,9 @@ pub fn issues_make_the_rows()
 
 /// The row of the range that a Grant makes where it is Done: its first serial is the mark. None for another call.
 pub fn granted_row(entry: &Entry) -> Option<RangeWrite>
-    ensures { (h : List Entry) (t : Terms) (n : ℕ) → IsLegal h t → MayFollow h t entry.now → entry.now.outcome ≡ Granted n
+    ensures made { (h : List Entry) (t : Terms) (n : ℕ) → IsLegal h t → MayFollow h t entry.now → entry.now.outcome ≡ Granted n
         → Makes h entry.now (option_to_list result) [] }
+    ensures some { (h : List Entry) (t : Terms) (n : ℕ) → MayFollow h t entry.now → entry.now.outcome ≡ Granted n → IsSome result }
 {
     let Outcome::Granted { range: num } = entry.outcome else {
         return None;

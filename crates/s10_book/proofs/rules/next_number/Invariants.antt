@@ -1,5 +1,6 @@
 use Rattle.std.proofs.Common.{◌≡◌, ◌≤◌, ◌-◌, length}
 use Rattle.s10_history.specs.History.{ranges_of}
+use Rattle.s10_history.specs.declared.settings.TheConstants.{GREATEST_LIMIT}
 use Rattle.s10_book.specs.Book.{Keeps}
 use Rattle.s10_book.proofs.rules.next_number.Given as goal
 
@@ -8,7 +9,7 @@ invariant-loop-low g l =
     record {
       faults : g.B.Book.faults l.book ≡ g.B.Book.faults l.fn.book;
       keeps : Keeps g.B.Book.history g.B.Book.terms g.B.Book.honest l.fn.book l.book;
-      few : l.high ≤ 1000000000;
+      few : l.high ≤ GREATEST_LIMIT;
       ordered : l.low ≤ l.high;
       between : g.B.Book.honest l.book → (l.low ≤ length (ranges_of (g.B.Book.history l.fn.book))) × (length (ranges_of (g.B.Book.history l.fn.book)) ≤ l.high);
     }

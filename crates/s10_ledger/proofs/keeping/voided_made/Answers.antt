@@ -1,6 +1,16 @@
 use Rattle.std.proofs.Common.{◌++◌, ◌∷◌, [], ◌∙◌, List, sym, ap}
 use Rattle.s10_rows.specs.declared.serial_write.SerialWrite.{SerialWrite}
+use Rattle.s10_wire.specs.declared.body.Body.{Body}
+use Rattle.s10_book.specs.Rules.{body_answer}
+use Rattle.s10_ledger.proofs.Voiding.{never_voided}
 use Rattle.s10_ledger.proofs.keeping.voided_made.Goals as goal
+
+pub returns-in_default-last_issuance-clause-done : goal.returns-in_default-last_issuance-clause-done
+returns-in_default-last_issuance-clause-done c h t legal follows few indexes is =
+    let e = c.args.entry.now in
+    let none = sym (c.last_issuance.ensures h t legal few indexes) ∙ c.in_default-last_issuance.is in
+    let answer = sym (follows.right ∙ ap (λ (b : Body). body_answer h e.request.customer b e.day t.interval) c.in-Void.is) ∙ is in
+    absurd (never_voided h e.request.customer c.in-Void.id none answer)
 
 pub returns-clause-answer : goal.returns-clause-answer
 returns-clause-answer c h t legal follows calls call few indexes is =

@@ -9,8 +9,8 @@ use Rattle.s10_rows.specs.Kept.{Makes}
 use Rattle.s10_rows.proofs.GrantRows.{grant_makes}
 use Rattle.s10_rows.proofs.made_rows.granted_row.Goals as goal
 
-pub returns : goal.returns
-returns c = λ h t num legal may is.
+pub returns-clause-made : goal.returns-clause-made
+returns-clause-made c = λ h t num legal may is.
     let n : ℕ = c.in-Granted.num in
     let r = c.in_ok-range.range in
     let made : range_of_grant n c.args.entry.now.request.body (Granted n) ≡ Some r =
