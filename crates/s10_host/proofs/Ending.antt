@@ -1,6 +1,6 @@
 -- What a job says as it ends.
 use denote.RattleType.{RattleType}
-use Rattle.std.proofs.Common.{◌≡◌, ◌∙◌, inl, inr, ℕ, Bool, List, [], ◌∷◌, Option, Some, None, Result, Ok, Err, refl, sym, subst, true, false, ◌++◌}
+use Rattle.std.proofs.Common.{◌≡◌, inl, inr, ℕ, Bool, List, [], ◌∷◌, Option, Some, None, Result, Ok, Err, refl, sym, subst, true, false, ◌++◌}
 use Rattle.std.proofs.KnownBytes.{Appends-trans}
 use Rattle.std.specs.Prelude.{IfOk, IfErr, IfSome, IsOk, codes}
 use Rattle.std.specs.Io.KnownBytes.{Appends}
@@ -71,34 +71,31 @@ module _ (S : RattleType) (first : Ghosts S.Denot) where
       before_turns (λ (b : FileLedger S first). b.faults) (IsHonest over_files) (λ b. b.terms) (λ b. history_in (file_state b.conn).now) day
       (new_trace, opened) (link.trace, after) turns.turns turns.lead
 
-  pub served_away : (day : Option ℕ) (count : ℕ) (old new last : Option (List ℕ)) (opened before after closed : FileLedger S first) (done result : Result JobStatus WriteFault)
+  pub served_away : (day : Option ℕ) (count : ℕ) (old new last : Option (List ℕ)) (opened after : FileLedger S first) (done result : Result JobStatus WriteFault)
       (put : Result (ClosedFiles S first) OpenFault) (files : Option (ClosedFiles S first)) (link : Option BoundLink)
-      → before ≡ opened → closed ≡ after → IfSome link (Turns S first day count before after old new done)
-      → IfOk put (PutsAway closed) → Kept put done result new last files → IfSome link (λ l. IfSome files (IsServed S first opened day count old last result l))
-  served_away day count old new last opened before after closed done result put files None is given turns away kept = tt
-  served_away day count old new last opened before after closed done result put None (Some l) is given turns away kept = tt
-  served_away day count old new last opened before after closed done result put (Some f) (Some l) is given turns away (there, same, still) =
-      let begun = subst (λ b. Turns S first day count b after old new done l) is turns in
-      record {
-        served = after;
-        turns = subst (λ text. Turns S first day count opened after old text result l) (sym still) (subst (λ r. Turns S first day count opened after old new r l) (sym same) begun);
-        was_honest = was_honest day count old new opened after done l begun;
-        away = subst (λ b. PutsAway b f) given (subst (λ r. IfOk r (PutsAway closed)) there away);
-      }
+      → IfSome link (Turns S first day count opened after old new done)
+      → IfOk put (PutsAway after) → Kept put done result new last files → IfSome link (λ l. IfSome files (IsServed S first opened day count old last result l))
+  served_away day count old new last opened after done result put files None turns away kept = tt
+  served_away day count old new last opened after done result put None (Some l) turns away kept = tt
+  served_away day count old new last opened after done result put (Some f) (Some l) turns away (there, same, still) = record {
+    served = after;
+    turns = subst (λ text. Turns S first day count opened after old text result l) (sym still) (subst (λ r. Turns S first day count opened after old new r l) (sym same) turns);
+    was_honest = was_honest day count old new opened after done l turns;
+    away = subst (λ r. IfOk r (PutsAway after)) there away;
+  }
 
-  pub served_lost : (day : Option ℕ) (count : ℕ) (old new last : Option (List ℕ)) (opened before after : FileLedger S first) (done result : Result JobStatus WriteFault)
+  pub served_lost : (day : Option ℕ) (count : ℕ) (old new last : Option (List ℕ)) (opened after : FileLedger S first) (done result : Result JobStatus WriteFault)
       (put : Result (ClosedFiles S first) OpenFault) (files : Option (ClosedFiles S first)) (link : Option BoundLink)
-      → before ≡ opened → IfSome link (Turns S first day count before after old new done)
+      → IfSome link (Turns S first day count opened after old new done)
       → IfErr put (λ fault. fault ≡ Store) → Unkept put done result new last files → IfSome link (λ l. files ≡ None → IsLost S first opened day count old last result l)
-  served_lost day count old new last opened before after done result put files None is turns store unkept = tt
-  served_lost day count old new last opened before after done result put files (Some l) is turns store unkept =
-      let begun = subst (λ b. Turns S first day count b after old new done l) is turns in
+  served_lost day count old new last opened after done result put files None turns store unkept = tt
+  served_lost day count old new last opened after done result put files (Some l) turns store unkept =
       λ none. record {
         served = after;
         turned = done;
         between = new;
-        turns = begun;
-        was_honest = was_honest day count old new opened after done l begun;
+        turns = turns;
+        was_honest = was_honest day count old new opened after done l turns;
         told = closed_by put done result new last store (unkept none);
       }
 
@@ -118,17 +115,16 @@ module _ (S : RattleType) (first : Ghosts S.Denot) where
   unlinked_lost old new last (Err e) (Ok other) told (well, rest) = absurd (let one = well in cc)
   unlinked_lost old new last done (Err e) told says = tt
 
-  pub unlinked : (old new last : Option (List ℕ)) (opened before after closed : FileLedger S first) (done result : Result JobStatus WriteFault)
+  pub unlinked : (old new last : Option (List ℕ)) (opened after : FileLedger S first) (done result : Result JobStatus WriteFault)
       (put : Result (ClosedFiles S first) OpenFault) (files : Option (ClosedFiles S first))
-      → before ≡ opened → closed ≡ after → IsUnbound before after old new done
-      → IfOk put (PutsAway closed) → IfErr put (λ fault. fault ≡ Store) → Kept put done result new last files → Unkept put done result new last files
+      → IsUnbound opened after old new done
+      → IfOk put (PutsAway after) → IfErr put (λ fault. fault ≡ Store) → Kept put done result new last files → Unkept put done result new last files
       → IsUnlinked S first opened old last result files
-  unlinked old new last opened before after closed done result put None is given unbound away store kept unkept =
+  unlinked old new last opened after done result put None unbound away store kept unkept =
       record { away = tt; told = tt; lost = λ none. unlinked_lost old new last done result unbound.1 (closed_by put done result new last store (unkept none)) }
-  unlinked old new last opened before after closed done result put (Some f) is given unbound away store (there, same, still) unkept =
-      let same_book : closed ≡ opened = given ∙ unbound.0 ∙ is in
+  unlinked old new last opened after done result put (Some f) unbound away store (there, same, still) unkept =
       record {
-        away = subst (λ b. PutsAway b f) same_book (subst (λ r. IfOk r (PutsAway closed)) there away);
+        away = subst (λ b. PutsAway b f) unbound.0 (subst (λ r. IfOk r (PutsAway after)) there away);
         told = unlinked_kept old new last done result unbound.1 same still;
         lost = λ none. absurd (let one : Some f ≡ None = none in cc);
       }

@@ -17,7 +17,7 @@ use crate::looped::Looped;
 use crate::onlooker::Onlooker;
 use crate::questioning::run_question;
 use crate::serving::serve_at;
-use s10_ends::{Server, UdpLink};
+use s10_ends::UdpLink;
 use s10_history::Settings;
 use s10_jobs::{
     Job, JobStatus, Report, day_or_today, fail_by_clock, fail_by_ledger, refuse, write_report,
@@ -184,9 +184,8 @@ fn serve_book<S: Start, W: Write>(
     ensures lost { IfSome result.1.link (λ link. result.1.files ≡ None → IsLost S.row S.Start book day count (W.contents out.old) (W.contents out.new) result.0 link) }
     ensures unlinked { result.1.link ≡ None → IsUnlinked S.row S.Start book (W.contents out.old) (W.contents out.new) result.0 result.1.files }
 {
-    let mut server = Server::new(book);
-    let (served, link) = serve_at(rt, at, &mut server, count, day, out);
-    let closed = close_book(rt, ledger, server.into_book());
+    let (served, link, book) = serve_at(rt, at, book, count, day, out);
+    let closed = close_book(rt, ledger, book);
     let (done, files) = ended(served, closed, out);
     (
         done,

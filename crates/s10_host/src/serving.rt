@@ -2,7 +2,6 @@
 
 ghost use Rattle.std.specs.Prelude.{◌≡◌, None, IfSome};
 ghost use Rattle.s10_link.specs.Trace.{new_trace};
-ghost use Rattle.s10_ends.specs.Server.{book_of};
 ghost use Rattle.s10_jobs.specs.Serving.{IsTurn, Serves};
 ghost use Rattle.s10_host.specs.Unbound.{IsUnbound};
 
@@ -16,32 +15,33 @@ use std::io::Write;
 use std::net::Net;
 use std::time::Clock;
 
-/// Serves at the address, and says on standard error where that is. Answers the link too: None where the address cannot
-/// be had, and standard error says why.
+/// Serves a book at the address, says on standard error where that is, and hands the book back. Answers the link too: None
+/// where the address cannot be had, and standard error says why.
 pub fn serve_at<R, B, W>(
     rt: &R,
     at: Peer,
-    server: &mut Server<B>,
+    book: B,
     count: u32,
     day: Option<u32>,
     out: &mut W,
-) -> (Result<JobStatus, WriteFault>, Option<UdpLink>)
+) -> (Result<JobStatus, WriteFault>, Option<UdpLink>, B)
 where
     R: Net + Clock + Eprint,
     B: Book,
     W: Write,
-    ensures unbound { result.1 ≡ None → IsUnbound (book_of server.old) (book_of server.new) (W.contents out.old) (W.contents out.new) result.0 }
+    ensures unbound { result.1 ≡ None → IsUnbound book result.2 (W.contents out.old) (W.contents out.new) result.0 }
     ensures served { IfSome result.1 (λ link. Serves (IsTurn B.faults B.honest B.terms B.history day)
-        (new_trace, book_of server.old) (link.trace, book_of server.new)
+        (new_trace, book) (link.trace, result.2)
         (W.contents out.old) (W.contents out.new) count result.0) }
 {
     let mut link = match bind_link(rt, at) {
         Ok(link) => link,
-        Err(fault) => return (fail_by_link(fault, out), None),
+        Err(fault) => return (fail_by_link(fault, out), None, book),
     };
     tell_address(rt, link.local());
-    let served = serve_turns(rt, server, &mut link, count, day, out);
-    (served, Some(link))
+    let mut server = Server::new(book);
+    let served = serve_turns(rt, &mut server, &mut link, count, day, out);
+    (served, Some(link), server.into_book())
 }
 
 // The turns go on where standard error is closed.

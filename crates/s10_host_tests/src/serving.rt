@@ -1,7 +1,7 @@
 //! Servers at addresses of this machine.
 
 use s10_book::PlainBook;
-use s10_ends::{Server, UdpLink};
+use s10_ends::UdpLink;
 use s10_history::Settings;
 use s10_host::serve_at;
 use s10_jobs::JobStatus;
@@ -25,9 +25,9 @@ fn is_served_at<R: Net + Clock + Eprint + AllocGlobal>(
     text: &str,
 ) -> Result<bool, Fail> {
     let settings = Settings::new(30, 2).ok_or("settings")?;
-    let mut server = Server::new(PlainBook::new(rt.alloc(), settings));
+    let book = PlainBook::new(rt.alloc(), settings);
     let mut out = Vec::new(rt.alloc());
-    let (served, _link) = serve_at(rt, at, &mut server, count, Some(20_000), &mut out);
+    let (served, _link, _book) = serve_at(rt, at, book, count, Some(20_000), &mut out);
     Ok(served == Ok(status) && out.as_slice() == text.as_bytes())
 }
 
