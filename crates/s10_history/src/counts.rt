@@ -10,8 +10,8 @@ use crate::range::Range;
 use crate::ranges::id_with;
 use crate::usage::Usage;
 
-// The count, and one more where the test passed.
-fn count_if(count: u32, passed: bool) -> u32
+/// The count of serials, and one more where the test passed.
+pub fn count_if(count: u32, passed: bool) -> u32
     requires { count ≤ 100000000 }
     ensures { result ≡ count + (if passed then 1 else 0) }
 {

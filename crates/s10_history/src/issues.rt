@@ -50,7 +50,8 @@ pub fn last_state(entries: &[Entry], issues: &[Issuance], id: &Id) -> Option<Iss
     }
 }
 
-pub(crate) fn is_voided(issue: &Option<Issue>) -> bool
+/// Whether an identifier with that last issue is voided since; with none it is not.
+pub fn is_voided(issue: &Option<Issue>) -> bool
     ensures { result ≡ unwrap_or (option_map (λ i. i.voided) issue.now) false }
 {
     match issue {

@@ -42,8 +42,8 @@ pub fn range_over(ranges: &[Range], block: &Block) -> Option<Range>
         .copied()
 }
 
-// The identifier of the range with that serial.
-pub(crate) fn id_with(range: &Range, serial: u32) -> Id
+/// The identifier of the range with that serial.
+pub fn id_with(range: &Range, serial: u32) -> Id
     requires { serial < 100000000 }
     ensures { result ≡ id_at range.now serial }
 {

@@ -11,10 +11,12 @@ ghost use Rattle.s10_book.specs.BookFault.{Counts, no_faults};
 ghost use Rattle.s10_index.specs.CallIndex.{Indexes};
 
 use crate::call_index::CallIndex;
-use crate::tally::{count_if, id_with, is_free, is_voided};
 use s10_book::{Book, BookFault, Faults};
 use s10_core::Id;
-use s10_history::{Block, Candidate, Entry, Holding, Issue, Range, Settings, Usage};
+use s10_history::{
+    Block, Candidate, Entry, Holding, Issue, Range, Settings, Usage, count_if, id_with, is_free,
+    is_voided,
+};
 use std::alloc::{AllocError, Global};
 
 /// A book in memory over an index of its calls. It is always honest, and only `keep` can be refused, by Memory. Of its calls

@@ -7,7 +7,6 @@ mod indexed_book;
 mod last_issues;
 mod places;
 mod rows;
-mod tally;
 
 pub use call_index::CallIndex;
 pub use indexed_book::IndexedBook;
