@@ -1,8 +1,8 @@
 //! The same calls over a book in memory and over one in tables.
 
 use crate::calls::{
-    Step, draw, drawn, gb, grant, granted, id, ledger, nine_calls, opening, query, ra, rb, run,
-    serial, settings, six_calls, told, us, void,
+    Step, closed, draw, drawn, gb, grant, granted, id, ledger, nine_calls, opening, query, ra, rb,
+    run, serial, settings, six_calls, told, us, void,
 };
 use s10_book::{Book, BookFault, PlainBook};
 use s10_core::{Id, Serial};
@@ -31,7 +31,7 @@ pub(crate) fn both_after<R: Abort + AllocGlobal>(
 fn both_answer<R: Abort + AllocGlobal>(rt: &R, name: &str, limit: u32, steps: &[Step]) {
     let (plain, tables) = both_after(rt, name, limit, steps);
     assert!(rt; are_alike(&plain, &tables), "{name}");
-    let _ = tables.close();
+    let _ = closed(tables);
 }
 
 // Whether the books have as many calls, and the same settings and day.
@@ -286,24 +286,40 @@ fn six_calls_are_read<R: Abort, B: Book>(rt: &R, book: &mut B) {
     assert!(rt; gives_next(book, next));
 }
 
-fn nine_calls_are_read<R: Abort, B: Book>(rt: &R, book: &mut B) {
+fn calls_are_found<R: Abort, B: Book>(rt: &R, book: &mut B) {
     for (customer, number, call) in [(7, 5, Some(sixth())), (5, 7, None)] {
         assert!(rt; finds(book, customer, number, call), "{customer} {number}");
     }
+}
+
+fn entries_are_read<R: Abort, B: Book>(rt: &R, book: &mut B) {
     for (at, call) in [(6, Some(sixth())), (0, None), (10, None)] {
         assert!(rt; has_entry(book, at, call), "{at}");
     }
+}
+
+fn issues_are_read<R: Abort, B: Book>(rt: &R, book: &mut B) {
     for (value, last) in [(1, Some(issue(20030, false, 8))), (3, None)] {
         assert!(rt; has_issue(book, &id(value), last), "{value}");
     }
+}
+
+fn usages_are_read<R: Abort, B: Book>(rt: &R, book: &mut B) {
+    for (day, free) in [(0, 1), (20030, 1), (20059, 1), (20060, 3)] {
+        assert!(rt; has_usage(book, day, usage(3, 0, free)), "on {day}");
+    }
+}
+
+fn nine_calls_are_read<R: Abort, B: Book>(rt: &R, book: &mut B) {
+    calls_are_found(rt, book);
+    entries_are_read(rt, book);
+    issues_are_read(rt, book);
     let next = Candidate {
         serial: serial(2),
         issue: Some(issue(20000, false, 5)),
     };
     assert!(rt; gives_next(book, next));
-    for (day, free) in [(0, 1), (20030, 1), (20059, 1), (20060, 3)] {
-        assert!(rt; has_usage(book, day, usage(3, 0, free)), "on {day}");
-    }
+    usages_are_read(rt, book);
 }
 
 fn has_range<B: Book>(book: &mut B, num: u32, range: Option<Range>) -> bool {
@@ -329,16 +345,22 @@ fn has_over<B: Book>(book: &mut B, first: Serial, last: Serial, range: Option<Ra
     book.covering(&block) == Ok(range)
 }
 
-fn first_range_is_read<R: Abort, B: Book>(rt: &R, book: &mut B) {
+fn first_range_has_its_number<R: Abort, B: Book>(rt: &R, book: &mut B) {
     for (num, range) in [(1, Some(first_range())), (2, None)] {
         assert!(rt; has_range(book, num, range), "{num}");
     }
+}
+
+fn first_range_is_its_holder_s<R: Abort, B: Book>(rt: &R, book: &mut B) {
     for (customer, after, range) in [(7, 0, Some(first_range())), (7, 1, None), (8, 0, None)] {
         assert!(rt;
             has_next(book, customer, after, range),
             "{customer} {after}"
         );
     }
+}
+
+fn first_range_covers_its_serials<R: Abort, B: Book>(rt: &R, book: &mut B) {
     for (first, last, range) in [(2, 5, Some(first_range())), (3, 5, None), (2, 1, None)] {
         assert!(rt;
             has_over(book, serial(first), serial(last), range),
@@ -347,22 +369,32 @@ fn first_range_is_read<R: Abort, B: Book>(rt: &R, book: &mut B) {
     }
 }
 
+fn first_range_is_read<R: Abort, B: Book>(rt: &R, book: &mut B) {
+    first_range_has_its_number(rt, book);
+    first_range_is_its_holder_s(rt, book);
+    first_range_covers_its_serials(rt, book);
+}
+
 fn six_calls_are_read_alike<R: Abort + AllocGlobal>(rt: &R) {
     let (mut plain, mut tables) = both_after(rt, "six calls", 100, &six_calls());
     six_calls_are_read(rt, &mut plain);
     six_calls_are_read(rt, &mut tables);
-    let _ = tables.close();
+    let _ = closed(tables);
+}
+
+fn both_read_nine_calls<R: Abort, A: Book, B: Book>(rt: &R, one: &mut A, other: &mut B) {
+    nine_calls_are_read(rt, one);
+    nine_calls_are_read(rt, other);
+    first_range_is_read(rt, one);
+    first_range_is_read(rt, other);
+    assert!(rt; other.len() == 9 && other.day() == 20030);
+    assert!(rt; are_alike(one, other));
 }
 
 fn nine_calls_are_read_alike<R: Abort + AllocGlobal>(rt: &R) {
     let (mut plain, mut tables) = both_after(rt, "nine calls", 100, &nine_calls());
-    nine_calls_are_read(rt, &mut plain);
-    nine_calls_are_read(rt, &mut tables);
-    first_range_is_read(rt, &mut plain);
-    first_range_is_read(rt, &mut tables);
-    assert!(rt; tables.len() == 9 && tables.day() == 20030);
-    assert!(rt; are_alike(&plain, &tables));
-    let _ = tables.close();
+    both_read_nine_calls(rt, &mut plain, &mut tables);
+    let _ = closed(tables);
 }
 
 #[test]

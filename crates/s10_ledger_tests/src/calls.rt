@@ -7,7 +7,7 @@ use s10_core::{Country, Id, Serial, Service};
 use s10_history::{Entry, Settings};
 use s10_ledger::SqlBook;
 use s10_wire::{Body, Outcome, Request, Status};
-use sqlite::MemStore;
+use sqlite::{Alter, Connection, MemStore};
 use std::process::Abort;
 
 // A request, the day that it is handed in on, and what is answered.
@@ -128,6 +128,11 @@ pub(crate) fn ledger<R: Abort + AllocGlobal>(rt: &R, settings: Settings) -> SqlB
         Ok(book) => book,
         Err(fault) => panic!(rt; "{fault}"),
     }
+}
+
+// The connection of a ledger.
+pub(crate) fn closed<S: Alter>(book: SqlBook<S>) -> Connection<S> {
+    book.close()
 }
 
 // What a server does with a request: a kept one is answered from the book, a new one is decided and kept.

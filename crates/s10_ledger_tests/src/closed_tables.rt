@@ -1,7 +1,7 @@
 //! A ledger with a closed range in it, made by statements, and what opening finds where its table of closed ranges is damaged.
 
 use crate::books::both_after;
-use crate::calls::{grant, granted, opening, withdraw};
+use crate::calls::{closed, grant, granted, opening, withdraw};
 use crate::tables::{HEAD, TABLES, database, found, ledger_of, nine_calls, opens, run_batch};
 use s10_ledger::OpenFault;
 use s10_wire::Outcome;
@@ -82,7 +82,7 @@ fn both_closed<R: Abort + AllocGlobal>(rt: &R) -> Connection<MemStore> {
         (withdraw(0, 4, 1), 20000, Ok(Outcome::Withdrawn)),
     ];
     let (_, tables) = both_after(rt, "both ranges", 100, &steps);
-    tables.close()
+    closed(tables)
 }
 
 #[test]

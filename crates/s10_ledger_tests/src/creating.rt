@@ -1,6 +1,6 @@
 //! A ledger is made in an empty database, and in no other.
 
-use crate::calls::{ledger, nine_calls, run, settings};
+use crate::calls::{closed, ledger, nine_calls, run, settings};
 use crate::tables::numbers;
 use s10_book::Book;
 use s10_history::Settings;
@@ -51,10 +51,6 @@ fn is_new<B: Book>(book: &mut B, settings: Settings) -> bool {
 
 fn is_idle(book: &SqlBook<MemStore>) -> bool {
     book.connection().is_autocommit()
-}
-
-fn closed(book: SqlBook<MemStore>) -> Connection<MemStore> {
-    book.close()
 }
 
 #[test]

@@ -3,7 +3,7 @@
 ghost use Rattle.std.specs.Prelude.{◌<◌};
 
 use crate::books::issue;
-use crate::calls::{answer, draw, drawn, grant, granted, ledger, settings};
+use crate::calls::{answer, closed, draw, drawn, grant, granted, ledger, settings};
 use crate::tables::numbers;
 use s10_book::Book;
 use s10_core::Id;
@@ -46,6 +46,14 @@ fn last_issue_is<R: Abort, B: Book>(rt: &R, book: &mut B, text: &[u8], number: u
     }
 }
 
+// All draws of the granted range, the last of which is told as it was made.
+fn draw_all<R: Abort, B: Book>(rt: &R, book: &mut B) {
+    grant_all(rt, book);
+    draw_in_turn(rt, book, DRAWS);
+    last_issue_is(rt, book, b"RA000099994GB", DRAWS);
+    assert_eq!(rt; book.len(), DRAWS + 1);
+}
+
 // Whether there are so many rows of serials, and one range with that mark.
 fn has_serials_and_mark(
     alloc: Global,
@@ -62,7 +70,7 @@ fn has_serials_and_mark(
 fn a_grant_writes_no_row_of_a_serial(rt: HostRuntime) -> Result<(), Fail> {
     let mut book = ledger(&rt, settings(&rt, 20_000));
     grant_all(&rt, &mut book);
-    let mut conn = book.close();
+    let mut conn = closed(book);
     assert!(rt; has_serials_and_mark(rt.alloc(), &mut conn, 0, 0)?);
     Ok(())
 }
@@ -70,11 +78,8 @@ fn a_grant_writes_no_row_of_a_serial(rt: HostRuntime) -> Result<(), Fail> {
 #[test]
 fn ten_thousand_draws_give_the_serials_in_turn(rt: HostRuntime) -> Result<(), Fail> {
     let mut book = ledger(&rt, settings(&rt, 20_000));
-    grant_all(&rt, &mut book);
-    draw_in_turn(&rt, &mut book, DRAWS);
-    last_issue_is(&rt, &mut book, b"RA000099994GB", DRAWS);
-    assert_eq!(rt; book.len(), DRAWS + 1);
-    let mut conn = book.close();
+    draw_all(&rt, &mut book);
+    let mut conn = closed(book);
     assert!(rt; has_serials_and_mark(rt.alloc(), &mut conn, 10_000, 10_000)?);
     Ok(())
 }

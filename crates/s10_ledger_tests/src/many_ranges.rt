@@ -2,7 +2,7 @@
 
 ghost use Rattle.std.specs.Prelude.{◌≤◌};
 
-use crate::calls::{answer, draw, gb, grant, ledger, ra, serial, settings};
+use crate::calls::{answer, closed, draw, gb, grant, ledger, ra, serial, settings};
 use s10_book::{Book, PlainBook};
 use s10_history::{Block, Holding};
 use s10_ledger::{SqlBook, Unwatched};
@@ -103,10 +103,6 @@ fn new_books<R: Abort + AllocGlobal>(rt: &R) -> (PlainBook, SqlBook<MemStore>) {
     (PlainBook::new(rt.alloc(), settings), ledger(rt, settings))
 }
 
-fn close(book: SqlBook<MemStore>) {
-    let _ = book.close();
-}
-
 // Whether the books answer all Grants, all that overlap them, and Draws alike.
 fn calls_are_alike<A: Book, B: Book>(one: &mut A, other: &mut B) -> bool {
     grants_are_alike(one, other, RANGES)
@@ -124,7 +120,7 @@ fn ranges_of_many_holders_are_answered_alike(rt: HostRuntime) {
     let (mut plain, mut tables) = new_books(&rt);
     assert!(rt; calls_are_alike(&mut plain, &mut tables));
     assert!(rt; books_are_alike(&mut plain, &mut tables));
-    close(tables);
+    let _ = closed(tables);
 }
 
 // Whether the books answer all Grants and Draws alike.
@@ -145,5 +141,5 @@ fn ranges_are_found_as_before_once_the_ledger_is_opened_again(rt: HostRuntime) {
     assert!(rt; grants_and_draws_are_alike(&mut plain, &mut tables));
     let mut opened = opened_again(&rt, tables);
     assert!(rt; overlaps_are_found_alike(&mut plain, &mut opened));
-    close(opened);
+    let _ = closed(opened);
 }

@@ -1,6 +1,6 @@
 //! Ledgers of the build that had no table of closed ranges, with other tables beside them and without.
 
-use crate::calls::{Step, draw, drawn, nine_calls, run, withdraw};
+use crate::calls::{Step, closed, draw, drawn, nine_calls, run, withdraw};
 use crate::creating::nine_kept;
 use crate::tables::{OLD_LEDGER, database, found, ledger_of, numbers, opens, run_batch};
 use s10_book::Book;
@@ -89,7 +89,7 @@ fn served<R: Abort + AllocGlobal>(
     match SqlBook::open(rt.alloc(), conn, &mut Unwatched) {
         Ok(mut book) => {
             run(rt, "served on", &mut book, steps);
-            Some(book.close())
+            Some(closed(book))
         }
         Err(
             Refused {

@@ -1,7 +1,9 @@
 //! The rows that calls leave.
 
 use crate::books::both_after;
-use crate::calls::{Step, draw, drawn, grant, granted, nine_calls, opening, six_calls, withdraw};
+use crate::calls::{
+    Step, closed, draw, drawn, grant, granted, nine_calls, opening, six_calls, withdraw,
+};
 use crate::tables::numbers;
 use s10_wire::Outcome;
 use sqlite::{Connection, Error, MemStore};
@@ -42,7 +44,7 @@ fn leave<R: Abort + AllocGlobal>(
     serials: &[i64],
 ) -> Result<bool, Error> {
     let (_, tables) = both_after(rt, name, 100, steps);
-    let mut conn = tables.close();
+    let mut conn = closed(tables);
     has_rows(rt.alloc(), &mut conn, &[1, 7, RA_GB, 0, 2, mark], serials)
 }
 
@@ -70,12 +72,12 @@ fn close<R: Abort + AllocGlobal>(
     rt: &R,
     name: &str,
     steps: &[Step],
-    closed: &[i64],
+    rows: &[i64],
 ) -> Result<bool, Error> {
     let (_, tables) = both_after(rt, name, 100, steps);
-    let mut conn = tables.close();
+    let mut conn = closed(tables);
     let found = numbers(rt.alloc(), &mut conn, CLOSED, 2)?;
-    Ok(found.as_slice() == closed)
+    Ok(found.as_slice() == rows)
 }
 
 #[test]

@@ -1,6 +1,6 @@
 //! Sheets of identifiers, datagram by datagram, over a book in memory and over a ledger in tables.
 
-use crate::calls::{ledger, settings};
+use crate::calls::{closed, ledger, settings};
 use s10_book::{Book, PlainBook};
 use s10_ends::{Answer, Delivery, Server};
 use s10_link::Packet;
@@ -135,7 +135,7 @@ fn is_as_wanted(answer: &Answer, want: Want) -> bool {
 }
 
 /// The datagrams of these steps, on their days.
-pub(crate) fn deliveries_of(alloc: Global, steps: &[Step]) -> Result<Vec<Delivery>, AllocError> {
+fn deliveries_of(alloc: Global, steps: &[Step]) -> Result<Vec<Delivery>, AllocError> {
     let mut deliveries = Vec::new(alloc);
     for (day, datagram, _) in steps {
         deliveries.push(Delivery {
@@ -147,7 +147,7 @@ pub(crate) fn deliveries_of(alloc: Global, steps: &[Step]) -> Result<Vec<Deliver
 }
 
 /// The answers of a server to what it is handed at once, and its book behind that.
-pub(crate) fn served<B: Book>(
+fn served<B: Book>(
     alloc: Global,
     book: B,
     deliveries: &[Delivery],
@@ -158,20 +158,36 @@ pub(crate) fn served<B: Book>(
 }
 
 /// Which step was answered otherwise than wanted.
-pub(crate) fn first_unlike(answers: &[Answer], steps: &[Step]) -> Option<usize> {
+fn first_unlike(answers: &[Answer], steps: &[Step]) -> Option<usize> {
     let mut pairs = answers.iter().zip(steps);
     pairs.position(|(answer, (_, _, want))| !is_as_wanted(answer, *want))
 }
 
+/// Which of the steps a book answers otherwise than wanted, and the book behind them.
+pub(crate) fn played<B: Book>(
+    alloc: Global,
+    book: B,
+    steps: &[Step],
+) -> (B, Result<Option<usize>, AllocError>) {
+    match deliveries_of(alloc, steps) {
+        Ok(deliveries) => {
+            let (book, answers) = served(alloc, book, &deliveries);
+            match answers {
+                Ok(answers) => (book, Ok(first_unlike(&answers, steps))),
+                Err(error) => (book, Err(error)),
+            }
+        }
+        Err(error) => (book, Err(error)),
+    }
+}
+
 fn are_answered<R: Abort + AllocGlobal>(rt: &R, name: &str, steps: &[Step]) -> Result<(), Fail> {
     let settings = settings(rt, 100);
-    let deliveries = deliveries_of(rt.alloc(), steps)?;
-    let plain = PlainBook::new(rt.alloc(), settings);
-    let (_, answers) = served(rt.alloc(), plain, &deliveries);
-    assert_eq!(rt; first_unlike(&answers?, steps), None, "{name}, in memory");
-    let (tables, answers) = served(rt.alloc(), ledger(rt, settings), &deliveries);
-    let _ = tables.close();
-    assert_eq!(rt; first_unlike(&answers?, steps), None, "{name}, in tables");
+    let (_, unlike) = played(rt.alloc(), PlainBook::new(rt.alloc(), settings), steps);
+    assert_eq!(rt; unlike?, None, "{name}, in memory");
+    let (tables, unlike) = played(rt.alloc(), ledger(rt, settings), steps);
+    let _ = closed(tables);
+    assert_eq!(rt; unlike?, None, "{name}, in tables");
     Ok(())
 }
 
@@ -209,7 +225,7 @@ fn told<R: Abort + AllocGlobal>(
         })?;
     }
     let (tables, answers) = served(rt.alloc(), ledger(rt, settings(rt, 100)), &deliveries);
-    let _ = tables.close();
+    let _ = closed(tables);
     texts_of(rt.alloc(), &answers?, steps.len(), from)
 }
 

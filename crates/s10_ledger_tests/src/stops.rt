@@ -3,7 +3,7 @@
 use crate::tables::{OLD_LEDGER, run_batch};
 use s10_book::Book;
 use s10_ledger::{OpenFault, Refused, SqlBook, Unwatched};
-use sqlite::{Connection, FileStore, Files, Options};
+use sqlite::{Alter, Connection, FileStore, Files, Options};
 use sqlite_disk::{Crash, Disk, Fuse, Memory};
 use std::alloc::Global;
 use std::test::Fail;
@@ -43,39 +43,63 @@ fn file_of(alloc: Global, bytes: &[u8]) -> Result<Memory, Fail> {
     Ok(file)
 }
 
-/// The files of the ledger of the nine calls.
-fn old_ledger(alloc: Global) -> Result<Files<Memory>, Fail> {
+/// A connection over two empty files.
+fn new_database(alloc: Global) -> Option<Connection<FileStore<Memory>>> {
     let files = Files {
         log: Memory::new(alloc),
         db: Memory::new(alloc),
     };
-    let opened = Connection::open_files(alloc, files, Options::new(7));
-    let mut conn = opened.ok().ok_or("opened")?;
-    for text in OLD_LEDGER {
-        run_batch(&mut conn, text)?;
-    }
-    Ok(conn.close_files().ok().ok_or("closed")?)
+    Connection::open_files(alloc, files, Options::new(7)).ok()
 }
 
-/// How the ledger in a connection opens, and its files.
-fn ledger_in<D: Disk + Drop>(alloc: Global, conn: Connection<FileStore<D>>) -> (Ended, Files<D>) {
+/// The files of a connection that is closed. None where they were not written.
+fn written_files(conn: Connection<FileStore<Memory>>) -> Option<Files<Memory>> {
+    conn.close_files().ok()
+}
+
+/// Whether the tables and the rows of the nine calls are made.
+fn is_filled<S: Alter>(conn: &mut Connection<S>) -> bool {
+    for text in OLD_LEDGER {
+        if run_batch(conn, text).is_err() {
+            return false;
+        }
+    }
+    true
+}
+
+/// The files of the ledger of the nine calls.
+fn old_ledger(alloc: Global) -> Option<Files<Memory>> {
+    let mut conn = new_database(alloc)?;
+    let is_filled = is_filled(&mut conn);
+    let files = written_files(conn)?;
+    if is_filled { Some(files) } else { None }
+}
+
+/// The files of a connection, as they are.
+fn files_of<D: Disk + Drop>(conn: Connection<FileStore<D>>) -> Files<D> {
+    conn.into_store().close()
+}
+
+/// What was found of a ledger that opened, and its connection.
+fn closed<S: Alter>(book: SqlBook<S>) -> (Ended, Connection<S>) {
+    let calls = book.len();
+    let conn = book.close();
+    let ended = if conn.schema().table_named(b"closed").is_some() {
+        Ended::Found(calls)
+    } else {
+        Ended::Incomplete
+    };
+    (ended, conn)
+}
+
+/// How the ledger in a connection opens, and its connection.
+fn ledger_in<S: Alter>(alloc: Global, conn: Connection<S>) -> (Ended, Connection<S>) {
     if !conn.is_autocommit() {
-        return (Ended::Unconnected, conn.into_store().close());
+        return (Ended::Unconnected, conn);
     }
     match SqlBook::open(alloc, conn, &mut Unwatched) {
-        Ok(book) => {
-            let calls = book.len();
-            let conn = book.close();
-            let ended = if conn.schema().table_named(b"closed").is_some() {
-                Ended::Found(calls)
-            } else {
-                Ended::Incomplete
-            };
-            (ended, conn.into_store().close())
-        }
-        Err(Refused { fault, connection }) => {
-            (Ended::Refused(fault), connection.into_store().close())
-        }
+        Ok(book) => closed(book),
+        Err(Refused { fault, connection }) => (Ended::Refused(fault), connection),
     }
 }
 
@@ -85,7 +109,10 @@ fn opened<D: Disk + Drop>(alloc: Global, files: Files<D>, options: Options) -> (
         return (Ended::Unconnected, files);
     }
     match Connection::open_files(alloc, files, options) {
-        Ok(conn) => ledger_in(alloc, conn),
+        Ok(conn) => {
+            let (ended, conn) = ledger_in(alloc, conn);
+            (ended, files_of(conn))
+        }
         Err((_, left)) => (Ended::Unconnected, left.into_files()),
     }
 }
@@ -142,7 +169,7 @@ fn refused(
 
 #[test]
 fn a_ledger_whose_completion_stopped_is_whole(rt: HostRuntime) -> Result<(), Fail> {
-    let old = old_ledger(rt.alloc())?;
+    let old = old_ledger(rt.alloc()).ok_or("old ledger")?;
     for (options, in_log) in [(Options::new(7), true), (TIGHT, true), (TIGHT, false)] {
         let count = refused(rt.alloc(), &old, options, in_log)?;
         assert!(rt;

@@ -99,10 +99,10 @@ pub(crate) fn ledger_of(len: u32, day: u32) -> Option<Opened> {
 }
 
 // What opening finds, and the connection. None where a transaction was begun.
-pub(crate) fn found(
+pub(crate) fn found<S: Alter + Drop>(
     alloc: Global,
-    conn: Connection<MemStore>,
-) -> Option<(Result<Opened, OpenFault>, Connection<MemStore>)> {
+    conn: Connection<S>,
+) -> Option<(Result<Opened, OpenFault>, Connection<S>)> {
     if !conn.is_autocommit() {
         return None;
     }

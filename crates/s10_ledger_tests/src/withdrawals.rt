@@ -1,10 +1,10 @@
 //! Withdrawals, datagram by datagram, over a book in memory and over a ledger in tables.
 
-use crate::calls::{ledger, settings};
-use crate::sheets::{GRANT, Step, Want, deliveries_of, first_unlike, served};
+use crate::calls::{closed, ledger, settings};
+use crate::sheets::{GRANT, Step, Want, played};
 use s10_book::{Book, PlainBook};
 use s10_reports::write_ranges;
-use std::alloc::Global;
+use std::alloc::{AllocError, Global};
 use std::process::Abort;
 use std::test::Fail;
 
@@ -125,6 +125,20 @@ fn is_left<B: Book>(alloc: Global, book: &mut B, calls: u32, ranges: &[u8]) -> b
         && book.len() == calls
 }
 
+/// Which of the steps a book answers otherwise than wanted, and whether it keeps so many calls then and reports these ranges; and
+/// the book behind them.
+fn behind<B: Book>(
+    alloc: Global,
+    book: B,
+    steps: &[Step],
+    calls: u32,
+    ranges: &[u8],
+) -> (B, Result<Option<usize>, AllocError>, bool) {
+    let (mut book, unlike) = played(alloc, book, steps);
+    let left = is_left(alloc, &mut book, calls, ranges);
+    (book, unlike, left)
+}
+
 /// The steps are answered as wanted, and leave so many calls and these ranges.
 fn are_answered<R: Abort + AllocGlobal>(
     rt: &R,
@@ -134,18 +148,14 @@ fn are_answered<R: Abort + AllocGlobal>(
     ranges: &[u8],
 ) -> Result<(), Fail> {
     let settings = settings(rt, 100);
-    let deliveries = deliveries_of(rt.alloc(), steps)?;
     let plain = PlainBook::new(rt.alloc(), settings);
-    let (mut plain, answers) = served(rt.alloc(), plain, &deliveries);
-    assert_eq!(rt; first_unlike(&answers?, steps), None, "{name}, in memory");
-    assert!(rt;
-        is_left(rt.alloc(), &mut plain, calls, ranges),
-        "{name}, in memory"
-    );
-    let (mut tables, answers) = served(rt.alloc(), ledger(rt, settings), &deliveries);
-    let left = is_left(rt.alloc(), &mut tables, calls, ranges);
-    let _ = tables.close();
-    assert_eq!(rt; first_unlike(&answers?, steps), None, "{name}, in tables");
+    let (_, unlike, left) = behind(rt.alloc(), plain, steps, calls, ranges);
+    assert_eq!(rt; unlike?, None, "{name}, in memory");
+    assert!(rt; left, "{name}, in memory");
+    let tables = ledger(rt, settings);
+    let (tables, unlike, left) = behind(rt.alloc(), tables, steps, calls, ranges);
+    let _ = closed(tables);
+    assert_eq!(rt; unlike?, None, "{name}, in tables");
     assert!(rt; left, "{name}, in tables");
     Ok(())
 }

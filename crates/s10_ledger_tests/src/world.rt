@@ -3,14 +3,15 @@
 ghost use Rattle.std.specs.Prelude.{◌≡◌, IfOk, All, length};
 ghost use Rattle.s10_ends.specs.Client.{IsNew};
 
+use crate::calls::{closed, ledger, settings};
 use s10_book::{Book, BookFault};
 use s10_core::{Country, Id, Serial, Service};
 use s10_ends::{Client, Server};
-use s10_history::{Entry, Settings};
-use s10_ledger::SqlBook;
+use s10_history::Entry;
 use s10_wire::{Body, Frame, Outcome, Reply, Request};
 use s10_world::{Event, World};
 use std::alloc::{AllocError, Global};
+use std::process::Abort;
 use std::test::Fail;
 
 const EVENTS: usize = 18;
@@ -222,12 +223,11 @@ fn are_kept_once(calls: &[Option<Entry>; 4], asked: &Requests) -> Result<bool, F
 }
 
 // What is seen of the story over a ledger in tables, and its first four calls.
-fn tables_see_story(alloc: Global) -> Result<(Seen, [Option<Entry>; 4]), Fail> {
-    let settings = Settings::new(30, 100).ok_or("settings")?;
-    let ledger = SqlBook::in_memory(alloc, settings)?;
-    let (seen, mut ledger) = run_story(alloc, ledger);
+fn tables_see_story<R: Abort + AllocGlobal>(rt: &R) -> Result<(Seen, [Option<Entry>; 4]), Fail> {
+    let ledger = ledger(rt, settings(rt, 100));
+    let (seen, mut ledger) = run_story(rt.alloc(), ledger);
     let calls = kept_calls(&mut ledger);
-    let _ = ledger.close();
+    let _ = closed(ledger);
     Ok((seen?, calls?))
 }
 
@@ -239,7 +239,7 @@ fn is_as_told(seen: &Seen, calls: &[Option<Entry>; 4]) -> Result<bool, Fail> {
 
 #[test]
 fn a_ledger_in_tables_executes_each_call_of_a_world_once(rt: HostRuntime) -> Result<(), Fail> {
-    let (seen, calls) = tables_see_story(rt.alloc())?;
+    let (seen, calls) = tables_see_story(&rt)?;
     assert!(rt; is_as_told(&seen, &calls)?);
     Ok(())
 }
