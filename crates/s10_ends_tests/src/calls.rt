@@ -59,8 +59,10 @@ fn fails(
     if tries < 1 || 100 < tries {
         return Ok(false);
     }
-    let answer = call(client, link, SERVER, draw()?, tries);
-    Ok(answer == Err(fault) && client.pending().is_none())
+    Ok(match call(client, link, SERVER, draw()?, tries) {
+        Ok(_) => false,
+        Err(found) => found == fault && client.pending().is_none(),
+    })
 }
 
 /// Whether the link sent the Draw with number 1 so many times to the server, and nothing else.
@@ -74,6 +76,18 @@ fn has_sent(link: &ScriptLink, times: usize) -> Result<bool, &'static str> {
     Ok(link.log().len() == times)
 }
 
+/// The link of this script behind a call that sent the Draw twice and got its reply, and one that had no number left. None where
+/// either ended otherwise.
+fn answered_once(alloc: Global, receipts: &[Receipt]) -> Result<Option<ScriptLink>, Fail> {
+    let mut link = script(alloc, receipts, &[true, true])?;
+    let mut client = Client::new(7, 1, 1)?;
+    let spent = CallFault::Submit(SubmitFault::NumbersSpent);
+    let is_done = is_answered(&mut client, &mut link, 2, FIRST_DRAW.1)?
+        && has_sent(&link, 2)?
+        && fails(&mut client, &mut link, 2, spent)?;
+    Ok(if is_done { Some(link) } else { None })
+}
+
 #[test]
 fn request_is_sent_until_its_own_reply_comes(rt: HostRuntime) -> Result<(), Fail> {
     let receipts = [
@@ -82,22 +96,28 @@ fn request_is_sent_until_its_own_reply_comes(rt: HostRuntime) -> Result<(), Fail
         deliver(STRANGER, FIRST_DRAW.1),
         Receipt::Fail,
     ];
-    let mut link = script(rt.alloc(), &receipts, &[true, true])?;
-    let mut client = Client::new(7, 1, 1)?;
-    assert!(rt; is_answered(&mut client, &mut link, 2, FIRST_DRAW.1)?);
-    assert!(rt; has_sent(&link, 2)?);
-    let spent = CallFault::Submit(SubmitFault::NumbersSpent);
-    assert!(rt; fails(&mut client, &mut link, 2, spent)?);
+    let link = answered_once(rt.alloc(), &receipts)?.ok_or("answered")?;
     assert_eq!(rt; link.trace().calls, 5);
     Ok(())
 }
 
+/// The link of this script behind a call that is given up after so many tries. None where it ends otherwise.
+fn given_up(
+    alloc: Global,
+    receipts: &[Receipt],
+    sends: &[bool],
+    tries: u32,
+) -> Result<Option<ScriptLink>, Fail> {
+    let (asked, _) = request(1)?;
+    let mut link = script(alloc, receipts, sends)?;
+    let mut client = Client::new(7, 1, 1)?;
+    let is_given_up = fails(&mut client, &mut link, tries, CallFault::GaveUp(asked))?;
+    Ok(if is_given_up { Some(link) } else { None })
+}
+
 #[test]
 fn call_without_a_reply_is_given_up(rt: HostRuntime) -> Result<(), Fail> {
-    let (asked, _) = request(1)?;
-    let mut link = script(rt.alloc(), &[], &[true])?;
-    let mut client = Client::new(7, 1, 1)?;
-    assert!(rt; fails(&mut client, &mut link, 1, CallFault::GaveUp(asked))?);
+    let link = given_up(rt.alloc(), &[], &[true], 1)?.ok_or("given up")?;
     assert!(rt; has_sent(&link, 1)?);
     assert_eq!(rt; link.trace().calls, 2);
     Ok(())
@@ -105,11 +125,8 @@ fn call_without_a_reply_is_given_up(rt: HostRuntime) -> Result<(), Fail> {
 
 #[test]
 fn a_try_reads_eight_datagrams(rt: HostRuntime) -> Result<(), Fail> {
-    let (asked, _) = request(1)?;
     let receipts = [deliver(SERVER, &OTHER); 17];
-    let mut link = script(rt.alloc(), &receipts, &[true, true])?;
-    let mut client = Client::new(7, 1, 1)?;
-    assert!(rt; fails(&mut client, &mut link, 2, CallFault::GaveUp(asked))?);
+    let link = given_up(rt.alloc(), &receipts, &[true, true], 2)?.ok_or("given up")?;
     assert_eq!(rt; link.trace().calls, 18);
     assert_eq!(rt; link.trace().received, 16);
     Ok(())

@@ -1,16 +1,14 @@
-use crate::fixtures::new_server;
 use crate::scripts::Want::Reply;
-use crate::scripts::{DRAW, GRANT, play};
+use crate::scripts::{DRAW, GRANT, play, played};
 use s10_book::Book;
 use std::test::Fail;
 
 #[test]
 fn interval_ends_on_the_thirtieth_day(rt: HostRuntime) -> Result<(), Fail> {
-    let mut server = new_server(rt.alloc(), 100)?;
-    play(
+    played(
         &rt,
         rt.alloc(),
-        &mut server,
+        100,
         &[
             GRANT,
             DRAW,
@@ -35,16 +33,16 @@ fn interval_ends_on_the_thirtieth_day(rt: HostRuntime) -> Result<(), Fail> {
                 Reply("53310182 00000007 00000005 52414742 00 00004e3e 52413030303030303030354742"),
             ),
         ],
-    )
+    )?;
+    Ok(())
 }
 
 #[test]
 fn days_that_fall_are_raised_to_the_latest(rt: HostRuntime) -> Result<(), Fail> {
-    let mut server = new_server(rt.alloc(), 100)?;
-    play(
+    played(
         &rt,
         rt.alloc(),
-        &mut server,
+        100,
         &[
             GRANT,
             (
@@ -58,16 +56,16 @@ fn days_that_fall_are_raised_to_the_latest(rt: HostRuntime) -> Result<(), Fail> 
                 Reply("53310182 00000007 00000002 52414742 00 00004e2a 52413030303030303031344742"),
             ),
         ],
-    )
+    )?;
+    Ok(())
 }
 
 #[test]
 fn void_frees_nothing_before_the_interval_ends(rt: HostRuntime) -> Result<(), Fail> {
-    let mut server = new_server(rt.alloc(), 100)?;
-    play(
+    let mut server = played(
         &rt,
         rt.alloc(),
-        &mut server,
+        100,
         &[
             GRANT,
             DRAW,

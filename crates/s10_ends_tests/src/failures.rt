@@ -23,14 +23,11 @@ fn is_answered_at_last<B: Book>(
     }
 }
 
-/// How often a book that fails at one of its calls faults a Grant and a Draw, which are handed in
-/// again; none where an answer or the ledger is wrong.
-fn faults_made_good(alloc: Global, at: u64) -> Result<Option<u32>, Fail> {
-    let settings = Settings::new(30, 100).ok_or("settings")?;
-    let mut server = Server::new(TripBook::new(PlainBook::new(alloc, settings), at));
+/// How often a server faults a Grant and a Draw, which are handed in again; none where an answer is wrong.
+fn faults_of<B: Book>(alloc: Global, server: &mut Server<B>) -> Result<Option<u32>, AllocError> {
     let mut faults: u32 = 0;
     for step in [GRANT, DRAW] {
-        let (right, faulted) = is_answered_at_last(alloc, &mut server, &step)?;
+        let (right, faulted) = is_answered_at_last(alloc, server, &step)?;
         if !right {
             return Ok(None);
         }
@@ -38,8 +35,16 @@ fn faults_made_good(alloc: Global, at: u64) -> Result<Option<u32>, Fail> {
             faults = faults.saturating_add(1);
         }
     }
+    Ok(Some(faults))
+}
+
+/// How often a book that fails at one of its calls faults them; none where an answer or the ledger is wrong.
+fn faults_made_good(alloc: Global, at: u64) -> Result<Option<u32>, Fail> {
+    let settings = Settings::new(30, 100).ok_or("settings")?;
+    let mut server = Server::new(TripBook::new(PlainBook::new(alloc, settings), at));
+    let faults = faults_of(alloc, &mut server)?;
     Ok(if server.into_book().len() == 2 {
-        Some(faults)
+        faults
     } else {
         None
     })

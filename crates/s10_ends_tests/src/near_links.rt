@@ -32,6 +32,15 @@ fn is_answered<L: Link>(
     Ok(encode_reply(&reply).bytes() == datagram)
 }
 
+/// Whether the post's Grant and customer 7's Draw are answered over a link.
+fn both_are_answered<L: Link>(link: &mut L, to: Peer) -> Result<bool, Fail> {
+    let granting = grant().ok_or("grant")?;
+    Ok(
+        is_answered(link, to, 0, granting, FIRST_GRANT.1)?
+            && is_answered(link, to, 7, draw()?, FIRST_DRAW.1)?,
+    )
+}
+
 /// A link to a server over an empty book, and where that server is.
 fn new_link<N: Net>(
     net: &N,
@@ -53,9 +62,7 @@ fn new_link<N: Net>(
 #[test]
 fn calls_are_served_over_loopback(rt: HostRuntime) -> Result<(), Fail> {
     let (mut link, server) = new_link(&rt, rt.alloc())?;
-    let granting = grant().ok_or("grant")?;
-    assert!(rt; is_answered(&mut link, server, 0, granting, FIRST_GRANT.1)?);
-    assert!(rt; is_answered(&mut link, server, 7, draw()?, FIRST_DRAW.1)?);
+    assert!(rt; both_are_answered(&mut link, server)?);
     assert_eq!(rt; link.server.book().len(), 2);
     Ok(())
 }

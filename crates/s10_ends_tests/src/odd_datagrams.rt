@@ -5,8 +5,10 @@ use s10_book::{Book, PlainBook};
 use s10_ends::{Client, Server, ServerTurn, UdpLink, call, serve_one};
 use s10_link::{Link, LinkFault, Packet, Peer};
 use s10_wire::{Body, Frame, Request, WireFault, decode_reply, encode_reply, encode_request};
+use std::alloc::{AllocError, Global};
 use std::io;
 use std::net::{Ipv4Addr, Net, SocketAddr, SocketAddrV4, UdpSocket};
+use std::process::Abort;
 use std::test::Fail;
 use std::time::Duration;
 
@@ -52,6 +54,32 @@ fn comes(link: &mut UdpLink, from: Peer, frame: Option<Frame>) -> bool {
     }
 }
 
+/// Each reply, which is sent twice, is that to the client's next Draw.
+fn each_is_answered(
+    rt: &impl Abort,
+    client: &mut Client,
+    near: &mut UdpLink,
+    far: &mut UdpLink,
+    replies: &[&[u8]],
+) -> Result<(), &'static str> {
+    let (here, there) = (near.local(), far.local());
+    for reply in replies {
+        assert!(rt; is_sent_twice(far, here, reply));
+        assert!(rt; is_answered(client, near, there, draw()?, reply));
+    }
+    Ok(())
+}
+
+/// Customer 7's Draws with the numbers 1 to 3 come, and nothing behind them.
+fn three_draws_come(rt: &impl Abort, link: &mut UdpLink, from: Peer) -> Result<(), &'static str> {
+    for number in 1..=3u32 {
+        let frame = request(number, draw()?);
+        assert!(rt; comes(link, from, Some(frame)), "number {number}");
+    }
+    assert!(rt; comes(link, from, None));
+    Ok(())
+}
+
 #[test]
 fn a_client_that_gets_each_datagram_twice_sends_each_frame_once(
     rt: HostRuntime,
@@ -59,21 +87,13 @@ fn a_client_that_gets_each_datagram_twice_sends_each_frame_once(
     let mut near = UdpLink::bind(&rt, ANY_PORT, 1_000)?;
     let mut far = UdpLink::bind(&rt, ANY_PORT, 100)?;
     let mut client = Client::new(7, 1, 3)?;
-    let (here, there) = (near.local(), far.local());
     let replies: [&[u8]; 3] = [
         FIRST_DRAW.1,
         b"S1\x01\x82\0\0\0\x07\0\0\0\x02RAGB\0\0\0\x4e\x20RA000000014GB",
         b"S1\x01\x82\0\0\0\x07\0\0\0\x03RAGB\x05",
     ];
-    for reply in replies {
-        assert!(rt; is_sent_twice(&mut far, here, reply));
-        assert!(rt; is_answered(&mut client, &mut near, there, draw()?, reply));
-    }
-    for number in 1..=3u32 {
-        let frame = request(number, draw()?);
-        assert!(rt; comes(&mut far, here, Some(frame)), "number {number}");
-    }
-    assert!(rt; comes(&mut far, here, None));
+    each_is_answered(&rt, &mut client, &mut near, &mut far, &replies)?;
+    three_draws_come(&rt, &mut far, near.local())?;
     Ok(())
 }
 
@@ -120,18 +140,37 @@ fn next_length(socket: &UdpSocket) -> Option<usize> {
     }
 }
 
+/// The Grant with a byte behind it.
+fn longer_grant(alloc: Global) -> Result<Vec<u8>, AllocError> {
+    let mut longer = FIRST_GRANT.0.to_vec(alloc)?;
+    longer.push(0)?;
+    Ok(longer)
+}
+
+/// Whether one turn of the server drops these bytes of a socket for their length.
+fn is_dropped(
+    server: &mut Server<PlainBook>,
+    link: &mut UdpLink,
+    socket: &UdpSocket,
+    bytes: &[u8],
+) -> bool {
+    match peer_of(socket) {
+        Some(from) => {
+            let dropped = Ok(ServerTurn::Dropped(from, WireFault::Length));
+            sends_raw(socket, link.local().port, bytes) && serves(server, link, dropped)
+        }
+        None => false,
+    }
+}
+
 #[test]
 fn a_grant_of_29_bytes_is_dropped_unanswered(rt: HostRuntime) -> Result<(), Fail> {
     let mut far = UdpLink::bind(&rt, ANY_PORT, 1_000)?;
     let mut server = new_server(rt.alloc(), 100)?;
     let socket = raw_socket(&rt, 100)?;
-    let from = peer_of(&socket).ok_or("address")?;
-    let mut longer = FIRST_GRANT.0.to_vec(rt.alloc())?;
-    longer.push(0)?;
+    let longer = longer_grant(rt.alloc())?;
     assert_eq!(rt; longer.len(), 29);
-    assert!(rt; sends_raw(&socket, far.local().port, &longer));
-    let dropped = Ok(ServerTurn::Dropped(from, WireFault::Length));
-    assert!(rt; serves(&mut server, &mut far, dropped));
+    assert!(rt; is_dropped(&mut server, &mut far, &socket, &longer));
     assert_eq!(rt; server.book().len(), 0);
     assert_eq!(rt; next_length(&socket), None);
     Ok(())

@@ -1,15 +1,13 @@
-use crate::fixtures::new_server;
 use crate::scripts::Want::Reply;
-use crate::scripts::{DRAW, GRANT, play};
+use crate::scripts::{GRANT, play, played};
 use std::test::Fail;
 
 #[test]
 fn ranges_with_a_serial_in_common_are_refused(rt: HostRuntime) -> Result<(), Fail> {
-    let mut server = new_server(rt.alloc(), 100)?;
-    play(
+    let mut server = played(
         &rt,
         rt.alloc(),
-        &mut server,
+        100,
         &[
             GRANT,
             (
@@ -81,11 +79,10 @@ fn ranges_with_a_serial_in_common_are_refused(rt: HostRuntime) -> Result<(), Fai
 
 #[test]
 fn the_last_serials_are_drawn_and_no_more(rt: HostRuntime) -> Result<(), Fail> {
-    let mut server = new_server(rt.alloc(), 100)?;
-    play(
+    played(
         &rt,
         rt.alloc(),
-        &mut server,
+        100,
         &[
             (
                 20000,
@@ -118,16 +115,16 @@ fn the_last_serials_are_drawn_and_no_more(rt: HostRuntime) -> Result<(), Fail> {
                 Reply("53310182 00000007 00000005 52414742 05"),
             ),
         ],
-    )
+    )?;
+    Ok(())
 }
 
 #[test]
 fn each_refusal_has_its_reply(rt: HostRuntime) -> Result<(), Fail> {
-    let mut server = new_server(rt.alloc(), 100)?;
-    play(
+    played(
         &rt,
         rt.alloc(),
-        &mut server,
+        100,
         &[
             GRANT,
             // Customer 8 asks about what is customer 7's.
@@ -179,5 +176,6 @@ fn each_refusal_has_its_reply(rt: HostRuntime) -> Result<(), Fail> {
                 Reply("53310182 00000007 00000003 52424742 04"),
             ),
         ],
-    )
+    )?;
+    Ok(())
 }

@@ -1,6 +1,6 @@
 use crate::fixtures::new_server;
 use crate::scripts::Want::{Dropped, Faulted, Reply};
-use crate::scripts::{DRAW, GRANT, bytes_of, is_as_wanted, play};
+use crate::scripts::{DRAW, GRANT, bytes_of, is_as_wanted, played};
 use s10_book::{Book, BookFault};
 use s10_wire::WireFault;
 use std::test::Fail;
@@ -40,11 +40,10 @@ fn bytes_that_ask_nothing_are_dropped(rt: HostRuntime) -> Result<(), Fail> {
 
 #[test]
 fn full_book_answers_kept_calls_alone(rt: HostRuntime) -> Result<(), Fail> {
-    let mut server = new_server(rt.alloc(), 3)?;
-    play(
+    let server = played(
         &rt,
         rt.alloc(),
-        &mut server,
+        3,
         &[
             GRANT,
             DRAW,

@@ -1,17 +1,15 @@
-use crate::fixtures::new_server;
 use crate::scripts::Want::{Dropped, Reply};
-use crate::scripts::{DRAW, GRANT, play};
+use crate::scripts::{DRAW, GRANT, play, played};
 use s10_book::Book;
 use s10_wire::WireFault;
 use std::test::Fail;
 
 #[test]
 fn nine_deliveries_get_their_replies(rt: HostRuntime) -> Result<(), Fail> {
-    let mut server = new_server(rt.alloc(), 100)?;
-    play(
+    let server = played(
         &rt,
         rt.alloc(),
-        &mut server,
+        100,
         &[
             GRANT,
             DRAW,
@@ -54,11 +52,10 @@ fn nine_deliveries_get_their_replies(rt: HostRuntime) -> Result<(), Fail> {
 
 #[test]
 fn repeat_on_a_later_day_gets_the_kept_reply(rt: HostRuntime) -> Result<(), Fail> {
-    let mut server = new_server(rt.alloc(), 100)?;
-    play(
+    let mut server = played(
         &rt,
         rt.alloc(),
-        &mut server,
+        100,
         &[GRANT, DRAW, (20400, DRAW.1, DRAW.2)],
     )?;
     assert_eq!(rt; server.book().len(), 2);
@@ -77,11 +74,10 @@ fn repeat_on_a_later_day_gets_the_kept_reply(rt: HostRuntime) -> Result<(), Fail
 
 #[test]
 fn repeat_of_a_refused_draw_is_refused_still(rt: HostRuntime) -> Result<(), Fail> {
-    let mut server = new_server(rt.alloc(), 100)?;
-    play(
+    let mut server = played(
         &rt,
         rt.alloc(),
-        &mut server,
+        100,
         &[
             GRANT,
             DRAW,
@@ -122,11 +118,10 @@ fn repeat_of_a_refused_draw_is_refused_still(rt: HostRuntime) -> Result<(), Fail
 
 #[test]
 fn number_reused_is_not_kept(rt: HostRuntime) -> Result<(), Fail> {
-    let mut server = new_server(rt.alloc(), 100)?;
-    play(
+    let mut server = played(
         &rt,
         rt.alloc(),
-        &mut server,
+        100,
         &[
             GRANT,
             DRAW,

@@ -1,6 +1,7 @@
 //! Scripts of deliveries, each with the answer that it gets. Datagrams are in hex, in groups for reading.
 
-use s10_book::{Book, BookFault};
+use crate::fixtures::new_server;
+use s10_book::{Book, BookFault, PlainBook};
 use s10_ends::{Answer, Delivery, Server};
 use s10_link::Packet;
 use s10_wire::WireFault;
@@ -66,13 +67,8 @@ pub(crate) fn is_as_wanted(alloc: Global, answer: &Answer, want: Want) -> Result
     })
 }
 
-/// Hands all datagrams to the server at once, and compares each answer.
-pub(crate) fn play<B: Book>(
-    rt: &impl Abort,
-    alloc: Global,
-    server: &mut Server<B>,
-    steps: &[Step],
-) -> Result<(), Fail> {
+/// The datagrams of these steps, on their days.
+fn deliveries_of(alloc: Global, steps: &[Step]) -> Result<Vec<Delivery>, AllocError> {
     let mut deliveries = Vec::new(alloc);
     for (day, datagram, _) in steps {
         let bytes = bytes_of(alloc, datagram)?;
@@ -81,10 +77,44 @@ pub(crate) fn play<B: Book>(
             day: *day,
         })?;
     }
-    let answers = server.run(alloc, &deliveries)?;
+    Ok(deliveries)
+}
+
+/// Each step has its answer.
+fn are_as_wanted(
+    rt: &impl Abort,
+    alloc: Global,
+    answers: &[Answer],
+    steps: &[Step],
+) -> Result<(), AllocError> {
     assert_eq!(rt; answers.len(), steps.len());
     for (answer, (_, datagram, want)) in answers.iter().zip(steps) {
         assert!(rt; is_as_wanted(alloc, answer, *want)?, "{datagram}");
     }
     Ok(())
+}
+
+/// Hands all datagrams to the server at once, and compares each answer.
+pub(crate) fn play<B: Book>(
+    rt: &impl Abort,
+    alloc: Global,
+    server: &mut Server<B>,
+    steps: &[Step],
+) -> Result<(), Fail> {
+    let deliveries = deliveries_of(alloc, steps)?;
+    let answers = server.run(alloc, &deliveries)?;
+    are_as_wanted(rt, alloc, &answers, steps)?;
+    Ok(())
+}
+
+/// A server over an empty book of that limit, behind these steps.
+pub(crate) fn played(
+    rt: &impl Abort,
+    alloc: Global,
+    limit: u32,
+    steps: &[Step],
+) -> Result<Server<PlainBook>, Fail> {
+    let mut server = new_server(alloc, limit)?;
+    play(rt, alloc, &mut server, steps)?;
+    Ok(server)
 }

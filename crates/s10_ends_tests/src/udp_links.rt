@@ -23,6 +23,11 @@ fn is_refused(link: &mut UdpLink, frame: &Frame) -> bool {
     link.send(ANY_PORT, frame) == Err(LinkFault::Send)
 }
 
+/// Whether the frame passes both ways as this packet, and then to no port 0.
+fn passes_both_ways(near: &mut UdpLink, far: &mut UdpLink, frame: &Frame, packet: Packet) -> bool {
+    passes(near, far, frame, packet) && passes(far, near, frame, packet) && is_refused(near, frame)
+}
+
 #[test]
 fn datagrams_pass_over_loopback(rt: HostRuntime) -> Result<(), Fail> {
     let mut near = UdpLink::bind(&rt, ANY_PORT, 1_000)?;
@@ -35,9 +40,7 @@ fn datagrams_pass_over_loopback(rt: HostRuntime) -> Result<(), Fail> {
         body: draw()?,
     });
     let packet = Packet::new(FIRST_DRAW.0);
-    assert!(rt; passes(&mut near, &mut far, &frame, packet));
-    assert!(rt; passes(&mut far, &mut near, &frame, packet));
-    assert!(rt; is_refused(&mut near, &frame));
+    assert!(rt; passes_both_ways(&mut near, &mut far, &frame, packet));
     let trace = Trace {
         calls: 3,
         failures: 1,
