@@ -1,12 +1,12 @@
 use crate::books::Answered::{Drawn, DrawnMany, Full, Other};
 use crate::books::Asked::{Draw, DrawMany, DrawOfRb, Grant, GrantOfRb, Query, QueryOfUs, Void};
-use crate::books::{OPENING, book_after};
+use crate::books::{OPENING, are_answered};
 use s10_wire::{Outcome, Status};
 use std::test::Fail;
 
 #[test]
 fn draws_and_voids_are_answered_as_worked_by_hand(rt: HostRuntime) -> Result<(), Fail> {
-    book_after(
+    are_answered(
         &rt,
         "the interval ends on its thirtieth day; a repeat is not executed and moves no day",
         100,
@@ -23,7 +23,7 @@ fn draws_and_voids_are_answered_as_worked_by_hand(rt: HostRuntime) -> Result<(),
             (7, 1, Draw, 20400, Drawn(20000, 0)),
         ],
     )?;
-    book_after(
+    are_answered(
         &rt,
         "a day that falls counts as the last one",
         100,
@@ -33,7 +33,7 @@ fn draws_and_voids_are_answered_as_worked_by_hand(rt: HostRuntime) -> Result<(),
             (7, 2, Draw, 19000, Drawn(20010, 1)),
         ],
     )?;
-    book_after(
+    are_answered(
         &rt,
         "the last serials, and a void that frees nothing",
         100,
@@ -52,7 +52,7 @@ fn draws_and_voids_are_answered_as_worked_by_hand(rt: HostRuntime) -> Result<(),
             (7, 5, Draw, 20000, Other(Outcome::NoneFree)),
         ],
     )?;
-    book_after(
+    are_answered(
         &rt,
         "a full ledger answers what it kept",
         3,
@@ -64,13 +64,12 @@ fn draws_and_voids_are_answered_as_worked_by_hand(rt: HostRuntime) -> Result<(),
             (7, 1, Draw, 20000, Drawn(20000, 0)),
             (7, 1, Query(0), 20000, Other(Outcome::NumberReused)),
         ],
-    )?;
-    Ok(())
+    )
 }
 
 #[test]
 fn grants_and_refusals_are_answered_as_worked_by_hand(rt: HostRuntime) -> Result<(), Fail> {
-    book_after(
+    are_answered(
         &rt,
         "no two ranges have a serial in common, and a draw stays in its own",
         100,
@@ -109,7 +108,7 @@ fn grants_and_refusals_are_answered_as_worked_by_hand(rt: HostRuntime) -> Result
             (8, 1, Draw, 20000, Drawn(20000, 13)),
         ],
     )?;
-    book_after(
+    are_answered(
         &rt,
         "grants are refused in their order",
         100,
@@ -142,7 +141,7 @@ fn grants_and_refusals_are_answered_as_worked_by_hand(rt: HostRuntime) -> Result
             (8, 1, Draw, 20000, Drawn(20000, 3)),
         ],
     )?;
-    book_after(
+    are_answered(
         &rt,
         "who may draw, void and query what",
         100,
@@ -180,13 +179,12 @@ fn grants_and_refusals_are_answered_as_worked_by_hand(rt: HostRuntime) -> Result
                 Other(Outcome::Told(Status::Voided { day: 20000 })),
             ),
         ],
-    )?;
-    Ok(())
+    )
 }
 
 #[test]
 fn larger_draws_are_answered_as_worked_by_hand(rt: HostRuntime) -> Result<(), Fail> {
-    book_after(
+    are_answered(
         &rt,
         "all that are asked for or none, and nothing is issued for none",
         100,
@@ -214,7 +212,7 @@ fn larger_draws_are_answered_as_worked_by_hand(rt: HostRuntime) -> Result<(), Fa
             (7, 9, DrawMany(1), 20060, DrawnMany(20060, (0, 1), (0, 0))),
         ],
     )?;
-    book_after(
+    are_answered(
         &rt,
         "one range after the other, and no more than they have",
         100,
@@ -232,7 +230,7 @@ fn larger_draws_are_answered_as_worked_by_hand(rt: HostRuntime) -> Result<(), Fa
             (7, 2, Draw, 20000, Other(Outcome::NoneFree)),
         ],
     )?;
-    book_after(
+    are_answered(
         &rt,
         "a sheet of sixteen, and one that goes round",
         100,
@@ -248,6 +246,5 @@ fn larger_draws_are_answered_as_worked_by_hand(rt: HostRuntime) -> Result<(), Fa
             (7, 2, DrawMany(16), 20029, Other(Outcome::NoneFree)),
             (7, 3, DrawMany(16), 20030, DrawnMany(20030, (1, 16), (0, 1))),
         ],
-    )?;
-    Ok(())
+    )
 }

@@ -258,6 +258,17 @@ pub(crate) fn first_unlike<B: Book>(
     Ok(None)
 }
 
+/// An empty book whose interval is 30 days answers these steps as their rows say.
+pub(crate) fn are_answered<R: Abort + AllocGlobal>(
+    rt: &R,
+    name: &str,
+    limit: u32,
+    steps: &[Step],
+) -> Result<(), Fail> {
+    book_after(rt, name, limit, steps)?;
+    Ok(())
+}
+
 /// A book whose interval is 30 days, after these steps.
 pub(crate) fn book_after<R: Abort + AllocGlobal>(
     rt: &R,

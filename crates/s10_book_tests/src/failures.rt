@@ -4,6 +4,7 @@ use crate::books::{
 use s10_book::{Book, BookFault, TripBook};
 use s10_wire::{Outcome, Status};
 use std::alloc::Global;
+use std::process::Abort;
 use std::test::Fail;
 
 /// Whether a book that fails at one of its calls, counted from 0, fails at that one of four reads alone.
@@ -67,18 +68,34 @@ fn calls_of(alloc: Global, steps: &[Step]) -> Result<Option<u64>, Fail> {
     Ok(None)
 }
 
+fn each_read_fails_once(rt: &impl Abort, alloc: Global) -> Result<(), Fail> {
+    for at in 0..3u64 {
+        assert!(rt; fails_once(alloc, at)?, "at {at}");
+    }
+    Ok(())
+}
+
+/// How many calls of the book so many of the nine calls make.
+fn calls_of_first(alloc: Global, count: usize) -> Result<Option<u64>, Fail> {
+    if NINE_CALLS.len() < count {
+        return Ok(None);
+    }
+    calls_of(alloc, &NINE_CALLS[..count])
+}
+
 // The first Grant looks for its key and for what it overlaps, and is kept; a Draw looks for its key, for a
 // range and for its candidate, and is kept; a Void looks for its key, for the range of the identifier and
 // for its last issue, and is kept.
 #[test]
 fn a_failed_call_of_the_book_is_made_good_by_a_repeat(rt: HostRuntime) -> Result<(), Fail> {
-    for at in 0..3u64 {
-        assert!(rt; fails_once(rt.alloc(), at)?, "at {at}");
+    each_read_fails_once(&rt, rt.alloc())?;
+    for (count, calls) in [(1, 3), (2, 7), (3, 11), (4, 15)] {
+        assert_eq!(rt;
+            calls_of_first(rt.alloc(), count)?,
+            Some(calls),
+            "the first {count}"
+        );
     }
-    assert_eq!(rt; calls_of(rt.alloc(), &NINE_CALLS[..1])?, Some(3));
-    assert_eq!(rt; calls_of(rt.alloc(), &NINE_CALLS[..2])?, Some(7));
-    assert_eq!(rt; calls_of(rt.alloc(), &NINE_CALLS[..3])?, Some(11));
-    assert_eq!(rt; calls_of(rt.alloc(), &NINE_CALLS[..4])?, Some(15));
     Ok(())
 }
 

@@ -2,6 +2,7 @@ use crate::books::{Asked, NINE_CALLS, book_after, first_unlike, gb, id, ra, requ
 use s10_book::{Book, PlainBook};
 use s10_history::{Block, Candidate, Entry, Holding, Issuance, Issue, Range, Usage};
 use s10_wire::Outcome;
+use std::process::Abort;
 use std::test::Fail;
 
 /// The range of the opening.
@@ -120,6 +121,47 @@ fn is_of_nine_calls(book: &PlainBook) -> bool {
     book.len() == 9 && book.day() == 20030 && settings.interval() == 30 && settings.limit() == 100
 }
 
+fn usages_are_read(rt: &impl Abort, book: &mut PlainBook) {
+    for (day, free) in [(0, 1), (20030, 1), (20059, 1), (20060, 3)] {
+        assert!(rt; is_used(book, day, 3, 0, free), "on {day}");
+    }
+}
+
+fn calls_are_found(rt: &impl Abort, book: &mut PlainBook) -> Result<(), &'static str> {
+    for (customer, number, entry) in [(7, 5, Some(sixth()?)), (5, 7, None)] {
+        assert!(rt; finds(book, customer, number, entry), "number {number}");
+    }
+    Ok(())
+}
+
+fn calls_are_read(rt: &impl Abort, book: &mut PlainBook) -> Result<(), &'static str> {
+    for (at, entry) in [(6, Some(sixth()?)), (0, None), (10, None)] {
+        assert!(rt; holds(book, at, entry), "at {at}");
+    }
+    Ok(())
+}
+
+fn ranges_are_found(rt: &impl Abort, book: &mut PlainBook) -> Result<(), &'static str> {
+    let range = first_range()?;
+    for (first, last, found) in [(2, 5, Some(range)), (3, 5, None), (2, 1, None)] {
+        assert!(rt; has_over(book, first, last, found)?, "{first} to {last}");
+    }
+    Ok(())
+}
+
+/// The book of nine calls has their usages, calls, ranges and issues.
+fn nine_calls_are_read(rt: &impl Abort, book: &mut PlainBook) -> Result<(), &'static str> {
+    usages_are_read(rt, book);
+    assert!(rt; is_of_nine_calls(book));
+    calls_are_found(rt, book)?;
+    calls_are_read(rt, book)?;
+    assert!(rt; has_one_range(book)?);
+    ranges_are_found(rt, book)?;
+    assert!(rt; was_last_issued(book, issue(20030, false, 8))?);
+    assert!(rt; gives_next(book, 2, issue(20000, false, 5))?);
+    Ok(())
+}
+
 #[test]
 fn reads_answer_from_the_kept_calls(rt: HostRuntime) -> Result<(), Fail> {
     let calls = &NINE_CALLS[..];
@@ -127,30 +169,7 @@ fn reads_answer_from_the_kept_calls(rt: HostRuntime) -> Result<(), Fail> {
     assert!(rt; was_last_issued(&mut book, issue(20000, true, 2))?);
     assert!(rt; is_used(&mut book, 20000, 3, 1, 0));
     assert_eq!(rt; first_unlike(&mut book, &calls[6..])?, None);
-    for (day, free) in [(0, 1), (20030, 1), (20059, 1), (20060, 3)] {
-        assert!(rt; is_used(&mut book, day, 3, 0, free), "on {day}");
-    }
-    assert!(rt; is_of_nine_calls(&book));
-    let sixth = sixth()?;
-    for (customer, number, entry) in [(7, 5, Some(sixth)), (5, 7, None)] {
-        assert!(rt;
-            finds(&mut book, customer, number, entry),
-            "number {number}"
-        );
-    }
-    for (at, entry) in [(6, Some(sixth)), (0, None), (10, None)] {
-        assert!(rt; holds(&mut book, at, entry), "at {at}");
-    }
-    assert!(rt; has_one_range(&mut book)?);
-    let range = first_range()?;
-    for (first, last, found) in [(2, 5, Some(range)), (3, 5, None), (2, 1, None)] {
-        assert!(rt;
-            has_over(&mut book, first, last, found)?,
-            "{first} to {last}"
-        );
-    }
-    assert!(rt; was_last_issued(&mut book, issue(20030, false, 8))?);
-    assert!(rt; gives_next(&mut book, 2, issue(20000, false, 5))?);
+    nine_calls_are_read(&rt, &mut book)?;
     Ok(())
 }
 

@@ -144,20 +144,30 @@ fn stops_in_ranges(alloc: Global, book: PlainBook, at: u64) -> bool {
         && is_of_whole_lines(out.as_slice(), RANGES)
 }
 
-#[test]
-fn a_book_that_fails_leaves_whole_lines(rt: HostRuntime) -> Result<(), Fail> {
+fn reports_of_issues_stop<R: Abort + AllocGlobal>(rt: &R) -> Result<(), Fail> {
     for at in 0..14u64 {
-        let book = book_of_nine_calls(&rt)?;
+        let book = book_of_nine_calls(rt)?;
         assert!(rt; stops_in_issues(rt.alloc(), book, at), "at {at}");
     }
+    // So many calls of the book the report makes, and no more.
+    assert!(rt; !stops_in_issues(rt.alloc(), book_of_nine_calls(rt)?, 14));
+    Ok(())
+}
+
+fn reports_of_ranges_stop<R: Abort + AllocGlobal>(rt: &R) -> Result<(), Fail> {
     for at in 0..4u64 {
-        let book = book_of_nine_calls(&rt)?;
+        let book = book_of_nine_calls(rt)?;
         assert!(rt; stops_in_ranges(rt.alloc(), book, at), "at {at}");
     }
-    // So many calls of the book the reports make, and no more.
-    assert!(rt; !stops_in_issues(rt.alloc(), book_of_nine_calls(&rt)?, 14));
-    assert!(rt; !stops_in_ranges(rt.alloc(), book_of_nine_calls(&rt)?, 4));
+    // So many calls of the book the report makes, and no more.
+    assert!(rt; !stops_in_ranges(rt.alloc(), book_of_nine_calls(rt)?, 4));
     Ok(())
+}
+
+#[test]
+fn a_book_that_fails_leaves_whole_lines(rt: HostRuntime) -> Result<(), Fail> {
+    reports_of_issues_stop(&rt)?;
+    reports_of_ranges_stop(&rt)
 }
 
 /// A writer that takes so many bytes, then fails once, and from then on takes all.
@@ -216,28 +226,34 @@ fn is_cut_report_of_ranges(alloc: Global, book: &mut PlainBook, room: usize) -> 
     is_cut(answer, &out, RANGES, room)
 }
 
+fn reports_of_issues_are_cut(rt: &impl Abort, alloc: Global, book: &mut PlainBook) {
+    for room in 0..ISSUES.len() {
+        assert!(rt; is_cut_report_of_issues(alloc, book, room), "{room} bytes");
+    }
+}
+
+fn reports_of_ranges_are_cut(rt: &impl Abort, alloc: Global, book: &mut PlainBook) {
+    for room in 0..RANGES.len() {
+        assert!(rt; is_cut_report_of_ranges(alloc, book, room), "{room} bytes");
+    }
+}
+
+fn faults_have_their_texts(rt: &impl Abort, alloc: Global) -> Result<(), Fail> {
+    for (fault, text) in [
+        (ReportFault::Book(BookFault::Memory), "book: memory"),
+        (ReportFault::Write, "the report could not be written"),
+    ] {
+        assert_eq!(rt; format!(in alloc; "{fault}")?.as_str(), text);
+    }
+    Ok(())
+}
+
 #[test]
 fn a_writer_that_fails_once_has_got_the_beginning_of_the_report(
     rt: HostRuntime,
 ) -> Result<(), Fail> {
     let mut book = book_of_nine_calls(&rt)?;
-    for room in 0..ISSUES.len() {
-        assert!(rt;
-            is_cut_report_of_issues(rt.alloc(), &mut book, room),
-            "{room} bytes"
-        );
-    }
-    for room in 0..RANGES.len() {
-        assert!(rt;
-            is_cut_report_of_ranges(rt.alloc(), &mut book, room),
-            "{room} bytes"
-        );
-    }
-    for (fault, text) in [
-        (ReportFault::Book(BookFault::Memory), "book: memory"),
-        (ReportFault::Write, "the report could not be written"),
-    ] {
-        assert_eq!(rt; format!(in rt.alloc(); "{fault}")?.as_str(), text);
-    }
-    Ok(())
+    reports_of_issues_are_cut(&rt, rt.alloc(), &mut book);
+    reports_of_ranges_are_cut(&rt, rt.alloc(), &mut book);
+    faults_have_their_texts(&rt, rt.alloc())
 }

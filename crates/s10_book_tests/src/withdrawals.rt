@@ -2,10 +2,11 @@
 
 use crate::books::Answered::{Drawn, DrawnMany, Full, Other};
 use crate::books::Asked::{Draw, DrawMany, DrawOfRb, Grant, GrantOfRb, Query, Void, Withdraw};
-use crate::books::{OPENING, Step, book_after, gb, ra, serial};
+use crate::books::{OPENING, Step, are_answered, book_after, gb, ra, serial};
 use s10_book::{Book, PlainBook};
 use s10_history::{Block, Holding};
 use s10_wire::{Outcome, Status};
+use std::process::Abort;
 use std::test::Fail;
 
 /// Customer 7 is granted range 2: the serials 4 to 6.
@@ -28,7 +29,7 @@ const THIRD_GRANT: Step = (
 
 #[test]
 fn withdrawals_are_answered_in_the_order_of_the_rule(rt: HostRuntime) -> Result<(), Fail> {
-    book_after(
+    are_answered(
         &rt,
         "who asks comes first, then whether there is such a range, then whether it is closed",
         100,
@@ -48,7 +49,7 @@ fn withdrawals_are_answered_in_the_order_of_the_rule(rt: HostRuntime) -> Result<
             (0, 6, Withdraw(2), 20000, Other(Outcome::NoSuchRange)),
         ],
     )?;
-    book_after(
+    are_answered(
         &rt,
         "a closed range keeps its serials and its number",
         100,
@@ -69,18 +70,17 @@ fn withdrawals_are_answered_in_the_order_of_the_rule(rt: HostRuntime) -> Result<
             (0, 8, Withdraw(3), 20000, Other(Outcome::NoSuchRange)),
         ],
     )?;
-    book_after(
+    are_answered(
         &rt,
         "a full ledger withdraws nothing",
         1,
         &[OPENING, (0, 2, Withdraw(1), 20000, Full)],
-    )?;
-    Ok(())
+    )
 }
 
 #[test]
 fn a_closed_range_gives_no_more_identifiers(rt: HostRuntime) -> Result<(), Fail> {
-    book_after(
+    are_answered(
         &rt,
         "what it gave is voided and told of as before",
         100,
@@ -106,7 +106,7 @@ fn a_closed_range_gives_no_more_identifiers(rt: HostRuntime) -> Result<(), Fail>
             (7, 9, Draw, 20030, Other(Outcome::NoRange)),
         ],
     )?;
-    book_after(
+    are_answered(
         &rt,
         "ranges of others, and of another service, are as open as before",
         100,
@@ -134,13 +134,12 @@ fn a_closed_range_gives_no_more_identifiers(rt: HostRuntime) -> Result<(), Fail>
             (8, 1, Draw, 20000, Drawn(20000, 4)),
             (8, 2, DrawMany(2), 20000, DrawnMany(20000, (5, 7), (0, 0))),
         ],
-    )?;
-    Ok(())
+    )
 }
 
 #[test]
 fn draws_go_on_in_the_ranges_that_are_open(rt: HostRuntime) -> Result<(), Fail> {
-    book_after(
+    are_answered(
         &rt,
         "none is free where an open range has none, and there is no range where all are closed",
         100,
@@ -159,7 +158,7 @@ fn draws_go_on_in_the_ranges_that_are_open(rt: HostRuntime) -> Result<(), Fail> 
             (7, 8, DrawMany(1), 20000, Other(Outcome::NoRange)),
         ],
     )?;
-    book_after(
+    are_answered(
         &rt,
         "a sheet of three is of the open range alone, and not before the day of the withdrawal",
         100,
@@ -171,7 +170,7 @@ fn draws_go_on_in_the_ranges_that_are_open(rt: HostRuntime) -> Result<(), Fail> 
             (7, 2, DrawMany(3), 20000, DrawnMany(20010, (4, 7), (0, 0))),
         ],
     )?;
-    book_after(
+    are_answered(
         &rt,
         "a sheet passes over a closed range between two others",
         100,
@@ -184,8 +183,7 @@ fn draws_go_on_in_the_ranges_that_are_open(rt: HostRuntime) -> Result<(), Fail> 
             (7, 2, DrawMany(2), 20000, Other(Outcome::NoneFree)),
             (7, 3, Draw, 20000, Drawn(20000, 9)),
         ],
-    )?;
-    Ok(())
+    )
 }
 
 /// Whether the range of that number is closed, or is not.
@@ -216,6 +214,26 @@ fn range_over(book: &mut PlainBook, value: u32) -> Result<Option<u32>, Fail> {
     Ok(found.map_err(|_| "fault")?.map(|range| range.num))
 }
 
+fn are_closed_as_told(rt: &impl Abort, book: &mut PlainBook) {
+    for (num, closed) in [(0, false), (1, false), (2, true), (3, false), (4, false)] {
+        assert!(rt; has_closed(book, num, closed), "{num}");
+    }
+}
+
+fn open_ranges_are_next(rt: &impl Abort, book: &mut PlainBook) -> Result<(), Fail> {
+    for (after, num) in [(0, Some(1)), (1, Some(3)), (2, Some(3)), (3, None)] {
+        assert_eq!(rt; next_open(book, after)?, num, "behind {after}");
+    }
+    Ok(())
+}
+
+fn all_ranges_are_over_their_serials(rt: &impl Abort, book: &mut PlainBook) -> Result<(), Fail> {
+    for (value, num) in [(2, Some(1)), (4, Some(2)), (8, Some(3)), (7, None)] {
+        assert_eq!(rt; range_over(book, value)?, num, "over {value}");
+    }
+    Ok(())
+}
+
 #[test]
 fn a_draw_alone_passes_over_a_closed_range(rt: HostRuntime) -> Result<(), Fail> {
     let steps = [
@@ -227,14 +245,7 @@ fn a_draw_alone_passes_over_a_closed_range(rt: HostRuntime) -> Result<(), Fail> 
         (0, 5, Withdraw(4), 20000, Other(Outcome::NoSuchRange)),
     ];
     let mut book = book_after(&rt, "the second of three ranges is closed", 100, &steps)?;
-    for (num, closed) in [(0, false), (1, false), (2, true), (3, false), (4, false)] {
-        assert!(rt; has_closed(&mut book, num, closed), "{num}");
-    }
-    for (after, num) in [(0, Some(1)), (1, Some(3)), (2, Some(3)), (3, None)] {
-        assert_eq!(rt; next_open(&mut book, after)?, num, "behind {after}");
-    }
-    for (value, num) in [(2, Some(1)), (4, Some(2)), (8, Some(3)), (7, None)] {
-        assert_eq!(rt; range_over(&mut book, value)?, num, "over {value}");
-    }
-    Ok(())
+    are_closed_as_told(&rt, &mut book);
+    open_ranges_are_next(&rt, &mut book)?;
+    all_ranges_are_over_their_serials(&rt, &mut book)
 }
