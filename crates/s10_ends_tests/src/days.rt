@@ -1,11 +1,11 @@
 use crate::scripts::Want::Reply;
-use crate::scripts::{DRAW, GRANT, play, played};
+use crate::scripts::{DRAW, GRANT, are_answered, play, played};
 use s10_book::Book;
 use std::test::Fail;
 
 #[test]
 fn interval_ends_on_the_thirtieth_day(rt: HostRuntime) -> Result<(), Fail> {
-    played(
+    are_answered(
         &rt,
         rt.alloc(),
         100,
@@ -33,13 +33,12 @@ fn interval_ends_on_the_thirtieth_day(rt: HostRuntime) -> Result<(), Fail> {
                 Reply("53310182 00000007 00000005 52414742 00 00004e3e 52413030303030303030354742"),
             ),
         ],
-    )?;
-    Ok(())
+    )
 }
 
 #[test]
 fn days_that_fall_are_raised_to_the_latest(rt: HostRuntime) -> Result<(), Fail> {
-    played(
+    are_answered(
         &rt,
         rt.alloc(),
         100,
@@ -56,8 +55,7 @@ fn days_that_fall_are_raised_to_the_latest(rt: HostRuntime) -> Result<(), Fail> 
                 Reply("53310182 00000007 00000002 52414742 00 00004e2a 52413030303030303031344742"),
             ),
         ],
-    )?;
-    Ok(())
+    )
 }
 
 #[test]

@@ -118,3 +118,14 @@ pub(crate) fn played(
     play(rt, alloc, &mut server, steps)?;
     Ok(server)
 }
+
+/// A server over an empty book of that limit answers each step as wanted.
+pub(crate) fn are_answered(
+    rt: &impl Abort,
+    alloc: Global,
+    limit: u32,
+    steps: &[Step],
+) -> Result<(), Fail> {
+    played(rt, alloc, limit, steps)?;
+    Ok(())
+}
