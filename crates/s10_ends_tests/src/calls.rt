@@ -76,16 +76,15 @@ fn has_sent(link: &ScriptLink, times: usize) -> Result<bool, &'static str> {
     Ok(link.log().len() == times)
 }
 
-/// The link of this script behind a call that sent the Draw twice and got its reply, and one that had no number left. None where
-/// either ended otherwise.
-fn answered_once(alloc: Global, receipts: &[Receipt]) -> Result<Option<ScriptLink>, Fail> {
+/// Whether a call sends the Draw twice and gets its reply, and the next one has no number left; and the link behind them.
+fn answered_once(alloc: Global, receipts: &[Receipt]) -> Result<(bool, ScriptLink), Fail> {
     let mut link = script(alloc, receipts, &[true, true])?;
     let mut client = Client::new(7, 1, 1)?;
     let spent = CallFault::Submit(SubmitFault::NumbersSpent);
     let is_done = is_answered(&mut client, &mut link, 2, FIRST_DRAW.1)?
         && has_sent(&link, 2)?
         && fails(&mut client, &mut link, 2, spent)?;
-    Ok(if is_done { Some(link) } else { None })
+    Ok((is_done, link))
 }
 
 #[test]
@@ -96,28 +95,30 @@ fn request_is_sent_until_its_own_reply_comes(rt: HostRuntime) -> Result<(), Fail
         deliver(STRANGER, FIRST_DRAW.1),
         Receipt::Fail,
     ];
-    let link = answered_once(rt.alloc(), &receipts)?.ok_or("answered")?;
+    let (is_done, link) = answered_once(rt.alloc(), &receipts)?;
+    assert!(rt; is_done);
     assert_eq!(rt; link.trace().calls, 5);
     Ok(())
 }
 
-/// The link of this script behind a call that is given up after so many tries. None where it ends otherwise.
+/// Whether a call over this script is given up after so many tries, and the link behind it.
 fn given_up(
     alloc: Global,
     receipts: &[Receipt],
     sends: &[bool],
     tries: u32,
-) -> Result<Option<ScriptLink>, Fail> {
+) -> Result<(bool, ScriptLink), Fail> {
     let (asked, _) = request(1)?;
     let mut link = script(alloc, receipts, sends)?;
     let mut client = Client::new(7, 1, 1)?;
     let is_given_up = fails(&mut client, &mut link, tries, CallFault::GaveUp(asked))?;
-    Ok(if is_given_up { Some(link) } else { None })
+    Ok((is_given_up, link))
 }
 
 #[test]
 fn call_without_a_reply_is_given_up(rt: HostRuntime) -> Result<(), Fail> {
-    let link = given_up(rt.alloc(), &[], &[true], 1)?.ok_or("given up")?;
+    let (is_given_up, link) = given_up(rt.alloc(), &[], &[true], 1)?;
+    assert!(rt; is_given_up);
     assert!(rt; has_sent(&link, 1)?);
     assert_eq!(rt; link.trace().calls, 2);
     Ok(())
@@ -126,7 +127,8 @@ fn call_without_a_reply_is_given_up(rt: HostRuntime) -> Result<(), Fail> {
 #[test]
 fn a_try_reads_eight_datagrams(rt: HostRuntime) -> Result<(), Fail> {
     let receipts = [deliver(SERVER, &OTHER); 17];
-    let link = given_up(rt.alloc(), &receipts, &[true, true], 2)?.ok_or("given up")?;
+    let (is_given_up, link) = given_up(rt.alloc(), &receipts, &[true, true], 2)?;
+    assert!(rt; is_given_up);
     assert_eq!(rt; link.trace().calls, 18);
     assert_eq!(rt; link.trace().received, 16);
     Ok(())
