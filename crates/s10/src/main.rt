@@ -1,11 +1,14 @@
 //! The program `s10`: its words, its standard input and output, and its exit status.
 #![tactic(auto)]
 
-ghost use Rattle.std.specs.Prelude.{◌≡◌, ℕ, List, Option, Result, map, IfOk};
+ghost use Rattle.std.specs.Prelude.{◌≡◌, ◌≢◌, ℕ, List, Option, Result, map, IfOk};
 ghost use Rattle.std.specs.Io.KnownBytes.{Keeps};
+ghost use Rattle.std.specs.IoError.{error_kind};
+ghost use Rattle.std.specs.declared.io.ErrorKind.TheVariants.{InvalidData};
 ghost use Rattle.s10_lines.specs.declared.write_fault.WriteFault.{WriteFault};
 ghost use Rattle.s10_jobs.specs.declared.job.Job.{Job};
 ghost use Rattle.s10_jobs.specs.declared.job_status.JobStatus.{JobStatus};
+ghost use Rattle.s10_jobs.specs.declared.job_status.JobStatus.TheVariants.{CommandLine, Failed};
 ghost use Rattle.s10_host.specs.Jobs.{HasEnded};
 ghost use Rattle.s10_cli.specs.Jobs.{AsksInWords};
 ghost use Rattle.s10_cli.specs.CommandLine.{exit_status};
@@ -52,7 +55,7 @@ fn run_words<S: Start, W: AsStr, O: Write + Drop>(
         × HasEnded S.row S.Start job (O.contents output) printed done ended.2.files ended.2.link ended.2.looped
         × Keeps printed (O.contents ended.1) × (ended.0 ≡ exit_status done)) }
 {
-    let Some(job) = parse_job(rt.alloc(), words) else {
+    let Ok(Some(job)) = parse_job(rt.alloc(), words) else {
         return Err(io::Error::from(ErrorKind::OutOfMemory));
     };
     let mut output = BufWriter::new(rt.alloc(), output)?;
@@ -65,7 +68,10 @@ fn run_words<S: Start, W: AsStr, O: Write + Drop>(
 }
 
 // Says why there is no more output.
-fn tell<R: Print + Eprint>(rt: &R, error: &io::Error) -> JobStatus {
+fn tell<R: Print + Eprint>(rt: &R, error: &io::Error) -> JobStatus
+    ensures words { error_kind error.now ≡ InvalidData → result ≡ CommandLine }
+    ensures other { error_kind error.now ≢ InvalidData → result ≡ Failed }
+{
     match error.kind() {
         ErrorKind::InvalidData => {
             let _ = rt.eprintln("error: the command line is not UTF-8");

@@ -9,7 +9,7 @@ use Rattle.clap.specs.declared.error.kind.ErrorKind.TheVariants.{OutOfMemory}
 use Rattle.clap.specs.declared.parser.matches.ArgMatches.{ArgMatches}
 use Rattle.clap.specs.declared.builder.arg.Arg.{Arg}
 use Rattle.clap.specs.declared.builder.command.Command.{Command}
-use Rattle.s10_cli.specs.Grammar.{Follows, Parses, Reads, ReadsAs, grammar}
+use Rattle.s10_cli.specs.Grammar.{AddsCommand, AddsRule, Follows, Parses, Reads, ReadsAs, grammar}
 
 -- one more argument
 pub adds : {old new : Command} {arg : Arg} {app : App} {rule : Rule} → AddsArg old arg new → Reads old app → Follows arg rule → Reads new (with_rule app rule)
@@ -18,10 +18,9 @@ adds {old} {new} {arg} {app} {rule} added reads follows = (
   added.globals ∙ rw (reads.1, follows.1) refl,
 )
 
-pub adds_last : (old : Command) (arg : Arg) {app : App} {rule : Rule} (result : Result Command AllocError)
-    → IfOk result (AddsArg old arg) → Reads old app → Follows arg rule → IfOk result (λ new. Reads new (with_rule app rule))
-adds_last old arg (Ok new) added reads follows = adds added reads follows
-adds_last old arg (Err e) added reads follows = tt
+pub adds_rule : (old : Command) (arg : Arg) (new : Result Command AllocError) → IfOk new (AddsArg old arg) → AddsRule (Ok old) arg new
+adds_rule old arg (Ok new) added app rule reads follows = adds added reads follows
+adds_rule old arg (Err e) added app rule reads follows = tt
 
 -- one more subcommand
 pub adds_command : {old sub new : Command} {app : App} {shape : Shape} → AddsSubcommand old sub new → Reads old app → ReadsAs sub shape → Reads new (with_subcommand app shape)
@@ -30,10 +29,9 @@ adds_command {old} {sub} {new} {app} {shape} added reads is = (
   added.globals ∙ rw (reads.1, is.1) refl,
 )
 
-pub adds_last_command : (old sub : Command) {app : App} {shape : Shape} (result : Result Command AllocError)
-    → IfOk result (AddsSubcommand old sub) → Reads old app → ReadsAs sub shape → IfOk result (λ new. Reads new (with_subcommand app shape))
-adds_last_command old sub (Ok new) added reads is = adds_command added reads is
-adds_last_command old sub (Err e) added reads is = tt
+pub adds_to_commands : (old sub : Command) (new : Result Command AllocError) → IfOk new (AddsSubcommand old sub) → AddsCommand (Ok old) (Ok sub) new
+adds_to_commands old sub (Ok new) added app shape reads is = adds_command added reads is
+adds_to_commands old sub (Err e) added app shape reads is = tt
 
 grammar_is_simple : is_simple grammar ≡ true
 unfolding grammar

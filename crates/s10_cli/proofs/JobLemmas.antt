@@ -8,8 +8,8 @@ use Rattle.clap.specs.declared.parser.matches.ArgMatches.TheViews.{out-ArgMatche
 use Rattle.clap.specs.declared.parser.matches.SubCommand.{SubCommand}
 use Rattle.s10_lines.specs.declared.write_fault.WriteFault.{WriteFault}
 use Rattle.s10_jobs.specs.declared.job_status.JobStatus.{JobStatus}
-use Rattle.s10_cli.specs.CommandLine.{IsSubcommandDone, word}
-use Rattle.s10_cli.specs.Printing.{MakesIdentifier, ShowsDatagram}
+use Rattle.s10_cli.specs.CommandLine.{IsDone, IsSubcommandDone, word}
+use Rattle.s10_cli.specs.Printing.{MakesIdentifier}
 
 one_pair : (o : Option (Text × List Row)) (name : Text) (rows : List Row) → Some name ≡ option_map (λ p. p.0) o → Some rows ≡ option_map (λ p. p.1) o → o ≡ Some (name, rows)
 one_pair None name rows n r = cc
@@ -27,39 +27,29 @@ pub named_by : (m : ArgMatches) (name : Text) (rows : List Row) → Some name �
     → Some rows ≡ option_map (λ p. p.1) (subcommand_rows_of m) → subcommand_rows_of m ≡ Some (name, rows)
 named_by m name rows n r = one_pair (subcommand_rows_of m) name rows (n ∙ names m) r
 
+-- what was done for the subcommand that a parse entered
+pub done_named : (input rest old new : Option (List ℕ)) (m : ArgMatches) (name : Text) (rows : List Row) (answer : Option (Result JobStatus WriteFault))
+    → Some name ≡ subcommand_name_of m → Some rows ≡ option_map (λ p. p.1) (subcommand_rows_of m)
+    → IsDone input rest old new answer name rows → IsSubcommandDone input rest old new answer (subcommand_rows_of m)
+done_named input rest old new m name rows answer n r done =
+    subst (λ (o : Option (Text × List Row)). IsSubcommandDone input rest old new answer o) (sym (named_by m name rows n r)) done
+
 -- a subcommand's name is no other's
 apart : (name a b : Text) → name ≡ a → name ≡ b → (slice_index a 0 ≡ slice_index b 0 → ⊥) → ⊥
 apart name a b is e differ = differ (ap (λ (t : Text). slice_index t 0) (sym is ∙ e))
 
 -- `make` was done
-pub done_make : (input rest old new : Option (List ℕ)) (m : ArgMatches) (name : Text) (rows : List Row) (done : Result JobStatus WriteFault) (service serial country : Text)
-    → Some name ≡ subcommand_name_of m → Some rows ≡ option_map (λ p. p.1) (subcommand_rows_of m) → name ≡ codes "make"
-    → service ≡ word rows (codes "service") → serial ≡ word rows (codes "serial") → country ≡ word rows (codes "country")
-    → MakesIdentifier old new done service serial country → IsSubcommandDone input rest old new (Some done) (subcommand_rows_of m)
-done_make input rest old new m name rows done service serial country n r is a b c made =
+pub done_make : (input rest old new : Option (List ℕ)) (name : Text) (rows : List Row) (done : Result JobStatus WriteFault) (service serial country : Text)
+    → name ≡ codes "make" → service ≡ word rows (codes "service") → serial ≡ word rows (codes "serial") → country ≡ word rows (codes "country")
+    → MakesIdentifier old new done service serial country → IsDone input rest old new (Some done) name rows
+done_make input rest old new name rows done service serial country is a b c made =
     let all : MakesIdentifier old new done (word rows (codes "service")) (word rows (codes "serial")) (word rows (codes "country")) =
     subst (λ (x : Text). MakesIdentifier old new done x (word rows (codes "serial")) (word rows (codes "country"))) a
     (subst (λ (x : Text). MakesIdentifier old new done service x (word rows (codes "country"))) b (subst (λ (x : Text). MakesIdentifier old new done service serial x) c made)) in
-    subst (λ (o : Option (Text × List Row)). IsSubcommandDone input rest old new (Some done) o) (sym (named_by m name rows n r))
-    (record {
+    record {
       check = λ e. absurd (apart name _ _ is e (λ bad. omega arith));
       make = λ _. all;
       show = λ e. absurd (apart name _ _ is e (λ bad. omega arith));
       replay = λ e. absurd (apart name _ _ is e (λ bad. omega arith));
       left = λ _ other _ _. absurd (other is);
-    })
-
--- `show` was done
-pub done_show : (input rest old new : Option (List ℕ)) (m : ArgMatches) (name : Text) (rows : List Row) (done : Result JobStatus WriteFault) (digits : Text)
-    → Some name ≡ subcommand_name_of m → Some rows ≡ option_map (λ p. p.1) (subcommand_rows_of m) → name ≡ codes "show"
-    → digits ≡ word rows (codes "hex") → ShowsDatagram old new done digits → IsSubcommandDone input rest old new (Some done) (subcommand_rows_of m)
-done_show input rest old new m name rows done digits n r is a shown =
-    let all : ShowsDatagram old new done (word rows (codes "hex")) = subst (λ (x : Text). ShowsDatagram old new done x) a shown in
-    subst (λ (o : Option (Text × List Row)). IsSubcommandDone input rest old new (Some done) o) (sym (named_by m name rows n r))
-    (record {
-      check = λ e. absurd (apart name _ _ is e (λ bad. omega arith));
-      make = λ e. absurd (apart name _ _ is e (λ bad. omega arith));
-      show = λ _. all;
-      replay = λ e. absurd (apart name _ _ is e (λ bad. omega arith));
-      left = λ _ _ other _. absurd (other is);
-    })
+    }

@@ -1,3 +1,4 @@
 pub mod OptionLemmas
 pub mod GrammarLemmas
 pub mod JobLemmas
+pub mod AskLemmas

@@ -1,19 +1,20 @@
 -- What the getters of the matches read, as the rows have it.
 use Rattle.std.proofs.Common.{◌≡◌, ◌∙◌, sym, ap, subst, refl, arith, ℕ, Bool, true, false, List, Option, Some, None, Result, Ok, Err}
-use Rattle.std.specs.Prelude.{◌<◌, ◌≤◌, ◌^◌, SomeIff, codes, option_map, unwrap_or, []}
+use Rattle.std.specs.Prelude.{◌<◌, ◌≤◌, ◌^◌, SomeIff, codes, unwrap_or, []}
 use Rattle.std.specs.Io.KnownBytes.{append_known, prepend_known}
 use Rattle.std.specs.Io.Buffered.{reader_buffer, reader_capacity, reader_inner, reader_remaining, writer_buffer, writer_contents, writer_inner}
 use Rattle.std.specs.declared.io.buffered.BufReader.{BufReader}
 use Rattle.std.specs.declared.io.buffered.BufWriter.{BufWriter}
 use Rattle.std.proofs.lemmas.List.{append-nil}
 use Rattle.std.specs.Str.Parse.{IsNumeral, ParsesUnsigned, digits_value, without_leading_plus}
-use Rattle.clap.specs.Words.{Row, ReadsOne, first_of, first_value, one_of, one_text, rows_of}
+use Rattle.clap.specs.Words.{Row, ReadsOne, first_of, first_value, one_text, rows_of}
 use Rattle.clap.specs.declared.parser.matches.Found.{Found}
 use Rattle.clap.proofs.WalkLemmas.{first_value-rows, one_text-rows}
+use Rattle.s10_core.specs.Serial.{IsSerial}
 use Rattle.s10_wire.specs.Ids.{IsCount}
 use Rattle.s10_history.specs.Settings.{Terms, AreTerms}
 use Rattle.s10_cli.specs.CommandLine.{RunsLine, word}
-use Rattle.s10_cli.specs.Options.{Finds, HasCount, HasNumber, HasSettings, HasText, HasTries, IsFlag}
+use Rattle.s10_cli.specs.Options.{Finds, HasCount, HasNumber, HasSerial, HasSettings, HasText, HasTries, IsFlag}
 
 pub number_unique : (rows : List Row) (name : List ℕ) (a b : ℕ) → HasNumber rows name a → HasNumber rows name b → a ≡ b
 unfolding HasNumber
@@ -96,6 +97,10 @@ finds_tries rows n (Some t) h are = subst (λ (x : ℕ). HasTries rows x) (sym a
 pub finds_count : (rows : List Row) (n : ℕ) (o : Option ℕ) → HasNumber rows (codes "count") n → SomeIff o (IsCount n) n → Finds (HasCount rows) o
 finds_count rows n None h refused = λ c has. let e : c ≡ n = number_unique rows _ _ _ has.0 h in refused (rw (← e) has.1)
 finds_count rows n (Some c) h are = subst (λ (x : ℕ). HasCount rows x) (sym are.1) (h, are.0)
+
+pub finds_serial : (rows : List Row) (name : List ℕ) (n : ℕ) (o : Option ℕ) → HasNumber rows name n → SomeIff o (IsSerial n) n → Finds (HasSerial rows name) o
+finds_serial rows name n None h refused = λ s has. let e : s ≡ n = number_unique rows _ _ _ has.0 h in refused (rw (← e) has.1)
+finds_serial rows name n (Some s) h are = subst (λ (x : ℕ). HasSerial rows name x) (sym are.1) (h, are.0)
 
 pub no_count : (rows : List Row) (n : ℕ) → HasNumber rows (codes "count") n → ¬ (n < 2 ^ 8) → (c : ℕ) → ¬ HasCount rows c
 no_count rows n h large c has =

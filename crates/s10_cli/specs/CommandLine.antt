@@ -1,6 +1,5 @@
 -- What a command line prints where it needs no file or socket, and with which status it ends.
 use Rattle.std.specs.Prelude.{◌≡◌, ◌≢◌, ◌⊎◌, ℕ, Bool, List, codes, Option, Some, None, Result, Ok, Err, IfOk, IsSomeAnd, option_map, unwrap_or, []}
-use Rattle.std.specs.Io.KnownBytes.{Appends}
 use Rattle.clap.specs.Words.{Row, Text, first_of, kind_of, subcommand_rows_of}
 use Rattle.clap.specs.declared.error.kind.ErrorKind.{ErrorKind}
 use Rattle.clap.specs.declared.error.kind.ErrorKind.TheVariants.{OutOfMemory, DisplayHelp, DisplayVersion}

@@ -1,7 +1,8 @@
 -- What a command line may say: the subcommands, and the words and options of each.
 use Rattle.std.specs.Prelude.{◌≡◌, ℕ, pos, true, false, List, [], ◌∷◌, Some, codes, Result, IfOk}
+use Rattle.std.specs.declared.alloc.AllocError.{AllocError}
 use Rattle.clap.specs.Words.{App, FailsBy, Rule, Shape, Text, app_of, fault_of, found_of, matches_of, new_rule, rows_of, rule_of}
-use Rattle.clap.specs.Words.{subcommand_of, subcommand_rows_of, with_rule}
+use Rattle.clap.specs.Words.{subcommand_of, subcommand_rows_of, with_rule, with_subcommand}
 use Rattle.clap.specs.Simple.{new_shape}
 use Rattle.clap.specs.declared.builder.action.ArgAction.TheVariants.{SetTrue}
 use Rattle.clap.specs.declared.builder.arg.Arg.{Arg}
@@ -135,8 +136,21 @@ abbrev pub with_rules : App → List Rule → App
 with_rules app [] = app
 with_rules app (rule ∷ rules) = with_rules (with_rule app rule) rules
 
-abbrev pub AddsRules : Command → List Rule → Command → Type 0
-AddsRules old rules new = (app : App) → Reads old app → Reads new (with_rules app rules)
+-- a command, where there was memory for it, reads words so
+abbrev pub IfReads : Result Command AllocError → App → Type 0
+IfReads command app = IfOk command (λ built. Reads built app)
+
+-- the new command reads as the old one, and the argument's rule more
+abbrev pub AddsRule : Result Command AllocError → Arg → Result Command AllocError → Type 0
+AddsRule old arg new = (app : App) (rule : Rule) → IfReads old app → Follows arg rule → IfReads new (with_rule app rule)
+
+abbrev pub AddsRules : Result Command AllocError → List Rule → Result Command AllocError → Type 0
+AddsRules old rules new = (app : App) → IfReads old app → IfReads new (with_rules app rules)
+
+-- the new command reads as the old one, and the subcommand more
+abbrev pub AddsCommand : Result Command AllocError → Result Command AllocError → Result Command AllocError → Type 0
+AddsCommand old subcommand new = (app : App) (shape : Shape) → IfReads old app → IfOk subcommand (λ built. ReadsAs built shape)
+    → IfReads new (with_subcommand app shape)
 
 -- how a parse of the words ends: with the matches of the grammar, or with a fault that it gives at them, or for want of memory
 pub record Parses (words : List Text) (parsed : Result ArgMatches Error) : Type 0 where

@@ -1,13 +1,13 @@
 -- Which job a subcommand asks of the program: which option gives which field.
-use Rattle.std.specs.Prelude.{◌≡◌, ℕ, List, Some, codes}
-use Rattle.clap.specs.Words.{Row, Text, subcommand_of}
+use Rattle.std.specs.Prelude.{◌≡◌, ℕ, List, [], Some, codes}
+use Rattle.clap.specs.Words.{Row, Text, fault_of, subcommand_of}
 use Rattle.s10_jobs.specs.declared.job.Job.{Job}
 use Rattle.s10_jobs.specs.declared.job.Job.TheVariants.{Create, Serve, Ask, Report, Audit, Loop}
 use Rattle.s10_jobs.specs.declared.question.Question.{Question}
 use Rattle.s10_jobs.specs.declared.body_words.BodyWords.{BodyWords}
 use Rattle.s10_jobs.specs.declared.body_words.BodyWords.TheVariants.{Grant, Draw, DrawMany, Withdraw, Void, Query}
 use Rattle.s10_cli.specs.Grammar.{grammar}
-use Rattle.s10_cli.specs.Options.{Finds, HasText, HasNumber, HasSettings, HasCount, HasTries, IsFlag}
+use Rattle.s10_cli.specs.Options.{Finds, HasText, HasNumber, HasSerial, HasSettings, HasCount, HasTries, IsFlag}
 
 -- the pair of a service and a country
 abbrev pub HasPair : List Row → List ℕ → List ℕ → Type 0
@@ -17,7 +17,7 @@ HasPair rows service country = HasText rows (codes "service") service × HasText
 abbrev pub IsAskedBy : List ℕ → List Row → ℕ → BodyWords → Type 0
 IsAskedBy name rows customer (Grant holder service country first last) = (name ≡ codes "grant") × (customer ≡ 0)
     × HasNumber rows (codes "holder") holder × HasPair rows service.now country.now
-    × HasNumber rows (codes "first") first × HasNumber rows (codes "last") last
+    × HasSerial rows (codes "first") first × HasSerial rows (codes "last") last
 IsAskedBy name rows customer (Withdraw range) = (name ≡ codes "withdraw") × (customer ≡ 0) × HasNumber rows (codes "range") range
 IsAskedBy name rows customer (Draw service country) = (name ≡ codes "draw") × HasNumber rows (codes "customer") customer
     × HasPair rows service.now country.now × ((count : ℕ) → ¬ HasCount rows count)
@@ -42,8 +42,9 @@ AsksFor name rows (Report ledger is_of_issues day) = (name ≡ codes "report") �
 AsksFor name rows (Audit ledger) = (name ≡ codes "audit") × HasText rows (codes "ledger") ledger.now
 AsksFor name rows (Loop day) = (name ≡ codes "loop") × Finds (HasNumber rows (codes "day")) day
 
--- the words name a subcommand that asks for the job
+-- the words are a command line without a fault, and name a subcommand that asks for the job
 pub record AsksInWords (words : List Text) (job : Job) : Type 0 where
+  pub faultless : fault_of grammar words ≡ []
   pub name : Text
   pub rows : List Row
   pub named : subcommand_of grammar words ≡ Some (name, rows)

@@ -3,8 +3,10 @@ use Rattle.std.specs.Prelude.{◌≡◌, ◌<◌, ◌≤◌, ◌^◌, ℕ, Bool,
 use Rattle.std.specs.Str.Parse.{IsNumeral, digits_value, without_leading_plus}
 use Rattle.clap.specs.Words.{Row, first_of, one_of, found_of, rows_of}
 use Rattle.clap.specs.declared.parser.matches.ArgMatches.{ArgMatches}
+use Rattle.s10_core.specs.Serial.{IsSerial}
 use Rattle.s10_wire.specs.Ids.{IsCount}
 use Rattle.s10_history.specs.Settings.{Terms, AreTerms}
+use Rattle.s10_cli.specs.declared.heading.Heading.{Heading}
 
 -- the rows that were found
 abbrev pub rows_in : ArgMatches → List Row
@@ -42,3 +44,11 @@ HasCount rows count = HasNumber rows (codes "count") count × IsCount count
 -- how often a question is asked at most
 abbrev pub HasTries : List Row → ℕ → Type 0
 HasTries rows tries = HasNumber rows (codes "tries") tries × (1 ≤ tries) × (tries ≤ 100)
+
+-- a serial number
+abbrev pub HasSerial : List Row → List ℕ → ℕ → Type 0
+HasSerial rows name serial = HasNumber rows name serial × IsSerial serial
+
+-- which server is asked, under which number, and how often at most
+abbrev pub IsHeading : List Row → Heading → Type 0
+IsHeading rows heading = HasText rows (codes "to") heading.to.now × HasNumber rows (codes "number") heading.number × HasTries rows heading.tries

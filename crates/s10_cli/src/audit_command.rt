@@ -1,7 +1,7 @@
 //! The subcommand `audit`.
-ghost use Rattle.std.specs.Prelude.{codes, IfOk, IfSome};
+ghost use Rattle.std.specs.Prelude.{codes, IfOk};
 ghost use Rattle.s10_cli.specs.Grammar.{ReadsAs, audit_shape};
-ghost use Rattle.s10_cli.specs.Options.{rows_in};
+ghost use Rattle.s10_cli.specs.Options.{rows_in, Finds};
 ghost use Rattle.s10_cli.specs.Jobs.{AsksFor};
 
 use crate::builders::{named, with};
@@ -21,7 +21,7 @@ pub fn audit_command<'a>(alloc: Global) -> Result<Command<'a>, AllocError>
         "Check the ledger in a file against the rules, from its first request to its last",
         AUDIT_EXAMPLES,
     );
-    with(command, ledger_option(alloc))
+    with(Ok(command), ledger_option(alloc))
 }
 
 const AUDIT_EXAMPLES: &str = "\
@@ -38,7 +38,7 @@ Example:
 /// The audit that the words ask for. `None` where an option that it needs is missing or its number is out of range, which
 /// matches of the command itself never are.
 pub fn audit_job<'a>(found: &ArgMatches<'a>) -> Option<Job<'a>>
-    ensures { IfSome result (AsksFor (codes "audit") (rows_in found.now)) }
+    ensures { Finds (AsksFor (codes "audit") (rows_in found.now)) result }
 {
     Some(Job::Audit {
         ledger: text_of(found, "ledger")?,

@@ -1,8 +1,8 @@
 //! Builders of commands and of their arguments.
-ghost use Rattle.std.specs.Prelude.{◌≡◌, Some, IfOk};
-ghost use Rattle.clap.specs.Words.{AddsArg, AddsSubcommand, new_app};
+ghost use Rattle.std.specs.Prelude.{◌≡◌, Some};
+ghost use Rattle.clap.specs.Words.{new_app};
 ghost use Rattle.clap.specs.declared.builder.texts.Texts.TheVariants.{One};
-ghost use Rattle.s10_cli.specs.Grammar.{Follows, Reads, a_flag, a_number, a_text, a_word, an_option, between};
+ghost use Rattle.s10_cli.specs.Grammar.{AddsCommand, AddsRule, Follows, Reads, a_flag, a_number, a_text, a_word, an_option, between};
 
 use clap::{Arg, ArgAction, Command, value_parser};
 use std::alloc::{AllocError, Global};
@@ -14,21 +14,33 @@ pub fn named<'a>(alloc: Global, name: &'a str, about: &'a str, examples: &'a str
     Command::new(alloc, name).about(about).after_help(examples)
 }
 
-/// The command with one more argument.
-pub fn with<'a>(command: Command<'a>, arg: Arg<'a>) -> Result<Command<'a>, AllocError>
-    ensures { IfOk result (AddsArg command.entry arg.entry) }
+/// The command with one more argument, where there was memory for the command.
+pub fn with<'a>(
+    command: Result<Command<'a>, AllocError>,
+    arg: Arg<'a>,
+) -> Result<Command<'a>, AllocError>
+    ensures { AddsRule command.entry arg.entry result }
 {
-    command.arg(arg)
+    match command {
+        Ok(command) => command.arg(arg),
+        Err(error) => Err(error),
+    }
 }
 
-/// The command with one more subcommand.
+/// The command with one more subcommand, where there was memory for both.
 pub fn with_subcommand<'a>(
-    command: Command<'a>,
-    subcommand: Command<'a>,
+    command: Result<Command<'a>, AllocError>,
+    subcommand: Result<Command<'a>, AllocError>,
 ) -> Result<Command<'a>, AllocError>
-    ensures { IfOk result (AddsSubcommand command.entry subcommand.entry) }
+    ensures { AddsCommand command.entry subcommand.entry result }
 {
-    command.subcommand(subcommand)
+    match command {
+        Ok(command) => match subcommand {
+            Ok(subcommand) => command.subcommand(subcommand),
+            Err(error) => Err(error),
+        },
+        Err(error) => Err(error),
+    }
 }
 
 /// A word that has to be given in its place.

@@ -17,13 +17,13 @@ pub fn check_command<'a>(alloc: Global) -> Result<Command<'a>, AllocError>
         CHECK_EXAMPLES,
     );
     let command = with(
-        command,
+        Ok(command),
         flag(
             alloc,
             "label",
             "Also read spaces and small letters, as they stand on a label",
         ),
-    )?;
+    );
     with(
         command,
         word(

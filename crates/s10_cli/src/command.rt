@@ -32,21 +32,21 @@ clock, memory, input or output failed. `s10 help COMMAND` explains a command, wi
 pub fn command<'a>(alloc: Global) -> Result<Command<'a>, AllocError>
     ensures { IfOk result (λ command. Reads command grammar) }
 {
-    let command = program(alloc);
-    let command = with_subcommand(command, check_command(alloc)?)?;
-    let command = with_subcommand(command, make_command(alloc)?)?;
-    let command = with_subcommand(command, show_command(alloc)?)?;
-    let command = with_subcommand(command, replay_command(alloc)?)?;
-    let command = with_subcommand(command, create_command(alloc)?)?;
-    let command = with_subcommand(command, serve_command(alloc)?)?;
-    let command = with_subcommand(command, grant_command(alloc)?)?;
-    let command = with_subcommand(command, draw_command(alloc)?)?;
-    let command = with_subcommand(command, void_command(alloc)?)?;
-    let command = with_subcommand(command, query_command(alloc)?)?;
-    let command = with_subcommand(command, withdraw_command(alloc)?)?;
-    let command = with_subcommand(command, report_command(alloc)?)?;
-    let command = with_subcommand(command, audit_command(alloc)?)?;
-    with_subcommand(command, loop_command(alloc)?)
+    let command = Ok(program(alloc));
+    let command = with_subcommand(command, check_command(alloc));
+    let command = with_subcommand(command, make_command(alloc));
+    let command = with_subcommand(command, show_command(alloc));
+    let command = with_subcommand(command, replay_command(alloc));
+    let command = with_subcommand(command, create_command(alloc));
+    let command = with_subcommand(command, serve_command(alloc));
+    let command = with_subcommand(command, grant_command(alloc));
+    let command = with_subcommand(command, draw_command(alloc));
+    let command = with_subcommand(command, void_command(alloc));
+    let command = with_subcommand(command, query_command(alloc));
+    let command = with_subcommand(command, withdraw_command(alloc));
+    let command = with_subcommand(command, report_command(alloc));
+    let command = with_subcommand(command, audit_command(alloc));
+    with_subcommand(command, loop_command(alloc))
 }
 
 fn program<'a>(alloc: Global) -> Command<'a>

@@ -3,7 +3,7 @@ ghost use Rattle.std.specs.Prelude.{◌≡◌, ℕ, List, Option, map, IfOk};
 ghost use Rattle.std.specs.Io.KnownBytes.{Keeps};
 ghost use Rattle.clap.specs.Words.{kind_of, subcommand_rows_of};
 ghost use Rattle.s10_cli.specs.Options.{rows_in};
-ghost use Rattle.s10_cli.specs.CommandLine.{IsSubcommandDone, IsTold, RunsLine, exit_status, word};
+ghost use Rattle.s10_cli.specs.CommandLine.{IsDone, IsSubcommandDone, IsTold, RunsLine, exit_status, word};
 
 use crate::buffered::written_out;
 use crate::command::parse;
@@ -80,19 +80,34 @@ fn run_subcommand<I: Read, O: Write>(
 ) -> Option<Result<JobStatus, WriteFault>>
     ensures { IsSubcommandDone (I.remaining input.old) (I.remaining input.new) (O.contents output.old) (O.contents output.new) result (subcommand_rows_of matches.now) }
 {
-    match matches.subcommand() {
-        Some(("check", found)) => {
+    let Some((name, found)) = matches.subcommand() else {
+        return None;
+    };
+    run_named(alloc, name, found, input, output)
+}
+
+fn run_named<I: Read, O: Write>(
+    alloc: Global,
+    name: &str,
+    found: &ArgMatches<'_>,
+    input: &mut I,
+    output: &mut O,
+) -> Option<Result<JobStatus, WriteFault>>
+    ensures { IsDone (I.remaining input.old) (I.remaining input.new) (O.contents output.old) (O.contents output.new) result name.now (rows_in found.now) }
+{
+    match name {
+        "check" => {
             let text = value_of(found, "text");
             Some(check(text, flag_of(found, "label"), output))
         }
-        Some(("make", found)) => {
+        "make" => {
             let service = value_of(found, "service");
             let serial = value_of(found, "serial");
             let country = value_of(found, "country");
             Some(make(service, serial, country, output))
         }
-        Some(("show", found)) => Some(show(value_of(found, "hex"), output)),
-        Some(("replay", found)) => {
+        "show" => Some(show(value_of(found, "hex"), output)),
+        "replay" => {
             // A parsed command line has both settings within their limits.
             let Some(settings) = settings_of(found) else {
                 return Some(Ok(JobStatus::CommandLine));

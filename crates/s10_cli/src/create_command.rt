@@ -1,7 +1,7 @@
 //! The subcommand `create`.
-ghost use Rattle.std.specs.Prelude.{codes, IfOk, IfSome};
+ghost use Rattle.std.specs.Prelude.{codes, IfOk};
 ghost use Rattle.s10_cli.specs.Grammar.{ReadsAs, create_shape};
-ghost use Rattle.s10_cli.specs.Options.{rows_in};
+ghost use Rattle.s10_cli.specs.Options.{rows_in, Finds};
 ghost use Rattle.s10_cli.specs.Jobs.{AsksFor};
 
 use crate::builders::{named, with};
@@ -21,8 +21,8 @@ pub fn create_command<'a>(alloc: Global) -> Result<Command<'a>, AllocError>
         "Make an empty ledger in a file",
         CREATE_EXAMPLES,
     );
-    let command = with(command, ledger_option(alloc))?;
-    let command = with(command, interval_option(alloc).required(true))?;
+    let command = with(Ok(command), ledger_option(alloc));
+    let command = with(command, interval_option(alloc).required(true));
     with(command, limit_option(alloc).required(true))
 }
 
@@ -39,7 +39,7 @@ Example:
 /// The ledger that the words ask for. `None` where an option that it needs is missing or its number is out of range, which
 /// matches of the command itself never are.
 pub fn create_job<'a>(found: &ArgMatches<'a>) -> Option<Job<'a>>
-    ensures { IfSome result (AsksFor (codes "create") (rows_in found.now)) }
+    ensures { Finds (AsksFor (codes "create") (rows_in found.now)) result }
 {
     Some(Job::Create {
         ledger: text_of(found, "ledger")?,

@@ -1,7 +1,7 @@
 //! The subcommand `draw`.
-ghost use Rattle.std.specs.Prelude.{codes, IfOk, IfSome};
+ghost use Rattle.std.specs.Prelude.{codes, IfOk};
 ghost use Rattle.s10_cli.specs.Grammar.{ReadsAs, draw_shape};
-ghost use Rattle.s10_cli.specs.Options.{rows_in};
+ghost use Rattle.s10_cli.specs.Options.{rows_in, Finds};
 ghost use Rattle.s10_cli.specs.Jobs.{AsksFor};
 
 use crate::builders::{named, with};
@@ -23,10 +23,10 @@ pub fn draw_command<'a>(alloc: Global) -> Result<Command<'a>, AllocError>
         "Ask a server for the next identifier of a service and a country, or for a sheet of them",
         DRAW_EXAMPLES,
     );
-    let command = with_asker(alloc, command)?;
-    let command = with(command, service_option(alloc))?;
-    let command = with(command, country_option(alloc))?;
-    let command = with(command, count_option(alloc))?;
+    let command = with_asker(alloc, Ok(command));
+    let command = with(command, service_option(alloc));
+    let command = with(command, country_option(alloc));
+    let command = with(command, count_option(alloc));
     with(command, tries_option(alloc))
 }
 
@@ -49,7 +49,7 @@ Example:
 /// The request that the words ask. `None` where an option that it needs is missing or its number is out of range, which
 /// matches of the command itself never are.
 pub fn draw_job<'a>(found: &ArgMatches<'a>) -> Option<Job<'a>>
-    ensures { IfSome result (AsksFor (codes "draw") (rows_in found.now)) }
+    ensures { Finds (AsksFor (codes "draw") (rows_in found.now)) result }
 {
     let service = text_of(found, "service")?;
     let country = text_of(found, "country")?;

@@ -1,8 +1,9 @@
 //! What the options of a parsed command line say.
 ghost use Rattle.std.specs.Prelude.{option_map};
-ghost use Rattle.s10_cli.specs.Options.{rows_in, Finds, HasText, HasNumber, IsFlag, HasSettings, HasCount, HasTries};
+ghost use Rattle.s10_cli.specs.Options.{rows_in, Finds, HasText, HasNumber, IsFlag, HasSerial, HasSettings, HasCount, HasTries};
 
 use clap::ArgMatches;
+use s10_core::Serial;
 use s10_history::Settings;
 use s10_jobs::Tries;
 use s10_wire::Count;
@@ -39,6 +40,13 @@ pub fn settings_of(found: &ArgMatches<'_>) -> Option<Settings>
     let interval = number_of(found, "interval")?;
     let limit = number_of(found, "limit")?;
     Settings::new(interval, limit)
+}
+
+/// The serial number of an option.
+pub fn serial_of(found: &ArgMatches<'_>, name: &str) -> Option<Serial>
+    ensures { Finds (HasSerial (rows_in found.now) name.now) result }
+{
+    Serial::new(number_of(found, name)?)
 }
 
 /// How many identifiers a sheet has, where one is asked for.

@@ -1,16 +1,15 @@
 //! The subcommand `grant`.
-ghost use Rattle.std.specs.Prelude.{codes, IfOk, IfSome};
+ghost use Rattle.std.specs.Prelude.{codes, IfOk};
 ghost use Rattle.s10_cli.specs.Grammar.{ReadsAs, grant_shape};
-ghost use Rattle.s10_cli.specs.Options.{rows_in};
+ghost use Rattle.s10_cli.specs.Options.{rows_in, Finds};
 ghost use Rattle.s10_cli.specs.Jobs.{AsksFor};
 
 use crate::builders::{named, number_option, serial_option, with};
-use crate::found::{POST, number_of, text_of};
+use crate::found::{POST, number_of, serial_of, text_of};
 use crate::heading::heading_of;
 use crate::options::{country_option, service_option, tries_option};
 use crate::questions::with_request;
 use clap::{ArgMatches, Command};
-use s10_core::Serial;
 use s10_jobs::{BodyWords, Job, Question};
 use std::alloc::{AllocError, Global};
 
@@ -24,21 +23,21 @@ pub fn grant_command<'a>(alloc: Global) -> Result<Command<'a>, AllocError>
         "Ask a server, as the post, to grant a range of serial numbers to a customer",
         GRANT_EXAMPLES,
     );
-    let command = with_request(alloc, command)?;
+    let command = with_request(alloc, Ok(command));
     let command = with(
         command,
         number_option(alloc, "holder", "The number of the customer to grant to"),
-    )?;
-    let command = with(command, service_option(alloc))?;
-    let command = with(command, country_option(alloc))?;
+    );
+    let command = with(command, service_option(alloc));
+    let command = with(command, country_option(alloc));
     let command = with(
         command,
         serial_option(alloc, "first", "The first serial number, 0 to 99999999"),
-    )?;
+    );
     let command = with(
         command,
         serial_option(alloc, "last", "The last serial number, 0 to 99999999"),
-    )?;
+    );
     with(command, tries_option(alloc))
 }
 
@@ -57,14 +56,14 @@ Example:
 /// The request that the words ask. `None` where an option that it needs is missing or its number is out of range, which
 /// matches of the command itself never are.
 pub fn grant_job<'a>(found: &ArgMatches<'a>) -> Option<Job<'a>>
-    ensures { IfSome result (AsksFor (codes "grant") (rows_in found.now)) }
+    ensures { Finds (AsksFor (codes "grant") (rows_in found.now)) result }
 {
     let body = BodyWords::Grant {
         holder: number_of(found, "holder")?,
         service: text_of(found, "service")?,
         country: text_of(found, "country")?,
-        first: Serial::new(number_of(found, "first")?)?,
-        last: Serial::new(number_of(found, "last")?)?,
+        first: serial_of(found, "first")?,
+        last: serial_of(found, "last")?,
     };
     let Some(heading) = heading_of(found) else {
         return None;

@@ -1,6 +1,7 @@
 //! Jobs, as words of a command line.
-ghost use Rattle.std.specs.Prelude.{map, IfSome};
-ghost use Rattle.s10_cli.specs.Jobs.{AsksInWords};
+ghost use Rattle.std.specs.Prelude.{map, IfOk};
+ghost use Rattle.s10_cli.specs.Options.{rows_in, Finds};
+ghost use Rattle.s10_cli.specs.Jobs.{AsksFor, AsksInWords};
 
 use crate::audit_command::audit_job;
 use crate::command::parse;
@@ -13,17 +14,36 @@ use crate::report_command::report_job;
 use crate::serve_command::serve_job;
 use crate::void_command::void_job;
 use crate::withdraw_command::withdraw_job;
+use clap::ArgMatches;
+use clap::error::ErrorKind;
 use s10_jobs::Job;
-use std::alloc::Global;
+use std::alloc::{AllocError, Global};
 use std::convert::AsStr;
 
 /// What words that `run_line` left to the program ask of it. `words` begins with the program's
-/// name. `None` where memory runs out, and for any other words.
-pub fn parse_job<'a, S: AsStr>(alloc: Global, words: &'a [S]) -> Option<Job<'a>>
-    ensures { IfSome result (AsksInWords (map S.text words.entry.now)) }
+/// name. `None` for words that ask for no job.
+pub fn parse_job<'a, S: AsStr>(alloc: Global, words: &'a [S]) -> Result<Option<Job<'a>>, AllocError>
+    ensures { IfOk result (Finds (AsksInWords (map S.text words.entry.now))) }
 {
-    let matches = parse(alloc, words).ok()?;
-    let (name, found) = matches.subcommand()?;
+    match parse(alloc, words) {
+        Ok(matches) => {
+            let Some((name, found)) = matches.subcommand() else {
+                return Ok(None);
+            };
+            Ok(job_of(name, found))
+        }
+        Err(error) => match error.kind() {
+            ErrorKind::OutOfMemory => Err(AllocError),
+            _ => Ok(None),
+        },
+    }
+}
+
+/// What the subcommand of this name asks for, by what was found in its words. `None` for a name that is no job's, and
+/// where an option that the job needs is missing or its number is out of range.
+pub fn job_of<'a>(name: &str, found: &ArgMatches<'a>) -> Option<Job<'a>>
+    ensures { Finds (AsksFor name.now (rows_in found.now)) result }
+{
     match name {
         "create" => create_job(found),
         "serve" => serve_job(found),

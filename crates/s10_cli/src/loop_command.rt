@@ -22,7 +22,7 @@ pub fn loop_command<'a>(alloc: Global) -> Result<Command<'a>, AllocError>
         LOOP_EXAMPLES,
     );
     with(
-        command,
+        Ok(command),
         day_option(alloc, "The day of the requests; by default the clock's day"),
     )
 }

@@ -17,14 +17,14 @@ pub fn make_command<'a>(alloc: Global) -> Result<Command<'a>, AllocError>
         MAKE_EXAMPLES,
     );
     let command = with(
-        command,
+        Ok(command),
         word(
             alloc,
             "service",
             "SERVICE",
             "The service indicator: two capital letters, as RA",
         ),
-    )?;
+    );
     let command = with(
         command,
         word(
@@ -33,7 +33,7 @@ pub fn make_command<'a>(alloc: Global) -> Result<Command<'a>, AllocError>
             "SERIAL",
             "The serial number: eight digits, 00000000 to 99999999",
         ),
-    )?;
+    );
     with(
         command,
         word(

@@ -1,7 +1,7 @@
 //! The subcommand `query`.
-ghost use Rattle.std.specs.Prelude.{codes, IfOk, IfSome};
+ghost use Rattle.std.specs.Prelude.{codes, IfOk};
 ghost use Rattle.s10_cli.specs.Grammar.{ReadsAs, query_shape};
-ghost use Rattle.s10_cli.specs.Options.{rows_in};
+ghost use Rattle.s10_cli.specs.Options.{rows_in, Finds};
 ghost use Rattle.s10_cli.specs.Jobs.{AsksFor};
 
 use crate::builders::{named, with};
@@ -23,8 +23,8 @@ pub fn query_command<'a>(alloc: Global) -> Result<Command<'a>, AllocError>
         "Ask a server what became of an identifier",
         QUERY_EXAMPLES,
     );
-    let command = with_asker(alloc, command)?;
-    let command = with(command, id_option(alloc))?;
+    let command = with_asker(alloc, Ok(command));
+    let command = with(command, id_option(alloc));
     with(command, tries_option(alloc))
 }
 
@@ -44,7 +44,7 @@ Example:
 /// The request that the words ask. `None` where an option that it needs is missing or its number is out of range, which
 /// matches of the command itself never are.
 pub fn query_job<'a>(found: &ArgMatches<'a>) -> Option<Job<'a>>
-    ensures { IfSome result (AsksFor (codes "query") (rows_in found.now)) }
+    ensures { Finds (AsksFor (codes "query") (rows_in found.now)) result }
 {
     let body = BodyWords::Query {
         id: text_of(found, "id")?,

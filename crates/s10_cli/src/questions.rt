@@ -1,5 +1,5 @@
 //! Commands that ask a server something.
-ghost use Rattle.std.specs.Prelude.{[], ◌∷◌, codes, IfOk};
+ghost use Rattle.std.specs.Prelude.{[], ◌∷◌, codes};
 ghost use Rattle.s10_cli.specs.Grammar.{AddsRules, a_number, a_text};
 
 use crate::builders::with;
@@ -8,18 +8,24 @@ use clap::Command;
 use std::alloc::{AllocError, Global};
 
 /// The command with the options of a request to a server.
-pub fn with_request<'a>(alloc: Global, command: Command<'a>) -> Result<Command<'a>, AllocError>
-    ensures { IfOk result (AddsRules command.entry (a_text (codes "to") ∷ a_number (codes "number") ∷ [])) }
+pub fn with_request<'a>(
+    alloc: Global,
+    command: Result<Command<'a>, AllocError>,
+) -> Result<Command<'a>, AllocError>
+    ensures { AddsRules command.entry (a_text (codes "to") ∷ a_number (codes "number") ∷ []) result }
 {
-    let command = with(command, to_option(alloc))?;
+    let command = with(command, to_option(alloc));
     with(command, request_option(alloc))
 }
 
 /// The command with the options of a request by a customer.
-pub fn with_asker<'a>(alloc: Global, command: Command<'a>) -> Result<Command<'a>, AllocError>
-    ensures { IfOk result (AddsRules command.entry (a_text (codes "to") ∷ a_number (codes "customer") ∷ a_number (codes "number") ∷ [])) }
+pub fn with_asker<'a>(
+    alloc: Global,
+    command: Result<Command<'a>, AllocError>,
+) -> Result<Command<'a>, AllocError>
+    ensures { AddsRules command.entry (a_text (codes "to") ∷ a_number (codes "customer") ∷ a_number (codes "number") ∷ []) result }
 {
-    let command = with(command, to_option(alloc))?;
-    let command = with(command, customer_option(alloc))?;
+    let command = with(command, to_option(alloc));
+    let command = with(command, customer_option(alloc));
     with(command, request_option(alloc))
 }

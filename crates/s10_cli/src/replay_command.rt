@@ -17,7 +17,7 @@ pub fn replay_command<'a>(alloc: Global) -> Result<Command<'a>, AllocError>
         "Answer the datagrams of standard input, with an empty ledger to begin with",
         REPLAY_EXAMPLES,
     );
-    let command = with(command, interval_option(alloc).default_value("30"))?;
+    let command = with(Ok(command), interval_option(alloc).default_value("30"));
     with(command, limit_option(alloc).default_value("1000000"))
 }
 

@@ -1,7 +1,7 @@
 //! The subcommand `report`.
-ghost use Rattle.std.specs.Prelude.{codes, IfOk, IfSome};
+ghost use Rattle.std.specs.Prelude.{codes, IfOk};
 ghost use Rattle.s10_cli.specs.Grammar.{ReadsAs, report_shape};
-ghost use Rattle.s10_cli.specs.Options.{rows_in};
+ghost use Rattle.s10_cli.specs.Options.{rows_in, Finds};
 ghost use Rattle.s10_cli.specs.Jobs.{AsksFor};
 
 use crate::builders::{flag, named, with};
@@ -21,7 +21,7 @@ pub fn report_command<'a>(alloc: Global) -> Result<Command<'a>, AllocError>
         "Report the ranges of the ledger in a file, or the identifiers issued",
         REPORT_EXAMPLES,
     );
-    let command = with(command, ledger_option(alloc))?;
+    let command = with(Ok(command), ledger_option(alloc));
     let command = with(
         command,
         flag(
@@ -29,7 +29,7 @@ pub fn report_command<'a>(alloc: Global) -> Result<Command<'a>, AllocError>
             "issues",
             "Report the identifiers issued instead of the ranges",
         ),
-    )?;
+    );
     with(
         command,
         day_option(
@@ -56,7 +56,7 @@ Example:
 /// The report that the words ask for. `None` where an option that it needs is missing or its number is out of range, which
 /// matches of the command itself never are.
 pub fn report_job<'a>(found: &ArgMatches<'a>) -> Option<Job<'a>>
-    ensures { IfSome result (AsksFor (codes "report") (rows_in found.now)) }
+    ensures { Finds (AsksFor (codes "report") (rows_in found.now)) result }
 {
     Some(Job::Report {
         ledger: text_of(found, "ledger")?,

@@ -1,7 +1,7 @@
 //! The subcommand `serve`.
-ghost use Rattle.std.specs.Prelude.{codes, IfOk, IfSome};
+ghost use Rattle.std.specs.Prelude.{codes, IfOk};
 ghost use Rattle.s10_cli.specs.Grammar.{ReadsAs, serve_shape};
-ghost use Rattle.s10_cli.specs.Options.{rows_in};
+ghost use Rattle.s10_cli.specs.Options.{rows_in, Finds};
 ghost use Rattle.s10_cli.specs.Jobs.{AsksFor};
 
 use crate::builders::{named, number_option, text_option, with};
@@ -21,7 +21,7 @@ pub fn serve_command<'a>(alloc: Global) -> Result<Command<'a>, AllocError>
         "Answer the requests that come to an address, over the ledger in a file",
         SERVE_EXAMPLES,
     );
-    let command = with(command, ledger_option(alloc))?;
+    let command = with(Ok(command), ledger_option(alloc));
     let command = with(
         command,
         text_option(
@@ -30,7 +30,7 @@ pub fn serve_command<'a>(alloc: Global) -> Result<Command<'a>, AllocError>
             "PEER",
             "The address to serve at, as 127.0.0.1:4711; with port 0 the system picks one",
         ),
-    )?;
+    );
     let command = with(
         command,
         number_option(
@@ -38,7 +38,7 @@ pub fn serve_command<'a>(alloc: Global) -> Result<Command<'a>, AllocError>
             "count",
             "How many turns to serve: each takes one datagram, or waits a second for one",
         ),
-    )?;
+    );
     with(
         command,
         day_option(
@@ -69,7 +69,7 @@ Example:
 /// The serving that the words ask for. `None` where an option that it needs is missing or its number is out of range, which
 /// matches of the command itself never are.
 pub fn serve_job<'a>(found: &ArgMatches<'a>) -> Option<Job<'a>>
-    ensures { IfSome result (AsksFor (codes "serve") (rows_in found.now)) }
+    ensures { Finds (AsksFor (codes "serve") (rows_in found.now)) result }
 {
     Some(Job::Serve {
         ledger: text_of(found, "ledger")?,

@@ -17,7 +17,7 @@ pub fn show_command<'a>(alloc: Global) -> Result<Command<'a>, AllocError>
         SHOW_EXAMPLES,
     );
     with(
-        command,
+        Ok(command),
         word(
             alloc,
             "hex",

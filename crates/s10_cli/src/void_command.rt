@@ -1,7 +1,7 @@
 //! The subcommand `void`.
-ghost use Rattle.std.specs.Prelude.{codes, IfOk, IfSome};
+ghost use Rattle.std.specs.Prelude.{codes, IfOk};
 ghost use Rattle.s10_cli.specs.Grammar.{ReadsAs, void_shape};
-ghost use Rattle.s10_cli.specs.Options.{rows_in};
+ghost use Rattle.s10_cli.specs.Options.{rows_in, Finds};
 ghost use Rattle.s10_cli.specs.Jobs.{AsksFor};
 
 use crate::builders::{named, with};
@@ -23,8 +23,8 @@ pub fn void_command<'a>(alloc: Global) -> Result<Command<'a>, AllocError>
         "Tell a server that an identifier will not be used",
         VOID_EXAMPLES,
     );
-    let command = with_asker(alloc, command)?;
-    let command = with(command, id_option(alloc))?;
+    let command = with_asker(alloc, Ok(command));
+    let command = with(command, id_option(alloc));
     with(command, tries_option(alloc))
 }
 
@@ -43,7 +43,7 @@ Example:
 /// The request that the words ask. `None` where an option that it needs is missing or its number is out of range, which
 /// matches of the command itself never are.
 pub fn void_job<'a>(found: &ArgMatches<'a>) -> Option<Job<'a>>
-    ensures { IfSome result (AsksFor (codes "void") (rows_in found.now)) }
+    ensures { Finds (AsksFor (codes "void") (rows_in found.now)) result }
 {
     let body = BodyWords::Void {
         id: text_of(found, "id")?,

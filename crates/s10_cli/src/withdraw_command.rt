@@ -1,7 +1,7 @@
 //! The subcommand `withdraw`.
-ghost use Rattle.std.specs.Prelude.{codes, IfOk, IfSome};
+ghost use Rattle.std.specs.Prelude.{codes, IfOk};
 ghost use Rattle.s10_cli.specs.Grammar.{ReadsAs, withdraw_shape};
-ghost use Rattle.s10_cli.specs.Options.{rows_in};
+ghost use Rattle.s10_cli.specs.Options.{rows_in, Finds};
 ghost use Rattle.s10_cli.specs.Jobs.{AsksFor};
 
 use crate::builders::{named, number_option, with};
@@ -23,7 +23,7 @@ pub fn withdraw_command<'a>(alloc: Global) -> Result<Command<'a>, AllocError>
         "Ask a server, as the post, to close a range for ever",
         WITHDRAW_EXAMPLES,
     );
-    let command = with_request(alloc, command)?;
+    let command = with_request(alloc, Ok(command));
     let command = with(
         command,
         number_option(
@@ -31,7 +31,7 @@ pub fn withdraw_command<'a>(alloc: Global) -> Result<Command<'a>, AllocError>
             "range",
             "The number of the range to close, as its grant was answered with",
         ),
-    )?;
+    );
     with(command, tries_option(alloc))
 }
 
@@ -52,7 +52,7 @@ Example:
 /// The request that the words ask. `None` where an option that it needs is missing or its number is out of range, which
 /// matches of the command itself never are.
 pub fn withdraw_job<'a>(found: &ArgMatches<'a>) -> Option<Job<'a>>
-    ensures { IfSome result (AsksFor (codes "withdraw") (rows_in found.now)) }
+    ensures { Finds (AsksFor (codes "withdraw") (rows_in found.now)) result }
 {
     let body = BodyWords::Withdraw {
         range: number_of(found, "range")?,

@@ -7,7 +7,7 @@ use sqlite::Unknown;
 
 /// Whether the job of a command line has this status and prints this line.
 fn ends_with(rt: &HostRuntime, words: &[&str], status: JobStatus, line: &[u8]) -> bool {
-    let Some(job) = parse_job(rt.alloc(), words) else {
+    let Ok(Some(job)) = parse_job(rt.alloc(), words) else {
         return false;
     };
     let mut output = Vec::new(rt.alloc());

@@ -16,7 +16,7 @@ const IN_NO_FOLDER: &str = "refused_files_test/nowhere/ledger";
 
 /// Whether the job of a command line ends with status 3 and this line.
 fn is_refused(rt: &HostRuntime, words: &[&str], line: &str) -> bool {
-    let Some(job) = parse_job(rt.alloc(), words) else {
+    let Ok(Some(job)) = parse_job(rt.alloc(), words) else {
         return false;
     };
     let mut output = Vec::new(rt.alloc());
