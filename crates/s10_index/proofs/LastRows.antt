@@ -35,7 +35,7 @@ parted a (d ∷ h) (suc n) =
     )
 
 -- what stands from a place on begins with what stands there
-from_place : {A : Type 0} (h : List A) (place : ℕ) (e : A) → slice_get h place ≡ Some e → drop place h ≡ e ∷ drop (place + 1) h
+pub from_place : {A : Type 0} (h : List A) (place : ℕ) (e : A) → slice_get h place ≡ Some e → drop place h ≡ e ∷ drop (place + 1) h
 from_place h place e at =
     let one : place + 1 ≡ suc place = omega arith in
     drop-cons h place e (slice_get_within h place e at) ∙ ap (λ x. x ∷ drop (suc place) h) (get_or_from_slice_get h place e e at) ∙ ap (λ n. e ∷ drop n h) (sym one)

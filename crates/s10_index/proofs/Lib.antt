@@ -1,3 +1,5 @@
+pub mod Sheets
+pub mod LastDay
 pub mod Placing
 pub mod Issuing
 pub mod Inserting

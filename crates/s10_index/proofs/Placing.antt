@@ -1,11 +1,10 @@
 -- The place of the first call that passes.
-use Rattle.std.proofs.Common.{◌≡◌, ◌∙◌, ℕ, suc, ◌+◌, ◌-◌, ◌≤◌, Bool, true, false, cond, eqb, List, [], ◌∷◌, ◌++◌, Option, Some, None, length, refl, sym, ap, ap₂, subst, arith, Bor}
+use Rattle.std.proofs.Common.{◌≡◌, ◌∙◌, ℕ, suc, ◌+◌, ◌-◌, ◌≤◌, Bool, true, false, cond, eqb, List, [], ◌∷◌, ◌++◌, Option, Some, None, length, refl, sym, ap, ap₂, subst, arith}
 use Rattle.std.specs.Prelude.{find, slice_get, All}
 use Rattle.std.specs.List.{position_from}
-use Rattle.std.specs.Option.{option_copied, option_map}
-use Rattle.std.specs.Slice.{IsItemAt}
+use Rattle.std.specs.Option.{option_map}
 use Rattle.std.proofs.lemmas.Bool.{eqb-true, eq-eqb, and_parts, and_from}
-use Rattle.std.proofs.lemmas.Option.{none-some, same_Some, slice_get_past, slice_get_read}
+use Rattle.std.proofs.lemmas.Option.{none-some, same_Some}
 use Rattle.s10_core.specs.declared.id.Id.{Id}
 use Rattle.s10_history.specs.declared.entry.Entry.{Entry}
 use Rattle.s10_history.specs.declared.issue.Issue.{Issue}
@@ -76,11 +75,6 @@ place_behind h e customer number place o new is old = at (has_key customer numbe
         ap₂ (entry_with_key h) (sym (eqb-true e.request.customer customer both.0)) (sym (eqb-true e.request.number number both.1)) ∙ new in
         sym (place_new (has_key customer number) h 0 e none ∙ ap (λ b. cond b (Some (0 + length h)) None) same ∙ ap Some (omega (arith, is)))
     at false other = old ∙ sym (place_same (has_key customer number) h 0 e other)
-
--- what a slice gives at a place is the item there, if there is one
-pub item_at : (xs : List Entry) (k : ℕ) (o : Option (Bor Entry)) → IsItemAt xs k o → option_copied o ≡ slice_get xs k
-item_at xs k None is = sym (slice_get_past xs k is.3)
-item_at xs k (Some x) is = sym (slice_get_read xs (length xs) k x.now refl is.3.0 is.1)
 
 -- one more call leaves the place of a call that has one
 place_kept : (p : Entry → Bool) (xs : List Entry) (i k : ℕ) (e : Entry) → position_from p i xs ≡ Some k → position_from p i (xs ++ e ∷ []) ≡ Some k

@@ -1,5 +1,5 @@
 -- What an index of calls holds.
-use Rattle.std.specs.Prelude.{◌≡◌, ◌≤◌, ◌<◌, List, length, vec_len, vec_capacity}
+use Rattle.std.specs.Prelude.{◌≡◌, ◌≤◌, ◌<◌, List, length}
 use Rattle.std.specs.HashMap.{spare}
 use Rattle.s10_history.specs.declared.entry.Entry.{Entry}
 use Rattle.s10_history.specs.Issues.{carried_by}
@@ -18,7 +18,7 @@ pub record Indexes (index : CallIndex) (h : List Entry) : Type 0 where
 
 -- there is room for the call, and for all that it makes
 pub record HasRoomFor (index : CallIndex) (e : Entry) : Type 0 where
-  pub calls : vec_len index.entries < vec_capacity index.entries
+  pub calls : 0 < index.entries.room
   pub ranges : HasRoom index.ranges
   pub places : 0 < spare index.places
   pub issues : length (carried_by e.outcome) ≤ spare index.issues

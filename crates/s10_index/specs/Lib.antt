@@ -1,3 +1,5 @@
+pub mod ShortOutcomes
+pub mod Calls
 pub mod Keys
 pub mod Places
 pub mod LastIssues

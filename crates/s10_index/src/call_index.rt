@@ -1,6 +1,6 @@
 //! Calls with an index.
 
-ghost use Rattle.std.specs.Prelude.{◌≡◌, ◌∷◌, ◌++◌, [], ◌<◌, OnOk, IfSome, IsTrue, All, Contains, List, length, vec_len, vec_capacity};
+ghost use Rattle.std.specs.Prelude.{◌≡◌, ◌∷◌, ◌++◌, [], ◌<◌, OnOk, IfSome, IsTrue, All, Contains, List, length};
 ghost use Rattle.s10_wire.specs.Kind.{fits};
 ghost use Rattle.s10_history.specs.declared.entry.Entry.{Entry};
 ghost use Rattle.s10_history.specs.Settings.{Terms};
@@ -8,6 +8,7 @@ ghost use Rattle.s10_history.specs.History.{day_of, ranges_of, entry_with_key, e
 ghost use Rattle.s10_history.specs.Issues.{issues_of, last_issuance_of, last_issue_of, candidate_after_of, size_of, pick_of};
 ghost use Rattle.s10_book.specs.Rules.{IsLegal, MayFollow};
 
+use crate::calls::Calls;
 use crate::last_issues::{note_call, noted_issue};
 use crate::places::{kept_call, kept_place, note_place};
 use s10_core::{Id, Serial};
@@ -21,7 +22,7 @@ use std::collections::HashMap;
 /// holds where its calls are a history, as `Indexes` says. No look-up takes longer in a long history than the logarithm of it.
 #[derive(Drop)]
 pub struct CallIndex {
-    pub(crate) entries: Vec<Entry>,
+    pub(crate) entries: Calls,
     pub(crate) ranges: Ranges,
     places: HashMap<(u32, u32), u32>,
     pub(crate) issues: HashMap<(u32, u32), Issue>,
@@ -36,7 +37,7 @@ impl CallIndex {
         ensures { Indexes result [] }
     {
         CallIndex {
-            entries: Vec::new(alloc),
+            entries: Calls::new(alloc),
             ranges: Ranges::new(alloc),
             places: HashMap::new(alloc),
             issues: HashMap::new(alloc),
@@ -44,8 +45,8 @@ impl CallIndex {
     }
 
     /// The calls, in order of arrival.
-    pub fn calls(&self) -> &[Entry]
-        ensures { result.now ≡ self.now.entries.items }
+    pub fn calls(&self) -> &Calls
+        ensures { result.now.items ≡ self.now.entries.items }
     {
         &self.entries
     }
@@ -81,7 +82,7 @@ impl CallIndex {
     {
         match at.checked_sub(1) {
             None => None,
-            Some(place) => self.entries.get(place as usize).copied(),
+            Some(place) => self.entries.get(place as usize),
         }
     }
 
@@ -142,7 +143,7 @@ impl CallIndex {
         self.ranges.reserve()?;
         self.places.reserve(1)?;
         self.issues.reserve(entry.issued())?;
-        self.entries.reserve(1)
+        self.entries.reserve()
     }
 
     /// Adds a call, for which there is room, and what it makes. Its outcome fits its request.
@@ -157,14 +158,6 @@ impl CallIndex {
         self.ranges.follow(&entry);
         note_place(&mut self.places, &entry, place);
         note_call(&mut self.issues, &entry);
-        push_item(&mut self.entries, entry);
+        self.entries.push_reserved(entry);
     }
-}
-
-// Adds an item at the end, for which there is room.
-fn push_item<T: Copy>(list: &mut Vec<T>, item: T)
-    requires { vec_len list.old < vec_capacity list.old }
-    ensures { list.new.items ≡ list.old.items ++ item ∷ [] }
-{
-    list.push_reserved(item);
 }

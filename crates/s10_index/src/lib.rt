@@ -2,11 +2,15 @@
 #![tactic(auto)]
 
 mod call_index;
+mod calls;
 mod id_key;
 mod indexed_book;
 mod last_issues;
 mod places;
 mod rows;
+mod short_call;
+mod short_outcome;
 
 pub use call_index::CallIndex;
+pub use calls::Calls;
 pub use indexed_book::IndexedBook;

@@ -7,20 +7,21 @@ ghost use Rattle.s10_history.specs.History.{entry_with_key};
 ghost use Rattle.s10_index.specs.Keys.{same_key};
 ghost use Rattle.s10_index.specs.Places.{HasPlaces};
 
+use crate::calls::Calls;
 use s10_history::Entry;
 use std::collections::HashMap;
 
 pub(crate) fn kept_call(
-    calls: &[Entry],
+    calls: &Calls,
     places: &HashMap<(u32, u32), u32>,
     customer: u32,
     number: u32,
 ) -> Option<Entry>
-    ensures answer { HasPlaces places.now calls.now → result ≡ entry_with_key calls.now customer number }
-    ensures among { IfSome result (Contains calls.now) }
+    ensures answer { HasPlaces places.now calls.now.items → result ≡ entry_with_key calls.now.items customer number }
+    ensures among { IfSome result (Contains calls.now.items) }
 {
     let place = kept_place(places, customer, number)?;
-    calls.get(place as usize).copied()
+    calls.get(place as usize)
 }
 
 // The place of the call with that key, if there is one.

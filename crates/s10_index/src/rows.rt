@@ -76,8 +76,8 @@ impl IndexedBook {
         let len = self.len();
         let mut rows = Vec::new(alloc);
         for place in 0..len {
-            let entry = &self.index.entries[place as usize];
-            push_rows(&mut rows, &self.index.issues, entry, place)?;
+            let entry = self.index.entries.at(place as usize);
+            push_rows(&mut rows, &self.index.issues, &entry, place)?;
         }
         Ok(rows)
     }
@@ -89,8 +89,8 @@ impl IndexedBook {
         let len = self.len();
         let mut rows = Vec::new(alloc);
         for place in 0..len {
-            let entry = &self.index.entries[place as usize];
-            if let Some(row) = ClosedRow::made_by(place + 1, entry) {
+            let entry = self.index.entries.at(place as usize);
+            if let Some(row) = ClosedRow::made_by(place + 1, &entry) {
                 rows.push(row)?;
             }
         }

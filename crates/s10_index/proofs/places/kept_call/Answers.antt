@@ -1,17 +1,17 @@
 use Rattle.std.proofs.Common.{◌≡◌, ◌∙◌, Some, None, sym}
 use Rattle.std.specs.List.{position_from}
 use Rattle.s10_history.specs.History.{has_key}
-use Rattle.s10_index.proofs.Placing.{none_placed, placed_call, item_at}
+use Rattle.s10_index.proofs.Placing.{none_placed, placed_call}
 use Rattle.s10_index.proofs.places.kept_call.Goals as goal
 
 pub returns-in_err-place-clause-answer : goal.returns-in_err-place-clause-answer
 returns-in_err-place-clause-answer c has =
-    let none : position_from (has_key c.args.customer c.args.number) 0 c.args.calls.now ≡ None =
+    let none : position_from (has_key c.args.customer c.args.number) 0 c.args.calls.now.items ≡ None =
     sym (has c.args.customer c.args.number) ∙ sym c.kept_place.ensures ∙ c.in_err-place.was in
-    c.from_residual.ensures ∙ sym (none_placed (has_key c.args.customer c.args.number) c.args.calls.now 0 none)
+    c.from_residual.ensures ∙ sym (none_placed (has_key c.args.customer c.args.number) c.args.calls.now.items 0 none)
 
 pub returns-clause-answer : goal.returns-clause-answer
 returns-clause-answer c has =
-    let found : position_from (has_key c.args.customer c.args.number) 0 c.args.calls.now ≡ Some c.in_ok-place.place =
+    let found : position_from (has_key c.args.customer c.args.number) 0 c.args.calls.now.items ≡ Some c.in_ok-place.place =
     sym (has c.args.customer c.args.number) ∙ sym c.kept_place.ensures ∙ c.in_ok-place.was in
-    c.copied.ensures ∙ item_at c.args.calls.now c.in_ok-place.place c.get.result c.get.ensures.lookup ∙ placed_call (has_key c.args.customer c.args.number) c.args.calls.now c.in_ok-place.place found
+    c.get.ensures ∙ placed_call (has_key c.args.customer c.args.number) c.args.calls.now.items c.in_ok-place.place found

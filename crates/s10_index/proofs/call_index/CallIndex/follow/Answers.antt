@@ -7,14 +7,14 @@ use Rattle.s10_index.proofs.call_index.CallIndex.follow.Goals as goal
 pub invariant_of-self : goal.invariant_of-self
 invariant_of-self c =
     let Fits = λ (e : Entry). IsTrue (fits e.request.body e.outcome) in
-    record { fitting = subst (λ (l : List Entry). All Fits l) (sym c.push_item.ensures) (All-push Fits c.args.self.now.entries.items c.args.entry c.args.self.now.fitting c.requires.fits) }
+    record { fitting = subst (λ (l : List Entry). All Fits l) (sym c.push_reserved.ensures) (All-push Fits c.args.self.now.entries.items c.args.entry c.args.self.now.fitting c.requires.fits) }
 
 pub returns-clause-followed : goal.returns-clause-followed
 returns-clause-followed c h t legal follows was =
     let few : length h < 4294967295 = omega (arith, c.requires.few, ap length was.calls) in
     record {
-      calls = c.push_item.ensures ∙ ap (λ (l : List Entry). l ++ c.args.entry ∷ []) was.calls;
+      calls = c.push_reserved.ensures ∙ ap (λ (l : List Entry). l ++ c.args.entry ∷ []) was.calls;
       ranges = c.follow.ensures h t legal follows few was.ranges;
-      places = c.note_place.ensures h was.places (ap length (c.calls.ensures ∙ was.calls)) follows.new_key;
+      places = c.note_place.ensures h was.places (c.len-place.ensures ∙ ap length (c.calls.ensures ∙ was.calls)) follows.new_key;
       issues = c.note_call.ensures h t legal was.issues;
     }

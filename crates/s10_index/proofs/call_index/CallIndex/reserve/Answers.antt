@@ -12,7 +12,7 @@ returns-in_err-reserve-3-clause-same c h was = record {
 
 pub returns-clause-same : goal.returns-clause-same
 returns-clause-same c h was = record {
-  calls = c.reserve-4.ensures.items ∙ was.calls;
+  calls = c.reserve-4.ensures.calls ∙ was.calls;
   ranges = c.reserve.ensures.same h was.ranges;
   places = places_still c.args.self.now.places c.reserve-2.new.self h c.reserve-2.ensures.entries was.places;
   issues = issues_still c.args.self.now.issues c.reserve-3.new.self h c.reserve-3.ensures.entries was.issues;

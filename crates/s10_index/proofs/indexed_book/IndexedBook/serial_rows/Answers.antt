@@ -1,6 +1,5 @@
-use Rattle.std.proofs.Common.{◌≡◌, ◌∙◌, ◌<◌, ◌≤◌, ◌++◌, List, Some, length, refl, ap, arith}
+use Rattle.std.proofs.Common.{◌≡◌, ◌∙◌, ◌≤◌, ◌++◌, List, Some, length, ap, arith}
 use Rattle.std.specs.Prelude.{slice_get}
-use Rattle.std.proofs.lemmas.Option.{slice_get_read}
 use Rattle.s10_rows.specs.declared.serial_row.SerialRow.{SerialRow}
 use Rattle.s10_rows.specs.Tables.{serial_rows}
 use Rattle.s10_history.specs.Settings.{Terms}
@@ -16,8 +15,7 @@ loop-place-preserved c =
     let h = c.args.self.now.index.entries.items in
     let t = c.args.self.now.settings in
     let k = c.loop-place.place in
-    let within : k < length h = omega (arith, c.loop-place-test.true, c.len-len.ensures.answer tt) in
-    let at : slice_get h k ≡ Some c.index-entry.result.now = slice_get_read h (length h) k c.index-entry.result.now refl within c.index-entry.ensures in
+    let at : slice_get h k ≡ Some c.at-entry.result = c.at-entry.ensures in
     let pos : 1 ≤ t.interval = omega (arith, c.interval-interval.ensures.value, c.interval-interval.ensures.range.0, ap (λ (s : Terms). s.interval) (c.settings.ensures tt)) in
     c.in_ok-push_rows.ensures h t c.args.self.now.legal pos c.args.self.now.indexed.issues at ∙ c.loop-place.invariant
 
