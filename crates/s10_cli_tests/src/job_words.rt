@@ -115,7 +115,10 @@ const JOBS: [&'static str; 10] = [
 
 /// Whether this is what the words ask of the program.
 fn asks(alloc: Global, words: &[&str], job: &str) -> Result<bool, Fail> {
-    let text = format!(in alloc; "{:?}", parse_job(alloc, words)?)?;
+    let Ok(asked) = parse_job(alloc, words) else {
+        return Ok(false);
+    };
+    let text = format!(in alloc; "{asked:?}")?;
     Ok(text.as_str() == job)
 }
 
