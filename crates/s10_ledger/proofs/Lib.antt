@@ -1,6 +1,5 @@
 pub mod Forms
 pub mod Rising
-pub mod RemadeLemmas
 pub mod HistoryLemmas
 pub mod BookLemmas
 pub mod NewLedger
@@ -8,6 +7,3 @@ pub mod KeyLemmas
 pub mod WholeLemmas
 pub mod OpeningLemmas
 pub mod RefusalLemmas
-pub mod Earlier
-pub mod IssueLemmas
-pub mod Voiding

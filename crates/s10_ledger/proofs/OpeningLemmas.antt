@@ -26,7 +26,7 @@ use Rattle.s10_ledger.specs.declared.form.Form.TheVariants.{Whole, Old}
 use Rattle.s10_ledger.specs.Form.{IsOfForm, HasForm}
 use Rattle.s10_ledger.specs.Ledger.{IsLedger, IsOldLedger, IsAnyLedger, history_in}
 use Rattle.s10_ledger.specs.Refusals.{IsOpeningRefusal}
-use Rattle.s10_ledger.specs.Remade.{IsFound}
+use Rattle.s10_ledger.specs.AllRows.{IsFound}
 use Rattle.s10_ledger.proofs.Forms.{form_ledger, four_lack}
 use Rattle.s10_ledger.proofs.WholeLemmas.{history, whole_ledger, found_history, right_rows, right_legal, shown_again}
 

@@ -28,7 +28,7 @@ use Rattle.s10_ledger.specs.Form.{HasForm}
 use Rattle.s10_ledger.specs.Refusals.{HasRows, IsOpeningRefusal}
 use Rattle.s10_index.specs.declared.call_index.CallIndex.{CallIndex}
 use Rattle.s10_index.specs.CallIndex.{Indexes}
-use Rattle.s10_ledger.specs.Remade.{IsFound}
+use Rattle.s10_ledger.specs.AllRows.{IsFound}
 use Rattle.s10_ledger.specs.Ledger.{IsLedger, history_in}
 use Rattle.s10_ledger.proofs.HistoryLemmas.{history_is, calls_history}
 use Rattle.s10_rows.proofs.Replayed.{there_at, kept_length}

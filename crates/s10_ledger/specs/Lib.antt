@@ -1,4 +1,4 @@
 pub mod Form
 pub mod Ledger
 pub mod Refusals
-pub mod Remade
+pub mod AllRows

@@ -4,16 +4,11 @@
 mod all_rows;
 mod faults;
 mod form;
-mod issuing;
 mod keeping;
 mod lookups;
-mod made;
-mod made_rows;
 mod opening;
 mod refused;
-mod remade;
 mod sql_book;
-mod verdict;
 
 pub use refused::Refused;
 pub use s10_rows::OpenFault;

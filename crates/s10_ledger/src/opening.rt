@@ -12,7 +12,7 @@ ghost use Rattle.s10_statements.specs.Settled.{IsSettled, WasSound};
 ghost use Rattle.s10_statements.specs.Statements.{Leaves};
 ghost use Rattle.s10_ledger.specs.declared.form.Form.TheVariants.{Whole};
 ghost use Rattle.s10_ledger.specs.Form.{IsOfForm, HasForm};
-ghost use Rattle.s10_ledger.specs.Remade.{IsFound};
+ghost use Rattle.s10_ledger.specs.AllRows.{IsFound};
 ghost use Rattle.s10_ledger.specs.Ledger.{IsLedger, IsAnyLedger, IsIndexed, history_in};
 ghost use Rattle.s10_ledger.specs.Refusals.{IsOpeningRefusal};
 
@@ -21,8 +21,8 @@ use crate::faults::opening_fault;
 use crate::form::{Form, form_of};
 use crate::refused::Refused;
 use crate::sql_book::SqlBook;
-use crate::verdict::verdict;
 use s10_index::CallIndex;
+use s10_made::verdict;
 use s10_rows::{OpenFault, Opened};
 use s10_statements::{Watch, make_closed};
 use sqlite::{Alter, Connection};

@@ -5,7 +5,7 @@ use Rattle.sqlite.specs.Held.{state}
 use Rattle.sqlite.specs.State.{HasCleanDisk}
 use Rattle.s10_schema.specs.Schema.{IsLedgerSchema}
 use Rattle.s10_rows.specs.Tables.{Tables}
-use Rattle.s10_ledger.specs.Remade.{HasKept, HasMade}
+use Rattle.s10_ledger.specs.AllRows.{HasKept, HasMade}
 use Rattle.s10_statements.proofs.StateLemmas.{leaves_then}
 use Rattle.s10_ledger.proofs.Forms.{form_ledger, form_has}
 use Rattle.s10_ledger.proofs.all_rows.all_rows.Goals as goal

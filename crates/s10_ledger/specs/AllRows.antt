@@ -1,0 +1,52 @@
+-- What is read of a database to be opened.
+use Rattle.std.specs.Prelude.{◌≢◌, List, map, Result, IfOk, IfErr}
+use Rattle.std.specs.List.{AllByRecursion}
+use Rattle.std.specs.Ordering.{int_cmp}
+use Rattle.std.specs.declared.cmp.Ordering.TheVariants as Ordering
+use Rattle.sqlite_trees.specs.Tree.{IsAscending}
+use Rattle.sqlite.specs.Effect.{Database}
+use Rattle.s10_rows.specs.declared.head_row.HeadRow.{HeadRow}
+use Rattle.s10_rows.specs.declared.range_row.RangeRow.{RangeRow}
+use Rattle.s10_rows.specs.declared.serial_row.SerialRow.{SerialRow}
+use Rattle.s10_rows.specs.declared.open_fault.OpenFault.{OpenFault}
+use Rattle.s10_rows.specs.CallRow.{StoredCall}
+use Rattle.s10_rows.specs.Tables.{Tables, HaveSameRows}
+use Rattle.s10_rows.specs.RightRows.{kept_of}
+use Rattle.s10_rows.specs.declared.opened.Opened.{Opened}
+use Rattle.s10_rows.specs.Verdict.{IsRefusal, IsWhole}
+use Rattle.s10_index.specs.declared.call_index.CallIndex.{CallIndex}
+use Rattle.s10_index.specs.CallIndex.{Indexes}
+use Rattle.s10_made.specs.declared.remade.Remade.{Remade}
+use Rattle.s10_statements.specs.Shown.{shown_head, shown_call, shown_range, shown_serial, head_columns, call_columns, range_columns, serial_columns, IsNumbered}
+use Rattle.s10_ledger.specs.declared.form.Form.{Form}
+use Rattle.s10_made.specs.declared.made_rows.MadeRows.{MadeRows}
+use Rattle.s10_made.specs.Remade.{IsRemade, AreTheirs}
+use Rattle.s10_ledger.specs.Form.{HasForm}
+
+-- these are the rows of head and of calls, the latter in order of arrival
+pub record HasKept (db : Database) (heads : List HeadRow) (calls : List StoredCall) : Type 0 where
+  pub heads_are : HaveSameRows (map shown_head heads) (map head_columns (db.trees 0))
+  pub calls_are : HaveSameRows (map shown_call calls) (map call_columns (db.trees 1))
+  pub in_order : IsAscending (λ a b. int_cmp a.arrival b.arrival ≢ Ordering.Greater) calls
+
+-- these are the rows of ranges and of serials
+pub record HasMade (db : Database) (ranges : List RangeRow) (serials : List SerialRow) : Type 0 where
+  pub ranges_are : HaveSameRows (map shown_range ranges) (map range_columns (db.trees 3))
+  pub serials_are : HaveSameRows (map shown_serial serials) (map serial_columns (db.trees 4))
+  pub numbered : AllByRecursion IsNumbered (db.trees 4)
+
+-- the tables of the database, of which the calls were done again or are refused
+pub record AreRead (form : Form) (db : Database) (made : Result Remade OpenFault) (rows : MadeRows) : Type 0 where
+  pub tables : Tables
+  pub has : HasForm form db tables
+  pub in_order : IsAscending (λ a b. int_cmp a.arrival b.arrival ≢ Ordering.Greater) tables.calls
+  pub theirs : AreTheirs tables rows
+  pub ok : IfOk made (IsRemade tables.heads tables.calls)
+  pub err : IfErr made (IsRefusal tables)
+
+-- what was found of a database whose rows are whole, and the index of its calls
+pub record IsFound (form : Form) (db : Database) (opened : Opened) (index : CallIndex) : Type 0 where
+  pub tables : Tables
+  pub has : HasForm form db tables
+  pub whole : IsWhole tables opened
+  pub indexed : Indexes index (kept_of tables.calls)

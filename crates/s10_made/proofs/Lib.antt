@@ -1,0 +1,4 @@
+pub mod RemadeLemmas
+pub mod Earlier
+pub mod IssueLemmas
+pub mod Voiding
