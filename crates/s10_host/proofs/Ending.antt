@@ -22,7 +22,7 @@ use Rattle.s10_jobs.specs.Questions.{IsPeerText}
 use Rattle.s10_jobs.specs.declared.reporting.Report.{Report}
 use Rattle.s10_jobs.specs.declared.reporting.Report.TheVariants.{Ranges, Issues}
 use Rattle.s10_host.specs.declared.looped.Looped.{Looped}
-use Rattle.s10_host.specs.Unbound.{IsUnbound}
+use Rattle.s10_sockets.specs.Unbound.{IsUnbound}
 use Rattle.s10_host.specs.Files.{FileLedger, ClosedFiles, PutsAway, WhereClean, IsFoundBook, IsNotOpened}
 use Rattle.s10_host.specs.Jobs.{ledger_line, FailsByLedger, IsAskedFor, Turns, IsServed, IsLost, IsUnlinked, Writes, IsReported, IsReportedAndLost, HasServed, HasReported, HasEnded}
 use Rattle.s10_host.proofs.Backwards.{before_turns}

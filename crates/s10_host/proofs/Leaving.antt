@@ -18,8 +18,9 @@ use Rattle.s10_ends.specs.NearLink.{ServedOn}
 use Rattle.s10_ends.proofs.Near.{LedOn, near_led}
 use Rattle.s10_jobs.specs.declared.job_status.JobStatus.{JobStatus}
 use Rattle.s10_jobs.specs.Shown.{Prints}
+use Rattle.s10_sockets.specs.LoopCalls.{loop_calls, AreMadeInTurn}
 use Rattle.s10_host.specs.declared.looped.Looped.{Looped}
-use Rattle.s10_host.specs.Looped.{LoopLink, IsLoopStep, IsNewLoop, IsLeftOfLoop, IsLooped, AreMadeInTurn, loop_calls, loop_terms}
+use Rattle.s10_host.specs.Looped.{LoopLink, IsLoopStep, IsNewLoop, IsLeftOfLoop, IsLooped, loop_terms}
 
 -- what was served over calls that lead from a new link to another
 served_over : (day : ℕ) (begun ended : LoopLink) → IsNewLoop day begun → LeadsTo IsLoopStep begun ended → IsHonest over_memory (book_of ended.server)

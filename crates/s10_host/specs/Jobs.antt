@@ -27,7 +27,7 @@ use Rattle.s10_jobs.specs.declared.reporting.Report.TheVariants.{Ranges, Issues}
 use Rattle.s10_host.specs.Audited.{HasFound, audit_line, audit_status}
 use Rattle.s10_jobs.specs.Reporting.{report_lines, PrintsReport}
 use Rattle.s10_jobs.specs.Serving.{IsDay, IsTurn, Serves}
-use Rattle.s10_host.specs.Questioning.{IsAsked, IsUnasked}
+use Rattle.s10_sockets.specs.Questioning.{IsAsked, IsUnasked}
 use Rattle.s10_host.specs.declared.looped.Looped.{Looped}
 use Rattle.s10_host.specs.Looped.{HasLooped}
 use Rattle.s10_host.specs.Files.{FileConnection, FileLedger, ClosedFiles, WhereClean, IsFoundIn, IsEmptyBook, IsFoundBook, PutsAway, LeavesClean, IsFileFault, IsAbsenceOr, IsNotMade, IsNotOpened}

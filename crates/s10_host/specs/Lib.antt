@@ -1,6 +1,4 @@
 pub mod Audited
 pub mod Files
-pub mod Questioning
-pub mod Unbound
 pub mod Looped
 pub mod Jobs

@@ -15,8 +15,6 @@ use crate::left::Left;
 use crate::loopback::run_loop;
 use crate::looped::Looped;
 use crate::onlooker::Onlooker;
-use crate::questioning::run_question;
-use crate::serving::serve_at;
 use s10_ends::UdpLink;
 use s10_history::Settings;
 use s10_jobs::{
@@ -25,6 +23,7 @@ use s10_jobs::{
 use s10_ledger::OpenFault;
 use s10_lines::{WriteFault, write_text};
 use s10_link::Peer;
+use s10_sockets::{run_question, serve_at};
 use sqlite::Start;
 use std::io::Write;
 

@@ -2,7 +2,6 @@
 #![tactic(auto)]
 
 mod audit;
-mod binding;
 mod files;
 mod front;
 mod jobs;
@@ -10,13 +9,9 @@ mod left;
 mod loopback;
 mod looped;
 mod onlooker;
-mod questioning;
-mod serving;
 
 pub use audit::run_audit;
 pub use jobs::run_job;
 pub use left::Left;
 pub use loopback::run_loop;
 pub use looped::Looped;
-pub use questioning::run_question;
-pub use serving::serve_at;

@@ -1,22 +1,18 @@
 //! A run of calls between two sockets of this machine.
 
-ghost use Rattle.std.specs.Prelude.{◌≡◌, ◌∷◌, [], None, IfOk, IfErr, IfSome};
-ghost use Rattle.s10_wire.specs.declared.body.Body.TheVariants.{Draw};
+ghost use Rattle.std.specs.Prelude.{◌≡◌, None, IfOk, IfErr, IfSome};
 ghost use Rattle.s10_link.specs.Trace.{new_trace};
-ghost use Rattle.s10_link.specs.Link.{LeadsTo};
 ghost use Rattle.s10_jobs.specs.Shown.{Prints};
-ghost use Rattle.s10_host.specs.Looped.{ra, gb, first_of_range, granted_range, customer_calls, calls_of, loop_calls, AreMadeInTurn, IsLeftOfLoop, IsLooped, IsNoLoop};
+ghost use Rattle.s10_host.specs.Looped.{IsLeftOfLoop, IsLooped, IsNoLoop};
 
-use crate::binding::bind_link;
 use crate::looped::Looped;
-use s10_core::{Country, Id, Serial, Service};
-use s10_ends::{Client, NearLink, Server, UdpLink};
+use s10_ends::{NearLink, Server, UdpLink};
 use s10_history::Settings;
-use s10_jobs::{JobStatus, ask, fail_by_ledger, fail_by_link};
+use s10_jobs::{JobStatus, fail_by_ledger, fail_by_link};
 use s10_ledger::SqlBook;
 use s10_lines::WriteFault;
-use s10_link::{Link, LinkFault, Peer};
-use s10_wire::Body;
+use s10_link::{LinkFault, Peer};
+use s10_sockets::{bind_link, make_calls};
 use sqlite::MemStore;
 use std::io::Write;
 use std::net::Net;
@@ -26,9 +22,6 @@ const LOCALHOST: Peer = Peer {
     ip: [127, 0, 0, 1],
     port: 0,
 };
-
-/// How often a call is tried.
-const TRIES: u32 = 5;
 
 /// Makes a ledger in memory with a reuse interval of 30 days, serves it on this day over a socket of this machine, and
 /// writes the lines of five calls to it over another: the post grants RA GB 0 to 2 to customer 7, who draws twice,
@@ -89,102 +82,4 @@ fn two_links<R: Net + Eprint>(rt: &R) -> Result<(UdpLink, UdpLink), LinkFault>
     let far = bind_link(rt, LOCALHOST)?;
     let near = bind_link(rt, LOCALHOST)?;
     Ok((far, near))
-}
-
-// The five calls, up to the first that is not done.
-fn make_calls<L: Link, W: Write>(
-    link: &mut L,
-    to: Peer,
-    out: &mut W,
-) -> Result<JobStatus, WriteFault>
-    ensures asked { IfOk result (λ status. Prints (W.contents out.old) (W.contents out.new)
-        (AreMadeInTurn to loop_calls (L.trace_of link.old) (L.trace_of link.new) status)) }
-    ensures led { LeadsTo L.step link.old link.new }
-{
-    let Ok(mut post) = Client::new(0, 1, 1) else {
-        unreachable!()
-    };
-    let Ok(mut customer) = Client::new(7, 1, 4) else {
-        unreachable!()
-    };
-    let granted = ask_all(&mut post, link, to, &[first_range()], out)?;
-    if granted != JobStatus::Done {
-        return Ok(granted);
-    }
-    ask_all(&mut customer, link, to, &customer_bodies(), out)
-}
-
-// Asks one after another, up to the first that is not done.
-fn ask_all<L: Link, W: Write>(
-    client: &mut Client,
-    link: &mut L,
-    to: Peer,
-    bodies: &[Body],
-    out: &mut W,
-) -> Result<JobStatus, WriteFault>
-    ensures asked { IfOk result (λ status. Prints (W.contents out.old) (W.contents out.new)
-        (AreMadeInTurn to (calls_of client.old bodies.now) (L.trace_of link.old) (L.trace_of link.new) status)) }
-    ensures led { LeadsTo L.step link.old link.new }
-{
-    for body in bodies {
-        let status = ask(client, link, to, *body, TRIES, out)?;
-        if status != JobStatus::Done {
-            return Ok(status);
-        }
-    }
-    Ok(JobStatus::Done)
-}
-
-// RA GB 0 to 2 for customer 7.
-fn first_range() -> Body
-    ensures { result ≡ granted_range }
-{
-    Body::Grant {
-        holder: 7,
-        service: ra(),
-        country: gb(),
-        first: Serial::new(0).unwrap(),
-        last: Serial::new(2).unwrap(),
-    }
-}
-
-// Two draws from the range, and the void and a query of the first identifier.
-fn customer_bodies() -> [Body; 4]
-    ensures { result ≡ customer_calls }
-{
-    let void = Body::Void { id: first_id() };
-    let query = Body::Query { id: first_id() };
-    [draw(), draw(), void, query]
-}
-
-fn draw() -> Body
-    ensures { result ≡ Draw ra gb }
-{
-    Body::Draw {
-        service: ra(),
-        country: gb(),
-    }
-}
-
-fn ra() -> Service
-    ensures { result ≡ ra }
-{
-    Service::new(*b"RA").unwrap()
-}
-
-fn gb() -> Country
-    ensures { result ≡ gb }
-{
-    Country::new(*b"GB").unwrap()
-}
-
-// The identifier of the range's first serial number.
-fn first_id() -> Id
-    ensures { result ≡ first_of_range }
-{
-    Id {
-        service: ra(),
-        serial: Serial::new(0).unwrap(),
-        country: gb(),
-    }
 }

@@ -1,9 +1,9 @@
 //! The texts of requests, and requests over sockets.
 
 use crate::refusing::Refusing;
-use s10_host::run_question;
 use s10_jobs::{BodyWords, JobStatus, Question, Tries};
 use s10_lines::WriteFault;
+use s10_sockets::run_question;
 use std::net::Net;
 use std::test::Fail;
 

@@ -3,9 +3,9 @@
 use s10_book::PlainBook;
 use s10_ends::UdpLink;
 use s10_history::Settings;
-use s10_host::serve_at;
 use s10_jobs::JobStatus;
 use s10_link::Peer;
+use s10_sockets::serve_at;
 use std::alloc::Global;
 use std::net::Net;
 use std::test::Fail;

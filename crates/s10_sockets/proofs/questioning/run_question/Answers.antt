@@ -1,5 +1,5 @@
-use Rattle.s10_host.proofs.Answering.{refused_unasked, unbound_unasked, asked_over}
-use Rattle.s10_host.proofs.questioning.run_question.Goals as goal
+use Rattle.s10_sockets.proofs.Answering.{refused_unasked, unbound_unasked, asked_over}
+use Rattle.s10_sockets.proofs.questioning.run_question.Goals as goal
 
 pub returns-in-Err-clause-unasked : goal.returns-in-Err-clause-unasked
 returns-in-Err-clause-unasked g c = λ _.

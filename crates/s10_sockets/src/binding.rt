@@ -11,7 +11,7 @@ use std::net::{Ipv4Addr, Net, SocketAddr, SocketAddrV4, UdpSocket};
 const WAIT: u32 = 1_000;
 
 /// A link at an address. Standard error says why there is none.
-pub(crate) fn bind_link<R: Net + Eprint>(rt: &R, at: Peer) -> Result<UdpLink, LinkFault>
+pub fn bind_link<R: Net + Eprint>(rt: &R, at: Peer) -> Result<UdpLink, LinkFault>
     ensures ok { IfOk result (λ link. link.trace ≡ new_trace) }
     ensures refused { IfErr result (λ fault. fault ≡ LinkFault.Bind) }
 {

@@ -7,7 +7,7 @@ ghost use Rattle.s10_ends.specs.declared.call_fault.CallFault.{CallFault};
 ghost use Rattle.s10_ends.specs.Calls.{Calls};
 ghost use Rattle.s10_ends.specs.Client.{ClientState, new_client};
 ghost use Rattle.s10_jobs.specs.Asked.{asked_status, asked_line};
-ghost use Rattle.s10_host.specs.Questioning.{IsUnasked, IsAsked};
+ghost use Rattle.s10_sockets.specs.Questioning.{IsUnasked, IsAsked};
 
 use crate::binding::bind_link;
 use s10_ends::{Client, UdpLink};

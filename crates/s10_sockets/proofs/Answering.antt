@@ -24,7 +24,7 @@ use Rattle.s10_jobs.specs.Asked.{asked_status, asked_line}
 use Rattle.s10_jobs.specs.Lines.{refused_line}
 use Rattle.s10_jobs.specs.Words.{link_fault_words}
 use Rattle.s10_jobs.specs.Questions.{refusal_words, WordsAsk, IsQuestionRefusal}
-use Rattle.s10_host.specs.Questioning.{IsUnasked, IsAsked}
+use Rattle.s10_sockets.specs.Questioning.{IsUnasked, IsAsked}
 
 -- of a text that does not read
 pub refused_unasked : (question : Question) (refusal : Refusal) (old new : Option (List ℕ)) (r : Result JobStatus WriteFault) → IsQuestionRefusal question refusal

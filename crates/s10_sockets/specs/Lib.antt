@@ -1,0 +1,3 @@
+pub mod Questioning
+pub mod Unbound
+pub mod LoopCalls

@@ -1,0 +1,12 @@
+//! The jobs over sockets of this machine.
+#![tactic(auto)]
+
+mod binding;
+mod loop_calls;
+mod questioning;
+mod serving;
+
+pub use binding::bind_link;
+pub use loop_calls::make_calls;
+pub use questioning::run_question;
+pub use serving::serve_at;
