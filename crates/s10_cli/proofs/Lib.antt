@@ -1,4 +1,3 @@
 pub mod OptionLemmas
-pub mod GrammarLemmas
 pub mod JobLemmas
 pub mod AskLemmas

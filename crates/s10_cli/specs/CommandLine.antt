@@ -9,7 +9,7 @@ use Rattle.s10_lines.specs.declared.write_fault.WriteFault.{WriteFault}
 use Rattle.s10_history.specs.Settings.{Terms}
 use Rattle.s10_jobs.specs.declared.job_status.JobStatus.{JobStatus}
 use Rattle.s10_jobs.specs.declared.job_status.JobStatus.TheVariants.{Done, Refused, CommandLine, Failed}
-use Rattle.s10_cli.specs.Grammar.{Parses}
+use Rattle.s10_grammar.specs.Grammar.{Parses}
 use Rattle.s10_cli.specs.Options.{Finds, HasSettings, IsFlag}
 use Rattle.s10_cli.specs.Printing.{Checks, MakesIdentifier, Replays, ShowsDatagram, EndsWithLine}
 

@@ -6,7 +6,7 @@ use Rattle.s10_jobs.specs.declared.job.Job.TheVariants.{Create, Serve, Ask, Repo
 use Rattle.s10_jobs.specs.declared.question.Question.{Question}
 use Rattle.s10_jobs.specs.declared.body_words.BodyWords.{BodyWords}
 use Rattle.s10_jobs.specs.declared.body_words.BodyWords.TheVariants.{Grant, Draw, DrawMany, Withdraw, Void, Query}
-use Rattle.s10_cli.specs.Grammar.{grammar}
+use Rattle.s10_grammar.specs.Grammar.{grammar}
 use Rattle.s10_cli.specs.Options.{Finds, HasText, HasNumber, HasSerial, HasSettings, HasCount, HasTries, IsFlag}
 
 -- the pair of a service and a country

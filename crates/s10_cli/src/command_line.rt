@@ -6,10 +6,10 @@ ghost use Rattle.s10_cli.specs.Options.{rows_in};
 ghost use Rattle.s10_cli.specs.CommandLine.{IsDone, IsSubcommandDone, IsTold, RunsLine, exit_status, word};
 
 use crate::buffered::written_out;
-use crate::command::parse;
 use crate::found::{flag_of, settings_of, text_of};
 use clap::error::ErrorKind;
 use clap::{ArgMatches, Error};
+use s10_grammar::parse;
 use s10_jobs::{JobStatus, check, make, run_replay, show};
 use s10_lines::{WriteFault, write_text};
 use std::alloc::Global;

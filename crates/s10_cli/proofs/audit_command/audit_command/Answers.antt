@@ -1,4 +1,0 @@
-use Rattle.s10_cli.proofs.audit_command.audit_command.Goals as goal
-
-pub returns : goal.returns
-returns c = c.with.ensures _ _ c.named-command.ensures c.ledger_option.ensures

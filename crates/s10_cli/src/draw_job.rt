@@ -1,0 +1,36 @@
+//! The job that `draw` asks for.
+ghost use Rattle.std.specs.Prelude.{codes};
+ghost use Rattle.s10_cli.specs.Options.{rows_in, Finds};
+ghost use Rattle.s10_cli.specs.Jobs.{AsksFor};
+
+use crate::found::{count_of, number_of, text_of};
+use crate::heading::heading_of;
+use clap::ArgMatches;
+use s10_jobs::{BodyWords, Job, Question};
+
+/// The request that the words ask. `None` where an option that it needs is missing or its number is out of range, which
+/// matches of the command itself never are.
+pub fn draw_job<'a>(found: &ArgMatches<'a>) -> Option<Job<'a>>
+    ensures { Finds (AsksFor (codes "draw") (rows_in found.now)) result }
+{
+    let service = text_of(found, "service")?;
+    let country = text_of(found, "country")?;
+    let body = match count_of(found) {
+        None => BodyWords::Draw { service, country },
+        Some(count) => BodyWords::DrawMany {
+            service,
+            country,
+            count,
+        },
+    };
+    let Some(heading) = heading_of(found) else {
+        return None;
+    };
+    Some(Job::Ask(Question {
+        to: heading.to,
+        customer: number_of(found, "customer")?,
+        number: heading.number,
+        body,
+        tries: heading.tries,
+    }))
+}

@@ -1,0 +1,29 @@
+//! The job that `query` asks for.
+ghost use Rattle.std.specs.Prelude.{codes};
+ghost use Rattle.s10_cli.specs.Options.{rows_in, Finds};
+ghost use Rattle.s10_cli.specs.Jobs.{AsksFor};
+
+use crate::found::{number_of, text_of};
+use crate::heading::heading_of;
+use clap::ArgMatches;
+use s10_jobs::{BodyWords, Job, Question};
+
+/// The request that the words ask. `None` where an option that it needs is missing or its number is out of range, which
+/// matches of the command itself never are.
+pub fn query_job<'a>(found: &ArgMatches<'a>) -> Option<Job<'a>>
+    ensures { Finds (AsksFor (codes "query") (rows_in found.now)) result }
+{
+    let body = BodyWords::Query {
+        id: text_of(found, "id")?,
+    };
+    let Some(heading) = heading_of(found) else {
+        return None;
+    };
+    Some(Job::Ask(Question {
+        to: heading.to,
+        customer: number_of(found, "customer")?,
+        number: heading.number,
+        body,
+        tries: heading.tries,
+    }))
+}

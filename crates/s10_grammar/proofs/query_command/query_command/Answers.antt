@@ -1,0 +1,9 @@
+use Rattle.s10_grammar.proofs.query_command.query_command.Goals as goal
+
+pub returns : goal.returns
+returns c =
+    c.with.ensures _ _
+    (c.with-command.ensures _ _
+    (c.with_asker-command.ensures _ c.named-command.ensures)
+    c.id_option.ensures)
+    c.tries_option.ensures

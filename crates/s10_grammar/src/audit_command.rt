@@ -1,0 +1,32 @@
+//! The subcommand `audit`.
+ghost use Rattle.std.specs.Prelude.{IfOk};
+ghost use Rattle.s10_grammar.specs.Grammar.{ReadsAs, audit_shape};
+
+use crate::builders::{named, with};
+use crate::options::ledger_option;
+use clap::Command;
+use std::alloc::{AllocError, Global};
+
+/// What `audit` may say.
+pub fn audit_command<'a>(alloc: Global) -> Result<Command<'a>, AllocError>
+    ensures { IfOk result (λ command. ReadsAs command audit_shape) }
+{
+    let command = named(
+        alloc,
+        "audit",
+        "Check the ledger in a file against the rules, from its first request to its last",
+        AUDIT_EXAMPLES,
+    );
+    with(Ok(command), ledger_option(alloc))
+}
+
+const AUDIT_EXAMPLES: &str = "\
+Does all kept requests again and compares every table with what they make. Prints `ledger ok N`,
+where N is the number of kept requests, with exit status 0, or `ledger FAULT`, with status 3:
+`not-a-ledger` where the file has no ledger, `schema N` where it is one of another make, `damaged N`
+where the N-th kept request is the first that is wrong, `damaged 0` where all are right and another
+row is not, `memory` where memory ran out, `store` where the file cannot be opened or read.
+
+Example:
+  s10 audit --ledger post.db
+  ledger ok 9";

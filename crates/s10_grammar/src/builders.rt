@@ -1,0 +1,95 @@
+//! Builders of commands and of their arguments.
+ghost use Rattle.std.specs.Prelude.{◌≡◌, Some};
+ghost use Rattle.clap.specs.Words.{new_app};
+ghost use Rattle.clap.specs.declared.builder.texts.Texts.TheVariants.{One};
+ghost use Rattle.s10_grammar.specs.Grammar.{AddsCommand, AddsRule, Follows, Reads, a_flag, a_number, a_text, a_word, an_option, between};
+
+use clap::{Arg, ArgAction, Command, value_parser};
+use std::alloc::{AllocError, Global};
+
+/// A command without arguments, and what its help says.
+pub fn named<'a>(alloc: Global, name: &'a str, about: &'a str, examples: &'a str) -> Command<'a>
+    ensures { Reads result (new_app name.entry.now) }
+{
+    Command::new(alloc, name).about(about).after_help(examples)
+}
+
+/// The command with one more argument, where there was memory for the command.
+pub fn with<'a>(
+    command: Result<Command<'a>, AllocError>,
+    arg: Arg<'a>,
+) -> Result<Command<'a>, AllocError>
+    ensures { AddsRule command.entry arg.entry result }
+{
+    match command {
+        Ok(command) => command.arg(arg),
+        Err(error) => Err(error),
+    }
+}
+
+/// The command with one more subcommand, where there was memory for both.
+pub fn with_subcommand<'a>(
+    command: Result<Command<'a>, AllocError>,
+    subcommand: Result<Command<'a>, AllocError>,
+) -> Result<Command<'a>, AllocError>
+    ensures { AddsCommand command.entry subcommand.entry result }
+{
+    match command {
+        Ok(command) => match subcommand {
+            Ok(subcommand) => command.subcommand(subcommand),
+            Err(error) => Err(error),
+        },
+        Err(error) => Err(error),
+    }
+}
+
+/// A word that has to be given in its place.
+pub fn word<'a>(alloc: Global, name: &'a str, value: &'a str, help: &'a str) -> Arg<'a>
+    ensures { Follows result (a_word name.entry.now) }
+{
+    let arg = valued(Arg::new(alloc, name), value, help);
+    arg.required(true)
+}
+
+/// An option without a value.
+pub fn flag<'a>(alloc: Global, name: &'a str, help: &'a str) -> Arg<'a>
+    ensures { Follows result (a_flag name.entry.now) }
+{
+    let arg = Arg::new(alloc, name).long(name).help(help);
+    arg.action(ArgAction::SetTrue)
+}
+
+/// An option with a value.
+pub fn option<'a>(alloc: Global, name: &'a str, value: &'a str, help: &'a str) -> Arg<'a>
+    ensures { Follows result (an_option name.entry.now) }
+{
+    let arg = Arg::new(alloc, name).long(name);
+    valued(arg, value, help)
+}
+
+fn valued<'a>(arg: Arg<'a>, value: &'a str, help: &'a str) -> Arg<'a>
+    ensures { result ≡ record arg.entry { val_names = One value.entry; help = Some help.entry } }
+{
+    arg.value_name(value).help(help)
+}
+
+/// A text that has to be given.
+pub fn text_option<'a>(alloc: Global, name: &'a str, value: &'a str, help: &'a str) -> Arg<'a>
+    ensures { Follows result (a_text name.entry.now) }
+{
+    option(alloc, name, value, help).required(true)
+}
+
+/// A number that has to be given.
+pub fn number_option<'a>(alloc: Global, name: &'a str, help: &'a str) -> Arg<'a>
+    ensures { Follows result (a_number name.entry.now) }
+{
+    text_option(alloc, name, "N", help).value_parser(value_parser!(u32))
+}
+
+/// A serial number that has to be given.
+pub fn serial_option<'a>(alloc: Global, name: &'a str, help: &'a str) -> Arg<'a>
+    ensures { Follows result (between 0 99999999 (a_text name.entry.now)) }
+{
+    text_option(alloc, name, "N", help).value_parser(value_parser!(u32).range(0..=99_999_999))
+}

@@ -1,0 +1,46 @@
+//! The subcommand `check`.
+ghost use Rattle.std.specs.Prelude.{IfOk};
+ghost use Rattle.s10_grammar.specs.Grammar.{ReadsAs, check_shape};
+
+use crate::builders::{flag, named, with, word};
+use clap::Command;
+use std::alloc::{AllocError, Global};
+
+/// What `check` may say.
+pub fn check_command<'a>(alloc: Global) -> Result<Command<'a>, AllocError>
+    ensures { IfOk result (λ command. ReadsAs command check_shape) }
+{
+    let command = named(
+        alloc,
+        "check",
+        "Check an identifier, and name the group of its service indicator",
+        CHECK_EXAMPLES,
+    );
+    let command = with(
+        Ok(command),
+        flag(
+            alloc,
+            "label",
+            "Also read spaces and small letters, as they stand on a label",
+        ),
+    );
+    with(
+        command,
+        word(
+            alloc,
+            "text",
+            "TEXT",
+            "The identifier: 13 characters, as RA473124829US",
+        ),
+    )
+}
+
+const CHECK_EXAMPLES: &str = "\
+Prints the identifier, `valid` and its group (parcel, ems, registered, insured or other), or
+`refused` and why: `length`, `letter AT`, `digit AT` or `check-digit`, where AT is the leftmost
+wrong place, counted from 0. The exit status is 0 for a valid identifier and 1 for a refused text.
+
+Examples:
+  s10 check RA473124829US                 RA473124829US valid registered
+  s10 check --label 'ra 473 124 829 us'   RA473124829US valid registered
+  s10 check RA473124828US                 refused check-digit";

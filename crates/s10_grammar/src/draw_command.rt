@@ -1,0 +1,42 @@
+//! The subcommand `draw`.
+ghost use Rattle.std.specs.Prelude.{IfOk};
+ghost use Rattle.s10_grammar.specs.Grammar.{ReadsAs, draw_shape};
+
+use crate::builders::{named, with};
+use crate::options::{count_option, country_option, service_option, tries_option};
+use crate::questions::with_asker;
+use clap::Command;
+use std::alloc::{AllocError, Global};
+
+/// What `draw` may say.
+pub fn draw_command<'a>(alloc: Global) -> Result<Command<'a>, AllocError>
+    ensures { IfOk result (λ command. ReadsAs command draw_shape) }
+{
+    let command = named(
+        alloc,
+        "draw",
+        "Ask a server for the next identifier of a service and a country, or for a sheet of them",
+        DRAW_EXAMPLES,
+    );
+    let command = with_asker(alloc, Ok(command));
+    let command = with(command, service_option(alloc));
+    let command = with(command, country_option(alloc));
+    let command = with(command, count_option(alloc));
+    with(command, tries_option(alloc))
+}
+
+const DRAW_EXAMPLES: &str = "\
+Prints the reply: the request and `done day D ID`, with exit status 0, or why there is no identifier,
+with status 1: `no-range` where the customer has no open range of that service and country,
+`none-free` where no serial number of them is free on that day, `number-reused` where the customer
+has asked for something else under this number. With --count the reply has so many identifiers one
+behind the other, and `none-free` says that fewer serial numbers are free: none is issued then.
+`refused peer`, `refused service` or `refused country`, also with status 1, say that nothing was
+asked. With status 3, `gave-up` says that no reply came, and `link FAULT` that the socket failed; the
+same words again ask again, and draw once at most.
+
+Example:
+  s10 draw --to 127.0.0.1:4711 --customer 7 --number 1 --service RA --country GB
+  reply draw customer 7 number 1 RA GB done day 20000 RA000000005GB
+  s10 draw --to 127.0.0.1:4711 --customer 7 --number 2 --service RA --country GB --count 2
+  reply draw-many customer 7 number 2 RA GB 2 done day 20000 RA000000014GB RA000000028GB";

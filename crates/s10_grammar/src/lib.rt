@@ -1,0 +1,23 @@
+//! What a command line of `s10` may say.
+#![tactic(auto)]
+
+mod audit_command;
+mod builders;
+mod check_command;
+mod command;
+mod create_command;
+mod draw_command;
+mod grant_command;
+mod loop_command;
+mod make_command;
+mod options;
+mod query_command;
+mod questions;
+mod replay_command;
+mod report_command;
+mod serve_command;
+mod show_command;
+mod void_command;
+mod withdraw_command;
+
+pub use command::parse;

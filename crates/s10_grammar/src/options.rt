@@ -1,0 +1,150 @@
+//! Options that several subcommands have.
+ghost use Rattle.std.specs.Prelude.{codes};
+ghost use Rattle.s10_grammar.specs.Grammar.{Follows, a_number, a_text, an_option, between, day, interval, limit, tries};
+
+use crate::builders::{number_option, option, text_option};
+use clap::{Arg, value_parser};
+use s10_history::{GREATEST_LIMIT, LONGEST_INTERVAL};
+use std::alloc::Global;
+
+/// The file of a ledger.
+pub fn ledger_option<'a>(alloc: Global) -> Arg<'a>
+    ensures { Follows result (a_text (codes "ledger")) }
+{
+    text_option(
+        alloc,
+        "ledger",
+        "FILE",
+        "The file that keeps the ledger: an SQLite database",
+    )
+}
+
+/// The reuse interval of a ledger.
+pub fn interval_option<'a>(alloc: Global) -> Arg<'a>
+    ensures { Follows result interval }
+{
+    option(
+        alloc,
+        "interval",
+        "DAYS",
+        "The reuse interval: days before a serial number is issued again, 1 to 3650",
+    )
+    .value_parser(value_parser!(u32).range(1..=LONGEST_INTERVAL as i64))
+}
+
+/// The limit of a ledger.
+pub fn limit_option<'a>(alloc: Global) -> Arg<'a>
+    ensures { Follows result limit }
+{
+    option(
+        alloc,
+        "limit",
+        "N",
+        "How many requests the ledger keeps at most, 1 to 1000000000",
+    )
+    .value_parser(value_parser!(u32).range(1..=GREATEST_LIMIT as i64))
+}
+
+/// The address of the server that is asked.
+pub fn to_option<'a>(alloc: Global) -> Arg<'a>
+    ensures { Follows result (a_text (codes "to")) }
+{
+    text_option(
+        alloc,
+        "to",
+        "PEER",
+        "The address of the server, as 127.0.0.1:4711",
+    )
+}
+
+/// The customer that asks.
+pub fn customer_option<'a>(alloc: Global) -> Arg<'a>
+    ensures { Follows result (a_number (codes "customer")) }
+{
+    number_option(
+        alloc,
+        "customer",
+        "The number of the customer that asks; 0 is the post",
+    )
+}
+
+/// The number of a request.
+pub fn request_option<'a>(alloc: Global) -> Arg<'a>
+    ensures { Follows result (a_number (codes "number")) }
+{
+    number_option(
+        alloc,
+        "number",
+        "The number of the request. The same number with the same request is answered again",
+    )
+}
+
+/// A service indicator.
+pub fn service_option<'a>(alloc: Global) -> Arg<'a>
+    ensures { Follows result (a_text (codes "service")) }
+{
+    text_option(
+        alloc,
+        "service",
+        "XX",
+        "The service indicator: two capital letters, as RA",
+    )
+}
+
+/// A country code.
+pub fn country_option<'a>(alloc: Global) -> Arg<'a>
+    ensures { Follows result (a_text (codes "country")) }
+{
+    text_option(
+        alloc,
+        "country",
+        "XX",
+        "The country code: two capital letters, as GB",
+    )
+}
+
+/// An identifier.
+pub fn id_option<'a>(alloc: Global) -> Arg<'a>
+    ensures { Follows result (a_text (codes "id")) }
+{
+    text_option(
+        alloc,
+        "id",
+        "TEXT",
+        "The identifier; spaces and small letters are read as on a label",
+    )
+}
+
+/// How many identifiers are drawn in one request.
+pub fn count_option<'a>(alloc: Global) -> Arg<'a>
+    ensures { Follows result (between 1 16 (an_option (codes "count"))) }
+{
+    option(
+        alloc,
+        "count",
+        "N",
+        "Draw a sheet of so many identifiers, 1 to 16, all of them or none; without it one",
+    )
+    .value_parser(value_parser!(u32).range(1..=16))
+}
+
+/// How often a call is tried.
+pub fn tries_option<'a>(alloc: Global) -> Arg<'a>
+    ensures { Follows result tries }
+{
+    option(
+        alloc,
+        "tries",
+        "N",
+        "How often the request is sent at most, 1 to 100; each time a reply is awaited for a second",
+    )
+    .value_parser(value_parser!(u32).range(1..=100))
+    .default_value("5")
+}
+
+/// A day, which the clock gives where it is left out.
+pub fn day_option<'a>(alloc: Global, help: &'a str) -> Arg<'a>
+    ensures { Follows result day }
+{
+    option(alloc, "day", "D", help).value_parser(value_parser!(u32))
+}

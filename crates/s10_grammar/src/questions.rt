@@ -1,0 +1,31 @@
+//! Commands that ask a server something.
+ghost use Rattle.std.specs.Prelude.{[], ◌∷◌, codes};
+ghost use Rattle.s10_grammar.specs.Grammar.{AddsRules, a_number, a_text};
+
+use crate::builders::with;
+use crate::options::{customer_option, request_option, to_option};
+use clap::Command;
+use std::alloc::{AllocError, Global};
+
+/// The command with the options of a request to a server.
+pub fn with_request<'a>(
+    alloc: Global,
+    command: Result<Command<'a>, AllocError>,
+) -> Result<Command<'a>, AllocError>
+    ensures { AddsRules command.entry (a_text (codes "to") ∷ a_number (codes "number") ∷ []) result }
+{
+    let command = with(command, to_option(alloc));
+    with(command, request_option(alloc))
+}
+
+/// The command with the options of a request by a customer.
+pub fn with_asker<'a>(
+    alloc: Global,
+    command: Result<Command<'a>, AllocError>,
+) -> Result<Command<'a>, AllocError>
+    ensures { AddsRules command.entry (a_text (codes "to") ∷ a_number (codes "customer") ∷ a_number (codes "number") ∷ []) result }
+{
+    let command = with(command, to_option(alloc));
+    let command = with(command, customer_option(alloc));
+    with(command, request_option(alloc))
+}

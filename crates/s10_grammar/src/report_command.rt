@@ -1,0 +1,50 @@
+//! The subcommand `report`.
+ghost use Rattle.std.specs.Prelude.{IfOk};
+ghost use Rattle.s10_grammar.specs.Grammar.{ReadsAs, report_shape};
+
+use crate::builders::{flag, named, with};
+use crate::options::{day_option, ledger_option};
+use clap::Command;
+use std::alloc::{AllocError, Global};
+
+/// What `report` may say.
+pub fn report_command<'a>(alloc: Global) -> Result<Command<'a>, AllocError>
+    ensures { IfOk result (λ command. ReadsAs command report_shape) }
+{
+    let command = named(
+        alloc,
+        "report",
+        "Report the ranges of the ledger in a file, or the identifiers issued",
+        REPORT_EXAMPLES,
+    );
+    let command = with(Ok(command), ledger_option(alloc));
+    let command = with(
+        command,
+        flag(
+            alloc,
+            "issues",
+            "Report the identifiers issued instead of the ranges",
+        ),
+    );
+    with(
+        command,
+        day_option(
+            alloc,
+            "The day on which serial numbers are counted as free; by default the clock's day",
+        ),
+    )
+}
+
+const REPORT_EXAMPLES: &str = "\
+Prints a line of headings, and a line for each range in order of their numbers: its serial numbers
+ever issued, those that are void, and those that are free on the day, or on the ledger's last day
+where that is later; the line of a withdrawn range ends with `closed`. With --issues, a line for each
+identifier issued, in order of arrival: `issued` or `voided` where it was not issued again, else
+`reissued`. The exit status is 0. With status 3, `ledger FAULT` says that the ledger could not be
+opened, `faulted FAULT` or `output` that the report ends early, and `clock` that the clock gives no
+day.
+
+Example:
+  s10 report --ledger post.db --day 20030
+  range customer service country first last used voided free
+  1 7 RA GB 00000000 00000002 3 0 1";

@@ -1,0 +1,63 @@
+//! The subcommand `serve`.
+ghost use Rattle.std.specs.Prelude.{IfOk};
+ghost use Rattle.s10_grammar.specs.Grammar.{ReadsAs, serve_shape};
+
+use crate::builders::{named, number_option, text_option, with};
+use crate::options::{day_option, ledger_option};
+use clap::Command;
+use std::alloc::{AllocError, Global};
+
+/// What `serve` may say.
+pub fn serve_command<'a>(alloc: Global) -> Result<Command<'a>, AllocError>
+    ensures { IfOk result (λ command. ReadsAs command serve_shape) }
+{
+    let command = named(
+        alloc,
+        "serve",
+        "Answer the requests that come to an address, over the ledger in a file",
+        SERVE_EXAMPLES,
+    );
+    let command = with(Ok(command), ledger_option(alloc));
+    let command = with(
+        command,
+        text_option(
+            alloc,
+            "bind",
+            "PEER",
+            "The address to serve at, as 127.0.0.1:4711; with port 0 the system picks one",
+        ),
+    );
+    let command = with(
+        command,
+        number_option(
+            alloc,
+            "count",
+            "How many turns to serve: each takes one datagram, or waits a second for one",
+        ),
+    );
+    with(
+        command,
+        day_option(
+            alloc,
+            "The day of all requests; by default the clock's day at each turn",
+        ),
+    )
+}
+
+const SERVE_EXAMPLES: &str = "\
+Prints one line for each turn, as it is done:
+  replied HEX     a reply was sent; `s10 show HEX` puts it into words
+  quiet           nothing came in a second
+  dropped FAULT   what came asks nothing: short, magic, version, kind, length, field AT or outcome
+  faulted FAULT   a request was left unanswered: memory, store, or full where the limit is reached
+  link FAULT      receive or send: the socket failed, and the next turn follows
+
+After the last turn the ledger is closed and the exit status is 0. `refused peer`, with status 1,
+says that the address does not read. With status 3, `ledger FAULT` says that the ledger could not be
+opened or closed, `link bind` that the address cannot be had, and `clock` that the clock gives no
+day. A stop at any moment leaves a ledger that opens. The address that is served at is printed to
+standard error. There is no authentication: whoever reaches the address can ask as customer 0.
+
+Example:
+  s10 serve --ledger post.db --bind 127.0.0.1:4711 --count 1
+  replied 533101820000000700000001524147420000004e2052413030303030303030354742";

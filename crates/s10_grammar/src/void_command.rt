@@ -1,0 +1,36 @@
+//! The subcommand `void`.
+ghost use Rattle.std.specs.Prelude.{IfOk};
+ghost use Rattle.s10_grammar.specs.Grammar.{ReadsAs, void_shape};
+
+use crate::builders::{named, with};
+use crate::options::{id_option, tries_option};
+use crate::questions::with_asker;
+use clap::Command;
+use std::alloc::{AllocError, Global};
+
+/// What `void` may say.
+pub fn void_command<'a>(alloc: Global) -> Result<Command<'a>, AllocError>
+    ensures { IfOk result (λ command. ReadsAs command void_shape) }
+{
+    let command = named(
+        alloc,
+        "void",
+        "Tell a server that an identifier will not be used",
+        VOID_EXAMPLES,
+    );
+    let command = with_asker(alloc, Ok(command));
+    let command = with(command, id_option(alloc));
+    with(command, tries_option(alloc))
+}
+
+const VOID_EXAMPLES: &str = "\
+Prints the reply: the request and `done`, with exit status 0, or why it was not done, with status 1:
+`not-yours` where the identifier is in none of the customer's ranges, `not-issued` where it was never
+issued, `already-void` where it is void, `number-reused` where the customer has asked for something
+else under this number. `refused peer`, or `refused` with `length`, `letter AT`, `digit AT` or
+`check-digit`, also with status 1, say that nothing was asked. With status 3, `gave-up` says that no
+reply came, and `link FAULT` that the socket failed; the same words again ask again.
+
+Example:
+  s10 void --to 127.0.0.1:4711 --customer 7 --number 3 --id RA000000005GB
+  reply void customer 7 number 3 RA000000005GB done";
