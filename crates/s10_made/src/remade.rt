@@ -34,11 +34,7 @@ impl Remade {
 
     /// The book of these calls, each of them right behind those before it. Refused with NotALedger where `head` is not its
     /// one row, with Schema, with Damaged and the first call that is wrong, and with Memory.
-    pub fn of(
-        alloc: Global,
-        heads: Vec<HeadRow>,
-        calls: Vec<CallRow>,
-    ) -> Result<Remade, OpenFault>
+    pub fn of(alloc: Global, heads: Vec<HeadRow>, calls: Vec<CallRow>) -> Result<Remade, OpenFault>
         ensures ok { IfOk result (IsRemade heads.items calls.items) }
         ensures err { (tables : Tables) → tables.heads ≡ heads.items → tables.calls ≡ calls.items → IfErr result (IsRefusal tables) }
     {
