@@ -21,9 +21,8 @@ use crate::faults::fault_of;
 use s10_book::BookFault;
 use s10_history::Entry;
 use s10_index::CallIndex;
-use s10_made::rows_made;
+use s10_made::call_write;
 use s10_statements::keep_rows;
-use s10_wire::{Reply, encode_reply};
 use sqlite::{Alter, Connection};
 use std::alloc::Global;
 
@@ -50,20 +49,8 @@ pub(crate) fn keep_call<S: Alter>(
         → (state S.Store conn.old).may_leave db ⊎ ((h : List Entry) (t : Terms) → IsLegal h t → MayFollow h t entry.now → All IsCall h → StandsFor (state S.Store conn.old).now h t
         → Indexes index.now h → arrival ≡ length h + 1 → IsCall entry.now × StandsFor (record (state S.Store conn.old).now { trees = db }) (h ++ entry.now ∷ []) t) }
 {
-    let _day = entry.day;
-    let Some(reply) = Reply::new(entry.request, entry.outcome) else {
-        return Err(BookFault::Store);
-    };
-    let frame = encode_reply(&reply);
-    let made = rows_made(alloc, index, arrival, entry)?;
-    match keep_rows(
-        conn,
-        arrival,
-        entry,
-        frame.bytes(),
-        &made.ranges,
-        &made.serials,
-    ) {
+    let write = call_write(alloc, index, arrival, entry)?;
+    match keep_rows(conn, &[write]) {
         Ok(()) => Ok(()),
         Err(error) => Err(fault_of(error)),
     }

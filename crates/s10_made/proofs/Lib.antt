@@ -2,3 +2,4 @@ pub mod RemadeLemmas
 pub mod Earlier
 pub mod IssueLemmas
 pub mod Voiding
+pub mod WrittenLemmas

@@ -9,7 +9,6 @@ mod making;
 mod remade;
 
 pub use comparing::verdict;
-pub use made::Made;
 pub use made_rows::MadeRows;
-pub use making::rows_made;
+pub use making::call_write;
 pub use remade::Remade;

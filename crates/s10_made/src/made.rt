@@ -6,11 +6,11 @@ use s10_book::BookFault;
 use s10_rows::{RangeWrite, SerialWrite};
 use std::alloc::Global;
 
-/// What a call makes of the ranges and of the serials, in the order in which it is written.
+// What a call makes of the ranges and of the serials, in the order in which it is written.
 #[derive(Drop)]
-pub struct Made {
-    pub ranges: Vec<RangeWrite>,
-    pub serials: Vec<SerialWrite>,
+pub(crate) struct Made {
+    pub(crate) ranges: Vec<RangeWrite>,
+    pub(crate) serials: Vec<SerialWrite>,
 }
 
 impl Made {

@@ -7,3 +7,4 @@ pub mod Verdict
 pub mod Kept
 pub mod Selected
 pub mod ReadRows
+pub mod CallWrite

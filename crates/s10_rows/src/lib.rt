@@ -3,6 +3,7 @@
 
 mod call_reading;
 mod call_row;
+mod call_write;
 mod closed_row;
 mod column;
 mod head_reading;
@@ -21,6 +22,7 @@ mod serial_write;
 mod usage_reading;
 
 pub use call_row::CallRow;
+pub use call_write::CallWrite;
 pub use closed_row::ClosedRow;
 pub use column::pair_number;
 pub use head_reading::settings_in;

@@ -19,3 +19,4 @@ pub mod MarkLemmas
 pub mod Apart
 pub mod CrashLemmas
 pub mod WriteLemmas
+pub mod CallLemmas

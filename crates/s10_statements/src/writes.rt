@@ -1,6 +1,6 @@
 //! The writes of a kept call.
 
-ghost use Rattle.std.specs.Prelude.{◌≡◌, ◌≤◌, ◌⊎◌, ◌++◌, ◌∷◌, [], pos, true, List, length, filter, option_to_list, OnOk, OnErr};
+ghost use Rattle.std.specs.Prelude.{◌≡◌, ◌≢◌, ◌≤◌, ◌⊎◌, ◌++◌, ◌∷◌, [], pos, true, List, length, filter, option_to_list, OnOk, OnErr};
 ghost use Rattle.sqlite_trees.specs.Tree.{Trees};
 ghost use Rattle.sqlite.specs.Held.{state};
 ghost use Rattle.sqlite.specs.State.{Shows, KeepsCommit, Survives};
@@ -9,9 +9,10 @@ ghost use Rattle.s10_rows.specs.Tables.{Tables, closing};
 ghost use Rattle.s10_statements.specs.Shown.{HasTables};
 ghost use Rattle.s10_statements.specs.Settled.{IsSettled, IsClean, IsOpen, IsInTransaction, StaysUnclean};
 ghost use Rattle.s10_rows.specs.Kept.{FindAtMostOne, is_at, row_of, with_range, with_ranges, with_serial, with_serials};
+ghost use Rattle.s10_rows.specs.CallWrite.{AreWritten, with_call};
 
 use s10_history::Entry;
-use s10_rows::{ClosedRow, RangeRow, RangeWrite, SerialRow, SerialWrite};
+use s10_rows::{CallWrite, ClosedRow, RangeRow, RangeWrite, SerialRow, SerialWrite};
 use sqlite::{Alter, Connection, Error, Transaction, params};
 
 /// Adds the row of a call.
@@ -250,45 +251,56 @@ fn put_closed<S: Alter>(
     }
 }
 
-/// Writes the row of a call and those that it makes, in one transaction: all of them, or none.
-pub fn keep_rows<S: Alter>(
-    conn: &mut Connection<S>,
-    arrival: u32,
-    entry: &Entry,
-    reply: &[u8],
-    ranges: &[RangeWrite],
-    serials: &[SerialWrite],
-) -> Result<(), Error>
+/// Writes the row of a call and those that it makes.
+fn put_rows<S: Alter>(tx: &mut Transaction<'_, S>, write: &CallWrite) -> Result<(), Error>
+    ensures same_reference { tx.new.conn.ghost_name ≡ tx.old.conn.ghost_name }
+    ensures made { IsClean S.Store tx.new.conn.now → IsInTransaction S.Store tx.old.conn.now → OnOk result ((tables : Tables) → HasTables (state S.Store tx.old.conn.now).now tables
+        → FindAtMostOne write.now.serials.items tables.serials → HasTables (state S.Store tx.new.conn.now).now (with_call write.now tables)) }
+    ensures was_open { IsClean S.Store tx.new.conn.now → IsInTransaction S.Store tx.old.conn.now → OnOk result (IsOpen S.Store tx.old.conn.now) }
+    ensures inside { IsClean S.Store tx.new.conn.now → IsInTransaction S.Store tx.old.conn.now
+        → OnOk result (IsInTransaction S.Store tx.new.conn.now) }
+    ensures kept { IsClean S.Store tx.new.conn.now → IsInTransaction S.Store tx.old.conn.now → KeepsCommit (state S.Store tx.old.conn.now) (state S.Store tx.new.conn.now) }
+    ensures survives { Survives (state S.Store tx.old.conn.now) (state S.Store tx.new.conn.now) (λ _. ⊥) }
+{
+    put_call(tx, write.arrival, &write.entry, write.reply.bytes())?;
+    put_ranges(tx, &write.ranges)?;
+    put_serials(tx, &write.serials)?;
+    put_closed(tx, write.arrival, &write.entry)
+}
+
+/// Writes the rows of calls, call by call.
+fn put_calls<S: Alter>(tx: &mut Transaction<'_, S>, writes: &[CallWrite]) -> Result<(), Error>
+    ensures same_reference { tx.new.conn.ghost_name ≡ tx.old.conn.ghost_name }
+    ensures made { IsClean S.Store tx.new.conn.now → IsInTransaction S.Store tx.old.conn.now → OnOk result ((before after : Tables) → AreWritten writes.now before after
+        → HasTables (state S.Store tx.old.conn.now).now before → HasTables (state S.Store tx.new.conn.now).now after) }
+    ensures was_open { IsClean S.Store tx.new.conn.now → IsInTransaction S.Store tx.old.conn.now → OnOk result (writes.now ≢ [] → IsOpen S.Store tx.old.conn.now) }
+    ensures inside { IsClean S.Store tx.new.conn.now → IsInTransaction S.Store tx.old.conn.now
+        → OnOk result (IsInTransaction S.Store tx.new.conn.now) }
+    ensures kept { IsClean S.Store tx.new.conn.now → IsInTransaction S.Store tx.old.conn.now → KeepsCommit (state S.Store tx.old.conn.now) (state S.Store tx.new.conn.now) }
+    ensures survives { Survives (state S.Store tx.old.conn.now) (state S.Store tx.new.conn.now) (λ _. ⊥) }
+    ensures clean { StaysUnclean S.Store tx.old.conn.now tx.new.conn.now }
+{
+    for write in writes {
+        put_rows(tx, write)?;
+    }
+    Ok(())
+}
+
+/// Writes the rows of calls and those that they make, in one transaction: all of them, or none.
+pub fn keep_rows<S: Alter>(conn: &mut Connection<S>, writes: &[CallWrite]) -> Result<(), Error>
     requires settled { IsSettled S.Store conn.old }
     ensures settled { IsSettled S.Store conn.new }
     ensures opened { IsClean S.Store conn.new → OnOk result (IsOpen S.Store conn.new) }
-    ensures all { let row : StoredCall = record { arrival = pos arrival; customer = pos entry.now.request.customer; number = pos entry.now.request.number; day = pos entry.now.day; reply = reply.now } in
-        IsClean S.Store conn.new → OnOk result ((tables : Tables) → HasTables (state S.Store conn.old).now tables
-        → FindAtMostOne serials.now tables.serials
-        → HasTables (state S.Store conn.new).now (record tables {
-          calls = tables.calls ++ row ∷ [];
-          ranges = with_ranges ranges.now tables.ranges;
-          serials = with_serials serials.now tables.serials;
-          closed = tables.closed ++ option_to_list (closing arrival entry.now.request.body entry.now.outcome);
-        })) }
+    ensures all { IsClean S.Store conn.new → OnOk result ((before after : Tables) → AreWritten writes.now before after
+        → HasTables (state S.Store conn.old).now before → HasTables (state S.Store conn.new).now after) }
     ensures none { IsClean S.Store conn.new → IsOpen S.Store conn.new → OnErr result ((state S.Store conn.new).now ≡ (state S.Store conn.old).now) }
     ensures was_open { IsClean S.Store conn.new → IsOpen S.Store conn.new → IsOpen S.Store conn.old }
     ensures clean { StaysUnclean S.Store conn.old conn.new }
-    ensures crash { let row : StoredCall = record { arrival = pos arrival; customer = pos entry.now.request.customer; number = pos entry.now.request.number; day = pos entry.now.day; reply = reply.now } in
-        IsClean S.Store conn.new → (db : Trees) → (state S.Store conn.new).may_leave db
-        → (state S.Store conn.old).may_leave db ⊎ (IsOpen S.Store conn.old × ((tables : Tables) → HasTables (state S.Store conn.old).now tables
-        → FindAtMostOne serials.now tables.serials
-        → HasTables (record (state S.Store conn.old).now { trees = db }) (record tables {
-          calls = tables.calls ++ row ∷ [];
-          ranges = with_ranges ranges.now tables.ranges;
-          serials = with_serials serials.now tables.serials;
-          closed = tables.closed ++ option_to_list (closing arrival entry.now.request.body entry.now.outcome);
-        }))) }
+    ensures crash { IsClean S.Store conn.new → (db : Trees) → (state S.Store conn.new).may_leave db
+        → (state S.Store conn.old).may_leave db ⊎ ((writes.now ≢ [] → IsOpen S.Store conn.old) × ((before after : Tables) → AreWritten writes.now before after
+        → HasTables (state S.Store conn.old).now before → HasTables (record (state S.Store conn.old).now { trees = db }) after)) }
 {
     let mut tx = conn.transaction();
-    put_call(&mut tx, arrival, entry, reply)?;
-    put_ranges(&mut tx, ranges)?;
-    put_serials(&mut tx, serials)?;
-    put_closed(&mut tx, arrival, entry)?;
+    put_calls(&mut tx, writes)?;
     tx.commit()
 }
