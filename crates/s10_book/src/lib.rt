@@ -9,6 +9,7 @@ mod laws;
 mod picks;
 mod plain_book;
 mod rules;
+mod settle;
 mod trip_book;
 
 pub use book::Book;
@@ -21,4 +22,5 @@ pub use laws::{
 };
 pub use plain_book::PlainBook;
 pub use rules::decide;
+pub use settle::Settle;
 pub use trip_book::TripBook;

@@ -12,6 +12,7 @@ ghost use Rattle.s10_book.specs.BookFault.{Counts, no_faults};
 use crate::book::Book;
 use crate::book_fault::BookFault;
 use crate::faults::Faults;
+use crate::settle::Settle;
 use s10_core::Id;
 use s10_history::{
     Block, Candidate, Entry, Holding, Issuance, Issue, Range, Settings, Usage, call_at,
@@ -243,5 +244,18 @@ impl Book for PlainBook {
                 Err(BookFault::Memory)
             }
         }
+    }
+}
+
+// What a book in memory keeps is settled as far as it can be.
+impl Settle for PlainBook {
+    ghost use Rattle.std.proofs.Common.{sym, append-nil};
+
+    ghost settled = { λ b. b.entries.items };
+
+    ghost first = { λ b h. ([], sym (append-nil b.entries.items)) };
+
+    fn settle(&mut self) -> Result<(), BookFault> {
+        Ok(())
     }
 }

@@ -6,6 +6,7 @@ ghost use Rattle.s10_book.specs.BookFault.{with_trip};
 
 use crate::book::Book;
 use crate::book_fault::BookFault;
+use crate::settle::Settle;
 use s10_core::Id;
 use s10_history::{Block, Candidate, Entry, Holding, Issue, Range, Settings, Usage};
 
@@ -152,5 +153,18 @@ impl<B: Book> Book for TripBook<B> {
             return Err(BookFault::Store);
         }
         self.inner.keep(entry)
+    }
+}
+
+impl<B: Settle> Settle for TripBook<B> {
+    ghost settled = { λ b. B.settled b.inner };
+
+    ghost first = { λ b h. B.first b.inner h };
+
+    fn settle(&mut self) -> Result<(), BookFault> {
+        if self.trips() {
+            return Err(BookFault::Store);
+        }
+        self.inner.settle()
     }
 }

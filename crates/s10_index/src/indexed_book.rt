@@ -11,7 +11,7 @@ ghost use Rattle.s10_book.specs.BookFault.{Counts, no_faults};
 ghost use Rattle.s10_index.specs.CallIndex.{Indexes};
 
 use crate::call_index::CallIndex;
-use s10_book::{Book, BookFault, Faults};
+use s10_book::{Book, BookFault, Faults, Settle};
 use s10_core::Id;
 use s10_history::{
     Block, Candidate, Entry, Holding, Issue, Range, Settings, Usage, count_if, id_with, is_free,
@@ -215,5 +215,18 @@ impl Book for IndexedBook {
                 Err(BookFault::Memory)
             }
         }
+    }
+}
+
+// What a book in memory keeps is settled as far as it can be.
+impl Settle for IndexedBook {
+    ghost use Rattle.std.proofs.Common.{sym, append-nil};
+
+    ghost settled = { λ b. b.index.entries.items };
+
+    ghost first = { λ b h. ([], sym (append-nil b.index.entries.items)) };
+
+    fn settle(&mut self) -> Result<(), BookFault> {
+        Ok(())
     }
 }
