@@ -6,6 +6,7 @@ pub mod Equal
 pub mod Carried
 pub mod Pending
 pub mod Turns
+pub mod Rounds
 pub mod Listening
 pub mod Trying
 pub mod Near

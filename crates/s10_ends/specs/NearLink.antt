@@ -1,19 +1,18 @@
 -- What calls make of a near link and of the server behind it.
-use Rattle.std.specs.Prelude.{◌≡◌, ◌⊎◌, ℕ, List, Result, All}
+use Rattle.std.specs.Prelude.{◌≡◌, ◌⊎◌, ℕ, List, [], ◌∷◌, All}
 use Rattle.s10_wire.specs.declared.frame.Frame.{Frame}
 use Rattle.s10_link.specs.declared.peer.Peer.{Peer}
 use Rattle.s10_link.specs.declared.trace.Trace.{Trace}
-use Rattle.s10_link.specs.declared.link_fault.LinkFault.{LinkFault}
 use Rattle.s10_link.specs.Link.{ReceiveResult, SendResult, Receives, Sends}
 use Rattle.s10_history.specs.declared.entry.Entry.{Entry}
 use Rattle.s10_book.specs.declared.faults.Faults.{Faults}
 use Rattle.s10_history.specs.Settings.{Terms}
 use Rattle.s10_ends.specs.declared.answer.Answer.{Answer}
 use Rattle.s10_ends.specs.declared.near_link.NearLink.{NearLink}
-use Rattle.s10_ends.specs.declared.server_turn.ServerTurn.{ServerTurn}
 use Rattle.s10_ends.specs.Served.{Dated, Served}
 use Rattle.s10_ends.specs.Server.{book_of}
-use Rattle.s10_ends.specs.Turn.{Handles, ServesOne}
+use Rattle.s10_ends.specs.Turn.{Turn}
+use Rattle.s10_ends.specs.Round.{ServesRound}
 
 -- datagrams that came on the day were served, from the history h to the history h'
 pub record ServedOn (day : ℕ) (h : List Entry) (t : Terms) (h' : List Entry) : Type 0 where
@@ -22,12 +21,12 @@ pub record ServedOn (day : ℕ) (h : List Entry) (t : Terms) (h' : List Entry) :
   pub days : All (λ d. d.1 ≡ day) deliveries
   pub served : Served h t deliveries answers h'
 
-module _ {B F N : Type 0} (faults : B → Faults) (honest : B → Type 0) (terms : B → Terms) (history : B → List Entry) (far : F → Trace) (near : N → Trace) where
+module _ {B F N : Type 0} (faults : B → Faults) (honest : B → Type 0) (terms : B → Terms) (history settled : B → List Entry) (far : F → Trace) (near : N → Trace) where
   -- before the receive the server had a turn on the far end, on the day
   abbrev pub IsNearReceive : NearLink B F N → NearLink B F N → Type 0
   IsNearReceive old new =
-      (turn : Result ServerTurn LinkFault) × (came : ReceiveResult)
-      × ServesOne (far old.far) (far new.far) (book_of new.server ≡ book_of old.server) (Handles faults honest terms history (book_of old.server) (book_of new.server) old.day) turn
+      (turn : Turn) × (came : ReceiveResult)
+      × ServesRound faults honest terms history settled old.day 1 (far old.far, book_of old.server) (far new.far, book_of new.server) (turn ∷ [])
       × Receives (near old.near) (near new.near) came
 
   -- the server was left alone

@@ -2,6 +2,7 @@
 #![tactic(auto)]
 
 mod answer;
+mod answering;
 mod bad_numbers;
 mod call_fault;
 mod calls;
@@ -9,9 +10,12 @@ mod client;
 mod delivery;
 mod near_link;
 mod received;
+mod round;
 mod server;
 mod server_turn;
 mod submit_fault;
+mod taken;
+mod taking;
 mod turn;
 mod udp_link;
 
@@ -23,8 +27,10 @@ pub use client::Client;
 pub use delivery::Delivery;
 pub use near_link::NearLink;
 pub use received::Received;
+pub use round::serve_round;
 pub use server::Server;
-pub use server_turn::ServerTurn;
+pub use server_turn::{ServerTurn, Turn};
 pub use submit_fault::SubmitFault;
+pub use taken::Taken;
 pub use turn::serve_one;
 pub use udp_link::UdpLink;

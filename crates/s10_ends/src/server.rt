@@ -9,7 +9,7 @@ ghost use Rattle.s10_ends.specs.Respond.{CountsFull};
 
 use crate::answer::Answer;
 use crate::delivery::Delivery;
-use s10_book::{Book, BookFault, decide};
+use s10_book::{Book, BookFault, Settle, decide};
 use s10_history::Entry;
 use s10_wire::{Outcome, Reply, Request, decode_request, encode_reply, same_request};
 use std::alloc::{AllocError, Global};
@@ -139,5 +139,18 @@ impl<B: Book> Server<B> {
             answers.push_reserved(answer);
         }
         Ok(answers)
+    }
+}
+
+impl<B: Settle> Server<B> {
+    ghost use Rattle.s10_ends.specs.Server.{book_of};
+    ghost use Rattle.s10_ends.specs.Turn.{Settles};
+
+    /// Settles the calls of the book, so that their replies may be sent. A fault leaves the history as it was, and the next
+    /// settling takes those calls too.
+    pub fn settle(&mut self) -> Result<(), BookFault>
+        ensures { Settles B.faults B.honest B.terms B.history B.settled (book_of self.old) (book_of self.new) result }
+    {
+        self.book.settle()
     }
 }

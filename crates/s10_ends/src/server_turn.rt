@@ -1,5 +1,5 @@
 use s10_book::BookFault;
-use s10_link::Peer;
+use s10_link::{LinkFault, Peer};
 use s10_wire::{Frame, WireFault};
 
 /// What one turn of a server did, with the peer that the datagram came from.
@@ -11,6 +11,12 @@ pub enum ServerTurn {
     Dropped(Peer, WireFault),
     /// The request was not answered, and may be handed in again.
     Faulted(Peer, BookFault),
+    /// The calls could not be settled, so the reply that is owed was not sent. The request may be handed in again, and
+    /// gets its reply once they are.
+    Unsettled(Peer, BookFault),
     /// This frame was sent back to the peer.
     Replied(Peer, Frame),
 }
+
+/// A turn of a server, or the fault of a receive or a send.
+pub type Turn = Result<ServerTurn, LinkFault>;

@@ -33,8 +33,9 @@ impl Model for UdpLink {
 }
 
 impl UdpLink {
-    ghost use Rattle.std.specs.Prelude.{◌≡◌, IfOk, IfErr};
+    ghost use Rattle.std.specs.Prelude.{◌≡◌, ◌-◌, ◌^◌, ◌<◌, IfOk, IfErr};
     ghost use Rattle.s10_link.specs.Trace.{new_trace};
+    ghost use Rattle.s10_link.specs.Link.{Receives};
 
     /// A socket at this address, where port 0 lets the system pick one. A receive waits so many
     /// milliseconds at most; 0 is taken as 1. Refused with Bind alone.
@@ -57,6 +58,39 @@ impl UdpLink {
         ensures { result ≡ self.now.at }
     {
         self.at
+    }
+
+    // The next datagram from an IPv4 source, if one has come already.
+    fn waiting_datagram(&self) -> io::Result<Option<(Peer, Packet)>> {
+        self.socket.set_nonblocking(true)?;
+        let came = self.next_datagram();
+        self.socket.set_nonblocking(false)?;
+        came
+    }
+
+    // Counts what a receive came to.
+    fn took(
+        &mut self,
+        came: io::Result<Option<(Peer, Packet)>>,
+    ) -> Result<Option<(Peer, Packet)>, LinkFault>
+        requires room { self.old.trace.calls < 2 ^ 64 - 1 }
+        ensures trace { Receives self.old.trace self.new.trace result }
+        ensures at { self.new.at ≡ self.old.at }
+    {
+        match came {
+            Ok(Some((from, packet))) => {
+                self.trace = self.trace.after_datagram(from, packet);
+                Ok(Some((from, packet)))
+            }
+            Ok(None) => {
+                self.trace = self.trace.after_call();
+                Ok(None)
+            }
+            Err(_) => {
+                self.trace = self.trace.after_failure();
+                Err(LinkFault::Receive)
+            }
+        }
     }
 
     // The next datagram from an IPv4 source, if one came in time.
@@ -90,20 +124,19 @@ impl Link for UdpLink {
         if self.trace.calls == u64::MAX {
             return Err(LinkFault::Spent);
         }
-        match self.next_datagram() {
-            Ok(Some((from, packet))) => {
-                self.trace = self.trace.after_datagram(from, packet);
-                Ok(Some((from, packet)))
-            }
-            Ok(None) => {
-                self.trace = self.trace.after_call();
-                Ok(None)
-            }
-            Err(_) => {
-                self.trace = self.trace.after_failure();
-                Err(LinkFault::Receive)
-            }
+        let came = self.next_datagram();
+        self.took(came)
+    }
+
+    fn receive_now(&mut self) -> Result<Option<(Peer, Packet)>, LinkFault>
+        ensures trace { Receives self.old.trace self.new.trace result }
+        ensures step { self.new.at ≡ self.old.at }
+    {
+        if self.trace.calls == u64::MAX {
+            return Err(LinkFault::Spent);
         }
+        let came = self.waiting_datagram();
+        self.took(came)
     }
 
     fn send(&mut self, to: Peer, frame: &Frame) -> Result<(), LinkFault>

@@ -24,6 +24,11 @@ pub trait Link {
         ensures trace { Receives (trace_of self.old) (trace_of self.new) result }
         ensures step { step self.old self.new };
 
+    /// The next datagram that has come already: as a receive, without a wait.
+    fn receive_now(&mut self) -> Result<Option<(Peer, Packet)>, LinkFault>
+        ensures trace { Receives (trace_of self.old) (trace_of self.new) result }
+        ensures step { step self.old self.new };
+
     /// Sends a frame. Refused with Send or Spent alone.
     fn send(&mut self, to: Peer, frame: &Frame) -> Result<(), LinkFault>
         ensures trace { Sends (trace_of self.old) (trace_of self.new) (to, frame.now) result }

@@ -108,6 +108,14 @@ impl Link for ScriptLink {
         }
     }
 
+    // No receive of a script waits.
+    fn receive_now(&mut self) -> Result<Option<(Peer, Packet)>, LinkFault>
+        ensures trace { Receives self.old.trace self.new.trace result }
+        ensures script { FollowsReceipts self.old self.new result }
+    {
+        self.receive()
+    }
+
     fn send(&mut self, to: Peer, frame: &Frame) -> Result<(), LinkFault>
         ensures trace { Sends self.old.trace self.new.trace (to, frame.now) result }
         ensures script { FollowsSends self.old self.new (to, frame.now) result }

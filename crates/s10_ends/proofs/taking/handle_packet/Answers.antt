@@ -1,7 +1,7 @@
 use Rattle.std.proofs.Common.{List, ℕ, subst}
 use Rattle.s10_ends.specs.Server.{book_of}
 use Rattle.s10_ends.specs.Turn.{Handles}
-use Rattle.s10_ends.proofs.turn.handle_packet.Goals as goal
+use Rattle.s10_ends.proofs.taking.handle_packet.Goals as goal
 
 pub returns : goal.returns
 returns g c =

@@ -1,0 +1,73 @@
+//! One round of a server on a link.
+
+ghost use Rattle.std.specs.Prelude.{◌≡◌, ◌≤◌, ◌+◌, [], length, IfOk, OnErr, vec_capacity, Ok};
+ghost use Rattle.s10_ends.specs.Server.{book_of};
+ghost use Rattle.s10_ends.specs.Turn.{Settles};
+ghost use Rattle.s10_ends.specs.Round.{ServesRound, AnswersSettled, turns_of};
+
+use crate::answering::answer_all;
+use crate::server::Server;
+use crate::server_turn::{ServerTurn, Turn};
+use crate::taken::Taken;
+use crate::taking::take_all;
+use s10_book::Settle;
+use s10_link::{Link, LinkFault};
+use std::alloc::{AllocError, Global};
+
+/// Takes the datagram that comes next and those that have come by then, so many at most, settles their calls at once, and
+/// only then sends the replies, each to the peer that it is owed to. Answers what became of each; where the calls could not be
+/// settled, each reply that is owed is told as Unsettled. Where there is no room for that nothing is done.
+pub fn serve_round<B: Settle, L: Link>(
+    alloc: Global,
+    server: &mut Server<B>,
+    link: &mut L,
+    day: u32,
+    most: u32,
+) -> Result<Vec<Turn>, AllocError>
+    requires { 1 ≤ most }
+    ensures served { IfOk result (λ turns. ServesRound B.faults B.honest B.terms B.history B.settled day most
+        (L.trace_of link.old, book_of server.old) (L.trace_of link.new, book_of server.new) turns.items) }
+    ensures some { IfOk result (λ turns. 1 ≤ length turns.items) }
+    ensures few { IfOk result (λ turns. length turns.items ≤ most) }
+    ensures refused { OnErr result ((L.trace_of link.new ≡ L.trace_of link.old) × (book_of server.new ≡ book_of server.old)) }
+{
+    let mut taken = Vec::with_capacity(alloc, most as usize)?;
+    let mut turns = Vec::with_capacity(alloc, most as usize + 1)?;
+    let ended = take_all(server, link, day, most, &mut taken);
+    settle_and_answer(server, link, &taken, &mut turns);
+    tell_end(ended, &mut turns);
+    Ok(turns)
+}
+
+// Settles the calls of what was taken, if anything was, and answers it.
+fn settle_and_answer<B: Settle, L: Link>(
+    server: &mut Server<B>,
+    link: &mut L,
+    taken: &[Taken],
+    turns: &mut Vec<Turn>,
+)
+    requires none { turns.old.items ≡ [] }
+    requires room { length taken.now ≤ vec_capacity turns.old }
+    ensures answered { AnswersSettled (Settles B.faults B.honest B.terms B.history B.settled)
+        (L.trace_of link.old, book_of server.old) (L.trace_of link.new, book_of server.new) taken.now turns.new.items }
+    ensures many { length turns.new.items ≡ length taken.now }
+    ensures capacity { vec_capacity turns.new ≡ vec_capacity turns.old }
+{
+    if taken.is_empty() {
+        return;
+    }
+    let settling = server.settle();
+    answer_all(link, taken, settling, turns);
+}
+
+// Tells how the receives ended, where no datagram tells it.
+fn tell_end(ended: Result<(), LinkFault>, turns: &mut Vec<Turn>)
+    requires { length turns.old.items + 1 ≤ vec_capacity turns.old }
+    ensures { turns.new.items ≡ turns_of ended turns.old.items }
+{
+    if let Err(fault) = ended {
+        turns.push_reserved(Err(fault));
+    } else if turns.is_empty() {
+        turns.push_reserved(Ok(ServerTurn::Quiet));
+    }
+}
