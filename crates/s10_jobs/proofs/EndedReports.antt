@@ -1,5 +1,5 @@
 -- A report that its book ended.
-use Rattle.std.proofs.Common.{◌≡◌, ℕ, List, ◌++◌, take, codes, Option, Result, Err, subst}
+use Rattle.std.proofs.Common.{◌≡◌, ℕ, List, take, codes, Option, Result, Err, subst}
 use Rattle.s10_lines.specs.Lines.{line_of}
 use Rattle.s10_lines.proofs.Writing.{Appends-then}
 use Rattle.std.specs.Io.KnownBytes.{Appends}

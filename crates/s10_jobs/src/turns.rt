@@ -1,65 +1,94 @@
 //! The turns of a server.
 
-ghost use Rattle.std.specs.Prelude.{◌≡◌, ◌≢◌, None, Ok, OnOk, Result};
+ghost use Rattle.std.specs.Prelude.{◌≡◌, ◌≢◌, ◌≤◌, ℕ, None, Ok, OnOk};
+ghost use Rattle.std.specs.List.{flat_map};
 ghost use Rattle.std.specs.Io.KnownBytes.{Appends};
-ghost use Rattle.s10_link.specs.declared.link_fault.LinkFault.{LinkFault};
-ghost use Rattle.s10_ends.specs.declared.server_turn.ServerTurn.{ServerTurn};
 ghost use Rattle.s10_ends.specs.Server.{book_of};
-ghost use Rattle.s10_ends.specs.Turn.{Handles, ServesOne};
+ghost use Rattle.s10_ends.specs.Round.{ServesRound};
 ghost use Rattle.s10_jobs.specs.TurnLines.{turn_line};
-ghost use Rattle.s10_jobs.specs.Serving.{IsTurn, Serves};
+ghost use Rattle.s10_jobs.specs.Serving.{IsRound, Serves, ShowsRound};
 
 use crate::day::day_or_today;
 use crate::failures::fail_by_clock;
 use crate::job_status::JobStatus;
 use crate::turn_line::write_turn;
-use s10_book::Book;
-use s10_ends::{Server, ServerTurn, serve_one};
+use s10_book::Settle;
+use s10_ends::{Server, ServerTurn, Turn, serve_one, serve_round};
 use s10_lines::WriteFault;
-use s10_link::{Link, LinkFault};
+use s10_link::Link;
+use std::alloc::Global;
 use std::io::Write;
 use std::time::Clock;
 
-/// So many turns of a server, each with its line, which is flushed. Where no day is given the clock
-/// is read before each turn, and one that gives no day ends the turns. Standard error has a line for each datagram that
+/// How many datagrams are taken in one round at most.
+const MOST_TOGETHER: u32 = 64;
+
+/// So many turns of a server, each with its line, in rounds of the datagrams that have come at once: their calls are settled
+/// together, and only then are the replies sent. The lines of a round are flushed together. Where no day is given the clock
+/// is read before each round, and one that gives no day ends the turns. Standard error has a line for each datagram that
 /// is dropped, with its sender.
-pub fn serve_turns<R: Clock + Eprint, B: Book, L: Link, W: Write>(
+pub fn serve_turns<R: Clock + Eprint, B: Settle, L: Link, W: Write>(
     rt: &R,
+    alloc: Global,
     server: &mut Server<B>,
     link: &mut L,
     count: u32,
     day: Option<u32>,
     out: &mut W,
 ) -> Result<JobStatus, WriteFault>
-    ensures turns { Serves (IsTurn B.faults B.honest B.terms B.history day)
+    ensures turns { Serves (IsRound B.faults B.honest B.terms B.history B.settled day)
         (L.trace_of link.old, book_of server.old) (L.trace_of link.new, book_of server.new)
         (W.contents out.old) (W.contents out.new) count result }
     ensures given { day ≢ None → result ≢ Ok JobStatus.Failed }
 {
-    for _done in 0..count {
+    let mut done = 0;
+    while done < count {
         let Some(today) = day_or_today(rt, day) else {
             return fail_by_clock(out);
         };
-        serve_turn(rt, server, link, today, out)?;
+        let most = (count - done).min(MOST_TOGETHER);
+        done += serve_together(rt, alloc, server, link, today, most, out)?;
     }
     Ok(JobStatus::Done)
 }
 
-fn serve_turn<R: Eprint, B: Book, L: Link, W: Write>(
+// One round, with the lines of its turns. Answers how many these are. Where there is no room for a round, one datagram is
+// taken.
+fn serve_together<R: Eprint, B: Settle, L: Link, W: Write>(
     rt: &R,
+    alloc: Global,
     server: &mut Server<B>,
     link: &mut L,
     day: u32,
+    most: u32,
     out: &mut W,
-) -> Result<(), WriteFault>
-    ensures { (turn : Result ServerTurn LinkFault)
-        × ServesOne (L.trace_of link.old) (L.trace_of link.new) (book_of server.new ≡ book_of server.old)
-        (Handles B.faults B.honest B.terms B.history (book_of server.old) (book_of server.new) day) turn
-        × OnOk result (Appends (W.contents out.old) (W.contents out.new) (turn_line turn)) }
+) -> Result<u32, WriteFault>
+    requires { 1 ≤ most }
+    ensures { ShowsRound (λ turns. (room : ℕ) × ServesRound B.faults B.honest B.terms B.history B.settled day room
+        (L.trace_of link.old, book_of server.old) (L.trace_of link.new, book_of server.new) turns)
+        most (W.contents out.old) (W.contents out.new) result }
 {
-    let turn = serve_one(server, link, day);
-    tell_sender(rt, &turn);
-    write_turn(&turn, out)?;
+    match serve_round(alloc, server, link, day, most) {
+        Ok(turns) => {
+            show_turns(rt, &turns, out)?;
+            Ok(turns.len() as u32)
+        }
+        Err(_) => {
+            let turn = serve_one(server, link, day);
+            show_turns(rt, &[turn], out)?;
+            Ok(1)
+        }
+    }
+}
+
+// Writes the lines of turns, and tells who sent what was dropped.
+fn show_turns<R: Eprint, W: Write>(rt: &R, turns: &[Turn], out: &mut W) -> Result<(), WriteFault>
+    ensures { OnOk result (Appends (W.contents out.old) (W.contents out.new) (flat_map turn_line turns.now)) }
+{
+    for turn in turns {
+        tell_sender(rt, turn);
+        write_turn(turn, out)?;
+    }
     let Ok(()) = out.flush() else {
         return Err(WriteFault);
     };
@@ -67,7 +96,7 @@ fn serve_turn<R: Eprint, B: Book, L: Link, W: Write>(
 }
 
 // The turns go on where standard error is closed.
-fn tell_sender<R: Eprint>(rt: &R, turn: &Result<ServerTurn, LinkFault>) {
+fn tell_sender<R: Eprint>(rt: &R, turn: &Turn) {
     if let Ok(ServerTurn::Dropped(from, _)) = turn {
         let _ = eprintln!(rt; "dropped from {from}");
     }

@@ -2,15 +2,16 @@
 
 ghost use Rattle.std.specs.Prelude.{◌≡◌, None, IfSome};
 ghost use Rattle.s10_link.specs.Trace.{new_trace};
-ghost use Rattle.s10_jobs.specs.Serving.{IsTurn, Serves};
+ghost use Rattle.s10_jobs.specs.Serving.{IsRound, Serves};
 ghost use Rattle.s10_sockets.specs.Unbound.{IsUnbound};
 
 use crate::binding::bind_link;
-use s10_book::Book;
+use s10_book::Settle;
 use s10_ends::{Server, UdpLink};
 use s10_jobs::{JobStatus, fail_by_link, serve_turns};
 use s10_lines::WriteFault;
 use s10_link::Peer;
+use std::alloc::Global;
 use std::io::Write;
 use std::net::Net;
 use std::time::Clock;
@@ -19,6 +20,7 @@ use std::time::Clock;
 /// where the address cannot be had, and standard error says why.
 pub fn serve_at<R, B, W>(
     rt: &R,
+    alloc: Global,
     at: Peer,
     book: B,
     count: u32,
@@ -27,10 +29,10 @@ pub fn serve_at<R, B, W>(
 ) -> (Result<JobStatus, WriteFault>, Option<UdpLink>, B)
 where
     R: Net + Clock + Eprint,
-    B: Book,
+    B: Settle,
     W: Write,
     ensures unbound { result.1 ≡ None → IsUnbound book result.2 (W.contents out.old) (W.contents out.new) result.0 }
-    ensures served { IfSome result.1 (λ link. Serves (IsTurn B.faults B.honest B.terms B.history day)
+    ensures served { IfSome result.1 (λ link. Serves (IsRound B.faults B.honest B.terms B.history B.settled day)
         (new_trace, book) (link.trace, result.2)
         (W.contents out.old) (W.contents out.new) count result.0) }
 {
@@ -40,7 +42,7 @@ where
     };
     tell_address(rt, link.local());
     let mut server = Server::new(book);
-    let served = serve_turns(rt, &mut server, &mut link, count, day, out);
+    let served = serve_turns(rt, alloc, &mut server, &mut link, count, day, out);
     (served, Some(link), server.into_book())
 }
 

@@ -1,42 +1,32 @@
-use Rattle.std.proofs.Common.{◌≡◌, arith}
-use Rattle.std.specs.Prelude.{OnOk}
-use Rattle.std.specs.Io.KnownBytes.{Appends}
-use Rattle.s10_ends.specs.Turn.{Handles, ServesOne}
-use Rattle.s10_jobs.specs.TurnLines.{turn_line}
-use Rattle.s10_jobs.specs.Serving.{IsTurn}
-use Rattle.s10_jobs.proofs.Turning.{none_served, turn_served, given_day, served_to_no_day, served_to_failure}
+use Rattle.std.proofs.Common.{arith}
+use Rattle.s10_jobs.specs.Serving.{IsRound}
+use Rattle.s10_jobs.proofs.Turning.{none_served, round_served, round_unshown, given_day}
 use Rattle.s10_jobs.proofs.turns.serve_turns.Goals as goal
 
 pub loop-done-init : goal.loop-done-init
-loop-done-init g c =
-    none_served (IsTurn g.B.Book.faults g.B.Book.honest g.B.Book.terms g.B.Book.history c.args.day)
-    (g.L.Link.trace_of c.args.link.now, c.args.server.now.book) (g.W.Write.contents c.args.out.now)
+loop-done-init g c = record {
+  few = omega arith;
+  served = none_served _ (g.L.Link.trace_of c.args.link.now, c.args.server.now.book) (g.W.Write.contents c.args.out.now);
+}
+
+pub returns-in_err-done-clause-turns : goal.returns-in_err-done-clause-turns
+returns-in_err-done-clause-turns g c =
+    round_unshown (IsRound g.B.Book.faults g.B.Book.honest g.B.Book.terms g.B.Book.history g.B.Settle.settled c.args.day)
+    (g.L.Link.trace_of c.args.link.now, c.args.server.now.book) (g.L.Link.trace_of c.loop-done.link, c.loop-done.server.book) (g.L.Link.trace_of c.serve_together.new.link, c.serve_together.new.server.book)
+    (g.W.Write.contents c.args.out.now) (g.W.Write.contents c.loop-done.out) (g.W.Write.contents c.serve_together.new.out) c.loop-done.done c.args.count c.loop-done.invariant.served
+    _ c.min-most.result c.serve_together.result c.from_residual.result _ c.from_residual.ensures.1
+    (λ round is. (c.in-Some.today, given_day c.args.day c.day_or_today.result c.in-Some.today c.day_or_today.ensures c.in-Some.is, is.0, is.1))
+    (let few = c.min-most.ensures in let test = c.loop-done-test.true in grind arith) c.serve_together.ensures
 
 pub loop-done-preserved : goal.loop-done-preserved
 loop-done-preserved g c =
-    turn_served (IsTurn g.B.Book.faults g.B.Book.honest g.B.Book.terms g.B.Book.history c.args.day)
-    (g.L.Link.trace_of c.args.link.now, c.args.server.now.book) (g.L.Link.trace_of c.loop-done.link, c.loop-done.server.book) (g.L.Link.trace_of c.serve_turn.new.link, c.serve_turn.new.server.book)
-    (g.W.Write.contents c.args.out.now) (g.W.Write.contents c.loop-done.out) (g.W.Write.contents c.serve_turn.new.out) c.loop-done._done
-    (λ turn. ServesOne (g.L.Link.trace_of c.loop-done.link) (g.L.Link.trace_of c.serve_turn.new.link) (c.serve_turn.new.server.book ≡ c.loop-done.server.book)
-    (Handles g.B.Book.faults g.B.Book.honest g.B.Book.terms g.B.Book.history c.loop-done.server.book c.serve_turn.new.server.book c.in-Some.today) turn)
-    (λ turn does. (c.in-Some.today, given_day c.args.day c.day_or_today.result c.in-Some.today c.day_or_today.ensures c.in-Some.is, does))
-    c.loop-done.invariant c.in_ok-serve_turn.ensures
-
-pub returns-in_default-clause-turns : goal.returns-in_default-clause-turns
-returns-in_default-clause-turns g c =
-    served_to_no_day (IsTurn g.B.Book.faults g.B.Book.honest g.B.Book.terms g.B.Book.history c.args.day)
-    (g.L.Link.trace_of c.args.link.now, c.args.server.now.book) (g.L.Link.trace_of c.loop-done.link, c.loop-done.server.book)
-    (g.W.Write.contents c.args.out.now) (g.W.Write.contents c.loop-done.out) (g.W.Write.contents c.fail_by_clock.new.out) c.loop-done._done c.args.count c.fail_by_clock.result
-    c.loop-done.invariant (omega arith) c.fail_by_clock.ensures
-
-pub returns-in_err-serve_turn-clause-turns : goal.returns-in_err-serve_turn-clause-turns
-returns-in_err-serve_turn-clause-turns g c =
-    served_to_failure (IsTurn g.B.Book.faults g.B.Book.honest g.B.Book.terms g.B.Book.history c.args.day)
-    (g.L.Link.trace_of c.args.link.now, c.args.server.now.book) (g.L.Link.trace_of c.loop-done.link, c.loop-done.server.book) (g.L.Link.trace_of c.serve_turn.new.link, c.serve_turn.new.server.book)
-    (g.W.Write.contents c.args.out.now) (g.W.Write.contents c.loop-done.out) (g.W.Write.contents c.serve_turn.new.out) c.loop-done._done c.args.count
-    (λ turn. ServesOne (g.L.Link.trace_of c.loop-done.link) (g.L.Link.trace_of c.serve_turn.new.link) (c.serve_turn.new.server.book ≡ c.loop-done.server.book)
-    (Handles g.B.Book.faults g.B.Book.honest g.B.Book.terms g.B.Book.history c.loop-done.server.book c.serve_turn.new.server.book c.in-Some.today) turn)
-    (λ turn. OnOk c.serve_turn.result (Appends (g.W.Write.contents c.loop-done.out) (g.W.Write.contents c.serve_turn.new.out) (turn_line turn)))
-    c.from_residual.result _ c.from_residual.ensures.1
-    (λ turn does. (c.in-Some.today, given_day c.args.day c.day_or_today.result c.in-Some.today c.day_or_today.ensures c.in-Some.is, does))
-    c.loop-done.invariant (omega arith) c.serve_turn.ensures
+    let shown = c.in_ok-done.ensures in
+    record {
+      few = let few = c.min-most.ensures in let test = c.loop-done-test.true in let short = shown.2 in let many = shown.3.0 in grind arith;
+      served = round_served (IsRound g.B.Book.faults g.B.Book.honest g.B.Book.terms g.B.Book.history g.B.Settle.settled c.args.day)
+          (g.L.Link.trace_of c.args.link.now, c.args.server.now.book) (g.L.Link.trace_of c.loop-done.link, c.loop-done.server.book) (g.L.Link.trace_of c.serve_together.new.link, c.serve_together.new.server.book)
+          (g.W.Write.contents c.args.out.now) (g.W.Write.contents c.loop-done.out) (g.W.Write.contents c.serve_together.new.out) c.loop-done.done c.args.count c.loop-done.invariant.served
+          _ c.min-most.result c.in_ok-done.field-0
+          (λ round is. (c.in-Some.today, given_day c.args.day c.day_or_today.result c.in-Some.today c.day_or_today.ensures c.in-Some.is, is.0, is.1))
+          c.in_ok-done.ensures;
+    }
