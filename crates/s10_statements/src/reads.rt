@@ -41,6 +41,7 @@ fn read<S: Alter>(
 
 /// All rows of `head`.
 pub fn all_heads<S: Alter>(alloc: Global, conn: &mut Connection<S>) -> Result<Vec<HeadRow>, Error>
+    ensures spares { Spares S.Store conn.old conn.new }
     ensures leaves { Leaves S.Store conn.old conn.new }
     ensures opened { IsClean S.Store conn.new → OnOk result (IsOpen S.Store conn.new) }
     ensures rows { IsClean S.Store conn.new → IfOk result (λ rows. IsLedgerSchema (state S.Store conn.old).now.schema

@@ -17,3 +17,9 @@ returns-clause-leaves g c = leaves_weaker g.S.Store c.args.conn.now c.read.new.c
 pub returns-clause-rows : goal.returns-clause-rows
 returns-clause-rows g c clean =
     IfOk-weaker c.rows_in.result _ _ (λ found typed has. head_found [] (state g.S.Store c.args.conn.now) (state g.S.Store c.read.new.conn) c.in_ok-rows.rows.items has found.items (c.in_ok-rows.ensures.rows clean) (typed ∙ c.deref.ensures.value)) c.rows_in.ensures
+
+pub returns-in_err-rows-clause-spares : goal.returns-in_err-rows-clause-spares
+returns-in_err-rows-clause-spares g c clean has = c.read.ensures.spares clean (known_plain head_text head_plain (state g.S.Store c.args.conn.now).now.schema has)
+
+pub returns-clause-spares : goal.returns-clause-spares
+returns-clause-spares g c clean has = c.read.ensures.spares clean (known_plain head_text head_plain (state g.S.Store c.args.conn.now).now.schema has)
