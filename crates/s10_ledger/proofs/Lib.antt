@@ -3,7 +3,7 @@ pub mod Rising
 pub mod HistoryLemmas
 pub mod BookLemmas
 pub mod NewLedger
-pub mod KeyLemmas
+pub mod PendingLemmas
 pub mod WholeLemmas
 pub mod OpeningLemmas
 pub mod RefusalLemmas

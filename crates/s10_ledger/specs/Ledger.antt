@@ -1,6 +1,6 @@
 -- What a ledger in tables holds, and what is kept true of it.
-use Rattle.std.specs.Prelude.{◌≡◌, ◌⊎◌, ℕ, zero, suc, ◌+◌, ℤ, pos, IsTrue, List, [], ◌∷◌, ◌++◌, length, map, filter, All, refl}
-use Rattle.std.specs.Coded.{Coded, code_by, coded×, coded_ℕ}
+use Rattle.std.specs.Prelude.{◌≡◌, ◌⊎◌, ℕ, zero, suc, ◌+◌, ℤ, pos, IsTrue, List, [], ◌++◌, length, map, filter, All, refl}
+use Rattle.std.specs.Coded.{Coded, code_by, coded×, coded_ℕ, coded_list}
 use Rattle.sqlite_value.specs.declared.value.Value.{Value}
 use Rattle.sqlite_value.specs.declared.value.Value.TheVariants.{Null, Int, Real, Text, Blob}
 use Rattle.sqlite_value.specs.Order.{Row, column}
@@ -10,6 +10,7 @@ use Rattle.sqlite.specs.Effect.{Database}
 use Rattle.sqlite.specs.State.{HasCleanDisk}
 use Rattle.sqlite.specs.Held.{Held, held_code, state}
 use Rattle.s10_history.specs.declared.entry.Entry.{Entry}
+use Rattle.s10_history.specs.contracts.entry.Entry as entry
 use Rattle.s10_book.specs.declared.faults.Faults.{Faults}
 use Rattle.s10_history.specs.Settings.{Terms}
 use Rattle.s10_history.specs.History.{day_of}
@@ -53,13 +54,15 @@ history_in db = let calls = map call_from (map call_columns (db.trees 1)) in in_
 abbrev pub IsIndexed : {S : Type 0} → Ghosts S → Held S → CallIndex → Type 0
 IsIndexed g conn index = HasCleanDisk (state g conn) → IsTrue (state g conn).is_open → Indexes index (history_in (state g conn).now)
 
--- what a ledger holds: its connection, its settings, how many calls are kept, the day of the last one, and the faults so far
+-- what a ledger holds: its connection, its settings, how many calls are settled, the day of the last of these, the faults so far,
+-- and the calls that are kept and not yet settled
 pub record Ledger (S : Type 0) : Type 0 where
   pub conn : Held S
   pub terms : Terms
   pub len : ℕ
   pub day : ℕ
   pub faults : Faults
+  pub pending : List Entry
 
 abbrev pub terms_code : Coded Terms
 terms_code = code_by (ℕ × ℕ) (coded× coded_ℕ coded_ℕ) (λ t. (t.interval, t.limit)) (λ p. record { interval = p.0; limit = p.1 }) (λ _. refl)
@@ -69,8 +72,10 @@ faults_code = code_by (ℕ × ℕ) (coded× coded_ℕ coded_ℕ) (λ f. (f.memor
 
 abbrev pub ledger_code : {S : Type 0} → Coded S → Coded (Ledger S)
 ledger_code {S} store =
-    code_by (Held S × (Terms × (ℕ × (ℕ × Faults)))) (coded× (held_code store) (coded× terms_code (coded× coded_ℕ (coded× coded_ℕ faults_code))))
-    (λ l. (l.conn, (l.terms, (l.len, (l.day, l.faults))))) (λ p. record { conn = p.0; terms = p.1.0; len = p.1.1.0; day = p.1.1.1.0; faults = p.1.1.1.1 }) (λ _. refl)
+    code_by (Held S × (Terms × (ℕ × (ℕ × (Faults × List Entry))))) (coded× (held_code store) (coded× terms_code (coded× coded_ℕ (coded× coded_ℕ (coded× faults_code (coded_list entry.the_row.coded))))))
+    (λ l. (l.conn, (l.terms, (l.len, (l.day, (l.faults, l.pending))))))
+    (λ p. record { conn = p.0; terms = p.1.0; len = p.1.1.0; day = p.1.1.1.0; faults = p.1.1.1.1.0; pending = p.1.1.1.1.1 })
+    (λ _. refl)
 
 -- the tables stand for a history, whose length and last day are known
 pub record Holds (db : Database) (t : Terms) (len day : ℕ) : Type 0 where
@@ -100,17 +105,22 @@ pub record IsOldLedger (db : Database) (t : Terms) (len day : ℕ) : Type 0 wher
 abbrev pub IsAnyLedger : Database → Terms → ℕ → ℕ → Type 0
 IsAnyLedger db t len day = IsLedger db t len day ⊎ IsOldLedger db t len day
 
+-- the calls that are settled
+abbrev pub settled_of : {S : Type 0} → Ghosts S → Ledger S → List Entry
+settled_of g l = history_in (state g l.conn).now
+
+-- the calls that a ledger keeps: behind those that are settled, those that are not
+abbrev pub history_of : {S : Type 0} → Ghosts S → Ledger S → List Entry
+history_of g l = history_in (state g l.conn).now ++ l.pending
+
 -- what is said of the history holds where the store is clean and the connection open
 pub record IsHonest {S : Type 0} (g : Ghosts S) (l : Ledger S) : Type 0 where
   pub clean : HasCleanDisk (state g l.conn)
   pub is_open : IsTrue (state g l.conn).is_open
   pub ledger : IsLedger (state g l.conn).now l.terms l.len l.day
+  pub legal : IsLegal (history_of g l) l.terms
 
--- the calls that a ledger keeps
-abbrev pub history_of : {S : Type 0} → Ghosts S → Ledger S → List Entry
-history_of g l = history_in (state g l.conn).now
-
--- these trees hold the ledger with a call behind its others
-pub record IsLonger {S : Type 0} (g : Ghosts S) (l : Ledger S) (e : Entry) (db : Trees) : Type 0 where
-  pub history : history_in (record (state g l.conn).now { trees = db }) ≡ history_of g l ++ e ∷ []
-  pub ledger : IsLedger (record (state g l.conn).now { trees = db }) l.terms (l.len + 1) e.day
+-- these trees hold the ledger with its pending calls behind the others
+pub record IsSettledIn {S : Type 0} (g : Ghosts S) (l : Ledger S) (db : Trees) : Type 0 where
+  pub history : history_in (record (state g l.conn).now { trees = db }) ≡ history_of g l
+  pub ledger : IsLedger (record (state g l.conn).now { trees = db }) l.terms (length (history_of g l)) (day_of (history_of g l))

@@ -1,4 +1,5 @@
 pub mod Form
 pub mod Ledger
+pub mod Pending
 pub mod Refusals
 pub mod AllRows

@@ -1,6 +1,6 @@
-//! A call is kept.
+//! Calls are held in the process, and written.
 
-ghost use Rattle.std.specs.Prelude.{◌≡◌, ◌≢◌, ◌⊎◌, ◌≤◌, ◌<◌, ◌+◌, ◌++◌, ◌∷◌, [], List, length, All, Err, IsTrue, OnOk, OnErr};
+ghost use Rattle.std.specs.Prelude.{◌≡◌, ◌≢◌, ◌⊎◌, ◌≤◌, ◌+◌, ◌++◌, ◌∷◌, [], List, length, map, All, Err, IsTrue, OnOk, OnErr};
 ghost use Rattle.sqlite_trees.specs.Tree.{Trees};
 ghost use Rattle.sqlite_trees.specs.View.{doubt};
 ghost use Rattle.sqlite.specs.Held.{state};
@@ -10,78 +10,70 @@ ghost use Rattle.s10_book.specs.declared.book_fault.BookFault.TheVariants.{Full}
 ghost use Rattle.s10_history.specs.Settings.{Terms};
 ghost use Rattle.s10_history.specs.declared.settings.TheConstants.{GREATEST_LIMIT};
 ghost use Rattle.s10_book.specs.Rules.{IsLegal, MayFollow};
-ghost use Rattle.s10_schema.specs.Schema.{IsLedgerSchema};
-ghost use Rattle.s10_statements.specs.Shown.{StandsFor};
-ghost use Rattle.s10_wire.specs.Kind.{fits};
 ghost use Rattle.s10_index.specs.CallIndex.{Indexes};
+ghost use Rattle.s10_rows.specs.declared.call_write.CallWrite.{CallWrite};
+ghost use Rattle.s10_rows.specs.CallWrite.{AreWritten, Writes};
 ghost use Rattle.s10_rows.specs.Selected.{IsCall};
+ghost use Rattle.s10_rows.specs.Tables.{Tables, tables_of};
 ghost use Rattle.s10_statements.specs.Settled.{IsSettled};
+ghost use Rattle.s10_statements.specs.Shown.{HasTables};
 
 use crate::faults::fault_of;
 use s10_book::BookFault;
 use s10_history::Entry;
 use s10_index::CallIndex;
 use s10_made::call_write;
+use s10_rows::CallWrite;
 use s10_statements::keep_rows;
 use sqlite::{Alter, Connection};
 use std::alloc::Global;
 
-/// Keeps the call behind the history that the tables stand for, in one transaction.
-pub(crate) fn keep_call<S: Alter>(
-    alloc: Global,
+// Writes the pending calls in one transaction: all of them, and then none is pending, or none.
+pub(crate) fn write_calls<S: Alter>(
     conn: &mut Connection<S>,
-    index: &CallIndex,
-    arrival: u32,
-    entry: &Entry,
+    pending: &mut Vec<CallWrite>,
 ) -> Result<(), BookFault>
     requires settled { IsSettled S.Store conn.old }
     ensures settled { IsSettled S.Store conn.new }
     ensures opened { HasCleanDisk (state S.Store conn.new) → OnOk result (IsTrue (state S.Store conn.new).is_open) }
     ensures fault { result ≢ Err Full }
-    ensures fits { OnOk result (IsTrue (fits entry.now.request.body entry.now.outcome)) }
     ensures clean { doubt (state S.Store conn.old).is_clean ≤ doubt (state S.Store conn.new).is_clean }
     ensures was_open { HasCleanDisk (state S.Store conn.new) → IsTrue (state S.Store conn.new).is_open → IsTrue (state S.Store conn.old).is_open }
-    ensures ok { HasCleanDisk (state S.Store conn.new) → IsTrue (state S.Store conn.new).is_open → (h : List Entry) (t : Terms) → IsLegal h t → MayFollow h t entry.now → All IsCall h → StandsFor (state S.Store conn.old).now h t
-        → Indexes index.now h → arrival ≡ length h + 1 → OnOk result (IsCall entry.now × StandsFor (state S.Store conn.new).now (h ++ entry.now ∷ []) t) }
-    ensures err { HasCleanDisk (state S.Store conn.new) → IsTrue (state S.Store conn.new).is_open → IsLedgerSchema (state S.Store conn.old).now.schema
-        → OnErr result ((state S.Store conn.new).now ≡ (state S.Store conn.old).now) }
-    ensures crash { HasCleanDisk (state S.Store conn.new) → IsLedgerSchema (state S.Store conn.old).now.schema → (db : Trees) → (state S.Store conn.new).may_leave db
-        → (state S.Store conn.old).may_leave db ⊎ ((h : List Entry) (t : Terms) → IsLegal h t → MayFollow h t entry.now → All IsCall h → StandsFor (state S.Store conn.old).now h t
-        → Indexes index.now h → arrival ≡ length h + 1 → IsCall entry.now × StandsFor (record (state S.Store conn.old).now { trees = db }) (h ++ entry.now ∷ []) t) }
+    ensures emptied { OnOk result (pending.new.items ≡ []) }
+    ensures left { OnErr result (pending.new.items ≡ pending.old.items) }
+    ensures ok { HasCleanDisk (state S.Store conn.new) → OnOk result ((before after : Tables) → AreWritten pending.old.items before after
+        → HasTables (state S.Store conn.old).now before → HasTables (state S.Store conn.new).now after) }
+    ensures err { HasCleanDisk (state S.Store conn.new) → IsTrue (state S.Store conn.new).is_open → OnErr result ((state S.Store conn.new).now ≡ (state S.Store conn.old).now) }
+    ensures crash { HasCleanDisk (state S.Store conn.new) → (db : Trees) → (state S.Store conn.new).may_leave db
+        → (state S.Store conn.old).may_leave db ⊎ ((before after : Tables) → AreWritten pending.old.items before after
+        → HasTables (state S.Store conn.old).now before → HasTables (record (state S.Store conn.old).now { trees = db }) after) }
 {
-    let write = call_write(alloc, index, arrival, entry)?;
-    match keep_rows(conn, &[write]) {
-        Ok(()) => Ok(()),
+    match keep_rows(conn, pending) {
+        Ok(()) => {
+            pending.clear();
+            Ok(())
+        }
         Err(error) => Err(fault_of(error)),
     }
 }
 
-/// Keeps the call behind those of the index, where they are fewer than the limit and once there is room to hold it with what it
-/// makes, and holds it.
-pub(crate) fn keep_followed<S: Alter>(
+// Holds the call behind those of the index, where they are fewer than the limit and there is room for it, for what it makes and for
+// what it writes.
+pub(crate) fn hold_call(
     alloc: Global,
-    conn: &mut Connection<S>,
     index: &mut CallIndex,
+    pending: &mut Vec<CallWrite>,
     limit: u32,
     entry: &Entry,
 ) -> Result<(), BookFault>
     requires limit { limit ≤ GREATEST_LIMIT }
-    requires settled { IsSettled S.Store conn.old }
-    ensures settled { IsSettled S.Store conn.new }
-    ensures opened { HasCleanDisk (state S.Store conn.new) → OnOk result (IsTrue (state S.Store conn.new).is_open) }
     ensures fault { result ≢ Err Full }
-    ensures clean { doubt (state S.Store conn.old).is_clean ≤ doubt (state S.Store conn.new).is_clean }
-    ensures was_open { HasCleanDisk (state S.Store conn.new) → IsTrue (state S.Store conn.new).is_open → IsTrue (state S.Store conn.old).is_open }
     ensures few { length index.old.entries.items ≤ GREATEST_LIMIT → length index.new.entries.items ≤ GREATEST_LIMIT }
     ensures calls { OnOk result (index.new.entries.items ≡ index.old.entries.items ++ entry.now ∷ []) }
     ensures same_calls { OnErr result (index.new.entries.items ≡ index.old.entries.items) }
-    ensures ok { HasCleanDisk (state S.Store conn.new) → IsTrue (state S.Store conn.new).is_open → (h : List Entry) (t : Terms) → IsLegal h t → MayFollow h t entry.now → All IsCall h → StandsFor (state S.Store conn.old).now h t
-        → Indexes index.old h → OnOk result (IsCall entry.now × StandsFor (state S.Store conn.new).now (h ++ entry.now ∷ []) t) }
-    ensures err { HasCleanDisk (state S.Store conn.new) → IsTrue (state S.Store conn.new).is_open → IsLedgerSchema (state S.Store conn.old).now.schema
-        → OnErr result ((state S.Store conn.new).now ≡ (state S.Store conn.old).now) }
-    ensures crash { HasCleanDisk (state S.Store conn.new) → IsLedgerSchema (state S.Store conn.old).now.schema → (db : Trees) → (state S.Store conn.new).may_leave db
-        → (state S.Store conn.old).may_leave db ⊎ ((h : List Entry) (t : Terms) → IsLegal h t → MayFollow h t entry.now → All IsCall h → StandsFor (state S.Store conn.old).now h t
-        → Indexes index.old h → IsCall entry.now × StandsFor (record (state S.Store conn.old).now { trees = db }) (h ++ entry.now ∷ []) t) }
+    ensures written { OnOk result ((write : CallWrite) × (pending.new.items ≡ pending.old.items ++ write ∷ []) × (write.entry ≡ entry.now)
+        × ((h : List Entry) (t : Terms) → IsLegal h t → MayFollow h t entry.now → All IsCall h → Indexes index.old h → IsCall entry.now × Writes write (tables_of h t) (tables_of (h ++ entry.now ∷ []) t))) }
+    ensures left { OnErr result (pending.new.items ≡ pending.old.items) }
     ensures followed { (h : List Entry) (t : Terms) → IsLegal h t → MayFollow h t entry.now → Indexes index.old h → OnOk result (Indexes index.new (h ++ entry.now ∷ [])) }
     ensures same_index { (h : List Entry) → Indexes index.old h → OnErr result (Indexes index.new h) }
 {
@@ -92,9 +84,10 @@ pub(crate) fn keep_followed<S: Alter>(
     if index.reserve(entry).is_err() {
         return Err(BookFault::Memory);
     }
-    let kept = keep_call(alloc, conn, index, held as u32 + 1, entry);
-    if kept.is_ok() {
-        index.follow(*entry);
+    let write = call_write(alloc, index, held as u32 + 1, entry)?;
+    if pending.push(write).is_err() {
+        return Err(BookFault::Memory);
     }
-    kept
+    index.follow(*entry);
+    Ok(())
 }

@@ -8,9 +8,10 @@ mod keeping;
 mod lookups;
 mod opening;
 mod refused;
+mod settling;
 mod sql_book;
 
 pub use refused::Refused;
 pub use s10_rows::OpenFault;
 pub use s10_statements::{Unwatched, Watch};
-pub use sql_book::SqlBook;
+pub use sql_book::{MOST_PENDING, SqlBook};

@@ -11,6 +11,7 @@ ghost use Rattle.s10_history.specs.Usage.{usage_of};
 ghost use Rattle.s10_book.specs.Rules.{IsLegal};
 ghost use Rattle.s10_statements.specs.Shown.{StandsFor};
 ghost use Rattle.s10_rows.specs.Selected.{IsCall};
+ghost use Rattle.s10_statements.specs.Settled.{Spares};
 ghost use Rattle.s10_statements.specs.Statements.{Leaves};
 
 use crate::faults::fault_of;
@@ -23,6 +24,7 @@ use std::alloc::Global;
 
 // Asks the connection for its settings, to see whether it answers.
 pub(crate) fn ask<S: Alter>(alloc: Global, conn: &mut Connection<S>) -> Result<(), BookFault>
+    ensures spares { Spares S.Store conn.old conn.new }
     ensures leaves { Leaves S.Store conn.old conn.new }
     ensures opened { HasCleanDisk (state S.Store conn.new) → OnOk result (IsTrue (state S.Store conn.new).is_open) }
     ensures fault { result ≢ Err Full }

@@ -111,7 +111,7 @@ pub(crate) fn ledger_in<S: Alter, W: Watch>(
 }
 
 impl<S: Alter> SqlBook<S> {
-    ghost use Rattle.std.specs.Prelude.{◌≡◌, ◌⊎◌, ℕ, IfOk, IfErr, IsTrue, false};
+    ghost use Rattle.std.specs.Prelude.{◌≡◌, ◌⊎◌, ℕ, [], IfOk, IfErr, IsTrue, false};
     ghost use Rattle.sqlite.specs.Held.{state};
     ghost use Rattle.sqlite.specs.State.{HasCleanDisk};
     ghost use Rattle.s10_history.specs.Settings.{Terms, AreTerms};
@@ -144,6 +144,7 @@ impl<S: Alter> SqlBook<S> {
         ensures history { IfOk result (λ b. IsHonest S.Store b → history_in (state S.Store b.conn).now ≡ history_in (state S.Store conn).now) }
         ensures completed { IfOk result (λ b. IsHonest S.Store b → IsClosedSchema (state S.Store b.conn).now.schema) }
         ensures committed { IfOk result (λ b. IsHonest S.Store b → (state S.Store b.conn).committed ≡ (state S.Store b.conn).now) }
+        ensures none_pending { IfOk result (λ b. b.pending ≡ []) }
         ensures left_idle { IfErr result (λ r. r.connection.in_transaction ≡ false) }
         ensures was_refused { IfErr result (λ r. WasSound S.Store conn r.connection) }
         ensures refused { IfErr result (λ r. HasCleanDisk (state S.Store r.connection) → IsTrue (state S.Store r.connection).is_open → IsOpeningRefusal (state S.Store conn).now r.fault) }

@@ -1,53 +1,56 @@
 //! A book over the tables of a database.
 
-ghost use Rattle.std.specs.Prelude.{◌≡◌, ◌≢◌, Err};
+ghost use Rattle.std.specs.Prelude.{◌≡◌, ◌≢◌, [], Err};
 ghost use Rattle.s10_book.specs.declared.book_fault.BookFault.TheVariants.{Full};
 ghost use Rattle.s10_book.specs.BookFault.{Counts, no_faults};
 ghost use Rattle.sqlite.specs.Held.{state};
 ghost use Rattle.s10_ledger.specs.Ledger.{history_in, IsHonest};
 
 use crate::faults::opening_fault;
-use crate::keeping::keep_followed;
+use crate::keeping::{hold_call, write_calls};
 use crate::lookups::{ask, usage_in};
 use crate::refused::Refused;
 use s10_book::{Book, BookFault, Faults};
 use s10_core::Id;
 use s10_history::{Block, Candidate, Entry, Holding, Issue, Range, Settings, Usage};
 use s10_index::CallIndex;
-use s10_rows::OpenFault;
+use s10_rows::{CallWrite, OpenFault};
 use s10_statements::{Unwatched, Watch, make_ledger, refusal_of};
 use sqlite::{Alter, Connection, MemStore};
 use std::alloc::Global;
 use std::marker::Model;
 
-/// A book over the tables of a connection.
+/// So many calls are pending at most.
+pub const MOST_PENDING: usize = 64;
+
+/// A book over the tables of a connection. It holds the calls that it keeps in the process, where they are pending until it
+/// settles: then it writes them in one transaction.
 pub struct SqlBook<S: Alter> {
     alloc: Global,
     conn: Connection<S>,
     settings: Settings,
     faults: Faults,
-    // The calls of the tables.
+    // The calls of the tables, and the pending ones behind them.
     index: CallIndex,
+    // What the pending calls write.
+    pending: Vec<CallWrite>,
     // Whether the connection answered the last statement.
     answered: bool,
 }
 
 impl<S: Alter> Model for SqlBook<S> {
-    ghost use Rattle.std.specs.Prelude.{IsTrue, ◌≤◌, length};
+    ghost use Rattle.std.specs.Prelude.{length};
     ghost use Rattle.s10_history.specs.History.{day_of};
-    ghost use Rattle.s10_history.specs.declared.settings.TheConstants.{GREATEST_LIMIT};
-    ghost use Rattle.sqlite.specs.Held.{state};
-    ghost use Rattle.sqlite.specs.State.{HasCleanDisk};
-    ghost use Rattle.s10_statements.specs.Settled.{IsSettled, IsOpenIf};
-    ghost use Rattle.s10_ledger.specs.Ledger.{Ledger, ledger_code, IsLedger, IsIndexed};
+    ghost use Rattle.s10_ledger.specs.Ledger.{Ledger, ledger_code};
+    ghost use Rattle.s10_ledger.specs.Pending.{IsSound, calls_of, settled_among};
 
     ghost Value = { Ledger S };
 
     ghost coded = { ledger_code S.code };
 
-    ghost view = { λ b. record { conn = b.conn; terms = b.settings; len = length b.index.entries.items; day = day_of b.index.entries.items; faults = b.faults } };
+    ghost view = { λ b. let kept = settled_among b.pending.items b.index.entries.items in record { conn = b.conn; terms = b.settings; len = length kept; day = day_of kept; faults = b.faults; pending = calls_of b.pending.items } };
 
-    ghost invariant = { λ b. (length b.index.entries.items ≤ GREATEST_LIMIT) × (HasCleanDisk (state S.Store b.conn) → IsTrue (state S.Store b.conn).is_open → IsLedger (state S.Store b.conn).now b.settings (length b.index.entries.items) (day_of b.index.entries.items)) × IsSettled S.Store b.conn × IsIndexed S.Store b.conn b.index × IsOpenIf S.Store b.conn b.answered };
+    ghost invariant = { λ b. IsSound S.Store b.conn b.settings b.index b.pending.items b.answered };
 }
 
 impl<S: Alter> SqlBook<S> {
@@ -80,6 +83,7 @@ impl<S: Alter> SqlBook<S> {
         ensures alone { IfOk result (λ b. IsHonest S.Store b → (state S.Store b.conn).now.schema ≡ ledger_schema) }
         ensures committed { IfOk result (λ b. IsHonest S.Store b → (state S.Store b.conn).committed ≡ (state S.Store b.conn).now) }
         ensures honest { IfOk result (λ b. HasCleanDisk (state S.Store b.conn) → IsTrue (state S.Store b.conn).is_open → IsHonest S.Store b) }
+        ensures none_pending { IfOk result (λ b. b.pending ≡ []) }
         ensures left_idle { IfErr result (λ r. r.connection.in_transaction ≡ false) }
         ensures was_refused { IfErr result (λ r. WasSound S.Store conn r.connection) }
         ensures refused { IfErr result (λ r. IsMakingRefusal (state S.Store conn).now.schema r.fault) }
@@ -100,6 +104,7 @@ impl<S: Alter> SqlBook<S> {
             settings,
             faults: Faults::none(),
             index: CallIndex::new(alloc),
+            pending: Vec::new(alloc),
             answered: true,
         })
     }
@@ -116,7 +121,7 @@ impl<S: Alter> SqlBook<S> {
         requires ledger { HasCleanDisk (state S.Store conn) → IsTrue (state S.Store conn).is_open → IsLedger (state S.Store conn).now settings (length index.entries.items) (day_of index.entries.items) }
         requires indexed { IsIndexed S.Store conn index }
         requires opened { HasCleanDisk (state S.Store conn) → IsTrue (state S.Store conn).is_open }
-        ensures { let book : Ledger S = record { conn = conn; terms = settings; len = length index.entries.items; day = day_of index.entries.items; faults = no_faults } in result ≡ book }
+        ensures { let book : Ledger S = record { conn = conn; terms = settings; len = length index.entries.items; day = day_of index.entries.items; faults = no_faults; pending = [] } in result ≡ book }
     {
         SqlBook {
             alloc,
@@ -124,12 +129,13 @@ impl<S: Alter> SqlBook<S> {
             settings,
             faults: Faults::none(),
             index,
+            pending: Vec::new(alloc),
             answered: true,
         }
     }
 
     /// The connection, to look at between two calls: where it is open over a clean disk, what the
-    /// book says of its history holds.
+    /// book says of its history holds. Its tables stand for the settled calls.
     pub fn connection(&self) -> &Connection<S>
         ensures same { result.now ≡ self.now.conn }
         ensures idle { self.now.conn.in_transaction ≡ false }
@@ -139,7 +145,7 @@ impl<S: Alter> SqlBook<S> {
         &self.conn
     }
 
-    /// The connection, whose tables stand for the book's history.
+    /// The connection, whose tables stand for the settled calls. The pending ones are let go: no server sent a reply to them.
     pub fn close(self) -> Connection<S>
         ensures same { result ≡ self.conn }
         ensures idle { result.in_transaction ≡ false }
@@ -152,6 +158,7 @@ impl<S: Alter> SqlBook<S> {
             settings: _,
             faults: _,
             index: _,
+            pending: _,
             answered: _,
         } = self;
         conn
@@ -174,6 +181,7 @@ impl SqlBook<MemStore> {
         ensures honest { IfOk result (IsHonest over_memory) }
         ensures empty { IfOk result (λ b. history_in (state over_memory b.conn).now ≡ []) }
         ensures alone { IfOk result (λ b. (state over_memory b.conn).now.schema ≡ ledger_schema) }
+        ensures none_pending { IfOk result (λ b. b.pending ≡ []) }
         ensures refused { IfErr result (λ f. (f ≡ OpenFault.Memory) ⊎ (f ≡ OpenFault.Store)) }
     {
         let Ok(conn) = Connection::open_in_memory(alloc) else {
@@ -204,10 +212,14 @@ fn counted<T>(faults: &mut Faults, answer: Result<T, BookFault>) -> Result<T, Bo
 }
 
 impl<S: Alter> SqlBook<S> {
-    ghost use Rattle.std.specs.Prelude.{IsTrue, OnOk};
+    ghost use Rattle.std.specs.Prelude.{◌⊎◌, ◌++◌, ◌∷◌, ◌<◌, length, IfOk, IsTrue, OnErr, OnOk, Contains};
+    ghost use Rattle.sqlite_trees.specs.Tree.{Trees};
     ghost use Rattle.sqlite.specs.State.{HasCleanDisk};
+    ghost use Rattle.s10_history.specs.History.{ranges_of};
+    ghost use Rattle.s10_history.specs.Usage.{usage_of};
+    ghost use Rattle.s10_book.specs.Rules.{MayFollow};
     ghost use Rattle.s10_book.specs.Book.{Keeps};
-    ghost use Rattle.s10_ledger.specs.Ledger.{history_of};
+    ghost use Rattle.s10_ledger.specs.Ledger.{IsSettledIn, history_of, settled_of};
 
     // Asks the connection where it did not answer the last statement, so that nothing is told over a
     // connection that is shut.
@@ -215,6 +227,9 @@ impl<S: Alter> SqlBook<S> {
         ensures faults { Counts result self.old.faults self.new.faults }
         ensures keeps { Keeps (history_of S.Store) (λ b. b.terms) (IsHonest S.Store) self.old self.new }
         ensures opened { HasCleanDisk (state S.Store self.new.conn) → OnOk result (IsTrue (state S.Store self.new.conn).is_open) }
+        ensures same_pending { self.new.pending ≡ self.old.pending }
+        ensures same { IsHonest S.Store self.new → (state S.Store self.new.conn).now ≡ (state S.Store self.old.conn).now }
+        ensures spares { IsHonest S.Store self.old → HasCleanDisk (state S.Store self.new.conn) → (db : Trees) → (state S.Store self.new.conn).may_leave db → db ≡ (state S.Store self.old.conn).now.trees }
     {
         if self.answered {
             return Ok(());
@@ -224,10 +239,92 @@ impl<S: Alter> SqlBook<S> {
         self.answered = answered;
         counted(&mut self.faults, asked)
     }
+
+    // Writes the pending calls in one transaction.
+    fn write_pending(&mut self) -> Result<(), BookFault>
+        ensures faults { Counts result self.old.faults self.new.faults }
+        ensures keeps { Keeps (history_of S.Store) (λ b. b.terms) (IsHonest S.Store) self.old self.new }
+        ensures opened { HasCleanDisk (state S.Store self.new.conn) → OnOk result (IsTrue (state S.Store self.new.conn).is_open) }
+        ensures left { IsHonest S.Store self.new → OnErr result (settled_of S.Store self.new ≡ settled_of S.Store self.old) }
+        ensures none_pending { OnOk result (self.new.pending ≡ []) }
+        ensures crash { IsHonest S.Store self.old → HasCleanDisk (state S.Store self.new.conn) → (db : Trees) → (state S.Store self.new.conn).may_leave db
+            → (db ≡ (state S.Store self.old.conn).now.trees) ⊎ IsSettledIn S.Store self.old db }
+    {
+        let written = write_calls(&mut self.conn, &mut self.pending);
+        let answered = written.is_ok();
+        self.answered = answered;
+        counted(&mut self.faults, written)
+    }
+
+    // Settles all calls.
+    pub(crate) fn settle_all(&mut self) -> Result<(), BookFault>
+        ensures faults { Counts result self.old.faults self.new.faults }
+        ensures keeps { Keeps (history_of S.Store) (λ b. b.terms) (IsHonest S.Store) self.old self.new }
+        ensures opened { HasCleanDisk (state S.Store self.new.conn) → OnOk result (IsTrue (state S.Store self.new.conn).is_open) }
+        ensures done { IsHonest S.Store self.new → OnOk result (settled_of S.Store self.new ≡ history_of S.Store self.new) }
+        ensures left { IsHonest S.Store self.new → OnErr result (settled_of S.Store self.new ≡ settled_of S.Store self.old) }
+        ensures none_pending { OnOk result (self.new.pending ≡ []) }
+        ensures crash { IsHonest S.Store self.old → HasCleanDisk (state S.Store self.new.conn) → (db : Trees) → (state S.Store self.new.conn).may_leave db
+            → (db ≡ (state S.Store self.old.conn).now.trees) ⊎ IsSettledIn S.Store self.old db }
+    {
+        if self.pending.is_empty() {
+            return self.ask_again();
+        }
+        self.write_pending()
+    }
+
+    // Settles where no more calls may be pending, and else asks the connection as the reads do.
+    fn make_room(&mut self) -> Result<(), BookFault>
+        ensures faults { Counts result self.old.faults self.new.faults }
+        ensures keeps { Keeps (history_of S.Store) (λ b. b.terms) (IsHonest S.Store) self.old self.new }
+        ensures opened { HasCleanDisk (state S.Store self.new.conn) → OnOk result (IsTrue (state S.Store self.new.conn).is_open) }
+        ensures room { OnOk result (length self.new.pending < MOST_PENDING) }
+        ensures unsettled { IsHonest S.Store self.new → length self.old.pending < MOST_PENDING → ((state S.Store self.new.conn).now ≡ (state S.Store self.old.conn).now) × (self.new.pending ≡ self.old.pending) }
+        ensures crash { IsHonest S.Store self.old → HasCleanDisk (state S.Store self.new.conn) → (db : Trees) → (state S.Store self.new.conn).may_leave db
+            → (db ≡ (state S.Store self.old.conn).now.trees) ⊎ IsSettledIn S.Store self.old db }
+    {
+        if self.pending.len() >= MOST_PENDING {
+            return self.settle_all();
+        }
+        self.ask_again()
+    }
+
+    // Holds the call behind the others.
+    fn hold(&mut self, entry: &Entry) -> Result<(), BookFault>
+        requires room { length self.old.pending < MOST_PENDING }
+        requires follows { IsHonest S.Store self.old → MayFollow (history_of S.Store self.old) self.old.terms entry.now }
+        ensures faults { Counts result self.old.faults self.new.faults }
+        ensures same_conn { self.new.conn ≡ self.old.conn }
+        ensures same_terms { self.new.terms ≡ self.old.terms }
+        ensures was_honest { IsHonest S.Store self.new → IsHonest S.Store self.old }
+        ensures ok { OnOk result (self.new.pending ≡ self.old.pending ++ entry.now ∷ []) }
+        ensures err { OnErr result (self.new.pending ≡ self.old.pending) }
+    {
+        let limit = self.settings.limit();
+        let held = hold_call(self.alloc, &mut self.index, &mut self.pending, limit, entry);
+        counted(&mut self.faults, held)
+    }
+
+    // The usage of a range, where no call is pending.
+    fn usage_settled(&mut self, range: &Range, day: u32) -> Result<Usage, BookFault>
+        requires none_pending { self.old.pending ≡ [] }
+        requires there { IsHonest S.Store self.old → Contains (ranges_of (history_of S.Store self.old)) range.now }
+        ensures faults { Counts result self.old.faults self.new.faults }
+        ensures keeps { Keeps (history_of S.Store) (λ b. b.terms) (IsHonest S.Store) self.old self.new }
+        ensures opened { HasCleanDisk (state S.Store self.new.conn) → OnOk result (IsTrue (state S.Store self.new.conn).is_open) }
+        ensures answer { IsHonest S.Store self.new → IfOk result (λ u. u ≡ usage_of (history_of S.Store self.old) range.now day self.old.terms.interval) }
+    {
+        let interval = self.settings.interval();
+        let day = self.index.day().max(day);
+        let found = usage_in(self.alloc, &mut self.conn, range, day, interval);
+        let answered = found.is_ok();
+        self.answered = answered;
+        counted(&mut self.faults, found)
+    }
 }
 
 impl<S: Alter> Book for SqlBook<S> {
-    ghost use Rattle.std.specs.Prelude.{◌⊎◌, ◌++◌, ◌∷◌, [], ◌<◌, ◌==◌, find, IfOk, IfSome, IsTrue, OnErr, OnOk, Contains};
+    ghost use Rattle.std.specs.Prelude.{◌⊎◌, ◌++◌, ◌∷◌, ◌<◌, ◌==◌, length, find, IfOk, IfSome, IsTrue, OnErr, OnOk, Contains};
     ghost use Rattle.sqlite.specs.State.{HasCleanDisk};
     ghost use Rattle.s10_wire.specs.Kind.{fits};
     ghost use Rattle.s10_history.specs.History.{entry_with_key, entry_at, ranges_of, is_closed, is_open_above, overlaps};
@@ -235,7 +332,7 @@ impl<S: Alter> Book for SqlBook<S> {
     ghost use Rattle.s10_history.specs.Usage.{usage_of};
     ghost use Rattle.s10_book.specs.Rules.{MayFollow};
     ghost use Rattle.s10_book.specs.Book.{Keeps};
-    ghost use Rattle.s10_ledger.specs.Ledger.{history_of, IsLonger};
+    ghost use Rattle.s10_ledger.specs.Ledger.{history_of, IsSettledIn};
     ghost use Rattle.sqlite_trees.specs.Tree.{Trees};
 
     ghost history = { history_of S.Store };
@@ -246,7 +343,7 @@ impl<S: Alter> Book for SqlBook<S> {
 
     ghost honest = { IsHonest S.Store };
 
-    ghost legal = { λ b h. h.ledger.legal };
+    ghost legal = { λ b h. h.legal };
 
     fn settings(&self) -> Settings {
         self.settings
@@ -388,12 +485,10 @@ impl<S: Alter> Book for SqlBook<S> {
         ensures opened { HasCleanDisk (state S.Store self.new.conn) → OnOk result (IsTrue (state S.Store self.new.conn).is_open) }
         ensures answer { IsHonest S.Store self.new → IfOk result (λ u. u ≡ usage_of (history_of S.Store self.old) range.now day self.old.terms.interval) }
     {
-        let interval = self.settings.interval();
-        let day = self.index.day().max(day);
-        let found = usage_in(self.alloc, &mut self.conn, range, day, interval);
-        let answered = found.is_ok();
-        self.answered = answered;
-        counted(&mut self.faults, found)
+        if let Err(fault) = self.settle_all() {
+            return Err(fault);
+        }
+        self.usage_settled(range, day)
     }
 
     fn keep(&mut self, entry: Entry) -> Result<(), BookFault>
@@ -403,14 +498,15 @@ impl<S: Alter> Book for SqlBook<S> {
         ensures same_terms { IsHonest S.Store self.new → self.new.terms ≡ self.old.terms }
         ensures opened { HasCleanDisk (state S.Store self.new.conn) → OnOk result (IsTrue (state S.Store self.new.conn).is_open) }
         ensures crash { IsHonest S.Store self.old → HasCleanDisk (state S.Store self.new.conn) → (db : Trees) → (state S.Store self.new.conn).may_leave db
-            → (db ≡ (state S.Store self.old.conn).now.trees) ⊎ IsLonger S.Store self.old entry db }
+            → (db ≡ (state S.Store self.old.conn).now.trees) ⊎ IsSettledIn S.Store self.old db }
         ensures ok { IsHonest S.Store self.new → OnOk result (history_of S.Store self.new ≡ history_of S.Store self.old ++ entry ∷ []) }
         ensures err { IsHonest S.Store self.new → OnErr result (history_of S.Store self.new ≡ history_of S.Store self.old) }
+        ensures unsettled { IsHonest S.Store self.new → length self.old.pending < MOST_PENDING
+            → OnOk result (((state S.Store self.new.conn).now ≡ (state S.Store self.old.conn).now) × (self.new.pending ≡ self.old.pending ++ entry ∷ [])) }
     {
-        let limit = self.settings.limit();
-        let kept = keep_followed(self.alloc, &mut self.conn, &mut self.index, limit, &entry);
-        let answered = kept.is_ok();
-        self.answered = answered;
-        counted(&mut self.faults, kept)
+        if let Err(fault) = self.make_room() {
+            return Err(fault);
+        }
+        self.hold(&entry)
     }
 }

@@ -1,17 +1,40 @@
-use Rattle.std.proofs.Common.{rules, length}
+use Rattle.std.proofs.Common.{rules, ◌∙◌, ap, length}
+use Rattle.sqlite.specs.Effect.{Database}
+use Rattle.sqlite.specs.Held.{state}
 use Rattle.s10_history.specs.History.{day_of}
 use Rattle.s10_ledger.specs.Ledger.{Ledger}
-use Rattle.s10_ledger.proofs.BookLemmas.{still_kept, still_indexed, if_answered, read_keeps}
+use Rattle.s10_ledger.specs.Pending.{settled_among}
+use Rattle.s10_ledger.proofs.BookLemmas.{schema_is, same_tables, if_answered, read_keeps}
+use Rattle.s10_ledger.proofs.PendingLemmas.{ledger_of, sound_after_read}
 use Rattle.s10_ledger.proofs.sql_book.SqlBook.ask_again.Goals as goal
 
 pub invariant_of-self : goal.invariant_of-self
 invariant_of-self g c =
-    (c.self.invariant.0, still_kept g.S.Store c.self.inside.conn c.ask-asked.new.conn c.self.inside.settings (length c.self.inside.index.entries.items) (day_of c.self.inside.index.entries.items) c.ask-asked.ensures.leaves c.self.invariant.2 c.self.invariant.1, c.ask-asked.ensures.leaves.settled c.self.invariant.2, still_indexed g.S.Store c.self.inside.conn c.ask-asked.new.conn c.self.inside.settings (length c.self.inside.index.entries.items) (day_of c.self.inside.index.entries.items) c.ask-asked.ensures.leaves c.self.invariant.2 c.self.invariant.1 c.self.inside.index c.self.invariant.3, λ so clean. if_answered c.ask-asked.result _ c.is_ok-answered.result c.is_ok-answered.ensures.value (c.ask-asked.ensures.opened clean) so)
+    sound_after_read g.S.Store c.self.inside.conn c.ask-asked.new.conn c.self.inside.settings c.self.inside.index c.self.inside.pending.items c.self.inside.answered c.is_ok-answered.result c.self.invariant
+    c.ask-asked.ensures.leaves (λ so clean. if_answered c.ask-asked.result _ c.is_ok-answered.result c.is_ok-answered.ensures.value (c.ask-asked.ensures.opened clean) so)
 
 pub returns-clause-keeps : goal.returns-clause-keeps
 returns-clause-keeps g c =
-    let old : Ledger g.row.S.Denot = record { conn = c.self.inside.conn; terms = c.self.inside.settings; len = (length c.self.inside.index.entries.items); day = (day_of c.self.inside.index.entries.items); faults = c.self.inside.faults } in
-    rw (← c.self.view_is) (read_keeps g.S.Store old c.ask-asked.new.conn c.counted.new.faults c.ask-asked.ensures.leaves c.self.invariant.2 c.self.invariant.1)
+    let old : Ledger g.row.S.Denot = ledger_of c.self.inside.conn c.self.inside.settings c.self.inside.index c.self.inside.pending.items c.self.inside.faults in
+    rw (← c.self.view_is) (read_keeps g.S.Store old c.ask-asked.new.conn c.counted.new.faults c.ask-asked.ensures.leaves c.self.invariant.settled c.self.invariant.ledger)
+
+pub returns-clause-same : goal.returns-clause-same
+returns-clause-same g c =
+    let kept = settled_among c.self.inside.pending.items c.self.inside.index.entries.items in
+    rw (← c.self.view_is) (λ honest. same_tables g.S.Store c.self.inside.conn c.ask-asked.new.conn c.self.inside.settings (length kept) (day_of kept) c.ask-asked.ensures.leaves c.self.invariant.settled c.self.invariant.ledger
+    honest.clean honest.is_open)
+
+pub returns-clause-spares : goal.returns-clause-spares
+returns-clause-spares g c = rw (← c.self.view_is) (λ honest clean db left.
+    let kept = settled_among c.self.inside.pending.items c.self.inside.index.entries.items in
+    let conn = c.self.inside.conn in
+    g.met.S.Store.settled conn.store db honest.is_open
+    (c.ask-asked.ensures.spares clean (schema_is (state g.S.Store conn).now c.self.inside.settings (length kept) (day_of kept) (c.self.invariant.ledger honest.clean honest.is_open)) db left)
+    ∙ ap (λ (d : Database). d.trees) (c.self.invariant.settled.committed honest.clean honest.is_open))
 
 pub returns-then-self-clause-opened : goal.returns-then-self-clause-opened
 returns-then-self-clause-opened g c = search rules
+
+pub returns-then-self-clause-spares : goal.returns-then-self-clause-spares
+returns-then-self-clause-spares g c = rw (← c.self.view_is) (λ honest clean db left.
+    g.met.S.Store.settled c.self.inside.conn.store db honest.is_open left ∙ ap (λ (d : Database). d.trees) (c.self.invariant.settled.committed honest.clean honest.is_open))

@@ -1,4 +1,8 @@
-use Rattle.std.proofs.Common.{rules, sym}
+use Rattle.std.proofs.Common.{rules, List, sym, subst}
+use Rattle.std.proofs.lemmas.List.{append-nil}
+use Rattle.s10_history.specs.declared.entry.Entry.{Entry}
+use Rattle.s10_book.specs.Rules.{IsLegal}
+use Rattle.s10_ledger.specs.Ledger.{history_in}
 use Rattle.sqlite.specs.Held.{state}
 use Rattle.s10_ledger.proofs.BookLemmas.{closed_is}
 use Rattle.s10_ledger.proofs.RefusalLemmas.{ledger_opens}
@@ -14,7 +18,9 @@ pub returns-in-Ok-clause-completed : goal.returns-in-Ok-clause-completed
 returns-in-Ok-clause-completed g c honest = closed_is (state g.S.Store c.over.result.conn).now c.over.result.terms c.over.result.len c.over.result.day honest.ledger
 
 pub returns-in-Ok-clause-honest : goal.returns-in-Ok-clause-honest
-returns-in-Ok-clause-honest g c = rw c.over.ensures (λ clean opened. record { clean = clean; is_open = opened; ledger = c.in-Ok.ensures.ledger clean opened })
+returns-in-Ok-clause-honest g c = rw c.over.ensures (λ clean opened.
+    let it = c.in-Ok.ensures.ledger clean opened in
+    record { clean = clean; is_open = opened; ledger = it; legal = subst (λ (h : List Entry). IsLegal h c.in-Ok.opened.settings) (sym (append-nil (history_in (state g.S.Store c.ledger_in.new.conn).now))) it.legal })
 
 pub returns-in-Ok-clause-found : goal.returns-in-Ok-clause-found
 returns-in-Ok-clause-found g c = rw c.over.ensures (λ honest. c.in-Ok.ensures.found honest.clean honest.is_open)

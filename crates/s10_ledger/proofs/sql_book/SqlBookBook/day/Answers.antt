@@ -1,8 +1,6 @@
-use Rattle.std.proofs.Common.{◌∙◌}
-use Rattle.std.proofs.Math.Logic.{∥∥₁_elim}
-use base.Stored.{Coded-set}
-use Rattle.std.specs.Coded.{coded_ℕ}
+use Rattle.std.proofs.Common.{◌∙◌, ap}
+use Rattle.s10_history.specs.History.{day_of}
 use Rattle.s10_ledger.proofs.sql_book.SqlBookBook.day.Goals as goal
 
 pub returns : goal.returns
-returns g c = rw (← c.self.view_is) (λ honest. c.day.ensures ∙ ∥∥₁_elim honest.ledger.held (Coded-set coded_ℕ _ _) (λ h. h.day_is))
+returns g c = rw (← c.self.view_is) (λ honest. c.day.ensures ∙ ap day_of (c.self.invariant.followed honest.clean honest.is_open).indexed.calls)

@@ -6,5 +6,5 @@ use Rattle.s10_ledger.proofs.sql_book.SqlBookBook.find.Goals as goal
 pub returns-clause-answer : goal.returns-clause-answer
 returns-clause-answer g c =
     let kept = rw (← c.self.view_is) at c.ask_again.ensures.keeps in
-    rw (← c.self.view_is) (λ honest. c.find.ensures.answer _ (c.self.invariant.3 honest.clean honest.is_open)
+    rw (← c.self.view_is) (λ honest. c.find.ensures.answer _ (c.self.invariant.followed honest.clean honest.is_open).indexed
     ∙ ap (λ (h : List Entry). entry_with_key h c.args.customer c.args.number) (kept.same_history honest))

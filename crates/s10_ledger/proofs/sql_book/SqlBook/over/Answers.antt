@@ -1,0 +1,7 @@
+use Rattle.std.proofs.Common.{true}
+use Rattle.s10_ledger.proofs.PendingLemmas.{sound_at_first}
+use Rattle.s10_ledger.proofs.sql_book.SqlBook.over.Goals as goal
+
+pub invariant_of-result : goal.invariant_of-result
+invariant_of-result g c =
+    sound_at_first g.S.Store c.args.conn c.args.settings c.args.index c.new.result.items true c.new.ensures.items c.requires.few c.requires.settled c.requires.opened c.requires.ledger c.requires.indexed
