@@ -1,28 +1,32 @@
--- A ledger that is honest after turns was so before them.
-use Rattle.std.proofs.Common.{ℕ, List, [], ◌∷◌, Option, Result, Ok, Err, inl, inr, subst}
+-- A ledger that is honest after rounds was so before them.
+use Rattle.std.proofs.Common.{◌≡◌, ◌≢◌, ℕ, List, [], ◌∷◌, Option, Result, refl, subst}
 use Rattle.s10_link.specs.declared.trace.Trace.{Trace}
-use Rattle.s10_link.specs.declared.link_fault.LinkFault.{LinkFault}
-use Rattle.s10_link.specs.declared.link_fault.LinkFault.TheVariants.{Bind, Receive, Send, Spent}
 use Rattle.s10_history.specs.declared.entry.Entry.{Entry}
+use Rattle.s10_book.specs.declared.book_fault.BookFault.{BookFault}
 use Rattle.s10_book.specs.declared.faults.Faults.{Faults}
 use Rattle.s10_history.specs.Settings.{Terms}
-use Rattle.s10_ends.specs.declared.server_turn.ServerTurn.{ServerTurn}
-use Rattle.s10_ends.specs.declared.server_turn.ServerTurn.TheVariants.{Quiet, Dropped, Faulted, Replied}
-use Rattle.s10_jobs.specs.Serving.{IsTurn, Lead}
+use Rattle.s10_ends.specs.declared.taken.Taken.{Taken}
+use Rattle.s10_ends.specs.Turn.{Turn, Handles, Settles}
+use Rattle.s10_ends.specs.Round.{TakesAll}
+use Rattle.s10_ends.specs.Round.TakesAll.{none, more}
+use Rattle.s10_jobs.specs.Serving.{IsRound, Lead}
 
-module _ {B : Type 0} (faults : B → Faults) (honest : B → Type 0) (terms : B → Terms) (history : B → List Entry) (given : Option ℕ) where
-  before_turn : (old new : Trace × B) (turn : Result ServerTurn LinkFault) → IsTurn faults honest terms history given old turn new → honest new.1 → honest old.1
-  before_turn old new (Ok Quiet) (day, is, (link, same)) kept = subst honest same kept
-  before_turn old new (Ok (Dropped from fault)) (day, is, (packet, link, handles)) kept = handles.was_honest kept
-  before_turn old new (Ok (Faulted from fault)) (day, is, (packet, link, handles)) kept = handles.was_honest kept
-  before_turn old new (Ok (Replied from frame)) (day, is, (packet, link, handles)) kept = handles.was_honest kept
-  before_turn old new (Err Receive) (day, is, (link, same)) kept = subst honest same kept
-  before_turn old new (Err Send) (day, is, (from, packet, frame, link, handles)) kept = handles.was_honest kept
-  before_turn old new (Err Spent) (day, is, inl (link, spent, same)) kept = subst honest same kept
-  before_turn old new (Err Spent) (day, is, inr (from, packet, frame, link, handles)) kept = handles.was_honest kept
-  before_turn old new (Err Bind) (day, is, never) kept = absurd never
+module _ {B : Type 0} (faults : B → Faults) (honest : B → Type 0) (terms : B → Terms) (history settled : B → List Entry) (given : Option ℕ) where
+  before_taking : (day : ℕ) (old new : Trace × B) (taken : List Taken) → TakesAll (λ before after b answer. Handles faults honest terms history before after day b answer) old taken new → honest new.1 → honest old.1
+  before_taking day old _ _ none kept = kept
+  before_taking day old new _ (more {between = between} takes took) kept = before_taking day old between _ takes (took.2.was_honest kept)
 
-  pub before_turns : (old new : Trace × B) (turns : List (Result ServerTurn LinkFault)) → Lead (IsTurn faults honest terms history given) old turns new → honest new.1 → honest old.1
+  before_settling : (between new : B) (taken : List Taken) (settling : Result (Unit {0}) BookFault)
+      → (taken ≢ [] → Settles faults honest terms history settled between new settling) → (taken ≡ [] → new ≡ between) → honest new → honest between
+  before_settling between new [] settling settles unasked kept = subst honest (unasked refl) kept
+  before_settling between new (first ∷ taken) settling settles unasked kept = (settles (λ wrong. absurd cc)).keeps.was_honest kept
+
+  before_round : (old new : Trace × B) (round : List Turn) → IsRound faults honest terms history settled given old round new → honest new.1 → honest old.1
+  before_round old new round (day, is, most, it) kept =
+      let between = before_settling it.between.1 new.1 it.taken it.answers.settling it.answers.settles it.answers.unasked kept in
+      before_taking day old it.takes.handled it.taken it.takes.takes (subst honest it.takes.same between)
+
+  pub before_rounds : (old new : Trace × B) (rounds : List (List Turn)) → Lead (IsRound faults honest terms history settled given) old rounds new → honest new.1 → honest old.1
   unfolding Lead
-  before_turns old new [] same kept = subst (λ (s : Trace × B). honest s.1) same kept
-  before_turns old new (turn ∷ turns) (next, step, rest) kept = before_turn old next turn step (before_turns next new turns rest kept)
+  before_rounds old new [] same kept = subst (λ (s : Trace × B). honest s.1) same kept
+  before_rounds old new (round ∷ rounds) (next, step, rest) kept = before_round old next round step (before_rounds next new rounds rest kept)

@@ -6,13 +6,13 @@ use Rattle.std.specs.Prelude.{IfOk, IfErr, IfSome, IsOk, codes}
 use Rattle.std.specs.Io.KnownBytes.{Appends}
 use Rattle.sqlite_disk.specs.declared.start.Start.{Ghosts}
 use Rattle.sqlite_wal.specs.Files.{image_at}
-use Rattle.sqlite.specs.Files.{file_state, over_files}
+use Rattle.sqlite.specs.Files.{over_files}
 use Rattle.s10_lines.specs.declared.write_fault.WriteFault.{WriteFault}
 use Rattle.s10_lines.specs.Lines.{line_of}
 use Rattle.s10_link.specs.Trace.{new_trace}
 use Rattle.s10_ends.specs.UdpLink.{BoundLink}
 use Rattle.s10_book.specs.Book.{Keeps}
-use Rattle.s10_ledger.specs.Ledger.{IsHonest, history_in}
+use Rattle.s10_ledger.specs.Ledger.{IsHonest, history_of, settled_of}
 use Rattle.s10_rows.specs.declared.open_fault.OpenFault.{OpenFault}
 use Rattle.s10_rows.specs.declared.open_fault.OpenFault.TheVariants.{Store}
 use Rattle.s10_jobs.specs.declared.job_status.JobStatus.{JobStatus}
@@ -25,7 +25,7 @@ use Rattle.s10_host.specs.declared.looped.Looped.{Looped}
 use Rattle.s10_sockets.specs.Unbound.{IsUnbound}
 use Rattle.s10_host.specs.Files.{FileLedger, ClosedFiles, PutsAway, WhereClean, IsFoundBook, IsNotOpened}
 use Rattle.s10_host.specs.Jobs.{ledger_line, FailsByLedger, IsAskedFor, Turns, IsServed, IsLost, IsUnlinked, Writes, IsReported, IsReportedAndLost, HasServed, HasReported, HasEnded}
-use Rattle.s10_host.proofs.Backwards.{before_turns}
+use Rattle.s10_host.proofs.Backwards.{before_rounds}
 
 -- of a fault that was written
 pub fails_by : (IsFault : OpenFault → Type 0) (fault : OpenFault) (old new : Option (List ℕ)) (r : Result JobStatus WriteFault) → IsFault fault
@@ -68,8 +68,8 @@ module _ (S : RattleType) (first : Ghosts S.Denot) where
   was_honest : (day : Option ℕ) (count : ℕ) (old new : Option (List ℕ)) (opened after : FileLedger S first) (result : Result JobStatus WriteFault) (link : BoundLink)
       → Turns S first day count opened after old new result link → IsHonest over_files after → IsHonest over_files opened
   was_honest day count old new opened after result link turns =
-      before_turns (λ (b : FileLedger S first). b.faults) (IsHonest over_files) (λ b. b.terms) (λ b. history_in (file_state b.conn).now) day
-      (new_trace, opened) (link.trace, after) turns.turns turns.lead
+      before_rounds (λ (b : FileLedger S first). b.faults) (IsHonest over_files) (λ b. b.terms) (history_of over_files) (settled_of over_files) day
+      (new_trace, opened) (link.trace, after) turns.rounds turns.lead
 
   pub served_away : (day : Option ℕ) (count : ℕ) (old new last : Option (List ℕ)) (opened after : FileLedger S first) (done result : Result JobStatus WriteFault)
       (put : Result (ClosedFiles S first) OpenFault) (files : Option (ClosedFiles S first)) (link : Option BoundLink)
@@ -131,7 +131,7 @@ module _ (S : RattleType) (first : Ghosts S.Denot) where
 
   pub reported_away : (old new last : Option (List ℕ)) (report : Report) (opened after : FileLedger S first) (done result : Result JobStatus WriteFault)
       (put : Result (ClosedFiles S first) OpenFault) (files : Option (ClosedFiles S first))
-      → Keeps (λ (b : FileLedger S first). history_in (file_state b.conn).now) (λ b. b.terms) (IsHonest over_files) opened after
+      → Keeps (λ (b : FileLedger S first). history_of over_files b) (λ b. b.terms) (IsHonest over_files) opened after
       → Writes S first report opened after old new done
       → IfOk put (PutsAway after) → Kept put done result new last files → IfSome files (IsReported S first opened report old last result)
   reported_away old new last report opened after done result put None keeps written away kept = tt

@@ -1,5 +1,6 @@
 -- What a loop leaves behind it.
-use Rattle.std.proofs.Common.{◌≡◌, sym, ap, subst, ℕ, List, [], Option, Result, Ok, Err}
+use Rattle.std.proofs.Common.{◌≡◌, sym, ap, subst, ℕ, List, [], ◌∷◌, ◌++◌, length, length-append, Option, Result, Ok, Err, arith}
+use Rattle.std.proofs.lemmas.List.{nil_from_length}
 use Rattle.std.specs.Prelude.{IfOk}
 use Rattle.sqlite_trees.specs.declared.memory.MemStore.{MemStore}
 use Rattle.sqlite.specs.Held.{Held, state}
@@ -11,11 +12,12 @@ use Rattle.s10_link.specs.Link.{LeadsTo}
 use Rattle.s10_link.specs.Trace.{new_trace}
 use Rattle.s10_history.specs.declared.entry.Entry.{Entry}
 use Rattle.s10_history.specs.Settings.{Terms}
-use Rattle.s10_ledger.specs.Ledger.{Ledger, IsHonest, history_in, history_of}
+use Rattle.s10_book.specs.BookFault.{no_faults}
+use Rattle.s10_ledger.specs.Ledger.{Ledger, IsHonest, history_in, history_of, settled_of}
 use Rattle.s10_ends.specs.UdpLink.{BoundLink}
 use Rattle.s10_ends.specs.Server.{book_of}
 use Rattle.s10_ends.specs.NearLink.{ServedOn}
-use Rattle.s10_ends.proofs.Near.{LedOn, near_led}
+use Rattle.s10_ends.proofs.Near.{LedOn, Whole, near_led, near_whole}
 use Rattle.s10_jobs.specs.declared.job_status.JobStatus.{JobStatus}
 use Rattle.s10_jobs.specs.Shown.{Prints}
 use Rattle.s10_sockets.specs.LoopCalls.{loop_calls, AreMadeInTurn}
@@ -26,12 +28,31 @@ use Rattle.s10_host.specs.Looped.{LoopLink, IsLoopStep, IsNewLoop, IsLeftOfLoop,
 served_over : (day : ℕ) (begun ended : LoopLink) → IsNewLoop day begun → LeadsTo IsLoopStep begun ended → IsHonest over_memory (book_of ended.server)
     → ServedOn day [] loop_terms (history_of over_memory (book_of ended.server))
 served_over day begun ended fresh led honest =
-    let on : LedOn (λ (b : Ledger MemStore). b.faults) (IsHonest over_memory) (λ b. b.terms) (λ b. history_of over_memory b) (λ (l : BoundLink). l.trace) (λ (l : BoundLink). l.trace) begun.day (book_of begun.server) (book_of ended.server) =
-    near_led (λ (b : Ledger MemStore). b.faults) (IsHonest over_memory) (λ b. b.terms) (λ b. history_of over_memory b) (λ (l : BoundLink). l.trace) (λ (l : BoundLink). l.trace) begun ended led in
+    let on : LedOn (λ (b : Ledger MemStore). b.faults) (IsHonest over_memory) (λ b. b.terms) (history_of over_memory) (settled_of over_memory) (λ (l : BoundLink). l.trace) (λ (l : BoundLink). l.trace) begun.day (book_of begun.server) (book_of ended.server) =
+    near_led (λ (b : Ledger MemStore). b.faults) (IsHonest over_memory) (λ b. b.terms) (history_of over_memory) (settled_of over_memory) (λ (l : BoundLink). l.trace) (λ (l : BoundLink). l.trace) begun ended led in
     let last : List Entry = history_of over_memory (book_of ended.server) in
     subst (λ (d : ℕ). ServedOn d [] loop_terms last) fresh.on_day
     (subst (λ (t : Terms). ServedOn begun.day [] t last) fresh.terms
     (subst (λ (h : List Entry). ServedOn begun.day h (book_of begun.server).terms last) fresh.empty (on.served honest)))
+
+-- a part that is all of a list leaves nothing
+all_of : {X : Type 0} (xs ys : List X) → xs ≡ xs ++ ys → ys ≡ []
+all_of xs ys is = nil_from_length ys (omega (arith, ap length is, length-append xs ys))
+
+of_none : {X : Type 0} (xs ys : List X) → xs ++ ys ≡ [] → xs ≡ xs ++ ys
+of_none [] ys is = sym is
+of_none (x ∷ xs) ys is = absurd cc
+
+-- with no fault none of its calls is left unsettled
+whole_over : (day : ℕ) (begun ended : LoopLink) → IsNewLoop day begun → LeadsTo IsLoopStep begun ended → IsHonest over_memory (book_of ended.server)
+    → (book_of ended.server).faults ≡ no_faults → (book_of ended.server).pending ≡ []
+whole_over day begun ended fresh led honest faultless =
+    let first : Ledger MemStore = book_of begun.server in
+    let last : Ledger MemStore = book_of ended.server in
+    let whole : Whole (λ (b : Ledger MemStore). b.faults) (IsHonest over_memory) (λ b. b.terms) (history_of over_memory) (settled_of over_memory) (λ (l : BoundLink). l.trace) (λ (l : BoundLink). l.trace) last =
+    near_whole (λ (b : Ledger MemStore). b.faults) (IsHonest over_memory) (λ b. b.terms) (history_of over_memory) (settled_of over_memory) (λ (l : BoundLink). l.trace) (λ (l : BoundLink). l.trace) begun ended led
+    (λ h none. of_none (settled_of over_memory first) first.pending fresh.empty) in
+    all_of (settled_of over_memory last) last.pending (whole honest faultless)
 
 asked_over : (to : Peer) (u v : Option (List ℕ)) (r : Result JobStatus WriteFault) (begun ended : Trace) (first last : Trace) → begun ≡ first → ended ≡ last
     → IfOk r (λ status. Prints u v (AreMadeInTurn to loop_calls begun ended status))
@@ -50,6 +71,8 @@ looped_over to day begun ended looped u v r fresh led left asked = record {
   ended = ended;
   led = led;
   left = left;
-  served = subst (λ (c : Held MemStore). ServedOn day [] loop_terms (history_in (state over_memory c).now)) (sym left.closed) (served_over day begun ended fresh led left.honest);
+  unsettled = (book_of ended.server).pending;
+  served = subst (λ (c : Held MemStore). ServedOn day [] loop_terms (history_in (state over_memory c).now ++ (book_of ended.server).pending)) (sym left.closed) (served_over day begun ended fresh led left.honest);
+  whole = whole_over day begun ended fresh led left.honest;
   asked = asked_over to u v r begun.near.trace ended.near.trace new_trace looped.near.trace fresh.near (ap (λ (l : BoundLink). l.trace) (sym left.near)) asked;
 }

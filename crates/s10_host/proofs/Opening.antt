@@ -1,27 +1,29 @@
 -- What a book says of the files that it was made in or opened from.
 use denote.RattleType.{RattleType}
-use Rattle.std.proofs.Common.{◌≡◌, ◌≤◌, ◌∙◌, inr, ap, sym, subst, arith, Result, Ok, Err}
+use Rattle.std.proofs.Common.{◌≡◌, ◌≤◌, ◌∙◌, inr, ap, sym, subst, arith, List, ◌++◌, append-nil, Result, Ok, Err}
 use Rattle.std.specs.Prelude.{IfOk, IfErr, IsErrAnd, IsTrue, []}
 use Rattle.std.proofs.lemmas.Result.{IfOk-weaker}
 use Rattle.sqlite_disk.specs.declared.Disk.{Ghosts}
 use Rattle.sqlite_disk.specs.declared.Files.{Files}
 use Rattle.sqlite_wal.specs.Recovery.{Image}
 use Rattle.sqlite_wal.specs.Reads.{AreClean}
+use Rattle.sqlite_trees.specs.declared.store.Store as store
 use Rattle.sqlite_trees.specs.View.{doubt}
 use Rattle.sqlite_trees.proofs.Doubt.{no_doubt}
 use Rattle.sqlite_pool.proofs.StateLemmas.{clean_is}
 use Rattle.sqlite_store.specs.declared.store.FileStore.{FileStore}
 use Rattle.sqlite_store.specs.FileStore.{view, files as store_files}
 use Rattle.sqlite.specs.Effect.{Database}
-use Rattle.sqlite.specs.Held.{Held}
+use Rattle.sqlite.specs.Held.{Held, state}
 use Rattle.sqlite_disk.specs.declared.start.Start as start
 use Rattle.sqlite_wal.specs.Files.{image_at}
 use Rattle.sqlite.specs.Files.{file_state, over_files, AreFoundIn}
 use Rattle.sqlite.specs.Closing.{IsCopied}
 use Rattle.s10_book.specs.BookFault.{no_faults}
+use Rattle.s10_history.specs.declared.entry.Entry.{Entry}
 use Rattle.s10_history.specs.Settings.{Terms}
 use Rattle.s10_schema.specs.Schema.{IsClosedSchema}
-use Rattle.s10_ledger.specs.Ledger.{Ledger, IsLedger, IsAnyLedger, IsHonest, history_in}
+use Rattle.s10_ledger.specs.Ledger.{Ledger, IsAnyLedger, IsHonest, history_in, history_of}
 use Rattle.s10_statements.specs.Settled.{IsClean, IsOpen, WasSound}
 use Rattle.s10_rows.specs.declared.open_fault.OpenFault.{OpenFault}
 use Rattle.s10_ledger.specs.Refusals.{IsOpeningRefusal}
@@ -67,11 +69,17 @@ module _ (S : RattleType) (first : start.Ghosts S.Denot) where
       if_err_weaker _ (IsNotOpened S first) kept (λ fault refused. inr (inr (record { was = was; found = found; left = left refused.0; refusal = refused.1 })))
       (each_passed_on made kept fault_in (λ refusal fault. IsClean over_files (left refusal) → IsOpen over_files (left refusal) → IsOpeningRefusal (file_state was).now fault) says is)
 
+-- a book of which no call is pending has the history that its tables hold
+pub none_pending : {S E : Type 0} (g : store.Ghosts S) (made : Result (Ledger S) E) (h : List Entry)
+    → IfOk made (λ book. book.pending ≡ []) → IfOk made (λ book. IsHonest g book → history_in (state g book.conn).now ≡ h) → IfOk made (λ book. IsHonest g book → history_of g book ≡ h)
+none_pending g (Ok book) h none is = λ honest. ap (λ (p : List Entry). history_in (state g book.conn).now ++ p) none ∙ append-nil _ ∙ is honest
+none_pending g (Err e) h none is = tt
+
 module _ {D : Type 0} {g : Ghosts D} where
   pub kept_empty : {E F : Type 0} (made : Result (Ledger (FileStore D g)) E) (kept : Result (Ledger (FileStore D g)) F)
       → IfOk made (λ book. IsClean over_files book.conn → IsOpen over_files book.conn)
       → IfOk made (λ book. IsClean over_files book.conn → IsOpen over_files book.conn → IsHonest over_files book)
-      → IfOk made (λ book. IsHonest over_files book → history_in (file_state book.conn).now ≡ [])
+      → IfOk made (λ book. IsHonest over_files book → history_of over_files book ≡ [])
       → IfOk kept (λ book. made ≡ Ok book) → IfOk kept (WhereClean IsEmptyBook)
   kept_empty made kept opened honest empty is =
       kept_with_three _ _ _ (WhereClean IsEmptyBook)
@@ -88,7 +96,7 @@ module _ {D : Type 0} {g : Ghosts D} where
     pub honest : IsClean over_files book.conn → IsOpen over_files book.conn → IsHonest over_files book
     pub found : IsHonest over_files book → IsAnyLedger (file_state was).now book.terms book.len book.day
     pub same : IsHonest over_files book → IsClosedSchema (file_state was).now.schema → (file_state book.conn).now ≡ (file_state was).now
-    pub history : IsHonest over_files book → history_in (file_state book.conn).now ≡ history_in (file_state was).now
+    pub history : IsHonest over_files book → history_of over_files book ≡ history_in (file_state was).now
     pub sound : WasSound over_files was book.conn
 
   found_book : (held : Image) (was : Held (FileStore D g)) (book : Ledger (FileStore D g)) → IsFoundIn held was → Opening was book → WhereClean (IsFoundBook held) book
@@ -112,7 +120,7 @@ module _ {D : Type 0} {g : Ghosts D} where
       → IfOk opened (λ book. IsClean over_files book.conn → IsOpen over_files book.conn → IsHonest over_files book)
       → IfOk opened (λ book. IsHonest over_files book → IsAnyLedger (file_state was).now book.terms book.len book.day)
       → IfOk opened (λ book. IsHonest over_files book → IsClosedSchema (file_state was).now.schema → (file_state book.conn).now ≡ (file_state was).now)
-      → IfOk opened (λ book. IsHonest over_files book → history_in (file_state book.conn).now ≡ history_in (file_state was).now)
+      → IfOk opened (λ book. IsHonest over_files book → history_of over_files book ≡ history_in (file_state was).now)
       → IfOk opened (λ book. WasSound over_files was book.conn) → IfOk opened (Opening was)
   all_of was (Ok book) opened honest found same history sound = record { opened = opened; honest = honest; found = found; same = same; history = history; sound = sound }
   all_of was (Err e) opened honest found same history sound = tt
@@ -123,7 +131,7 @@ module _ {D : Type 0} {g : Ghosts D} where
       → IfOk opened (λ book. IsClean over_files book.conn → IsOpen over_files book.conn → IsHonest over_files book)
       → IfOk opened (λ book. IsHonest over_files book → IsAnyLedger (file_state was).now book.terms book.len book.day)
       → IfOk opened (λ book. IsHonest over_files book → IsClosedSchema (file_state was).now.schema → (file_state book.conn).now ≡ (file_state was).now)
-      → IfOk opened (λ book. IsHonest over_files book → history_in (file_state book.conn).now ≡ history_in (file_state was).now)
+      → IfOk opened (λ book. IsHonest over_files book → history_of over_files book ≡ history_in (file_state was).now)
       → IfOk opened (λ book. WasSound over_files was book.conn)
       → IfOk kept (λ book. opened ≡ Ok book) → IfOk kept (WhereClean (IsFoundBook held))
   kept_found held was opened kept first live honest found same history sound is =
@@ -133,27 +141,23 @@ module _ {D : Type 0} {g : Ghosts D} where
   -- a connection whose last commit the files hold showed a ledger of which what was true is true of the book
   pub put_away : (book : Ledger (FileStore D g)) (closed : Held (FileStore D g)) (files : Files D) → closed ≡ book.conn → Copies closed files
       → (IsClean over_files closed → IsOpen over_files closed → (file_state closed).committed ≡ (file_state closed).now)
-      → (IsClean over_files closed → IsOpen over_files closed → IsLedger (file_state closed).now book.terms book.len book.day)
+      → (IsClean over_files closed → IsOpen over_files closed → IsHonest over_files book)
       → PutsAway book files
-  put_away book closed files same copies committed ledger clean =
+  put_away book closed files same copies committed honest clean =
       let copied = copies clean in
       let here = subst (λ conn. IsCopied conn files) same copied in
       record {
-        honest = record {
-          clean = here.was_clean;
-          is_open = here.was_open;
-          ledger = subst (λ conn. IsLedger (file_state conn).now book.terms book.len book.day) same (ledger copied.was_clean copied.was_open);
-        };
+        honest = honest copied.was_clean copied.was_open;
         settled = subst (λ conn. (file_state conn).committed ≡ (file_state conn).now) same (committed copied.was_clean copied.was_open);
         copied = here;
       }
 
   pub closed_away : {E : Type 0} (book : Ledger (FileStore D g)) (closed : Held (FileStore D g)) (made : Result (Files D) E) → closed ≡ book.conn → IfOk made (Copies closed)
       → (IsClean over_files closed → IsOpen over_files closed → (file_state closed).committed ≡ (file_state closed).now)
-      → (IsClean over_files closed → IsOpen over_files closed → IsLedger (file_state closed).now book.terms book.len book.day)
+      → (IsClean over_files closed → IsOpen over_files closed → IsHonest over_files book)
       → IfOk made (PutsAway book)
-  closed_away book closed made same copies committed ledger =
-      IfOk-weaker made (Copies closed) (PutsAway book) (λ files copies. put_away book closed files same copies committed ledger) copies
+  closed_away book closed made same copies committed honest =
+      IfOk-weaker made (Copies closed) (PutsAway book) (λ files copies. put_away book closed files same copies committed honest) copies
 
   -- files are as clean as the store that gave them back, and that one as the connection before
   pub left_clean : (c : Held (FileStore D g)) (store : FileStore D g) (files : Files D)

@@ -20,7 +20,7 @@ use Rattle.sqlite.specs.Files.{file_state, over_files, HoldsDatabase, AreFoundIn
 use Rattle.sqlite.specs.Start.{FindsIn}
 use Rattle.sqlite.specs.Closing.{IsCopied}
 use Rattle.s10_schema.specs.Schema.{IsClosedSchema}
-use Rattle.s10_ledger.specs.Ledger.{Ledger, IsAnyLedger, IsHonest, history_in}
+use Rattle.s10_ledger.specs.Ledger.{Ledger, IsAnyLedger, IsHonest, history_in, history_of}
 use Rattle.s10_rows.specs.declared.open_fault.OpenFault.{OpenFault}
 use Rattle.s10_rows.specs.declared.open_fault.OpenFault.TheVariants.{NotALedger, Memory, Store}
 use Rattle.s10_ledger.specs.Refusals.{IsOpeningRefusal}
@@ -43,7 +43,7 @@ module _ {D : Type 0} {g : Ghosts D} where
   -- a ledger with no call
   pub record IsEmptyBook (book : Ledger (FileStore D g)) : Type 0 where
     pub honest : IsHonest over_files book
-    pub empty : history_in (file_state book.conn).now ≡ []
+    pub empty : history_of over_files book ≡ []
 
   -- a ledger over the database that the files held, which is a ledger as it was found. It shows the same database, or that of an
   -- earlier build completed, with the history of that
@@ -56,7 +56,7 @@ module _ {D : Type 0} {g : Ghosts D} where
     pub reads : AreFoundIn held (file_state was).now.trees
     pub found : IsAnyLedger (file_state was).now book.terms book.len book.day
     pub same : IsClosedSchema (file_state was).now.schema → (file_state book.conn).now ≡ (file_state was).now
-    pub history : history_in (file_state book.conn).now ≡ history_in (file_state was).now
+    pub history : history_of over_files book ≡ history_in (file_state was).now
 
   -- the last commit is in the database file, where both files kept what they were given
   abbrev pub Copies : Held (FileStore D g) → Files D → Type 0

@@ -4,14 +4,14 @@ use Rattle.std.specs.Prelude.{◌≡◌, ◌⊎◌, ℕ, Bool, true, false, List
 use Rattle.std.specs.Io.KnownBytes.{Appends}
 use Rattle.sqlite_disk.specs.declared.start.Start.{Ghosts}
 use Rattle.sqlite_wal.specs.Files.{image_at}
-use Rattle.sqlite.specs.Files.{file_state, over_files}
+use Rattle.sqlite.specs.Files.{over_files}
 use Rattle.s10_link.specs.Trace.{new_trace}
 use Rattle.s10_ends.specs.UdpLink.{BoundLink}
 use Rattle.s10_lines.specs.declared.write_fault.WriteFault.{WriteFault}
 use Rattle.s10_lines.specs.Lines.{line_of}
 use Rattle.s10_history.specs.Settings.{Terms}
 use Rattle.s10_book.specs.Book.{Keeps}
-use Rattle.s10_ledger.specs.Ledger.{IsHonest, history_in}
+use Rattle.s10_ledger.specs.Ledger.{IsHonest, history_of, settled_of}
 use Rattle.s10_rows.specs.declared.open_fault.OpenFault.{OpenFault}
 use Rattle.s10_rows.specs.declared.open_fault.OpenFault.TheVariants.{Store}
 use Rattle.s10_jobs.specs.declared.job_status.JobStatus.{JobStatus}
@@ -26,7 +26,7 @@ use Rattle.s10_jobs.specs.declared.reporting.Report.{Report}
 use Rattle.s10_jobs.specs.declared.reporting.Report.TheVariants.{Ranges, Issues}
 use Rattle.s10_host.specs.Audited.{HasFound, audit_line, audit_status}
 use Rattle.s10_jobs.specs.Reporting.{report_lines, PrintsReport}
-use Rattle.s10_jobs.specs.Serving.{IsDay, IsTurn, Serves}
+use Rattle.s10_jobs.specs.Serving.{IsDay, IsRound, Serves}
 use Rattle.s10_sockets.specs.Questioning.{IsAsked, IsUnasked}
 use Rattle.s10_host.specs.declared.looped.Looped.{Looped}
 use Rattle.s10_host.specs.Looped.{HasLooped}
@@ -77,7 +77,7 @@ module _ (S : RattleType) (first : Ghosts S.Denot) where
   -- the turns on a new link, and their lines
   abbrev pub Turns : Option ℕ → ℕ → FileLedger S first → FileLedger S first → Option (List ℕ) → Option (List ℕ) → Result JobStatus WriteFault → BoundLink → Type 0
   Turns day count opened served old new result link =
-      Serves (IsTurn (λ (b : FileLedger S first). b.faults) (IsHonest over_files) (λ b. b.terms) (λ b. history_in (file_state b.conn).now) day)
+      Serves (IsRound (λ (b : FileLedger S first). b.faults) (IsHonest over_files) (λ b. b.terms) (history_of over_files) (settled_of over_files) day)
       (new_trace, opened) (link.trace, served) old new count result
 
   -- the ledger was served in turns, which are all that this link carried, and put away in these files
@@ -119,13 +119,13 @@ module _ (S : RattleType) (first : Ghosts S.Denot) where
   -- the report of the ledger's history was written, as far as the book and the writer went
   abbrev pub Writes : Report → FileLedger S first → FileLedger S first → Option (List ℕ) → Option (List ℕ) → Result JobStatus WriteFault → Type 0
   Writes report opened reported old new result =
-      IsHonest over_files reported → IfOk result (PrintsReport opened.faults reported.faults old new (report_lines report (history_in (file_state opened.conn).now) opened.terms))
+      IsHonest over_files reported → IfOk result (PrintsReport opened.faults reported.faults old new (report_lines report (history_of over_files opened) opened.terms))
 
   -- and the ledger was put away in these files
   pub record IsReported (opened : FileLedger S first) (report : Report) (old new : Option (List ℕ)) (result : Result JobStatus WriteFault) (files : ClosedFiles S first) : Type 0 where
     pub reported : FileLedger S first
     pub written : Writes report opened reported old new result
-    pub keeps : Keeps (λ (b : FileLedger S first). history_in (file_state b.conn).now) (λ b. b.terms) (IsHonest over_files) opened reported
+    pub keeps : Keeps (λ (b : FileLedger S first). history_of over_files b) (λ b. b.terms) (IsHonest over_files) opened reported
     pub away : PutsAway reported files
 
   -- or it could not be put away

@@ -1,5 +1,5 @@
 -- What `loop` does over a ledger in memory, and what it leaves behind it.
-use Rattle.std.specs.Prelude.{◌≡◌, ◌⊎◌, ℕ, List, [], ◌∷◌, codes, Option, None, Result, IfOk, IfSome}
+use Rattle.std.specs.Prelude.{◌≡◌, ◌⊎◌, ℕ, List, [], ◌∷◌, ◌++◌, codes, Option, None, Result, IfOk, IfSome}
 use Rattle.sqlite_trees.specs.declared.memory.MemStore.{MemStore}
 use Rattle.sqlite.specs.Held.{state}
 use Rattle.sqlite.specs.Steps.{over_memory}
@@ -8,8 +8,10 @@ use Rattle.s10_lines.specs.Lines.{line_of}
 use Rattle.s10_link.specs.declared.peer.Peer.{Peer}
 use Rattle.s10_link.specs.Trace.{new_trace}
 use Rattle.s10_link.specs.Link.{LeadsTo}
+use Rattle.s10_history.specs.declared.entry.Entry.{Entry}
 use Rattle.s10_history.specs.Settings.{Terms}
-use Rattle.s10_ledger.specs.Ledger.{Ledger, IsHonest, history_in, history_of}
+use Rattle.s10_book.specs.BookFault.{no_faults}
+use Rattle.s10_ledger.specs.Ledger.{Ledger, IsHonest, history_in, history_of, settled_of}
 use Rattle.s10_ends.specs.UdpLink.{BoundLink}
 use Rattle.s10_ends.specs.declared.near_link.NearLink.{NearLink}
 use Rattle.s10_ends.specs.Server.{book_of}
@@ -37,7 +39,7 @@ loop_terms = record { interval = 30; limit = 100 }
 
 -- how a call changes it
 abbrev pub IsLoopStep : LoopLink → LoopLink → Type 0
-IsLoopStep = IsNearStep (λ (b : Ledger MemStore). b.faults) (IsHonest over_memory) (λ b. b.terms) (λ b. history_of over_memory b) (λ (l : BoundLink). l.trace) (λ (l : BoundLink). l.trace)
+IsLoopStep = IsNearStep (λ (b : Ledger MemStore). b.faults) (IsHonest over_memory) (λ b. b.terms) (history_of over_memory) (settled_of over_memory) (λ (l : BoundLink). l.trace) (λ (l : BoundLink). l.trace)
 
 -- it carried nothing, and its ledger is empty
 pub record IsNewLoop (day : ℕ) (link : LoopLink) : Type 0 where
@@ -54,7 +56,8 @@ pub record IsLeftOfLoop (link : LoopLink) (looped : Looped) : Type 0 where
   pub far : looped.far ≡ link.far
   pub near : looped.near ≡ link.near
 
--- the calls are all that a new link carried, of which this is left: what was served on the day is the history of the ledger; where
+-- the calls are all that a new link carried, of which this is left: what was served on the day is the history of the ledger, but for
+-- calls that could not be settled, of which there are none where it had no fault; where
 -- the writer did not fail the lines of the calls were written
 pub record IsLooped (day : ℕ) (old new : Option (List ℕ)) (result : Result JobStatus WriteFault) (looped : Looped) : Type 0 where
   pub begun : LoopLink
@@ -62,7 +65,9 @@ pub record IsLooped (day : ℕ) (old new : Option (List ℕ)) (result : Result J
   pub ended : LoopLink
   pub led : LeadsTo IsLoopStep begun ended
   pub left : IsLeftOfLoop ended looped
-  pub served : ServedOn day [] loop_terms (history_in (state over_memory looped.connection).now)
+  pub unsettled : List Entry
+  pub served : ServedOn day [] loop_terms (history_in (state over_memory looped.connection).now ++ unsettled)
+  pub whole : (book_of ended.server).faults ≡ no_faults → unsettled ≡ []
   pub asked : IfOk result (λ status. (to : Peer) × Prints old new (AreMadeInTurn to loop_calls new_trace looped.near.trace status))
 
 -- so were they, or the line says why nothing was asked

@@ -183,7 +183,7 @@ fn serve_book<S: Start, W: Write>(
     ensures lost { IfSome result.1.link (λ link. result.1.files ≡ None → IsLost S.row S.Start book day count (W.contents out.old) (W.contents out.new) result.0 link) }
     ensures unlinked { result.1.link ≡ None → IsUnlinked S.row S.Start book (W.contents out.old) (W.contents out.new) result.0 result.1.files }
 {
-    let (served, link, book) = serve_at(rt, at, book, count, day, out);
+    let (served, link, book) = serve_at(rt, rt.alloc(), at, book, count, day, out);
     let closed = close_book(rt, ledger, book);
     let (done, files) = ended(served, closed, out);
     (

@@ -27,7 +27,7 @@ fn is_served_at<R: Net + Clock + Eprint + AllocGlobal>(
     let settings = Settings::new(30, 2).ok_or("settings")?;
     let book = PlainBook::new(rt.alloc(), settings);
     let mut out = Vec::new(rt.alloc());
-    let (served, _link, _book) = serve_at(rt, at, book, count, Some(20_000), &mut out);
+    let (served, _link, _book) = serve_at(rt, rt.alloc(), at, book, count, Some(20_000), &mut out);
     Ok(served == Ok(status) && out.as_slice() == text.as_bytes())
 }
 

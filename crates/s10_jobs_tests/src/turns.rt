@@ -93,10 +93,12 @@ fn new_server(alloc: Global) -> Result<Server<PlainBook>, Fail> {
     Ok(Server::new(PlainBook::new(alloc, settings)))
 }
 
-/// What came: a request, nothing, a failure, bytes that ask nothing, a repeat and one too many.
-fn seven_receipts(alloc: Global) -> Result<Vec<Receipt>, Fail> {
+/// What came: a request and nothing with it, nothing, a failure, and together bytes that ask nothing, a draw, its repeat and
+/// one too many.
+fn receipts_of_seven(alloc: Global) -> Result<Vec<Receipt>, Fail> {
     Ok(vec![in alloc;
         Receipt::Deliver(PEER, Packet::new(GRANT)),
+        Receipt::Nothing,
         Receipt::Nothing,
         Receipt::Fail,
         Receipt::Deliver(PEER, Packet::new(b"S1")),
@@ -141,7 +143,7 @@ impl Write for Flushed {
 struct Expected<'a> {
     status: Result<JobStatus, WriteFault>,
     lines: &'a str,
-    /// How many whole lines were flushed.
+    /// How often whole lines were flushed.
     flushed: u32,
     /// How many calls the book has then.
     calls: u32,
@@ -150,6 +152,7 @@ struct Expected<'a> {
 /// Whether so many turns of a server on the link come to this.
 fn come_to<R: Clock + Eprint>(
     rt: &R,
+    alloc: Global,
     server: &mut Server<PlainBook>,
     link: &mut ScriptLink,
     count: u32,
@@ -157,7 +160,7 @@ fn come_to<R: Clock + Eprint>(
     out: &mut Flushed,
     expected: Expected<'_>,
 ) -> bool {
-    let served = serve_turns(rt, server, link, count, day, out);
+    let served = serve_turns(rt, alloc, server, link, count, day, out);
     served == expected.status
         && out.bytes.as_slice() == expected.lines.as_bytes()
         && out.lines == expected.flushed
@@ -179,7 +182,16 @@ fn are_served<R: Clock + Eprint>(
         bytes: Vec::new(alloc),
         lines: 0,
     };
-    let come_to_lines = come_to(rt, &mut server, &mut link, count, day, &mut out, expected);
+    let come_to_lines = come_to(
+        rt,
+        alloc,
+        &mut server,
+        &mut link,
+        count,
+        day,
+        &mut out,
+        expected,
+    );
     Ok(come_to_lines && server.book().len() == expected.calls)
 }
 
@@ -194,25 +206,25 @@ fn first_lines(alloc: Global, count: u32) -> Result<String, AllocError> {
 
 #[test]
 fn each_turn_has_its_line(rt: HostRuntime) -> Result<(), Fail> {
-    // A grant is the first turn, and a draw whose reply is not sent the fifth.
-    for (count, calls) in [
-        (0, 0),
-        (1, 1),
-        (2, 1),
-        (3, 1),
-        (4, 1),
-        (5, 2),
-        (6, 2),
-        (7, 2),
+    // A grant is the first turn, and a draw whose reply is not sent the fifth. The last four come together.
+    for (count, rounds, calls) in [
+        (0, 0, 0),
+        (1, 1, 1),
+        (2, 2, 1),
+        (3, 3, 1),
+        (4, 4, 1),
+        (5, 4, 2),
+        (6, 4, 2),
+        (7, 4, 2),
     ] {
         let lines = first_lines(rt.alloc(), count)?;
         let expected = Expected {
             status: Ok(JobStatus::Done),
             lines: &lines,
-            flushed: count,
+            flushed: rounds,
             calls,
         };
-        let receipts = seven_receipts(rt.alloc())?;
+        let receipts = receipts_of_seven(rt.alloc())?;
         let sends = [true, false, true];
         let is_served = are_served(
             rt.alloc(),
@@ -240,7 +252,7 @@ fn the_clock_gives_the_day_where_none_is_given(rt: HostRuntime) -> Result<(), Fa
     let expected = Expected {
         status: Ok(JobStatus::Done),
         lines: &lines,
-        flushed: 2,
+        flushed: 1,
         calls: 2,
     };
     let sends = [true, true];
@@ -276,14 +288,14 @@ const THREE_DROPPED: [&'static str; 6] = [
 ];
 
 /// Whether so many turns on the link of the two ends have these lines, and standard error is told this.
-fn are_told(alloc: Global, count: u32, lines: &str, told: &str) -> Result<bool, Fail> {
+fn are_told(alloc: Global, count: u32, rounds: u32, lines: &str, told: &str) -> Result<bool, Fail> {
     let rt = Listening {
         told: RefCell::new(Vec::new(alloc)),
     };
     let expected = Expected {
         status: Ok(JobStatus::Done),
         lines,
-        flushed: count,
+        flushed: rounds,
         calls: if count < 3 { 0 } else { 1 },
     };
     let receipts = three_dropped(alloc)?;
@@ -294,24 +306,29 @@ fn are_told(alloc: Global, count: u32, lines: &str, told: &str) -> Result<bool, 
 #[test]
 fn standard_error_is_told_who_sent_what_is_dropped(rt: HostRuntime) -> Result<(), Fail> {
     let cases = [
-        (1, ""),
-        (2, "dropped from 10.0.0.8:40123\n"),
-        (3, "dropped from 10.0.0.8:40123\n"),
+        (1, 1, ""),
+        (2, 2, "dropped from 10.0.0.8:40123\n"),
+        (3, 2, "dropped from 10.0.0.8:40123\n"),
         (
             4,
+            2,
             "dropped from 10.0.0.8:40123\ndropped from 10.0.0.7:4711\n",
         ),
         (
             6,
+            3,
             "dropped from 10.0.0.8:40123\ndropped from 10.0.0.7:4711\ndropped from 10.0.0.8:40123\n",
         ),
     ];
-    for (count, told) in cases {
+    for (count, rounds, told) in cases {
         let mut lines = String::new(rt.alloc());
         for line in THREE_DROPPED.iter().take(count as usize) {
             lines.push_str(line)?;
         }
-        assert!(rt; are_told(rt.alloc(), count, &lines, told)?, "{count}");
+        assert!(rt;
+            are_told(rt.alloc(), count, rounds, &lines, told)?,
+            "{count}"
+        );
     }
     Ok(())
 }
@@ -322,10 +339,10 @@ fn a_closed_standard_error_ends_no_turn(rt: HostRuntime) -> Result<(), Fail> {
     let expected = Expected {
         status: Ok(JobStatus::Done),
         lines: &lines,
-        flushed: 7,
+        flushed: 4,
         calls: 2,
     };
-    let receipts = seven_receipts(rt.alloc())?;
+    let receipts = receipts_of_seven(rt.alloc())?;
     assert!(rt;
         are_served(
             rt.alloc(),
@@ -348,7 +365,7 @@ fn a_clock_that_gives_no_day_ends_the_turns(rt: HostRuntime) -> Result<(), Fail>
         flushed: 0,
         calls: 0,
     };
-    let receipts = seven_receipts(rt.alloc())?;
+    let receipts = receipts_of_seven(rt.alloc())?;
     assert!(rt;
         are_served(
             rt.alloc(),
@@ -411,10 +428,10 @@ fn ends_unwritten<R: Clock + Eprint>(
 ) -> Result<bool, Fail> {
     let mut server = new_server(alloc)?;
     let sends = [true, false, true];
-    let mut link = ScriptLink::new(alloc, seven_receipts(alloc)?, sends.to_vec(alloc)?)?;
+    let mut link = ScriptLink::new(alloc, receipts_of_seven(alloc)?, sends.to_vec(alloc)?)?;
     let mut out = Hiccup::new(alloc, room);
-    let served = serve_turns(rt, &mut server, &mut link, 7, Some(20_000), &mut out);
-    let calls = if whole_lines(room) < 4 { 1 } else { 2 };
+    let served = serve_turns(rt, alloc, &mut server, &mut link, 7, Some(20_000), &mut out);
+    let calls = if whole_lines(room) < 3 { 1 } else { 2 };
     Ok(
         served == Err(WriteFault)
             && lines.starts_with(out.bytes.as_slice())

@@ -151,6 +151,7 @@ impl<S: Alter> SqlBook<S> {
         ensures idle { result.in_transaction ≡ false }
         ensures committed { HasCleanDisk (state S.Store result) → IsTrue (state S.Store result).is_open → (state S.Store result).committed ≡ (state S.Store result).now }
         ensures ledger { HasCleanDisk (state S.Store result) → IsTrue (state S.Store result).is_open → IsLedger (state S.Store result).now self.terms self.len self.day }
+        ensures honest { HasCleanDisk (state S.Store result) → IsTrue (state S.Store result).is_open → IsHonest S.Store self }
     {
         let SqlBook {
             alloc: _,

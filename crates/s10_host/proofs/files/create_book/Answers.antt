@@ -1,4 +1,5 @@
-use Rattle.s10_host.proofs.Opening.{kept_empty, kept_terms, not_made}
+use Rattle.std.proofs.Common.{[]}
+use Rattle.s10_host.proofs.Opening.{kept_empty, kept_terms, none_pending, not_made}
 use Rattle.s10_host.proofs.files.create_book.Goals as goal
 
 pub returns-clause-settings : goal.returns-clause-settings
@@ -6,7 +7,7 @@ returns-clause-settings g c = kept_terms c.args.settings c.create-made.result c.
 
 pub returns-clause-made : goal.returns-clause-made
 returns-clause-made g c =
-    kept_empty c.create-made.result c.kept_or_closed.result c.create-made.ensures.opened c.create-made.ensures.honest c.create-made.ensures.empty c.kept_or_closed.ensures.kept
+    kept_empty c.create-made.result c.kept_or_closed.result c.create-made.ensures.opened c.create-made.ensures.honest (none_pending _ c.create-made.result [] c.create-made.ensures.none_pending c.create-made.ensures.empty) c.kept_or_closed.ensures.kept
 
 pub returns-clause-refused : goal.returns-clause-refused
 returns-clause-refused g c =

@@ -1,7 +1,8 @@
-use Rattle.std.proofs.Common.{rules, ◌≡◌, refl, ap, ◌∙◌}
+use Rattle.std.proofs.Common.{rules, ◌≡◌, List, ◌++◌, append-nil, refl, ap, ◌∙◌}
 use Rattle.sqlite_trees.specs.declared.memory.MemStore.{MemStore}
 use Rattle.sqlite.specs.Steps.{over_memory}
-use Rattle.s10_ledger.specs.Ledger.{Ledger, history_of}
+use Rattle.s10_history.specs.declared.entry.Entry.{Entry}
+use Rattle.s10_ledger.specs.Ledger.{Ledger, history_of, settled_of}
 use Rattle.s10_host.specs.Looped.{LoopLink, loop_terms}
 use Rattle.s10_host.proofs.Leaving.{looped_over}
 use Rattle.s10_host.proofs.loopback.run_loop.Goals as goal
@@ -16,5 +17,5 @@ returns-clause-asked g c =
       far = c.in-Ok.ensures.ok.0;
       near = c.in-Ok.ensures.ok.1;
       terms = ap (λ (b : Ledger MemStore). b.terms) c.new-2.ensures ∙ c.in-Ok-in_memory.ensures.new.0 ∙ settings;
-      empty = ap (λ (b : Ledger MemStore). history_of over_memory b) c.new-2.ensures ∙ c.in-Ok-in_memory.ensures.empty;
+      empty = ap (λ (b : Ledger MemStore). history_of over_memory b) c.new-2.ensures ∙ ap (λ (p : List Entry). settled_of over_memory c.in-Ok-in_memory.book ++ p) c.in-Ok-in_memory.ensures.none_pending ∙ append-nil _ ∙ c.in-Ok-in_memory.ensures.empty;
     }) c.make_calls-asked.ensures.led c.closed_loop.ensures c.make_calls-asked.ensures.asked
