@@ -16,4 +16,3 @@ same_error (Err e) fault passed = ap (λ (f : LinkFault). Err f) passed
 -- a receive that took something
 pub taken_is : (old new : Trace) (o : Option (Peer × Packet)) (p : Peer × Packet) → Receives old new (Ok o) → o ≡ Some p → new ≡ after_datagram old p
 taken_is old new o p received is = let P : Option (Peer × Packet) → Type 0 = λ x. Receives old new (Ok x) in subst P is received
-
