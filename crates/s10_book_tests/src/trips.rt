@@ -1,7 +1,7 @@
 //! Which call of a book that fails once is the one that fails.
 
 use crate::books::{OPENING, answer, empty_book, first_unlike, id};
-use s10_book::{Book, BookFault, TripBook, decide, draws_in_a_row};
+use s10_book::{Book, BookFault, Settle, TripBook, decide, draws_in_a_row};
 use s10_core::Id;
 use s10_history::{Block, Holding};
 use s10_reports::{ReportFault, write_ranges};
@@ -19,6 +19,7 @@ enum Question {
     NextRange,
     Covering,
     LastIssue,
+    Settle,
     /// What a Draw would be given: the customer's range is looked for, and its candidate.
     Candidate,
     /// What a sheet of one label would be given: the customer's range is looked for, and its pick behind none.
@@ -33,7 +34,7 @@ enum Question {
 }
 
 /// Each question, and how many calls of the book it takes.
-const QUESTIONS: [(Question, u64); 12] = [
+const QUESTIONS: [(Question, u64); 13] = [
     (Question::Find, 1),
     (Question::Entry, 1),
     (Question::Range, 1),
@@ -41,6 +42,7 @@ const QUESTIONS: [(Question, u64); 12] = [
     (Question::NextRange, 1),
     (Question::Covering, 1),
     (Question::LastIssue, 1),
+    (Question::Settle, 1),
     (Question::Candidate, 2),
     (Question::Sheet, 2),
     (Question::Usage, 3),
@@ -80,7 +82,7 @@ fn sheet_of_one<B: Book>(book: &mut B, id: &Id) -> Result<(), BookFault> {
     Ok(())
 }
 
-fn ask<B: Book>(
+fn ask<B: Settle>(
     alloc: Global,
     book: &mut B,
     question: Question,
@@ -115,6 +117,9 @@ fn ask<B: Book>(
         Question::LastIssue => {
             book.last_issue(id)?;
         }
+        Question::Settle => {
+            book.settle()?;
+        }
         Question::Candidate => {
             let day = book.day().max(20_000);
             decide(book, &asked(7, number, draw_of(id)), day)?;
@@ -137,7 +142,7 @@ fn ask<B: Book>(
 }
 
 /// Whether a question is refused; None where it is refused with another fault than Store.
-fn is_refused<B: Book>(
+fn is_refused<B: Settle>(
     alloc: Global,
     book: &mut B,
     question: Question,

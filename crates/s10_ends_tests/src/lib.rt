@@ -24,6 +24,8 @@ mod refusals;
 #[cfg(test)]
 mod repeats;
 #[cfg(test)]
+mod rounds;
+#[cfg(test)]
 mod scripts;
 #[cfg(test)]
 mod turns;

@@ -54,6 +54,37 @@ fn datagrams_pass_over_loopback(rt: HostRuntime) -> Result<(), Fail> {
     Ok(())
 }
 
+/// Whether receives that do not wait give the frame once it was sent, and else nothing; and one that waits gives the next.
+fn takes_what_has_come(
+    from: &mut UdpLink,
+    to: &mut UdpLink,
+    frame: &Frame,
+    packet: Packet,
+) -> bool {
+    to.receive_now() == Ok(None)
+        && from.send(to.local(), frame) == Ok(())
+        && to.receive_now() == Ok(Some((from.local(), packet)))
+        && to.receive_now() == Ok(None)
+        && passes(from, to, frame, packet)
+}
+
+// A receive that waited would take longer than a test may.
+#[test]
+fn what_has_come_is_taken_at_once(rt: HostRuntime) -> Result<(), Fail> {
+    let mut near = UdpLink::bind(&rt, ANY_PORT, 100_000)?;
+    let mut far = UdpLink::bind(&rt, ANY_PORT, 100_000)?;
+    let frame = encode_request(&Request {
+        customer: 7,
+        number: 1,
+        body: draw()?,
+    });
+    let packet = Packet::new(FIRST_DRAW.0);
+    assert!(rt; takes_what_has_come(&mut near, &mut far, &frame, packet));
+    assert_eq!(rt; far.trace().calls, 4);
+    assert_eq!(rt; far.trace().received, 2);
+    Ok(())
+}
+
 /// Whether a receive that waits so many milliseconds answers that nothing came.
 fn hears_nothing<N: Net>(net: &N, wait_ms: u32) -> Result<bool, LinkFault> {
     let mut link = UdpLink::bind(net, ANY_PORT, wait_ms)?;

@@ -79,6 +79,30 @@ fn calls_follow_the_script(rt: HostRuntime) -> Result<(), Fail> {
     Ok(())
 }
 
+/// Whether receives give the packet, nothing, a failure, and nothing, whether they wait or not.
+fn receives_at_once(link: &mut ScriptLink, packet: Packet) -> bool {
+    link.receive_now() == Ok(Some((FAR, packet)))
+        && link.receive() == Ok(None)
+        && link.receive_now() == Err(LinkFault::Receive)
+        && link.receive_now() == Ok(None)
+}
+
+#[test]
+fn receive_now_takes_the_next_receipt(rt: HostRuntime) -> Result<(), Fail> {
+    let packet = Packet::new(b"a datagram");
+    let mut link = new_script(rt.alloc(), packet)?;
+    assert!(rt; receives_at_once(&mut link, packet));
+    let trace = Trace {
+        calls: 4,
+        failures: 1,
+        received: 1,
+        taken: Some((FAR, packet)),
+        ..Trace::new()
+    };
+    assert!(rt; has_met(&link, trace, &[]));
+    Ok(())
+}
+
 #[test]
 fn alike_counts_the_last_sends_in_a_row(rt: HostRuntime) -> Result<(), Fail> {
     let receipts = Vec::new(rt.alloc());
