@@ -1,11 +1,14 @@
 #!/bin/sh
-# Kills a server with SIGKILL in the middle of a hundred draws and starts it again: every draw that was answered has to stand
-# in the report, a repeat has to get its identifier, no identifier may be on two draws, and the audit has to say ok.
+# Kills a server with SIGKILL in the middle of a hundred draws of one client, or of ten draws of each of several at once, and
+# starts it again: every draw that was answered has to stand in the report, a repeat has to get its identifier, no identifier
+# may be on two draws, and the audit has to say ok.
 #
-#   sh checks/killed_server.sh [PROGRAM]
+#   sh checks/killed_server.sh [PROGRAM [CLIENTS]]
 set -eu
 
 s10=${1:-./s10}
+clients=${2:-1}
+total=$((clients == 1 ? 100 : 10 * clients))
 dir=$(mktemp -d)
 ledger=$dir/ledger
 server=
@@ -43,35 +46,44 @@ draw() {
 serve
 "$s10" grant --to "$address" --number 1 --holder 7 --service RA --country GB --first 0 --last 99999 > /dev/null || fail grant
 
-# Draws until one is not answered: the server is killed while they go on.
-: > "$dir/answers"
-(
-    number=1
-    while [ "$number" -le 100 ] && draw "$number" 3 >> "$dir/answers"; do
-        number=$((number + 1))
+# Draws under every CLIENTS-th number from its own on, until one is not answered.
+client() {
+    number=$1
+    while [ "$number" -le "$total" ] && draw "$number" 3 >> "$dir/answers.$1"; do
+        number=$((number + clients))
     done
-) &
-draws=$!
-while [ "$(grep -c ' done ' "$dir/answers" || true)" -lt 50 ]; do
-    kill -0 "$draws" 2>/dev/null || fail "a draw was not answered before the server was killed"
+}
+
+answered() {
+    cat "$dir"/answers.* | grep -c ' done ' || true
+}
+
+# The server is killed while they go on.
+running=
+for first in $(seq "$clients"); do
+    : > "$dir/answers.$first"
+    client "$first" &
+    running="$running $!"
+done
+while [ "$(answered)" -lt $((total / 2)) ]; do
     sleep 0.01
 done
 stop
-wait "$draws" || true
-grep ' done ' "$dir/answers" > "$dir/answered"
+for client in $running; do wait "$client" || true; done
+cat "$dir"/answers.* | grep ' done ' | sort > "$dir/answered"
 answered=$(wc -l < "$dir/answered")
-[ "$answered" -lt 100 ] || fail "all draws were answered before the server was killed"
+[ "$answered" -lt "$total" ] || fail "all draws were answered before the server was killed"
 
 serve
 : > "$dir/again"
-for number in $(seq 100); do draw "$number" 5 >> "$dir/again" || fail "draw $number"; done
+for number in $(seq "$total"); do draw "$number" 5 >> "$dir/again" || fail "draw $number"; done
 stop
-head -n "$answered" "$dir/again" | cmp - "$dir/answered" || fail "a repeat got another reply"
+[ -z "$(sort "$dir/again" | comm -13 - "$dir/answered")" ] || fail "a repeat got another reply"
 
 "$s10" report --ledger "$ledger" --issues > "$dir/report"
 sed -n 's/.*customer \([0-9]*\) number \([0-9]*\) .* \([A-Z0-9]*\)$/\1 \2 \3/p' "$dir/again" | sort > "$dir/drawn"
 sed 1d "$dir/report" | cut -d' ' -f3,4,5 | sort > "$dir/reported"
 cmp "$dir/drawn" "$dir/reported" || fail "the report is not what was drawn"
-[ "$(cut -d' ' -f3 "$dir/drawn" | sort -u | wc -l)" = 100 ] || fail "one identifier on two draws"
-[ "$("$s10" audit --ledger "$ledger")" = "ledger ok 101" ] || fail audit
-echo "ok: killed after $answered answered draws; all of them stand, repeats get their identifiers, ledger ok 101"
+[ "$(cut -d' ' -f3 "$dir/drawn" | sort -u | wc -l)" = "$total" ] || fail "one identifier on two draws"
+[ "$("$s10" audit --ledger "$ledger")" = "ledger ok $((total + 1))" ] || fail audit
+echo "ok: killed after $answered of $total answered draws; all of them stand, repeats get their identifiers, ledger ok $((total + 1))"
