@@ -227,7 +227,8 @@ rm filler
 create 0 created '' '~new 32768,~new-wal 41' new
 tries 0 'ledger ok 0' '' '+alone-wal 41' audit --ledger alone
 
-# A server whose disk fills faults what is new, answers what is kept, and goes on once there is room. No answered call is lost.
+# A server whose disk fills replies to nothing while a call cannot be written, and goes on once there is room. No answered call is
+# lost, and none that was kept meanwhile.
 group small
 mount -t tmpfs -o size=4m tmpfs "$room/small"
 cd "$room/small"
@@ -240,9 +241,10 @@ number=2
 while draw "$number" >>../answers; do
     number=$((number + 1))
 done
-[ "$(grep -c '^faulted store$' ../turns)" = 1 ] || fail 'a full disk is no fault of one turn'
-[ "$(draw 1)" = "$(sed -n 2p ../answers)" ] || fail 'a repeat on a full disk'
+[ "$(grep -c '^unsettled store$' ../turns)" = 1 ] || fail 'a full disk is no fault of one turn'
+if draw 1 >../again; then fail 'a reply while a call cannot be written'; fi
 rm filler
+[ "$(draw 1)" = "$(sed -n 2p ../answers)" ] || fail 'a repeat once there is room'
 draw "$number" >../again || fail 'a draw once there is room'
 [ "$(wc -l <../told)" = 2 ] || fail 'words on standard error of a full disk'
 stop

@@ -128,8 +128,9 @@ fn new_server(alloc: Global, settings: Settings) -> Result<Server<TableBook>, Op
     Ok(Server::new(SqlBook::in_memory(alloc, settings)?))
 }
 
-/// The tables of a server.
-fn tables(server: Server<TableBook>) -> Connection<MemStore> {
+/// The tables of a server, whose calls are settled.
+fn tables(mut server: Server<TableBook>) -> Connection<MemStore> {
+    let _ = server.settle();
     server.into_book().close()
 }
 

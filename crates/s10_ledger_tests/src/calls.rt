@@ -2,7 +2,7 @@
 
 ghost use Rattle.std.specs.Prelude.{◌<◌};
 
-use s10_book::{Book, BookFault, decide};
+use s10_book::{Book, BookFault, Settle, decide};
 use s10_core::{Country, Id, Serial, Service};
 use s10_history::{Entry, Settings};
 use s10_ledger::SqlBook;
@@ -130,8 +130,9 @@ pub(crate) fn ledger<R: Abort + AllocGlobal>(rt: &R, settings: Settings) -> SqlB
     }
 }
 
-// The connection of a ledger.
-pub(crate) fn closed<S: Alter>(book: SqlBook<S>) -> Connection<S> {
+// The connection of a ledger, once its calls are settled.
+pub(crate) fn closed<S: Alter>(mut book: SqlBook<S>) -> Connection<S> {
+    let _ = book.settle();
     book.close()
 }
 

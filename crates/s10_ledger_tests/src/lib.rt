@@ -24,6 +24,8 @@ mod readings;
 #[cfg(test)]
 mod rows;
 #[cfg(test)]
+mod settling;
+#[cfg(test)]
 mod sheet_tables;
 #[cfg(test)]
 mod sheets;

@@ -3,7 +3,7 @@
 ghost use Rattle.std.specs.Prelude.{◌≤◌};
 
 use crate::calls::{answer, closed, draw, gb, grant, ledger, ra, serial, settings};
-use s10_book::{Book, PlainBook};
+use s10_book::{Book, PlainBook, Settle};
 use s10_history::{Block, Holding};
 use s10_ledger::{SqlBook, Unwatched};
 use s10_wire::Request;
@@ -90,8 +90,9 @@ fn ranges_are_alike<A: Book, B: Book>(one: &mut A, other: &mut B, ranges: u32) -
     true
 }
 
-// The ledger, closed and opened again.
-fn opened_again<R: Abort + AllocGlobal>(rt: &R, book: SqlBook<MemStore>) -> SqlBook<MemStore> {
+// The ledger, settled, closed and opened again.
+fn opened_again<R: Abort + AllocGlobal>(rt: &R, mut book: SqlBook<MemStore>) -> SqlBook<MemStore> {
+    let _ = book.settle();
     match SqlBook::open(rt.alloc(), book.close(), &mut Unwatched) {
         Ok(book) => book,
         Err(refused) => panic!(rt; "{}", refused.fault),

@@ -10,7 +10,7 @@ use std::test::Fail;
 
 /// How an opening ended.
 #[derive(Clone, Copy, Debug, PartialEq, Eq)]
-enum Ended {
+pub(crate) enum Ended {
     /// The files are no database.
     Unconnected,
     Refused(OpenFault),
@@ -76,7 +76,7 @@ fn old_ledger(alloc: Global) -> Option<Files<Memory>> {
 }
 
 /// The files of a connection, as they are.
-fn files_of<D: Disk + Drop>(conn: Connection<FileStore<D>>) -> Files<D> {
+pub(crate) fn files_of<D: Disk + Drop>(conn: Connection<FileStore<D>>) -> Files<D> {
     conn.into_store().close()
 }
 
@@ -118,7 +118,7 @@ fn opened<D: Disk + Drop>(alloc: Global, files: Files<D>, options: Options) -> (
 }
 
 /// How it opens over whole files with the same bytes.
-fn opened_again(alloc: Global, files: &Files<Fuse<Memory>>) -> Result<Ended, Fail> {
+pub(crate) fn opened_again(alloc: Global, files: &Files<Fuse<Memory>>) -> Result<Ended, Fail> {
     let log = file_of(alloc, files.log.inner().bytes())?;
     let db = file_of(alloc, files.db.inner().bytes())?;
     let (ended, _files) = opened(alloc, Files { log, db }, Options::new(7));

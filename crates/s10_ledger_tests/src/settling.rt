@@ -1,0 +1,153 @@
+//! Calls that are pending, and their settling.
+
+use crate::calls::{answer, draw, drawn, grant, granted, ledger, settings};
+use crate::stops::{Ended, files_of, opened_again};
+use crate::tables::found;
+use s10_book::{Book, BookFault, Settle};
+use s10_history::Settings;
+use s10_ledger::{Refused, SqlBook, Unwatched};
+use sqlite::{Connection, FileStore, Files, MemStore, Options};
+use sqlite_disk::{Crash, Disk, Fuse, Memory};
+use std::alloc::Global;
+use std::process::Abort;
+use std::test::Fail;
+
+// The book keeps a Grant, and Draws of these numbers behind it.
+fn keep<R: Abort, B: Book>(rt: &R, book: &mut B, draws: u32) {
+    assert_eq!(rt; answer(book, &grant(0, 1, 7, 0, 999), 20000), granted(1));
+    for number in 0..draws {
+        assert!(rt; answer(book, &draw(7, number), 20000).is_ok(), "{number}");
+    }
+}
+
+// A new ledger that keeps a Grant, and so many Draws behind it.
+fn kept<R: Abort + AllocGlobal>(rt: &R, draws: u32) -> SqlBook<MemStore> {
+    let mut book = ledger(rt, settings(rt, 1000));
+    keep(rt, &mut book, draws);
+    book
+}
+
+// How many calls are found of a ledger that is closed as it is.
+fn calls_found(alloc: Global, book: SqlBook<MemStore>) -> Option<u32> {
+    let (answer, _conn) = found(alloc, book.close())?;
+    match answer {
+        Ok(opened) => Some(opened.len),
+        Err(_) => None,
+    }
+}
+
+// How many calls are found behind a settling.
+fn settled<R: Abort + AllocGlobal>(rt: &R, draws: u32) -> Option<u32> {
+    let mut book = kept(rt, draws);
+    let settled = book.settle();
+    let calls = calls_found(rt.alloc(), book);
+    if settled == Ok(()) { calls } else { None }
+}
+
+#[test]
+fn settled_calls_are_found_again(rt: HostRuntime) {
+    for (draws, calls) in [(0, 1), (1, 2), (63, 64), (64, 65)] {
+        assert_eq!(rt; settled(&rt, draws), Some(calls), "{draws}");
+    }
+}
+
+#[test]
+fn pending_calls_are_settled_by_the_one_behind_the_greatest_number(rt: HostRuntime) {
+    for (draws, calls) in [(0, 0), (1, 0), (63, 0), (64, 64), (127, 64), (128, 128)] {
+        let book = kept(&rt, draws);
+        assert_eq!(rt; calls_found(rt.alloc(), book), Some(calls), "{draws}");
+    }
+}
+
+// What is answered to the second of three pending Draws once more, and how many calls the ledger has and leaves.
+fn repeated<R: Abort + AllocGlobal>(rt: &R) -> (bool, u32, Option<u32>) {
+    let mut book = kept(rt, 3);
+    let is_same = answer(&mut book, &draw(7, 1), 20001) == drawn(20000, 1);
+    let calls = book.len();
+    (is_same, calls, calls_found(rt.alloc(), book))
+}
+
+#[test]
+fn a_pending_call_is_found(rt: HostRuntime) {
+    assert_eq!(rt; repeated(&rt), (true, 4, Some(0)));
+}
+
+// A new ledger over empty files, of which the log stops at that call. None where it is not made.
+fn stopping(
+    alloc: Global,
+    settings: Settings,
+    at: u64,
+) -> Option<SqlBook<FileStore<Fuse<Memory>>>> {
+    let log = Fuse::new(Memory::new(alloc), at);
+    let db = Fuse::new(Memory::new(alloc), u64::MAX);
+    if !log.may_be_used() || !db.may_be_used() {
+        return None;
+    }
+    let conn = Connection::open_files(alloc, Files { log, db }, Options::new(7)).ok()?;
+    if !conn.is_autocommit() {
+        return None;
+    }
+    match SqlBook::create(alloc, conn, settings, &mut Unwatched) {
+        Ok(book) => Some(book),
+        Err(
+            Refused {
+                fault: _,
+                connection: _,
+            },
+        ) => None,
+    }
+}
+
+// What is answered to a settling behind three more calls than are settled, and how many calls the book has then. None where the
+// first two are not settled.
+fn settles_three<B: Settle>(book: &mut B) -> Option<(Result<(), BookFault>, u32)> {
+    answer(book, &grant(0, 1, 7, 0, 9), 20000).ok()?;
+    answer(book, &draw(7, 1), 20000).ok()?;
+    book.settle().ok()?;
+    for number in 2..5 {
+        answer(book, &draw(7, number), 20000).ok()?;
+    }
+    let settled = book.settle();
+    Some((settled, book.len()))
+}
+
+// How that ends where the log stops at one of its calls, and what is found then over whole files with what was synced alone.
+fn stopped(
+    alloc: Global,
+    settings: Settings,
+    at: u64,
+) -> Result<Option<(Result<(), BookFault>, u32, Ended)>, Fail> {
+    let Some(mut book) = stopping(alloc, settings, at) else {
+        return Ok(None);
+    };
+    let told = settles_three(&mut book);
+    let mut files = files_of(book.close());
+    files.log.crash();
+    files.db.crash();
+    let Some((settled, calls)) = told else {
+        return Ok(None);
+    };
+    Ok(Some((settled, calls, opened_again(alloc, &files)?)))
+}
+
+// At how many calls of the log the settling fails, before it passes. None where a call is lost, or one of those that were not
+// settled is found.
+fn failed_settlings(alloc: Global, settings: Settings) -> Result<Option<u32>, Fail> {
+    let mut count: u32 = 0;
+    for at in 0..1000u64 {
+        match stopped(alloc, settings, at)? {
+            None => {}
+            Some((Ok(()), 5, Ended::Found(5))) => return Ok(Some(count)),
+            Some((Err(BookFault::Store), 5, Ended::Found(2))) => count = count.saturating_add(1),
+            Some(_) => return Ok(None),
+        }
+    }
+    Ok(None)
+}
+
+#[test]
+fn a_settling_that_fails_leaves_its_calls_pending(rt: HostRuntime) -> Result<(), Fail> {
+    let failed = failed_settlings(rt.alloc(), settings(&rt, 100))?;
+    assert!(rt; failed.is_some_and(|count| 0 < count), "{failed:?}");
+    Ok(())
+}
