@@ -1,8 +1,8 @@
 #!/usr/bin/env python3
 """Refuses the program its first request for memory, then its second, and so on, and stops its disk at the first change of a file,
 then at the second, and so on (checks/refuse.c), until a run meets no refusal. After each, the ledger has to be one that the
-program opens, with exactly the calls that were answered, and asked again each call has to get the reply that it got, or that it
-would have got.
+program opens, with the calls that were answered, and no others but those before them whose reply was held back since they could not
+be written yet; and asked again each call has to get the reply that it got, or that it would have got.
 
   python3 checks/refused_program.py [PROGRAM]
 """
@@ -70,7 +70,12 @@ def replies_of(deliveries):
 
 
 def serve(ledger, day, datagrams, refusals=None):
-    """Serves so many turns; answers the replies by datagram, and whether the server was there to be asked."""
+    """Serves so many turns; answers the replies by datagram."""
+    return served(ledger, day, datagrams, refusals)[0]
+
+
+def served(ledger, day, datagrams, refusals=None):
+    """Serves so many turns; answers the replies by datagram, and the lines of the turns in which one came."""
     words = [PROGRAM, "serve", "--ledger", ledger, "--bind", "127.0.0.1:0", "--count", str(len(datagrams)), "--day", str(day)]
     with subprocess.Popen(words, env={**os.environ, **(refusals or {})}, stdout=subprocess.PIPE, stderr=subprocess.PIPE, text=True) as server:
         address = ""
@@ -95,8 +100,9 @@ def serve(ledger, day, datagrams, refusals=None):
                     except ConnectionRefusedError:
                         continue
                     found[next(it for it in datagrams if it[8:24] == reply[8:24])] = reply
+        lines = server.stdout.read().splitlines()
         server.wait()
-        return found
+        return found, [it for it in lines if it.startswith(("replied ", "faulted ", "unsettled "))]
 
 
 def make(folder, calls):
@@ -133,14 +139,17 @@ def check_completing(name, ledger, env):
             fail(f"{name}: {audit(ledger)} in the end")
 
 
-def check_serving(name, ledger, before, day, datagrams, replies):
-    """The calls before, and those of these that were answered, and no other, are kept; handed in again, each gets its reply."""
-    answered = [it for it in datagrams if it in replies]
-    if audit(ledger) != f"ledger ok {len(before) + len(answered)}":
-        fail(f"{name}: {audit(ledger)} with {len(answered)} replies")
-    kept = [*before, *((day, it) for it in answered)]
+def check_serving(name, ledger, before, day, datagrams, replies, turns):
+    """Kept are the calls before, and of those that were executed the first ones, among them all that were answered; handed in again,
+    each gets its reply."""
+    executed = [it for it, turn in zip(datagrams, turns, strict=False) if not turn.startswith("faulted ")]
+    found = audit(ledger)
+    many = int(found.removeprefix("ledger ok ")) - len(before) if found.startswith("ledger ok ") else -1
+    if not 0 <= many <= len(executed) or any(it in replies for it in executed[many:]):
+        fail(f"{name}: {found} with {len(replies)} replies")
+    kept = [*before, *((day, it) for it in executed[:many])]
     owed = replies_of([*kept, *((day, it) for it in datagrams)])
-    if [replies[it] for it in answered] != owed[len(before) : len(kept)]:
+    if any(replies.get(it, reply) != reply for it, reply in zip(executed, owed[len(before) : len(kept)], strict=False)):
         fail(f"{name}: another reply")
     again = serve(ledger, day, datagrams)
     if [again.get(it) for it in datagrams] != owed[len(kept) :]:
@@ -217,7 +226,7 @@ def refuse_memory(room):
 
         def answer(name, here, env, base=base, told=told, day=day, datagrams=datagrams):
             ledger = copied(base, here)
-            check_serving(name, ledger, told, day, datagrams, serve(ledger, day, datagrams, env))
+            check_serving(name, ledger, told, day, datagrams, *served(ledger, day, datagrams, env))
 
         each_refusal(f"requests for memory of a server of {what}", room, refusals, answer)
 
