@@ -104,21 +104,12 @@ fn each_reply_goes_to_its_peer_in_turn(rt: HostRuntime) -> Result<(), Fail> {
 fn a_round_leaves_the_others_for_the_next(rt: HostRuntime) -> Result<(), Fail> {
     let mut server = new_server(rt.alloc(), 100)?;
     let mut link = script(rt.alloc(), &five_receipts(), &[true; 4])?;
-    let turns = five_turns()?;
-    let quiet = [Ok(ServerTurn::Quiet)];
-    let rounds = [
-        (&turns[..2], 2),
-        (&turns[2..4], 3),
-        (&turns[4..], 4),
-        (&quiet[..], 4),
-    ];
-    for (round, sent) in rounds {
-        assert!(rt;
-            serves(rt.alloc(), &mut server, &mut link, 2, round)?,
-            "{sent} sent"
-        );
-        assert_eq!(rt; link.log().len(), sent);
-    }
+    let [granted, drawn, dropped, second, again] = five_turns()?;
+    assert!(rt; serves(rt.alloc(), &mut server, &mut link, 2, &[granted, drawn])?);
+    assert_eq!(rt; link.log().len(), 2);
+    assert!(rt; serves(rt.alloc(), &mut server, &mut link, 2, &[dropped, second])?);
+    assert_eq!(rt; link.log().len(), 3);
+    assert!(rt; serves(rt.alloc(), &mut server, &mut link, 2, &[again])?);
     assert!(rt; has_sent(&link, &four_replies()));
     Ok(())
 }
