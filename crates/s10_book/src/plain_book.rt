@@ -258,4 +258,8 @@ impl Settle for PlainBook {
     fn settle(&mut self) -> Result<(), BookFault> {
         Ok(())
     }
+
+    fn is_settled(&self, _customer: u32, _number: u32) -> bool {
+        true
+    }
 }

@@ -167,4 +167,8 @@ impl<B: Settle> Settle for TripBook<B> {
         }
         self.inner.settle()
     }
+
+    fn is_settled(&self, customer: u32, number: u32) -> bool {
+        self.inner.is_settled(customer, number)
+    }
 }

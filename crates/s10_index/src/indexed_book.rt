@@ -229,4 +229,8 @@ impl Settle for IndexedBook {
     fn settle(&mut self) -> Result<(), BookFault> {
         Ok(())
     }
+
+    fn is_settled(&self, _customer: u32, _number: u32) -> bool {
+        true
+    }
 }
