@@ -10,3 +10,4 @@ pub mod Rounds
 pub mod Listening
 pub mod Trying
 pub mod Near
+pub mod Standing

@@ -21,13 +21,10 @@ use Rattle.s10_ends.specs.Round.{TakesAll, ServesRound}
 use Rattle.s10_ends.specs.Round.TakesAll.{none as taken_none, more as taken_more}
 use Rattle.s10_ends.specs.NearLink.{IsNearStep, ServedOn}
 use Rattle.s10_ends.proofs.Whole.{Served-nil, Served-push}
+use Rattle.s10_ends.proofs.Rounds.{no_push}
 
 no_rise : (before after : ℕ) → Rises before after → ¬ (after ≡ 0)
 no_rise before after rises at = absurd (omega (arith, rises.never_falls, rises.unless_greatest (omega (arith, rises.never_falls, at)), at))
-
-no_push : {X : Type 0} (xs : List X) (x : X) → ¬ (xs ++ x ∷ [] ≡ [])
-no_push [] x wrong = absurd cc
-no_push (y ∷ xs) x wrong = absurd cc
 
 -- a fault was counted
 counted : (fault : BookFault) (before after : Faults) → FaultCounts fault before after → ¬ (after ≡ no_faults)
@@ -72,7 +69,7 @@ module _ {B F N : Type 0} (faults : B → Faults) (honest : B → Type 0) (terms
   taken : (day : ℕ) (book : B) (old new : Trace × B) (ts : List Taken) → LedOn day book old.1
       → TakesAll (λ before after b answer. Handles faults honest terms history before after day b answer) old ts new → LedOn day book new.1
   taken day book old _ _ led taken_none = led
-  taken day book old new _ led (taken_more {between = between} {next = next} takes took) = handled day book between.1 new.1 took.0 next.answer (taken day book old between _ led takes) took.2
+  taken day book old new _ led (taken_more {between = between} {next = next} takes took) = handled day book between.1 new.1 next.packet next.answer (taken day book old between _ led takes) took.1
 
   settled_on : (day : ℕ) (old between new : B) (settling : Result (Unit {0}) BookFault) → LedOn day old between → Settles faults honest terms history settled between new settling → LedOn day old new
   settled_on day old between new settling led settles = record {

@@ -10,11 +10,15 @@ use Rattle.s10_book.specs.declared.faults.Faults.{Faults}
 use Rattle.s10_ends.specs.declared.answer.Answer.{Answer}
 use Rattle.s10_ends.specs.declared.taken.Taken.{Taken}
 use Rattle.s10_ends.specs.declared.server_turn.ServerTurn.TheVariants as turns
-use Rattle.s10_ends.specs.Turn.{Turn, Handles, Settles, Takes, Answers}
+use Rattle.s10_ends.specs.Turn.{Turn, Handles, Settles, Takes, AsksSettled, Answers}
 use Rattle.s10_ends.specs.Round.{TakesAll, TakesRound, ServesRound, turns_of}
 use Rattle.s10_ends.specs.Round.TakesAll.{none as taken_none, more as taken_more}
 use Rattle.s10_ends.specs.Round.AnswersAll.{none as answered_none, more as answered_more}
 use Rattle.s10_ends.proofs.Turns.{same_error}
+
+pub no_push : {X : Type 0} (xs : List X) (x : X) → ¬ (xs ++ x ∷ [] ≡ [])
+no_push [] x wrong = absurd cc
+no_push (y ∷ xs) x wrong = absurd cc
 
 module _ {B : Type 0} (Handled : B → B → List ℕ → Answer → Type 0) (most : ℕ) (old : Trace × B) where
   -- so many were taken
@@ -65,7 +69,8 @@ module _ {B : Type 0} (faults : B → Faults) (honest : B → Type 0) (terms : B
   one_quiet found took is = unanswered (Ok tt) (Ok turns.Quiet ∷ []) (no_more Handled 1 old old [] taken_none between found took is) refl
 
   pub one_served : (new : Trace × B) (found : Option Taken) (taken : Taken) (settling : Result (Unit {0}) BookFault) (turn : Turn) → Takes Handled old between (Ok found) → found ≡ Some taken
-      → Settles faults honest terms history settled between.1 new.1 settling → Answers between.0 new.0 settling taken.from taken.answer turn → ServesRound faults honest terms history settled day 1 old new (turn ∷ [])
+      → Settles faults honest terms history settled between.1 new.1 settling
+      → Answers (honest new.1) (AsksSettled (settled new.1) (history new.1)) between.0 new.0 settling taken.from taken.packet taken.answer turn → ServesRound faults honest terms history settled day 1 old new (turn ∷ [])
   one_served new found taken settling turn took is settles answers = record {
     taken = taken ∷ [];
     between = between;

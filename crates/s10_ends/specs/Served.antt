@@ -45,6 +45,10 @@ Gives (Some e) q o = (e.request ≡ q → o ≡ e.outcome) × (e.request ≢ q �
 abbrev pub IsOwed : List Entry → List ℕ → List ℕ → Type 0
 IsOwed h b f = (q : Request) × (o : Outcome) × Asks b q × Gives (entry_with_key h q.customer q.number) q o × Replies f q o
 
+-- the bytes f are the reply to a request, with the outcome that the calls give it
+abbrev pub StandsIn : List Entry → List ℕ → Type 0
+StandsIn h f = (q : Request) × (o : Outcome) × Gives (entry_with_key h q.customer q.number) q o × Replies f q o
+
 -- the answer to bytes, by the history in the end: bytes that ask nothing are dropped with their first refusal,
 -- and bytes that ask something get the reply that is owed, unless the book failed or was full
 abbrev pub IsAnswered : List Entry → List ℕ → Answer → Type 0

@@ -1,9 +1,10 @@
 -- What a server makes of its book and of the link in a turn.
-use Rattle.std.specs.Prelude.{◌≡◌, ◌↔◌, ℕ, List, [], ◌∷◌, Option, Some, None, Result, Ok, Err, OnOk, OnErr}
+use Rattle.std.specs.Prelude.{◌≡◌, ◌↔◌, ◌⊎◌, ℕ, List, [], ◌∷◌, Option, Some, None, Result, Ok, Err, OnOk, OnErr}
 use Rattle.s10_link.specs.declared.trace.Trace.{Trace}
 use Rattle.s10_link.specs.declared.peer.Peer.{Peer}
-use Rattle.s10_link.specs.declared.packet.Packet.{Packet}
 use Rattle.s10_wire.specs.declared.frame.Frame.{Frame}
+use Rattle.s10_wire.specs.declared.request.Request.{Request}
+use Rattle.s10_wire.specs.Datagrams.{Asks}
 use Rattle.s10_wire.specs.declared.wire_fault.WireFault.{WireFault}
 use Rattle.s10_link.specs.declared.link_fault.LinkFault.{LinkFault}
 use Rattle.s10_link.specs.Trace.{after_call, after_datagram}
@@ -14,6 +15,7 @@ use Rattle.s10_book.specs.declared.book_fault.BookFault.{BookFault}
 use Rattle.s10_book.specs.declared.faults.Faults.{Faults}
 use Rattle.s10_book.specs.BookFault.{Counts}
 use Rattle.s10_book.specs.Book.{Keeps}
+use Rattle.s10_book.specs.Settle.{IsSettledCall}
 use Rattle.s10_history.specs.Settings.{Terms}
 use Rattle.s10_ends.specs.declared.answer.Answer.{Answer}
 use Rattle.s10_ends.specs.declared.answer.Answer.TheVariants.{Reply, Dropped, Faulted}
@@ -46,7 +48,7 @@ pub record Settles {B : Type 0} (faults : B → Faults) (honest : B → Type 0) 
 -- a receive, and what the server made of the datagram that came: from a link's trace and the server's book to those behind it
 abbrev pub Takes : {B : Type 0} → (B → B → List ℕ → Answer → Type 0) → Trace × B → Trace × B → Result (Option Taken) LinkFault → Type 0
 Takes Handled old new (Ok None) = (new.0 ≡ after_call old.0) × (new.1 ≡ old.1)
-Takes Handled old new (Ok (Some taken)) = (packet : Packet) × (new.0 ≡ after_datagram old.0 (taken.from, packet)) × Handled old.1 new.1 packet taken.answer
+Takes Handled old new (Ok (Some taken)) = (new.0 ≡ after_datagram old.0 (taken.from, taken.packet)) × Handled old.1 new.1 taken.packet taken.answer
 Takes Handled old new (Err fault) = Receives old.0 new.0 (Err fault) × (new.1 ≡ old.1)
 
 -- the turn in which a reply was sent, or refused
@@ -54,13 +56,26 @@ abbrev pub sent_turn : Peer → Frame → SendResult → Turn
 sent_turn to frame (Ok _) = Ok (turns.Replied to frame)
 sent_turn to frame (Err fault) = Err fault
 
--- a reply is sent to the peer once the calls are settled; where they could not be, nothing is sent
-abbrev pub SendsSettled : Trace → Trace → Result (Unit {0}) BookFault → Peer → Frame → Turn → Type 0
-SendsSettled old new (Ok _) to frame turn = (sent : SendResult) × Sends old new (to, frame) sent × (turn ≡ sent_turn to frame sent)
-SendsSettled old new (Err fault) to frame turn = (new ≡ old) × (turn ≡ Ok (turns.Unsettled to fault))
+-- a reply is sent to the peer
+abbrev pub SendsReply : Trace → Trace → Peer → Frame → Turn → Type 0
+SendsReply old new to frame turn = (sent : SendResult) × Sends old new (to, frame) sent × (turn ≡ sent_turn to frame sent)
 
--- what the peer of a datagram gets, by what became of that, and of the settling
-abbrev pub Answers : Trace → Trace → Result (Unit {0}) BookFault → Peer → Answer → Turn → Type 0
-Answers old new settled to (Reply frame) turn = SendsSettled old new settled to frame turn
-Answers old new settled to (Dropped fault) turn = (new ≡ old) × (turn ≡ Ok (turns.Dropped to fault))
-Answers old new settled to (Faulted fault) turn = (new ≡ old) × (turn ≡ Ok (turns.Faulted to fault))
+-- a reply is held back from the peer
+abbrev pub HoldsBack : Trace → Trace → Peer → BookFault → Turn → Type 0
+HoldsBack old new to fault turn = (new ≡ old) × (turn ≡ Ok (turns.Unsettled to fault))
+
+-- the settled calls have what the history has under the key of what the bytes ask
+abbrev pub AsksSettled : List Entry → List Entry → List ℕ → Type 0
+AsksSettled settled h b = (q : Request) × Asks b q × IsSettledCall settled h q.customer q.number
+
+module _ (Honest : Type 0) (IsSettled : List ℕ → Type 0) where
+  -- a reply to bytes is sent once the calls are settled; where that failed it is sent if its own call is settled, and else held back
+  abbrev pub SendsSettled : Trace → Trace → Result (Unit {0}) BookFault → Peer → List ℕ → Frame → Turn → Type 0
+  SendsSettled old new (Ok _) to b frame turn = SendsReply old new to frame turn
+  SendsSettled old new (Err fault) to b frame turn = ((Honest → IsSettled b) × SendsReply old new to frame turn) ⊎ ((Honest → ¬ (IsSettled b)) × HoldsBack old new to fault turn)
+
+  -- what the peer of bytes gets, by what became of them, and of the settling
+  abbrev pub Answers : Trace → Trace → Result (Unit {0}) BookFault → Peer → List ℕ → Answer → Turn → Type 0
+  Answers old new settling to b (Reply frame) turn = SendsSettled old new settling to b frame turn
+  Answers old new settling to b (Dropped fault) turn = (new ≡ old) × (turn ≡ Ok (turns.Dropped to fault))
+  Answers old new settling to b (Faulted fault) turn = (new ≡ old) × (turn ≡ Ok (turns.Faulted to fault))

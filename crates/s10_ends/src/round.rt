@@ -1,9 +1,8 @@
 //! One round of a server on a link.
 
-ghost use Rattle.std.specs.Prelude.{◌≡◌, ◌≤◌, ◌+◌, [], length, IfOk, OnErr, vec_capacity, Ok};
+ghost use Rattle.std.specs.Prelude.{◌≡◌, ◌≤◌, ◌+◌, [], length, All, IfOk, OnErr, vec_capacity, Ok};
 ghost use Rattle.s10_ends.specs.Server.{book_of};
-ghost use Rattle.s10_ends.specs.Turn.{Settles};
-ghost use Rattle.s10_ends.specs.Round.{ServesRound, AnswersSettled, turns_of};
+ghost use Rattle.s10_ends.specs.Round.{ServesRound, AnswersSettled, IsSentSettled, turns_of};
 
 use crate::answering::answer_all;
 use crate::server::Server;
@@ -16,7 +15,7 @@ use std::alloc::{AllocError, Global};
 
 /// Takes the datagram that comes next and those that have come by then, so many at most, settles their calls at once, and
 /// only then sends the replies, each to the peer that it is owed to. Answers what became of each; where the calls could not be
-/// settled, each reply that is owed is told as Unsettled. Where there is no room for that nothing is done.
+/// settled, each reply whose own call is not is held back, and told as Unsettled. Where there is no room for that nothing is done.
 pub fn serve_round<B: Settle, L: Link>(
     alloc: Global,
     server: &mut Server<B>,
@@ -27,6 +26,7 @@ pub fn serve_round<B: Settle, L: Link>(
     requires { 1 ≤ most }
     ensures served { IfOk result (λ turns. ServesRound B.faults B.honest B.terms B.history B.settled day most
         (L.trace_of link.old, book_of server.old) (L.trace_of link.new, book_of server.new) turns.items) }
+    ensures stands { B.honest (book_of server.new) → IfOk result (λ turns. All (IsSentSettled (B.settled (book_of server.new))) turns.items) }
     ensures some { IfOk result (λ turns. 1 ≤ length turns.items) }
     ensures few { IfOk result (λ turns. length turns.items ≤ most) }
     ensures refused { OnErr result ((L.trace_of link.new ≡ L.trace_of link.old) × (book_of server.new ≡ book_of server.old)) }
@@ -48,7 +48,7 @@ fn settle_and_answer<B: Settle, L: Link>(
 )
     requires none { turns.old.items ≡ [] }
     requires room { length taken.now ≤ vec_capacity turns.old }
-    ensures answered { AnswersSettled (Settles B.faults B.honest B.terms B.history B.settled)
+    ensures answered { AnswersSettled B.faults B.honest B.terms B.history B.settled
         (L.trace_of link.old, book_of server.old) (L.trace_of link.new, book_of server.new) taken.now turns.new.items }
     ensures many { length turns.new.items ≡ length taken.now }
     ensures capacity { vec_capacity turns.new ≡ vec_capacity turns.old }
@@ -57,7 +57,7 @@ fn settle_and_answer<B: Settle, L: Link>(
         return;
     }
     let settling = server.settle();
-    answer_all(link, taken, settling, turns);
+    answer_all(link, server, taken, settling, turns);
 }
 
 // Tells how the receives ended, where no datagram tells it.

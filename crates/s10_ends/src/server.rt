@@ -143,8 +143,9 @@ impl<B: Book> Server<B> {
 }
 
 impl<B: Settle> Server<B> {
+    ghost use Rattle.std.specs.Prelude.{◌↔◌, IsTrue};
     ghost use Rattle.s10_ends.specs.Server.{book_of};
-    ghost use Rattle.s10_ends.specs.Turn.{Settles};
+    ghost use Rattle.s10_ends.specs.Turn.{AsksSettled, Settles};
 
     /// Settles the calls of the book, so that their replies may be sent. A fault leaves the history as it was, and the next
     /// settling takes those calls too.
@@ -152,5 +153,15 @@ impl<B: Settle> Server<B> {
         ensures { Settles B.faults B.honest B.terms B.history B.settled (book_of self.old) (book_of self.new) result }
     {
         self.book.settle()
+    }
+
+    /// Whether the bytes ask for a call that is settled, so that its reply may be sent though others could not be.
+    pub fn is_settled(&self, bytes: &[u8]) -> bool
+        ensures { B.honest (book_of self.now) → (IsTrue result ↔ AsksSettled (B.settled (book_of self.now)) (B.history (book_of self.now)) bytes.now) }
+    {
+        match decode_request(bytes) {
+            Ok(request) => self.book.is_settled(request.customer, request.number),
+            Err(_) => false,
+        }
     }
 }

@@ -11,8 +11,8 @@ pub enum ServerTurn {
     Dropped(Peer, WireFault),
     /// The request was not answered, and may be handed in again.
     Faulted(Peer, BookFault),
-    /// The calls could not be settled, so the reply that is owed was not sent. The request may be handed in again, and
-    /// gets its reply once they are.
+    /// The call could not be settled, so its reply was not sent. The request may be handed in again, and gets its reply once
+    /// the call is settled.
     Unsettled(Peer, BookFault),
     /// This frame was sent back to the peer.
     Replied(Peer, Frame),

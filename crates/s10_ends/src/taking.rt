@@ -24,7 +24,11 @@ pub(crate) fn take<B: Book, L: Link>(
         return Ok(None);
     };
     let answer = handle_packet(server, packet, day);
-    Ok(Some(Taken { from, answer }))
+    Ok(Some(Taken {
+        from,
+        packet,
+        answer,
+    }))
 }
 
 // The next datagram that has come already, handled on this day.
@@ -40,7 +44,11 @@ fn take_now<B: Book, L: Link>(
         return Ok(None);
     };
     let answer = handle_packet(server, packet, day);
-    Ok(Some(Taken { from, answer }))
+    Ok(Some(Taken {
+        from,
+        packet,
+        answer,
+    }))
 }
 
 // What the server makes of a packet on this day.

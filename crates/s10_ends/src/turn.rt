@@ -2,7 +2,7 @@
 
 ghost use Rattle.std.specs.Prelude.{◌≡◌, ◌∷◌, []};
 ghost use Rattle.s10_ends.specs.Server.{book_of};
-ghost use Rattle.s10_ends.specs.Round.{ServesRound};
+ghost use Rattle.s10_ends.specs.Round.{ServesRound, IsSentSettled};
 
 use crate::answering::answer;
 use crate::server::Server;
@@ -15,12 +15,13 @@ use s10_link::Link;
 /// with Spent where the link can count no further receive, which leaves the server as it was; with Send, or with Spent
 /// where the link sends no more, behind a datagram that was handled with a reply.
 pub fn serve_one<B: Settle, L: Link>(server: &mut Server<B>, link: &mut L, day: u32) -> Turn
-    ensures { ServesRound B.faults B.honest B.terms B.history B.settled day 1
+    ensures served { ServesRound B.faults B.honest B.terms B.history B.settled day 1
         (L.trace_of link.old, book_of server.old) (L.trace_of link.new, book_of server.new) (result ∷ []) }
+    ensures stands { B.honest (book_of server.new) → IsSentSettled (B.settled (book_of server.new)) result }
 {
     let Some(taken) = take(server, link, day)? else {
         return Ok(ServerTurn::Quiet);
     };
     let settling = server.settle();
-    answer(link, &taken, settling)
+    answer(link, server, &taken, settling)
 }

@@ -1,6 +1,6 @@
 use crate::fixtures::{FIRST_DRAW, FIRST_GRANT, deliver, new_server, script};
 use s10_book::{Book, BookFault, PlainBook, Settle, TripBook};
-use s10_ends::{Server, ServerTurn, Turn, serve_one, serve_round};
+use s10_ends::{Server, ServerTurn, Turn, serve_round};
 use s10_link::{Link, LinkFault, Peer, Receipt, ScriptLink};
 use s10_wire::{Frame, WireFault, decode_reply, encode_reply};
 use std::alloc::{AllocError, Global};
@@ -171,58 +171,31 @@ fn tripping_server(alloc: Global, at: u64) -> Result<Server<TripBook<PlainBook>>
     Ok(Server::new(TripBook::new(server.into_book(), at)))
 }
 
-/// Whether a round over two Draws that could not be settled keeps both, and the next one sends their replies; none where
-/// the call of the book that fails is not the settling.
-fn is_settled_later(alloc: Global, at: u64) -> Result<Option<bool>, Fail> {
-    let draws = [deliver(PEER, FIRST_DRAW.0), deliver(OTHER, SECOND_DRAW.0)];
-    let [first, second] = draws;
+/// Whether a round over two Draws sends both replies, and what a settling behind it answers.
+fn served_then_settled(alloc: Global, at: u64) -> Result<(bool, Result<(), BookFault>), Fail> {
+    let receipts = [deliver(PEER, FIRST_DRAW.0), deliver(OTHER, SECOND_DRAW.0)];
     let mut server = tripping_server(alloc, at)?;
-    let mut link = script(alloc, &[first, second, first, second], &[true; 4])?;
-    let unsettled = [
-        Ok(ServerTurn::Unsettled(PEER, BookFault::Store)),
-        Ok(ServerTurn::Unsettled(OTHER, BookFault::Store)),
-    ];
-    if !serves(alloc, &mut server, &mut link, 2, &unsettled)? {
-        return Ok(None);
-    }
-    let is_kept = link.log().is_empty() && server.book().len() == 3;
+    let mut link = script(alloc, &receipts, &[true; 2])?;
     let turns = [replied(PEER, FIRST_DRAW.1)?, replied(OTHER, SECOND_DRAW.1)?];
     let is_sent = serves(alloc, &mut server, &mut link, 2, &turns)?
         && has_sent(&link, &[(PEER, FIRST_DRAW.1), (OTHER, SECOND_DRAW.1)]);
-    Ok(Some(is_kept && is_sent && server.book().len() == 3))
+    Ok((is_sent, server.into_book().settle()))
 }
 
-/// The same for a turn over one Draw.
-fn is_turn_settled_later(alloc: Global, at: u64) -> Result<Option<bool>, Fail> {
-    let mut server = tripping_server(alloc, at)?;
-    let receipts = [deliver(PEER, FIRST_DRAW.0); 2];
-    let mut link = script(alloc, &receipts, &[true; 2])?;
-    let unsettled = Ok(ServerTurn::Unsettled(PEER, BookFault::Store));
-    if serve_one(&mut server, &mut link, 20_000) != unsettled {
-        return Ok(None);
-    }
-    let is_kept = link.log().is_empty() && server.book().len() == 2;
-    let is_sent = serve_one(&mut server, &mut link, 20_000) == replied(PEER, FIRST_DRAW.1)?
-        && has_sent(&link, &[(PEER, FIRST_DRAW.1)]);
-    Ok(Some(is_kept && is_sent && server.book().len() == 2))
-}
-
-// Each call of the book fails in turn; one of them is the settling.
+// All calls of a book in memory are settled. Its call behind those of the Draws is the settling.
 #[test]
-fn no_reply_is_sent_before_its_call_is_settled(rt: HostRuntime) -> Result<(), Fail> {
-    let mut rounds: u32 = 0;
-    let mut turns: u32 = 0;
+fn settled_calls_are_answered_though_a_settling_fails(rt: HostRuntime) -> Result<(), Fail> {
+    let mut faulted: u64 = 0;
     for at in 0..20u64 {
-        if let Some(is_right) = is_settled_later(rt.alloc(), at)? {
-            assert!(rt; is_right, "round, call {at} of the book");
-            rounds = rounds.saturating_add(1);
-        }
-        if let Some(is_right) = is_turn_settled_later(rt.alloc(), at)? {
-            assert!(rt; is_right, "turn, call {at} of the book");
-            turns = turns.saturating_add(1);
+        if !served_then_settled(rt.alloc(), at)?.0 {
+            faulted = faulted.saturating_add(1);
         }
     }
-    assert_eq!(rt; rounds, 1);
-    assert_eq!(rt; turns, 1);
+    let next = faulted.saturating_add(1);
+    assert_eq!(rt; served_then_settled(rt.alloc(), faulted)?, (true, Ok(())));
+    assert_eq!(rt;
+        served_then_settled(rt.alloc(), next)?,
+        (true, Err(BookFault::Store))
+    );
     Ok(())
 }

@@ -14,7 +14,7 @@ use Rattle.s10_jobs.specs.Serving.{IsRound, Lead}
 module _ {B : Type 0} (faults : B → Faults) (honest : B → Type 0) (terms : B → Terms) (history settled : B → List Entry) (given : Option ℕ) where
   before_taking : (day : ℕ) (old new : Trace × B) (taken : List Taken) → TakesAll (λ before after b answer. Handles faults honest terms history before after day b answer) old taken new → honest new.1 → honest old.1
   before_taking day old _ _ none kept = kept
-  before_taking day old new _ (more {between = between} takes took) kept = before_taking day old between _ takes (took.2.was_honest kept)
+  before_taking day old new _ (more {between = between} takes took) kept = before_taking day old between _ takes (took.1.was_honest kept)
 
   before_settling : (between new : B) (taken : List Taken) (settling : Result (Unit {0}) BookFault)
       → (taken ≢ [] → Settles faults honest terms history settled between new settling) → (taken ≡ [] → new ≡ between) → honest new → honest between

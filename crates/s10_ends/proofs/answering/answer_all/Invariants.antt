@@ -1,5 +1,7 @@
 use Rattle.std.proofs.Common.{◌≡◌, ◌≤◌, length, take}
 use Rattle.std.specs.Prelude.{vec_len, vec_capacity}
+use Rattle.s10_ends.specs.Server.{book_of}
+use Rattle.s10_ends.specs.Turn.{AsksSettled}
 use Rattle.s10_ends.specs.Round.{AnswersAll}
 use Rattle.s10_ends.proofs.answering.answer_all.Given as goal
 
@@ -8,5 +10,6 @@ invariant-loop-next g l = record {
   room : length l.taken ≤ vec_capacity l.turns;
   capacity : vec_capacity l.turns ≡ vec_capacity l.fn.turns;
   many : vec_len l.turns ≡ l.next-index;
-  answers : AnswersAll l.fn.settling (g.L.Link.trace_of l.fn.link) (take l.next-index l.taken) l.turns.items (g.L.Link.trace_of l.link);
+  answers : AnswersAll (g.B.Book.honest (book_of l.fn.server)) (AsksSettled (g.B.Settle.settled (book_of l.fn.server)) (g.B.Book.history (book_of l.fn.server)))
+      l.fn.settling (g.L.Link.trace_of l.fn.link) (take l.next-index l.taken) l.turns.items (g.L.Link.trace_of l.link);
 }

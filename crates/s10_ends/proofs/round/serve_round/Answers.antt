@@ -1,3 +1,4 @@
+use Rattle.s10_ends.proofs.Standing.{round_stands}
 use Rattle.s10_ends.proofs.round.serve_round.Goals as goal
 
 pub returns-clause-served : goal.returns-clause-served
@@ -10,3 +11,6 @@ returns-clause-served g c = record {
   answers = rw (← c.deref.ensures.value) c.settle_and_answer.ensures.answered;
   are = c.tell_end.ensures;
 }
+
+pub returns-clause-stands : goal.returns-clause-stands
+returns-clause-stands g c = round_stands _ _ _ _ _ c.args.day c.args.most _ _ _ (returns-clause-served g c)
