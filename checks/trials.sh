@@ -227,8 +227,8 @@ rm filler
 create 0 created '' '~new 32768,~new-wal 41' new
 tries 0 'ledger ok 0' '' '+alone-wal 41' audit --ledger alone
 
-# A server whose disk fills replies to nothing while a call cannot be written, and goes on once there is room. No answered call is
-# lost, and none that was kept meanwhile.
+# A server whose disk fills holds back the reply to a call that cannot be written, answers those that are, and goes on once there is
+# room. No answered call is lost, and none that was kept meanwhile.
 group small
 mount -t tmpfs -o size=4m tmpfs "$room/small"
 cd "$room/small"
@@ -242,7 +242,8 @@ while draw "$number" >>../answers; do
     number=$((number + 1))
 done
 [ "$(grep -c '^unsettled store$' ../turns)" = 1 ] || fail 'a full disk is no fault of one turn'
-if draw 1 >../again; then fail 'a reply while a call cannot be written'; fi
+[ "$(draw 1)" = "$(sed -n 2p ../answers)" ] || fail 'a repeat on a full disk'
+if draw "$number" >../again; then fail 'a reply while its call cannot be written'; fi
 rm filler
 [ "$(draw 1)" = "$(sed -n 2p ../answers)" ] || fail 'a repeat once there is room'
 draw "$number" >../again || fail 'a draw once there is room'

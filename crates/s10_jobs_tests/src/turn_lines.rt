@@ -74,6 +74,10 @@ fn turns_have_their_lines(rt: HostRuntime) -> Result<(), Fail> {
             "faulted memory\n",
         ),
         (
+            Ok(ServerTurn::Unsettled(PEER, BookFault::Store)),
+            "unsettled store\n",
+        ),
+        (
             Ok(ServerTurn::Replied(PEER, frame)),
             "replied 533101820000000700000001524147420000004e2052413030303030303030354742\n",
         ),

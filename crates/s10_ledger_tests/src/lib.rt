@@ -22,6 +22,8 @@ mod openings;
 #[cfg(test)]
 mod readings;
 #[cfg(test)]
+mod rounds;
+#[cfg(test)]
 mod rows;
 #[cfg(test)]
 mod settling;
