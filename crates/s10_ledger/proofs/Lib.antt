@@ -4,6 +4,7 @@ pub mod HistoryLemmas
 pub mod BookLemmas
 pub mod NewLedger
 pub mod PendingLemmas
+pub mod SettledLemmas
 pub mod WholeLemmas
 pub mod OpeningLemmas
 pub mod RefusalLemmas

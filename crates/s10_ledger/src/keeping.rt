@@ -1,12 +1,14 @@
 //! Calls are held in the process, and written.
 
 ghost use Rattle.std.specs.Prelude.{◌≡◌, ◌≢◌, ◌⊎◌, ◌≤◌, ◌+◌, ◌++◌, ◌∷◌, [], List, length, map, All, Err, IsTrue, OnOk, OnErr};
+ghost use Rattle.std.specs.List.{list_any};
 ghost use Rattle.sqlite_trees.specs.Tree.{Trees};
 ghost use Rattle.sqlite_trees.specs.View.{doubt};
 ghost use Rattle.sqlite.specs.Held.{state};
 ghost use Rattle.sqlite.specs.State.{HasCleanDisk};
 ghost use Rattle.s10_history.specs.declared.entry.Entry.{Entry};
 ghost use Rattle.s10_book.specs.declared.book_fault.BookFault.TheVariants.{Full};
+ghost use Rattle.s10_history.specs.History.{has_key};
 ghost use Rattle.s10_history.specs.Settings.{Terms};
 ghost use Rattle.s10_history.specs.declared.settings.TheConstants.{GREATEST_LIMIT};
 ghost use Rattle.s10_book.specs.Rules.{IsLegal, MayFollow};
@@ -17,6 +19,7 @@ ghost use Rattle.s10_rows.specs.Selected.{IsCall};
 ghost use Rattle.s10_rows.specs.Tables.{Tables, tables_of};
 ghost use Rattle.s10_statements.specs.Settled.{IsSettled};
 ghost use Rattle.s10_statements.specs.Shown.{HasTables};
+ghost use Rattle.s10_ledger.specs.Pending.{calls_of};
 
 use crate::faults::fault_of;
 use s10_book::BookFault;
@@ -90,4 +93,11 @@ pub(crate) fn hold_call(
     }
     index.follow(*entry);
     Ok(())
+}
+
+// Whether a call of that key is pending.
+pub(crate) fn is_pending(pending: &[CallWrite], customer: u32, number: u32) -> bool
+    ensures { result ≡ list_any (has_key customer number) (calls_of pending.now) }
+{
+    pending.iter().any(|w| w.entry.request.customer == customer && w.entry.request.number == number)
 }

@@ -29,4 +29,8 @@ impl<S: Alter> Settle for SqlBook<S> {
     {
         self.settle_all()
     }
+
+    fn is_settled(&self, customer: u32, number: u32) -> bool {
+        !self.has_pending(customer, number)
+    }
 }

@@ -7,7 +7,7 @@ ghost use Rattle.sqlite.specs.Held.{state};
 ghost use Rattle.s10_ledger.specs.Ledger.{history_in, IsHonest};
 
 use crate::faults::opening_fault;
-use crate::keeping::{hold_call, write_calls};
+use crate::keeping::{hold_call, is_pending, write_calls};
 use crate::lookups::{ask, usage_in};
 use crate::refused::Refused;
 use s10_book::{Book, BookFault, Faults};
@@ -214,9 +214,10 @@ fn counted<T>(faults: &mut Faults, answer: Result<T, BookFault>) -> Result<T, Bo
 
 impl<S: Alter> SqlBook<S> {
     ghost use Rattle.std.specs.Prelude.{◌⊎◌, ◌++◌, ◌∷◌, ◌<◌, length, IfOk, IsTrue, OnErr, OnOk, Contains};
+    ghost use Rattle.std.specs.List.{list_any};
     ghost use Rattle.sqlite_trees.specs.Tree.{Trees};
     ghost use Rattle.sqlite.specs.State.{HasCleanDisk};
-    ghost use Rattle.s10_history.specs.History.{ranges_of};
+    ghost use Rattle.s10_history.specs.History.{has_key, ranges_of};
     ghost use Rattle.s10_history.specs.Usage.{usage_of};
     ghost use Rattle.s10_book.specs.Rules.{MayFollow};
     ghost use Rattle.s10_book.specs.Book.{Keeps};
@@ -272,6 +273,13 @@ impl<S: Alter> SqlBook<S> {
             return self.ask_again();
         }
         self.write_pending()
+    }
+
+    // Whether a call of that key is pending.
+    pub(crate) fn has_pending(&self, customer: u32, number: u32) -> bool
+        ensures { result ≡ list_any (has_key customer number) self.now.pending }
+    {
+        is_pending(&self.pending, customer, number)
     }
 
     // Settles where no more calls may be pending, and else asks the connection as the reads do.
