@@ -37,6 +37,15 @@ impl<B: Book> TripBook<B> {
         }
     }
 
+    /// Gives the inner book back, as the calls that did not fail left it.
+    pub fn into_inner(self) -> B
+        ensures history { B.history result ≡ ⟦<TripBook<B> as Book>⟧.history self }
+        ensures terms { B.terms result ≡ ⟦<TripBook<B> as Book>⟧.terms self }
+        ensures honest { ⟦<TripBook<B> as Book>⟧.honest self → B.honest result }
+    {
+        self.inner
+    }
+
     // Counts a call, and says whether it is the one that fails.
     fn trips(&mut self) -> bool
         ensures inner { self.new.inner ≡ self.old.inner }

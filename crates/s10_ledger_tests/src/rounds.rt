@@ -7,6 +7,7 @@ use s10_ledger::SqlBook;
 use s10_link::{Packet, Peer, Receipt, ScriptLink};
 use s10_wire::{decode_reply, encode_reply};
 use sqlite::MemStore;
+use std::alloc::{AllocError, Global};
 use std::process::Abort;
 use std::test::Fail;
 
@@ -73,13 +74,30 @@ fn repeat(from: Peer, call: (&[u8], &[u8])) -> Result<Case, &'static str> {
     })
 }
 
+type TrippingServer = Server<TripBook<SqlBook<MemStore>>>;
+
 // A server over a ledger that settled the Grant and the first Draw, and whose call with this number from then on fails.
-fn tripping<R: Abort>(rt: &R, at: u64) -> Option<Server<TripBook<SqlBook<MemStore>>>> {
+fn tripping<R: Abort + AllocGlobal>(rt: &R, at: u64) -> TrippingServer {
     let mut server = Server::new(ledger(rt, settings(rt, 1000)));
     let _ = server.handle(GRANT, 20_000);
     let _ = server.handle(FIRST.0, 20_000);
-    server.settle().ok()?;
-    Some(Server::new(TripBook::new(server.into_book(), at)))
+    let _ = server.settle();
+    Server::new(TripBook::new(server.into_book(), at))
+}
+
+fn close(server: TrippingServer) {
+    let _ = server.into_book().into_inner().close();
+}
+
+// The turns of two rounds of two datagrams each.
+fn two_rounds(
+    alloc: Global,
+    server: &mut TrippingServer,
+    link: &mut ScriptLink,
+) -> Result<(Vec<Turn>, Vec<Turn>), AllocError> {
+    let at_first = serve_round(alloc, server, link, 20_000, 2)?;
+    let then = serve_round(alloc, server, link, 20_000, 2)?;
+    Ok((at_first, then))
 }
 
 // Whether a round over two datagrams that could not be settled ends in these turns, and the next one over the same sends all
@@ -96,13 +114,14 @@ fn answers_later<R: Abort + AllocGlobal>(
         receipts.to_vec(rt.alloc())?,
         [true; 4].to_vec(rt.alloc())?,
     )?;
-    let mut server = tripping(rt, at).ok_or("ledger")?;
-    let round = serve_round(rt.alloc(), &mut server, &mut link, 20_000, 2)?;
-    if round.as_slice() != [first.at_first, second.at_first] {
+    let mut server = tripping(rt, at);
+    let served = two_rounds(rt.alloc(), &mut server, &mut link);
+    close(server);
+    let (at_first, then) = served?;
+    if at_first.as_slice() != [first.at_first, second.at_first].as_slice() {
         return Ok(None);
     }
-    let next = serve_round(rt.alloc(), &mut server, &mut link, 20_000, 2)?;
-    Ok(Some(next.as_slice() == [first.then, second.then]))
+    Ok(Some(then.as_slice() == [first.then, second.then].as_slice()))
 }
 
 // The same for a turn over one datagram.
@@ -116,11 +135,14 @@ fn answers_one_later<R: Abort + AllocGlobal>(
         [case.receipt; 2].to_vec(rt.alloc())?,
         [true; 2].to_vec(rt.alloc())?,
     )?;
-    let mut server = tripping(rt, at).ok_or("ledger")?;
-    if serve_one(&mut server, &mut link, 20_000) != case.at_first {
+    let mut server = tripping(rt, at);
+    let at_first = serve_one(&mut server, &mut link, 20_000);
+    let then = serve_one(&mut server, &mut link, 20_000);
+    close(server);
+    if at_first != case.at_first {
         return Ok(None);
     }
-    Ok(Some(serve_one(&mut server, &mut link, 20_000) == case.then))
+    Ok(Some(then == case.then))
 }
 
 // At how many calls of the book the replies wait for a settling. None where one is not sent then.

@@ -153,3 +153,74 @@ fn a_settling_that_fails_leaves_its_calls_pending(rt: HostRuntime) -> Result<(),
     assert!(rt; failed.is_some_and(|count| 0 < count), "{failed:?}");
     Ok(())
 }
+
+// What is told of four keys, what is answered to a settling then, and what is told behind it.
+type Told = ([bool; 4], Result<(), BookFault>, [bool; 4]);
+
+// Whether the calls of these keys are settled, of which no call has the last.
+fn settled_keys<B: Settle>(book: &B) -> [bool; 4] {
+    [
+        book.is_settled(0, 1),
+        book.is_settled(7, 1),
+        book.is_settled(7, 2),
+        book.is_settled(7, 3),
+    ]
+}
+
+// What is told of the keys of two calls that are settled, of a third one, and of none. None where the first two are not settled.
+fn tells_of_keys<B: Settle>(book: &mut B) -> Option<Told> {
+    answer(book, &grant(0, 1, 7, 0, 9), 20000).ok()?;
+    answer(book, &draw(7, 1), 20000).ok()?;
+    book.settle().ok()?;
+    answer(book, &draw(7, 2), 20000).ok()?;
+    let before = settled_keys(book);
+    let settled = book.settle();
+    Some((before, settled, settled_keys(book)))
+}
+
+// What a ledger in memory tells.
+fn told_in_memory<R: Abort + AllocGlobal>(rt: &R) -> Option<Told> {
+    let mut book = ledger(rt, settings(rt, 100));
+    let told = tells_of_keys(&mut book);
+    let _conn = book.close();
+    told
+}
+
+#[test]
+fn a_call_is_settled_behind_its_settling(rt: HostRuntime) {
+    let all = Some(([true, true, false, true], Ok(()), [true; 4]));
+    assert_eq!(rt; told_in_memory(&rt), all);
+}
+
+// What is told where the log stops at one of its calls.
+fn told_stopped(alloc: Global, settings: Settings, at: u64) -> Option<Told> {
+    let mut book = stopping(alloc, settings, at)?;
+    let told = tells_of_keys(&mut book);
+    let _files = files_of(book.close());
+    told
+}
+
+// At how many calls of the log the settling fails, before it passes. None where the third call is told to be settled before, or
+// the first two are not.
+fn failed_tellings(alloc: Global, settings: Settings) -> Option<u32> {
+    let mut count: u32 = 0;
+    for at in 0..1000u64 {
+        match told_stopped(alloc, settings, at) {
+            None => {}
+            Some(([true, true, false, true], Ok(()), [true, true, true, true])) => {
+                return Some(count);
+            }
+            Some(([true, true, false, true], Err(BookFault::Store), [true, true, false, true])) => {
+                count = count.saturating_add(1);
+            }
+            Some(_) => return None,
+        }
+    }
+    None
+}
+
+#[test]
+fn a_settling_that_fails_settles_no_call_of_its_own(rt: HostRuntime) {
+    let failed = failed_tellings(rt.alloc(), settings(&rt, 100));
+    assert!(rt; failed.is_some_and(|count| 0 < count), "{failed:?}");
+}
