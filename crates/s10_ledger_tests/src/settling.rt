@@ -157,7 +157,17 @@ fn a_settling_that_fails_leaves_its_calls_pending(rt: HostRuntime) -> Result<(),
 // What is told of four keys, what is answered to a settling then, and what is told behind it.
 type Told = ([bool; 4], Result<(), BookFault>, [bool; 4]);
 
-// Whether the calls of these keys are settled, of which no call has the last.
+// The third call is settled by the settling alone.
+const SETTLED: Told = ([true, true, false, true], Ok(()), [true; 4]);
+
+// The settling fails, and the third call stays pending.
+const UNSETTLED: Told = (
+    [true, true, false, true],
+    Err(BookFault::Store),
+    [true, true, false, true],
+);
+
+// Whether the calls of these keys are settled. The last is the key of no call.
 fn settled_keys<B: Settle>(book: &B) -> [bool; 4] {
     [
         book.is_settled(0, 1),
@@ -188,8 +198,7 @@ fn told_in_memory<R: Abort + AllocGlobal>(rt: &R) -> Option<Told> {
 
 #[test]
 fn a_call_is_settled_behind_its_settling(rt: HostRuntime) {
-    let all = Some(([true, true, false, true], Ok(()), [true; 4]));
-    assert_eq!(rt; told_in_memory(&rt), all);
+    assert_eq!(rt; told_in_memory(&rt), Some(SETTLED));
 }
 
 // What is told where the log stops at one of its calls.
@@ -200,20 +209,18 @@ fn told_stopped(alloc: Global, settings: Settings, at: u64) -> Option<Told> {
     told
 }
 
-// At how many calls of the log the settling fails, before it passes. None where the third call is told to be settled before, or
-// the first two are not.
+// At how many calls of the log the settling fails, before it passes. None where anything else is told.
 fn failed_tellings(alloc: Global, settings: Settings) -> Option<u32> {
     let mut count: u32 = 0;
     for at in 0..1000u64 {
-        match told_stopped(alloc, settings, at) {
-            None => {}
-            Some(([true, true, false, true], Ok(()), [true, true, true, true])) => {
+        if let Some(told) = told_stopped(alloc, settings, at) {
+            if told == SETTLED {
                 return Some(count);
             }
-            Some(([true, true, false, true], Err(BookFault::Store), [true, true, false, true])) => {
-                count = count.saturating_add(1);
+            if told != UNSETTLED {
+                return None;
             }
-            Some(_) => return None,
+            count = count.saturating_add(1);
         }
     }
     None
