@@ -66,11 +66,10 @@ fn new_call(from: Peer, call: (&[u8], &[u8])) -> Result<Case, &'static str> {
 
 // The repeat of a call that is settled.
 fn repeat(from: Peer, call: (&[u8], &[u8])) -> Result<Case, &'static str> {
-    let turn = replied(from, call.1)?;
     Ok(Case {
         receipt: Receipt::Deliver(from, Packet::new(call.0)),
-        at_first: turn,
-        then: turn,
+        at_first: replied(from, call.1)?,
+        then: replied(from, call.1)?,
     })
 }
 
