@@ -1,5 +1,0 @@
-use Rattle.std.proofs.Common.{rules}
-use Rattle.s10_book.proofs.plain_book.PlainBookBook.len.Goals as goal
-
-pub returns-clause-answer : goal.returns-clause-answer
-returns-clause-answer c = search rules

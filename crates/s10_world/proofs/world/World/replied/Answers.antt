@@ -1,5 +1,0 @@
-use Rattle.std.proofs.Common.{rules}
-use Rattle.s10_world.proofs.world.World.replied.Goals as goal
-
-pub returns : goal.returns
-returns g c = search rules
