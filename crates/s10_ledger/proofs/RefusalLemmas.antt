@@ -1,5 +1,5 @@
 -- A database that is a ledger is not refused for its rows.
-use Rattle.std.proofs.Common.{◌≡◌, ◌≢◌, ◌⊎◌, inl, inr, ℕ, ℤ, zero, suc, ◌+◌, ◌<◌, ◌≤◌, pos, List, [], ◌∷◌, length, map, get_or, take, Some, false, refl, sym, ap, subst, ◌∙◌, arith, int_cmp, Ordering, Less, Equal, Greater, is_lt, IsSorted}
+use Rattle.std.proofs.Common.{◌≡◌, ◌≢◌, ◌⊎◌, inl, inr, ℕ, ℤ, zero, suc, ◌+◌, ◌<◌, pos, List, [], ◌∷◌, length, map, get_or, take, Some, false, refl, sym, ap, subst, ◌∙◌, arith, int_cmp, Ordering, Less, Equal, Greater, is_lt, IsSorted}
 use Rattle.std.specs.Prelude.{slice_get, All}
 use Rattle.std.specs.Cmp.{IsTotalOrder}
 use Rattle.std.specs.Ordering.{on, ordering_reverse}

@@ -1,5 +1,5 @@
 -- All rows of calls come in order of arrival.
-use Rattle.std.proofs.Common.{◌≡◌, ◌≢◌, ℤ, suc, Bool, true, false, List, [], ◌∷◌, map, filter, refl, sym, ap, subst, ◌∙◌, arith, int_cmp, Ordering, Less, Equal, Greater, is_lt, is_gt, true≢false, IsSorted}
+use Rattle.std.proofs.Common.{◌≡◌, ◌≢◌, suc, true, false, List, [], ◌∷◌, map, filter, refl, sym, ap, subst, ◌∙◌, arith, int_cmp, Ordering, Less, Equal, Greater, is_lt, is_gt, true≢false, IsSorted}
 use Rattle.std.specs.List.{AllByRecursion}
 use Rattle.std.specs.Cmp.{IsTotalOrder}
 use Rattle.std.specs.Ordering.{ordering_reverse}

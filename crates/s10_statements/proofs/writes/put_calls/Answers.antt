@@ -1,6 +1,5 @@
-use Rattle.std.proofs.Common.{List, take, take_all, refl, subst, ◌∙◌, arith}
+use Rattle.std.proofs.Common.{take, take_all, refl, subst, ◌∙◌, arith}
 use Rattle.sqlite.specs.Held.{state}
-use Rattle.s10_rows.specs.declared.call_write.CallWrite.{CallWrite}
 use Rattle.s10_statements.proofs.CallLemmas.{AreCalled, none_called, one_called, kept_still, survives_still}
 use Rattle.s10_statements.proofs.writes.put_calls.Goals as goal
 
