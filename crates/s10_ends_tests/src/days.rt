@@ -1,69 +1,71 @@
 use crate::scripts::Want::Reply;
-use crate::scripts::{DRAW, GRANT, are_answered, play, played};
-use s10_book::Book;
+use crate::scripts::{DRAW, GRANT, Part, is_played};
 use std::test::Fail;
+
+/// Three serials, drawn on the days 0, 29 and 30 of an interval.
+const INTERVAL: &'static [Part] = &[(
+    &[
+        GRANT,
+        DRAW,
+        (
+            20000,
+            "53310102 00000007 00000002 52414742",
+            Reply("53310182 00000007 00000002 52414742 00 00004e20 52413030303030303031344742"),
+        ),
+        (
+            20000,
+            "53310102 00000007 00000003 52414742",
+            Reply("53310182 00000007 00000003 52414742 00 00004e20 52413030303030303032384742"),
+        ),
+        (
+            20029,
+            "53310102 00000007 00000004 52414742",
+            Reply("53310182 00000007 00000004 52414742 05"),
+        ),
+        (
+            20030,
+            "53310102 00000007 00000005 52414742",
+            Reply("53310182 00000007 00000005 52414742 00 00004e3e 52413030303030303030354742"),
+        ),
+    ],
+    6,
+    20030,
+)];
 
 #[test]
 fn interval_ends_on_the_thirtieth_day(rt: HostRuntime) -> Result<(), Fail> {
-    are_answered(
-        &rt,
-        rt.alloc(),
-        100,
-        &[
-            GRANT,
-            DRAW,
-            (
-                20000,
-                "53310102 00000007 00000002 52414742",
-                Reply("53310182 00000007 00000002 52414742 00 00004e20 52413030303030303031344742"),
-            ),
-            (
-                20000,
-                "53310102 00000007 00000003 52414742",
-                Reply("53310182 00000007 00000003 52414742 00 00004e20 52413030303030303032384742"),
-            ),
-            (
-                20029,
-                "53310102 00000007 00000004 52414742",
-                Reply("53310182 00000007 00000004 52414742 05"),
-            ),
-            (
-                20030,
-                "53310102 00000007 00000005 52414742",
-                Reply("53310182 00000007 00000005 52414742 00 00004e3e 52413030303030303030354742"),
-            ),
-        ],
-    )
+    assert!(rt; is_played(rt.alloc(), 100, INTERVAL)?);
+    Ok(())
 }
+
+/// A day that is before the latest.
+const FALLING: &'static [Part] = &[(
+    &[
+        GRANT,
+        (
+            20010,
+            "53310102 00000007 00000001 52414742",
+            Reply("53310182 00000007 00000001 52414742 00 00004e2a 52413030303030303030354742"),
+        ),
+        (
+            19000,
+            "53310102 00000007 00000002 52414742",
+            Reply("53310182 00000007 00000002 52414742 00 00004e2a 52413030303030303031344742"),
+        ),
+    ],
+    3,
+    20010,
+)];
 
 #[test]
 fn days_that_fall_are_raised_to_the_latest(rt: HostRuntime) -> Result<(), Fail> {
-    are_answered(
-        &rt,
-        rt.alloc(),
-        100,
-        &[
-            GRANT,
-            (
-                20010,
-                "53310102 00000007 00000001 52414742",
-                Reply("53310182 00000007 00000001 52414742 00 00004e2a 52413030303030303030354742"),
-            ),
-            (
-                19000,
-                "53310102 00000007 00000002 52414742",
-                Reply("53310182 00000007 00000002 52414742 00 00004e2a 52413030303030303031344742"),
-            ),
-        ],
-    )
+    assert!(rt; is_played(rt.alloc(), 100, FALLING)?);
+    Ok(())
 }
 
-#[test]
-fn void_frees_nothing_before_the_interval_ends(rt: HostRuntime) -> Result<(), Fail> {
-    let mut server = played(
-        &rt,
-        rt.alloc(),
-        100,
+/// A serial that is drawn, voided, and drawn again once its interval has ended.
+const VOIDED: &'static [Part] = &[
+    (
         &[
             GRANT,
             DRAW,
@@ -108,16 +110,22 @@ fn void_frees_nothing_before_the_interval_ends(rt: HostRuntime) -> Result<(), Fa
                 Reply("53310182 00000007 00000008 52414742 00 00004e3e 52413030303030303031344742"),
             ),
         ],
-    )?;
-    assert_eq!(rt; server.book().len(), 9);
-    play(
-        &rt,
-        rt.alloc(),
-        &mut server,
+        9,
+        20030,
+    ),
+    (
         &[(
             20030,
             "53310104 00000007 00000009 52413030303030303031344742",
             Reply("53310184 00000007 00000009 52413030303030303031344742 00 02 00004e3e"),
         )],
-    )
+        10,
+        20030,
+    ),
+];
+
+#[test]
+fn void_frees_nothing_before_the_interval_ends(rt: HostRuntime) -> Result<(), Fail> {
+    assert!(rt; is_played(rt.alloc(), 100, VOIDED)?);
+    Ok(())
 }

@@ -1,8 +1,8 @@
-use crate::fixtures::{FIRST_DRAW, FIRST_GRANT, deliver, new_server, script};
+use crate::fixtures::{FIRST_DRAW, FIRST_GRANT, deliver, new_server};
 use s10_book::{Book, BookFault, PlainBook, Settle, TripBook};
 use s10_ends::{Server, ServerTurn, Turn, serve_round};
 use s10_link::{Link, LinkFault, Peer, Receipt, ScriptLink};
-use s10_wire::{Frame, WireFault, decode_reply, encode_reply};
+use s10_wire::{Frame, WireFault};
 use std::alloc::{AllocError, Global};
 use std::test::Fail;
 
@@ -16,151 +16,304 @@ const OTHER: Peer = Peer {
     port: 4712,
 };
 
+/// A datagram and its reply.
+type Call = (&'static [u8], &'static [u8]);
+
 /// Customer 7's second Draw and its reply.
-const SECOND_DRAW: (&'static [u8], &'static [u8]) = (
+const SECOND_DRAW: Call = (
     b"S1\x01\x02\0\0\0\x07\0\0\0\x02RAGB",
     b"S1\x01\x82\0\0\0\x07\0\0\0\x02RAGB\0\0\0\x4e\x20RA000000014GB",
 );
 
-/// The turn in which the reply of this datagram was sent to the peer.
-fn replied(to: Peer, datagram: &[u8]) -> Result<Turn, &'static str> {
-    match decode_reply(datagram) {
-        Ok(reply) => Ok(Ok(ServerTurn::Replied(to, encode_reply(&reply)))),
-        Err(_) => Err("reply"),
-    }
+/// Bytes that ask nothing, and get no reply.
+const NO_CALL: Call = (b"S1", b"");
+
+/// What a receive meets.
+#[derive(Clone, Copy)]
+enum Meets {
+    Call(Peer, Call),
+    Nothing,
+    Fault,
+}
+
+/// What a turn ends in.
+#[derive(Clone, Copy)]
+enum Ends {
+    Replied(Peer, Call),
+    Dropped(Peer, WireFault),
+    Quiet,
+    Failed(LinkFault),
+}
+
+/// A round: how many datagrams it takes at most, what its turns end in, and how many replies were sent by then.
+type Round = (u32, &'static [Ends], usize);
+
+/// What the receives and the sends of a link meet, the rounds over it, the replies that they send, and how often they call it.
+#[derive(Clone, Copy)]
+struct Script {
+    receipts: &'static [Meets],
+    sends: &'static [bool],
+    rounds: &'static [Round],
+    replies: &'static [(Peer, Call)],
+    calls: u64,
 }
 
 /// A Grant, a Draw, a datagram that asks nothing, another Draw, and the first one again, from two peers.
-fn five_receipts() -> [Receipt; 5] {
-    [
-        deliver(OTHER, FIRST_GRANT.0),
-        deliver(PEER, FIRST_DRAW.0),
-        deliver(OTHER, b"S1"),
-        deliver(PEER, SECOND_DRAW.0),
-        deliver(OTHER, FIRST_DRAW.0),
-    ]
-}
-
-/// What becomes of these.
-fn five_turns() -> Result<[Turn; 5], &'static str> {
-    Ok([
-        replied(OTHER, FIRST_GRANT.1)?,
-        replied(PEER, FIRST_DRAW.1)?,
-        Ok(ServerTurn::Dropped(OTHER, WireFault::Short)),
-        replied(PEER, SECOND_DRAW.1)?,
-        replied(OTHER, FIRST_DRAW.1)?,
-    ])
-}
+const FIVE_RECEIPTS: &'static [Meets] = &[
+    Meets::Call(OTHER, FIRST_GRANT),
+    Meets::Call(PEER, FIRST_DRAW),
+    Meets::Call(OTHER, NO_CALL),
+    Meets::Call(PEER, SECOND_DRAW),
+    Meets::Call(OTHER, FIRST_DRAW),
+];
 
 /// Their replies, and where they go.
-fn four_replies() -> [(Peer, &'static [u8]); 4] {
-    [
-        (OTHER, FIRST_GRANT.1),
-        (PEER, FIRST_DRAW.1),
-        (PEER, SECOND_DRAW.1),
-        (OTHER, FIRST_DRAW.1),
-    ]
+const FOUR_REPLIES: &'static [(Peer, Call)] = &[
+    (OTHER, FIRST_GRANT),
+    (PEER, FIRST_DRAW),
+    (PEER, SECOND_DRAW),
+    (OTHER, FIRST_DRAW),
+];
+
+/// The receipts of a script.
+fn receipts_of(alloc: Global, list: &[Meets]) -> Result<Vec<Receipt>, AllocError> {
+    let mut receipts = Vec::new(alloc);
+    for meets in list {
+        receipts.push(match *meets {
+            Meets::Call(from, call) => deliver(from, call.0),
+            Meets::Nothing => Receipt::Nothing,
+            Meets::Fault => Receipt::Fail,
+        })?;
+    }
+    Ok(receipts)
 }
 
-/// Whether a round of so many datagrams at most ends in these turns.
+/// Whether a turn ends so.
+fn is_as_told(turn: &Turn, ends: &Ends) -> bool {
+    match (turn, ends) {
+        (Ok(ServerTurn::Replied(to, frame)), Ends::Replied(peer, call)) => {
+            to == peer && frame.bytes() == call.1
+        }
+        (Ok(ServerTurn::Dropped(from, fault)), Ends::Dropped(peer, refusal)) => {
+            from == peer && fault == refusal
+        }
+        (Ok(ServerTurn::Quiet), Ends::Quiet) => true,
+        (Err(fault), Ends::Failed(failure)) => fault == failure,
+        _ => false,
+    }
+}
+
+/// Whether turns end so, one by one.
+fn are_as_told(turns: &[Turn], told: &[Ends]) -> bool {
+    for (turn, ends) in turns.iter().zip(told) {
+        if !is_as_told(turn, ends) {
+            return false;
+        }
+    }
+    turns.len() == told.len()
+}
+
+/// Whether a round goes as told.
 fn serves<B: Settle>(
     alloc: Global,
     server: &mut Server<B>,
     link: &mut ScriptLink,
-    most: u32,
-    turns: &[Turn],
+    round: &Round,
 ) -> Result<bool, AllocError> {
+    let (most, told, sent) = *round;
     if most < 1 {
         return Ok(false);
     }
-    let served = serve_round(alloc, server, link, 20_000, most)?;
-    Ok(served.as_slice() == turns)
+    let turns = serve_round(alloc, server, link, 20_000, most)?;
+    Ok(are_as_told(&turns, told) && link.log().len() == sent)
 }
 
 /// Whether the link sent these replies, in this order, and nothing else.
-fn has_sent(link: &ScriptLink, replies: &[(Peer, &'static [u8])]) -> bool {
+fn has_sent(link: &ScriptLink, replies: &[(Peer, Call)]) -> bool {
     for (sent, reply) in link.log().iter().zip(replies) {
         let (to, frame): &(Peer, Frame) = sent;
-        if *to != reply.0 || frame.bytes() != reply.1 {
+        if *to != reply.0 || frame.bytes() != reply.1.1 {
             return false;
         }
     }
     link.log().len() == replies.len()
 }
 
+/// Whether the rounds of a script go as told, one after another, and so do its replies and calls.
+fn all_serve<B: Settle>(
+    alloc: Global,
+    server: &mut Server<B>,
+    link: &mut ScriptLink,
+    script: &Script,
+) -> Result<bool, AllocError> {
+    for round in script.rounds {
+        if !serves(alloc, server, link, round)? {
+            return Ok(false);
+        }
+    }
+    Ok(has_sent(link, script.replies) && link.trace().calls == script.calls)
+}
+
+/// Whether a server goes through a script as told.
+fn goes_through<B: Settle>(
+    alloc: Global,
+    server: &mut Server<B>,
+    script: &Script,
+) -> Result<bool, AllocError> {
+    let receipts = receipts_of(alloc, script.receipts)?;
+    let sends = script.sends.to_vec(alloc)?;
+    let mut link = ScriptLink::new(alloc, receipts, sends)?;
+    all_serve(alloc, server, &mut link, script)
+}
+
+/// Whether a script goes as told over an empty book, which then has so many calls.
+fn leaves(alloc: Global, script: &Script, calls: u32) -> Result<bool, Fail> {
+    let mut server = new_server(alloc, 100)?;
+    Ok(goes_through(alloc, &mut server, script)? && server.book().len() == calls)
+}
+
+/// All five in one round.
+const ONE_ROUND: Script = Script {
+    receipts: FIVE_RECEIPTS,
+    sends: &[true; 4],
+    rounds: &[(
+        8,
+        &[
+            Ends::Replied(OTHER, FIRST_GRANT),
+            Ends::Replied(PEER, FIRST_DRAW),
+            Ends::Dropped(OTHER, WireFault::Short),
+            Ends::Replied(PEER, SECOND_DRAW),
+            Ends::Replied(OTHER, FIRST_DRAW),
+        ],
+        4,
+    )],
+    replies: FOUR_REPLIES,
+    calls: 10,
+};
+
 #[test]
 fn each_reply_goes_to_its_peer_in_turn(rt: HostRuntime) -> Result<(), Fail> {
-    let mut server = new_server(rt.alloc(), 100)?;
-    let mut link = script(rt.alloc(), &five_receipts(), &[true; 4])?;
-    let turns = five_turns()?;
-    assert!(rt; serves(rt.alloc(), &mut server, &mut link, 8, &turns)?);
-    assert!(rt; has_sent(&link, &four_replies()));
-    assert_eq!(rt; link.trace().calls, 10);
-    assert_eq!(rt; server.book().len(), 3);
+    assert!(rt; leaves(rt.alloc(), &ONE_ROUND, 3)?);
     Ok(())
 }
+
+/// Two at a time.
+const THREE_ROUNDS: Script = Script {
+    receipts: FIVE_RECEIPTS,
+    sends: &[true; 4],
+    rounds: &[
+        (
+            2,
+            &[
+                Ends::Replied(OTHER, FIRST_GRANT),
+                Ends::Replied(PEER, FIRST_DRAW),
+            ],
+            2,
+        ),
+        (
+            2,
+            &[
+                Ends::Dropped(OTHER, WireFault::Short),
+                Ends::Replied(PEER, SECOND_DRAW),
+            ],
+            3,
+        ),
+        (2, &[Ends::Replied(OTHER, FIRST_DRAW)], 4),
+    ],
+    replies: FOUR_REPLIES,
+    calls: 10,
+};
 
 #[test]
 fn a_round_leaves_the_others_for_the_next(rt: HostRuntime) -> Result<(), Fail> {
-    let mut server = new_server(rt.alloc(), 100)?;
-    let mut link = script(rt.alloc(), &five_receipts(), &[true; 4])?;
-    let [granted, drawn, dropped, second, again] = five_turns()?;
-    assert!(rt; serves(rt.alloc(), &mut server, &mut link, 2, &[granted, drawn])?);
-    assert_eq!(rt; link.log().len(), 2);
-    assert!(rt; serves(rt.alloc(), &mut server, &mut link, 2, &[dropped, second])?);
-    assert_eq!(rt; link.log().len(), 3);
-    assert!(rt; serves(rt.alloc(), &mut server, &mut link, 2, &[again])?);
-    assert!(rt; has_sent(&link, &four_replies()));
+    assert!(rt; leaves(rt.alloc(), &THREE_ROUNDS, 3)?);
     Ok(())
 }
+
+/// A receive that fails between a Grant and a Draw.
+const FAILED_RECEIVE: Script = Script {
+    receipts: &[
+        Meets::Call(OTHER, FIRST_GRANT),
+        Meets::Fault,
+        Meets::Call(PEER, FIRST_DRAW),
+    ],
+    sends: &[true; 2],
+    rounds: &[
+        (
+            8,
+            &[
+                Ends::Replied(OTHER, FIRST_GRANT),
+                Ends::Failed(LinkFault::Receive),
+            ],
+            1,
+        ),
+        (8, &[Ends::Replied(PEER, FIRST_DRAW)], 2),
+    ],
+    replies: &[(OTHER, FIRST_GRANT), (PEER, FIRST_DRAW)],
+    calls: 6,
+};
 
 #[test]
 fn a_failed_receive_is_told_behind_the_datagrams(rt: HostRuntime) -> Result<(), Fail> {
-    let mut server = new_server(rt.alloc(), 100)?;
-    let receipts = [
-        deliver(OTHER, FIRST_GRANT.0),
-        Receipt::Fail,
-        deliver(PEER, FIRST_DRAW.0),
-    ];
-    let mut link = script(rt.alloc(), &receipts, &[true; 2])?;
-    let failed = [replied(OTHER, FIRST_GRANT.1)?, Err(LinkFault::Receive)];
-    let next = [replied(PEER, FIRST_DRAW.1)?];
-    assert!(rt; serves(rt.alloc(), &mut server, &mut link, 8, &failed)?);
-    assert!(rt; serves(rt.alloc(), &mut server, &mut link, 8, &next)?);
-    assert!(rt; has_sent(&link, &[(OTHER, FIRST_GRANT.1), (PEER, FIRST_DRAW.1)]));
+    assert!(rt; leaves(rt.alloc(), &FAILED_RECEIVE, 2)?);
     Ok(())
 }
 
-/// Whether a round over these receipts ends in this turn alone.
-fn is_round_of(alloc: Global, receipts: &[Receipt], turn: Turn) -> Result<bool, Fail> {
-    let mut server = new_server(alloc, 100)?;
-    let mut link = script(alloc, receipts, &[])?;
-    Ok(serves(alloc, &mut server, &mut link, 8, &[turn])? && link.trace().calls == 1)
-}
+/// Rounds over no receipt, over a receive that meets nothing, and over one that fails.
+const LONE_ROUNDS: [Script; 3] = [
+    Script {
+        receipts: &[],
+        sends: &[],
+        rounds: &[(8, &[Ends::Quiet], 0)],
+        replies: &[],
+        calls: 1,
+    },
+    Script {
+        receipts: &[Meets::Nothing],
+        sends: &[],
+        rounds: &[(8, &[Ends::Quiet], 0)],
+        replies: &[],
+        calls: 1,
+    },
+    Script {
+        receipts: &[Meets::Fault],
+        sends: &[],
+        rounds: &[(8, &[Ends::Failed(LinkFault::Receive)], 0)],
+        replies: &[],
+        calls: 1,
+    },
+];
 
 #[test]
 fn a_round_without_a_datagram_is_one_turn(rt: HostRuntime) -> Result<(), Fail> {
-    let rounds: [(&[Receipt], Turn); 3] = [
-        (&[], Ok(ServerTurn::Quiet)),
-        (&[Receipt::Nothing], Ok(ServerTurn::Quiet)),
-        (&[Receipt::Fail], Err(LinkFault::Receive)),
-    ];
-    for (receipts, turn) in rounds {
-        assert!(rt; is_round_of(rt.alloc(), receipts, turn)?, "{turn:?}");
+    for (at, script) in LONE_ROUNDS.iter().enumerate() {
+        assert!(rt; leaves(rt.alloc(), script, 0)?, "script {at}");
     }
     Ok(())
 }
 
+/// A send that fails, and one that is not left.
+const FAILED_SENDS: Script = Script {
+    receipts: FIVE_RECEIPTS,
+    sends: &[true, false, true],
+    rounds: &[(
+        8,
+        &[
+            Ends::Replied(OTHER, FIRST_GRANT),
+            Ends::Failed(LinkFault::Send),
+            Ends::Dropped(OTHER, WireFault::Short),
+            Ends::Replied(PEER, SECOND_DRAW),
+            Ends::Failed(LinkFault::Spent),
+        ],
+        2,
+    )],
+    replies: &[(OTHER, FIRST_GRANT), (PEER, SECOND_DRAW)],
+    calls: 9,
+};
+
 #[test]
 fn a_failed_send_leaves_the_other_replies(rt: HostRuntime) -> Result<(), Fail> {
-    let mut server = new_server(rt.alloc(), 100)?;
-    let mut link = script(rt.alloc(), &five_receipts(), &[true, false, true])?;
-    let mut turns = five_turns()?;
-    turns[1] = Err(LinkFault::Send);
-    turns[4] = Err(LinkFault::Spent);
-    assert!(rt; serves(rt.alloc(), &mut server, &mut link, 8, &turns)?);
-    assert!(rt; has_sent(&link, &[(OTHER, FIRST_GRANT.1), (PEER, SECOND_DRAW.1)]));
-    assert_eq!(rt; server.book().len(), 3);
+    assert!(rt; leaves(rt.alloc(), &FAILED_SENDS, 3)?);
     Ok(())
 }
 
@@ -171,31 +324,55 @@ fn tripping_server(alloc: Global, at: u64) -> Result<Server<TripBook<PlainBook>>
     Ok(Server::new(TripBook::new(server.into_book(), at)))
 }
 
-/// Whether a round over two Draws sends both replies, and what a settling behind it answers.
-fn served_then_settled(alloc: Global, at: u64) -> Result<(bool, Result<(), BookFault>), Fail> {
-    let receipts = [deliver(PEER, FIRST_DRAW.0), deliver(OTHER, SECOND_DRAW.0)];
+/// Two Draws in one round, with their replies.
+const TWO_DRAWS: Script = Script {
+    receipts: &[
+        Meets::Call(PEER, FIRST_DRAW),
+        Meets::Call(OTHER, SECOND_DRAW),
+    ],
+    sends: &[true; 2],
+    rounds: &[(
+        2,
+        &[
+            Ends::Replied(PEER, FIRST_DRAW),
+            Ends::Replied(OTHER, SECOND_DRAW),
+        ],
+        2,
+    )],
+    replies: &[(PEER, FIRST_DRAW), (OTHER, SECOND_DRAW)],
+    calls: 4,
+};
+
+/// Whether a round over two Draws sends both replies, and how a settling behind it fails.
+fn served_then_settled(alloc: Global, at: u64) -> Result<(bool, Option<BookFault>), Fail> {
     let mut server = tripping_server(alloc, at)?;
-    let mut link = script(alloc, &receipts, &[true; 2])?;
-    let turns = [replied(PEER, FIRST_DRAW.1)?, replied(OTHER, SECOND_DRAW.1)?];
-    let is_sent = serves(alloc, &mut server, &mut link, 2, &turns)?
-        && has_sent(&link, &[(PEER, FIRST_DRAW.1), (OTHER, SECOND_DRAW.1)]);
-    Ok((is_sent, server.into_book().settle()))
+    let is_sent = goes_through(alloc, &mut server, &TWO_DRAWS)?;
+    Ok((is_sent, server.into_book().settle().err()))
+}
+
+/// Whether both replies are sent where the settling of the round fails, which is this call of the book, and where the next does,
+/// which is the settling behind it.
+fn settlings_fail(alloc: Global, at: u64) -> Result<bool, Fail> {
+    let own = served_then_settled(alloc, at)?;
+    let next = served_then_settled(alloc, at.saturating_add(1))?;
+    Ok(own == (true, None) && next == (true, Some(BookFault::Store)))
+}
+
+/// How many rounds do not send both replies, where a call of the book fails, each in turn.
+fn faulted_rounds(alloc: Global) -> Result<u64, Fail> {
+    let mut faulted: u64 = 0;
+    for at in 0..20u64 {
+        if !served_then_settled(alloc, at)?.0 {
+            faulted = faulted.saturating_add(1);
+        }
+    }
+    Ok(faulted)
 }
 
 // All calls of a book in memory are settled. Its call behind those of the Draws is the settling.
 #[test]
 fn settled_calls_are_answered_though_a_settling_fails(rt: HostRuntime) -> Result<(), Fail> {
-    let mut faulted: u64 = 0;
-    for at in 0..20u64 {
-        if !served_then_settled(rt.alloc(), at)?.0 {
-            faulted = faulted.saturating_add(1);
-        }
-    }
-    let next = faulted.saturating_add(1);
-    assert_eq!(rt; served_then_settled(rt.alloc(), faulted)?, (true, Ok(())));
-    assert_eq!(rt;
-        served_then_settled(rt.alloc(), next)?,
-        (true, Err(BookFault::Store))
-    );
+    let faulted = faulted_rounds(rt.alloc())?;
+    assert!(rt; settlings_fail(rt.alloc(), faulted)?);
     Ok(())
 }

@@ -6,7 +6,6 @@ use s10_ends::{Answer, Delivery, Server};
 use s10_link::Packet;
 use s10_wire::WireFault;
 use std::alloc::{AllocError, Global};
-use std::process::Abort;
 use std::test::Fail;
 
 /// The answer to a delivery.
@@ -19,6 +18,9 @@ pub enum Want {
 
 /// A day, a datagram and its answer.
 pub type Step = (u32, &'static str, Want);
+
+/// Steps that are handed in at once, and how many calls the book has then, and its day.
+pub type Part = (&'static [Step], u32, u32);
 
 /// The post grants range 1 to customer 7: RA GB 0 to 2.
 pub const GRANT: Step = (
@@ -80,52 +82,35 @@ fn deliveries_of(alloc: Global, steps: &[Step]) -> Result<Vec<Delivery>, AllocEr
     Ok(deliveries)
 }
 
-/// Each step has its answer.
-fn are_as_wanted(
-    rt: &impl Abort,
-    alloc: Global,
-    answers: &[Answer],
-    steps: &[Step],
-) -> Result<(), AllocError> {
-    assert_eq!(rt; answers.len(), steps.len());
-    for (answer, (_, datagram, want)) in answers.iter().zip(steps) {
-        assert!(rt; is_as_wanted(alloc, answer, *want)?, "{datagram}");
+/// Whether each step has its answer.
+fn are_as_wanted(alloc: Global, answers: &[Answer], steps: &[Step]) -> Result<bool, AllocError> {
+    for (answer, step) in answers.iter().zip(steps) {
+        if !is_as_wanted(alloc, answer, step.2)? {
+            return Ok(false);
+        }
     }
-    Ok(())
+    Ok(answers.len() == steps.len())
 }
 
-/// Hands all datagrams to the server at once, and compares each answer.
-pub(crate) fn play<B: Book>(
-    rt: &impl Abort,
-    alloc: Global,
-    server: &mut Server<B>,
-    steps: &[Step],
-) -> Result<(), Fail> {
+/// Whether a server that is handed all datagrams of a part at once answers each as wanted, and has the calls and the day told.
+fn plays(alloc: Global, server: &mut Server<PlainBook>, part: &Part) -> Result<bool, AllocError> {
+    let (steps, calls, day) = *part;
     let deliveries = deliveries_of(alloc, steps)?;
     let answers = server.run(alloc, &deliveries)?;
-    are_as_wanted(rt, alloc, &answers, steps)?;
-    Ok(())
+    Ok(
+        are_as_wanted(alloc, &answers, steps)?
+            && server.book().len() == calls
+            && server.book().day() == day,
+    )
 }
 
-/// A server over an empty book of that limit, behind these steps.
-pub(crate) fn played(
-    rt: &impl Abort,
-    alloc: Global,
-    limit: u32,
-    steps: &[Step],
-) -> Result<Server<PlainBook>, Fail> {
+/// Whether a server over an empty book of that limit plays these parts, one after another.
+pub(crate) fn is_played(alloc: Global, limit: u32, parts: &[Part]) -> Result<bool, Fail> {
     let mut server = new_server(alloc, limit)?;
-    play(rt, alloc, &mut server, steps)?;
-    Ok(server)
-}
-
-/// A server over an empty book of that limit answers each step as wanted.
-pub(crate) fn are_answered(
-    rt: &impl Abort,
-    alloc: Global,
-    limit: u32,
-    steps: &[Step],
-) -> Result<(), Fail> {
-    played(rt, alloc, limit, steps)?;
-    Ok(())
+    for part in parts {
+        if !plays(alloc, &mut server, part)? {
+            return Ok(false);
+        }
+    }
+    Ok(true)
 }
