@@ -265,7 +265,19 @@ pub(crate) fn are_answered<R: Abort + AllocGlobal>(
     limit: u32,
     steps: &[Step],
 ) -> Result<(), Fail> {
-    book_after(rt, name, limit, steps)?;
+    let mut book = empty_book(rt.alloc(), limit)?;
+    go_on(rt, name, &mut book, steps)
+}
+
+/// The book answers these steps as their rows say.
+pub(crate) fn go_on(
+    rt: &impl Abort,
+    name: &str,
+    book: &mut PlainBook,
+    steps: &[Step],
+) -> Result<(), Fail> {
+    let unlike = first_unlike(book, steps)?;
+    assert!(rt; unlike.is_none(), "{name}: {unlike:?}");
     Ok(())
 }
 
@@ -277,6 +289,6 @@ pub(crate) fn book_after<R: Abort + AllocGlobal>(
     steps: &[Step],
 ) -> Result<PlainBook, Fail> {
     let mut book = empty_book(rt.alloc(), limit)?;
-    assert_eq!(rt; first_unlike(&mut book, steps)?, None, "{name}");
+    go_on(rt, name, &mut book, steps)?;
     Ok(book)
 }

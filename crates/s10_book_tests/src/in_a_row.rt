@@ -41,6 +41,18 @@ fn drawn_id(outcome: Outcome) -> Option<Id> {
     }
 }
 
+/// The identifier of a Draw that is kept, if it is given one.
+fn draw_next(
+    book: &mut PlainBook,
+    customer: u32,
+    number: u32,
+    day: u32,
+) -> Result<Option<Id>, Fail> {
+    let request = request(customer, number, Draw)?;
+    let outcome = answer(book, &request, day).map_err(|_| "fault")?;
+    Ok(drawn_id(outcome))
+}
+
 /// Whether these identifiers are what so many single Draws give, kept one after another.
 fn are_single_draws(
     alloc: Global,
@@ -52,9 +64,7 @@ fn are_single_draws(
 ) -> Result<bool, Fail> {
     let mut book = book_of(alloc, steps)?;
     for place in 0..count {
-        let request = request(customer, 1000 + u32::from(place), Draw)?;
-        let outcome = answer(&mut book, &request, day).map_err(|_| "fault")?;
-        let drawn = drawn_id(outcome);
+        let drawn = draw_next(&mut book, customer, 1000 + u32::from(place), day)?;
         let given = match ids {
             None => drawn,
             Some(ids) => ids.get(usize::from(place)),

@@ -1,4 +1,4 @@
-use crate::books::{Asked, NINE_CALLS, book_after, first_unlike, gb, id, ra, request, serial};
+use crate::books::{Asked, NINE_CALLS, book_after, gb, go_on, id, ra, request, serial};
 use s10_book::{Book, PlainBook};
 use s10_history::{Block, Candidate, Entry, Holding, Issuance, Issue, Range, Usage};
 use s10_wire::Outcome;
@@ -115,10 +115,23 @@ fn gives_next(book: &mut PlainBook, value: u32, issue: Issue) -> Result<bool, &'
     Ok(candidate_of_first(book) == Some(candidate))
 }
 
+/// Whether the range of the book of six calls is used up, and serial 1 is voided.
+fn is_of_six_calls(book: &mut PlainBook) -> Result<bool, &'static str> {
+    Ok(was_last_issued(book, issue(20000, true, 2))? && is_used(book, 20000, 3, 1, 0))
+}
+
 /// Whether the book is that of nine calls, the last on day 20030.
 fn is_of_nine_calls(book: &PlainBook) -> bool {
     let settings = book.settings();
     book.len() == 9 && book.day() == 20030 && settings.interval() == 30 && settings.limit() == 100
+}
+
+/// Whether the last of the nine calls issued serial 1 again, and serial 2 is next.
+fn has_issues_of_nine_calls(book: &mut PlainBook) -> Result<bool, &'static str> {
+    Ok(
+        was_last_issued(book, issue(20030, false, 8))?
+            && gives_next(book, 2, issue(20000, false, 5))?,
+    )
 }
 
 fn usages_are_read(rt: &impl Abort, book: &mut PlainBook) {
@@ -152,13 +165,10 @@ fn ranges_are_found(rt: &impl Abort, book: &mut PlainBook) -> Result<(), &'stati
 /// The book of nine calls has their usages, calls, ranges and issues.
 fn nine_calls_are_read(rt: &impl Abort, book: &mut PlainBook) -> Result<(), &'static str> {
     usages_are_read(rt, book);
-    assert!(rt; is_of_nine_calls(book));
     calls_are_found(rt, book)?;
     calls_are_read(rt, book)?;
-    assert!(rt; has_one_range(book)?);
     ranges_are_found(rt, book)?;
-    assert!(rt; was_last_issued(book, issue(20030, false, 8))?);
-    assert!(rt; gives_next(book, 2, issue(20000, false, 5))?);
+    assert!(rt; is_of_nine_calls(book) && has_one_range(book)? && has_issues_of_nine_calls(book)?);
     Ok(())
 }
 
@@ -166,17 +176,31 @@ fn nine_calls_are_read(rt: &impl Abort, book: &mut PlainBook) -> Result<(), &'st
 fn reads_answer_from_the_kept_calls(rt: HostRuntime) -> Result<(), Fail> {
     let calls = &NINE_CALLS[..];
     let mut book = book_after(&rt, "six calls", 100, &calls[..6])?;
-    assert!(rt; was_last_issued(&mut book, issue(20000, true, 2))?);
-    assert!(rt; is_used(&mut book, 20000, 3, 1, 0));
-    assert_eq!(rt; first_unlike(&mut book, &calls[6..])?, None);
+    assert!(rt; is_of_six_calls(&mut book)?);
+    go_on(&rt, "three more", &mut book, &calls[6..])?;
     nine_calls_are_read(&rt, &mut book)?;
     Ok(())
 }
 
-/// The issues that a call made as call number 6, and what stands behind the last of them.
-fn issues_as_sixth(entry: &Entry) -> (usize, Option<Issuance>, Option<Issuance>) {
-    let count = entry.issued();
-    (count, entry.issue(6, 0), entry.issue(6, count))
+/// The one issue of the sixth call.
+fn sixth_issue() -> Result<Issuance, &'static str> {
+    Ok(Issuance {
+        id: id(2)?,
+        day: 20000,
+        customer: 7,
+        number: 5,
+        arrival: 6,
+    })
+}
+
+/// Whether a call made this issue alone as call number 6.
+fn made_one(entry: &Entry, issuance: Issuance) -> bool {
+    entry.issued() == 1 && entry.issue(6, 0) == Some(issuance) && entry.issue(6, 1).is_none()
+}
+
+/// Whether a call made no issue as call number 6.
+fn made_none(entry: &Entry) -> bool {
+    entry.issued() == 0 && entry.issue(6, 0).is_none()
 }
 
 #[test]
@@ -186,14 +210,7 @@ fn a_done_draw_made_one_issue_and_a_refused_one_none(rt: HostRuntime) -> Result<
         outcome: Outcome::NoneFree,
         ..drawn
     };
-    let issuance = Issuance {
-        id: id(2)?,
-        day: 20000,
-        customer: 7,
-        number: 5,
-        arrival: 6,
-    };
-    assert_eq!(rt; issues_as_sixth(&drawn), (1, Some(issuance), None));
-    assert_eq!(rt; issues_as_sixth(&refused), (0, None, None));
+    assert!(rt; made_one(&drawn, sixth_issue()?));
+    assert!(rt; made_none(&refused));
     Ok(())
 }

@@ -5,31 +5,21 @@ use s10_cli::run_buffered;
 use std::io;
 use std::io::Write;
 
-const CHECK: [&'static str; 3] = ["s10", "check", "RA473124829US"];
+const CHECK: &[&str] = &["s10", "check", "RA473124829US"];
 
-/// The status of a check over buffers, and its output.
-fn checked<R: Eprint + AllocGlobal, W: Write + Drop>(
-    rt: &R,
-    output: W,
-) -> io::Result<(Option<u8>, W)> {
-    let mut input: &[u8] = b"";
-    run_buffered(rt, &CHECK, &mut input, output)
-}
+const NOTHING: &[u8] = b"";
 
 #[test]
 fn the_buffer_is_written_out(rt: HostRuntime) -> io::Result<()> {
-    let (status, output) = checked(&rt, Vec::new(rt.alloc()))?;
-    assert_eq!(rt; status, Some(0));
-    assert_eq!(rt;
-        output.as_slice(),
-        b"RA473124829US valid registered\n".as_slice()
-    );
+    let (status, output) = run_buffered(&rt, CHECK, NOTHING, Vec::new(rt.alloc()))?;
+    assert!(rt; status == Some(0));
+    assert!(rt; output.as_slice() == b"RA473124829US valid registered\n".as_slice());
     Ok(())
 }
 
 #[test]
 fn a_buffer_that_cannot_be_written_out_is_an_error(rt: HostRuntime) {
-    assert!(rt; checked(&rt, Refusing).is_err());
+    assert!(rt; run_buffered(&rt, CHECK, NOTHING, Refusing).is_err());
 }
 
 /// A writer that takes every byte, and fails to pass them on.
@@ -48,5 +38,5 @@ impl Write for Stuck {
 
 #[test]
 fn an_output_that_cannot_be_flushed_is_an_error(rt: HostRuntime) {
-    assert!(rt; checked(&rt, Stuck).is_err());
+    assert!(rt; run_buffered(&rt, CHECK, NOTHING, Stuck).is_err());
 }

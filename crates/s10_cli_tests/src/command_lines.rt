@@ -1,5 +1,6 @@
 use crate::refusing::Refusing;
 use s10_cli::run_line;
+use std::alloc::{AllocError, Global};
 use std::io;
 use std::io::Read;
 use std::process::Abort;
@@ -456,7 +457,7 @@ fn is_refused_to_be_shown<R: Eprint + AllocGlobal>(rt: &R, digits: &str, line: &
 }
 
 #[test]
-fn show_reads_at_most_512_bytes_of_two_digits_each(rt: HostRuntime) -> Result<(), Fail> {
+fn show_reads_two_digits_for_each_byte(rt: HostRuntime) {
     run_cases(
         &rt,
         &[
@@ -465,13 +466,23 @@ fn show_reads_at_most_512_bytes_of_two_digits_each(rt: HostRuntime) -> Result<()
             (&["s10", "show", "0x5331"], 1, "refused hex\n"),
         ],
     );
-    let mut zeros = String::new(rt.alloc());
-    for _ in 0..512 {
-        zeros.push_str("00")?;
+}
+
+/// The digits of so many bytes 0.
+fn zeros(alloc: Global, count: u32) -> Result<String, AllocError> {
+    let mut digits = String::new(alloc);
+    for _ in 0..count {
+        digits.push_str("00")?;
     }
-    assert!(rt; is_refused_to_be_shown(&rt, &zeros, "refused magic\n"));
-    zeros.push_str("00")?;
-    assert!(rt; is_refused_to_be_shown(&rt, &zeros, "refused hex\n"));
+    Ok(digits)
+}
+
+#[test]
+fn show_reads_at_most_512_bytes(rt: HostRuntime) -> Result<(), Fail> {
+    for (count, line) in [(512, "refused magic\n"), (513, "refused hex\n")] {
+        let digits = zeros(rt.alloc(), count)?;
+        assert!(rt; is_refused_to_be_shown(&rt, &digits, line), "{count}");
+    }
     Ok(())
 }
 
@@ -492,28 +503,31 @@ fn is_replayed<R: Eprint + AllocGlobal>(
     prints(rt, words, &mut bytes, status, text)
 }
 
-#[test]
-fn replay_has_the_interval_and_the_limit_that_are_given(rt: HostRuntime) {
-    let none_free = "533101810000000000000001000000075241474200000000000000000000000001
+const NONE_FREE: &str = "533101810000000000000001000000075241474200000000000000000000000001
 533101820000000700000001524147420000004e2052413030303030303030354742
 5331018200000007000000025241474205
 ";
-    let drawn_again = "533101810000000000000001000000075241474200000000000000000000000001
+
+const DRAWN_AGAIN: &str = "533101810000000000000001000000075241474200000000000000000000000001
 533101820000000700000001524147420000004e2052413030303030303030354742
 533101820000000700000002524147420000004e3d52413030303030303030354742
 ";
-    let full = "533101810000000000000001000000075241474200000000000000000000000001
+
+const FULL: &str = "533101810000000000000001000000075241474200000000000000000000000001
 533101820000000700000001524147420000004e2052413030303030303030354742
 faulted full
 ";
-    let cases: [(&[&str], &str); 4] = [
-        (&["s10", "replay"], none_free),
+
+#[test]
+fn replay_has_the_interval_and_the_limit_that_are_given(rt: HostRuntime) {
+    let cases: &[(&[&str], &str)] = &[
+        (&["s10", "replay"], NONE_FREE),
         (
             &["s10", "replay", "--interval", "30", "--limit", "3"],
-            none_free,
+            NONE_FREE,
         ),
-        (&["s10", "replay", "--interval", "29"], drawn_again),
-        (&["s10", "replay", "--limit=2"], full),
+        (&["s10", "replay", "--interval", "29"], DRAWN_AGAIN),
+        (&["s10", "replay", "--limit=2"], FULL),
     ];
     for (words, text) in cases {
         assert!(rt; is_replayed(&rt, words, TWO_DRAWS, 0, text), "{words:?}");
@@ -568,7 +582,7 @@ fn prints_at_first<R: Eprint + AllocGlobal>(rt: &R, words: &[&str], start: &str)
 
 #[test]
 fn help_and_the_version_are_printed_where_they_are_asked_for(rt: HostRuntime) {
-    let asked: [(&[&str], &str); 11] = [
+    let asked: &[(&[&str], &str)] = &[
         (&["s10", "--version"], "s10 "),
         (&["s10", "--help"], "Issue S10 identifiers"),
         (&["s10", "help"], "Issue S10 identifiers"),
@@ -599,7 +613,7 @@ fn fails_unwritten<R: Eprint + AllocGlobal>(rt: &R, words: &[&str], mut input: &
 
 #[test]
 fn a_writer_that_fails_ends_the_line(rt: HostRuntime) {
-    let lines: [&[&str]; 5] = [
+    let lines: &[&[&str]] = &[
         &["s10", "check", "RA473124829US"],
         &["s10", "check", "RA473124828US"],
         &["s10", "make", "RA", "00000000", "GB"],

@@ -2,7 +2,7 @@ use crate::fixtures::{FIRST_DRAW, deliver, draw, script};
 use s10_ends::{CallFault, Client, SubmitFault, call};
 use s10_link::{Link, LinkFault, Peer, Receipt, ScriptLink};
 use s10_wire::{Frame, Request, encode_reply, encode_request};
-use std::alloc::Global;
+use std::alloc::{AllocError, Global};
 use std::test::Fail;
 
 const SERVER: Peer = Peer {
@@ -16,7 +16,7 @@ const STRANGER: Peer = Peer {
 };
 
 // NoneFree, in reply to customer 7's Draw of RA GB with number 2
-const OTHER: [u8; 17] = *b"S1\x01\x82\0\0\0\x07\0\0\0\x02RAGB\x05";
+const OTHER: &[u8] = b"S1\x01\x82\0\0\0\x07\0\0\0\x02RAGB\x05";
 
 /// Customer 7's Draw of RA GB with this number, and its datagram.
 fn request(number: u32) -> Result<(Request, Frame), &'static str> {
@@ -76,62 +76,84 @@ fn has_sent(link: &ScriptLink, times: usize) -> Result<bool, &'static str> {
     Ok(link.log().len() == times)
 }
 
-/// Whether a call sends the Draw twice and gets its reply, and the next one has no number left; and the link behind them.
-fn answered_once(alloc: Global, receipts: &[Receipt]) -> Result<(bool, ScriptLink), Fail> {
+/// Whether the link counts so many calls, and so many datagrams received.
+fn has_counted(link: &ScriptLink, counted: (u64, u64)) -> bool {
+    let trace = link.trace();
+    (trace.calls, trace.received) == counted
+}
+
+/// Whether a call sends the Draw twice and gets its reply, and the next one has no number left; the link was called five times.
+fn is_answered_once(alloc: Global, receipts: &[Receipt]) -> Result<bool, Fail> {
     let mut link = script(alloc, receipts, &[true, true])?;
     let mut client = Client::new(7, 1, 1)?;
     let spent = CallFault::Submit(SubmitFault::NumbersSpent);
-    let is_done = is_answered(&mut client, &mut link, 2, FIRST_DRAW.1)?
-        && has_sent(&link, 2)?
-        && fails(&mut client, &mut link, 2, spent)?;
-    Ok((is_done, link))
+    Ok(
+        is_answered(&mut client, &mut link, 2, FIRST_DRAW.1)?
+            && has_sent(&link, 2)?
+            && fails(&mut client, &mut link, 2, spent)?
+            && link.trace().calls == 5,
+    )
 }
 
 #[test]
 fn request_is_sent_until_its_own_reply_comes(rt: HostRuntime) -> Result<(), Fail> {
     let receipts = [
         Receipt::Nothing,
-        deliver(SERVER, &OTHER),
+        deliver(SERVER, OTHER),
         deliver(STRANGER, FIRST_DRAW.1),
         Receipt::Fail,
     ];
-    let (is_done, link) = answered_once(rt.alloc(), &receipts)?;
-    assert!(rt; is_done);
-    assert_eq!(rt; link.trace().calls, 5);
+    assert!(rt; is_answered_once(rt.alloc(), &receipts)?);
     Ok(())
 }
 
-/// Whether a call over this script is given up after so many tries, and the link behind it.
-fn given_up(
+/// Whether a call over this script is given up after so many tries, each of which sends; the link then counts so many calls, and
+/// so many datagrams received.
+fn is_given_up(
     alloc: Global,
     receipts: &[Receipt],
     sends: &[bool],
     tries: u32,
-) -> Result<(bool, ScriptLink), Fail> {
+    counted: (u64, u64),
+) -> Result<bool, Fail> {
     let (asked, _) = request(1)?;
     let mut link = script(alloc, receipts, sends)?;
     let mut client = Client::new(7, 1, 1)?;
-    let is_given_up = fails(&mut client, &mut link, tries, CallFault::GaveUp(asked))?;
-    Ok((is_given_up, link))
+    Ok(
+        fails(&mut client, &mut link, tries, CallFault::GaveUp(asked))?
+            && has_sent(&link, sends.len())?
+            && has_counted(&link, counted),
+    )
 }
 
 #[test]
 fn call_without_a_reply_is_given_up(rt: HostRuntime) -> Result<(), Fail> {
-    let (is_given_up, link) = given_up(rt.alloc(), &[], &[true], 1)?;
-    assert!(rt; is_given_up);
-    assert!(rt; has_sent(&link, 1)?);
-    assert_eq!(rt; link.trace().calls, 2);
+    assert!(rt; is_given_up(rt.alloc(), &[], &[true], 1, (2, 0))?);
     Ok(())
 }
 
 #[test]
 fn a_try_reads_eight_datagrams(rt: HostRuntime) -> Result<(), Fail> {
-    let receipts = [deliver(SERVER, &OTHER); 17];
-    let (is_given_up, link) = given_up(rt.alloc(), &receipts, &[true, true], 2)?;
-    assert!(rt; is_given_up);
-    assert_eq!(rt; link.trace().calls, 18);
-    assert_eq!(rt; link.trace().received, 16);
+    let receipts = [deliver(SERVER, OTHER); 17];
+    assert!(rt; is_given_up(rt.alloc(), &receipts, &[true, true], 2, (18, 16))?);
     Ok(())
+}
+
+/// Whether the call of the first request ends with the link's fault.
+fn fails_with(
+    client: &mut Client,
+    link: &mut ScriptLink,
+    tries: u32,
+    fault: LinkFault,
+) -> Result<bool, &'static str> {
+    let (asked, _) = request(1)?;
+    fails(client, link, tries, CallFault::Link(asked, fault))
+}
+
+/// Whether the client's next request is that with number 2.
+fn takes_second(client: &mut Client) -> Result<bool, &'static str> {
+    let (next, _) = request(2)?;
+    Ok(client.submit(draw()?) == Ok(next))
 }
 
 /// Whether a call over this script ends with the link's fault, and the next request has the next number.
@@ -142,12 +164,9 @@ fn ends_with(
     tries: u32,
     fault: LinkFault,
 ) -> Result<bool, Fail> {
-    let (asked, _) = request(1)?;
-    let (next, _) = request(2)?;
     let mut link = script(alloc, receipts, sends)?;
     let mut client = Client::new(7, 1, 2)?;
-    let failed = fails(&mut client, &mut link, tries, CallFault::Link(asked, fault))?;
-    Ok(failed && client.submit(draw()?) == Ok(next))
+    Ok(fails_with(&mut client, &mut link, tries, fault)? && takes_second(&mut client)?)
 }
 
 #[test]
@@ -167,6 +186,11 @@ fn failing_links_end_a_call(rt: HostRuntime) -> Result<(), Fail> {
     Ok(())
 }
 
+/// Whether a fault is written as this text.
+fn has_text(alloc: Global, fault: CallFault, text: &str) -> Result<bool, AllocError> {
+    Ok(fault.to_string(alloc)?.as_str() == text)
+}
+
 #[test]
 fn call_faults_have_their_texts(rt: HostRuntime) -> Result<(), Fail> {
     let (asked, _) = request(1)?;
@@ -176,7 +200,7 @@ fn call_faults_have_their_texts(rt: HostRuntime) -> Result<(), Fail> {
         (CallFault::Link(asked, LinkFault::Send), "sending failed"),
     ];
     for (fault, text) in texts {
-        assert_eq!(rt; fault.to_string(rt.alloc())?.as_str(), text);
+        assert!(rt; has_text(rt.alloc(), fault, text)?, "{text}");
     }
     Ok(())
 }

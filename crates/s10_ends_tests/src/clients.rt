@@ -4,13 +4,13 @@ use s10_wire::{Outcome, Request, WireFault};
 use std::test::Fail;
 
 // the datagram of customer 7's Draw of RA GB with number 5
-const REQUEST: [u8; 16] = *b"S1\x01\x02\0\0\0\x07\0\0\0\x05RAGB";
+const REQUEST: &[u8] = b"S1\x01\x02\0\0\0\x07\0\0\0\x05RAGB";
 
 // its reply, RA000000005GB issued on day 20000
-const REPLY: [u8; 34] = *b"S1\x01\x82\0\0\0\x07\0\0\0\x05RAGB\0\0\0\x4e\x20RA000000005GB";
+const REPLY: &[u8] = b"S1\x01\x82\0\0\0\x07\0\0\0\x05RAGB\0\0\0\x4e\x20RA000000005GB";
 
 // NoRange, in reply to customer 8's Draw of RA GB with number 5
-const OTHER: [u8; 17] = *b"S1\x01\x82\0\0\0\x08\0\0\0\x05RAGB\x04";
+const OTHER: &[u8] = b"S1\x01\x82\0\0\0\x08\0\0\0\x05RAGB\x04";
 
 /// Customer 7's Draw of RA GB with this number.
 fn request(number: u32) -> Result<Request, &'static str> {
@@ -66,15 +66,15 @@ fn accepts(client: &mut Client, datagram: &[u8], request: Request) -> bool {
 
 /// Whether a client that waits for its reply takes no other datagram for it.
 fn keeps_waiting(client: &mut Client) -> bool {
-    passes_over(client, &OTHER, Received::NotMine)
+    passes_over(client, OTHER, Received::NotMine)
         && passes_over(client, b"S1", Received::Malformed(WireFault::Short))
-        && passes_over(client, &REQUEST, Received::Malformed(WireFault::Kind))
+        && passes_over(client, REQUEST, Received::Malformed(WireFault::Kind))
 }
 
 /// Whether a client that waits for nothing passes over a reply, and takes this number for its one request.
 fn starts(client: &mut Client, number: u32) -> Result<bool, &'static str> {
     Ok(
-        passes_over(client, &REPLY, Received::Idle)
+        passes_over(client, REPLY, Received::Idle)
             && takes(client, number)?
             && refuses(client, SubmitFault::Busy)?,
     )
@@ -82,20 +82,17 @@ fn starts(client: &mut Client, number: u32) -> Result<bool, &'static str> {
 
 /// Whether a client passes over a reply that it took already, and has no number left.
 fn is_done(client: &mut Client) -> Result<bool, &'static str> {
-    Ok(passes_over(client, &REPLY, Received::Idle) && refuses(client, SubmitFault::NumbersSpent)?)
+    Ok(passes_over(client, REPLY, Received::Idle) && refuses(client, SubmitFault::NumbersSpent)?)
 }
 
 #[test]
 fn a_reply_is_accepted_by_its_own_call_alone(rt: HostRuntime) -> Result<(), Fail> {
     let asked = request(5)?;
     let mut client = Client::new(7, 5, 5)?;
-    assert!(rt; is_unused(&client));
-    assert!(rt; starts(&mut client, 5)?);
-    assert!(rt; is_sending(&client, asked, &REQUEST));
-    assert!(rt; keeps_waiting(&mut client));
-    assert!(rt; is_sending(&client, asked, &REQUEST));
-    assert!(rt; accepts(&mut client, &REPLY, asked));
-    assert!(rt; is_done(&mut client)?);
+    assert!(rt; is_unused(&client) && starts(&mut client, 5)?);
+    assert!(rt; is_sending(&client, asked, REQUEST) && keeps_waiting(&mut client));
+    assert!(rt; is_sending(&client, asked, REQUEST));
+    assert!(rt; accepts(&mut client, REPLY, asked) && is_done(&mut client)?);
     Ok(())
 }
 
@@ -104,14 +101,16 @@ fn gives_up(client: &mut Client, number: u32) -> Result<bool, &'static str> {
     Ok(client.give_up() == Some(request(number)?) && client.give_up().is_none())
 }
 
+/// Whether a Draw is submitted with this number, and given up.
+fn spends(client: &mut Client, number: u32) -> Result<bool, &'static str> {
+    Ok(takes(client, number)? && gives_up(client, number)?)
+}
+
 #[test]
 fn a_number_given_up_stays_spent(rt: HostRuntime) -> Result<(), Fail> {
     let mut client = Client::new(7, 5, 6)?;
-    assert!(rt; takes(&mut client, 5)?);
-    assert!(rt; gives_up(&mut client, 5)?);
-    assert!(rt; passes_over(&mut client, &REPLY, Received::Idle));
-    assert!(rt; takes(&mut client, 6)?);
-    assert!(rt; gives_up(&mut client, 6)?);
+    assert!(rt; spends(&mut client, 5)?);
+    assert!(rt; passes_over(&mut client, REPLY, Received::Idle) && spends(&mut client, 6)?);
     assert!(rt; refuses(&mut client, SubmitFault::NumbersSpent)?);
     Ok(())
 }
@@ -120,8 +119,7 @@ fn a_number_given_up_stays_spent(rt: HostRuntime) -> Result<(), Fail> {
 fn numbers_end_with_the_last(rt: HostRuntime) -> Result<(), Fail> {
     assert!(rt; matches!(&Client::new(7, 6, 5), Err(BadNumbers)));
     let mut client = Client::new(7, 4_294_967_295, 4_294_967_295)?;
-    assert!(rt; takes(&mut client, 4_294_967_295)?);
-    assert!(rt; gives_up(&mut client, 4_294_967_295)?);
+    assert!(rt; spends(&mut client, 4_294_967_295)?);
     assert!(rt; refuses(&mut client, SubmitFault::NumbersSpent)?);
     Ok(())
 }

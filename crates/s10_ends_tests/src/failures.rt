@@ -1,3 +1,4 @@
+use crate::fixtures::Tripping;
 use crate::scripts::Want::Faulted;
 use crate::scripts::{DRAW, GRANT, Step, bytes_of, is_as_wanted};
 use s10_book::{Book, BookFault, PlainBook, TripBook};
@@ -38,10 +39,16 @@ fn faults_of<B: Book>(alloc: Global, server: &mut Server<B>) -> Result<Option<u3
     Ok(Some(faults))
 }
 
+/// A server over an empty book that fails at one of its calls.
+fn tripping_server(alloc: Global, at: u64) -> Result<Tripping, Fail> {
+    let settings = Settings::new(30, 100).ok_or("settings")?;
+    let server = Server::new(TripBook::new(PlainBook::new(alloc, settings), at));
+    Ok(Tripping { server })
+}
+
 /// How often a book that fails at one of its calls faults them; none where an answer or the ledger is wrong.
 fn faults_made_good(alloc: Global, at: u64) -> Result<Option<u32>, Fail> {
-    let settings = Settings::new(30, 100).ok_or("settings")?;
-    let mut server = Server::new(TripBook::new(PlainBook::new(alloc, settings), at));
+    let Tripping { mut server } = tripping_server(alloc, at)?;
     let faults = faults_of(alloc, &mut server)?;
     Ok(if server.into_book().len() == 2 {
         faults

@@ -1,6 +1,6 @@
 //! What several of these tests use: a server over an empty book, a scripted link, and two calls.
 
-use s10_book::PlainBook;
+use s10_book::{PlainBook, TripBook};
 use s10_core::{Country, Service};
 use s10_ends::Server;
 use s10_history::Settings;
@@ -39,6 +39,11 @@ pub(crate) fn draw() -> Result<Body, &'static str> {
 pub(crate) fn new_server(alloc: Global, limit: u32) -> Result<Server<PlainBook>, Fail> {
     let settings = Settings::new(30, limit).ok_or("settings")?;
     Ok(Server::new(PlainBook::new(alloc, settings)))
+}
+
+/// A server over a book that fails at one of its calls.
+pub struct Tripping {
+    pub server: Server<TripBook<PlainBook>>,
 }
 
 /// This datagram comes from a peer.

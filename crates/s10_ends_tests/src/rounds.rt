@@ -1,5 +1,5 @@
-use crate::fixtures::{FIRST_DRAW, FIRST_GRANT, deliver, new_server};
-use s10_book::{Book, BookFault, PlainBook, Settle, TripBook};
+use crate::fixtures::{FIRST_DRAW, FIRST_GRANT, Tripping, deliver, new_server};
+use s10_book::{Book, BookFault, Settle, TripBook};
 use s10_ends::{Server, ServerTurn, Turn, serve_round};
 use s10_link::{Link, LinkFault, Peer, Receipt, ScriptLink};
 use s10_wire::{Frame, WireFault};
@@ -318,10 +318,11 @@ fn a_failed_send_leaves_the_other_replies(rt: HostRuntime) -> Result<(), Fail> {
 }
 
 /// A server that took the first Grant, over a book whose call with this number from then on fails.
-fn tripping_server(alloc: Global, at: u64) -> Result<Server<TripBook<PlainBook>>, Fail> {
+fn tripping_server(alloc: Global, at: u64) -> Result<Tripping, Fail> {
     let mut server = new_server(alloc, 100)?;
     let _ = server.handle(FIRST_GRANT.0, 20_000);
-    Ok(Server::new(TripBook::new(server.into_book(), at)))
+    let server = Server::new(TripBook::new(server.into_book(), at));
+    Ok(Tripping { server })
 }
 
 /// Two Draws in one round, with their replies.
@@ -345,7 +346,7 @@ const TWO_DRAWS: Script = Script {
 
 /// Whether a round over two Draws sends both replies, and how a settling behind it fails.
 fn served_then_settled(alloc: Global, at: u64) -> Result<(bool, Option<BookFault>), Fail> {
-    let mut server = tripping_server(alloc, at)?;
+    let Tripping { mut server } = tripping_server(alloc, at)?;
     let is_sent = goes_through(alloc, &mut server, &TWO_DRAWS)?;
     Ok((is_sent, server.into_book().settle().err()))
 }

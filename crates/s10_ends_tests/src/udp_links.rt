@@ -28,29 +28,39 @@ fn passes_both_ways(near: &mut UdpLink, far: &mut UdpLink, frame: &Frame, packet
     passes(near, far, frame, packet) && passes(far, near, frame, packet) && is_refused(near, frame)
 }
 
+/// The frame of customer 7's first Draw.
+fn draw_frame() -> Result<Frame, &'static str> {
+    Ok(encode_request(&Request {
+        customer: 7,
+        number: 1,
+        body: draw()?,
+    }))
+}
+
+/// Whether a link sent the frame once to the other one, took the packet from it, and failed in a third call.
+fn has_counted(near: &UdpLink, far: &UdpLink, frame: Frame, packet: Packet) -> bool {
+    near.trace()
+        == Trace {
+            calls: 3,
+            failures: 1,
+            sends: 1,
+            alike: 1,
+            received: 1,
+            taken: Some((far.local(), packet)),
+            given: Some((far.local(), frame)),
+        }
+}
+
 #[test]
 fn datagrams_pass_over_loopback(rt: HostRuntime) -> Result<(), Fail> {
     let mut near = UdpLink::bind(&rt, ANY_PORT, 1_000)?;
     let mut far = UdpLink::bind(&rt, ANY_PORT, 1_000)?;
     assert!(rt; are_apart(&near, &far));
 
-    let frame = encode_request(&Request {
-        customer: 7,
-        number: 1,
-        body: draw()?,
-    });
+    let frame = draw_frame()?;
     let packet = Packet::new(FIRST_DRAW.0);
     assert!(rt; passes_both_ways(&mut near, &mut far, &frame, packet));
-    let trace = Trace {
-        calls: 3,
-        failures: 1,
-        sends: 1,
-        alike: 1,
-        received: 1,
-        taken: Some((far.local(), packet)),
-        given: Some((far.local(), frame)),
-    };
-    assert_eq!(rt; near.trace(), trace);
+    assert!(rt; has_counted(&near, &far, frame, packet));
     Ok(())
 }
 
@@ -68,20 +78,20 @@ fn takes_what_has_come(
         && passes(from, to, frame, packet)
 }
 
+/// Whether the link counts so many calls, and so many datagrams received.
+fn has_received(link: &UdpLink, calls: u64, received: u64) -> bool {
+    let trace = link.trace();
+    trace.calls == calls && trace.received == received
+}
+
 // A receive that waited would take longer than a test may.
 #[test]
 fn what_has_come_is_taken_at_once(rt: HostRuntime) -> Result<(), Fail> {
     let mut near = UdpLink::bind(&rt, ANY_PORT, 100_000)?;
     let mut far = UdpLink::bind(&rt, ANY_PORT, 100_000)?;
-    let frame = encode_request(&Request {
-        customer: 7,
-        number: 1,
-        body: draw()?,
-    });
     let packet = Packet::new(FIRST_DRAW.0);
-    assert!(rt; takes_what_has_come(&mut near, &mut far, &frame, packet));
-    assert_eq!(rt; far.trace().calls, 4);
-    assert_eq!(rt; far.trace().received, 2);
+    assert!(rt; takes_what_has_come(&mut near, &mut far, &draw_frame()?, packet));
+    assert!(rt; has_received(&far, 4, 2));
     Ok(())
 }
 

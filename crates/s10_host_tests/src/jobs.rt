@@ -15,63 +15,65 @@ fn ends_with(rt: &HostRuntime, words: &[&str], status: JobStatus, line: &[u8]) -
     ended == Ok(status) && output.as_slice() == line
 }
 
+/// The words of a command line, and the status and the line that its job ends with.
+const CASES: &[(&[&str], JobStatus, &[u8])] = &[
+    (
+        &[
+            "s10",
+            "create",
+            "--ledger",
+            "nowhere/a.db",
+            "--interval",
+            "30",
+            "--limit",
+            "100",
+        ],
+        JobStatus::Failed,
+        b"ledger store\n",
+    ),
+    (
+        &[
+            "s10",
+            "serve",
+            "--ledger",
+            "nowhere/a.db",
+            "--bind",
+            "here",
+            "--count",
+            "1",
+        ],
+        JobStatus::Refused,
+        b"refused peer\n",
+    ),
+    (
+        &[
+            "s10",
+            "serve",
+            "--ledger",
+            "nowhere/a.db",
+            "--bind",
+            "127.0.0.1:0",
+            "--count",
+            "1",
+        ],
+        JobStatus::Failed,
+        b"ledger store\n",
+    ),
+    (
+        &["s10", "report", "--ledger", "nowhere/a.db", "--issues"],
+        JobStatus::Failed,
+        b"ledger store\n",
+    ),
+    (
+        &["s10", "audit", "--ledger", "nothing.db"],
+        JobStatus::Failed,
+        b"ledger not-a-ledger\n",
+    ),
+];
+
 #[test]
 fn what_cannot_be_done_has_its_line_and_status(rt: HostRuntime) {
-    let cases: [(&[&str], JobStatus, &[u8]); 5] = [
-        (
-            &[
-                "s10",
-                "create",
-                "--ledger",
-                "nowhere/a.db",
-                "--interval",
-                "30",
-                "--limit",
-                "100",
-            ],
-            JobStatus::Failed,
-            b"ledger store\n",
-        ),
-        (
-            &[
-                "s10",
-                "serve",
-                "--ledger",
-                "nowhere/a.db",
-                "--bind",
-                "here",
-                "--count",
-                "1",
-            ],
-            JobStatus::Refused,
-            b"refused peer\n",
-        ),
-        (
-            &[
-                "s10",
-                "serve",
-                "--ledger",
-                "nowhere/a.db",
-                "--bind",
-                "127.0.0.1:0",
-                "--count",
-                "1",
-            ],
-            JobStatus::Failed,
-            b"ledger store\n",
-        ),
-        (
-            &["s10", "report", "--ledger", "nowhere/a.db", "--issues"],
-            JobStatus::Failed,
-            b"ledger store\n",
-        ),
-        (
-            &["s10", "audit", "--ledger", "nothing.db"],
-            JobStatus::Failed,
-            b"ledger not-a-ledger\n",
-        ),
-    ];
-    for (words, status, line) in cases {
-        assert!(rt; ends_with(&rt, words, status, line), "{words:?}");
+    for (words, status, line) in CASES {
+        assert!(rt; ends_with(&rt, words, *status, line), "{words:?}");
     }
 }

@@ -1,7 +1,7 @@
 //! The worked ledger of nine calls in tables: its replies and reports, and audits of it.
 
 use crate::refusing::Refusing;
-use s10_book::{Book, PlainBook};
+use s10_book::{Book, PlainBook, Settle};
 use s10_core::{Country, Id, Serial, Service};
 use s10_ends::{Answer, Delivery, Server};
 use s10_history::Settings;
@@ -13,7 +13,7 @@ use s10_link::Packet;
 use s10_reports::{write_issues, write_ranges};
 use s10_wire::{Body, Request, encode_request};
 use sqlite::{Connection, MemStore};
-use std::alloc::{AllocError, Global};
+use std::alloc::Global;
 use std::io::Write;
 use std::process::Abort;
 use std::test::Fail;
@@ -103,57 +103,62 @@ fn settings<R: Abort>(rt: &R) -> Settings {
     }
 }
 
-/// The lines of answers.
-fn lines<R: Abort + AllocGlobal>(rt: &R, answers: &[Answer]) -> Vec<u8> {
-    let mut out = Vec::new(rt.alloc());
+/// The lines of answers. None where one is not written.
+fn lines(alloc: Global, answers: &[Answer]) -> Option<Vec<u8>> {
+    let mut out = Vec::new(alloc);
     for answer in answers {
-        assert_eq!(rt; write_answer(answer, &mut out), Ok(()));
+        write_answer(answer, &mut out).ok()?;
     }
-    out
+    Some(out)
 }
 
-/// The server's answers to the nine deliveries are the nine replies.
-fn hand_in<R: Abort + AllocGlobal, B: Book>(rt: &R, server: &mut Server<B>) {
+/// Whether the server answers the nine deliveries with the nine replies.
+fn gives_the_replies<B: Book>(alloc: Global, server: &mut Server<B>) -> bool {
     let Some(deliveries) = nine_deliveries() else {
-        panic!(rt; "deliveries")
+        return false;
     };
-    match server.run(rt.alloc(), &deliveries) {
-        Ok(answers) => assert_eq!(rt; lines(rt, &answers).as_slice(), REPLIES.as_bytes()),
-        Err(AllocError) => panic!(rt; "memory"),
+    let Ok(answers) = server.run(alloc, &deliveries) else {
+        return false;
+    };
+    match lines(alloc, &answers) {
+        Some(lines) => lines.as_slice() == REPLIES.as_bytes(),
+        None => false,
     }
 }
 
-/// The server of a new ledger in tables.
-fn new_server(alloc: Global, settings: Settings) -> Result<Server<TableBook>, OpenFault> {
-    Ok(Server::new(SqlBook::in_memory(alloc, settings)?))
-}
-
-/// The tables of a server, whose calls are settled.
-fn tables(mut server: Server<TableBook>) -> Connection<MemStore> {
+/// Whether a server over this book does, and the book, whose calls are settled.
+fn hand_in<B: Settle>(alloc: Global, book: B) -> (bool, B) {
+    let mut server = Server::new(book);
+    let is_same = gives_the_replies(alloc, &mut server);
     let _ = server.settle();
-    server.into_book().close()
+    (is_same, server.into_book())
 }
 
-/// The server of the nine calls in tables.
-fn worked_server<R: Abort + AllocGlobal>(rt: &R) -> Result<Server<TableBook>, OpenFault> {
-    let mut server = new_server(rt.alloc(), settings(rt))?;
-    hand_in(rt, &mut server);
-    Ok(server)
-}
-
-/// The tables of the nine calls.
-fn worked_ledger<R: Abort + AllocGlobal>(rt: &R) -> Result<Connection<MemStore>, OpenFault> {
-    Ok(tables(worked_server(rt)?))
+/// The same of a new ledger in tables.
+fn worked_book<R: Abort + AllocGlobal>(rt: &R) -> Result<(bool, TableBook), OpenFault> {
+    let book = SqlBook::in_memory(rt.alloc(), settings(rt))?;
+    Ok(hand_in(rt.alloc(), book))
 }
 
 #[test]
 fn both_books_give_the_same_replies(rt: HostRuntime) -> Result<(), Fail> {
-    hand_in(
-        &rt,
-        &mut Server::new(PlainBook::new(rt.alloc(), settings(&rt))),
-    );
-    worked_ledger(&rt)?;
+    let (is_same, _book) = hand_in(rt.alloc(), PlainBook::new(rt.alloc(), settings(&rt)));
+    assert!(rt; is_same);
+    let (is_same, book) = worked_book(&rt)?;
+    let _ = book.close();
+    assert!(rt; is_same);
     Ok(())
+}
+
+/// The tables of the nine calls.
+fn worked_ledger<R: Abort + AllocGlobal>(rt: &R) -> Result<Connection<MemStore>, OpenFault> {
+    let (_, book) = worked_book(rt)?;
+    Ok(book.close())
+}
+
+/// The tables of a new ledger.
+fn new_ledger<R: Abort + AllocGlobal>(rt: &R) -> Result<Connection<MemStore>, OpenFault> {
+    Ok(SqlBook::in_memory(rt.alloc(), settings(rt))?.close())
 }
 
 /// Whether the two reports of a book are as worked by hand.
@@ -168,9 +173,10 @@ fn are_as_worked<B: Book>(alloc: Global, book: &mut B) -> bool {
 
 #[test]
 fn reports_of_tables_are_as_worked_by_hand(rt: HostRuntime) -> Result<(), Fail> {
-    let mut book = worked_server(&rt)?.into_book();
-    assert!(rt; are_as_worked(rt.alloc(), &mut book));
+    let (_, mut book) = worked_book(&rt)?;
+    let is_as_worked = are_as_worked(rt.alloc(), &mut book);
     let _ = book.close();
+    assert!(rt; is_as_worked);
     Ok(())
 }
 
@@ -185,122 +191,118 @@ fn audited<R: Abort + AllocGlobal, W: Write>(
     done
 }
 
-/// An audit of the connection ends with this status and prints this line.
-fn audit<R: Abort + AllocGlobal>(
+/// Whether an audit of the connection ends with this status and prints this line.
+fn is_audited<R: Abort + AllocGlobal>(
     rt: &R,
     connection: Connection<MemStore>,
     status: JobStatus,
     line: &str,
-    change: &str,
-) {
+) -> bool {
     let mut out = Vec::new(rt.alloc());
-    assert_eq!(rt; audited(rt, connection, &mut out), Ok(status), "{change}");
-    assert_eq!(rt; out.as_slice(), line.as_bytes(), "{change}");
+    audited(rt, connection, &mut out) == Ok(status) && out.as_slice() == line.as_bytes()
 }
 
 #[test]
 fn ledger_as_it_was_kept_is_sound(rt: HostRuntime) -> Result<(), Fail> {
-    audit(
-        &rt,
-        worked_ledger(&rt)?,
-        JobStatus::Done,
-        "ledger ok 9\n",
-        "none",
-    );
-    let empty = tables(new_server(rt.alloc(), settings(&rt))?);
-    audit(&rt, empty, JobStatus::Done, "ledger ok 0\n", "none");
-    assert_eq!(rt;
-        audited(&rt, worked_ledger(&rt)?, &mut Refusing),
-        Err(WriteFault)
-    );
+    let worked = worked_ledger(&rt)?;
+    assert!(rt; is_audited(&rt, worked, JobStatus::Done, "ledger ok 9\n"));
+    let empty = new_ledger(&rt)?;
+    assert!(rt; is_audited(&rt, empty, JobStatus::Done, "ledger ok 0\n"));
+    let worked = worked_ledger(&rt)?;
+    assert!(rt; audited(&rt, worked, &mut Refusing) == Err(WriteFault));
     Ok(())
+}
+
+/// Whether an audit behind one change of the tables ends with this status and prints this line.
+fn is_audited_with<R: Abort + AllocGlobal>(
+    rt: &R,
+    change: &str,
+    status: JobStatus,
+    line: &str,
+) -> Result<bool, Fail> {
+    let mut connection = worked_ledger(rt)?;
+    connection.execute(change, &[])?;
+    Ok(is_audited(rt, connection, status, line))
 }
 
 #[test]
 fn ledger_without_the_table_of_closed_ranges_is_of_an_earlier_build(
     rt: HostRuntime,
 ) -> Result<(), Fail> {
-    let change = "DROP TABLE closed";
-    let mut connection = worked_ledger(&rt)?;
-    connection.execute(change, &[])?;
-    audit(&rt, connection, JobStatus::Done, "ledger ok 9\n", change);
+    assert!(rt; is_audited_with(&rt, "DROP TABLE closed", JobStatus::Done, "ledger ok 9\n")?);
     Ok(())
 }
 
 #[test]
 fn database_without_tables_is_no_ledger(rt: HostRuntime) -> Result<(), Fail> {
     let connection = Connection::open_in_memory(rt.alloc())?;
-    audit(
-        &rt,
-        connection,
-        JobStatus::Failed,
-        "ledger not-a-ledger\n",
-        "no tables",
-    );
+    assert!(rt; is_audited(&rt, connection, JobStatus::Failed, "ledger not-a-ledger\n"));
     Ok(())
 }
 
+/// A change of the tables, and the line of an audit behind it.
+const CHANGES: &[(&str, &str)] = &[
+    ("UPDATE head SET schema = 2", "ledger schema 2\n"),
+    ("UPDATE head SET interval = 0", "ledger not-a-ledger\n"),
+    ("UPDATE head SET cap = 0", "ledger not-a-ledger\n"),
+    ("DELETE FROM head", "ledger not-a-ledger\n"),
+    ("DROP TABLE serials", "ledger not-a-ledger\n"),
+    ("UPDATE head SET interval = 31", "ledger damaged 8\n"),
+    ("UPDATE head SET cap = 8", "ledger damaged 9\n"),
+    ("DELETE FROM calls WHERE arrival = 2", "ledger damaged 2\n"),
+    (
+        "UPDATE calls SET arrival = 10 WHERE arrival = 9",
+        "ledger damaged 9\n",
+    ),
+    (
+        "UPDATE calls SET customer = 8 WHERE arrival = 4",
+        "ledger damaged 4\n",
+    ),
+    (
+        "UPDATE calls SET day = 19999 WHERE arrival = 6",
+        "ledger damaged 6\n",
+    ),
+    (
+        "UPDATE calls SET day = 20029 WHERE arrival = 8",
+        "ledger damaged 8\n",
+    ),
+    (
+        "UPDATE calls SET day = 20029 WHERE arrival = 9",
+        "ledger damaged 9\n",
+    ),
+    (
+        "UPDATE calls SET reply = x'5331018300000007000000045241303030303030303134474200' WHERE arrival = 5",
+        "ledger damaged 5\n",
+    ),
+    (
+        "UPDATE calls SET reply = x'533101820000000700000002524147420000004e20524130303030303030313447' WHERE arrival = 3",
+        "ledger damaged 3\n",
+    ),
+    ("UPDATE ranges SET high = 3", "ledger damaged 0\n"),
+    ("UPDATE ranges SET mark = 0", "ledger damaged 0\n"),
+    (
+        "UPDATE serials SET day = 19999 WHERE serial = 0",
+        "ledger damaged 0\n",
+    ),
+    (
+        "UPDATE serials SET voided = 1 WHERE serial = 1",
+        "ledger damaged 0\n",
+    ),
+    ("DELETE FROM serials WHERE serial = 2", "ledger damaged 0\n"),
+    (
+        "INSERT INTO serials VALUES (1380009794, 3, 9, 20030, 7, 8, 0)",
+        "ledger damaged 0\n",
+    ),
+    ("INSERT INTO closed VALUES (1, 9)", "ledger damaged 0\n"),
+];
+
 #[test]
 fn one_change_of_the_tables_is_found(rt: HostRuntime) -> Result<(), Fail> {
-    let changes = [
-        ("UPDATE head SET schema = 2", "schema 2"),
-        ("UPDATE head SET interval = 0", "not-a-ledger"),
-        ("UPDATE head SET cap = 0", "not-a-ledger"),
-        ("DELETE FROM head", "not-a-ledger"),
-        ("DROP TABLE serials", "not-a-ledger"),
-        ("UPDATE head SET interval = 31", "damaged 8"),
-        ("UPDATE head SET cap = 8", "damaged 9"),
-        ("DELETE FROM calls WHERE arrival = 2", "damaged 2"),
-        (
-            "UPDATE calls SET arrival = 10 WHERE arrival = 9",
-            "damaged 9",
-        ),
-        (
-            "UPDATE calls SET customer = 8 WHERE arrival = 4",
-            "damaged 4",
-        ),
-        (
-            "UPDATE calls SET day = 19999 WHERE arrival = 6",
-            "damaged 6",
-        ),
-        (
-            "UPDATE calls SET day = 20029 WHERE arrival = 8",
-            "damaged 8",
-        ),
-        (
-            "UPDATE calls SET day = 20029 WHERE arrival = 9",
-            "damaged 9",
-        ),
-        (
-            "UPDATE calls SET reply = x'5331018300000007000000045241303030303030303134474200' WHERE arrival = 5",
-            "damaged 5",
-        ),
-        (
-            "UPDATE calls SET reply = x'533101820000000700000002524147420000004e20524130303030303030313447' WHERE arrival = 3",
-            "damaged 3",
-        ),
-        ("UPDATE ranges SET high = 3", "damaged 0"),
-        ("UPDATE ranges SET mark = 0", "damaged 0"),
-        (
-            "UPDATE serials SET day = 19999 WHERE serial = 0",
-            "damaged 0",
-        ),
-        (
-            "UPDATE serials SET voided = 1 WHERE serial = 1",
-            "damaged 0",
-        ),
-        ("DELETE FROM serials WHERE serial = 2", "damaged 0"),
-        (
-            "INSERT INTO serials VALUES (1380009794, 3, 9, 20030, 7, 8, 0)",
-            "damaged 0",
-        ),
-        ("INSERT INTO closed VALUES (1, 9)", "damaged 0"),
-    ];
-    for (change, fault) in changes {
-        let mut connection = worked_ledger(&rt)?;
-        connection.execute(change, &[])?;
-        let line = format!(in rt.alloc(); "ledger {fault}\n")?;
-        audit(&rt, connection, JobStatus::Failed, &line, change);
+    for (change, line) in CHANGES {
+        assert!(rt;
+            is_audited_with(&rt, change, JobStatus::Failed, line)?,
+            "{change}"
+        );
     }
     Ok(())
 }

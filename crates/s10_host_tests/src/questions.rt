@@ -7,37 +7,92 @@ use s10_sockets::run_question;
 use std::net::Net;
 use std::test::Fail;
 
-/// Customer 7's first request.
-fn draw<'a>(tries: Tries, to: &'a str, service: &'a str, country: &'a str) -> Question<'a> {
-    Question {
-        to,
-        customer: 7,
-        number: 1,
-        body: BodyWords::Draw { service, country },
-        tries,
-    }
+/// What is asked for: by customer 7, or by the post.
+#[derive(Clone, Copy)]
+enum Asked {
+    Draw(&'static str, &'static str),
+    Query(&'static str),
+    Withdraw,
 }
 
-fn query<'a>(tries: Tries, to: &'a str, id: &'a str) -> Question<'a> {
-    Question {
-        to,
-        customer: 7,
-        number: 1,
-        body: BodyWords::Query { id },
-        tries,
-    }
-}
+const SERVER: &str = "127.0.0.1:4711";
 
-/// The post's first withdrawal.
-fn withdraw<'a>(tries: Tries, to: &'a str) -> Question<'a> {
-    Question {
-        to,
-        customer: 0,
-        number: 1,
-        body: BodyWords::Withdraw { range: 1 },
-        tries,
-    }
-}
+/// To whom a question goes, what it asks for, and the status and the line that it ends with.
+const CASES: &[(&str, Asked, JobStatus, &str)] = &[
+    (
+        "127.0.0.1",
+        Asked::Draw("ra", "gb"),
+        JobStatus::Refused,
+        "refused peer\n",
+    ),
+    (
+        "127.0.0.1:04711",
+        Asked::Draw("RA", "GB"),
+        JobStatus::Refused,
+        "refused peer\n",
+    ),
+    (
+        SERVER,
+        Asked::Draw("ra", "gb"),
+        JobStatus::Refused,
+        "refused service\n",
+    ),
+    (
+        SERVER,
+        Asked::Draw("RAA", "GB"),
+        JobStatus::Refused,
+        "refused service\n",
+    ),
+    (
+        SERVER,
+        Asked::Draw("RA", "G8"),
+        JobStatus::Refused,
+        "refused country\n",
+    ),
+    (
+        "post:4711",
+        Asked::Query("RA"),
+        JobStatus::Refused,
+        "refused peer\n",
+    ),
+    (
+        SERVER,
+        Asked::Query("RA"),
+        JobStatus::Refused,
+        "refused length\n",
+    ),
+    (
+        SERVER,
+        Asked::Query("ra 473 124 82x us"),
+        JobStatus::Refused,
+        "refused digit 10\n",
+    ),
+    (
+        SERVER,
+        Asked::Query("RA 000 000 006 GB"),
+        JobStatus::Refused,
+        "refused check-digit\n",
+    ),
+    (
+        "127.0.0.1",
+        Asked::Withdraw,
+        JobStatus::Refused,
+        "refused peer\n",
+    ),
+    // No datagram can be sent to port 0.
+    (
+        "127.0.0.1:0",
+        Asked::Query("ra 000 000 005 gb"),
+        JobStatus::Failed,
+        "link send\n",
+    ),
+    (
+        "127.0.0.1:0",
+        Asked::Withdraw,
+        JobStatus::Failed,
+        "link send\n",
+    ),
+];
 
 /// Whether a question has this status and prints this line, on a writer that takes it alone.
 fn is_told<R: Net + Eprint + AllocGlobal>(
@@ -52,75 +107,38 @@ fn is_told<R: Net + Eprint + AllocGlobal>(
     done == Ok(status) && out.as_slice() == line.as_bytes() && failed == Err(WriteFault)
 }
 
+/// The same of the first question of the customer or the post.
+fn asked_is_told<R: Net + Eprint + AllocGlobal>(
+    rt: &R,
+    tries: Tries,
+    to: &str,
+    asked: Asked,
+    status: JobStatus,
+    line: &str,
+) -> bool {
+    let (customer, body) = match asked {
+        Asked::Draw(service, country) => (7, BodyWords::Draw { service, country }),
+        Asked::Query(id) => (7, BodyWords::Query { id }),
+        Asked::Withdraw => (0, BodyWords::Withdraw { range: 1 }),
+    };
+    let question = Question {
+        to,
+        customer,
+        number: 1,
+        body,
+        tries,
+    };
+    is_told(rt, &question, status, line)
+}
+
 #[test]
 fn what_is_not_asked_has_its_line(rt: HostRuntime) -> Result<(), Fail> {
     let tries = Tries::new(1).ok_or("tries")?;
-    let server = "127.0.0.1:4711";
-    let cases: [(Question<'_>, JobStatus, &str); 12] = [
-        (
-            draw(tries, "127.0.0.1", "ra", "gb"),
-            JobStatus::Refused,
-            "refused peer\n",
-        ),
-        (
-            draw(tries, "127.0.0.1:04711", "RA", "GB"),
-            JobStatus::Refused,
-            "refused peer\n",
-        ),
-        (
-            draw(tries, server, "ra", "gb"),
-            JobStatus::Refused,
-            "refused service\n",
-        ),
-        (
-            draw(tries, server, "RAA", "GB"),
-            JobStatus::Refused,
-            "refused service\n",
-        ),
-        (
-            draw(tries, server, "RA", "G8"),
-            JobStatus::Refused,
-            "refused country\n",
-        ),
-        (
-            query(tries, "post:4711", "RA"),
-            JobStatus::Refused,
-            "refused peer\n",
-        ),
-        (
-            query(tries, server, "RA"),
-            JobStatus::Refused,
-            "refused length\n",
-        ),
-        (
-            query(tries, server, "ra 473 124 82x us"),
-            JobStatus::Refused,
-            "refused digit 10\n",
-        ),
-        (
-            query(tries, server, "RA 000 000 006 GB"),
-            JobStatus::Refused,
-            "refused check-digit\n",
-        ),
-        (
-            withdraw(tries, "127.0.0.1"),
-            JobStatus::Refused,
-            "refused peer\n",
-        ),
-        // No datagram can be sent to port 0.
-        (
-            query(tries, "127.0.0.1:0", "ra 000 000 005 gb"),
-            JobStatus::Failed,
-            "link send\n",
-        ),
-        (
-            withdraw(tries, "127.0.0.1:0"),
-            JobStatus::Failed,
-            "link send\n",
-        ),
-    ];
-    for (question, status, line) in &cases {
-        assert!(rt; is_told(&rt, question, *status, line), "{line}");
+    for (to, asked, status, line) in CASES {
+        assert!(rt;
+            asked_is_told(&rt, tries, to, *asked, *status, line),
+            "{line}"
+        );
     }
     Ok(())
 }

@@ -4,8 +4,8 @@ use s10_cli::parse_job;
 use s10_host::run_job;
 use s10_jobs::JobStatus;
 use sqlite::Unknown;
-use std::fs;
 use std::test::Fail;
+use std::{fs, io};
 
 /// Made for each path, and taken away again.
 const FOLDER: &str = "refused_files_test";
@@ -41,39 +41,57 @@ fn are_refused(rt: &HostRuntime, ledger: &str, line: &str) -> bool {
     is_refused(rt, &audit, line) && is_refused(rt, &report, line) && is_refused(rt, &serve, line)
 }
 
-/// Whether they are, and no file is in the folder afterwards: one with something in it cannot be taken away.
-fn stays_away(rt: &HostRuntime, ledger: &str, line: &str) -> Result<bool, Fail> {
+/// Makes the folder, with nothing in it.
+fn make_folder(rt: &HostRuntime) -> io::Result<()> {
     let _ = fs::remove_dir_all(rt, FOLDER);
-    fs::create_dir(rt, FOLDER)?;
+    fs::create_dir(rt, FOLDER)
+}
+
+/// Takes the folder away, and the file alone that was in it. Its bytes.
+fn take_file(rt: &HostRuntime) -> io::Result<Vec<u8>> {
+    let left = fs::read(rt, FILE)?;
+    fs::remove_file(rt, FILE)?;
+    fs::remove_dir(rt, FOLDER)?;
+    Ok(left)
+}
+
+/// Whether they are, and no file is in the folder afterwards: one with something in it cannot be taken away.
+fn stays_away(rt: &HostRuntime, ledger: &str, line: &str) -> io::Result<bool> {
+    make_folder(rt)?;
     let refused = are_refused(rt, ledger, line);
     fs::remove_dir(rt, FOLDER)?;
     Ok(refused)
 }
 
 /// Whether they are, and the file keeps its bytes and has no other beside it.
-fn stays(rt: &HostRuntime, bytes: &str, line: &str) -> Result<bool, Fail> {
-    let _ = fs::remove_dir_all(rt, FOLDER);
-    fs::create_dir(rt, FOLDER)?;
+fn stays(rt: &HostRuntime, bytes: &str, line: &str) -> io::Result<bool> {
+    make_folder(rt)?;
     fs::write(rt, FILE, bytes)?;
     let refused = are_refused(rt, FILE, line);
-    let left = fs::read(rt, FILE)?;
-    fs::remove_file(rt, FILE)?;
-    fs::remove_dir(rt, FOLDER)?;
+    let left = take_file(rt)?;
     Ok(refused && left.as_slice() == bytes.as_bytes())
 }
 
+/// Paths of no file, and the line of each job over one.
+const ABSENT: &[(&str, &str)] = &[
+    (FILE, "ledger not-a-ledger\n"),
+    (IN_NO_FOLDER, "ledger store\n"),
+];
+
+/// What stands in a file, and the line of each job over it.
+const OTHERS: &[(&str, &str)] = &[
+    ("", "ledger not-a-ledger\n"),
+    ("short", "ledger store\n"),
+    ("a text, and longer than sixteen bytes\n", "ledger store\n"),
+];
+
 #[test]
 fn what_is_no_ledger_stays_as_it_was(rt: HostRuntime) -> Result<(), Fail> {
-    assert!(rt; stays_away(&rt, FILE, "ledger not-a-ledger\n")?);
-    assert!(rt; stays_away(&rt, IN_NO_FOLDER, "ledger store\n")?);
-    assert!(rt; stays(&rt, "", "ledger not-a-ledger\n")?);
-    assert!(rt; stays(&rt, "short", "ledger store\n")?);
-    assert!(rt;
-        stays(
-            &rt,
-            "a text, and longer than sixteen bytes\n",
-            "ledger store\n"
-        )?
-    );
+    for (ledger, line) in ABSENT {
+        assert!(rt; stays_away(&rt, ledger, line)?, "{ledger}");
+    }
+    for (bytes, line) in OTHERS {
+        assert!(rt; stays(&rt, bytes, line)?, "{bytes}");
+    }
     Ok(())
 }

@@ -41,12 +41,13 @@ fn is_told(
     alloc: Global,
     client: &mut Client,
     link: &mut ScriptLink,
+    body: Body,
     status: JobStatus,
     line: &str,
-) -> Result<bool, Fail> {
+) -> bool {
     let mut out = Vec::new(alloc);
-    let asked = ask(client, link, SERVER, draw()?, 2, &mut out);
-    Ok(asked == Ok(status) && out.as_slice() == line.as_bytes())
+    let asked = ask(client, link, SERVER, body, 2, &mut out);
+    asked == Ok(status) && out.as_slice() == line.as_bytes()
 }
 
 /// Whether customer 7's first call over this script has this status and prints this line, and the
@@ -60,49 +61,58 @@ fn is_asked_once(
 ) -> Result<bool, Fail> {
     let mut link = script(alloc, receipts, sends)?;
     let mut client = Client::new(7, 1, 1)?;
-    Ok(
-        is_told(alloc, &mut client, &mut link, status, line)?
-            && is_told(alloc, &mut client, &mut link, JobStatus::CommandLine, "")?,
-    )
+    let draw = draw()?;
+    let is_told_at_first = is_told(alloc, &mut client, &mut link, draw, status, line);
+    let then = JobStatus::CommandLine;
+    Ok(is_told_at_first && is_told(alloc, &mut client, &mut link, draw, then, ""))
+}
+
+#[test]
+fn what_came_of_a_call_without_a_reply_is_printed(rt: HostRuntime) -> Result<(), Fail> {
+    let cases: &[(&[bool], &str)] = &[
+        (&[true, true], "gave-up\n"),
+        (&[false], "link send\n"),
+        (&[true], "link spent\n"),
+    ];
+    for (sends, line) in cases {
+        let is_asked = is_asked_once(rt.alloc(), &[], sends, JobStatus::Failed, line)?;
+        assert!(rt; is_asked, "{line}");
+    }
+    Ok(())
+}
+
+#[test]
+fn a_receive_that_fails_is_printed(rt: HostRuntime) -> Result<(), Fail> {
+    let receipts = [Receipt::Fail];
+    let line = "link receive\n";
+    assert!(rt; is_asked_once(rt.alloc(), &receipts, &[true], JobStatus::Failed, line)?);
+    Ok(())
+}
+
+/// Whether customer 7's first call, which gets this reply at once or in the second try, has this status and prints
+/// this line.
+fn is_answered(alloc: Global, reply: &[u8], status: JobStatus, line: &str) -> Result<bool, Fail> {
+    let at_once = is_asked_once(alloc, &[delivered(reply)], &[true], status, line)?;
+    let late = [Receipt::Nothing, delivered(reply)];
+    Ok(at_once && is_asked_once(alloc, &late, &[true, true], status, line)?)
 }
 
 #[test]
 fn what_came_of_a_call_is_printed(rt: HostRuntime) -> Result<(), Fail> {
-    let drawn = delivered(DRAWN);
-    let drawn_late = delivered(DRAWN);
-    let none_free = delivered(NONE_FREE);
-    let cases: [(&[Receipt], &[bool], JobStatus, &str); 7] = [
+    let cases = [
         (
-            &[drawn],
-            &[true],
+            DRAWN,
             JobStatus::Done,
             "reply draw customer 7 number 1 RA GB done day 20000 RA000000005GB\n",
         ),
         (
-            &[Receipt::Nothing, drawn_late],
-            &[true, true],
-            JobStatus::Done,
-            "reply draw customer 7 number 1 RA GB done day 20000 RA000000005GB\n",
-        ),
-        (
-            &[none_free],
-            &[true],
+            NONE_FREE,
             JobStatus::Refused,
             "reply draw customer 7 number 1 RA GB none-free\n",
         ),
-        (&[], &[true, true], JobStatus::Failed, "gave-up\n"),
-        (&[], &[false], JobStatus::Failed, "link send\n"),
-        (
-            &[Receipt::Fail],
-            &[true],
-            JobStatus::Failed,
-            "link receive\n",
-        ),
-        (&[], &[true], JobStatus::Failed, "link spent\n"),
     ];
-    for (receipts, sends, status, line) in cases {
-        let is_asked = is_asked_once(rt.alloc(), receipts, sends, status, line)?;
-        assert!(rt; is_asked, "{line}");
+    for (reply, status, line) in cases {
+        assert!(rt; is_answered(rt.alloc(), reply, status, line)?, "{line}");
     }
     Ok(())
 }

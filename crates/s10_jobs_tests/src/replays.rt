@@ -147,45 +147,48 @@ dropped length
     Ok(())
 }
 
+/// Bytes of an input, and what a replay of them answers and writes.
+type Case = (&'static [u8], Result<u32, ReplayFault>, &'static str);
+
+const SMALL_INPUTS: &[Case] = &[
+    (b"", Ok(0), ""),
+    (b"20000 ", Ok(1), "dropped short\n"),
+    (b"20000 \n", Ok(1), "dropped short\n"),
+    (b"20000 5", Err(ReplayFault::Line(1)), ""),
+    (b"20000", Err(ReplayFault::Line(1)), ""),
+    (b" 53", Err(ReplayFault::Line(1)), ""),
+    (b"20000  53", Err(ReplayFault::Line(1)), ""),
+    (b"2000x 53", Err(ReplayFault::Line(1)), ""),
+    (b"20000 5g", Err(ReplayFault::Line(1)), ""),
+    (b"00000020000 53", Err(ReplayFault::Line(1)), ""),
+    (b"0000020000 53", Ok(1), "dropped short\n"),
+    (b"4294967295 53", Ok(1), "dropped short\n"),
+    (b"4294967296 53", Err(ReplayFault::Line(1)), ""),
+    // Empty lines are counted and passed over, also with a carriage return.
+    (b"\n\r\n\n20000 x\n", Err(ReplayFault::Line(4)), ""),
+    (b"\n\r\n\n20000 \r\n", Ok(1), "dropped short\n"),
+    (b"20000 \r\r\n", Err(ReplayFault::Line(1)), ""),
+    (
+        b"1 \n2 \nx\n4 \n",
+        Err(ReplayFault::Line(3)),
+        "dropped short\ndropped short\n",
+    ),
+    (
+        b"1 533001020000000700000001\n1 533103020000000700000001\n1 533101050000000700000001\n",
+        Ok(3),
+        "dropped magic\ndropped version\ndropped kind\n",
+    ),
+    (
+        b"1 53310102000000070000000172614742\n1 53310102000000070000000152416762",
+        Ok(2),
+        "dropped field 12\ndropped field 14\n",
+    ),
+];
+
 #[test]
 fn small_inputs_are_read_as_lines(rt: HostRuntime) -> Result<(), Fail> {
-    let cases: [(&[u8], Result<u32, ReplayFault>, &str); 19] = [
-        (b"", Ok(0), ""),
-        (b"20000 ", Ok(1), "dropped short\n"),
-        (b"20000 \n", Ok(1), "dropped short\n"),
-        (b"20000 5", Err(ReplayFault::Line(1)), ""),
-        (b"20000", Err(ReplayFault::Line(1)), ""),
-        (b" 53", Err(ReplayFault::Line(1)), ""),
-        (b"20000  53", Err(ReplayFault::Line(1)), ""),
-        (b"2000x 53", Err(ReplayFault::Line(1)), ""),
-        (b"20000 5g", Err(ReplayFault::Line(1)), ""),
-        (b"00000020000 53", Err(ReplayFault::Line(1)), ""),
-        (b"0000020000 53", Ok(1), "dropped short\n"),
-        (b"4294967295 53", Ok(1), "dropped short\n"),
-        (b"4294967296 53", Err(ReplayFault::Line(1)), ""),
-        // Empty lines are counted and passed over, also with a carriage return.
-        (b"\n\r\n\n20000 x\n", Err(ReplayFault::Line(4)), ""),
-        (b"\n\r\n\n20000 \r\n", Ok(1), "dropped short\n"),
-        (b"20000 \r\r\n", Err(ReplayFault::Line(1)), ""),
-        (
-            b"1 \n2 \nx\n4 \n",
-            Err(ReplayFault::Line(3)),
-            "dropped short\ndropped short\n",
-        ),
-        (
-            b"1 533001020000000700000001\n1 533103020000000700000001\n1 533101050000000700000001\n",
-            Ok(3),
-            "dropped magic\ndropped version\ndropped kind\n",
-        ),
-        (
-            b"1 53310102000000070000000172614742\n1 53310102000000070000000152416762",
-            Ok(2),
-            "dropped field 12\ndropped field 14\n",
-        ),
-    ];
-    for (bytes, want, text) in cases {
-        let is_replayed = is_replayed(rt.alloc(), bytes, want, text)?;
-        assert!(rt; is_replayed, "{bytes:?}");
+    for (bytes, want, text) in SMALL_INPUTS {
+        assert!(rt; is_replayed(rt.alloc(), bytes, *want, text)?, "{bytes:?}");
     }
     Ok(())
 }
@@ -203,13 +206,18 @@ fn digits_of_both_cases_are_read_and_small_ones_written(rt: HostRuntime) -> Resu
     Ok(())
 }
 
-/// The longest line: a day of ten digits, 512 bytes and a carriage return.
-fn longest_line(alloc: Global) -> Result<Vec<u8>, AllocError> {
-    let mut line = Vec::new(alloc);
-    line.extend_from_slice(b"0000020000 ")?;
-    for _ in 0..1024u32 {
+/// These bytes, and so many digits 0.
+fn with_zeros(alloc: Global, bytes: &[u8], count: u32) -> Result<Vec<u8>, AllocError> {
+    let mut line = bytes.to_vec(alloc)?;
+    for _ in 0..count {
         line.push(b'0')?;
     }
+    Ok(line)
+}
+
+/// The longest line: a day of ten digits, 512 bytes and a carriage return.
+fn longest_line(alloc: Global) -> Result<Vec<u8>, AllocError> {
+    let mut line = with_zeros(alloc, b"0000020000 ", 1024)?;
     line.push(b'\r')?;
     Ok(line)
 }
@@ -217,8 +225,7 @@ fn longest_line(alloc: Global) -> Result<Vec<u8>, AllocError> {
 #[test]
 fn longest_line_is_read_whole(rt: HostRuntime) -> Result<(), Fail> {
     let mut line = longest_line(rt.alloc())?;
-    assert_eq!(rt; line.len(), 1036);
-    assert!(rt; is_replayed(rt.alloc(), &line, Ok(1), "dropped magic\n")?);
+    assert!(rt; line.len() == 1036 && is_replayed(rt.alloc(), &line, Ok(1), "dropped magic\n")?);
     line.push(b'\n')?;
     assert!(rt; is_replayed(rt.alloc(), &line, Ok(1), "dropped magic\n")?);
     Ok(())
@@ -226,14 +233,16 @@ fn longest_line_is_read_whole(rt: HostRuntime) -> Result<(), Fail> {
 
 #[test]
 fn longer_line_is_refused_without_reading_more(rt: HostRuntime) -> Result<(), Fail> {
-    let mut line = Vec::new(rt.alloc());
-    for _ in 0..1036u32 {
-        line.push(b'0')?;
+    for (count, fault) in [(1036, ReplayFault::Read), (1037, ReplayFault::Line(1))] {
+        let line = with_zeros(rt.alloc(), b"", count)?;
+        assert!(rt; is_read_until(rt.alloc(), &line, fault, "")?, "{count}");
     }
-    for (more, want) in [("", ReplayFault::Read), ("0", ReplayFault::Line(1))] {
-        line.extend_from_slice(more.as_bytes())?;
-        assert!(rt; is_read_until(rt.alloc(), &line, want, "")?, "{more}");
-    }
+    Ok(())
+}
+
+#[test]
+fn longer_line_is_refused_where_the_input_ends(rt: HostRuntime) -> Result<(), Fail> {
+    let line = with_zeros(rt.alloc(), b"", 1037)?;
     assert!(rt; is_replayed(rt.alloc(), &line, Err(ReplayFault::Line(1)), "")?);
     Ok(())
 }
@@ -309,7 +318,7 @@ type Stop = (
     &'static str,
 );
 
-const STOPS: [Stop; 9] = [
+const STOPS: &[Stop] = &[
     (b"", Ok(0), ReplayFault::Read, ""),
     (b"20000 \n", Ok(1), ReplayFault::Read, SHORT),
     (b"20000 \n\r\n", Ok(1), ReplayFault::Read, SHORT),
@@ -348,11 +357,24 @@ const STOPS: [Stop; 9] = [
     ),
 ];
 
+/// Whether a replay of an input that ends behind these bytes, and of one that fails there, answers so.
+fn stops_there(
+    alloc: Global,
+    bytes: &[u8],
+    ends: Result<u32, ReplayFault>,
+    fails: ReplayFault,
+    text: &str,
+) -> Result<bool, Fail> {
+    Ok(is_replayed(alloc, bytes, ends, text)? && is_read_until(alloc, bytes, fails, text)?)
+}
+
 #[test]
 fn a_refused_line_is_no_unreadable_input(rt: HostRuntime) -> Result<(), Fail> {
     for (bytes, ends, fails, text) in STOPS {
-        assert!(rt; is_replayed(rt.alloc(), bytes, ends, text)?, "{bytes:?}");
-        assert!(rt; is_read_until(rt.alloc(), bytes, fails, text)?, "{bytes:?}");
+        assert!(rt;
+            stops_there(rt.alloc(), bytes, *ends, *fails, text)?,
+            "{bytes:?}"
+        );
     }
     Ok(())
 }
@@ -389,18 +411,27 @@ fn an_input_that_fails_has_its_line_and_status(rt: HostRuntime) -> Result<(), Fa
     Ok(())
 }
 
-/// What a replay of two lines answers where the writer has so much room.
-fn replayed_into(alloc: Global, room: usize) -> Result<Result<u32, ReplayFault>, Fail> {
+/// Whether a replay of two lines has this answer where the writer has so much room.
+fn is_replayed_into(
+    alloc: Global,
+    room: usize,
+    want: Result<u32, ReplayFault>,
+) -> Result<bool, Fail> {
     let mut input: &[u8] = b"20000 \n20000 \n";
-    Ok(replay(alloc, settings(100)?, &mut input, &mut Narrow { room }))
+    let answer = replay(alloc, settings(100)?, &mut input, &mut Narrow { room });
+    Ok(answer == want)
 }
 
 #[test]
 fn writer_that_fails_ends_the_replay(rt: HostRuntime) -> Result<(), Fail> {
-    for room in [0, 13, 14, 27] {
-        let answer = replayed_into(rt.alloc(), room)?;
-        assert_eq!(rt; answer, Err(ReplayFault::Write), "{room}");
+    for (room, want) in [
+        (0, Err(ReplayFault::Write)),
+        (13, Err(ReplayFault::Write)),
+        (14, Err(ReplayFault::Write)),
+        (27, Err(ReplayFault::Write)),
+        (28, Ok(2)),
+    ] {
+        assert!(rt; is_replayed_into(rt.alloc(), room, want)?, "{room}");
     }
-    assert_eq!(rt; replayed_into(rt.alloc(), 28)?, Ok(2));
     Ok(())
 }

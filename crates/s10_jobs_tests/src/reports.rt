@@ -10,6 +10,7 @@ use std::alloc::Global;
 use std::io;
 use std::io::Write;
 use std::test::Fail;
+use std::time::Clock;
 
 const RANGES: &str = "range customer service country first last used voided free
 1 7 RA GB 00000000 00000002 1 0 2
@@ -82,13 +83,22 @@ fn a_withdrawn_range_is_reported_as_closed(rt: HostRuntime) -> Result<(), Fail> 
     Ok(())
 }
 
+/// Whether a report of ranges has the day that is given, or one of its own.
+fn has_its_day<R: Clock>(rt: &R) -> bool {
+    Report::new(rt, false, Some(7)) == Some(Report::Ranges { day: 7 })
+        && Report::new(rt, false, None).is_some()
+}
+
+/// Whether a report of issues has no day.
+fn has_no_day<R: Clock>(rt: &R) -> bool {
+    Report::new(rt, true, Some(7)) == Some(Report::Issues)
+        && Report::new(rt, true, None) == Some(Report::Issues)
+}
+
 #[test]
 fn a_report_has_the_day_that_is_given(rt: HostRuntime) {
-    let on_day = |day| Some(Report::Ranges { day });
-    assert_eq!(rt; Report::new(&rt, false, Some(7)), on_day(7));
-    assert_eq!(rt; Report::new(&rt, true, Some(7)), Some(Report::Issues));
-    assert_eq!(rt; Report::new(&rt, true, None), Some(Report::Issues));
-    assert!(rt; Report::new(&rt, false, None).is_some());
+    assert!(rt; has_its_day(&rt));
+    assert!(rt; has_no_day(&rt));
 }
 
 #[test]
@@ -149,9 +159,7 @@ fn is_told_to_have_ended(alloc: Global) -> Result<bool, Fail> {
 fn a_writer_that_fails_ends_a_report(rt: HostRuntime) -> Result<(), Fail> {
     assert!(rt; is_told_to_have_ended(rt.alloc())?);
     let mut book = one_issue(rt.alloc())?;
-    assert_eq!(rt;
-        write_report(&mut book, Report::Issues, &mut Refusing),
-        Err(WriteFault)
-    );
+    let written = write_report(&mut book, Report::Issues, &mut Refusing);
+    assert!(rt; written == Err(WriteFault));
     Ok(())
 }

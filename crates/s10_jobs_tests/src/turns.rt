@@ -108,7 +108,7 @@ fn receipts_of_seven(alloc: Global) -> Result<Vec<Receipt>, Fail> {
     ]?)
 }
 
-const SEVEN_LINES: [&'static str; 7] = [
+const SEVEN_LINES: &[&str] = &[
     GRANTED,
     "quiet\n",
     "link receive\n",
@@ -195,13 +195,33 @@ fn are_served<R: Clock + Eprint>(
     Ok(come_to_lines && server.book().len() == expected.calls)
 }
 
-/// The first lines of the seven.
-fn first_lines(alloc: Global, count: u32) -> Result<String, AllocError> {
-    let mut lines = String::new(alloc);
-    for line in SEVEN_LINES.iter().take(count as usize) {
-        lines.push_str(line)?;
+/// The first so many of these lines.
+fn first_of(alloc: Global, lines: &[&str], count: u32) -> Result<String, AllocError> {
+    let mut first = String::new(alloc);
+    for line in lines.iter().take(count as usize) {
+        first.push_str(line)?;
     }
-    Ok(lines)
+    Ok(first)
+}
+
+/// Whether so many turns of a new server, on the link of the seven, have the first of the lines, and leave so many calls.
+fn have_first_lines<R: Clock + Eprint>(
+    alloc: Global,
+    rt: &R,
+    count: u32,
+    rounds: u32,
+    calls: u32,
+) -> Result<bool, Fail> {
+    let lines = first_of(alloc, SEVEN_LINES, count)?;
+    let expected = Expected {
+        status: Ok(JobStatus::Done),
+        lines: &lines,
+        flushed: rounds,
+        calls,
+    };
+    let receipts = receipts_of_seven(alloc)?;
+    let sends = [true, false, true];
+    are_served(alloc, rt, receipts, &sends, count, Some(20_000), expected)
 }
 
 #[test]
@@ -217,25 +237,10 @@ fn each_turn_has_its_line(rt: HostRuntime) -> Result<(), Fail> {
         (6, 4, 2),
         (7, 4, 2),
     ] {
-        let lines = first_lines(rt.alloc(), count)?;
-        let expected = Expected {
-            status: Ok(JobStatus::Done),
-            lines: &lines,
-            flushed: rounds,
-            calls,
-        };
-        let receipts = receipts_of_seven(rt.alloc())?;
-        let sends = [true, false, true];
-        let is_served = are_served(
-            rt.alloc(),
-            &rt,
-            receipts,
-            &sends,
-            count,
-            Some(20_000),
-            expected,
-        )?;
-        assert!(rt; is_served, "{count}");
+        assert!(rt;
+            have_first_lines(rt.alloc(), &rt, count, rounds, calls)?,
+            "{count}"
+        );
     }
     Ok(())
 }
@@ -248,7 +253,7 @@ fn the_clock_gives_the_day_where_none_is_given(rt: HostRuntime) -> Result<(), Fa
         Receipt::Deliver(PEER, Packet::new(GRANT)),
         Receipt::Deliver(PEER, Packet::new(DRAW)),
     ]?;
-    let lines = format!(in rt.alloc(); "{GRANTED}{DRAWN}")?;
+    let lines = first_of(rt.alloc(), &[GRANTED, DRAWN], 2)?;
     let expected = Expected {
         status: Ok(JobStatus::Done),
         lines: &lines,
@@ -278,7 +283,7 @@ fn three_dropped(alloc: Global) -> Result<Vec<Receipt>, Fail> {
     ]?)
 }
 
-const THREE_DROPPED: [&'static str; 6] = [
+const THREE_DROPPED: &[&str] = &[
     "quiet\n",
     "dropped short\n",
     GRANTED,
@@ -287,14 +292,15 @@ const THREE_DROPPED: [&'static str; 6] = [
     "dropped short\n",
 ];
 
-/// Whether so many turns on the link of the two ends have these lines, and standard error is told this.
-fn are_told(alloc: Global, count: u32, rounds: u32, lines: &str, told: &str) -> Result<bool, Fail> {
+/// Whether so many turns on the link of the two ends have the first of the lines, and standard error is told this.
+fn are_told(alloc: Global, count: u32, rounds: u32, told: &str) -> Result<bool, Fail> {
     let rt = Listening {
         told: RefCell::new(Vec::new(alloc)),
     };
+    let lines = first_of(alloc, THREE_DROPPED, count)?;
     let expected = Expected {
         status: Ok(JobStatus::Done),
-        lines,
+        lines: &lines,
         flushed: rounds,
         calls: if count < 3 { 0 } else { 1 },
     };
@@ -321,39 +327,14 @@ fn standard_error_is_told_who_sent_what_is_dropped(rt: HostRuntime) -> Result<()
         ),
     ];
     for (count, rounds, told) in cases {
-        let mut lines = String::new(rt.alloc());
-        for line in THREE_DROPPED.iter().take(count as usize) {
-            lines.push_str(line)?;
-        }
-        assert!(rt;
-            are_told(rt.alloc(), count, rounds, &lines, told)?,
-            "{count}"
-        );
+        assert!(rt; are_told(rt.alloc(), count, rounds, told)?, "{count}");
     }
     Ok(())
 }
 
 #[test]
 fn a_closed_standard_error_ends_no_turn(rt: HostRuntime) -> Result<(), Fail> {
-    let lines = first_lines(rt.alloc(), 7)?;
-    let expected = Expected {
-        status: Ok(JobStatus::Done),
-        lines: &lines,
-        flushed: 4,
-        calls: 2,
-    };
-    let receipts = receipts_of_seven(rt.alloc())?;
-    assert!(rt;
-        are_served(
-            rt.alloc(),
-            &Standing(None),
-            receipts,
-            &[true, false, true],
-            7,
-            Some(20_000),
-            expected
-        )?
-    );
+    assert!(rt; have_first_lines(rt.alloc(), &Standing(None), 7, 4, 2)?);
     Ok(())
 }
 
@@ -402,8 +383,8 @@ fn days_are_whole_days_since_1970(rt: HostRuntime) {
     for (seconds, day) in cases {
         assert!(rt; is_day_after(seconds, day), "{seconds}");
     }
-    assert_eq!(rt; today(&Standing(None)), None);
-    assert_eq!(rt; day_or_today(&Standing(None), Some(7)), Some(7));
+    let clock = Standing(None);
+    assert!(rt; today(&clock).is_none() && day_or_today(&clock, Some(7)) == Some(7));
     assert!(rt; today(&rt).is_some());
 }
 
@@ -419,7 +400,22 @@ fn whole_lines(room: usize) -> usize {
     SEVEN_LINES.len()
 }
 
-/// Whether the turns end at the one whose line cannot be written whole, and the writer has got the lines to there.
+/// Whether the turns of a server on a link end where a line cannot be written whole, and the writer has got the lines to
+/// there.
+fn end_where_unwritten<R: Clock + Eprint>(
+    alloc: Global,
+    rt: &R,
+    server: &mut Server<PlainBook>,
+    link: &mut ScriptLink,
+    lines: &[u8],
+    room: usize,
+) -> bool {
+    let mut out = Hiccup::new(alloc, room);
+    let served = serve_turns(rt, alloc, server, link, 7, Some(20_000), &mut out);
+    served == Err(WriteFault) && lines.starts_with(out.bytes.as_slice()) && out.bytes.len() == room
+}
+
+/// Whether the turns end at the one whose line cannot be written whole, and the book has its calls and those before.
 fn ends_unwritten<R: Clock + Eprint>(
     alloc: Global,
     rt: &R,
@@ -429,20 +425,14 @@ fn ends_unwritten<R: Clock + Eprint>(
     let mut server = new_server(alloc)?;
     let sends = [true, false, true];
     let mut link = ScriptLink::new(alloc, receipts_of_seven(alloc)?, sends.to_vec(alloc)?)?;
-    let mut out = Hiccup::new(alloc, room);
-    let served = serve_turns(rt, alloc, &mut server, &mut link, 7, Some(20_000), &mut out);
+    let end = end_where_unwritten(alloc, rt, &mut server, &mut link, lines, room);
     let calls = if whole_lines(room) < 3 { 1 } else { 2 };
-    Ok(
-        served == Err(WriteFault)
-            && lines.starts_with(out.bytes.as_slice())
-            && out.bytes.len() == room
-            && server.book().len() == calls,
-    )
+    Ok(end && server.book().len() == calls)
 }
 
 #[test]
 fn a_writer_that_fails_ends_the_turns(rt: HostRuntime) -> Result<(), Fail> {
-    let lines = first_lines(rt.alloc(), 7)?;
+    let lines = first_of(rt.alloc(), SEVEN_LINES, 7)?;
     for room in 0..lines.len() {
         assert!(rt;
             ends_unwritten(rt.alloc(), &rt, lines.as_bytes(), room)?,

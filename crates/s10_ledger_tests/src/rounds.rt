@@ -1,12 +1,10 @@
 //! Rounds of a server over a ledger that could not be settled once.
 
 use crate::calls::{ledger, settings};
-use s10_book::{BookFault, TripBook};
+use s10_book::{BookFault, Settle, TripBook};
 use s10_ends::{Server, ServerTurn, Turn, serve_one, serve_round};
-use s10_ledger::SqlBook;
 use s10_link::{Packet, Peer, Receipt, ScriptLink};
 use s10_wire::{decode_reply, encode_reply};
-use sqlite::MemStore;
 use std::alloc::{AllocError, Global};
 use std::process::Abort;
 use std::test::Fail;
@@ -73,30 +71,44 @@ fn repeat(from: Peer, call: (&[u8], &[u8])) -> Result<Case, &'static str> {
     })
 }
 
-type TrippingServer = Server<TripBook<SqlBook<MemStore>>>;
-
-// A server over a ledger that settled the Grant and the first Draw, and whose call with this number from then on fails.
-fn tripping<R: Abort + AllocGlobal>(rt: &R, at: u64) -> TrippingServer {
-    let mut server = Server::new(ledger(rt, settings(rt, 1000)));
+// A server over a book that settled the Grant and the first Draw, and whose call with this number from then on fails.
+fn tripping<B: Settle>(book: B, at: u64) -> Server<TripBook<B>> {
+    let mut server = Server::new(book);
     let _ = server.handle(GRANT, 20_000);
     let _ = server.handle(FIRST.0, 20_000);
     let _ = server.settle();
     Server::new(TripBook::new(server.into_book(), at))
 }
 
-fn close(server: TrippingServer) {
-    let _ = server.into_book().into_inner().close();
-}
-
 // The turns of two rounds of two datagrams each.
-fn two_rounds(
+fn two_rounds<B: Settle>(
     alloc: Global,
-    server: &mut TrippingServer,
+    server: &mut Server<B>,
     link: &mut ScriptLink,
 ) -> Result<(Vec<Turn>, Vec<Turn>), AllocError> {
     let at_first = serve_round(alloc, server, link, 20_000, 2)?;
     let then = serve_round(alloc, server, link, 20_000, 2)?;
     Ok((at_first, then))
+}
+
+// Those over this book, whose call with this number fails; and the book.
+fn rounds_over<B: Settle>(
+    alloc: Global,
+    book: B,
+    at: u64,
+    link: &mut ScriptLink,
+) -> (Result<(Vec<Turn>, Vec<Turn>), AllocError>, B) {
+    let mut server = tripping(book, at);
+    let served = two_rounds(alloc, &mut server, link);
+    (served, server.into_book().into_inner())
+}
+
+// The same of two turns over one datagram.
+fn turns_over<B: Settle>(book: B, at: u64, link: &mut ScriptLink) -> ([Turn; 2], B) {
+    let mut server = tripping(book, at);
+    let at_first = serve_one(&mut server, link, 20_000);
+    let then = serve_one(&mut server, link, 20_000);
+    ([at_first, then], server.into_book().into_inner())
 }
 
 // Whether a round over two datagrams that could not be settled ends in these turns, and the next one over the same sends all
@@ -113,9 +125,9 @@ fn answers_later<R: Abort + AllocGlobal>(
         receipts.to_vec(rt.alloc())?,
         [true; 4].to_vec(rt.alloc())?,
     )?;
-    let mut server = tripping(rt, at);
-    let served = two_rounds(rt.alloc(), &mut server, &mut link);
-    close(server);
+    let ledger = ledger(rt, settings(rt, 1000));
+    let (served, ledger) = rounds_over(rt.alloc(), ledger, at, &mut link);
+    let _ = ledger.close();
     let (at_first, then) = served?;
     if at_first.as_slice() != [first.at_first, second.at_first].as_slice() {
         return Ok(None);
@@ -134,10 +146,9 @@ fn answers_one_later<R: Abort + AllocGlobal>(
         [case.receipt; 2].to_vec(rt.alloc())?,
         [true; 2].to_vec(rt.alloc())?,
     )?;
-    let mut server = tripping(rt, at);
-    let at_first = serve_one(&mut server, &mut link, 20_000);
-    let then = serve_one(&mut server, &mut link, 20_000);
-    close(server);
+    let ledger = ledger(rt, settings(rt, 1000));
+    let ([at_first, then], ledger) = turns_over(ledger, at, &mut link);
+    let _ = ledger.close();
     if at_first != case.at_first {
         return Ok(None);
     }

@@ -6,7 +6,7 @@ use crate::tables::found;
 use s10_book::{Book, BookFault, Settle};
 use s10_history::Settings;
 use s10_ledger::{Refused, SqlBook, Unwatched};
-use sqlite::{Connection, FileStore, Files, MemStore, Options};
+use sqlite::{Alter, Connection, FileStore, Files, MemStore, Options};
 use sqlite_disk::{Crash, Disk, Fuse, Memory};
 use std::alloc::Global;
 use std::process::Abort;
@@ -72,73 +72,128 @@ fn a_pending_call_is_found(rt: HostRuntime) {
     assert_eq!(rt; repeated(&rt), (true, 4, Some(0)));
 }
 
-// A new ledger over empty files, of which the log stops at that call. None where it is not made.
-fn stopping(
-    alloc: Global,
-    settings: Settings,
-    at: u64,
-) -> Option<SqlBook<FileStore<Fuse<Memory>>>> {
-    let log = Fuse::new(Memory::new(alloc), at);
-    let db = Fuse::new(Memory::new(alloc), u64::MAX);
-    if !log.may_be_used() || !db.may_be_used() {
-        return None;
-    }
-    let conn = Connection::open_files(alloc, Files { log, db }, Options::new(7)).ok()?;
-    if !conn.is_autocommit() {
-        return None;
-    }
-    match SqlBook::create(alloc, conn, settings, &mut Unwatched) {
-        Ok(book) => Some(book),
-        Err(
-            Refused {
-                fault: _,
-                connection: _,
-            },
-        ) => None,
-    }
+// What is told of a settling: which of four calls are settled before and behind it, what it answers, and how many calls the book
+// has then.
+#[derive(Clone, Copy, PartialEq, Eq)]
+struct Told {
+    before: [bool; 4],
+    answer: Result<(), BookFault>,
+    behind: [bool; 4],
+    calls: u32,
 }
 
-// What is answered to a settling behind three more calls than are settled, and how many calls the book has then. None where the
-// first two are not settled.
-fn settles_three<B: Settle>(book: &mut B) -> Option<(Result<(), BookFault>, u32)> {
+// The third call is settled by the settling alone.
+const SETTLED: Told = Told {
+    before: [true, true, false, true],
+    answer: Ok(()),
+    behind: [true; 4],
+    calls: 5,
+};
+
+// The settling fails, and what was pending stays so.
+const UNSETTLED: Told = Told {
+    before: [true, true, false, true],
+    answer: Err(BookFault::Store),
+    behind: [true, true, false, true],
+    calls: 5,
+};
+
+// Whether the calls of these keys are settled. The last is the key of no call.
+fn settled_keys<B: Settle>(book: &B) -> [bool; 4] {
+    [
+        book.is_settled(0, 1),
+        book.is_settled(7, 1),
+        book.is_settled(7, 2),
+        book.is_settled(7, 5),
+    ]
+}
+
+// What is told of a settling behind three more calls than are settled. None where the first two are not settled.
+fn settles_three<B: Settle>(book: &mut B) -> Option<Told> {
     answer(book, &grant(0, 1, 7, 0, 9), 20000).ok()?;
     answer(book, &draw(7, 1), 20000).ok()?;
     book.settle().ok()?;
     for number in 2..5 {
         answer(book, &draw(7, number), 20000).ok()?;
     }
-    let settled = book.settle();
-    Some((settled, book.len()))
+    let before = settled_keys(book);
+    let answer = book.settle();
+    Some(Told {
+        before,
+        answer,
+        behind: settled_keys(book),
+        calls: book.len(),
+    })
 }
 
-// How that ends where the log stops at one of its calls, and what is found then over whole files with what was synced alone.
-fn stopped(
+// The same of a ledger in memory.
+fn told_in_memory<R: Abort + AllocGlobal>(rt: &R) -> Option<Told> {
+    let mut book = ledger(rt, settings(rt, 100));
+    let told = settles_three(&mut book);
+    let _conn = book.close();
+    told
+}
+
+#[test]
+fn a_call_is_settled_behind_its_settling(rt: HostRuntime) {
+    assert!(rt; told_in_memory(&rt) == Some(SETTLED));
+}
+
+// The same of a new ledger in this connection, which is handed back. None where it is not made.
+fn settles_three_in<S: Alter>(
     alloc: Global,
     settings: Settings,
-    at: u64,
-) -> Result<Option<(Result<(), BookFault>, u32, Ended)>, Fail> {
-    let Some(mut book) = stopping(alloc, settings, at) else {
-        return Ok(None);
-    };
-    let told = settles_three(&mut book);
-    let mut files = files_of(book.close());
-    files.log.crash();
-    files.db.crash();
-    let Some((settled, calls)) = told else {
-        return Ok(None);
-    };
-    Ok(Some((settled, calls, opened_again(alloc, &files)?)))
+    conn: Connection<S>,
+) -> (Option<Told>, Connection<S>) {
+    if !conn.is_autocommit() {
+        return (None, conn);
+    }
+    match SqlBook::create(alloc, conn, settings, &mut Unwatched) {
+        Ok(mut book) => (settles_three(&mut book), book.close()),
+        Err(
+            Refused {
+                fault: _,
+                connection,
+            },
+        ) => (None, connection),
+    }
 }
 
-// At how many calls of the log the settling fails, before it passes. None where a settled call is lost, or some of those that
-// were not are found without the others.
+// A connection over empty files, of which the log stops at that call. None where it cannot be had.
+fn stopping(alloc: Global, at: u64) -> Option<Connection<FileStore<Fuse<Memory>>>> {
+    let log = Fuse::new(Memory::new(alloc), at);
+    let db = Fuse::new(Memory::new(alloc), u64::MAX);
+    if log.may_be_used() && db.may_be_used() {
+        Connection::open_files(alloc, Files { log, db }, Options::new(7)).ok()
+    } else {
+        None
+    }
+}
+
+// What is told where the log stops at one of its calls, and what is found then over whole files with what was synced alone.
+fn stopped(alloc: Global, settings: Settings, at: u64) -> Result<Option<(Told, Ended)>, Fail> {
+    let Some(conn) = stopping(alloc, at) else {
+        return Ok(None);
+    };
+    let (told, conn) = settles_three_in(alloc, settings, conn);
+    let mut files = files_of(conn);
+    files.log.crash();
+    files.db.crash();
+    let Some(told) = told else {
+        return Ok(None);
+    };
+    Ok(Some((told, opened_again(alloc, &files)?)))
+}
+
+// At how many calls of the log the settling fails, before it passes. None where a settled call is lost, or a call that was not is
+// told as settled or is found without the others.
 fn failed_settlings(alloc: Global, settings: Settings) -> Result<Option<u32>, Fail> {
     let mut count: u32 = 0;
     for at in 0..1000u64 {
         match stopped(alloc, settings, at)? {
             None => {}
-            Some((Ok(()), 5, Ended::Found(5))) => return Ok(Some(count)),
-            Some((Err(BookFault::Store), 5, Ended::Found(2 | 5))) => {
+            Some((told, Ended::Found(5))) if told == SETTLED => return Ok(Some(count)),
+            Some((told, Ended::Found(2 | 5))) if told == UNSETTLED => {
                 count = count.saturating_add(1);
             }
             Some(_) => return Ok(None),
@@ -148,86 +203,8 @@ fn failed_settlings(alloc: Global, settings: Settings) -> Result<Option<u32>, Fa
 }
 
 #[test]
-fn a_settling_that_fails_leaves_its_calls_pending(rt: HostRuntime) -> Result<(), Fail> {
+fn a_settling_that_fails_settles_no_call_of_its_own(rt: HostRuntime) -> Result<(), Fail> {
     let failed = failed_settlings(rt.alloc(), settings(&rt, 100))?;
     assert!(rt; failed.is_some_and(|count| 0 < count), "{failed:?}");
     Ok(())
-}
-
-// What is told of four keys, what is answered to a settling then, and what is told behind it.
-type Told = ([bool; 4], Result<(), BookFault>, [bool; 4]);
-
-// The third call is settled by the settling alone.
-const SETTLED: Told = ([true, true, false, true], Ok(()), [true; 4]);
-
-// The settling fails, and the third call stays pending.
-const UNSETTLED: Told = (
-    [true, true, false, true],
-    Err(BookFault::Store),
-    [true, true, false, true],
-);
-
-// Whether the calls of these keys are settled. The last is the key of no call.
-fn settled_keys<B: Settle>(book: &B) -> [bool; 4] {
-    [
-        book.is_settled(0, 1),
-        book.is_settled(7, 1),
-        book.is_settled(7, 2),
-        book.is_settled(7, 3),
-    ]
-}
-
-// What is told of the keys of two calls that are settled, of a third one, and of none. None where the first two are not settled.
-fn tells_of_keys<B: Settle>(book: &mut B) -> Option<Told> {
-    answer(book, &grant(0, 1, 7, 0, 9), 20000).ok()?;
-    answer(book, &draw(7, 1), 20000).ok()?;
-    book.settle().ok()?;
-    answer(book, &draw(7, 2), 20000).ok()?;
-    let before = settled_keys(book);
-    let settled = book.settle();
-    Some((before, settled, settled_keys(book)))
-}
-
-// What a ledger in memory tells.
-fn told_in_memory<R: Abort + AllocGlobal>(rt: &R) -> Option<Told> {
-    let mut book = ledger(rt, settings(rt, 100));
-    let told = tells_of_keys(&mut book);
-    let _conn = book.close();
-    told
-}
-
-#[test]
-fn a_call_is_settled_behind_its_settling(rt: HostRuntime) {
-    assert_eq!(rt; told_in_memory(&rt), Some(SETTLED));
-}
-
-// What is told where the log stops at one of its calls.
-fn told_stopped(alloc: Global, settings: Settings, at: u64) -> Option<Told> {
-    let mut book = stopping(alloc, settings, at)?;
-    let told = tells_of_keys(&mut book);
-    let _files = files_of(book.close());
-    told
-}
-
-// At how many calls of the log the settling fails, before it passes. None where anything else is told.
-fn failed_tellings(alloc: Global, settings: Settings) -> Option<u32> {
-    let mut count: u32 = 0;
-    for at in 0..1000u64 {
-        if let Some(told) = told_stopped(alloc, settings, at) {
-            if told == SETTLED {
-                return Some(count);
-            }
-            if told != UNSETTLED {
-                return None;
-            }
-            count = count.saturating_add(1);
-        }
-    }
-    None
-}
-
-#[test]
-fn a_settling_that_fails_settles_no_call_of_its_own(rt: HostRuntime) {
-    let failed = failed_tellings(rt.alloc(), settings(&rt, 100));
-    assert!(rt; failed.is_some_and(|count| 0 < count), "{failed:?}");
 }

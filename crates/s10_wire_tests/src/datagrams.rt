@@ -1,39 +1,37 @@
 //! The datagrams: read, written, cut short and changed.
 
 use crate::vectors::{REPLIES, REQUESTS, draw_many, drawn_many, replies, reply, request, requests};
-use s10_wire::{WireFault, decode_reply, decode_request, encode_reply, encode_request};
+use s10_wire::{
+    Reply, Request, WireFault, decode_reply, decode_request, encode_reply, encode_request,
+};
 use std::process::Abort;
+
+/// Whether these bytes are read as the request, and it is written as they stand.
+fn stands_for(bytes: &[u8], request: &Request) -> bool {
+    decode_request(bytes) == Ok(*request) && encode_request(request).bytes() == bytes
+}
 
 #[test]
 fn requests_are_read_and_written_as_they_stand(rt: HostRuntime) {
     for (bytes, request) in REQUESTS.iter().zip(requests(&rt).iter()) {
-        assert_eq!(rt; decode_request(bytes), Ok(*request));
-        assert_eq!(rt; encode_request(request).bytes(), *bytes, "{request:?}");
+        assert!(rt; stands_for(bytes, request), "{request:?}");
     }
+}
+
+/// Whether these bytes are read as the reply, and it is written as they stand.
+fn stands_for_reply(bytes: &[u8], reply: &Reply) -> bool {
+    decode_reply(bytes) == Ok(*reply) && encode_reply(reply).bytes() == bytes
 }
 
 #[test]
 fn replies_are_read_and_written_as_they_stand(rt: HostRuntime) {
     for (bytes, (request, outcome)) in REPLIES.iter().zip(replies(&rt).iter()) {
         let reply = reply(&rt, *request, *outcome);
-        assert_eq!(rt; decode_reply(bytes), Ok(reply));
-        assert_eq!(rt; encode_reply(&reply).bytes(), *bytes, "{reply:?}");
-        assert_eq!(rt; reply.request(), *request);
-        assert_eq!(rt; reply.outcome(), *outcome);
-    }
-}
-
-#[test]
-fn a_datagram_cut_short_is_refused(rt: HostRuntime) {
-    for bytes in REQUESTS {
-        for end in 0..bytes.len() {
-            assert_eq!(rt; decode_request(&bytes[..end]), Err(cut_at(end)), "at {end}");
-        }
-    }
-    for bytes in REPLIES {
-        for end in 0..bytes.len() {
-            assert_eq!(rt; decode_reply(&bytes[..end]), Err(cut_at(end)), "at {end}");
-        }
+        assert!(rt; stands_for_reply(bytes, &reply), "{reply:?}");
+        assert!(rt;
+            reply.request() == *request && reply.outcome() == *outcome,
+            "{reply:?}"
+        );
     }
 }
 
@@ -42,6 +40,24 @@ fn cut_at(end: usize) -> WireFault {
         WireFault::Short
     } else {
         WireFault::Length
+    }
+}
+
+fn is_refused_where_cut(request: &[u8]) -> bool {
+    (0..request.len()).all(|end| decode_request(&request[..end]) == Err(cut_at(end)))
+}
+
+fn is_reply_refused_where_cut(reply: &[u8]) -> bool {
+    (0..reply.len()).all(|end| decode_reply(&reply[..end]) == Err(cut_at(end)))
+}
+
+#[test]
+fn a_datagram_cut_short_is_refused(rt: HostRuntime) {
+    for bytes in REQUESTS {
+        assert!(rt; is_refused_where_cut(bytes), "{bytes:?}");
+    }
+    for bytes in REPLIES {
+        assert!(rt; is_reply_refused_where_cut(bytes), "{bytes:?}");
     }
 }
 
