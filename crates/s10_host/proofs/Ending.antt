@@ -1,6 +1,6 @@
 -- What a job says as it ends.
 use denote.RattleType.{RattleType}
-use Rattle.std.proofs.Common.{◌≡◌, inl, inr, ℕ, Bool, List, [], ◌∷◌, Option, Some, None, Result, Ok, Err, refl, sym, subst, true, false, ◌++◌}
+use Rattle.std.proofs.Common.{◌≡◌, ◌∙◌, inl, inr, ℕ, Bool, List, [], ◌∷◌, Option, Some, None, Result, Ok, Err, refl, sym, subst, true, false, ◌++◌}
 use Rattle.std.proofs.KnownBytes.{Appends-trans}
 use Rattle.std.specs.Prelude.{IfOk, IfErr, IfSome, IsOk, codes}
 use Rattle.std.specs.Io.KnownBytes.{Appends}
@@ -9,22 +9,29 @@ use Rattle.sqlite_wal.specs.Files.{image_at}
 use Rattle.sqlite.specs.Files.{over_files}
 use Rattle.s10_lines.specs.declared.write_fault.WriteFault.{WriteFault}
 use Rattle.s10_lines.specs.Lines.{line_of}
+use Rattle.s10_link.specs.declared.peer.Peer.{Peer}
 use Rattle.s10_link.specs.Trace.{new_trace}
 use Rattle.s10_ends.specs.UdpLink.{BoundLink}
+use Rattle.s10_history.specs.Settings.{Terms}
 use Rattle.s10_book.specs.Book.{Keeps}
 use Rattle.s10_ledger.specs.Ledger.{IsHonest, history_of, settled_of}
 use Rattle.s10_rows.specs.declared.open_fault.OpenFault.{OpenFault}
 use Rattle.s10_rows.specs.declared.open_fault.OpenFault.TheVariants.{Store}
 use Rattle.s10_jobs.specs.declared.job_status.JobStatus.{JobStatus}
-use Rattle.s10_jobs.specs.declared.job_status.JobStatus.TheVariants.{Failed}
+use Rattle.s10_jobs.specs.declared.job_status.JobStatus.TheVariants.{Done, Failed}
 use Rattle.s10_jobs.specs.declared.job.Job.{Job}
 use Rattle.s10_jobs.specs.Questions.{IsPeerText}
 use Rattle.s10_jobs.specs.declared.reporting.Report.{Report}
 use Rattle.s10_jobs.specs.declared.reporting.Report.TheVariants.{Ranges, Issues}
 use Rattle.s10_host.specs.declared.looped.Looped.{Looped}
 use Rattle.s10_sockets.specs.Unbound.{IsUnbound}
-use Rattle.s10_host.specs.Files.{FileLedger, ClosedFiles, PutsAway, WhereClean, IsFoundBook, IsNotOpened}
-use Rattle.s10_host.specs.Jobs.{ledger_line, FailsByLedger, IsAskedFor, Turns, IsServed, IsLost, IsUnlinked, Writes, IsReported, IsReportedAndLost, HasServed, HasReported, HasEnded}
+use Rattle.s10_host.specs.Files.{FileConnection, FileLedger, ClosedFiles, Copies, PutsAway, IsFoundIn, IsFileFault, IsAbsenceOr, IsNotMade, IsNotOpened}
+use Rattle.s10_host.specs.Closing.{IsClosedAs, Turns}
+use Rattle.s10_host.specs.Jobs.{ledger_line, FailsByLedger, FailsByClosing, IsAskedFor, HasCreated, IsServed, IsUnlinked, Writes, IsReported, HasServed, HasReported, HasEnded}
+use Rattle.s10_host.specs.declared.work.Work.TheVariants.{Create, Serve, Report as ReportOn}
+use Rattle.s10_host.specs.declared.work.Work.{Work}
+use Rattle.s10_host.specs.Work.{IsWorkRefusal, EndsOver, EndsIn}
+use Rattle.s10_host.proofs.Opening.{empty_book, found_book, put_away}
 use Rattle.s10_host.proofs.Backwards.{before_rounds}
 
 -- of a fault that was written
@@ -33,19 +40,16 @@ pub fails_by : (IsFault : OpenFault → Type 0) (fault : OpenFault) (old new : O
 fails_by IsFault fault old new (Ok status) is (failed, written) = (failed, fault, is, written)
 fails_by IsFault fault old new (Err e) is says = tt
 
--- what was done, where the files were put away, and what was not
-abbrev Kept : {A : Type 0} → Result A OpenFault → Result JobStatus WriteFault → Result JobStatus WriteFault → Option (List ℕ) → Option (List ℕ) → Option A → Type 0
-Kept put done result new last files = IfSome files (λ f. (put ≡ Ok f) × (result ≡ done) × (last ≡ new))
+-- the same of what was handed on
+pub fails_as : (IsFault : OpenFault → Type 0) (fault : OpenFault) (old new : Option (List ℕ)) (told result : Result JobStatus WriteFault) → IsFault fault
+    → IfOk told (λ status. (status ≡ Failed) × Appends old new (ledger_line fault)) → result ≡ told → IfOk result (FailsByLedger IsFault old new)
+fails_as IsFault fault old new told result is says same = subst (λ r. IfOk r (FailsByLedger IsFault old new)) (sym same) (fails_by IsFault fault old new told is says)
 
-abbrev Unkept : {A : Type 0} → Result A OpenFault → Result JobStatus WriteFault → Result JobStatus WriteFault → Option (List ℕ) → Option (List ℕ) → Option A → Type 0
-Unkept put done result new last files =
-    files ≡ None → (fault : OpenFault) × (put ≡ Err fault) × IfOk result (λ status. IsOk done × (status ≡ Failed) × Appends new last (ledger_line fault))
-
-closed_by : {A : Type 0} (put : Result A OpenFault) (done result : Result JobStatus WriteFault) (new last : Option (List ℕ)) → IfErr put (λ fault. fault ≡ Store)
-    → (fault : OpenFault) × (put ≡ Err fault) × IfOk result (λ status. IsOk done × (status ≡ Failed) × Appends new last (ledger_line fault))
-    → IfOk result (λ status. IsOk done × FailsByLedger (λ fault. fault ≡ Store) new last status)
-closed_by put done (Ok status) new last store (fault, is, (well, failed, written)) = (well, (failed, fault, subst (λ r. IfErr r (λ fault. fault ≡ Store)) is store, written))
-closed_by put done (Err e) new last store says = tt
+-- a fault of this kind is one of that kind
+fails_weaker : (Is Was : OpenFault → Type 0) → ((fault : OpenFault) → Is fault → Was fault) → (done : Result JobStatus WriteFault) (old new : Option (List ℕ)) (r : Result JobStatus WriteFault)
+    → IfOk r (λ status. IsOk done × FailsByLedger Is old new status) → IfOk r (FailsByLedger Was old new)
+fails_weaker Is Was gives done old new (Ok status) (well, (failed, fault, is, written)) = (failed, fault, gives fault is, written)
+fails_weaker Is Was gives done old new (Err e) says = tt
 
 pub asked_for : (is_of_issues : Bool) (day : Option ℕ) (made : Option Report) (report : Report) → made ≡ Some report
     → (is_of_issues ≡ true → made ≡ Some Issues) → ((d : ℕ) → is_of_issues ≡ false → day ≡ Some d → made ≡ Some (Ranges d))
@@ -65,39 +69,97 @@ no_report false None made is issues ranges = (refl, refl)
 no_report false (Some d) made is issues ranges = absurd (let one = ranges d refl refl in cc)
 
 module _ (S : RattleType) (first : Ghosts S.Denot) where
+  -- what was closed, and what came of that
+  pub kept_copied : (closed : FileConnection S first) (put : Result (ClosedFiles S first) OpenFault) (files : Option (ClosedFiles S first)) (done result : Result JobStatus WriteFault) (new last : Option (List ℕ))
+      → IfOk put (Copies closed) → IfSome files (λ f. (put ≡ Ok f) × (result ≡ done) × (last ≡ new)) → IfSome files (λ f. Copies closed f × (result ≡ done) × (last ≡ new))
+  kept_copied closed put None done result new last copied kept = tt
+  kept_copied closed put (Some f) done result new last copied (is, same, still) = (subst (λ r. IfOk r (Copies closed)) is copied, same, still)
+
+  pub lost_closing : (put : Result (ClosedFiles S first) OpenFault) (done result : Result JobStatus WriteFault) (new last : Option (List ℕ))
+      → IfErr put (λ fault. fault ≡ Store) → (fault : OpenFault) × (put ≡ Err fault) × IfOk result (λ status. IsOk done × (status ≡ Failed) × Appends new last (ledger_line fault))
+      → FailsByClosing done new last result
+  lost_closing put done (Ok status) new last store (fault, is, (well, failed, written)) = (well, (failed, fault, subst (λ r. IfErr r (λ fault. fault ≡ Store)) is store, written))
+  lost_closing put done (Err e) new last store says = tt
+
+  pub refused_over : (work : Work) (was left : FileConnection S first) (old between new : Option (List ℕ)) (fault named : OpenFault) (told result : Result JobStatus WriteFault) (files : Option (ClosedFiles S first)) (link : Option BoundLink)
+      → IsWorkRefusal over_files work was left fault → named ≡ fault → between ≡ old → IfOk told (λ status. (status ≡ Failed) × Appends between new (ledger_line named))
+      → result ≡ told → files ≡ None → link ≡ None → EndsOver S first work was old new result files link
+  refused_over work was left old between new fault named told result files link refusal is still says same no_files no_link =
+      let Told : Option (List ℕ) → OpenFault → Result JobStatus WriteFault → Type 0 = λ text f r. IfOk r (λ status. (status ≡ Failed) × Appends text new (ledger_line f)) in
+      inr (record {
+        fault = fault;
+        left = left;
+        refusal = refusal;
+        told = subst (λ text. Told text fault result) still (subst (λ f. Told between f result) is (subst (λ r. Told between named r) (sym same) says));
+        no_files = no_files;
+        no_link = no_link;
+      })
+
+  -- a ledger that was made and put away, of which that was said then
+  pub created : (terms : Terms) (was : FileConnection S first) (old between new : Option (List ℕ)) (done told : Result JobStatus WriteFault) (files : Option (ClosedFiles S first)) (link : Option BoundLink) (f : ClosedFiles S first)
+      → files ≡ Some f → EndsOver S first (Create terms) was old between done files link
+      → IfOk told (λ status. (status ≡ Done) × Appends between new (codes "created\n")) → HasCreated S first terms old new told files
+  created terms was old between new done told None link f is ends written = absurd cc
+  created terms was old between new done told (Some g) link f is (inr refused) written = absurd (let none = refused.no_files in cc)
+  created terms was old between new done told (Some g) link f is (inl over) written =
+      let (book, new_book, put, result, still, none) = over.worked in
+      let (copies, same, last) = over.kept in
+      record {
+        made = record { book = book; settings = new_book.settings; empty = empty_book terms book new_book; away = put_away book over.closed g put copies };
+        told = subst (λ text. IfOk told (λ status. (status ≡ Done) × Appends text new (codes "created\n"))) (last ∙ still) written;
+        refused = λ gone. absurd cc;
+      }
+
+  -- one that was refused, or could not be put away
+  pub not_created : (terms : Terms) (was : FileConnection S first) (old new : Option (List ℕ)) (result : Result JobStatus WriteFault) (files : Option (ClosedFiles S first)) (link : Option BoundLink)
+      → files ≡ None → IsFoundIn (image_at first) was → EndsOver S first (Create terms) was old new result files link → HasCreated S first terms old new result files
+  not_created terms was old new result (Some f) link none found ends = absurd cc
+  not_created terms was old new result None link none found (inr refused) = record {
+    made = tt;
+    told = tt;
+    refused = λ _. fails_by (IsNotMade S first) refused.fault old new result (inr (record { was = was; found = found; refusal = refused.refusal })) refused.told;
+  }
+  not_created terms was old new result None link none found (inl over) =
+      let (book, new_book, put, done, still, no_link) = over.worked in
+      record {
+        made = tt;
+        told = tt;
+        refused = λ _. fails_weaker (λ fault. fault ≡ Store) (IsNotMade S first) (λ fault is. inl (inr is)) over.done old new result
+            (subst (λ text. FailsByClosing over.done text new result) still (over.lost refl));
+      }
+
+  -- and one whose file could not be opened
+  pub not_connected : (terms : Terms) (fault : OpenFault) (old new : Option (List ℕ)) (told result : Result JobStatus WriteFault) (files : Option (ClosedFiles S first))
+      → IsFileFault fault → IfOk told (λ status. (status ≡ Failed) × Appends old new (ledger_line fault)) → result ≡ told → files ≡ None → HasCreated S first terms old new result files
+  not_connected terms fault old new told result (Some f) is says same none = absurd cc
+  not_connected terms fault old new told result None is says same none = record {
+    made = tt;
+    told = tt;
+    refused = λ _. fails_by (IsNotMade S first) fault old new result (inl is) (subst (λ r. IfOk r (λ status. (status ≡ Failed) × Appends old new (ledger_line fault))) (sym same) says);
+  }
+
+  -- a file that is not there, or that is no database, is not opened
+  absent_or_refused : (old new : Option (List ℕ)) (result : Result JobStatus WriteFault) → IfOk result (FailsByLedger (IsAbsenceOr IsFileFault) old new) → IfOk result (FailsByLedger (IsNotOpened S first) old new)
+  absent_or_refused old new (Ok status) (failed, fault, inl absent, written) = (failed, fault, inl absent, written)
+  absent_or_refused old new (Ok status) (failed, fault, inr is, written) = (failed, fault, inr (inl is), written)
+  absent_or_refused old new (Err e) told = tt
+
   was_honest : (day : Option ℕ) (count : ℕ) (old new : Option (List ℕ)) (opened after : FileLedger S first) (result : Result JobStatus WriteFault) (link : BoundLink)
-      → Turns S first day count opened after old new result link → IsHonest over_files after → IsHonest over_files opened
+      → Turns over_files day count opened after old new result link → IsHonest over_files after → IsHonest over_files opened
   was_honest day count old new opened after result link turns =
       before_rounds (λ (b : FileLedger S first). b.faults) (IsHonest over_files) (λ b. b.terms) (history_of over_files) (settled_of over_files) day
       (new_trace, opened) (link.trace, after) turns.rounds turns.lead
 
-  pub served_away : (day : Option ℕ) (count : ℕ) (old new last : Option (List ℕ)) (opened after : FileLedger S first) (done result : Result JobStatus WriteFault)
-      (put : Result (ClosedFiles S first) OpenFault) (files : Option (ClosedFiles S first)) (link : Option BoundLink)
-      → IfSome link (Turns S first day count opened after old new done)
-      → IfOk put (PutsAway after) → Kept put done result new last files → IfSome link (λ l. IfSome files (IsServed S first opened day count old last result l))
-  served_away day count old new last opened after done result put files None turns away kept = tt
-  served_away day count old new last opened after done result put None (Some l) turns away kept = tt
-  served_away day count old new last opened after done result put (Some f) (Some l) turns away (there, same, still) = record {
-    served = after;
-    turns = subst (λ text. Turns S first day count opened after old text result l) (sym still) (subst (λ r. Turns S first day count opened after old new r l) (sym same) turns);
-    was_honest = was_honest day count old new opened after done l turns;
-    away = subst (λ r. IfOk r (PutsAway after)) there away;
+  served_away : (day : Option ℕ) (count : ℕ) (old new last : Option (List ℕ)) (opened served : FileLedger S first) (closed : FileConnection S first) (done result : Result JobStatus WriteFault)
+      (files : Option (ClosedFiles S first)) (link : BoundLink) → Turns over_files day count opened served old new done link → IsClosedAs over_files served closed
+      → IfSome files (λ f. Copies closed f × (result ≡ done) × (last ≡ new)) → IfSome files (IsServed S first opened day count old last result link)
+  served_away day count old new last opened served closed done result None link turns put kept = tt
+  served_away day count old new last opened served closed done result (Some f) link turns put (copies, same, still) = record {
+    served = served;
+    turns = subst (λ text. Turns over_files day count opened served old text result link) (sym still) (subst (λ r. Turns over_files day count opened served old new r link) (sym same) turns);
+    was_honest = was_honest day count old new opened served done link turns;
+    away = put_away served closed f put copies;
   }
-
-  pub served_lost : (day : Option ℕ) (count : ℕ) (old new last : Option (List ℕ)) (opened after : FileLedger S first) (done result : Result JobStatus WriteFault)
-      (put : Result (ClosedFiles S first) OpenFault) (files : Option (ClosedFiles S first)) (link : Option BoundLink)
-      → IfSome link (Turns S first day count opened after old new done)
-      → IfErr put (λ fault. fault ≡ Store) → Unkept put done result new last files → IfSome link (λ l. files ≡ None → IsLost S first opened day count old last result l)
-  served_lost day count old new last opened after done result put files None turns store unkept = tt
-  served_lost day count old new last opened after done result put files (Some l) turns store unkept =
-      λ none. record {
-        served = after;
-        turned = done;
-        between = new;
-        turns = turns;
-        was_honest = was_honest day count old new opened after done l turns;
-        told = closed_by put done result new last store (unkept none);
-      }
 
   unlinked_kept : (old new last : Option (List ℕ)) (done result : Result JobStatus WriteFault)
       → IfOk done (λ status. (status ≡ Failed) × Appends old new (line_of (codes "link") (codes "bind" ∷ []))) → result ≡ done → last ≡ new
@@ -115,65 +177,119 @@ module _ (S : RattleType) (first : Ghosts S.Denot) where
   unlinked_lost old new last (Err e) (Ok other) told (well, rest) = absurd (let one = well in cc)
   unlinked_lost old new last done (Err e) told says = tt
 
-  pub unlinked : (old new last : Option (List ℕ)) (opened after : FileLedger S first) (done result : Result JobStatus WriteFault)
-      (put : Result (ClosedFiles S first) OpenFault) (files : Option (ClosedFiles S first))
-      → IsUnbound opened after old new done
-      → IfOk put (PutsAway after) → IfErr put (λ fault. fault ≡ Store) → Kept put done result new last files → Unkept put done result new last files
-      → IsUnlinked S first opened old last result files
-  unlinked old new last opened after done result put None unbound away store kept unkept =
-      record { away = tt; told = tt; lost = λ none. unlinked_lost old new last done result unbound.1 (closed_by put done result new last store (unkept none)) }
-  unlinked old new last opened after done result put (Some f) unbound away store (there, same, still) unkept =
+  unlinked : (old new last : Option (List ℕ)) (opened after : FileLedger S first) (closed : FileConnection S first) (done result : Result JobStatus WriteFault) (files : Option (ClosedFiles S first))
+      → IsUnbound opened after old new done → IsClosedAs over_files after closed
+      → IfSome files (λ f. Copies closed f × (result ≡ done) × (last ≡ new)) → (files ≡ None → FailsByClosing done new last result) → IsUnlinked S first opened old last result files
+  unlinked old new last opened after closed done result None unbound put kept lost =
+      record { away = tt; told = tt; lost = λ none. unlinked_lost old new last done result unbound.1 (lost none) }
+  unlinked old new last opened after closed done result (Some f) unbound put (copies, same, still) lost =
       record {
-        away = subst (λ b. PutsAway b f) unbound.0 (subst (λ r. IfOk r (PutsAway after)) there away);
+        away = subst (λ b. PutsAway b f) unbound.0 (put_away after closed f put copies);
         told = unlinked_kept old new last done result unbound.1 same still;
         lost = λ none. absurd (let one : Some f ≡ None = none in cc);
       }
 
-  pub reported_away : (old new last : Option (List ℕ)) (report : Report) (opened after : FileLedger S first) (done result : Result JobStatus WriteFault)
-      (put : Result (ClosedFiles S first) OpenFault) (files : Option (ClosedFiles S first))
-      → Keeps (λ (b : FileLedger S first). history_of over_files b) (λ b. b.terms) (IsHonest over_files) opened after
-      → Writes S first report opened after old new done
-      → IfOk put (PutsAway after) → Kept put done result new last files → IfSome files (IsReported S first opened report old last result)
-  reported_away old new last report opened after done result put None keeps written away kept = tt
-  reported_away old new last report opened after done result put (Some f) keeps written away (there, same, still) = record {
+  -- what came of the turns over files that are there
+  served_over : (bind : List ℕ) (at : Peer) (day : Option ℕ) (count : ℕ) (was : FileConnection S first) (old new : Option (List ℕ)) (result : Result JobStatus WriteFault) (files : Option (ClosedFiles S first)) (link : Option BoundLink)
+      → IsPeerText bind → IsFoundIn (image_at first) was → EndsOver S first (Serve at count day) was old new result files link → HasServed S first bind day count old new result files link
+  served_over bind at day count was old new result files None text found (inr refused) = record {
+    served = tt;
+    unlinked = λ _. inr (inl (text, fails_by (IsNotOpened S first) refused.fault old new result (inr (inr (record { was = was; found = found; left = refused.left; refusal = refused.refusal }))) refused.told));
+  }
+  served_over bind at day count was old new result files (Some l) text found (inr refused) = absurd (let none = refused.no_link in cc)
+  served_over bind at day count was old new result files None text found (inl over) =
+      let (opened, opening, served, put, unbound, turns) = over.worked in
+      record {
+        served = tt;
+        unlinked = λ _. inr (inr (
+          text,
+          opened,
+          found_book (image_at first) was opened found opening,
+          unlinked old over.between new opened served over.closed over.done result files (unbound refl) put over.kept over.lost,
+        ));
+      }
+  served_over bind at day count was old new result files (Some l) text found (inl over) =
+      let (opened, opening, served, put, unbound, turns) = over.worked in
+      record {
+        served = (
+          opened,
+          found_book (image_at first) was opened found opening,
+          served_away day count old over.between new opened served over.closed over.done result files l turns put over.kept,
+          λ none. record {
+            served = served;
+            turned = over.done;
+            between = over.between;
+            turns = turns;
+            was_honest = was_honest day count old over.between opened served over.done l turns;
+            told = over.lost none;
+          },
+        );
+        unlinked = λ none. absurd cc;
+      }
+
+  pub served_in : (bind : List ℕ) (at : Peer) (day : Option ℕ) (count : ℕ) (old new : Option (List ℕ)) (result : Result JobStatus WriteFault) (files : Option (ClosedFiles S first)) (link : Option BoundLink)
+      → IsPeerText bind → EndsIn S first (Serve at count day) old new result files link → HasServed S first bind day count old new result files link
+  served_in bind at day count old new result files link text (inl (was, found, ends)) = served_over bind at day count was old new result files link text found ends
+  served_in bind at day count old new result files None text (inr (told, no_files, no_link)) =
+      record { served = tt; unlinked = λ _. inr (inl (text, absent_or_refused old new result told)) }
+  served_in bind at day count old new result files (Some l) text (inr (told, no_files, no_link)) = absurd (let none = no_link in cc)
+
+  pub no_day : (is_of_issues : Bool) (day : Option ℕ) (old new : Option (List ℕ)) (told result : Result JobStatus WriteFault) (files : Option (ClosedFiles S first))
+      → (is_of_issues ≡ false) × (day ≡ None) → IfOk told (λ status. (status ≡ Failed) × Appends old new (codes "clock\n")) → result ≡ told → files ≡ None
+      → HasReported S first is_of_issues day old new result files
+  no_day is_of_issues day old new told result (Some f) none says same gone = absurd cc
+  no_day is_of_issues day old new told result None none says same gone =
+      record { reported = tt; unreported = λ _. inl (inl (none.0, none.1, subst (λ r. IfOk r (λ status. (status ≡ Failed) × Appends old new (codes "clock\n"))) (sym same) says)) }
+
+  reported_away : (old new last : Option (List ℕ)) (report : Report) (opened after : FileLedger S first) (closed : FileConnection S first) (done result : Result JobStatus WriteFault) (files : Option (ClosedFiles S first))
+      → Keeps (λ (b : FileLedger S first). history_of over_files b) (λ b. b.terms) (IsHonest over_files) opened after → Writes S first report opened after old new done → IsClosedAs over_files after closed
+      → IfSome files (λ f. Copies closed f × (result ≡ done) × (last ≡ new)) → IfSome files (IsReported S first opened report old last result)
+  reported_away old new last report opened after closed done result None keeps written put kept = tt
+  reported_away old new last report opened after closed done result (Some f) keeps written put (copies, same, still) = record {
     reported = after;
     written = subst (λ text. Writes S first report opened after old text result) (sym still) (subst (λ r. Writes S first report opened after old new r) (sym same) written);
     keeps = keeps;
-    away = subst (λ r. IfOk r (PutsAway after)) there away;
+    away = put_away after closed f put copies;
   }
 
-  pub reported_lost : (old new last : Option (List ℕ)) (report : Report) (opened after : FileLedger S first) (done result : Result JobStatus WriteFault)
-      (put : Result (ClosedFiles S first) OpenFault) (files : Option (ClosedFiles S first))
-      → Writes S first report opened after old new done
-      → IfErr put (λ fault. fault ≡ Store) → Unkept put done result new last files → files ≡ None → IsReportedAndLost S first opened report old last result
-  reported_lost old new last report opened after done result put files written store unkept none =
-      record { reported = after; done = done; between = new; written = written; told = closed_by put done result new last store (unkept none) }
+  reported_over : (is_of_issues : Bool) (day : Option ℕ) (report : Report) (was : FileConnection S first) (old new : Option (List ℕ)) (result : Result JobStatus WriteFault) (files : Option (ClosedFiles S first)) (link : Option BoundLink)
+      → IsAskedFor is_of_issues day report → IsFoundIn (image_at first) was → EndsOver S first (ReportOn report) was old new result files link → HasReported S first is_of_issues day old new result files
+  reported_over is_of_issues day report was old new result None link asked found (inr refused) = record {
+    reported = tt;
+    unreported = λ _. inl (inr (fails_by (IsNotOpened S first) refused.fault old new result (inr (inr (record { was = was; found = found; left = refused.left; refusal = refused.refusal }))) refused.told));
+  }
+  reported_over is_of_issues day report was old new result (Some f) link asked found (inr refused) = absurd (let none = refused.no_files in cc)
+  reported_over is_of_issues day report was old new result None link asked found (inl over) =
+      let (opened, opening, reported, put, keeps, written, none) = over.worked in
+      record {
+        reported = tt;
+        unreported = λ gone. inr (
+          report,
+          asked,
+          opened,
+          found_book (image_at first) was opened found opening,
+          record { reported = reported; done = over.done; between = over.between; written = written; told = over.lost gone },
+        );
+      }
+  reported_over is_of_issues day report was old new result (Some f) link asked found (inl over) =
+      let (opened, opening, reported, put, keeps, written, none) = over.worked in
+      record {
+        reported = (
+          report,
+          asked,
+          opened,
+          found_book (image_at first) was opened found opening,
+          reported_away old over.between new report opened reported over.closed over.done result (Some f) keeps written put over.kept,
+        );
+        unreported = λ gone. absurd cc;
+      }
 
-  pub served_in : (bind : List ℕ) (day : Option ℕ) (count : ℕ) (old new : Option (List ℕ)) (opened : FileLedger S first) (result : Result JobStatus WriteFault)
-      (files : Option (ClosedFiles S first)) (link : Option BoundLink) → IsPeerText bind → WhereClean (IsFoundBook (image_at first)) opened
-      → IfSome link (λ l. IfSome files (IsServed S first opened day count old new result l)) → IfSome link (λ l. files ≡ None → IsLost S first opened day count old new result l)
-      → (link ≡ None → IsUnlinked S first opened old new result files) → HasServed S first bind day count old new result files link
-  served_in bind day count old new opened result files None text found served lost unlinked =
-      record { served = tt; unlinked = λ none. inr (inr (text, opened, found, unlinked none)) }
-  served_in bind day count old new opened result files (Some l) text found served lost unlinked =
-      record { served = (opened, found, served, lost); unlinked = λ none. absurd cc }
-
-  pub not_served : (bind : List ℕ) (day : Option ℕ) (count : ℕ) (old new : Option (List ℕ)) (fault : OpenFault) (told result : Result JobStatus WriteFault)
-      (files : Option (ClosedFiles S first)) (link : Option BoundLink) → IsPeerText bind → IsNotOpened S first fault
-      → IfOk told (λ status. (status ≡ Failed) × Appends old new (ledger_line fault)) → result ≡ told → link ≡ None
-      → HasServed S first bind day count old new result files link
-  not_served bind day count old new fault told result files (Some l) text refused says same none = absurd cc
-  not_served bind day count old new fault told result files None text refused says same none =
-      record { served = tt; unlinked = λ _. inr (inl (text, subst (λ r. IfOk r (FailsByLedger (IsNotOpened S first) old new)) (sym same) (fails_by (IsNotOpened S first) fault old new told refused says))) }
-
-  pub reported_in : (is_of_issues : Bool) (day : Option ℕ) (old new : Option (List ℕ)) (report : Report) (opened : FileLedger S first) (result : Result JobStatus WriteFault)
-      (files : Option (ClosedFiles S first)) → IsAskedFor is_of_issues day report → WhereClean (IsFoundBook (image_at first)) opened
-      → IfSome files (IsReported S first opened report old new result) → (files ≡ None → IsReportedAndLost S first opened report old new result)
-      → HasReported S first is_of_issues day old new result files
-  reported_in is_of_issues day old new report opened result None asked found reported lost =
-      record { reported = tt; unreported = λ none. inr (report, asked, opened, found, lost none) }
-  reported_in is_of_issues day old new report opened result (Some f) asked found reported lost =
-      record { reported = (report, asked, opened, found, reported); unreported = λ none. absurd cc }
+  pub reported_in : (is_of_issues : Bool) (day : Option ℕ) (report : Report) (old new : Option (List ℕ)) (result : Result JobStatus WriteFault) (files : Option (ClosedFiles S first)) (link : Option BoundLink)
+      → IsAskedFor is_of_issues day report → EndsIn S first (ReportOn report) old new result files link → HasReported S first is_of_issues day old new result files
+  reported_in is_of_issues day report old new result files link asked (inl (was, found, ends)) = reported_over is_of_issues day report was old new result files link asked found ends
+  reported_in is_of_issues day report old new result None link asked (inr (told, no_files, no_link)) =
+      record { reported = tt; unreported = λ _. inl (inr (absent_or_refused old new result told)) }
+  reported_in is_of_issues day report old new result (Some f) link asked (inr (told, no_files, no_link)) = absurd (let none = no_files in cc)
 
   -- the same of what was handed on
   pub ended_as : (job same : Job) (old new : Option (List ℕ)) (result handed : Result JobStatus WriteFault) (files given : Option (ClosedFiles S first)) (link over : Option BoundLink) (looped left : Option Looped)

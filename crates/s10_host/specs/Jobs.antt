@@ -5,13 +5,12 @@ use Rattle.std.specs.Io.KnownBytes.{Appends}
 use Rattle.sqlite_disk.specs.declared.start.Start.{Ghosts}
 use Rattle.sqlite_wal.specs.Files.{image_at}
 use Rattle.sqlite.specs.Files.{over_files}
-use Rattle.s10_link.specs.Trace.{new_trace}
 use Rattle.s10_ends.specs.UdpLink.{BoundLink}
 use Rattle.s10_lines.specs.declared.write_fault.WriteFault.{WriteFault}
 use Rattle.s10_lines.specs.Lines.{line_of}
 use Rattle.s10_history.specs.Settings.{Terms}
 use Rattle.s10_book.specs.Book.{Keeps}
-use Rattle.s10_ledger.specs.Ledger.{IsHonest, history_of, settled_of}
+use Rattle.s10_ledger.specs.Ledger.{IsHonest, history_of}
 use Rattle.s10_rows.specs.declared.open_fault.OpenFault.{OpenFault}
 use Rattle.s10_rows.specs.declared.open_fault.OpenFault.TheVariants.{Store}
 use Rattle.s10_jobs.specs.declared.job_status.JobStatus.{JobStatus}
@@ -26,9 +25,10 @@ use Rattle.s10_jobs.specs.declared.reporting.Report.{Report}
 use Rattle.s10_jobs.specs.declared.reporting.Report.TheVariants.{Ranges, Issues}
 use Rattle.s10_host.specs.Audited.{HasFound, audit_line, audit_status}
 use Rattle.s10_jobs.specs.Reporting.{report_lines, PrintsReport}
-use Rattle.s10_jobs.specs.Serving.{IsDay, IsRound, Serves}
+use Rattle.s10_jobs.specs.Serving.{IsDay}
 use Rattle.s10_sockets.specs.Questioning.{IsAsked, IsUnasked}
 use Rattle.s10_host.specs.declared.looped.Looped.{Looped}
+use Rattle.s10_host.specs.Closing.{Turns}
 use Rattle.s10_host.specs.Looped.{HasLooped}
 use Rattle.s10_host.specs.Files.{FileConnection, FileLedger, ClosedFiles, WhereClean, IsFoundIn, IsEmptyBook, IsFoundBook, PutsAway, LeavesClean, IsFileFault, IsAbsenceOr, IsNotMade, IsNotOpened}
 
@@ -74,16 +74,10 @@ module _ (S : RattleType) (first : Ghosts S.Denot) where
     pub told : IfSome files (λ _. IfOk result (λ status. (status ≡ Done) × Appends old new (codes "created\n")))
     pub refused : files ≡ None → IfOk result (FailsByLedger (IsNotMade S first) old new)
 
-  -- the turns on a new link, and their lines
-  abbrev pub Turns : Option ℕ → ℕ → FileLedger S first → FileLedger S first → Option (List ℕ) → Option (List ℕ) → Result JobStatus WriteFault → BoundLink → Type 0
-  Turns day count opened served old new result link =
-      Serves (IsRound (λ (b : FileLedger S first). b.faults) (IsHonest over_files) (λ b. b.terms) (history_of over_files) (settled_of over_files) day)
-      (new_trace, opened) (link.trace, served) old new count result
-
   -- the ledger was served in turns, which are all that this link carried, and put away in these files
   pub record IsServed (opened : FileLedger S first) (day : Option ℕ) (count : ℕ) (old new : Option (List ℕ)) (result : Result JobStatus WriteFault) (link : BoundLink) (files : ClosedFiles S first) : Type 0 where
     pub served : FileLedger S first
-    pub turns : Turns day count opened served old new result link
+    pub turns : Turns over_files day count opened served old new result link
     pub was_honest : IsHonest over_files served → IsHonest over_files opened
     pub away : PutsAway served files
 
@@ -92,7 +86,7 @@ module _ (S : RattleType) (first : Ghosts S.Denot) where
     pub served : FileLedger S first
     pub turned : Result JobStatus WriteFault
     pub between : Option (List ℕ)
-    pub turns : Turns day count opened served old between turned link
+    pub turns : Turns over_files day count opened served old between turned link
     pub was_honest : IsHonest over_files served → IsHonest over_files opened
     pub told : FailsByClosing turned between new result
 

@@ -1,13 +1,11 @@
 //! Ledgers in files, whatever the files held: `S` stands for that.
 
-ghost use Rattle.std.specs.Prelude.{◌≡◌, false, Ok, IfOk, IfErr, IsErrAnd};
+ghost use Rattle.std.specs.Prelude.{◌≡◌, false, IfOk, IfErr};
 ghost use Rattle.sqlite_wal.specs.Files.{image_at};
-ghost use Rattle.s10_host.specs.Files.{IsFoundIn, IsPlain, IsEmptyBook, IsFoundBook, WhereClean, PutsAway, Copies, LeavesClean, IsFileFault, IsAbsenceOr, IsNotMade, IsNotOpened};
+ghost use Rattle.s10_host.specs.Files.{IsFoundIn, IsPlain, Copies, LeavesClean, IsFileFault, IsAbsenceOr};
 
 use crate::front::{fault_of_front, fault_of_place, missing_log, remove_log};
-use crate::onlooker::Onlooker;
-use s10_history::Settings;
-use s10_ledger::{OpenFault, Refused, SqlBook};
+use s10_ledger::{OpenFault, Refused};
 use sqlite::{Connection, Error, ErrorCode, FileFrom, FileStore, Files, Start};
 use std::fs::OpenOptions;
 use std::io::ErrorKind;
@@ -22,65 +20,11 @@ const NOT_THERE: i32 = 2;
 /// A connection over a file.
 pub type FileConnection<S> = Connection<FileStore<FileFrom<S>>>;
 
-/// A book over the tables of a file.
-pub type FileBook<S> = SqlBook<FileStore<FileFrom<S>>>;
-
 /// A database file and its log, closed.
 pub type ClosedFiles<S> = Files<FileFrom<S>>;
 
-/// Makes an empty ledger in a file. A refusal leaves the file with no table of a ledger's. One that holds something else
-/// than a database is not opened.
-pub fn create_book<S: Start>(
-    rt: &HostRuntime,
-    path: &str,
-    settings: Settings,
-    start: S,
-) -> Result<FileBook<S>, OpenFault>
-    ensures settings { IfOk result (λ book. book.terms ≡ settings) }
-    ensures made { IfOk result (WhereClean IsEmptyBook) }
-    ensures refused { IfErr result (IsNotMade S.row S.Start) }
-{
-    let missing = missing_log(rt, path);
-    let connection = connect_to_place(rt, path, start)?;
-    let mut onlooker = Onlooker::new(rt, path);
-    let made = SqlBook::create(rt.alloc(), connection, settings, &mut onlooker);
-    if let Err(refusal) = &made {
-        onlooker.tell_place(refusal.fault);
-        remove_log(rt, missing);
-    }
-    kept_or_closed(made)
-}
-
-/// Opens the ledger of a file, which does all its calls again.
-pub fn open_book<S: Start>(rt: &HostRuntime, path: &str, start: S) -> Result<FileBook<S>, OpenFault>
-    ensures opened { IfOk result (WhereClean (IsFoundBook (image_at S.Start))) }
-    ensures refused { IfErr result (IsNotOpened S.row S.Start) }
-{
-    let missing = missing_log(rt, path);
-    let connection = connect_to_ledger(rt, path, start)?;
-    let mut onlooker = Onlooker::new(rt, path);
-    let found = SqlBook::open(rt.alloc(), connection, &mut onlooker);
-    if found.is_err() {
-        remove_log(rt, missing);
-    }
-    kept_or_closed(found)
-}
-
-/// Ends a book: what it committed is then in the database file itself.
-pub fn close_book<S: Start>(
-    rt: &HostRuntime,
-    path: &str,
-    book: FileBook<S>,
-) -> Result<ClosedFiles<S>, OpenFault>
-    ensures away { IfOk result (PutsAway book) }
-    ensures refused { IfErr result (λ fault. fault ≡ OpenFault.Store) }
-{
-    let connection = book.close();
-    close_copied(rt, path, connection)
-}
-
-// The files of a connection, with its last commit in the database file itself.
-fn close_copied<S: Start>(
+/// The files of a connection, with its last commit in the database file itself.
+pub fn close_copied<S: Start>(
     rt: &HostRuntime,
     path: &str,
     connection: FileConnection<S>,
@@ -145,8 +89,8 @@ fn fault_of_look(rt: &HostRuntime, path: &str, cause: &io::Error) -> OpenFault
     OpenFault::Store
 }
 
-// Opens the file of a new ledger as a database, or makes it.
-fn connect_to_place<S: Start>(
+/// Opens the file of a new ledger as a database, or makes it. One that holds something else than a database is not opened.
+pub fn connect_to_place<S: Start>(
     rt: &HostRuntime,
     path: &str,
     start: S,
@@ -246,20 +190,8 @@ fn fault_of_opening(error: &Error) -> OpenFault
     }
 }
 
-// The book, or why there is none, with its file closed.
-fn kept_or_closed<S: Start>(
-    made: Result<FileBook<S>, Refused<FileStore<FileFrom<S>>>>,
-) -> Result<FileBook<S>, OpenFault>
-    ensures kept { IfOk result (λ book. made ≡ Ok book) }
-    ensures refused { IfErr result (λ fault. IsErrAnd made (λ refusal. refusal.fault ≡ fault)) }
-{
-    match made {
-        Ok(book) => Ok(book),
-        Err(refusal) => Err(fault_of_refusal(refusal)),
-    }
-}
-
-fn fault_of_refusal<S: Start>(refusal: Refused<FileStore<FileFrom<S>>>) -> OpenFault
+/// Why there is no ledger, with its file closed.
+pub fn fault_of_refusal<S: Start>(refusal: Refused<FileStore<FileFrom<S>>>) -> OpenFault
     ensures { result ≡ refusal.fault }
 {
     let Refused { fault, connection } = refusal;

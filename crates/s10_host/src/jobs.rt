@@ -1,29 +1,29 @@
 //! The subcommands over files, sockets and the clock. `S` stands for what the files held.
 
-ghost use Rattle.std.specs.Prelude.{◌≡◌, codes, None, Ok, Err, IsOk, IfOk, IfErr, IfSome};
+ghost use Rattle.std.specs.Prelude.{◌≡◌, codes, false, None, Ok, Err, IsOk, IfOk, IfSome};
 ghost use Rattle.std.specs.Io.KnownBytes.{Appends};
 ghost use Rattle.s10_rows.specs.declared.open_fault.OpenFault.{OpenFault};
-ghost use Rattle.s10_host.specs.Files.{IsNotMade};
-ghost use Rattle.s10_host.specs.Jobs.{ledger_line, HasMadeLedger, HasCreated, IsServed, IsLost, IsUnlinked, HasServed, IsReported, IsReportedAndLost, HasReported, HasAudited, IsRunOn, HasEnded};
+ghost use Rattle.s10_host.specs.Jobs.{ledger_line, HasCreated, HasServed, HasReported, HasAudited, IsRunOn, HasEnded};
+ghost use Rattle.s10_host.specs.Work.{EndsOver, EndsIn};
 
 use crate::audit::run_audit;
 use crate::files::{
-    ClosedFiles, FileBook, close_book, connect_to_ledger, create_book, leave_files, open_book,
+    ClosedFiles, FileConnection, close_copied, connect_to_ledger, connect_to_place,
+    fault_of_refusal, leave_files,
 };
 use crate::front::{missing_log, remove_log};
 use crate::left::Left;
 use crate::loopback::run_loop;
 use crate::looped::Looped;
 use crate::onlooker::Onlooker;
+use crate::work::{Work, work_on};
 use s10_ends::UdpLink;
 use s10_history::Settings;
-use s10_jobs::{
-    Job, JobStatus, Report, day_or_today, fail_by_clock, fail_by_ledger, refuse, write_report,
-};
+use s10_jobs::{Job, JobStatus, Report, day_or_today, fail_by_clock, fail_by_ledger, refuse};
 use s10_ledger::OpenFault;
 use s10_lines::{WriteFault, write_text};
 use s10_link::Peer;
-use s10_sockets::{run_question, serve_at};
+use s10_sockets::run_question;
 use sqlite::Start;
 use std::io::Write;
 
@@ -43,9 +43,7 @@ pub fn run_job<S: Start, W: Write>(
     ensures { HasEnded S.row S.Start job.now (W.contents out.old) (W.contents out.new) result.0 result.1.files result.1.link result.1.looped }
 {
     match job {
-        Job::Create { ledger, settings } => {
-            with_files(run_create(rt, *ledger, *settings, start, out))
-        }
+        Job::Create { ledger, settings } => run_create(rt, *ledger, *settings, start, out),
         Job::Serve {
             ledger,
             bind,
@@ -57,7 +55,7 @@ pub fn run_job<S: Start, W: Write>(
             ledger,
             is_of_issues,
             day,
-        } => with_files(run_report(rt, *ledger, *is_of_issues, *day, start, out)),
+        } => run_report(rt, *ledger, *is_of_issues, *day, start, out),
         Job::Audit { ledger } => with_files(audit_file(rt, *ledger, start, out)),
         Job::Loop { day } => with_looped(run_loop_on(rt, *day, out)),
     }
@@ -78,7 +76,7 @@ fn with_files<S: Start>(closed: Closed<S>) -> Ended<S>
 }
 
 fn with_link<S: Start>(asked: (Result<JobStatus, WriteFault>, Option<UdpLink>)) -> Ended<S>
-    ensures same { (result.0 ≡ asked.0) × (result.1.link ≡ asked.1) }
+    ensures same { (result.0 ≡ asked.0) × (result.1.link ≡ asked.1) × (result.1.files ≡ None) }
 {
     let (done, link) = asked;
     (
@@ -112,12 +110,20 @@ fn run_create<S: Start, W: Write>(
     settings: Settings,
     start: S,
     out: &mut W,
-) -> Closed<S>
-    ensures { HasCreated S.row S.Start settings (W.contents out.old) (W.contents out.new) result.0 result.1 }
+) -> Ended<S>
+    ensures { HasCreated S.row S.Start settings (W.contents out.old) (W.contents out.new) result.0 result.1.files }
 {
-    match make_ledger(rt, ledger, settings, start) {
-        Ok(files) => (write_created(out), Some(files)),
-        Err(fault) => (fail_by_ledger(fault, out), None),
+    let missing = missing_log(rt, ledger);
+    match connect_to_place(rt, ledger, start) {
+        Ok(connection) => {
+            let work = Work::Create(settings);
+            let (made, left) = work_over(rt, ledger, connection, missing, work, out);
+            match left.files {
+                Some(_) => (write_created(out), left),
+                None => (made, left),
+            }
+        }
+        Err(fault) => with_link((fail_by_ledger(fault, out), None)),
     }
 }
 
@@ -126,21 +132,6 @@ fn write_created<W: Write>(out: &mut W) -> Result<JobStatus, WriteFault>
 {
     write_text(b"created\n", out)?;
     Ok(JobStatus::Done)
-}
-
-fn make_ledger<S: Start>(
-    rt: &HostRuntime,
-    ledger: &str,
-    settings: Settings,
-    start: S,
-) -> Result<ClosedFiles<S>, OpenFault>
-    ensures made { IfOk result (HasMadeLedger S.row S.Start settings) }
-    ensures refused { IfErr result (IsNotMade S.row S.Start) }
-{
-    match create_book(rt, ledger, settings, start) {
-        Ok(book) => close_book(rt, ledger, book),
-        Err(fault) => Err(fault),
-    }
 }
 
 fn run_serve<S: Start, W: Write>(
@@ -158,42 +149,12 @@ fn run_serve<S: Start, W: Write>(
         return with_link((refuse(b"peer", out), None));
     };
     tell_opening(rt, ledger);
-    match open_book(rt, ledger, start) {
-        Ok(book) => serve_book(rt, ledger, at, book, count, day, out),
-        Err(fault) => with_link((fail_by_ledger(fault, out), None)),
-    }
+    work_in(rt, ledger, Work::Serve { at, count, day }, start, out)
 }
 
 // A large ledger takes a while; the turns go on where standard error is closed.
 fn tell_opening(rt: &HostRuntime, ledger: &str) {
     let _ = eprintln!(rt; "opening {ledger}");
-}
-
-// The ledger is closed whatever came of the turns.
-fn serve_book<S: Start, W: Write>(
-    rt: &HostRuntime,
-    ledger: &str,
-    at: Peer,
-    book: FileBook<S>,
-    count: u32,
-    day: Option<u32>,
-    out: &mut W,
-) -> Ended<S>
-    ensures served { IfSome result.1.link (λ link. IfSome result.1.files (IsServed S.row S.Start book day count (W.contents out.old) (W.contents out.new) result.0 link)) }
-    ensures lost { IfSome result.1.link (λ link. result.1.files ≡ None → IsLost S.row S.Start book day count (W.contents out.old) (W.contents out.new) result.0 link) }
-    ensures unlinked { result.1.link ≡ None → IsUnlinked S.row S.Start book (W.contents out.old) (W.contents out.new) result.0 result.1.files }
-{
-    let (served, link, book) = serve_at(rt, rt.alloc(), at, book, count, day, out);
-    let closed = close_book(rt, ledger, book);
-    let (done, files) = ended(served, closed, out);
-    (
-        done,
-        Left {
-            files,
-            link,
-            looped: None,
-        },
-    )
 }
 
 // The day is known before the ledger is opened.
@@ -204,31 +165,66 @@ fn run_report<S: Start, W: Write>(
     day: Option<u32>,
     start: S,
     out: &mut W,
-) -> Closed<S>
-    ensures { HasReported S.row S.Start is_of_issues day (W.contents out.old) (W.contents out.new) result.0 result.1 }
+) -> Ended<S>
+    ensures { HasReported S.row S.Start is_of_issues day (W.contents out.old) (W.contents out.new) result.0 result.1.files }
 {
     let Some(report) = Report::new(rt, is_of_issues, day) else {
-        return (fail_by_clock(out), None);
+        return with_link((fail_by_clock(out), None));
     };
-    match open_book(rt, ledger, start) {
-        Ok(book) => report_on(rt, ledger, book, report, out),
-        Err(fault) => (fail_by_ledger(fault, out), None),
+    work_in(rt, ledger, Work::Report(report), start, out)
+}
+
+// Does the work over the ledger of a file that is there.
+fn work_in<S: Start, W: Write>(
+    rt: &HostRuntime,
+    ledger: &str,
+    work: Work,
+    start: S,
+    out: &mut W,
+) -> Ended<S>
+    ensures { EndsIn S.row S.Start work (W.contents out.old) (W.contents out.new) result.0 result.1.files result.1.link }
+{
+    let missing = missing_log(rt, ledger);
+    match connect_to_ledger(rt, ledger, start) {
+        Ok(connection) => work_over(rt, ledger, connection, missing, work, out),
+        Err(fault) => with_link((fail_by_ledger(fault, out), None)),
     }
 }
 
-fn report_on<S: Start, W: Write>(
-    rt: &HostRuntime,
-    ledger: &str,
-    mut book: FileBook<S>,
-    report: Report,
+// The ledger is put away whatever came of the work. A file that is refused is closed without the log that was made.
+fn work_over<'a, S: Start, W: Write>(
+    rt: &'a HostRuntime,
+    ledger: &'a str,
+    connection: FileConnection<S>,
+    missing: Option<String>,
+    work: Work,
     out: &mut W,
-) -> Closed<S>
-    ensures reported { IfSome result.1 (IsReported S.row S.Start book report (W.contents out.old) (W.contents out.new) result.0) }
-    ensures lost { result.1 ≡ None → IsReportedAndLost S.row S.Start book report (W.contents out.old) (W.contents out.new) result.0 }
+) -> Ended<S>
+    requires idle { connection.in_transaction ≡ false }
+    ensures { EndsOver S.row S.Start work connection (W.contents out.old) (W.contents out.new) result.0 result.1.files result.1.link }
 {
-    let written = write_report(&mut book, report, out);
-    let closed = close_book(rt, ledger, book);
-    ended(written, closed, out)
+    let mut onlooker = Onlooker::new(rt, ledger);
+    match work_on(rt, connection, work, &mut onlooker, out) {
+        Ok((worked, link, connection)) => {
+            let closed = close_copied(rt, ledger, connection);
+            let (done, files) = ended(worked, closed, out);
+            (
+                done,
+                Left {
+                    files,
+                    link,
+                    looped: None,
+                },
+            )
+        }
+        Err(refusal) => {
+            if let Work::Create(_) = &work {
+                onlooker.tell_place(refusal.fault);
+            }
+            remove_log(rt, missing);
+            with_link((fail_by_ledger(fault_of_refusal(refusal), out), None))
+        }
+    }
 }
 
 // What was done with a ledger, unless it could not be closed.

@@ -2,6 +2,7 @@
 #![tactic(auto)]
 
 mod audit;
+mod closing;
 mod files;
 mod front;
 mod jobs;
@@ -9,6 +10,7 @@ mod left;
 mod loopback;
 mod looped;
 mod onlooker;
+mod work;
 
 pub use audit::run_audit;
 pub use jobs::run_job;

@@ -1,12 +1,18 @@
-use Rattle.s10_host.specs.Files.{IsNotMade}
-use Rattle.s10_host.proofs.Ending.{fails_by}
+use Rattle.s10_host.proofs.Ending.{created, not_created, not_connected}
 use Rattle.s10_host.proofs.jobs.run_create.Goals as goal
 
+pub returns-in-Some : goal.returns-in-Some
+returns-in-Some g c =
+    created _ g.S.Start c.args.settings c.in-Ok.connection (g.W.Write.contents c.args.out.now) (g.W.Write.contents c.work_over-made.new.out) (g.W.Write.contents c.write_created.new.out)
+    c.work_over-made.result.0 c.write_created.result c.work_over-made.result.1.files c.work_over-made.result.1.link _ c.in-Some.is c.work_over-made.ensures c.write_created.ensures
+
+pub returns-in-None : goal.returns-in-None
+returns-in-None g c =
+    not_created _ g.S.Start c.args.settings c.in-Ok.connection (g.W.Write.contents c.args.out.now) (g.W.Write.contents c.work_over-made.new.out)
+    c.work_over-made.result.0 c.work_over-made.result.1.files c.work_over-made.result.1.link c.in-None.is c.in-Ok.ensures.found c.work_over-made.ensures
+
 pub returns-in-Err : goal.returns-in-Err
-returns-in-Err g c = record {
-  made = tt;
-  told = tt;
-  refused = λ _.
-      fails_by (IsNotMade _ g.S.Start) c.in-Err.fault (g.W.Write.contents c.args.out.now) (g.W.Write.contents c.fail_by_ledger.new.out) c.fail_by_ledger.result
-      c.in-Err.ensures.refused c.fail_by_ledger.ensures;
-}
+returns-in-Err g c =
+    let same = c.with_link.ensures.same in
+    not_connected _ g.S.Start c.args.settings c.in-Err.fault (g.W.Write.contents c.args.out.now) (g.W.Write.contents c.fail_by_ledger.new.out) c.fail_by_ledger.result c.with_link.result.0 c.with_link.result.1.files
+    c.in-Err.ensures.refused c.fail_by_ledger.ensures same.0 same.2

@@ -3,19 +3,15 @@ use Rattle.s10_host.proofs.Ending.{ended_as}
 use Rattle.s10_host.proofs.jobs.run_job.Goals as goal
 
 pub returns-in-Create : goal.returns-in-Create
-returns-in-Create g c =
-    let same = c.with_files.ensures.same in
-    ended_as _ g.S.Start c.args.job.now _ _ _ _ _ _ _ c.with_files.result.1.link _ c.with_files.result.1.looped _ c.in-Create.is same.0 same.1 refl refl c.run_create.ensures
+returns-in-Create g c = ended_as _ g.S.Start c.args.job.now _ _ _ _ _ _ _ c.run_create.result.1.link _ c.run_create.result.1.looped _ c.in-Create.is refl refl refl refl c.run_create.ensures
 
 pub returns-in-Serve : goal.returns-in-Serve
 returns-in-Serve g c = ended_as _ g.S.Start c.args.job.now _ _ _ _ _ _ _ _ _ _ c.run_serve.result.1.looped c.in-Serve.is refl refl refl refl c.run_serve.ensures
 
 pub returns-in-Report : goal.returns-in-Report
-returns-in-Report g c =
-    let same = c.with_files-in-Report.ensures.same in
-    ended_as _ g.S.Start c.args.job.now _ _ _ _ _ _ _ c.with_files-in-Report.result.1.link _ c.with_files-in-Report.result.1.looped _ c.in-Report.is same.0 same.1 refl refl c.run_report.ensures
+returns-in-Report g c = ended_as _ g.S.Start c.args.job.now _ _ _ _ _ _ _ c.run_report.result.1.link _ c.run_report.result.1.looped _ c.in-Report.is refl refl refl refl c.run_report.ensures
 
 pub returns-in-Audit : goal.returns-in-Audit
 returns-in-Audit g c =
-    let same = c.with_files-in-Audit.ensures.same in
-    ended_as _ g.S.Start c.args.job.now _ _ _ _ _ _ _ c.with_files-in-Audit.result.1.link _ c.with_files-in-Audit.result.1.looped _ c.in-Audit.is same.0 same.1 refl refl c.audit_file.ensures
+    let same = c.with_files.ensures.same in
+    ended_as _ g.S.Start c.args.job.now _ _ _ _ _ _ _ c.with_files.result.1.link _ c.with_files.result.1.looped _ c.in-Audit.is same.0 same.1 refl refl c.audit_file.ensures

@@ -1,23 +1,14 @@
-use Rattle.std.proofs.Common.{inl, inr}
-use Rattle.s10_host.specs.Files.{IsNotOpened}
-use Rattle.s10_host.proofs.Ending.{asked_for, no_report, fails_by, reported_in}
+use Rattle.s10_host.proofs.Ending.{asked_for, no_report, no_day, reported_in}
 use Rattle.s10_host.proofs.jobs.run_report.Goals as goal
 
 pub returns-in_default : goal.returns-in_default
 returns-in_default g c =
-    let none = no_report c.args.is_of_issues c.args.day c.new.result c.in_default.is c.new.ensures.issues c.new.ensures.ranges in
-    record { reported = tt; unreported = λ _. inl (inl (none.0, none.1, c.fail_by_clock.ensures)) }
+    let same = c.with_link.ensures.same in
+    no_day _ g.S.Start c.args.is_of_issues c.args.day (g.W.Write.contents c.args.out.now) (g.W.Write.contents c.fail_by_clock.new.out) c.fail_by_clock.result c.with_link.result.0 c.with_link.result.1.files
+    (no_report c.args.is_of_issues c.args.day c.new.result c.in_default.is c.new.ensures.issues c.new.ensures.ranges) c.fail_by_clock.ensures same.0 same.2
 
-pub returns-in-Ok : goal.returns-in-Ok
-returns-in-Ok g c =
+pub returns : goal.returns
+returns g c =
     let asked = asked_for c.args.is_of_issues c.args.day c.new.result c.in-Some.report c.in-Some.is c.new.ensures.issues c.new.ensures.ranges c.new.ensures.of_a_day in
-    reported_in _ g.S.Start c.args.is_of_issues c.args.day (g.W.Write.contents c.args.out.now) (g.W.Write.contents c.report_on.new.out)
-    c.in-Some.report c.in-Ok.book c.report_on.result.0 c.report_on.result.1 asked c.in-Ok.ensures.opened c.report_on.ensures.reported c.report_on.ensures.lost
-
-pub returns-in-Err : goal.returns-in-Err
-returns-in-Err g c = record {
-  reported = tt;
-  unreported = λ _.
-      inl (inr (fails_by (IsNotOpened _ g.S.Start) c.in-Err.fault (g.W.Write.contents c.args.out.now) (g.W.Write.contents c.fail_by_ledger.new.out) c.fail_by_ledger.result
-      c.in-Err.ensures.refused c.fail_by_ledger.ensures));
-}
+    reported_in _ g.S.Start c.args.is_of_issues c.args.day c.in-Some.report (g.W.Write.contents c.args.out.now) (g.W.Write.contents c.work_in.new.out)
+    c.work_in.result.0 c.work_in.result.1.files c.work_in.result.1.link asked c.work_in.ensures
