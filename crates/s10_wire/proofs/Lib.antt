@@ -4,6 +4,7 @@ pub mod Refusals
 pub mod Asked
 pub mod Many
 pub mod Room
+pub mod Done
 pub mod Replied
 pub mod Lengths
 pub mod SameIds
