@@ -16,8 +16,8 @@ use Rattle.s10_book.proofs.Free.{issued_latest}
 use Rattle.s10_book.proofs.Spaced.{id_same, sound}
 use Rattle.s10_rows.specs.declared.serial_row.SerialRow.{SerialRow}
 use Rattle.s10_rows.specs.Tables.{serial_row}
-use Rattle.s10_rows.proofs.LastIssues.{none_filter}
-use Rattle.s10_rows.proofs.SerialRows.{last_passes}
+use Rattle.s10_replay.proofs.LastIssues.{none_filter}
+use Rattle.s10_replay.proofs.SerialRows.{last_passes}
 use Rattle.s10_index.specs.LastIssues.{told}
 use Rattle.s10_index.specs.RowsBehind.{last_rows, rows_behind}
 

@@ -17,7 +17,7 @@ use Rattle.s10_book.specs.Rules.{IsLegal}
 use Rattle.s10_book.proofs.Legal.{legal_induction}
 use Rattle.s10_book.proofs.Carried.{made_by, after_call}
 use Rattle.s10_book.proofs.Own.{IsOwned, owned}
-use Rattle.s10_rows.proofs.SerialRows.{last_passes}
+use Rattle.s10_replay.proofs.SerialRows.{last_passes}
 use Rattle.s10_index.specs.LastIssues.{told}
 use Rattle.s10_index.proofs.Issuing.{last_told}
 

@@ -13,10 +13,10 @@ use Rattle.s10_rows.specs.declared.open_fault.OpenFault.{OpenFault}
 use Rattle.s10_rows.specs.declared.open_fault.OpenFault.TheVariants.{Memory, Store}
 use Rattle.s10_rows.specs.declared.opened.Opened.{Opened}
 use Rattle.s10_rows.specs.Tables.{Tables, HaveSameRows, tables_of}
-use Rattle.s10_rows.specs.RightRows.{kept_of, entry_of}
-use Rattle.s10_rows.specs.Verdict.{IsWhole}
-use Rattle.s10_rows.proofs.SameRows.{same_length}
-use Rattle.s10_rows.proofs.Compared.{right_calls}
+use Rattle.s10_replay.specs.RightRows.{kept_of, entry_of}
+use Rattle.s10_replay.specs.Verdict.{IsWhole}
+use Rattle.s10_replay.proofs.SameRows.{same_length}
+use Rattle.s10_replay.proofs.Compared.{right_calls}
 use Rattle.s10_schema.specs.Schema.{IsClosedSchema}
 use Rattle.s10_statements.specs.Settled.{IsSettled, WasSound}
 use Rattle.s10_statements.specs.Shown.{HasTables, HasOldTables, shown_head, shown_range, shown_serial, head_columns}

@@ -28,10 +28,10 @@ use Rattle.s10_rows.specs.contracts.call_row.CallRow as call
 use Rattle.s10_rows.specs.CallRow.{StoredCall}
 use Rattle.s10_rows.specs.declared.closed_row.ClosedRow.{ClosedRow}
 use Rattle.s10_rows.specs.Tables.{Tables, HaveSameRows, tables_of, head_row, call_row, call_rows_from, call_rows, range_rows, serial_rows, closed_rows}
-use Rattle.s10_rows.specs.RightRows.{IsRightRow, AreRight, kept_of, entry_of}
+use Rattle.s10_replay.specs.RightRows.{IsRightRow, AreRight, kept_of, entry_of}
 use Rattle.s10_rows.specs.Selected.{IsCall}
 use Rattle.s10_statements.specs.Shown.{shown_head, shown_call, shown_range, shown_serial, shown_closed}
-use Rattle.s10_rows.specs.Verdict.{IsHead, IsFirstWrong, AreMade, IsRefusal}
+use Rattle.s10_replay.specs.Verdict.{IsHead, IsFirstWrong, AreMade, IsRefusal}
 use Rattle.s10_ledger.specs.Refusals.{HasRows, IsRefusedFor, IsOpeningRefusal}
 use Rattle.s10_ledger.specs.Ledger.{IsAnyLedger, history_in}
 use Rattle.s10_ledger.specs.declared.form.Form.{Form}
@@ -40,9 +40,9 @@ use Rattle.s10_ledger.specs.Form.{HasForm}
 use Rattle.s10_ledger.proofs.Forms.{AreShown, four_lack, form_declared, form_shown}
 use Rattle.s10_statements.proofs.AnswerLemmas.{int_in, call_from, range_from, serial_from}
 use Rattle.s10_statements.proofs.ReadLemmas.{again}
-use Rattle.s10_rows.proofs.SameRows.{one_row}
+use Rattle.s10_replay.proofs.SameRows.{one_row}
 use Rattle.s10_rows.proofs.Replaced.{same_rows}
-use Rattle.s10_rows.proofs.Calls.{entry_of-call_row, row_replies}
+use Rattle.s10_replay.proofs.Calls.{entry_of-call_row, row_replies}
 use Rattle.s10_ledger.proofs.Rising.{call_rows_rise}
 
 abbrev head_from : Row → HeadRow

@@ -4,10 +4,10 @@ use Rattle.std.specs.Ordering.{int_cmp}
 use Rattle.std.specs.declared.cmp.Ordering.TheVariants.{Less}
 use Rattle.sqlite_trees.specs.Tree.{IsAscending}
 use Rattle.s10_history.specs.declared.entry.Entry.{Entry}
-use Rattle.s10_rows.specs.Ascending as rows
+use Rattle.s10_replay.specs.Ascending as rows
 use Rattle.s10_rows.specs.CallRow.{StoredCall}
 use Rattle.s10_rows.specs.Tables.{call_rows}
-use Rattle.s10_rows.proofs.Rising as rows_rising
+use Rattle.s10_replay.proofs.Rising as rows_rising
 
 ascending : {X : Type 0} (R : X → X → Type 0) (xs : List X) → rows.IsAscending R xs → IsAscending R xs
 ascending R [] up = tt

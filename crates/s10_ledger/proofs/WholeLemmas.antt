@@ -18,10 +18,10 @@ use Rattle.s10_rows.specs.declared.opened.Opened.{Opened}
 use Rattle.s10_rows.specs.CallRow.{StoredCall}
 use Rattle.s10_rows.specs.Replies.{reply_bytes}
 use Rattle.s10_rows.specs.Tables.{Tables, HaveSameRows, call_row, call_rows_from, call_rows}
-use Rattle.s10_rows.specs.RightRows.{IsRightRow, AreRight, kept_of, entry_of}
+use Rattle.s10_replay.specs.RightRows.{IsRightRow, AreRight, kept_of, entry_of}
 use Rattle.s10_rows.specs.Selected.{IsCall}
 use Rattle.s10_statements.specs.Shown.{HasTables, StandsFor, shown_head, shown_range, shown_serial, shown_closed, head_columns}
-use Rattle.s10_rows.specs.Verdict.{IsWhole, IsRefusal}
+use Rattle.s10_replay.specs.Verdict.{IsWhole, IsRefusal}
 use Rattle.s10_ledger.specs.declared.form.Form.{Form}
 use Rattle.s10_ledger.specs.declared.form.Form.TheVariants.{Whole, Old}
 use Rattle.s10_ledger.specs.Form.{HasForm}
@@ -31,8 +31,8 @@ use Rattle.s10_index.specs.CallIndex.{Indexes}
 use Rattle.s10_ledger.specs.AllRows.{IsFound}
 use Rattle.s10_ledger.specs.Ledger.{IsLedger, history_in}
 use Rattle.s10_ledger.proofs.HistoryLemmas.{history_is, calls_history}
-use Rattle.s10_rows.proofs.Replayed.{there_at, kept_length}
-use Rattle.s10_rows.proofs.Compared.{right_calls}
+use Rattle.s10_replay.proofs.Replayed.{there_at, kept_length}
+use Rattle.s10_replay.proofs.Compared.{right_calls}
 
 -- a row that is right is that of the call that it stands for
 pub right_row : (t : Terms) (before : List Entry) (row : StoredCall) → IsRightRow t before row → row ≡ call_row (length before + 1) (entry_of row)

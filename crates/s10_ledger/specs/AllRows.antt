@@ -11,9 +11,9 @@ use Rattle.s10_rows.specs.declared.serial_row.SerialRow.{SerialRow}
 use Rattle.s10_rows.specs.declared.open_fault.OpenFault.{OpenFault}
 use Rattle.s10_rows.specs.CallRow.{StoredCall}
 use Rattle.s10_rows.specs.Tables.{Tables, HaveSameRows}
-use Rattle.s10_rows.specs.RightRows.{kept_of}
+use Rattle.s10_replay.specs.RightRows.{kept_of}
 use Rattle.s10_rows.specs.declared.opened.Opened.{Opened}
-use Rattle.s10_rows.specs.Verdict.{IsRefusal, IsWhole}
+use Rattle.s10_replay.specs.Verdict.{IsRefusal, IsWhole}
 use Rattle.s10_index.specs.declared.call_index.CallIndex.{CallIndex}
 use Rattle.s10_index.specs.CallIndex.{Indexes}
 use Rattle.s10_made.specs.declared.remade.Remade.{Remade}

@@ -18,7 +18,7 @@ use Rattle.s10_book.specs.Rules.{IsLegal}
 use Rattle.s10_index.specs.declared.call_index.CallIndex.{CallIndex}
 use Rattle.s10_index.specs.CallIndex.{Indexes}
 use Rattle.s10_rows.specs.CallRow.{StoredCall}
-use Rattle.s10_rows.specs.RightRows.{entry_of}
+use Rattle.s10_replay.specs.RightRows.{entry_of}
 use Rattle.s10_rows.specs.Selected.{IsCall, arrives_between}
 use Rattle.s10_rows.specs.Tables.{tables_of}
 use Rattle.s10_statements.specs.Shown.{HasOldTables, StandsFor, call_columns}

@@ -7,7 +7,7 @@ use Rattle.sqlite.specs.Effect.{Database}
 use Rattle.s10_rows.specs.declared.open_fault.OpenFault.{OpenFault}
 use Rattle.s10_rows.specs.declared.open_fault.OpenFault.TheVariants.{NotALedger, Schema as OtherSchema, Damaged, NotEmpty, Memory, Store}
 use Rattle.s10_rows.specs.Tables.{Tables}
-use Rattle.s10_rows.specs.Verdict.{IsRefusal}
+use Rattle.s10_replay.specs.Verdict.{IsRefusal}
 use Rattle.sqlite_schema.specs.declared.schema.Schema.{Schema}
 use Rattle.s10_ledger.specs.declared.form.Form.{Form}
 use Rattle.s10_ledger.specs.Form.{IsOfForm, HasForm}

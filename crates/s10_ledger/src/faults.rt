@@ -3,9 +3,10 @@
 ghost use Rattle.std.specs.Prelude.{◌≡◌, ◌≢◌, ◌↔◌, ◌⊎◌};
 ghost use Rattle.s10_book.specs.declared.book_fault.BookFault.TheVariants.{Full};
 ghost use Rattle.s10_rows.specs.Tables.{Tables};
-ghost use Rattle.s10_rows.specs.Verdict.{IsRefusal};
+ghost use Rattle.s10_replay.specs.Verdict.{IsRefusal};
 
 use s10_book::BookFault;
+use s10_replay::fault_of_book;
 use s10_rows::OpenFault;
 use sqlite::{Error, ErrorCode};
 
@@ -26,5 +27,5 @@ pub(crate) fn opening_fault(error: Error) -> OpenFault
     ensures fault { (result ≡ OpenFault.Memory) ⊎ (result ≡ OpenFault.Store) }
     ensures refusal { (tables : Tables) → IsRefusal tables result }
 {
-    OpenFault::of_book(fault_of(error))
+    fault_of_book(fault_of(error))
 }

@@ -2,10 +2,8 @@
 
 use s10_core::{Country, Id, Serial, Service};
 use s10_history::{Entry, Issuance, Range};
-use s10_rows::{
-    ClosedRow, Issued, RangeRow, RangeWrite, SerialRow, SerialWrite, granted_row, issue_rows,
-    voided_row,
-};
+use s10_replay::{granted_row, issue_rows, voided_row};
+use s10_rows::{ClosedRow, Issued, RangeRow, RangeWrite, SerialRow, SerialWrite};
 use s10_wire::{Body, Outcome, Request};
 use std::process::Abort;
 

@@ -3,7 +3,8 @@
 use s10_book::PlainBook;
 use s10_core::{Country, Serial, Service};
 use s10_history::{Range, Settings, Usage};
-use s10_rows::{CallRow, OpenFault, SerialRow, pair_number, replay_rows, usage_among};
+use s10_replay::{replay_rows, usage_among};
+use s10_rows::{CallRow, OpenFault, SerialRow, pair_number};
 use std::alloc::Global;
 use std::process::Abort;
 

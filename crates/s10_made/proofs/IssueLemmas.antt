@@ -21,7 +21,7 @@ use Rattle.s10_ranges.specs.declared.turn.Turn.TheVariants.{First, Later}
 use Rattle.s10_ranges.specs.Turns.{turn_of}
 use Rattle.s10_ranges.proofs.Turning.{pick_unissued}
 use Rattle.s10_rows.specs.Kept.{issues_before}
-use Rattle.s10_rows.proofs.CallIssues.{issue_at}
+use Rattle.s10_replay.proofs.CallIssues.{issue_at}
 
 -- whether the range has the identifier
 abbrev pub covers : Id → Range → Bool

@@ -4,8 +4,8 @@ use Rattle.s10_history.specs.History.{day_of}
 use Rattle.s10_rows.specs.declared.head_row.HeadRow.{HeadRow}
 use Rattle.s10_rows.specs.CallRow.{StoredCall}
 use Rattle.s10_rows.specs.Tables.{Tables}
-use Rattle.s10_rows.specs.RightRows.{AreRight, kept_of}
-use Rattle.s10_rows.specs.Verdict.{IsHead}
+use Rattle.s10_replay.specs.RightRows.{AreRight, kept_of}
+use Rattle.s10_replay.specs.Verdict.{IsHead}
 use Rattle.s10_made.specs.declared.remade.Remade.{Remade}
 use Rattle.s10_made.specs.declared.made_rows.MadeRows.{MadeRows}
 

@@ -4,17 +4,16 @@ ghost use Rattle.std.specs.Prelude.{◌≡◌, ◌≤◌, ◌↔◌, length, All
 ghost use Rattle.s10_history.specs.declared.settings.TheConstants.{GREATEST_LIMIT};
 ghost use Rattle.s10_index.specs.CallIndex.{Indexes};
 ghost use Rattle.s10_rows.specs.Tables.{Tables, HaveSameRows, range_rows, serial_rows, closed_rows};
-ghost use Rattle.s10_rows.specs.RightRows.{kept_of};
-ghost use Rattle.s10_rows.specs.Verdict.{IsWhole, IsRefusal};
+ghost use Rattle.s10_replay.specs.RightRows.{kept_of};
+ghost use Rattle.s10_replay.specs.Verdict.{IsWhole, IsRefusal};
 ghost use Rattle.s10_rows.specs.Selected.{IsCall};
 ghost use Rattle.s10_made.specs.Remade.{IsRemade, AreTheirs};
 
 use crate::made_rows::MadeRows;
 use crate::remade::Remade;
 use s10_index::{CallIndex, IndexedBook};
-use s10_rows::{
-    ClosedRow, OpenFault, Opened, RangeRow, SerialRow, same_closed, same_ranges, same_serials,
-};
+use s10_replay::{same_closed, same_ranges, same_serials};
+use s10_rows::{ClosedRow, OpenFault, Opened, RangeRow, SerialRow};
 use std::alloc::Global;
 
 // Whether these are the ranges of the book.

@@ -18,7 +18,8 @@ use s10_book::BookFault;
 use s10_core::Id;
 use s10_history::{Entry, Issuance, Range};
 use s10_ranges::{Ranges, Turn};
-use s10_rows::{Issued, RangeWrite, SerialWrite, issue_rows};
+use s10_replay::issue_rows;
+use s10_rows::{Issued, RangeWrite, SerialWrite};
 use std::alloc::Global;
 
 // Whether the call issues the identifier before that place.

@@ -18,7 +18,8 @@ use crate::made::Made;
 use s10_book::BookFault;
 use s10_history::Entry;
 use s10_index::CallIndex;
-use s10_rows::{CallWrite, granted_row, voided_row};
+use s10_replay::{granted_row, voided_row};
+use s10_rows::CallWrite;
 use s10_wire::{Body, Outcome, Reply, encode_reply};
 use std::alloc::Global;
 

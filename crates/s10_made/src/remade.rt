@@ -2,13 +2,14 @@
 
 ghost use Rattle.std.specs.Prelude.{◌≡◌, pos, IfOk, IfErr};
 ghost use Rattle.s10_rows.specs.Tables.{Tables};
-ghost use Rattle.s10_rows.specs.RightRows.{AreRight, kept_of};
-ghost use Rattle.s10_rows.specs.Verdict.{IsHead, IsRefusal};
+ghost use Rattle.s10_replay.specs.RightRows.{AreRight, kept_of};
+ghost use Rattle.s10_replay.specs.Verdict.{IsHead, IsRefusal};
 
 use s10_book::Book;
 use s10_history::Settings;
 use s10_index::IndexedBook;
-use s10_rows::{CallRow, HeadRow, OpenFault, Opened, replay_rows, settings_in};
+use s10_replay::{replay_rows, settings_in};
+use s10_rows::{CallRow, HeadRow, OpenFault, Opened};
 use std::alloc::Global;
 
 /// A book in memory of a ledger's calls, and what is to be told of them.

@@ -1,10 +1,6 @@
-pub mod Ascending
 pub mod CallRow
 pub mod Replies
 pub mod Tables
-pub mod RightRows
-pub mod Verdict
 pub mod Kept
 pub mod Selected
-pub mod ReadRows
 pub mod CallWrite

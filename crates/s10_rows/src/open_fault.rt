@@ -1,4 +1,3 @@
-use s10_book::BookFault;
 use thiserror::Error;
 
 /// Why a ledger could not be made or opened.
@@ -24,22 +23,4 @@ pub enum OpenFault {
     /// A statement failed that should pass.
     #[error("store")]
     Store,
-}
-
-impl OpenFault {
-    ghost use Rattle.std.specs.Prelude.{◌≡◌, ◌≢◌};
-    ghost use Rattle.s10_rows.specs.Tables.{Tables};
-    ghost use Rattle.s10_rows.specs.Verdict.{IsRefusal};
-
-    /// What a fault of a book is for the opening.
-    pub fn of_book(fault: BookFault) -> OpenFault
-        ensures memory { fault ≡ BookFault.Memory → result ≡ OpenFault.Memory }
-        ensures store { fault ≢ BookFault.Memory → result ≡ OpenFault.Store }
-        ensures refusal { (tables : Tables) → IsRefusal tables result }
-    {
-        match fault {
-            BookFault::Memory => OpenFault::Memory,
-            _ => OpenFault::Store,
-        }
-    }
 }

@@ -1,7 +1,7 @@
 ghost use Rattle.std.specs.Prelude.{◌≡◌};
 ghost use Rattle.s10_rows.specs.Tables.{range_row};
 
-use crate::column::pair_number;
+use crate::pair::pair_number;
 use s10_history::Range;
 
 /// A row of `ranges`. `pair` is the four bytes of service and country as a big-endian number, `mark` the serial that

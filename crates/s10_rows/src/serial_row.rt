@@ -1,7 +1,7 @@
 ghost use Rattle.std.specs.Prelude.{◌≡◌};
 ghost use Rattle.s10_rows.specs.Tables.{serial_row};
 
-use crate::column::pair_number;
+use crate::pair::pair_number;
 use s10_history::Issuance;
 
 /// A row of `serials`: the last issue of an identifier. `voided` is 1 where it is voided, else 0.

@@ -2,7 +2,7 @@ use Rattle.std.proofs.Common.{refl}
 use Rattle.s10_history.specs.History.{ranges_of}
 use Rattle.s10_rows.specs.Tables.{tables_of}
 use Rattle.s10_rows.specs.Selected.{IsRange}
-use Rattle.s10_rows.proofs.Parts.{ranges_of_fit}
+use Rattle.s10_replay.proofs.Parts.{ranges_of_fit}
 use Rattle.std.proofs.lemmas.List.Elements.{All-contains}
 use Rattle.s10_ledger.proofs.lookups.usage_in.Goals as goal
 

@@ -1,7 +1,7 @@
 use Rattle.std.proofs.lemmas.Result.{IfErr-weaker, err_from_is_err_and}
 use Rattle.sqlite.specs.Effect.{Database}
 use Rattle.sqlite.specs.Held.{state}
-use Rattle.s10_rows.specs.Verdict.{IsRefusal}
+use Rattle.s10_replay.specs.Verdict.{IsRefusal}
 use Rattle.s10_statements.proofs.RowByRow.{if_ok, if_err}
 use Rattle.s10_ledger.proofs.WholeLemmas.{refused_for, found_both}
 use Rattle.s10_ledger.proofs.opening.found_in.Goals as goal

@@ -1,10 +1,10 @@
 use Rattle.std.proofs.Common.{◌≡◌, sym, subst, ◌∙◌, List, Less}
 use Rattle.std.specs.Prelude.{IsTrue, ◌↔◌}
 use Rattle.std.specs.Ordering.{int_cmp}
-use Rattle.s10_rows.specs.Ascending.{IsAscending}
+use Rattle.s10_replay.specs.Ascending.{IsAscending}
 use Rattle.s10_rows.specs.declared.range_row.RangeRow.{RangeRow}
 use Rattle.s10_rows.specs.Tables.{HaveSameRows}
-use Rattle.s10_rows.proofs.Rising.{range_rows_rise}
+use Rattle.s10_replay.proofs.Rising.{range_rows_rise}
 use Rattle.s10_made.proofs.comparing.has_ranges.Goals as goal
 
 pub returns-clause-answer : goal.returns-clause-answer

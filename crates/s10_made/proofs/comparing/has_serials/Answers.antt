@@ -1,7 +1,7 @@
 use Rattle.std.proofs.Common.{sym, subst}
 use Rattle.std.proofs.lemmas.List.Sorted.{IsPermutation-refl}
 use Rattle.s10_rows.specs.Tables.{HaveSameRows, serial_rows}
-use Rattle.s10_rows.proofs.Compared.{serial_rows_apart, alike}
+use Rattle.s10_replay.proofs.Compared.{serial_rows_apart, alike}
 use Rattle.s10_made.proofs.comparing.has_serials.Goals as goal
 
 pub returns-clause-answer : goal.returns-clause-answer

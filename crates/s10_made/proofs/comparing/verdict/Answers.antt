@@ -6,10 +6,10 @@ use Rattle.s10_index.specs.CallIndex.{Indexes}
 use Rattle.s10_rows.specs.declared.range_row.RangeRow.{RangeRow}
 use Rattle.s10_rows.specs.declared.serial_row.SerialRow.{SerialRow}
 use Rattle.s10_rows.specs.declared.closed_row.ClosedRow.{ClosedRow}
-use Rattle.s10_rows.specs.RightRows.{kept_of}
+use Rattle.s10_replay.specs.RightRows.{kept_of}
 use Rattle.s10_rows.specs.Selected.{IsCall}
 use Rattle.s10_rows.specs.Tables.{HaveSameRows, range_rows, serial_rows, closed_rows}
-use Rattle.s10_rows.proofs.Compared.{right_calls}
+use Rattle.s10_replay.proofs.Compared.{right_calls}
 use Rattle.s10_made.proofs.RemadeLemmas.{told}
 use Rattle.s10_made.proofs.comparing.verdict.Goals as goal
 

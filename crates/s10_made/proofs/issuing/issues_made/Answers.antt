@@ -5,7 +5,7 @@ use Rattle.std.proofs.lemmas.Option.{slice_get_past}
 use Rattle.s10_history.specs.Issues.{carried_by, issues_at}
 use Rattle.s10_book.proofs.Carried.{made_by}
 use Rattle.s10_rows.specs.declared.serial_write.SerialWrite.{SerialWrite}
-use Rattle.s10_rows.proofs.IssueRows.{all_make}
+use Rattle.s10_replay.proofs.IssueRows.{all_make}
 use Rattle.s10_made.proofs.issuing.issues_made.Goals as goal
 
 pub loop-place-preserved : goal.loop-place-preserved

@@ -1,8 +1,8 @@
 use Rattle.std.proofs.Common.{sym, subst, pos}
 use Rattle.std.proofs.lemmas.Result.{err_from_is_err_and}
 use Rattle.s10_history.specs.Settings.{Terms}
-use Rattle.s10_rows.specs.RightRows.{AreRight}
-use Rattle.s10_rows.specs.Verdict.{IsHead}
+use Rattle.s10_replay.specs.RightRows.{AreRight}
+use Rattle.s10_replay.specs.Verdict.{IsHead}
 use Rattle.s10_made.proofs.remade.replayed.Goals as goal
 
 pub returns-in_err-replay_rows-clause-err : goal.returns-in_err-replay_rows-clause-err

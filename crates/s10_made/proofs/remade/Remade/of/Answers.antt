@@ -4,8 +4,8 @@ use Rattle.std.proofs.lemmas.List.{length-map}
 use Rattle.s10_history.specs.History.{day_of}
 use Rattle.s10_rows.specs.declared.head_row.HeadRow.{HeadRow}
 use Rattle.s10_rows.specs.CallRow.{StoredCall}
-use Rattle.s10_rows.specs.RightRows.{AreRight, kept_of, entry_of}
-use Rattle.s10_rows.specs.Verdict.{IsHead}
+use Rattle.s10_replay.specs.RightRows.{AreRight, kept_of, entry_of}
+use Rattle.s10_replay.specs.Verdict.{IsHead}
 use Rattle.s10_made.proofs.remade.Remade.of.Goals as goal
 
 pub returns-in_err-settings-clause-err : goal.returns-in_err-settings-clause-err

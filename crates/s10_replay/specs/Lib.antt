@@ -1,0 +1,4 @@
+pub mod Ascending
+pub mod RightRows
+pub mod Verdict
+pub mod ReadRows

@@ -1,0 +1,40 @@
+//! The row of `head` is read.
+
+ghost use Rattle.std.specs.Prelude.{◌≡◌, ◌≢◌, ℤ, pos, IfSome, IfNone, IfOk, IfErr};
+ghost use Rattle.s10_history.specs.Settings.{Terms, AreTerms};
+ghost use Rattle.s10_rows.specs.Tables.{Tables, head_row};
+ghost use Rattle.s10_replay.specs.Verdict.{IsHead, IsRefusal};
+
+use crate::column::number_in;
+use s10_history::Settings;
+use s10_rows::{HeadRow, OpenFault};
+
+// The settings of the row, whatever its number of the schema.
+fn settings_of(head: &HeadRow) -> Option<Settings>
+    ensures some { IfSome result (λ t. AreTerms t × (head.now ≡ record (head_row t) { schema = head.now.schema })) }
+    ensures none { IfNone result ((schema : ℤ) (t : Terms) → AreTerms t → ¬ (head.now ≡ record (head_row t) { schema = schema })) }
+{
+    if head.one != 1 {
+        return None;
+    }
+    let interval = number_in(head.interval)?;
+    let cap = number_in(head.cap)?;
+    Settings::new(interval, cap)
+}
+
+/// The settings that the rows of `head` hold.
+pub fn settings_in(heads: &[HeadRow]) -> Result<Settings, OpenFault>
+    ensures ok { IfOk result (IsHead heads.now (pos 1)) }
+    ensures err { (tables : Tables) → tables.heads ≡ heads.now → IfErr result (IsRefusal tables) }
+{
+    let [head] = heads else {
+        return Err(OpenFault::NotALedger);
+    };
+    let Some(settings) = settings_of(head) else {
+        return Err(OpenFault::NotALedger);
+    };
+    if head.schema != 1 {
+        return Err(OpenFault::Schema(head.schema));
+    }
+    Ok(settings)
+}

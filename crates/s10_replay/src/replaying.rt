@@ -1,0 +1,89 @@
+//! The calls of a ledger are replayed.
+
+ghost use Rattle.std.specs.Prelude.{◌≡◌, ◌↔◌, ◌<◌, ◌≤◌, pos, length, IfSome, IfNone, IfOk, IfErr, IsTrue, None, OnOk, []};
+ghost use Rattle.s10_book.specs.Book.{Keeps};
+ghost use Rattle.s10_history.specs.History.{day_of, entry_with_key};
+ghost use Rattle.s10_rows.specs.Tables.{Tables};
+ghost use Rattle.s10_replay.specs.RightRows.{IsRightRow, AreRight, kept_of, entry_of};
+ghost use Rattle.s10_replay.specs.Verdict.{IsHead, IsRefusal};
+ghost use Rattle.s10_rows.specs.Selected.{IsCall};
+
+use crate::call_reading::call_in;
+use crate::faults::fault_of_book;
+use s10_book::{Book, BookFault, decide};
+use s10_history::Entry;
+use s10_rows::{CallRow, OpenFault};
+use s10_wire::same_outcome;
+
+// Whether the row is call number `arrival`, with the key of the call.
+fn has_columns(row: &CallRow, arrival: u32, call: &Entry) -> bool
+    ensures { IsTrue result ↔ ((row.now.arrival ≡ pos arrival) × (row.now.customer ≡ pos call.now.request.customer) × (row.now.number ≡ pos call.now.request.number)) }
+{
+    row.arrival() == i64::from(arrival)
+        && row.customer() == i64::from(call.request.customer)
+        && row.number() == i64::from(call.request.number)
+}
+
+// Whether no call of the book has the key of the call.
+fn is_new<B: Book>(book: &mut B, call: &Entry) -> Result<bool, BookFault>
+    ensures keeps { Keeps B.history B.terms B.honest book.old book.new }
+    ensures answer { B.honest book.new → IfOk result (λ b. IsTrue b ↔ (entry_with_key (B.history book.old) call.now.request.customer call.now.request.number ≡ None)) }
+{
+    let found = book.find(call.request.customer, call.request.number)?;
+    Ok(found.is_none())
+}
+
+// Whether there is room for the call, its day is not before the book's, and its key is new.
+fn has_place<B: Book>(book: &mut B, call: &Entry) -> Result<bool, BookFault>
+    ensures keeps { Keeps B.history B.terms B.honest book.old book.new }
+    ensures answer { B.honest book.new → IfOk result (λ b. IsTrue b ↔ ((length (B.history book.old) < (B.terms book.old).limit)
+        × (day_of (B.history book.old) ≤ call.now.day)
+        × (entry_with_key (B.history book.old) call.now.request.customer call.now.request.number ≡ None))) }
+{
+    if book.len() < book.settings().limit() && book.day() <= call.day {
+        is_new(book, call)
+    } else {
+        Ok(false)
+    }
+}
+
+// The call of the row, where it is right behind the book's calls.
+fn right_call<B: Book>(book: &mut B, row: &CallRow) -> Result<Option<Entry>, BookFault>
+    ensures keeps { Keeps B.history B.terms B.honest book.old book.new }
+    ensures right { B.honest book.new → IfOk result (λ found. IfSome found (λ e. (e ≡ entry_of row.now) × IsCall e × IsRightRow (B.terms book.old) (B.history book.old) row.now)) }
+    ensures wrong { B.honest book.new → IfOk result (λ found. IfNone found (¬ IsRightRow (B.terms book.old) (B.history book.old) row.now)) }
+{
+    let Some(call) = call_in(row) else {
+        return Ok(None);
+    };
+    if !has_columns(row, book.len() + 1, &call) || !has_place(book, &call)? {
+        return Ok(None);
+    }
+    let outcome = decide(book, &call.request, call.day)?;
+    if same_outcome(&outcome, &call.outcome) {
+        Ok(Some(call))
+    } else {
+        Ok(None)
+    }
+}
+
+/// Keeps the calls of the rows in a book without calls, each of them right behind those before it.
+pub fn replay_rows<B: Book>(book: &mut B, rows: &[CallRow]) -> Result<(), OpenFault>
+    ensures was_honest { B.honest book.new → B.honest book.old }
+    ensures same_terms { B.honest book.new → B.terms book.new ≡ B.terms book.old }
+    ensures right { B.honest book.new → B.history book.old ≡ [] → OnOk result (AreRight (B.terms book.old) rows.now) }
+    ensures history { B.honest book.new → B.history book.old ≡ [] → OnOk result (B.history book.new ≡ kept_of rows.now) }
+    ensures err { B.honest book.new → B.history book.old ≡ [] → (tables : Tables) → tables.calls ≡ rows.now → IsHead tables.heads (pos 1) (B.terms book.old) → IfErr result (IsRefusal tables) }
+{
+    for row in rows {
+        let call = match right_call(book, row) {
+            Ok(Some(call)) => call,
+            Ok(None) => return Err(OpenFault::Damaged(book.len() + 1)),
+            Err(fault) => return Err(fault_of_book(fault)),
+        };
+        if let Err(fault) = book.keep(call) {
+            return Err(fault_of_book(fault));
+        }
+    }
+    Ok(())
+}

@@ -1,0 +1,54 @@
+//! Rows are compared, in whatever order they come.
+
+ghost use Rattle.std.specs.Prelude.{◌≡◌, ◌↔◌, false, List, IsTrue};
+ghost use Rattle.std.specs.Ordering.{int_cmp, ordering_then, is_eq};
+ghost use Rattle.std.specs.declared.cmp.Ordering.TheVariants.{Less};
+ghost use Rattle.s10_replay.specs.Ascending.{IsAscending};
+ghost use Rattle.s10_rows.specs.declared.serial_row.SerialRow.{SerialRow};
+ghost use Rattle.s10_rows.specs.Tables.{HaveSameRows};
+
+use s10_rows::{ClosedRow, RangeRow, SerialRow};
+
+fn are_ranges(rows: &[RangeRow], others: &[RangeRow]) -> bool
+    ensures { IsTrue result ↔ (rows.now ≡ others.now) }
+{
+    rows == others
+}
+
+fn are_serials(rows: &[SerialRow], others: &[SerialRow]) -> bool
+    ensures { IsTrue result ↔ (rows.now ≡ others.now) }
+{
+    rows == others
+}
+
+fn are_closed(rows: &[ClosedRow], others: &[ClosedRow]) -> bool
+    ensures { IsTrue result ↔ (rows.now ≡ others.now) }
+{
+    rows == others
+}
+
+/// Whether the rows are the same closed ranges, where those that were made rise by arrival.
+pub fn same_closed(made: &[ClosedRow], mut rows: Vec<ClosedRow>) -> bool
+    ensures { IsAscending (λ a b. int_cmp a.arrival b.arrival ≡ Less) made.now → IsTrue result ↔ HaveSameRows made.now rows.items }
+{
+    rows.sort_unstable_by_key(|row| row.arrival);
+    are_closed(made, &rows)
+}
+
+/// Whether the rows are the same ranges, where those that were made rise by number.
+pub fn same_ranges(made: &[RangeRow], mut rows: Vec<RangeRow>) -> bool
+    ensures { IsAscending (λ a b. int_cmp a.num b.num ≡ Less) made.now → IsTrue result ↔ HaveSameRows made.now rows.items }
+{
+    rows.sort_unstable_by_key(|row| row.num);
+    are_ranges(made, &rows)
+}
+
+/// Whether the rows are the same serials, where no two of those that were made have one key.
+pub fn same_serials(mut made: Vec<SerialRow>, mut rows: Vec<SerialRow>) -> bool
+    ensures { (keyed : List SerialRow) → IsAscending (λ a b. is_eq (ordering_then (int_cmp a.pair b.pair) (int_cmp a.serial b.serial)) ≡ false) keyed → HaveSameRows keyed made.items
+        → IsTrue result ↔ HaveSameRows made.items rows.items }
+{
+    made.sort_unstable_by_key(|row| (row.pair, row.serial));
+    rows.sort_unstable_by_key(|row| (row.pair, row.serial));
+    are_serials(&made, &rows)
+}

@@ -1,0 +1,28 @@
+//! Rows of `serials` are read.
+
+ghost use Rattle.std.specs.Prelude.{◌≡◌, Bool, Some, IfSome};
+ghost use Rattle.s10_history.specs.declared.issuance.Issuance.{Issuance};
+ghost use Rattle.s10_rows.specs.Tables.{serial_row};
+ghost use Rattle.s10_rows.specs.Selected.{IsIssuance, issue_told};
+ghost use Rattle.s10_replay.specs.ReadRows.{Tells};
+
+use crate::column::{flag_in, number_in};
+use s10_history::Issue;
+use s10_rows::SerialRow;
+
+// The issue that the row tells. None where a column of it does not read.
+pub(crate) fn issue_in(row: &SerialRow) -> Option<Issue>
+    ensures read { IfSome result (Tells row.now) }
+    ensures kept { (voided : Bool) (i : Issuance) → IsIssuance i → row.now ≡ serial_row voided i → result ≡ Some (issue_told voided i) }
+{
+    let day = number_in(row.day)?;
+    let voided = flag_in(row.voided)?;
+    let customer = number_in(row.customer)?;
+    let number = number_in(row.number)?;
+    Some(Issue {
+        day,
+        voided,
+        customer,
+        number,
+    })
+}

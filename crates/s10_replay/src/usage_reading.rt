@@ -1,0 +1,75 @@
+//! How the serials of a range were used, by its rows of `serials`.
+
+ghost use Rattle.std.specs.Prelude.{◌≡◌, ℕ, ◌+◌, ◌-◌, ◌<◌, ◌≤◌, ◌^◌, pos, max, nat_le, not, if◌then◌else◌, List, filter, All, Ok, IfOk, IfErr};
+ghost use Rattle.s10_history.specs.declared.entry.Entry.{Entry};
+ghost use Rattle.s10_history.specs.History.{day_of};
+ghost use Rattle.s10_history.specs.Usage.{usage_of};
+ghost use Rattle.s10_rows.specs.Tables.{HaveSameRows, pair_of, serial_rows};
+ghost use Rattle.s10_rows.specs.Selected.{IsCall, IsRange, is_within};
+ghost use Rattle.s10_replay.specs.ReadRows.{IsUsageOf};
+
+use crate::serial_reading::issue_in;
+use s10_book::BookFault;
+use s10_history::{Issue, Range, Usage};
+use s10_rows::SerialRow;
+
+// The usage with one more issue, of a serial that was counted as free.
+fn with_issue(usage: Usage, issue: &Issue, day: u32, interval: u32) -> Usage
+    requires used { usage.used < 100000000 }
+    requires voided { usage.voided < 100000000 }
+    requires free { 0 < usage.free }
+    ensures used { result.used ≡ usage.used + 1 }
+    ensures voided { result.voided ≡ usage.voided + (if issue.now.voided then 1 else 0) }
+    ensures free { result.free + (if not (nat_le interval (day - issue.now.day)) then 1 else 0) ≡ usage.free }
+{
+    let is_free = issue.is_free(day, interval);
+    Usage {
+        used: usage.used + 1,
+        voided: if issue.voided {
+            usage.voided + 1
+        } else {
+            usage.voided
+        },
+        free: if is_free { usage.free } else { usage.free - 1 },
+    }
+}
+
+// How many serials the range has.
+fn serials_of(range: &Range) -> u32
+    ensures count { result ≡ range.now.last + 1 - range.now.first }
+    ensures few { result ≤ 100000000 }
+{
+    (range.last.value() + 1).saturating_sub(range.first.value())
+}
+
+/// How the serials were used, of the rows of the range: its serials that have a row were issued, the others are free. The
+/// day is the greater of the one asked for and the ledger's.
+pub fn usage_among(
+    rows: &[SerialRow],
+    range: &Range,
+    day: u32,
+    interval: u32,
+) -> Result<Usage, BookFault>
+    ensures store { IfErr result (λ f. f ≡ BookFault.Store) }
+    ensures counted { IfOk result (IsUsageOf rows.now range.now day interval) }
+    ensures found { (h : List Entry) → All IsCall h → IsRange range.now → (asked : ℕ) → day ≡ max (day_of h) asked
+        → HaveSameRows (filter (is_within (pos (pair_of range.now.service range.now.country)) (pos range.now.first) (pos range.now.last)) (serial_rows h)) rows.now
+        → result ≡ Ok (usage_of h range.now asked interval) }
+{
+    let serials = serials_of(range);
+    if rows.len() > serials as usize {
+        return Err(BookFault::Store);
+    }
+    let mut usage = Usage {
+        used: 0,
+        voided: 0,
+        free: serials,
+    };
+    for row in rows {
+        let Some(issue) = issue_in(row) else {
+            return Err(BookFault::Store);
+        };
+        usage = with_issue(usage, &issue, day, interval);
+    }
+    Ok(usage)
+}

@@ -1,5 +1,0 @@
-use Rattle.s10_rows.proofs.Usage.{UsedSoFar}
-use Rattle.s10_rows.proofs.usage_reading.usage_among.Given as goal
-
-abbrev pub invariant-loop-row : goal.invariant-loop-row
-invariant-loop-row l = UsedSoFar l.rows l.day l.interval l.serials l.row-index l.usage
