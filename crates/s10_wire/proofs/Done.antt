@@ -20,6 +20,7 @@ IsDone b body = (done_length (kind_of body) b ≤ length b) × (byte b (request_
 abbrev Stands : List ℕ → Body → Outcome → Type 0
 Stands b body o = IsOutcome o × (drop (request_length (kind_of body)) b ≡ outcome_bytes o ++ drop (done_length (kind_of body) b) b)
 
+-- the byte of Done, a day and identifiers, read one behind the other, are all that stands up to there
 behind_done : (b day ids : List ℕ) (at upto : ℕ) → at < length b → byte b at ≡ 0 → drop (at + 1) b ≡ day ++ drop (at + 5) b → drop (at + 5) b ≡ ids ++ drop upto b
     → drop at b ≡ (0 ∷ day ++ ids) ++ drop upto b
 behind_done b day ids at upto lt done day_read ids_read =
@@ -27,6 +28,7 @@ behind_done b day ids at upto lt done day_read ids_read =
     ∙ ap (λ (n : ℕ). n ∷ drop (at + 1) b) done
     ∙ ap (λ (l : List ℕ). 0 ∷ l) (day_read ∙ ap (λ (l : List ℕ). day ++ l) ids_read ∙ sym (append_assoc day ids (drop upto b)))
 
+-- a day and an identifier that were read are what a Done Draw has
 pub drawn_read : (b : List ℕ) (body : Body) (service country : ℕ × ℕ) (day : ℕ) (id : Id) → body ≡ Draw service country → IsDone b body → IsU32 day → drop 17 b ≡ u32_bytes day ++ drop 21 b → IsId id × (drop 21 b ≡ spelling_of id ++ drop 34 b)
     → Stands b body (Drawn day id)
 drawn_read b body service country day id is done fits day_read id_read =
@@ -37,6 +39,7 @@ drawn_read b body service country day id is done fits day_read id_read =
 asked_count : (b : List ℕ) (service country : ℕ × ℕ) (count : ℕ) → drop 12 b ≡ fields (DrawMany service country count) ++ drop 17 b → count ≡ byte b 16
 asked_count b service country count begins = sym (ap (λ (l : List ℕ). get_or l 4 0) begins) ∙ get_or-drop 12 b 4 0
 
+-- a day and as many identifiers as the request asks for are what a Done sheet has
 pub drawn_many_read : (b : List ℕ) (body : Body) (service country : ℕ × ℕ) (count day : ℕ) (ids : List Id) → body ≡ DrawMany service country count → IsDone b body → drop 12 b ≡ fields body ++ drop (request_length (kind_of body)) b → IsU32 day → drop 18 b ≡ u32_bytes day ++ drop 22 b
     → AreIds ids × (length ids ≡ count) × (drop 22 b ≡ spellings_of ids ++ drop (22 + 13 * count) b) → Stands b body (DrawnMany day ids)
 drawn_many_read b body service country count day ids is done begins fits day_read ids_read =
@@ -46,6 +49,7 @@ drawn_many_read b body service country count day ids is done begins fits day_rea
     let read : drop 22 b ≡ spellings_of ids ++ drop (22 + 13 * byte b 16) b = ids_read.2 ∙ ap (λ (n : ℕ). spellings_of ids ++ drop (22 + 13 * n) b) asked in
     ((fits, ids_read.0), behind_done b (u32_bytes day) (spellings_of ids) 17 (22 + 13 * byte b 16) (omega (arith, here.0)) here.1 day_read read)) done begins
 
+-- the first identifier that is refused, of as many as the request asks for, is the first field of a Done sheet that is
 pub many_refused : (b : List ℕ) (body : Body) (service country : ℕ × ℕ) (count : ℕ) → body ≡ DrawMany service country count → drop 12 b ≡ fields body ++ drop (request_length (kind_of body)) b
     → first_refusal (identifier_fields 22 count b) ≡ first_refusal (done_fields (kind_of body) b)
 many_refused b body service country count is begins =
