@@ -1,4 +1,4 @@
-use Rattle.std.proofs.Common.{◌≡◌, ◌∙◌, List, ap, sym}
+use Rattle.std.proofs.Common.{rules, ◌≡◌, ◌∙◌, List, ap, sym}
 use Rattle.std.specs.Prelude.{not}
 use Rattle.s10_history.specs.declared.entry.Entry.{Entry}
 use Rattle.s10_book.specs.Rules.{draws_in_a_row}
@@ -21,3 +21,6 @@ returns-in-None-clause-answer g c = λ h.
     ap (told_of c.args.day) (sym c.in-None.is)
     ∙ many_told (g.B.Book.history c.args.book.now) c.args.customer c.args.service c.args.country c.args.count c.args.day (g.B.Book.terms c.args.book.now).interval c.in_ok-next_range.field-0 c.in_ok-drawn.drawn
     (c.is_none.ensures ∙ ap not c.if-is_none.false) (c.in_ok-next_range.ensures.answer h1) row
+
+pub returns-in-Some-clause-answer : goal.returns-in-Some-clause-answer
+returns-in-Some-clause-answer c = search rules

@@ -1,4 +1,4 @@
-use Rattle.std.proofs.Common.{◌≡◌, ◌∙◌, ◌≤◌, ◌+◌, true, false, sym, ap, arith, length}
+use Rattle.std.proofs.Common.{rules, ◌≡◌, ◌∙◌, ◌≤◌, ◌+◌, true, false, sym, ap, arith, length}
 use Rattle.std.specs.List.{list_any}
 use Rattle.s10_wire.specs.declared.outcome.Outcome.TheVariants.{Granted}
 use Rattle.s10_history.specs.History.{ranges_of, overlaps}
@@ -20,3 +20,6 @@ returns-clause-answer g c = λ h.
     any_is (overlaps c.args.service c.args.country c.args.first c.args.last) (ranges_of (g.B.Book.history c.args.book.now)) c.in_ok-covering.field-0 false (c.in_ok-covering.ensures.answer h1) (sym c.is_some.ensures ∙ c.if-is_some.false) in
     ap Granted (c.in_ok-range.ensures.answer h ∙ ap (λ l. length (ranges_of l) + 1) (c.covering.ensures.keeps.same_history h1))
     ∙ sym (grant_of_post (g.B.Book.history c.args.book.now) c.args.customer c.args.holder c.args.service c.args.country c.args.first c.args.last false c.if-customer-ne0.false c.if-holder-eq0.false order any)
+
+pub returns-then-holder-eq0-clause-answer : goal.returns-then-holder-eq0-clause-answer
+returns-then-holder-eq0-clause-answer c = search rules

@@ -1,4 +1,4 @@
-use Rattle.std.proofs.Common.{◌≡◌, [], refl, Ok, arith}
+use Rattle.std.proofs.Common.{rules, ◌≡◌, [], refl, Ok, arith}
 use Rattle.std.proofs.lemmas.List.{nil_from_length}
 use Rattle.s10_ends.specs.Round.AnswersAll.{none}
 use Rattle.s10_ends.proofs.round.settle_and_answer.Goals as goal
@@ -12,3 +12,6 @@ returns-then-is_empty-clause-answered g c =
       unasked = λ it. refl;
       answers = rw (empty, c.requires.none) none;
     }
+
+pub returns-clause-answered : goal.returns-clause-answered
+returns-clause-answered c = search rules

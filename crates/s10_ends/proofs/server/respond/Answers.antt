@@ -1,4 +1,4 @@
-use Rattle.std.proofs.Common.{◌≡◌, ◌∙◌, refl, sym, ap, Some, None, ◌++◌, ◌∷◌, [], max}
+use Rattle.std.proofs.Common.{rules, ◌≡◌, ◌∙◌, refl, sym, ap, Some, None, ◌++◌, ◌∷◌, [], max}
 use Rattle.s10_history.specs.History.{entry_with_key, day_of}
 use Rattle.s10_book.specs.Rules.{answer_of}
 use Rattle.s10_history.specs.Settings.{Terms}
@@ -31,3 +31,12 @@ returns-clause-owed g c = λ h.
     kept_new old _ (record { request = c.args.request.now; day = c.max-day.result; outcome = c.in_ok-outcome.outcome }) none
     (c.in_ok-keep.ensures.ok h ∙ ap (λ l. l ++ record { request = c.args.request.now; day = c.max-day.result; outcome = c.in_ok-outcome.outcome } ∷ []) (c.decide.ensures.keeps.same_history h2 ∙ s1)) in
     rw is (λ _. refl, λ other. absurd (other refl))
+
+pub returns-then-limit-len-clause-faults : goal.returns-then-limit-len-clause-faults
+returns-then-limit-len-clause-faults c = search rules
+
+pub returns-in-Some-clause-owed : goal.returns-in-Some-clause-owed
+returns-in-Some-clause-owed c = search rules
+
+pub returns-in-Some-clause-fits : goal.returns-in-Some-clause-fits
+returns-in-Some-clause-fits c = search rules

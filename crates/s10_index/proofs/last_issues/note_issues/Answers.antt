@@ -1,4 +1,4 @@
-use Rattle.std.proofs.Common.{◌≡◌, ◌<◌, ◌≤◌, ◌++◌, ◌∷◌, [], List, Bool, false, cond, Option, Some, length, sym, ap, ap₂, ◌∙◌, arith}
+use Rattle.std.proofs.Common.{rules, ◌≡◌, ◌<◌, ◌≤◌, ◌++◌, ◌∷◌, [], List, Bool, false, cond, Option, Some, length, sym, ap, ap₂, ◌∙◌, arith}
 use Rattle.std.specs.Prelude.{slice_get}
 use Rattle.std.specs.Option.{option_map}
 use Rattle.std.specs.HashMap.{spare, get}
@@ -38,3 +38,6 @@ returns c h before x fit =
     let e = c.args.entry.now in
     let past : length (carried_by e.outcome) ≤ c.loop-place.place = omega (arith, c.loop-place-test.false, c.issued-place-end.ensures) in
     c.loop-place.invariant.notes h before x fit ∙ ap (λ (is : List Issuance). option_map (told (h ++ e ∷ []) x) (last_issuance_of is x)) (upto_all h e c.loop-place.place past)
+
+pub loop-place-init : goal.loop-place-init
+loop-place-init c = search rules

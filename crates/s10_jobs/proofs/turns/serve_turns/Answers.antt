@@ -1,4 +1,4 @@
-use Rattle.std.proofs.Common.{arith}
+use Rattle.std.proofs.Common.{rules, arith}
 use Rattle.s10_jobs.specs.Serving.{IsRound}
 use Rattle.s10_jobs.proofs.Turning.{none_served, round_served, round_unshown, given_day}
 use Rattle.s10_jobs.proofs.turns.serve_turns.Goals as goal
@@ -30,3 +30,9 @@ loop-done-preserved g c =
           (λ round is. (c.in-Some.today, given_day c.args.day c.day_or_today.result c.in-Some.today c.day_or_today.ensures c.in-Some.is, is.0, is.1))
           c.in_ok-done.ensures;
     }
+
+pub overflow_add-done : goal.overflow_add-done
+overflow_add-done c = search rules
+
+pub returns-clause-turns : goal.returns-clause-turns
+returns-clause-turns c = search rules

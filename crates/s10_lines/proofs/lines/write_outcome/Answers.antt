@@ -1,3 +1,4 @@
+use Rattle.std.proofs.Common.{rules}
 use Rattle.s10_lines.proofs.lines.write_outcome.Goals as goal
 
 pub returns-in-NotIssued : goal.returns-in-NotIssued
@@ -8,3 +9,6 @@ returns-in-AlreadyVoid g c = rw c.in-AlreadyVoid.is c.write_word-in-AlreadyVoid.
 
 pub returns-in-NoSuchRange : goal.returns-in-NoSuchRange
 returns-in-NoSuchRange g c = rw c.in-NoSuchRange.is c.write_word-in-NoSuchRange.ensures
+
+pub returns-in-NoneFree : goal.returns-in-NoneFree
+returns-in-NoneFree c = search rules

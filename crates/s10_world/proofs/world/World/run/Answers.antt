@@ -1,4 +1,4 @@
-use Rattle.std.proofs.Common.{sym, subst}
+use Rattle.std.proofs.Common.{rules, sym, subst}
 use Rattle.s10_book.proofs.Spaced.{spaced}
 use Rattle.s10_ends.specs.Server.{book_of}
 use Rattle.s10_world.specs.Parts.{server_of, clients_of, world_state_of}
@@ -35,3 +35,6 @@ returns-clause-unshared g c = λ h apart.
     unshared (world_state_of g.B.Book.history g.B.Book.faults c.run.new.self) (g.B.Book.terms book).interval (spaced (g.B.Book.history book) (g.B.Book.terms book) (g.met.B.Book.legal book h))
     (run_sound _ _ _ _ c.run.result (c.run.ensures.ok h) (c.run.ensures.memory h) (c.self.invariant (c.run.ensures.was_honest h)))
     (run_own _ _ _ _ c.run.result (c.run.ensures.ok h) (c.run.ensures.memory h) (subst (λ w. HaveOwnNumbers (clients_of w)) (sym c.self.view_is) apart))
+
+pub returns-clause-ok : goal.returns-clause-ok
+returns-clause-ok c = search rules
