@@ -1,4 +1,5 @@
 pub mod Applied
+pub mod Faulted
 pub mod Whole
 pub mod One
 pub mod Runs

@@ -2,7 +2,7 @@
 use Rattle.std.proofs.Common.{◌≡◌, ◌≢◌, ℕ, ◌+◌, ◌<◌, ◌≤◌, List, [], ◌∷◌, ◌++◌, length, take, refl, ap, sym, ◌∙◌, arith, Option, Some, None, append_assoc, Bool, true, false}
 use Rattle.std.specs.Prelude.{◌==◌}
 use Rattle.std.specs.List.{AllByRecursion}
-use Rattle.std.specs.Io.KnownBytes.{Consumes}
+use Rattle.std.specs.Io.KnownBytes.{Consumes, Keeps}
 use Rattle.std.proofs.lemmas.Bool.{false_from_ne_true, eqb-true, eqb-false}
 use Rattle.std.proofs.lemmas.List.{append-nil}
 use Rattle.std.proofs.lemmas.Grind.{common_steps}
@@ -21,6 +21,13 @@ Consumes-append None b c xs ys h k = tt
 Consumes-append (Some a) None c xs ys h k = absurd h
 Consumes-append (Some a) (Some b) None xs ys h k = absurd k
 Consumes-append (Some a) (Some b) (Some c) xs ys h k = h ∙ ap (λ l. xs ++ l) k ∙ sym (append_assoc xs ys c)
+
+-- a read that failed after another
+pub Consumes-kept : (a b c : Option (List ℕ)) (xs : List ℕ) → Consumes a b xs → Keeps b c → Consumes a c xs
+Consumes-kept None b c xs h k = tt
+Consumes-kept (Some a) None c xs h k = absurd h
+Consumes-kept (Some a) (Some b) None xs h k = absurd k
+Consumes-kept (Some a) (Some b) (Some c) xs h k = h ∙ ap (λ l. xs ++ l) (sym k)
 
 is_no_break : (b : ℕ) → b ≢ 10 → (b == 10) ≡ false
 is_no_break b h = false_from_ne_true _ (λ e. h (eqb-true b 10 e))

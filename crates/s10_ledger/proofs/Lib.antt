@@ -6,5 +6,6 @@ pub mod NewLedger
 pub mod PendingLemmas
 pub mod SettledLemmas
 pub mod WholeLemmas
+pub mod ReadingLemmas
 pub mod OpeningLemmas
 pub mod RefusalLemmas

@@ -9,6 +9,7 @@ pub mod FoundLemmas
 pub mod PutLemmas
 pub mod WriteTexts
 pub mod KeepLemmas
+pub mod KeptCommits
 pub mod MakeLemmas
 pub mod HeadLemmas
 pub mod GoneLemmas

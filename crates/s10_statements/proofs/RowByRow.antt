@@ -10,7 +10,7 @@ use Rattle.sqlite.specs.Effect.{Database}
 use Rattle.sqlite.specs.Given.{IsPlain, HasGiven, HasBegun, Advances}
 use Rattle.sqlite.specs.Held.{Held, state}
 use Rattle.sqlite.specs.Listing.{understood, reads_listing, IsSourceOf}
-use Rattle.sqlite.specs.State.{State, HasCleanDisk, Shown, ShowsRows, IsUnchanged, IsRolledBack, FailsToQuery, Survives, CommitsShowing}
+use Rattle.sqlite.specs.State.{State, HasCleanDisk, Shown, ShowsRows, IsUnchanged, IsRolledBack, Fails, FailsToQuery, Survives, CommitsShowing}
 use Rattle.sqlite.proofs.Callers.{begun_plain, unchanged_then}
 use Rattle.s10_schema.specs.Schema.{IsLedgerSchema, with_others, others_in}
 use Rattle.s10_statements.specs.Settled.{IsSettled, Spares}
@@ -25,6 +25,10 @@ OnlyReads sql = (o : Schema) → IsPlain (understood (with_others o) sql)
 -- a step leaves the tables, or undoes the transaction
 abbrev pub Moves : State → State → Type 0
 Moves old new = IsUnchanged old new ⊎ IsRolledBack old new
+
+pub failed_moves : (old new : State) (e : Error) → Fails old new ⊥ e ⊎ IsUnchanged old new → Moves old new
+failed_moves old new e (inl f) = inr f.3
+failed_moves old new e (inr same) = inl same
 
 moved_open : (old new : State) → Moves old new → IsTrue new.is_open → IsTrue old.is_open
 moved_open old new (inl same) opened = same.0.was_open

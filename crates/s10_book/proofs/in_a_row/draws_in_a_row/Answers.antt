@@ -85,6 +85,9 @@ returns-in_default-3-clause-answer g c = λ h.
     ∙ ap (λ k. draws_in_a_row first c.args.customer c.args.service c.args.country c.args.day c.interval-interval.result k) c.value-wanted.ensures.value
     ∙ ap (λ k. draws_in_a_row first c.args.customer c.args.service c.args.country c.args.day k c.args.count) (c.loop-held.invariant.interval h0)
 
+pub returns-in_default-3-clause-all : goal.returns-in_default-3-clause-all
+returns-in_default-3-clause-all g c = tt
+
 pub loop-held-preserved : goal.loop-held-preserved
 loop-held-preserved g c =
     let first = g.B.Book.history c.args.book.now in
@@ -112,6 +115,9 @@ loop-held-preserved g c =
           at_next (ranges_of first) p (drawn_on c.args.day) c.args.day c.interval-interval.result (issues_of first) c.value-wanted.result r c.loop-held.issued c.loop-held.picks c.in-Some-3.next
           (given_legal first t c.args.day c.interval-interval.result legal c.interval-interval.ensures.range.0) spent found walk;
     }
+
+pub ids-requires : goal.ids-requires
+ids-requires g c = omega (arith, c.len.ensures, c.loop-held-test.false, c.value-wanted.ensures.value, c.value-wanted.ensures.in_range.0)
 
 pub returns-clause-answer : goal.returns-clause-answer
 returns-clause-answer g c = λ h.

@@ -7,6 +7,9 @@ use Rattle.s10_book.specs.Rules.{status_of_issue}
 use Rattle.s10_book.proofs.Owning.{own_query}
 use Rattle.s10_book.proofs.rules.decide_query.Goals as goal
 
+pub returns-then-customer-eq0-clause-answer : goal.returns-then-customer-eq0-clause-answer
+returns-then-customer-eq0-clause-answer g c = λ h. rw c.if-customer-eq0.true (ap (λ s. Told s) (c.in_ok-status.ensures.answer h))
+
 pub returns-clause-answer : goal.returns-clause-answer
 returns-clause-answer g c = λ h.
     let h1 = c.in_ok-status-2.ensures.keeps.was_honest h in

@@ -1,4 +1,5 @@
 use Rattle.std.proofs.Common.{[], refl}
+use Rattle.std.proofs.lemmas.Result.{err_from_is_err_and}
 use Rattle.s10_host.proofs.Opening.{none_pending, worked_as}
 use Rattle.s10_host.proofs.work.work_on.Goals as goal
 
@@ -55,3 +56,48 @@ returns-in_ok-book-in-Report-clause-worked g c =
       written,
       refl,
     )
+
+pub returns-in_err-book-in-Create-clause-worked : goal.returns-in_err-book-in-Create-clause-worked
+returns-in_err-book-in-Create-clause-worked g c =
+    let p = err_from_is_err_and c.from_residual.result c.from_residual.ensures.1 in
+    rw p.1 tt
+
+pub returns-in_err-book-in-Create-clause-refused : goal.returns-in_err-book-in-Create-clause-refused
+returns-in_err-book-in-Create-clause-refused g c =
+    let p = err_from_is_err_and c.from_residual.result c.from_residual.ensures.1 in
+    rw (p.1, p.2, c.in-Create.is) (c.in_err-book-in-Create.ensures.refused)
+
+pub returns-in_err-book-in-Create-clause-silent : goal.returns-in_err-book-in-Create-clause-silent
+returns-in_err-book-in-Create-clause-silent g c =
+    let p = err_from_is_err_and c.from_residual.result c.from_residual.ensures.1 in
+    rw p.1 refl
+
+pub returns-in_err-book-in-Serve-clause-worked : goal.returns-in_err-book-in-Serve-clause-worked
+returns-in_err-book-in-Serve-clause-worked g c =
+    let p = err_from_is_err_and c.from_residual-in_err-book-in-Serve.result c.from_residual-in_err-book-in-Serve.ensures.1 in
+    rw p.1 tt
+
+pub returns-in_err-book-in-Serve-clause-refused : goal.returns-in_err-book-in-Serve-clause-refused
+returns-in_err-book-in-Serve-clause-refused g c =
+    let p = err_from_is_err_and c.from_residual-in_err-book-in-Serve.result c.from_residual-in_err-book-in-Serve.ensures.1 in
+    rw (p.1, p.2, c.in-Serve.is) (λ clean opened. c.in_err-book-in-Serve.ensures.refused clean opened)
+
+pub returns-in_err-book-in-Serve-clause-silent : goal.returns-in_err-book-in-Serve-clause-silent
+returns-in_err-book-in-Serve-clause-silent g c =
+    let p = err_from_is_err_and c.from_residual-in_err-book-in-Serve.result c.from_residual-in_err-book-in-Serve.ensures.1 in
+    rw p.1 refl
+
+pub returns-in_err-book-in-Report-clause-worked : goal.returns-in_err-book-in-Report-clause-worked
+returns-in_err-book-in-Report-clause-worked g c =
+    let p = err_from_is_err_and c.from_residual-in_err-book-in-Report.result c.from_residual-in_err-book-in-Report.ensures.1 in
+    rw p.1 tt
+
+pub returns-in_err-book-in-Report-clause-refused : goal.returns-in_err-book-in-Report-clause-refused
+returns-in_err-book-in-Report-clause-refused g c =
+    let p = err_from_is_err_and c.from_residual-in_err-book-in-Report.result c.from_residual-in_err-book-in-Report.ensures.1 in
+    rw (p.1, p.2, c.in-Report.is) (λ clean opened. c.in_err-book-in-Report.ensures.refused clean opened)
+
+pub returns-in_err-book-in-Report-clause-silent : goal.returns-in_err-book-in-Report-clause-silent
+returns-in_err-book-in-Report-clause-silent g c =
+    let p = err_from_is_err_and c.from_residual-in_err-book-in-Report.result c.from_residual-in_err-book-in-Report.ensures.1 in
+    rw p.1 refl

@@ -1,10 +1,11 @@
-use Rattle.std.proofs.Common.{◌≡◌, ◌≢◌, ◌<◌, [], length, take, refl, ap, arith, Some}
+use Rattle.std.proofs.Common.{◌≡◌, ◌≢◌, ◌<◌, ◌≤◌, [], length, take, refl, ap, arith, Some, None}
 use Rattle.std.specs.Io.KnownBytes.{Consumes}
 use Rattle.std.proofs.lemmas.List.Elements.{recursion_from_All, All-push}
 use Rattle.std.proofs.lemmas.List.{take_more_set}
 use Rattle.std.proofs.lemmas.Grind.{common_steps}
+use Rattle.std.proofs.lemmas.Result.{err_from_is_err_and}
 use Rattle.s10_jobs.specs.LineReader.{ReadsByte}
-use Rattle.s10_jobs.proofs.LineReading.{Consumes-append, line_at_end, nothing_at_end, line_at_break, line_too_long}
+use Rattle.s10_jobs.proofs.LineReading.{Consumes-append, Consumes-kept, line_at_end, nothing_at_end, line_at_break, line_too_long}
 use Rattle.s10_jobs.specs.declared.line_reader.TheConstants.{LINE_ROOM}
 use Rattle.s10_jobs.proofs.line_reader.read_line.Goals as goal
 
@@ -65,3 +66,56 @@ pub returns-in-Some-eq10-2-clause-taken : goal.returns-in-Some-eq10-2-clause-tak
 returns-in-Some-eq10-2-clause-taken g c =
     let ten : ReadsByte (g.R.Read.remaining c.loop-at.input) (g.R.Read.remaining c.next_byte-2.new.input) (Some 10) = rw (c.in-Some-eq10-2.is, c.in-Some-eq10-2.field-0-test) at c.in_ok-next_byte-2.ensures.read in
     (_, Consumes-append _ _ _ _ _ c.loop-at.invariant.read ten)
+
+pub returns-then-at-eq0-clause-taken : goal.returns-then-at-eq0-clause-taken
+returns-then-at-eq0-clause-taken g c =
+    let none : ReadsByte (g.R.Read.remaining c.loop-at.input) (g.R.Read.remaining c.next_byte.new.input) None = rw c.in-None.is at c.in_ok-next_byte.ensures.read in
+    (_, Consumes-append _ _ _ _ _ c.loop-at.invariant.read none.1)
+
+pub returns-else-at-eq0-clause-taken : goal.returns-else-at-eq0-clause-taken
+returns-else-at-eq0-clause-taken g c =
+    let none : ReadsByte (g.R.Read.remaining c.loop-at.input) (g.R.Read.remaining c.next_byte.new.input) None = rw c.in-None.is at c.in_ok-next_byte.ensures.read in
+    (_, Consumes-append _ _ _ _ _ c.loop-at.invariant.read none.1)
+
+pub returns-in-None-2-clause-taken : goal.returns-in-None-2-clause-taken
+returns-in-None-2-clause-taken g c =
+    let none : ReadsByte (g.R.Read.remaining c.loop-at.input) (g.R.Read.remaining c.next_byte-2.new.input) None = rw c.in-None-2.is at c.in_ok-next_byte-2.ensures.read in
+    (_, Consumes-append _ _ _ _ _ c.loop-at.invariant.read none.1)
+
+pub returns-in_err-next_byte-clause-line : goal.returns-in_err-next_byte-clause-line
+returns-in_err-next_byte-clause-line g c =
+    let p = err_from_is_err_and c.from_residual.result c.from_residual.ensures.1 in
+    rw p.1 tt
+
+pub returns-in_err-next_byte-clause-taken : goal.returns-in_err-next_byte-clause-taken
+returns-in_err-next_byte-clause-taken g c = (_, Consumes-kept _ _ _ _ c.loop-at.invariant.read c.in_err-next_byte.ensures.kept)
+
+pub returns-in_err-next_byte-clause-stopped : goal.returns-in_err-next_byte-clause-stopped
+returns-in_err-next_byte-clause-stopped g c =
+    let p = err_from_is_err_and c.from_residual.result c.from_residual.ensures.1 in
+    let short : length (take c.loop-at.at c.loop-at.buffer) ≤ LINE_ROOM = grind (arith, common_steps) in
+    rw p.1 (record {
+      begun = _;
+      taken = Consumes-kept _ _ _ _ c.loop-at.invariant.read c.in_err-next_byte.ensures.kept;
+      unbroken = c.loop-at.invariant.unbroken;
+      short = short;
+    })
+
+pub returns-in_err-next_byte-2-clause-line : goal.returns-in_err-next_byte-2-clause-line
+returns-in_err-next_byte-2-clause-line g c =
+    let p = err_from_is_err_and c.from_residual-in_err-next_byte-2.result c.from_residual-in_err-next_byte-2.ensures.1 in
+    rw p.1 tt
+
+pub returns-in_err-next_byte-2-clause-taken : goal.returns-in_err-next_byte-2-clause-taken
+returns-in_err-next_byte-2-clause-taken g c = (_, Consumes-kept _ _ _ _ c.loop-at.invariant.read c.in_err-next_byte-2.ensures.kept)
+
+pub returns-in_err-next_byte-2-clause-stopped : goal.returns-in_err-next_byte-2-clause-stopped
+returns-in_err-next_byte-2-clause-stopped g c =
+    let p = err_from_is_err_and c.from_residual-in_err-next_byte-2.result c.from_residual-in_err-next_byte-2.ensures.1 in
+    let short : length (take c.loop-at.at c.loop-at.buffer) ≤ LINE_ROOM = grind (arith, common_steps) in
+    rw p.1 (record {
+      begun = _;
+      taken = Consumes-kept _ _ _ _ c.loop-at.invariant.read c.in_err-next_byte-2.ensures.kept;
+      unbroken = c.loop-at.invariant.unbroken;
+      short = short;
+    })

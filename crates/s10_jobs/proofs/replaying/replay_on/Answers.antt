@@ -99,3 +99,24 @@ loop-done-preserved g c =
             c.read_line.new.buffer c.in-Whole.len c.loop-done.done c.loop-done.count (before.replayed h) read c.read_line.ensures.taken short (omega arith) (sym w.in-None.ensures) nothing;
       })
     ]
+
+pub returns-in_default-clause-was_honest : goal.returns-in_default-clause-was_honest
+returns-in_default-clause-was_honest g c = c.loop-done.invariant.was_honest
+
+pub returns-in-End-clause-was_honest : goal.returns-in-End-clause-was_honest
+returns-in-End-clause-was_honest g c = c.loop-done.invariant.was_honest
+
+pub returns-in-Long-clause-was_honest : goal.returns-in-Long-clause-was_honest
+returns-in-Long-clause-was_honest g c = c.loop-done.invariant.was_honest
+
+pub returns-then-not-is_empty-clause-was_honest : goal.returns-then-not-is_empty-clause-was_honest
+returns-then-not-is_empty-clause-was_honest g c = c.loop-done.invariant.was_honest
+
+pub returns-in-Ok-None-clause-was_honest : goal.returns-in-Ok-None-clause-was_honest
+returns-in-Ok-None-clause-was_honest g c = c.loop-done.invariant.was_honest
+
+pub returns-in-Ok-Some-clause-was_honest : goal.returns-in-Ok-Some-clause-was_honest
+returns-in-Ok-Some-clause-was_honest g c = c.loop-done.invariant.was_honest
+
+pub returns-in-Err-clause-was_honest : goal.returns-in-Err-clause-was_honest
+returns-in-Err-clause-was_honest g c = c.loop-done.invariant.was_honest

@@ -25,3 +25,12 @@ returns-in_err-made-clause-refused g c clean opened =
     let read = c.in-Ok.ensures.rows clean opened c.requires.settled in
     let p = err_from_is_err_and c.from_residual.result c.from_residual.ensures.1 in
     rw (p.1, p.2) (refused_for db read.tables (record { form = c.args.form; has = read.has; in_order = read.in_order }) c.in_err-made.field-0.0 (if_err c.in-Ok.rows.0 (IsRefusal read.tables) c.in_err-made.field-0.0 c.in_err-made.was read.err))
+
+pub returns-clause-leaves : goal.returns-clause-leaves
+returns-clause-leaves g c = c.all_rows.ensures.leaves
+
+pub returns-in_err-made-clause-leaves : goal.returns-in_err-made-clause-leaves
+returns-in_err-made-clause-leaves g c = c.all_rows.ensures.leaves
+
+pub returns-in-Err-clause-leaves : goal.returns-in-Err-clause-leaves
+returns-in-Err-clause-leaves g c = c.all_rows.ensures.leaves

@@ -1,4 +1,4 @@
-use Rattle.std.proofs.Common.{◌≡◌, ◌+◌, ◌++◌, ◌∷◌, [], ◌∙◌, List, length, sym, ap, arith, None}
+use Rattle.std.proofs.Common.{◌≡◌, ◌+◌, ◌++◌, ◌∷◌, [], ◌∙◌, List, length, sym, ap, arith, rules, None}
 use Rattle.std.specs.Prelude.{slice_get}
 use Rattle.std.proofs.lemmas.List.{length-map}
 use Rattle.std.proofs.lemmas.Option.{slice_get_past}
@@ -7,6 +7,9 @@ use Rattle.s10_book.proofs.Carried.{made_by}
 use Rattle.s10_rows.specs.declared.serial_write.SerialWrite.{SerialWrite}
 use Rattle.s10_replay.proofs.IssueRows.{all_make}
 use Rattle.s10_made.proofs.issuing.issues_made.Goals as goal
+
+pub loop-place-init : goal.loop-place-init
+loop-place-init c = search rules
 
 pub loop-place-preserved : goal.loop-place-preserved
 loop-place-preserved c h t legal follows calls call m arrival =

@@ -48,3 +48,25 @@ returns-clause-right g c = λ h empty.
 pub returns-clause-history : goal.returns-clause-history
 returns-clause-history g c = λ h empty.
     ((c.loop-row.invariant h).replayed empty).history ∙ ap kept_of (take_all c.loop-row.row-index c.args.rows.now (omega (arith, c.loop-row-test.false)))
+
+pub returns-in-Ok-None-clause-was_honest : goal.returns-in-Ok-None-clause-was_honest
+returns-in-Ok-None-clause-was_honest g c = λ h. (c.loop-row.invariant (c.right_call.ensures.keeps.was_honest h)).was_honest
+
+pub returns-in-Ok-None-clause-same_terms : goal.returns-in-Ok-None-clause-same_terms
+returns-in-Ok-None-clause-same_terms g c = λ h.
+    let honest = c.right_call.ensures.keeps.was_honest h in
+    c.right_call.ensures.keeps.same_terms h ∙ (c.loop-row.invariant honest).terms
+
+pub returns-in-Err-clause-was_honest : goal.returns-in-Err-clause-was_honest
+returns-in-Err-clause-was_honest g c = λ h. (c.loop-row.invariant (c.right_call.ensures.keeps.was_honest h)).was_honest
+
+pub returns-in-Err-clause-same_terms : goal.returns-in-Err-clause-same_terms
+returns-in-Err-clause-same_terms g c = λ h.
+    let honest = c.right_call.ensures.keeps.was_honest h in
+    c.right_call.ensures.keeps.same_terms h ∙ (c.loop-row.invariant honest).terms
+
+pub returns-clause-was_honest : goal.returns-clause-was_honest
+returns-clause-was_honest g c = λ h. (c.loop-row.invariant h).was_honest
+
+pub returns-clause-same_terms : goal.returns-clause-same_terms
+returns-clause-same_terms g c = λ h. (c.loop-row.invariant h).terms

@@ -2,6 +2,7 @@ use Rattle.std.proofs.Common.{◌≡◌, sym, ap, ◌∙◌, refl, List, ◌+◌
 use Rattle.s10_history.specs.declared.entry.Entry.{Entry}
 use Rattle.s10_history.specs.Settings.{Terms}
 use Rattle.s10_book.specs.Rules.{answer_of, MayFollow}
+use Rattle.s10_book.proofs.Calls.{Keeps-trans}
 use Rattle.s10_replay.specs.ReadRows.{IsCallOf}
 use Rattle.s10_replay.proofs.Replayed.{unread_is_wrong, right_row}
 use Rattle.s10_replay.proofs.replaying.right_call.Goals as goal
@@ -24,3 +25,15 @@ returns-then-same_outcome-clause-right g c = λ h.
     let follows : MayFollow before t call = record { new_key = place.2; in_order = place.1; room = place.0; right = sym (c.if-same_outcome.ensures.0 refl) ∙ rules } in
     let read : IsCallOf c.args.row.now call = c.in-Some.ensures.read in
     right_row c.args.row.now call t before read (columns.0 ∙ ap (λ n. pos (n + 1)) (c.len.ensures.answer honest)) columns.1 columns.2 follows
+
+pub returns-in_err-has_place-clause-keeps : goal.returns-in_err-has_place-clause-keeps
+returns-in_err-has_place-clause-keeps g c = c.has_place.ensures.keeps
+
+pub returns-in_err-outcome-clause-keeps : goal.returns-in_err-outcome-clause-keeps
+returns-in_err-outcome-clause-keeps g c = Keeps-trans c.has_place.ensures.keeps c.decide.ensures.keeps
+
+pub returns-then-same_outcome-clause-keeps : goal.returns-then-same_outcome-clause-keeps
+returns-then-same_outcome-clause-keeps g c = Keeps-trans c.has_place.ensures.keeps c.decide.ensures.keeps
+
+pub returns-else-same_outcome-clause-keeps : goal.returns-else-same_outcome-clause-keeps
+returns-else-same_outcome-clause-keeps g c = Keeps-trans c.has_place.ensures.keeps c.decide.ensures.keeps

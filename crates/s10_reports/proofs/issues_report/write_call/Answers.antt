@@ -23,3 +23,15 @@ loop-place-preserved g c = record {
       (issue_next first (issues_at c.args.arrival c.args.entry.now) c.loop-place.place i (sym c.issue.ensures ∙ c.in-Some.is))
       (c.loop-place.invariant.written h0) (subst P last c.in_ok-write_issue.ensures);
 }
+
+pub returns-in-None-clause-keeps : goal.returns-in-None-clause-keeps
+returns-in-None-clause-keeps g c = c.loop-place.invariant.keeps
+
+pub returns-in_err-last-clause-keeps : goal.returns-in_err-last-clause-keeps
+returns-in_err-last-clause-keeps g c = Keeps-trans c.loop-place.invariant.keeps c.last_issue.ensures.keeps
+
+pub returns-in_err-write_issue-clause-keeps : goal.returns-in_err-write_issue-clause-keeps
+returns-in_err-write_issue-clause-keeps g c = Keeps-trans c.loop-place.invariant.keeps c.last_issue.ensures.keeps
+
+pub returns-clause-keeps : goal.returns-clause-keeps
+returns-clause-keeps g c = c.loop-place.invariant.keeps

@@ -46,3 +46,15 @@ returns-clause-written g c = λ h.
     let first = g.B.Book.history c.args.book.now in
     report_whole _ _ (issues_report first) (issued_by first c.loop-done.done + 1)
     (issues_all first c.loop-done.done (omega (arith, c.len-done-end.ensures.answer h0, c.loop-done-test.false))) (c.loop-done.invariant.written h)
+
+pub returns-in_err-entry-clause-keeps : goal.returns-in_err-entry-clause-keeps
+returns-in_err-entry-clause-keeps g c = Keeps-trans c.loop-done.invariant.keeps c.entry.ensures.keeps
+
+pub returns-in-None-clause-keeps : goal.returns-in-None-clause-keeps
+returns-in-None-clause-keeps g c = Keeps-trans c.loop-done.invariant.keeps c.entry.ensures.keeps
+
+pub returns-in_err-write_call-clause-keeps : goal.returns-in_err-write_call-clause-keeps
+returns-in_err-write_call-clause-keeps g c = Keeps-trans c.loop-done.invariant.keeps (Keeps-trans c.entry.ensures.keeps c.write_call.ensures.keeps)
+
+pub returns-clause-keeps : goal.returns-clause-keeps
+returns-clause-keeps g c = c.loop-done.invariant.keeps

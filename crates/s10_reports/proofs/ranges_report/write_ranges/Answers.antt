@@ -64,3 +64,21 @@ returns-clause-written g c = λ h.
     let few = length-ranges_from 1 first in
     report_whole _ _ (ranges_report first c.args.day interval) (c.loop-done.done + 1)
     (ranges_all first c.args.day interval c.loop-done.done (omega (arith, few, c.len-done-end.ensures.answer h0, c.loop-done-test.false))) (c.loop-done.invariant.written h)
+
+pub returns-in_err-range-clause-keeps : goal.returns-in_err-range-clause-keeps
+returns-in_err-range-clause-keeps g c = Keeps-trans c.loop-done.invariant.keeps c.range.ensures.keeps
+
+pub returns-in-None-clause-keeps : goal.returns-in-None-clause-keeps
+returns-in-None-clause-keeps g c = Keeps-trans c.loop-done.invariant.keeps c.range.ensures.keeps
+
+pub returns-in_err-usage-clause-keeps : goal.returns-in_err-usage-clause-keeps
+returns-in_err-usage-clause-keeps g c = Keeps-trans c.loop-done.invariant.keeps (Keeps-trans c.range.ensures.keeps c.usage.ensures.keeps)
+
+pub returns-in_err-closed-clause-keeps : goal.returns-in_err-closed-clause-keeps
+returns-in_err-closed-clause-keeps g c = Keeps-trans c.loop-done.invariant.keeps (Keeps-trans c.range.ensures.keeps (Keeps-trans c.usage.ensures.keeps c.closed.ensures.keeps))
+
+pub returns-in_err-write_range-clause-keeps : goal.returns-in_err-write_range-clause-keeps
+returns-in_err-write_range-clause-keeps g c = Keeps-trans c.loop-done.invariant.keeps (Keeps-trans c.range.ensures.keeps (Keeps-trans c.usage.ensures.keeps c.closed.ensures.keeps))
+
+pub returns-clause-keeps : goal.returns-clause-keeps
+returns-clause-keeps g c = c.loop-done.invariant.keeps

@@ -17,6 +17,9 @@ returns-in-Some-clause-served g c = λ h.
     c.in-Ok.request c.in-Ok-respond.outcome c.encode_reply.result c.in-Ok.ensures.found (c.in-Ok-respond.ensures.applied h) (c.in-Ok-respond.ensures.owed h)
     (subst Q c.in-Some.ensures.parts.1 (subst P c.in-Some.ensures.parts.0 c.encode_reply.ensures))
 
+pub returns-in-Err-respond-clause-faults : goal.returns-in-Err-respond-clause-faults
+returns-in-Err-respond-clause-faults g c = c.in-Err-respond.ensures.faults
+
 pub returns-in-Err-respond-clause-served : goal.returns-in-Err-respond-clause-served
 returns-in-Err-respond-clause-served g c = λ h.
     Served-faulted (g.B.Book.history c.args.self.now.book) (g.B.Book.history c.respond.new.book) (g.B.Book.terms c.args.self.now.book) c.args.bytes.now c.args.day

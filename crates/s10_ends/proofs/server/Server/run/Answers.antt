@@ -1,4 +1,5 @@
 use Rattle.std.proofs.Common.{◌≡◌, ◌<◌, ◌∷◌, ◌++◌, [], ℕ, ◌+◌, List, sym, ap, ◌∙◌, refl, subst, arith, length, take}
+use Rattle.std.proofs.lemmas.Result.{err_from_is_err_and}
 use Rattle.std.proofs.lemmas.List.{take_more}
 use Rattle.s10_ends.specs.declared.delivery.Delivery.{Delivery}
 use Rattle.s10_ends.specs.declared.answer.Answer.{Answer}
@@ -57,3 +58,33 @@ returns-clause-kept g c = λ h.
 
 pub returns-clause-issued : goal.returns-clause-issued
 returns-clause-issued g c = λ h. Served-issued _ _ _ _ _ (c.loop-delivery.invariant.served h)
+
+pub returns-in_err-answers-clause-faults : goal.returns-in_err-answers-clause-faults
+returns-in_err-answers-clause-faults g c = rw (err_from_is_err_and c.from_residual.result c.from_residual.ensures.1).1 tt
+
+pub returns-in_err-answers-clause-was_honest : goal.returns-in_err-answers-clause-was_honest
+returns-in_err-answers-clause-was_honest g c = λ h. h
+
+pub returns-in_err-answers-clause-same_terms : goal.returns-in_err-answers-clause-same_terms
+returns-in_err-answers-clause-same_terms g c = λ h. refl
+
+pub returns-in_err-answers-clause-served : goal.returns-in_err-answers-clause-served
+returns-in_err-answers-clause-served g c = λ h. rw (err_from_is_err_and c.from_residual.result c.from_residual.ensures.1).1 tt
+
+pub returns-in_err-answers-clause-issued : goal.returns-in_err-answers-clause-issued
+returns-in_err-answers-clause-issued g c = λ h. rw (err_from_is_err_and c.from_residual.result c.from_residual.ensures.1).1 tt
+
+pub returns-in_err-answers-clause-refused : goal.returns-in_err-answers-clause-refused
+returns-in_err-answers-clause-refused g c = rw (err_from_is_err_and c.from_residual.result c.from_residual.ensures.1).1 refl
+
+pub returns-clause-faults : goal.returns-clause-faults
+returns-clause-faults g c = c.loop-delivery.invariant.faults
+
+pub returns-clause-was_honest : goal.returns-clause-was_honest
+returns-clause-was_honest g c = λ h. c.loop-delivery.invariant.was_honest h
+
+pub returns-clause-same_terms : goal.returns-clause-same_terms
+returns-clause-same_terms g c = λ h. c.loop-delivery.invariant.same_terms h
+
+pub returns-clause-refused : goal.returns-clause-refused
+returns-clause-refused g c = tt

@@ -1,4 +1,4 @@
-use Rattle.std.proofs.Common.{rules, List, true, length, arith, ap, sym, subst}
+use Rattle.std.proofs.Common.{rules, List, true, length, arith, ap, sym, subst, refl}
 use Rattle.sqlite.specs.Held.{state}
 use Rattle.s10_history.specs.declared.entry.Entry.{Entry}
 use Rattle.s10_history.specs.History.{day_of}
@@ -35,3 +35,21 @@ returns-in-Err-clause-was_refused c = search rules
 
 pub returns-in-Err-clause-kept : goal.returns-in-Err-clause-kept
 returns-in-Err-clause-kept c = search rules
+
+pub returns-clause-new : goal.returns-clause-new
+returns-clause-new g c = (refl, c.none.ensures)
+
+pub returns-clause-fresh : goal.returns-clause-fresh
+returns-clause-fresh g c = c.refusal_of.ensures.fresh c.in_default.is
+
+pub returns-clause-idle : goal.returns-clause-idle
+returns-clause-idle g c = c.make_ledger.ensures.settled.idle
+
+pub returns-clause-opened : goal.returns-clause-opened
+returns-clause-opened g c = λ clean. c.in_default-make_ledger.ensures.opened clean
+
+pub returns-clause-was : goal.returns-clause-was
+returns-clause-was g c = c.make_ledger.ensures.was
+
+pub returns-clause-committed : goal.returns-clause-committed
+returns-clause-committed g c = λ honest. c.make_ledger.ensures.settled.committed honest.clean honest.is_open

@@ -1,4 +1,4 @@
-use Rattle.std.proofs.Common.{rules, List, sym, subst}
+use Rattle.std.proofs.Common.{rules, List, sym, subst, refl}
 use Rattle.std.proofs.lemmas.List.{append-nil}
 use Rattle.s10_history.specs.declared.entry.Entry.{Entry}
 use Rattle.s10_book.specs.Rules.{IsLegal}
@@ -27,3 +27,45 @@ returns-in-Ok-clause-found g c = rw c.over.ensures (λ honest. c.in-Ok.ensures.f
 
 pub returns-in-Ok-clause-same : goal.returns-in-Ok-clause-same
 returns-in-Ok-clause-same g c = rw c.over.ensures (λ honest closed. c.in-Ok.ensures.same honest.clean honest.is_open closed)
+
+pub over-requires : goal.over-requires
+over-requires g c = record {
+  few = c.in-Ok.ensures.few;
+  settled = c.ledger_in.ensures.settled;
+  ledger = λ clean opened. c.in-Ok.ensures.ledger clean opened;
+  indexed = c.in-Ok.ensures.indexed;
+  opened = λ clean. c.in-Ok.ensures.opened clean;
+}
+
+pub returns-in-Ok-clause-new : goal.returns-in-Ok-clause-new
+returns-in-Ok-clause-new g c = rw c.over.ensures refl
+
+pub returns-in-Ok-clause-idle : goal.returns-in-Ok-clause-idle
+returns-in-Ok-clause-idle g c = rw c.over.ensures c.ledger_in.ensures.settled.idle
+
+pub returns-in-Ok-clause-opened : goal.returns-in-Ok-clause-opened
+returns-in-Ok-clause-opened g c = rw c.over.ensures (λ clean. c.in-Ok.ensures.opened clean)
+
+pub returns-in-Ok-clause-was : goal.returns-in-Ok-clause-was
+returns-in-Ok-clause-was g c = rw c.over.ensures c.ledger_in.ensures.was
+
+pub returns-in-Ok-clause-history : goal.returns-in-Ok-clause-history
+returns-in-Ok-clause-history g c = rw c.over.ensures (λ honest. c.in-Ok.ensures.history honest.clean honest.is_open)
+
+pub returns-in-Ok-clause-committed : goal.returns-in-Ok-clause-committed
+returns-in-Ok-clause-committed g c = rw c.over.ensures (λ honest. c.ledger_in.ensures.settled.committed honest.clean honest.is_open)
+
+pub returns-in-Ok-clause-none_pending : goal.returns-in-Ok-clause-none_pending
+returns-in-Ok-clause-none_pending g c = rw c.over.ensures refl
+
+pub returns-in-Err-clause-left_idle : goal.returns-in-Err-clause-left_idle
+returns-in-Err-clause-left_idle g c = c.ledger_in.ensures.settled.idle
+
+pub returns-in-Err-clause-was_refused : goal.returns-in-Err-clause-was_refused
+returns-in-Err-clause-was_refused g c = c.ledger_in.ensures.was
+
+pub returns-in-Err-clause-refused : goal.returns-in-Err-clause-refused
+returns-in-Err-clause-refused g c = λ clean opened. c.in-Err.ensures.refused clean opened
+
+pub returns-in-Err-clause-kept : goal.returns-in-Err-clause-kept
+returns-in-Err-clause-kept g c = λ clean opened. c.in-Err.ensures.kept clean opened

@@ -1,4 +1,4 @@
-use Rattle.std.proofs.Common.{◌≤◌, List, [], ◌∷◌, ◌++◌, length, ap, ◌∙◌, subst}
+use Rattle.std.proofs.Common.{◌≤◌, List, [], ◌∷◌, ◌++◌, length, refl, ap, ◌∙◌, subst}
 use Rattle.s10_wire.specs.declared.frame.Frame.{Frame}
 use Rattle.s10_history.specs.Settings.{Terms}
 use Rattle.s10_ends.specs.Server.{book_of}
@@ -22,3 +22,27 @@ returns-in-Faulted-clause-ok g c = λ h.
     rw c.in_ok-reserve.ensures.items
     (reached_fault (world_state_of g.B.Book.history g.B.Book.faults c.args.self.now) (g.B.Book.terms (book_of (server_of c.args.self.now))) c.args.bytes.now c.args.day c.in-Faulted.field-0 (g.B.Book.history now) (g.B.Book.faults now)
     (c.in-Faulted.ensures.served h) (c.in-Faulted.ensures.unchanged h) c.in-Faulted.ensures.faults)
+
+pub returns-in_err-reserve-clause-was_honest : goal.returns-in_err-reserve-clause-was_honest
+returns-in_err-reserve-clause-was_honest g c = λ h. h
+
+pub returns-in_err-reserve-clause-same_terms : goal.returns-in_err-reserve-clause-same_terms
+returns-in_err-reserve-clause-same_terms g c = λ h. refl
+
+pub returns-in-Reply-clause-was_honest : goal.returns-in-Reply-clause-was_honest
+returns-in-Reply-clause-was_honest g c = c.in-Reply.ensures.was_honest
+
+pub returns-in-Reply-clause-same_terms : goal.returns-in-Reply-clause-same_terms
+returns-in-Reply-clause-same_terms g c = c.in-Reply.ensures.same_terms
+
+pub returns-in-Dropped-clause-was_honest : goal.returns-in-Dropped-clause-was_honest
+returns-in-Dropped-clause-was_honest g c = c.in-Dropped.ensures.was_honest
+
+pub returns-in-Dropped-clause-same_terms : goal.returns-in-Dropped-clause-same_terms
+returns-in-Dropped-clause-same_terms g c = c.in-Dropped.ensures.same_terms
+
+pub returns-in-Faulted-clause-was_honest : goal.returns-in-Faulted-clause-was_honest
+returns-in-Faulted-clause-was_honest g c = c.in-Faulted.ensures.was_honest
+
+pub returns-in-Faulted-clause-same_terms : goal.returns-in-Faulted-clause-same_terms
+returns-in-Faulted-clause-same_terms g c = c.in-Faulted.ensures.same_terms

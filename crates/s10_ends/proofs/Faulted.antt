@@ -1,0 +1,20 @@
+-- A fault of the book, which the server tells under the same name.
+use Rattle.std.proofs.Common.{◌≡◌, Result, Ok, Err, subst}
+use Rattle.std.specs.Prelude.{IsErrAnd}
+use Rattle.s10_book.specs.declared.book_fault.BookFault.{BookFault}
+use Rattle.s10_book.specs.declared.book_fault.BookFault.TheVariants.{Memory, Store, Full}
+use Rattle.s10_book.specs.declared.faults.Faults.{Faults}
+use Rattle.s10_book.specs.BookFault.{CountsFault, FaultCounts}
+
+pub told_counts : (fault : BookFault) (before after : Faults) → FaultCounts fault before after → CountsFault fault before after
+told_counts Memory before after it = it
+told_counts Store before after it = it
+told_counts Full before after it = absurd it
+
+-- no call of the book answers Full
+pub never_full : {T : Type 0} (r : Result T BookFault) (fault : BookFault) (before after : Faults) → IsErrAnd r (λ e. e ≡ fault) → FaultCounts fault before after → r ≡ Err Full → ⊥
+never_full (Ok x) fault before after passed counts full = absurd passed
+never_full (Err e) fault before after passed counts full =
+    let is : e ≡ fault = passed in
+    let same : fault ≡ Full = cc in
+    subst (λ (f : BookFault). FaultCounts f before after) same counts
