@@ -6,6 +6,8 @@ mod answers;
 #[cfg(test)]
 mod books;
 #[cfg(test)]
+mod expect;
+#[cfg(test)]
 mod failures;
 #[cfg(test)]
 mod in_a_row;

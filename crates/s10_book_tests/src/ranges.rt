@@ -1,29 +1,29 @@
 //! How many serials a range has, and which it gives in turn.
 
 use crate::books::{gb, ra, serial};
+use crate::expect::holds_at;
 use s10_history::Range;
-use std::test::Fail;
 
-fn range(first: u32, last: u32) -> Result<Range, &'static str> {
-    Ok(Range {
+fn range(first: u32, last: u32) -> Range {
+    Range {
         num: 1,
         holder: 7,
-        service: ra()?,
-        country: gb()?,
-        first: serial(first)?,
-        last: serial(last)?,
-    })
+        service: ra(),
+        country: gb(),
+        first: serial(first),
+        last: serial(last),
+    }
 }
 
 /// The serial so many behind that one, where a range has that one and more serials than so many.
-fn behind(first: u32, last: u32, from: u32, count: u8) -> Result<Option<u32>, &'static str> {
-    let range = range(first, last)?;
-    let from = serial(from)?;
+fn behind(first: u32, last: u32, from: u32, count: u8) -> Option<u32> {
+    let range = range(first, last);
+    let from = serial(from);
     let is_own = range.first.value() <= from.value() && from.value() <= range.last.value();
     if is_own && u32::from(count) < range.size() {
-        Ok(Some(range.serial_behind(from, count).value()))
+        Some(range.serial_behind(from, count).value())
     } else {
-        Ok(None)
+        None
     }
 }
 
@@ -36,11 +36,10 @@ const SIZES: &[(u32, u32, u32)] = &[
 ];
 
 #[test]
-fn a_range_has_its_last_serial_too(rt: HostRuntime) -> Result<(), Fail> {
-    for (first, last, size) in SIZES {
-        assert!(rt; range(*first, *last)?.size() == *size, "{first} to {last}");
+fn a_range_has_its_last_serial_too(rt: HostRuntime) {
+    for (at, (first, last, size)) in SIZES.iter().enumerate() {
+        holds_at(&rt, at, range(*first, *last).size() == *size);
     }
-    Ok(())
 }
 
 /// The first serial of a range, its last one, one of them, so many, and the serial that stands so many behind that one.
@@ -62,13 +61,9 @@ const BEHIND: &[(u32, u32, u32, u8, u32)] = &[
 ];
 
 #[test]
-fn behind_its_last_serial_a_range_gives_its_first(rt: HostRuntime) -> Result<(), Fail> {
-    for row in BEHIND {
-        let (first, last, from, count, serial) = *row;
-        assert!(rt;
-            behind(first, last, from, count)? == Some(serial),
-            "{row:?}"
-        );
+fn behind_its_last_serial_a_range_gives_its_first(rt: HostRuntime) {
+    for (at, (first, last, from, count, serial)) in BEHIND.iter().enumerate() {
+        let found = behind(*first, *last, *from, *count);
+        holds_at(&rt, at, found == Some(*serial));
     }
-    Ok(())
 }

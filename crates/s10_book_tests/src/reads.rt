@@ -1,20 +1,21 @@
-use crate::books::{Asked, NINE_CALLS, book_after, gb, go_on, id, ra, request, serial};
+//! What the reads of a book answer.
+
+use crate::books::{Asked, SIX_CALLS, THREE_MORE, book_after, gb, go_on, id, ra, request, serial};
 use s10_book::{Book, PlainBook};
 use s10_history::{Block, Candidate, Entry, Holding, Issuance, Issue, Range, Usage};
 use s10_wire::Outcome;
 use std::process::Abort;
-use std::test::Fail;
 
 /// The range of the opening.
-fn first_range() -> Result<Range, &'static str> {
-    Ok(Range {
+fn first_range() -> Range {
+    Range {
         num: 1,
         holder: 7,
-        service: ra()?,
-        country: gb()?,
-        first: serial(0)?,
-        last: serial(2)?,
-    })
+        service: ra(),
+        country: gb(),
+        first: serial(0),
+        last: serial(2),
+    }
 }
 
 fn issue(day: u32, voided: bool, number: u32) -> Issue {
@@ -27,15 +28,15 @@ fn issue(day: u32, voided: bool, number: u32) -> Issue {
 }
 
 /// The sixth call: a Draw of the last serial.
-fn sixth() -> Result<Entry, &'static str> {
-    Ok(Entry {
-        request: request(7, 5, Asked::Draw)?,
+fn sixth() -> Entry {
+    Entry {
+        request: request(7, 5, Asked::Draw),
         day: 20000,
         outcome: Outcome::Drawn {
             day: 20000,
-            id: id(2)?,
+            id: id(2),
         },
-    })
+    }
 }
 
 /// The usage of the book's first range: used, voided and free.
@@ -60,8 +61,8 @@ fn is_used(book: &mut PlainBook, day: u32, used: u32, voided: u32, free: u32) ->
 }
 
 /// Whether serial 1 was issued last so.
-fn was_last_issued(book: &mut PlainBook, issue: Issue) -> Result<bool, &'static str> {
-    Ok(book.last_issue(&id(1)?) == Ok(Some(issue)))
+fn was_last_issued(book: &mut PlainBook, issue: Issue) -> bool {
+    book.last_issue(&id(1)) == Ok(Some(issue))
 }
 
 /// Whether the call of customer and number is this.
@@ -75,49 +76,36 @@ fn holds(book: &mut PlainBook, at: u32, entry: Option<Entry>) -> bool {
 }
 
 /// Whether range 1 is the first, there is no other, and customer 7 holds it alone.
-fn has_one_range(book: &mut PlainBook) -> Result<bool, &'static str> {
-    let range = first_range()?;
+fn has_one_range(book: &mut PlainBook) -> bool {
     let held = Holding {
         holder: 7,
-        service: ra()?,
-        country: gb()?,
+        service: ra(),
+        country: gb(),
     };
-    Ok(
-        book.range(1) == Ok(Some(range))
-            && book.range(2) == Ok(None)
-            && book.next_range(&held, 0) == Ok(Some(range))
-            && book.next_range(&held, 1) == Ok(None),
-    )
+    book.range(1) == Ok(Some(first_range()))
+        && book.range(2) == Ok(None)
+        && book.next_range(&held, 0) == Ok(Some(first_range()))
+        && book.next_range(&held, 1) == Ok(None)
 }
 
 /// Whether the range found over these serials is this.
-fn has_over(
-    book: &mut PlainBook,
-    first: u32,
-    last: u32,
-    range: Option<Range>,
-) -> Result<bool, &'static str> {
+fn has_over(book: &mut PlainBook, first: u32, last: u32, range: Option<Range>) -> bool {
     let block = Block {
-        service: ra()?,
-        country: gb()?,
-        first: serial(first)?,
-        last: serial(last)?,
+        service: ra(),
+        country: gb(),
+        first: serial(first),
+        last: serial(last),
     };
-    Ok(book.covering(&block) == Ok(range))
+    book.covering(&block) == Ok(range)
 }
 
 /// Whether the first range gives this serial next, which was issued last so.
-fn gives_next(book: &mut PlainBook, value: u32, issue: Issue) -> Result<bool, &'static str> {
+fn gives_next(book: &mut PlainBook, value: u32, issue: Issue) -> bool {
     let candidate = Candidate {
-        serial: serial(value)?,
+        serial: serial(value),
         issue: Some(issue),
     };
-    Ok(candidate_of_first(book) == Some(candidate))
-}
-
-/// Whether the range of the book of six calls is used up, and serial 1 is voided.
-fn is_of_six_calls(book: &mut PlainBook) -> Result<bool, &'static str> {
-    Ok(was_last_issued(book, issue(20000, true, 2))? && is_used(book, 20000, 3, 1, 0))
+    candidate_of_first(book) == Some(candidate)
 }
 
 /// Whether the book is that of nine calls, the last on day 20030.
@@ -126,71 +114,52 @@ fn is_of_nine_calls(book: &PlainBook) -> bool {
     book.len() == 9 && book.day() == 20030 && settings.interval() == 30 && settings.limit() == 100
 }
 
-/// Whether the last of the nine calls issued serial 1 again, and serial 2 is next.
-fn has_issues_of_nine_calls(book: &mut PlainBook) -> Result<bool, &'static str> {
-    Ok(
-        was_last_issued(book, issue(20030, false, 8))?
-            && gives_next(book, 2, issue(20000, false, 5))?,
-    )
-}
-
 fn usages_are_read(rt: &impl Abort, book: &mut PlainBook) {
-    for (day, free) in [(0, 1), (20030, 1), (20059, 1), (20060, 3)] {
-        assert!(rt; is_used(book, day, 3, 0, free), "on {day}");
-    }
+    assert!(rt; is_used(book, 0, 3, 0, 1));
+    assert!(rt; is_used(book, 20030, 3, 0, 1));
+    assert!(rt; is_used(book, 20059, 3, 0, 1));
+    assert!(rt; is_used(book, 20060, 3, 0, 3));
 }
 
-fn calls_are_found(rt: &impl Abort, book: &mut PlainBook) -> Result<(), &'static str> {
-    for (customer, number, entry) in [(7, 5, Some(sixth()?)), (5, 7, None)] {
-        assert!(rt; finds(book, customer, number, entry), "number {number}");
-    }
-    Ok(())
+fn calls_are_read(rt: &impl Abort, book: &mut PlainBook) {
+    assert!(rt; finds(book, 7, 5, Some(sixth())));
+    assert!(rt; finds(book, 5, 7, None));
+    assert!(rt; holds(book, 6, Some(sixth())));
+    assert!(rt; holds(book, 0, None));
+    assert!(rt; holds(book, 10, None));
 }
 
-fn calls_are_read(rt: &impl Abort, book: &mut PlainBook) -> Result<(), &'static str> {
-    for (at, entry) in [(6, Some(sixth()?)), (0, None), (10, None)] {
-        assert!(rt; holds(book, at, entry), "at {at}");
-    }
-    Ok(())
-}
-
-fn ranges_are_found(rt: &impl Abort, book: &mut PlainBook) -> Result<(), &'static str> {
-    let range = first_range()?;
-    for (first, last, found) in [(2, 5, Some(range)), (3, 5, None), (2, 1, None)] {
-        assert!(rt; has_over(book, first, last, found)?, "{first} to {last}");
-    }
-    Ok(())
-}
-
-/// The book of nine calls has their usages, calls, ranges and issues.
-fn nine_calls_are_read(rt: &impl Abort, book: &mut PlainBook) -> Result<(), &'static str> {
-    usages_are_read(rt, book);
-    calls_are_found(rt, book)?;
-    calls_are_read(rt, book)?;
-    ranges_are_found(rt, book)?;
-    assert!(rt; is_of_nine_calls(book) && has_one_range(book)? && has_issues_of_nine_calls(book)?);
-    Ok(())
+/// The last of the nine calls issued serial 1 again, and serial 2 is next.
+fn ranges_are_read(rt: &impl Abort, book: &mut PlainBook) {
+    assert!(rt; has_over(book, 2, 5, Some(first_range())));
+    assert!(rt; has_over(book, 3, 5, None));
+    assert!(rt; has_over(book, 2, 1, None));
+    assert!(rt; has_one_range(book));
+    assert!(rt; was_last_issued(book, issue(20030, false, 8)));
+    assert!(rt; gives_next(book, 2, issue(20000, false, 5)));
 }
 
 #[test]
-fn reads_answer_from_the_kept_calls(rt: HostRuntime) -> Result<(), Fail> {
-    let calls = &NINE_CALLS[..];
-    let mut book = book_after(&rt, "six calls", 100, &calls[..6])?;
-    assert!(rt; is_of_six_calls(&mut book)?);
-    go_on(&rt, "three more", &mut book, &calls[6..])?;
-    nine_calls_are_read(&rt, &mut book)?;
-    Ok(())
+fn reads_answer_from_the_kept_calls(rt: HostRuntime) {
+    let mut book = book_after(&rt, "six calls", SIX_CALLS);
+    assert!(rt; was_last_issued(&mut book, issue(20000, true, 2)));
+    assert!(rt; is_used(&mut book, 20000, 3, 1, 0));
+    go_on(&rt, "three more", &mut book, THREE_MORE);
+    assert!(rt; is_of_nine_calls(&book));
+    usages_are_read(&rt, &mut book);
+    calls_are_read(&rt, &mut book);
+    ranges_are_read(&rt, &mut book);
 }
 
 /// The one issue of the sixth call.
-fn sixth_issue() -> Result<Issuance, &'static str> {
-    Ok(Issuance {
-        id: id(2)?,
+fn sixth_issue() -> Issuance {
+    Issuance {
+        id: id(2),
         day: 20000,
         customer: 7,
         number: 5,
         arrival: 6,
-    })
+    }
 }
 
 /// Whether a call made this issue alone as call number 6.
@@ -204,13 +173,12 @@ fn made_none(entry: &Entry) -> bool {
 }
 
 #[test]
-fn a_done_draw_made_one_issue_and_a_refused_one_none(rt: HostRuntime) -> Result<(), Fail> {
-    let drawn = sixth()?;
+fn a_done_draw_made_one_issue_and_a_refused_one_none(rt: HostRuntime) {
+    let drawn = sixth();
     let refused = Entry {
         outcome: Outcome::NoneFree,
         ..drawn
     };
-    assert!(rt; made_one(&drawn, sixth_issue()?));
+    assert!(rt; made_one(&drawn, sixth_issue()));
     assert!(rt; made_none(&refused));
-    Ok(())
 }

@@ -1,16 +1,15 @@
 //! The two reports.
 
-use crate::books::Answered::{Drawn, DrawnMany, Other};
+use crate::books::Answered::{Drawn, DrawnMany, Granted, Voided, Withdrawn};
 use crate::books::Asked::{Draw, DrawMany, Grant, Void, Withdraw};
-use crate::books::{NINE_CALLS, OPENING, book_after};
+use crate::books::{NINE_CALLS, OPENING, SIX_CALLS, Step, book_after};
+use crate::expect::same;
 use s10_book::{Book, BookFault, PlainBook, TripBook};
 use s10_reports::{ReportFault, write_issues, write_ranges};
-use s10_wire::Outcome;
 use std::alloc::Global;
 use std::io;
 use std::io::Write;
 use std::process::Abort;
-use std::test::Fail;
 
 const NO_RANGES: &[u8] = b"range customer service country first last used voided free\n";
 
@@ -47,80 +46,74 @@ const SHEETS_ISSUES: &[u8] = b"arrival day customer number identifier state\n\
 3 20030 7 2 RA000000028GB issued\n\
 3 20030 7 2 RA000000005GB voided\n";
 
-/// A book of one range of three serials, each drawn, two of them drawn again on the thirtieth day.
-fn book_of_nine_calls<R: Abort + AllocGlobal>(rt: &R) -> Result<PlainBook, Fail> {
-    book_after(rt, "nine calls", 100, &NINE_CALLS)
+/// Writes the report of a book's ranges on a day, or that of its issues where no day is named.
+fn write_report<B: Book, W: Write>(
+    book: &mut B,
+    day: Option<u32>,
+    out: &mut W,
+) -> Result<(), ReportFault> {
+    match day {
+        Some(day) => write_ranges(book, day, out),
+        None => write_issues(book, out),
+    }
 }
 
-/// Whether this is the report of the book's ranges on a day.
-fn reports_ranges<B: Book>(alloc: Global, book: &mut B, day: u32, report: &[u8]) -> bool {
+/// Whether this is that report.
+fn reports(alloc: Global, book: &mut PlainBook, day: Option<u32>, report: &[u8]) -> bool {
     let mut out = Vec::new(alloc);
-    write_ranges(book, day, &mut out) == Ok(()) && out.as_slice() == report
-}
-
-/// Whether this is the report of the book's issues.
-fn reports_issues<B: Book>(alloc: Global, book: &mut B, report: &[u8]) -> bool {
-    let mut out = Vec::new(alloc);
-    write_issues(book, &mut out) == Ok(()) && out.as_slice() == report
+    write_report(book, day, &mut out) == Ok(()) && out.as_slice() == report
 }
 
 #[test]
-fn reports_are_as_worked_by_hand(rt: HostRuntime) -> Result<(), Fail> {
-    let mut book = book_of_nine_calls(&rt)?;
-    assert!(rt; reports_ranges(rt.alloc(), &mut book, 20030, RANGES));
-    assert!(rt; reports_issues(rt.alloc(), &mut book, ISSUES));
-    Ok(())
+fn reports_are_as_worked_by_hand(rt: HostRuntime) {
+    let mut book = book_after(&rt, "nine calls", NINE_CALLS);
+    assert!(rt; reports(rt.alloc(), &mut book, Some(20030), RANGES));
+    assert!(rt; reports(rt.alloc(), &mut book, None, ISSUES));
 }
 
 #[test]
-fn a_voided_identifier_is_counted_and_named(rt: HostRuntime) -> Result<(), Fail> {
-    let mut book = book_after(&rt, "six calls", 100, &NINE_CALLS[..6])?;
-    assert!(rt; reports_ranges(rt.alloc(), &mut book, 20000, SIX_CALLS_RANGES));
-    assert!(rt; reports_issues(rt.alloc(), &mut book, SIX_CALLS_ISSUES));
-    Ok(())
+fn a_voided_identifier_is_counted_and_named(rt: HostRuntime) {
+    let mut book = book_after(&rt, "six calls", SIX_CALLS);
+    assert!(rt; reports(rt.alloc(), &mut book, Some(20000), SIX_CALLS_RANGES));
+    assert!(rt; reports(rt.alloc(), &mut book, None, SIX_CALLS_ISSUES));
+}
+
+/// Two sheets, and a Void of what is on both.
+const TWO_SHEETS: &'static [Step] = &[
+    OPENING,
+    (7, 1, DrawMany(2), 20000, DrawnMany(20000, (0, 2), (0, 0))),
+    (7, 2, DrawMany(2), 20030, DrawnMany(20030, (2, 3), (0, 1))),
+    (7, 3, Void(0), 20030, Voided),
+];
+
+#[test]
+fn a_sheet_has_a_line_for_each_identifier(rt: HostRuntime) {
+    let mut book = book_after(&rt, "two sheets", TWO_SHEETS);
+    assert!(rt; reports(rt.alloc(), &mut book, Some(20030), SHEETS_RANGES));
+    assert!(rt; reports(rt.alloc(), &mut book, None, SHEETS_ISSUES));
+}
+
+/// A range is closed, and another granted behind it.
+const CLOSED_RANGE: &'static [Step] = &[
+    OPENING,
+    (7, 1, Draw, 20000, Drawn(20000, 0)),
+    (0, 2, Withdraw(1), 20000, Withdrawn),
+    (7, 2, Void(0), 20000, Voided),
+    (0, 3, Grant(8, 3, 3), 20000, Granted(2)),
+];
+
+#[test]
+fn the_line_of_a_closed_range_says_so(rt: HostRuntime) {
+    let mut book = book_after(&rt, "a closed range", CLOSED_RANGE);
+    assert!(rt; reports(rt.alloc(), &mut book, Some(20000), CLOSED_RANGES));
 }
 
 #[test]
-fn a_sheet_has_a_line_for_each_identifier(rt: HostRuntime) -> Result<(), Fail> {
-    let steps = [
-        OPENING,
-        (7, 1, DrawMany(2), 20000, DrawnMany(20000, (0, 2), (0, 0))),
-        (7, 2, DrawMany(2), 20030, DrawnMany(20030, (2, 3), (0, 1))),
-        (7, 3, Void(0), 20030, Other(Outcome::Voided)),
-    ];
-    let mut book = book_after(&rt, "two sheets", 100, &steps)?;
-    assert!(rt; reports_ranges(rt.alloc(), &mut book, 20030, SHEETS_RANGES));
-    assert!(rt; reports_issues(rt.alloc(), &mut book, SHEETS_ISSUES));
-    Ok(())
-}
-
-#[test]
-fn the_line_of_a_closed_range_says_so(rt: HostRuntime) -> Result<(), Fail> {
-    let steps = [
-        OPENING,
-        (7, 1, Draw, 20000, Drawn(20000, 0)),
-        (0, 2, Withdraw(1), 20000, Other(Outcome::Withdrawn)),
-        (7, 2, Void(0), 20000, Other(Outcome::Voided)),
-        (
-            0,
-            3,
-            Grant(8, 3, 3),
-            20000,
-            Other(Outcome::Granted { range: 2 }),
-        ),
-    ];
-    let mut book = book_after(&rt, "a closed range", 100, &steps)?;
-    assert!(rt; reports_ranges(rt.alloc(), &mut book, 20000, CLOSED_RANGES));
-    Ok(())
-}
-
-#[test]
-fn an_empty_ledger_has_headers_alone(rt: HostRuntime) -> Result<(), Fail> {
-    let mut book = book_after(&rt, "empty", 100, &[])?;
-    assert!(rt; reports_ranges(rt.alloc(), &mut book, 20000, NO_RANGES));
-    let mut book = book_after(&rt, "one grant", 100, &[OPENING])?;
-    assert!(rt; reports_issues(rt.alloc(), &mut book, NO_ISSUES));
-    Ok(())
+fn an_empty_ledger_has_headers_alone(rt: HostRuntime) {
+    let mut book = book_after(&rt, "empty", &[]);
+    assert!(rt; reports(rt.alloc(), &mut book, Some(20000), NO_RANGES));
+    let mut book = book_after(&rt, "one grant", &[OPENING]);
+    assert!(rt; reports(rt.alloc(), &mut book, None, NO_ISSUES));
 }
 
 /// Whether a text ends where a line of the whole ends.
@@ -128,46 +121,35 @@ fn is_of_whole_lines(text: &[u8], whole: &[u8]) -> bool {
     whole.starts_with(text) && (text.is_empty() || text.ends_with(b"\n"))
 }
 
-/// Whether a report of issues stops at this call of the book, after whole lines.
-fn stops_in_issues(alloc: Global, book: PlainBook, at: u64) -> bool {
+/// Whether a report stops at this call of the book, after whole lines.
+fn stops(alloc: Global, book: PlainBook, at: u64, day: Option<u32>, whole: &[u8]) -> bool {
     let mut book = TripBook::new(book, at);
     let mut out = Vec::new(alloc);
-    write_issues(&mut book, &mut out) == Err(ReportFault::Book(BookFault::Store))
-        && is_of_whole_lines(out.as_slice(), ISSUES)
+    write_report(&mut book, day, &mut out) == Err(ReportFault::Book(BookFault::Store))
+        && is_of_whole_lines(out.as_slice(), whole)
 }
 
-/// Whether a report of ranges stops at this call of the book, after whole lines.
-fn stops_in_ranges(alloc: Global, book: PlainBook, at: u64) -> bool {
-    let mut book = TripBook::new(book, at);
-    let mut out = Vec::new(alloc);
-    write_ranges(&mut book, 20030, &mut out) == Err(ReportFault::Book(BookFault::Store))
-        && is_of_whole_lines(out.as_slice(), RANGES)
-}
-
-fn reports_of_issues_stop<R: Abort + AllocGlobal>(rt: &R) -> Result<(), Fail> {
-    for at in 0..14u64 {
-        let book = book_of_nine_calls(rt)?;
-        assert!(rt; stops_in_issues(rt.alloc(), book, at), "at {at}");
+/// The first call of the book, of the nine calls, at which a report does not stop: it makes no more.
+fn first_passed_over<R: Abort + AllocGlobal>(rt: &R, day: Option<u32>, whole: &[u8]) -> u64 {
+    for at in 0..100u64 {
+        let book = book_after(rt, "nine calls", NINE_CALLS);
+        if !stops(rt.alloc(), book, at, day, whole) {
+            return at;
+        }
     }
-    // So many calls of the book the report makes, and no more.
-    assert!(rt; !stops_in_issues(rt.alloc(), book_of_nine_calls(rt)?, 14));
-    Ok(())
+    100
 }
 
-fn reports_of_ranges_stop<R: Abort + AllocGlobal>(rt: &R) -> Result<(), Fail> {
-    for at in 0..4u64 {
-        let book = book_of_nine_calls(rt)?;
-        assert!(rt; stops_in_ranges(rt.alloc(), book, at), "at {at}");
-    }
-    // So many calls of the book the report makes, and no more.
-    assert!(rt; !stops_in_ranges(rt.alloc(), book_of_nine_calls(rt)?, 4));
-    Ok(())
-}
-
+// The report of issues makes so many calls of the book, and that of ranges.
 #[test]
-fn a_book_that_fails_leaves_whole_lines(rt: HostRuntime) -> Result<(), Fail> {
-    reports_of_issues_stop(&rt)?;
-    reports_of_ranges_stop(&rt)
+fn a_book_that_fails_leaves_whole_lines(rt: HostRuntime) {
+    same(&rt, "issues", &first_passed_over(&rt, None, ISSUES), &14);
+    same(
+        &rt,
+        "ranges",
+        &first_passed_over(&rt, Some(20030), RANGES),
+        &4,
+    );
 }
 
 /// A writer that takes so many bytes, then fails once, and from then on takes all.
@@ -207,53 +189,53 @@ impl Hiccup {
     }
 }
 
-/// Whether a report that a writer could not take whole is its beginning up to where the writer failed.
-fn is_cut(answer: Result<(), ReportFault>, out: &Hiccup, report: &[u8], room: usize) -> bool {
-    room < report.len()
+/// Whether a report on a writer that cannot take it whole is its beginning up to where the writer failed.
+fn is_cut(
+    alloc: Global,
+    book: &mut PlainBook,
+    room: usize,
+    day: Option<u32>,
+    whole: &[u8],
+) -> bool {
+    let mut out = Hiccup::new(alloc, room);
+    let answer = write_report(book, day, &mut out);
+    room < whole.len()
         && answer == Err(ReportFault::Write)
-        && out.bytes.as_slice() == &report[..room]
+        && out.bytes.as_slice() == &whole[..room]
 }
 
-fn is_cut_report_of_issues(alloc: Global, book: &mut PlainBook, room: usize) -> bool {
-    let mut out = Hiccup::new(alloc, room);
-    let answer = write_issues(book, &mut out);
-    is_cut(answer, &out, ISSUES, room)
-}
-
-fn is_cut_report_of_ranges(alloc: Global, book: &mut PlainBook, room: usize) -> bool {
-    let mut out = Hiccup::new(alloc, room);
-    let answer = write_ranges(book, 20030, &mut out);
-    is_cut(answer, &out, RANGES, room)
-}
-
-fn reports_of_issues_are_cut(rt: &impl Abort, alloc: Global, book: &mut PlainBook) {
-    for room in 0..ISSUES.len() {
-        assert!(rt; is_cut_report_of_issues(alloc, book, room), "{room} bytes");
+/// How many bytes a writer has room for at least that takes a report whole.
+fn first_uncut(alloc: Global, book: &mut PlainBook, day: Option<u32>, whole: &[u8]) -> usize {
+    for room in 0..whole.len() {
+        if !is_cut(alloc, book, room, day, whole) {
+            return room;
+        }
     }
+    whole.len()
 }
 
-fn reports_of_ranges_are_cut(rt: &impl Abort, alloc: Global, book: &mut PlainBook) {
-    for room in 0..RANGES.len() {
-        assert!(rt; is_cut_report_of_ranges(alloc, book, room), "{room} bytes");
+/// Whether a fault is written as this text.
+fn has_text(alloc: Global, fault: ReportFault, text: &str) -> bool {
+    match fault.to_string(alloc) {
+        Ok(found) => found.as_str() == text,
+        Err(_) => false,
     }
-}
-
-fn faults_have_their_texts(rt: &impl Abort, alloc: Global) -> Result<(), Fail> {
-    for (fault, text) in [
-        (ReportFault::Book(BookFault::Memory), "book: memory"),
-        (ReportFault::Write, "the report could not be written"),
-    ] {
-        assert_eq!(rt; format!(in alloc; "{fault}")?.as_str(), text);
-    }
-    Ok(())
 }
 
 #[test]
-fn a_writer_that_fails_once_has_got_the_beginning_of_the_report(
-    rt: HostRuntime,
-) -> Result<(), Fail> {
-    let mut book = book_of_nine_calls(&rt)?;
-    reports_of_issues_are_cut(&rt, rt.alloc(), &mut book);
-    reports_of_ranges_are_cut(&rt, rt.alloc(), &mut book);
-    faults_have_their_texts(&rt, rt.alloc())
+fn a_writer_that_fails_once_has_got_the_beginning_of_the_report(rt: HostRuntime) {
+    let mut book = book_after(&rt, "nine calls", NINE_CALLS);
+    let uncut = first_uncut(rt.alloc(), &mut book, None, ISSUES);
+    same(&rt, "issues", &uncut, &ISSUES.len());
+    let uncut = first_uncut(rt.alloc(), &mut book, Some(20030), RANGES);
+    same(&rt, "ranges", &uncut, &RANGES.len());
+    let memory = ReportFault::Book(BookFault::Memory);
+    assert!(rt; has_text(rt.alloc(), memory, "book: memory"));
+    assert!(rt;
+        has_text(
+            rt.alloc(),
+            ReportFault::Write,
+            "the report could not be written"
+        )
+    );
 }

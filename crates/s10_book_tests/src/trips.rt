@@ -1,16 +1,16 @@
 //! Which call of a book that fails once is the one that fails.
 
-use crate::books::{OPENING, answer, empty_book, first_unlike, id};
+use crate::books::{OPENING, answer, empty_book, first_unlike, id, sheet};
+use crate::expect::same;
 use s10_book::{Book, BookFault, Settle, TripBook, decide, draws_in_a_row};
 use s10_core::Id;
 use s10_history::{Block, Holding};
 use s10_reports::{ReportFault, write_ranges};
-use s10_wire::{Body, Count, Request};
+use s10_wire::{Body, Request};
 use std::alloc::Global;
-use std::test::Fail;
 
 /// What a book is asked.
-#[derive(Clone, Copy, Debug)]
+#[derive(Clone, Copy)]
 enum Question {
     Find,
     Entry,
@@ -33,21 +33,21 @@ enum Question {
     Keep,
 }
 
-/// Each question, and how many calls of the book it takes.
-const QUESTIONS: &[(Question, u64)] = &[
-    (Question::Find, 1),
-    (Question::Entry, 1),
-    (Question::Range, 1),
-    (Question::Closed, 1),
-    (Question::NextRange, 1),
-    (Question::Covering, 1),
-    (Question::LastIssue, 1),
-    (Question::Settle, 1),
-    (Question::Candidate, 2),
-    (Question::Sheet, 2),
-    (Question::Usage, 3),
-    (Question::Withdraw, 2),
-    (Question::Keep, 4),
+/// Each question by its name, and how many calls of the book it takes.
+const QUESTIONS: &[(&str, Question, u64)] = &[
+    ("find", Question::Find, 1),
+    ("entry", Question::Entry, 1),
+    ("range", Question::Range, 1),
+    ("closed", Question::Closed, 1),
+    ("next range", Question::NextRange, 1),
+    ("covering", Question::Covering, 1),
+    ("last issue", Question::LastIssue, 1),
+    ("settle", Question::Settle, 1),
+    ("candidate", Question::Candidate, 2),
+    ("sheet", Question::Sheet, 2),
+    ("usage", Question::Usage, 3),
+    ("withdraw", Question::Withdraw, 2),
+    ("keep", Question::Keep, 4),
 ];
 
 fn asked(customer: u32, number: u32, body: Body) -> Request {
@@ -104,10 +104,8 @@ fn report<B: Book>(alloc: Global, book: &mut B) -> Result<(), BookFault> {
 }
 
 fn sheet_of_one<B: Book>(book: &mut B, id: &Id) -> Result<(), BookFault> {
-    if let Some(one) = Count::new(1) {
-        draws_in_a_row(book, 7, id.service, id.country, one, 20_000)?;
-    }
-    Ok(())
+    let one = sheet(1);
+    told(draws_in_a_row(book, 7, id.service, id.country, one, 20_000))
 }
 
 fn ask<B: Settle>(
@@ -151,50 +149,39 @@ fn is_refused<B: Settle>(
 
 /// Which of two questions of a kind, and of a third one of a single call, a book refuses that fails at one of its calls,
 /// counted from 0.
-fn refused(alloc: Global, question: Question, at: u64) -> Result<Option<[bool; 3]>, Fail> {
-    let mut inner = empty_book(alloc, 100)?;
-    if first_unlike(&mut inner, &[OPENING])?.is_some() {
-        return Ok(None);
+fn refused(alloc: Global, question: Question, at: u64) -> Option<[bool; 3]> {
+    let mut inner = empty_book(alloc, 100);
+    if first_unlike(&mut inner, &[OPENING]).is_some() {
+        return None;
     }
     let mut book = TripBook::new(inner, at);
-    let id = id(0)?;
+    let id = id(0);
     let first = is_refused(alloc, &mut book, question, &id, 2);
     let second = is_refused(alloc, &mut book, question, &id, 3);
     let third = is_refused(alloc, &mut book, Question::Entry, &id, 4);
-    Ok(match (first, second, third) {
+    match (first, second, third) {
         (Some(first), Some(second), Some(third)) => Some([first, second, third]),
         _ => None,
-    })
+    }
 }
 
-/// Whether a book that fails at one of its calls, counted from 0, refuses that one of the questions that makes it, where a
-/// question of the kind makes so many.
-fn is_refused_in_turn(
-    alloc: Global,
-    question: Question,
-    calls: u64,
-    at: u64,
-) -> Result<bool, Fail> {
+/// The first call, counted from 0, that is not refused in turn, if any, where a question of the kind makes so many: a book that
+/// fails at one of its calls refuses that one of the questions that makes it.
+fn first_passed_over(alloc: Global, question: Question, calls: u64) -> Option<u64> {
     let both = calls.saturating_mul(2);
-    let expected = [at < calls, calls <= at && at < both, at == both];
-    Ok(refused(alloc, question, at)? == Some(expected))
-}
-
-/// The first call, counted from 0, that is not refused in turn, if any.
-fn first_passed_over(alloc: Global, question: Question, calls: u64) -> Result<Option<u64>, Fail> {
-    for at in 0..calls.saturating_mul(2).saturating_add(2) {
-        if !is_refused_in_turn(alloc, question, calls, at)? {
-            return Ok(Some(at));
+    for at in 0..both.saturating_add(2) {
+        let expected = [at < calls, calls <= at && at < both, at == both];
+        if refused(alloc, question, at) != Some(expected) {
+            return Some(at);
         }
     }
-    Ok(None)
+    None
 }
 
 #[test]
-fn each_call_of_the_book_is_counted_and_fails_in_its_turn(rt: HostRuntime) -> Result<(), Fail> {
-    for (question, calls) in QUESTIONS {
-        let passed_over = first_passed_over(rt.alloc(), *question, *calls)?;
-        assert!(rt; passed_over.is_none(), "{question:?} at {passed_over:?}");
+fn each_call_of_the_book_is_counted_and_fails_in_its_turn(rt: HostRuntime) {
+    for (name, question, calls) in QUESTIONS {
+        let passed_over = first_passed_over(rt.alloc(), *question, *calls);
+        same(&rt, name, &passed_over, &None);
     }
-    Ok(())
 }

@@ -1,5 +1,6 @@
 //! What command lines ask of the program itself.
 
+use crate::expect::holds;
 use s10_cli::{parse_job, run_line};
 use std::alloc::Global;
 use std::test::Fail;
@@ -141,123 +142,125 @@ fn is_left_to_the_program<R: Eprint + AllocGlobal>(
 #[test]
 fn what_needs_files_or_sockets_is_left_to_the_program(rt: HostRuntime) -> Result<(), Fail> {
     for (words, job) in LINES.iter().zip(JOBS.iter()) {
-        assert!(rt; is_left_to_the_program(&rt, words, job)?, "{words:?}");
+        holds(&rt, words, is_left_to_the_program(&rt, words, job)?);
     }
     Ok(())
 }
+
+const OPTIONS: &[(&[&str], &str)] = &[
+    (
+        &[
+            "s10",
+            "draw",
+            "--count",
+            "16",
+            "--to",
+            "127.0.0.1:4711",
+            "--customer",
+            "7",
+            "--number",
+            "1",
+            "--service",
+            "RA",
+            "--country",
+            "GB",
+        ],
+        r#"Some(Ask(Question { to: "127.0.0.1:4711", customer: 7, number: 1, body: DrawMany { service: "RA", country: "GB", count: Count { value: 16 } }, tries: Tries { count: 5 } }))"#,
+    ),
+    (
+        &[
+            "s10",
+            "serve",
+            "--day",
+            "4294967295",
+            "--count=4294967295",
+            "--bind",
+            "",
+            "--ledger",
+            "",
+        ],
+        r#"Some(Serve { ledger: "", bind: "", count: 4294967295, day: Some(4294967295) })"#,
+    ),
+    (
+        &[
+            "s10", "report", "--day", "0", "--issues", "--ledger", "a b.db",
+        ],
+        r#"Some(Report { ledger: "a b.db", is_of_issues: true, day: Some(0) })"#,
+    ),
+    (
+        &["s10", "loop", "--day", "20000"],
+        "Some(Loop { day: Some(20000) })",
+    ),
+    (&["s10", "check", "RA473124829US"], "None"),
+];
 
 #[test]
 fn options_that_may_be_left_out_are_read(rt: HostRuntime) -> Result<(), Fail> {
-    let cases: &[(&[&str], &str)] = &[
-        (
-            &[
-                "s10",
-                "draw",
-                "--count",
-                "16",
-                "--to",
-                "127.0.0.1:4711",
-                "--customer",
-                "7",
-                "--number",
-                "1",
-                "--service",
-                "RA",
-                "--country",
-                "GB",
-            ],
-            r#"Some(Ask(Question { to: "127.0.0.1:4711", customer: 7, number: 1, body: DrawMany { service: "RA", country: "GB", count: Count { value: 16 } }, tries: Tries { count: 5 } }))"#,
-        ),
-        (
-            &[
-                "s10",
-                "serve",
-                "--day",
-                "4294967295",
-                "--count=4294967295",
-                "--bind",
-                "",
-                "--ledger",
-                "",
-            ],
-            r#"Some(Serve { ledger: "", bind: "", count: 4294967295, day: Some(4294967295) })"#,
-        ),
-        (
-            &[
-                "s10", "report", "--day", "0", "--issues", "--ledger", "a b.db",
-            ],
-            r#"Some(Report { ledger: "a b.db", is_of_issues: true, day: Some(0) })"#,
-        ),
-        (
-            &["s10", "loop", "--day", "20000"],
-            "Some(Loop { day: Some(20000) })",
-        ),
-        (&["s10", "check", "RA473124829US"], "None"),
-    ];
-    for (words, job) in cases {
-        assert!(rt; asks(rt.alloc(), words, job)?, "{words:?}");
+    for (words, job) in OPTIONS {
+        holds(&rt, words, asks(rt.alloc(), words, job)?);
     }
     Ok(())
 }
 
+const LIMITS: &[(&[&str], &str)] = &[
+    (
+        &[
+            "s10",
+            "create",
+            "--ledger",
+            "a.db",
+            "--interval",
+            "3650",
+            "--limit",
+            "1000000000",
+        ],
+        r#"Some(Create { ledger: "a.db", settings: Settings { interval: 3650, limit: 1000000000 } })"#,
+    ),
+    (
+        &[
+            "s10",
+            "grant",
+            "--tries",
+            "100",
+            "--last",
+            "99999999",
+            "--first",
+            "99999998",
+            "--country",
+            "gb",
+            "--service",
+            "",
+            "--holder",
+            "4294967295",
+            "--number",
+            "4294967295",
+            "--to",
+            "post",
+        ],
+        r#"Some(Ask(Question { to: "post", customer: 0, number: 4294967295, body: Grant { holder: 4294967295, service: "", country: "gb", first: Serial { value: 99999998 }, last: Serial { value: 99999999 } }, tries: Tries { count: 100 } }))"#,
+    ),
+    (
+        &[
+            "s10", "withdraw", "--tries", "1", "--range", "0", "--number", "0", "--to", "",
+        ],
+        r#"Some(Ask(Question { to: "", customer: 0, number: 0, body: Withdraw { range: 0 }, tries: Tries { count: 1 } }))"#,
+    ),
+    (
+        &[
+            "s10",
+            "withdraw",
+            "--range=4294967295",
+            "--number=4294967295",
+            "--to=post",
+        ],
+        r#"Some(Ask(Question { to: "post", customer: 0, number: 4294967295, body: Withdraw { range: 4294967295 }, tries: Tries { count: 5 } }))"#,
+    ),
+];
+
 #[test]
 fn numbers_are_read_up_to_their_limits(rt: HostRuntime) -> Result<(), Fail> {
-    let cases: &[(&[&str], &str)] = &[
-        (
-            &[
-                "s10",
-                "create",
-                "--ledger",
-                "a.db",
-                "--interval",
-                "3650",
-                "--limit",
-                "1000000000",
-            ],
-            r#"Some(Create { ledger: "a.db", settings: Settings { interval: 3650, limit: 1000000000 } })"#,
-        ),
-        (
-            &[
-                "s10",
-                "grant",
-                "--tries",
-                "100",
-                "--last",
-                "99999999",
-                "--first",
-                "99999998",
-                "--country",
-                "gb",
-                "--service",
-                "",
-                "--holder",
-                "4294967295",
-                "--number",
-                "4294967295",
-                "--to",
-                "post",
-            ],
-            r#"Some(Ask(Question { to: "post", customer: 0, number: 4294967295, body: Grant { holder: 4294967295, service: "", country: "gb", first: Serial { value: 99999998 }, last: Serial { value: 99999999 } }, tries: Tries { count: 100 } }))"#,
-        ),
-        (
-            &[
-                "s10", "withdraw", "--tries", "1", "--range", "0", "--number", "0", "--to", "",
-            ],
-            r#"Some(Ask(Question { to: "", customer: 0, number: 0, body: Withdraw { range: 0 }, tries: Tries { count: 1 } }))"#,
-        ),
-        (
-            &[
-                "s10",
-                "withdraw",
-                "--range=4294967295",
-                "--number=4294967295",
-                "--to=post",
-            ],
-            r#"Some(Ask(Question { to: "post", customer: 0, number: 4294967295, body: Withdraw { range: 4294967295 }, tries: Tries { count: 5 } }))"#,
-        ),
-    ];
-    for (words, job) in cases {
-        assert!(rt; asks(rt.alloc(), words, job)?, "{words:?}");
+    for (words, job) in LIMITS {
+        holds(&rt, words, asks(rt.alloc(), words, job)?);
     }
     Ok(())
 }
@@ -290,7 +293,7 @@ fn is_required_at<R: Eprint + AllocGlobal>(
 fn each_option_but_the_day_and_the_tries_is_required(rt: HostRuntime) -> Result<(), Fail> {
     for words in LINES {
         for at in 2..words.len() {
-            assert!(rt; is_required_at(&rt, words, at)?, "{words:?} {at}");
+            holds(&rt, &(*words, at), is_required_at(&rt, words, at)?);
         }
     }
     Ok(())
@@ -359,146 +362,144 @@ fn option_reaches(
     asks_but_for(alloc, &words, job, field, changed)
 }
 
+const VALUES: &[(usize, &str, &str, &str, &str)] = &[
+    (
+        0,
+        "--ledger",
+        "b.db",
+        r#"ledger: "a.db""#,
+        r#"ledger: "b.db""#,
+    ),
+    (0, "--interval", "31", "interval: 30", "interval: 31"),
+    (0, "--limit", "99", "limit: 100", "limit: 99"),
+    (
+        1,
+        "--ledger",
+        "b.db",
+        r#"ledger: "a.db""#,
+        r#"ledger: "b.db""#,
+    ),
+    (
+        1,
+        "--bind",
+        "[::1]:9",
+        r#"bind: "0.0.0.0:0""#,
+        r#"bind: "[::1]:9""#,
+    ),
+    (1, "--count", "8", "count: 3", "count: 8"),
+    (
+        2,
+        "--to",
+        "[::1]:9",
+        r#"to: "127.0.0.1:4711""#,
+        r#"to: "[::1]:9""#,
+    ),
+    (2, "--number", "8", "number: 1", "number: 8"),
+    (2, "--holder", "8", "holder: 7", "holder: 8"),
+    (2, "--service", "LA", r#"service: "RA""#, r#"service: "LA""#),
+    (2, "--country", "FR", r#"country: "GB""#, r#"country: "FR""#),
+    (
+        2,
+        "--first",
+        "1",
+        "first: Serial { value: 0 }",
+        "first: Serial { value: 1 }",
+    ),
+    (
+        2,
+        "--last",
+        "8",
+        "last: Serial { value: 2 }",
+        "last: Serial { value: 8 }",
+    ),
+    (
+        3,
+        "--to",
+        "[::1]:9",
+        r#"to: "127.0.0.1:4711""#,
+        r#"to: "[::1]:9""#,
+    ),
+    (3, "--customer", "8", "customer: 7", "customer: 8"),
+    (3, "--number", "8", "number: 1", "number: 8"),
+    (3, "--service", "LA", r#"service: "RA""#, r#"service: "LA""#),
+    (3, "--country", "FR", r#"country: "GB""#, r#"country: "FR""#),
+    (
+        4,
+        "--to",
+        "[::1]:9",
+        r#"to: "127.0.0.1:4711""#,
+        r#"to: "[::1]:9""#,
+    ),
+    (4, "--customer", "8", "customer: 7", "customer: 8"),
+    (4, "--number", "8", "number: 3", "number: 8"),
+    (4, "--id", "x", r#"id: "RA000000005GB""#, r#"id: "x""#),
+    (
+        5,
+        "--to",
+        "[::1]:9",
+        r#"to: "127.0.0.1:4711""#,
+        r#"to: "[::1]:9""#,
+    ),
+    (5, "--customer", "8", "customer: 7", "customer: 8"),
+    (5, "--number", "8", "number: 4", "number: 8"),
+    (5, "--id", "x", r#"id: "RA000000005GB""#, r#"id: "x""#),
+    (
+        6,
+        "--to",
+        "[::1]:9",
+        r#"to: "127.0.0.1:4711""#,
+        r#"to: "[::1]:9""#,
+    ),
+    (6, "--number", "8", "number: 5", "number: 8"),
+    (6, "--range", "8", "range: 1", "range: 8"),
+    (
+        7,
+        "--ledger",
+        "b.db",
+        r#"ledger: "a.db""#,
+        r#"ledger: "b.db""#,
+    ),
+    (
+        8,
+        "--ledger",
+        "b.db",
+        r#"ledger: "a.db""#,
+        r#"ledger: "b.db""#,
+    ),
+];
+
 #[test]
 fn each_required_option_reaches_its_own_field(rt: HostRuntime) -> Result<(), Fail> {
-    let cases: &[(usize, &str, &str, &str, &str)] = &[
-        (
-            0,
-            "--ledger",
-            "b.db",
-            r#"ledger: "a.db""#,
-            r#"ledger: "b.db""#,
-        ),
-        (0, "--interval", "31", "interval: 30", "interval: 31"),
-        (0, "--limit", "99", "limit: 100", "limit: 99"),
-        (
-            1,
-            "--ledger",
-            "b.db",
-            r#"ledger: "a.db""#,
-            r#"ledger: "b.db""#,
-        ),
-        (
-            1,
-            "--bind",
-            "[::1]:9",
-            r#"bind: "0.0.0.0:0""#,
-            r#"bind: "[::1]:9""#,
-        ),
-        (1, "--count", "8", "count: 3", "count: 8"),
-        (
-            2,
-            "--to",
-            "[::1]:9",
-            r#"to: "127.0.0.1:4711""#,
-            r#"to: "[::1]:9""#,
-        ),
-        (2, "--number", "8", "number: 1", "number: 8"),
-        (2, "--holder", "8", "holder: 7", "holder: 8"),
-        (2, "--service", "LA", r#"service: "RA""#, r#"service: "LA""#),
-        (2, "--country", "FR", r#"country: "GB""#, r#"country: "FR""#),
-        (
-            2,
-            "--first",
-            "1",
-            "first: Serial { value: 0 }",
-            "first: Serial { value: 1 }",
-        ),
-        (
-            2,
-            "--last",
-            "8",
-            "last: Serial { value: 2 }",
-            "last: Serial { value: 8 }",
-        ),
-        (
-            3,
-            "--to",
-            "[::1]:9",
-            r#"to: "127.0.0.1:4711""#,
-            r#"to: "[::1]:9""#,
-        ),
-        (3, "--customer", "8", "customer: 7", "customer: 8"),
-        (3, "--number", "8", "number: 1", "number: 8"),
-        (3, "--service", "LA", r#"service: "RA""#, r#"service: "LA""#),
-        (3, "--country", "FR", r#"country: "GB""#, r#"country: "FR""#),
-        (
-            4,
-            "--to",
-            "[::1]:9",
-            r#"to: "127.0.0.1:4711""#,
-            r#"to: "[::1]:9""#,
-        ),
-        (4, "--customer", "8", "customer: 7", "customer: 8"),
-        (4, "--number", "8", "number: 3", "number: 8"),
-        (4, "--id", "x", r#"id: "RA000000005GB""#, r#"id: "x""#),
-        (
-            5,
-            "--to",
-            "[::1]:9",
-            r#"to: "127.0.0.1:4711""#,
-            r#"to: "[::1]:9""#,
-        ),
-        (5, "--customer", "8", "customer: 7", "customer: 8"),
-        (5, "--number", "8", "number: 4", "number: 8"),
-        (5, "--id", "x", r#"id: "RA000000005GB""#, r#"id: "x""#),
-        (
-            6,
-            "--to",
-            "[::1]:9",
-            r#"to: "127.0.0.1:4711""#,
-            r#"to: "[::1]:9""#,
-        ),
-        (6, "--number", "8", "number: 5", "number: 8"),
-        (6, "--range", "8", "range: 1", "range: 8"),
-        (
-            7,
-            "--ledger",
-            "b.db",
-            r#"ledger: "a.db""#,
-            r#"ledger: "b.db""#,
-        ),
-        (
-            8,
-            "--ledger",
-            "b.db",
-            r#"ledger: "a.db""#,
-            r#"ledger: "b.db""#,
-        ),
-    ];
-    for (line, option, value, field, changed) in cases {
-        assert!(rt;
-            value_reaches(rt.alloc(), *line, option, value, field, changed)?,
-            "{line} {option}"
-        );
+    for (line, option, value, field, changed) in VALUES {
+        let reaches = value_reaches(rt.alloc(), *line, option, value, field, changed)?;
+        holds(&rt, &(*line, *option), reaches);
     }
     Ok(())
 }
 
+const MORE: &[(usize, &str, &str, &str)] = &[
+    (1, "--day=9", "day: None", "day: Some(9)"),
+    (2, "--tries=9", "Tries { count: 5 }", "Tries { count: 9 }"),
+    (3, "--tries=9", "Tries { count: 5 }", "Tries { count: 9 }"),
+    (
+        3,
+        "--count=9",
+        r#"Draw { service: "RA", country: "GB" }"#,
+        r#"DrawMany { service: "RA", country: "GB", count: Count { value: 9 } }"#,
+    ),
+    (4, "--tries=9", "Tries { count: 5 }", "Tries { count: 9 }"),
+    (5, "--tries=9", "Tries { count: 5 }", "Tries { count: 9 }"),
+    (6, "--tries=9", "Tries { count: 5 }", "Tries { count: 9 }"),
+    (7, "--day=9", "day: None", "day: Some(9)"),
+    (7, "--issues", "is_of_issues: false", "is_of_issues: true"),
+    (9, "--day=9", "day: None", "day: Some(9)"),
+];
+
 #[test]
 fn each_option_that_may_be_left_out_reaches_its_own_field(rt: HostRuntime) -> Result<(), Fail> {
-    let cases: &[(usize, &str, &str, &str)] = &[
-        (1, "--day=9", "day: None", "day: Some(9)"),
-        (2, "--tries=9", "Tries { count: 5 }", "Tries { count: 9 }"),
-        (3, "--tries=9", "Tries { count: 5 }", "Tries { count: 9 }"),
-        (
-            3,
-            "--count=9",
-            r#"Draw { service: "RA", country: "GB" }"#,
-            r#"DrawMany { service: "RA", country: "GB", count: Count { value: 9 } }"#,
-        ),
-        (4, "--tries=9", "Tries { count: 5 }", "Tries { count: 9 }"),
-        (5, "--tries=9", "Tries { count: 5 }", "Tries { count: 9 }"),
-        (6, "--tries=9", "Tries { count: 5 }", "Tries { count: 9 }"),
-        (7, "--day=9", "day: None", "day: Some(9)"),
-        (7, "--issues", "is_of_issues: false", "is_of_issues: true"),
-        (9, "--day=9", "day: None", "day: Some(9)"),
-    ];
-    for (line, option, field, changed) in cases {
-        assert!(rt;
-            option_reaches(rt.alloc(), *line, option, field, changed)?,
-            "{line} {option}"
-        );
+    for (line, option, field, changed) in MORE {
+        let reaches = option_reaches(rt.alloc(), *line, option, field, changed)?;
+        holds(&rt, &(*line, *option), reaches);
     }
     Ok(())
 }
@@ -533,24 +534,29 @@ fn is_refused_before<'a, R: Eprint + AllocGlobal>(
     Ok(is_silent(rt, &longer, Some(2)))
 }
 
+const WRONG_VALUES: &[(usize, &str, &[&str])] = &[
+    (0, "--interval", &["0", "3651", "-1", "", "x"]),
+    (0, "--limit", &["0", "1000000001", "4294967297"]),
+    (1, "--count", &["4294967296", "-1", "1.5"]),
+    (2, "--first", &["100000000", "-1"]),
+    (2, "--last", &["100000000", "4294967296"]),
+    (2, "--holder", &["4294967296", "post"]),
+    (3, "--customer", &["4294967296"]),
+    (3, "--number", &["4294967296", "0x1"]),
+    (4, "--number", &["-1"]),
+    (5, "--customer", &[""]),
+    (6, "--number", &["4294967296"]),
+    (6, "--range", &["4294967296", "-1", "", "RA"]),
+];
+
 #[test]
 fn numbers_out_of_their_ranges_are_no_command_line(rt: HostRuntime) -> Result<(), Fail> {
-    let cases: &[(usize, &str, &[&str])] = &[
-        (0, "--interval", &["0", "3651", "-1", "", "x"]),
-        (0, "--limit", &["0", "1000000001", "4294967297"]),
-        (1, "--count", &["4294967296", "-1", "1.5"]),
-        (2, "--first", &["100000000", "-1"]),
-        (2, "--last", &["100000000", "4294967296"]),
-        (2, "--holder", &["4294967296", "post"]),
-        (3, "--customer", &["4294967296"]),
-        (3, "--number", &["4294967296", "0x1"]),
-        (4, "--number", &["-1"]),
-        (5, "--customer", &[""]),
-        (6, "--number", &["4294967296"]),
-        (6, "--range", &["4294967296", "-1", "", "RA"]),
-    ];
-    for (line, option, values) in cases {
-        assert!(rt; are_refused(&rt, *line, option, values)?, "{line} {option}");
+    for (line, option, values) in WRONG_VALUES {
+        holds(
+            &rt,
+            &(*line, *option),
+            are_refused(&rt, *line, option, values)?,
+        );
     }
     Ok(())
 }
@@ -572,25 +578,27 @@ fn are_refused_before<R: Eprint + AllocGlobal>(
     Ok(true)
 }
 
+const WRONG_OPTIONS: &[(usize, &[&str])] = &[
+    (2, &["--tries=0", "--tries=101"]),
+    (3, &["--tries=0", "--tries=101"]),
+    (3, &["--count=0", "--count=17"]),
+    (4, &["--tries=0", "--tries=101"]),
+    (5, &["--tries=0", "--tries=101"]),
+    (6, &["--tries=0", "--tries=101"]),
+    (1, &["--day=4294967296"]),
+    (7, &["--day=4294967296"]),
+    (9, &["--day=4294967296"]),
+];
+
 #[test]
 fn tries_counts_and_days_out_of_their_ranges_are_no_command_line(
     rt: HostRuntime,
 ) -> Result<(), Fail> {
-    let cases: &[(usize, &[&str])] = &[
-        (2, &["--tries=0", "--tries=101"]),
-        (3, &["--tries=0", "--tries=101"]),
-        (3, &["--count=0", "--count=17"]),
-        (4, &["--tries=0", "--tries=101"]),
-        (5, &["--tries=0", "--tries=101"]),
-        (6, &["--tries=0", "--tries=101"]),
-        (1, &["--day=4294967296"]),
-        (7, &["--day=4294967296"]),
-        (9, &["--day=4294967296"]),
-    ];
-    for (line, options) in cases {
-        assert!(rt;
+    for (line, options) in WRONG_OPTIONS {
+        holds(
+            &rt,
+            &(*line, *options),
             are_refused_before(&rt, *line, options)?,
-            "{line} {options:?}"
         );
     }
     Ok(())
@@ -598,17 +606,16 @@ fn tries_counts_and_days_out_of_their_ranges_are_no_command_line(
 
 #[test]
 fn what_the_post_alone_asks_names_no_customer(rt: HostRuntime) -> Result<(), Fail> {
-    for words in [LINES[2], LINES[6]] {
-        assert!(rt; is_refused_before(&rt, words, "--customer=0")?, "{words:?}");
-    }
+    holds(&rt, &2, are_refused_before(&rt, 2, &["--customer=0"])?);
+    holds(&rt, &6, are_refused_before(&rt, 6, &["--customer=0"])?);
     Ok(())
 }
 
 #[test]
 fn a_withdrawal_is_of_a_whole_range_by_its_number(rt: HostRuntime) -> Result<(), Fail> {
-    let options = ["--range=2", "--first=0", "--id=RA000000005GB", "1"];
-    for option in options {
-        assert!(rt; is_refused_before(&rt, LINES[6], option)?, "{option}");
+    let words = ["--range=2", "--first=0", "--id=RA000000005GB", "1"];
+    for word in &words {
+        holds(&rt, word, are_refused_before(&rt, 6, &[*word])?);
     }
     Ok(())
 }
@@ -629,6 +636,6 @@ fn is_explained<R: Eprint + AllocGlobal>(rt: &R, words: &[&str], name: &str) -> 
 #[test]
 fn help_names_the_options(rt: HostRuntime) {
     for words in LINES {
-        assert!(rt; is_explained(&rt, words, words[1]), "{words:?}");
+        holds(&rt, words, is_explained(&rt, words, words[1]));
     }
 }

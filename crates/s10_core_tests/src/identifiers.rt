@@ -1,64 +1,61 @@
+//! Identifiers: how they are spelled, and the parts that they have.
+
+use crate::expect::same;
 use s10_core::{Country, Group, Id, Serial, Service, TextFault, check_digit};
+use std::process::Abort;
 use std::test::Fail;
 
-// Worked by hand from the weights, as S = 200 and C = 9 for the first.
+/// Serial numbers and their check digits, worked by hand from the weights, as S = 200 and C = 9 for the first.
+const CHECK_DIGITS: &[(u32, u8)] = &[
+    (47312482, 9),
+    (12345678, 5),
+    (0, 5),
+    (1, 4),
+    (2, 8),
+    (3, 1),
+    (4, 5),
+    (8, 0),
+    (9999, 4),
+    (99999998, 7),
+    (99999999, 5),
+];
+
 #[test]
 fn check_digits_are_those_worked_by_hand(rt: HostRuntime) {
-    for (value, digit) in [
-        (47312482, 9),
-        (12345678, 5),
-        (0, 5),
-        (1, 4),
-        (2, 8),
-        (3, 1),
-        (4, 5),
-        (8, 0),
-        (9999, 4),
-        (99999998, 7),
-        (99999999, 5),
-    ] {
-        match Serial::new(value) {
-            Some(serial) => assert_eq!(rt; check_digit(serial), digit, "at {value}"),
-            None => panic!(rt; "at {value}"),
-        }
+    for (value, digit) in CHECK_DIGITS {
+        let serial = Serial::new(*value).expect(&rt, "a serial number");
+        same(&rt, value, &check_digit(serial), digit);
     }
 }
 
-/// Whether the text is that of the identifier, both ways.
-fn is_spelled(id: &Id, text: &[u8; 13]) -> bool {
-    id.write() == *text && Id::read(text) == Ok(*id)
+/// The text is that of the identifier, both ways.
+fn is_spelled(rt: &impl Abort, id: &Id, text: &[u8; 13]) {
+    same(rt, text, &id.write(), text);
+    same(rt, text, &Id::read(text), &Ok(*id));
 }
+
+/// The digits of serial numbers, and the identifiers of RA GB with these.
+const SPELLED: &[(&[u8], &[u8; 13])] = &[
+    (b"00000000", b"RA000000005GB"),
+    (b"00000001", b"RA000000014GB"),
+    (b"00000002", b"RA000000028GB"),
+    (b"00000003", b"RA000000031GB"),
+    (b"00000004", b"RA000000045GB"),
+    (b"00000008", b"RA000000080GB"),
+    (b"12345678", b"RA123456785GB"),
+    (b"99999998", b"RA999999987GB"),
+    (b"99999999", b"RA999999995GB"),
+];
 
 #[test]
 fn identifiers_are_spelled_from_their_parts(rt: HostRuntime) {
-    let spelled: [(&[u8], &[u8; 13]); 9] = [
-        (b"00000000", b"RA000000005GB"),
-        (b"00000001", b"RA000000014GB"),
-        (b"00000002", b"RA000000028GB"),
-        (b"00000003", b"RA000000031GB"),
-        (b"00000004", b"RA000000045GB"),
-        (b"00000008", b"RA000000080GB"),
-        (b"12345678", b"RA123456785GB"),
-        (b"99999998", b"RA999999987GB"),
-        (b"99999999", b"RA999999995GB"),
-    ];
-    for (digits, text) in spelled {
-        let parts = (
-            Service::new(*b"RA"),
-            Serial::read(digits),
-            Country::new(*b"GB"),
-        );
-        match parts {
-            (Some(service), Some(serial), Some(country)) => {
-                let id = Id {
-                    service,
-                    serial,
-                    country,
-                };
-                assert!(rt; is_spelled(&id, text), "at {digits:?}");
-            }
-            _ => panic!(rt),
-        }
+    for (digits, text) in SPELLED {
+        let id = Id {
+            service: Service::new(*b"RA").unwrap(),
+            serial: Serial::read(digits).expect(&rt, "the digits of a serial number"),
+            country: Country::new(*b"GB").unwrap(),
+        };
+        is_spelled(&rt, &id, text);
     }
 }
 
@@ -72,32 +69,32 @@ fn has_parts(id: &Id, letters: [u8; 2], group: Group, serial: u32, country: [u8;
 
 #[test]
 fn a_label_is_read_without_its_spaces_and_in_capitals(rt: HostRuntime) {
-    match Id::read_label(b"ra 473 124 829 us") {
-        Ok(id) => {
-            assert!(rt; is_spelled(&id, b"RA473124829US"));
-            assert!(rt; has_parts(&id, *b"RA", Group::Registered, 47_312_482, *b"US"));
-        }
-        Err(fault) => panic!(rt; "{fault:?}"),
-    }
-    assert_eq!(rt;
-        Id::read_label(b"ra 473 124 82x us"),
-        Err(TextFault::Digit(10))
+    let id = Id::read_label(b"ra 473 124 829 us").expect(&rt, "a label");
+    is_spelled(&rt, &id, b"RA473124829US");
+    assert!(rt; has_parts(&id, *b"RA", Group::Registered, 47_312_482, *b"US"));
+    let label = b"ra 473 124 82x us";
+    same(
+        &rt,
+        label,
+        &Id::read_label(label),
+        &Err(TextFault::Digit(10)),
     );
 }
 
+const REFUSED: &[(&[u8], TextFault)] = &[
+    (b"", TextFault::Length),
+    (b"ra 473 124 829 us", TextFault::Length),
+    (b"ra473124829US", TextFault::Letter(0)),
+    (b"RA47312482XUS", TextFault::Digit(10)),
+    (b"RA47312482XuS", TextFault::Digit(10)),
+    (b"RA473124829uS", TextFault::Letter(11)),
+    (b"RA473124828US", TextFault::CheckDigit),
+];
+
 #[test]
 fn a_text_is_refused_for_its_first_fault(rt: HostRuntime) {
-    let refused: [(&[u8], TextFault); 7] = [
-        (b"", TextFault::Length),
-        (b"ra 473 124 829 us", TextFault::Length),
-        (b"ra473124829US", TextFault::Letter(0)),
-        (b"RA47312482XUS", TextFault::Digit(10)),
-        (b"RA47312482XuS", TextFault::Digit(10)),
-        (b"RA473124829uS", TextFault::Letter(11)),
-        (b"RA473124828US", TextFault::CheckDigit),
-    ];
-    for (text, fault) in refused {
-        assert_eq!(rt; Id::read(text), Err(fault));
+    for (text, fault) in REFUSED {
+        same(&rt, text, &Id::read(text), &Err(*fault));
     }
 }
 
@@ -111,34 +108,41 @@ fn parts_out_of_range_are_refused(rt: HostRuntime) {
     assert!(rt; Serial::read(b"1234567x").is_none());
 }
 
+const GROUPS: &[([u8; 2], Group)] = &[
+    (*b"CA", Group::Parcel),
+    (*b"EA", Group::Ems),
+    (*b"RA", Group::Registered),
+    (*b"VA", Group::Insured),
+    (*b"LA", Group::Other),
+];
+
 #[test]
 fn the_first_letter_names_the_group(rt: HostRuntime) {
-    for (letters, group) in [
-        (*b"CA", Group::Parcel),
-        (*b"EA", Group::Ems),
-        (*b"RA", Group::Registered),
-        (*b"VA", Group::Insured),
-        (*b"LA", Group::Other),
-    ] {
-        match Service::new(letters) {
-            Some(service) => assert_eq!(rt; service.group(), group),
-            None => panic!(rt),
-        }
+    for (letters, group) in GROUPS {
+        let service = Service::new(*letters).expect(&rt, "letters of a service");
+        same(&rt, letters, &service.group(), group);
     }
 }
 
+const TEXTS: &[(TextFault, &str)] = &[
+    (TextFault::Length, "an identifier has 13 characters"),
+    (TextFault::Letter(11), "place 11 wants a letter from A to Z"),
+    (TextFault::Digit(2), "place 2 wants a digit"),
+    (
+        TextFault::CheckDigit,
+        "the check digit is not that of the serial number",
+    ),
+];
+
 #[test]
 fn each_fault_has_its_text(rt: HostRuntime) -> Result<(), Fail> {
-    for (fault, text) in [
-        (TextFault::Length, "an identifier has 13 characters"),
-        (TextFault::Letter(11), "place 11 wants a letter from A to Z"),
-        (TextFault::Digit(2), "place 2 wants a digit"),
-        (
-            TextFault::CheckDigit,
-            "the check digit is not that of the serial number",
-        ),
-    ] {
-        assert_eq!(rt; format!(in rt.alloc(); "{fault}")?.as_str(), text);
+    for (fault, text) in TEXTS {
+        same(
+            &rt,
+            fault,
+            &format!(in rt.alloc(); "{fault}")?.as_str(),
+            text,
+        );
     }
     Ok(())
 }

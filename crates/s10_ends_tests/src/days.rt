@@ -1,6 +1,7 @@
+//! Days of calls, and the interval of a serial.
+
 use crate::scripts::Want::Reply;
 use crate::scripts::{DRAW, GRANT, Part, is_played};
-use std::test::Fail;
 
 /// Three serials, drawn on the days 0, 29 and 30 of an interval.
 const INTERVAL: &'static [Part] = &[(
@@ -9,23 +10,23 @@ const INTERVAL: &'static [Part] = &[(
         DRAW,
         (
             20000,
-            "53310102 00000007 00000002 52414742",
-            Reply("53310182 00000007 00000002 52414742 00 00004e20 52413030303030303031344742"),
+            b"S1\x01\x02\0\0\0\x07\0\0\0\x02RAGB",
+            Reply(b"S1\x01\x82\0\0\0\x07\0\0\0\x02RAGB\0\0\0\x4e\x20RA000000014GB"),
         ),
         (
             20000,
-            "53310102 00000007 00000003 52414742",
-            Reply("53310182 00000007 00000003 52414742 00 00004e20 52413030303030303032384742"),
+            b"S1\x01\x02\0\0\0\x07\0\0\0\x03RAGB",
+            Reply(b"S1\x01\x82\0\0\0\x07\0\0\0\x03RAGB\0\0\0\x4e\x20RA000000028GB"),
         ),
         (
             20029,
-            "53310102 00000007 00000004 52414742",
-            Reply("53310182 00000007 00000004 52414742 05"),
+            b"S1\x01\x02\0\0\0\x07\0\0\0\x04RAGB",
+            Reply(b"S1\x01\x82\0\0\0\x07\0\0\0\x04RAGB\x05"),
         ),
         (
             20030,
-            "53310102 00000007 00000005 52414742",
-            Reply("53310182 00000007 00000005 52414742 00 00004e3e 52413030303030303030354742"),
+            b"S1\x01\x02\0\0\0\x07\0\0\0\x05RAGB",
+            Reply(b"S1\x01\x82\0\0\0\x07\0\0\0\x05RAGB\0\0\0\x4e\x3eRA000000005GB"),
         ),
     ],
     6,
@@ -33,9 +34,8 @@ const INTERVAL: &'static [Part] = &[(
 )];
 
 #[test]
-fn interval_ends_on_the_thirtieth_day(rt: HostRuntime) -> Result<(), Fail> {
-    assert!(rt; is_played(rt.alloc(), 100, INTERVAL)?);
-    Ok(())
+fn interval_ends_on_the_thirtieth_day(rt: HostRuntime) {
+    assert!(rt; is_played(rt.alloc(), 100, INTERVAL));
 }
 
 /// A day that is before the latest.
@@ -44,13 +44,13 @@ const FALLING: &'static [Part] = &[(
         GRANT,
         (
             20010,
-            "53310102 00000007 00000001 52414742",
-            Reply("53310182 00000007 00000001 52414742 00 00004e2a 52413030303030303030354742"),
+            b"S1\x01\x02\0\0\0\x07\0\0\0\x01RAGB",
+            Reply(b"S1\x01\x82\0\0\0\x07\0\0\0\x01RAGB\0\0\0\x4e\x2aRA000000005GB"),
         ),
         (
             19000,
-            "53310102 00000007 00000002 52414742",
-            Reply("53310182 00000007 00000002 52414742 00 00004e2a 52413030303030303031344742"),
+            b"S1\x01\x02\0\0\0\x07\0\0\0\x02RAGB",
+            Reply(b"S1\x01\x82\0\0\0\x07\0\0\0\x02RAGB\0\0\0\x4e\x2aRA000000014GB"),
         ),
     ],
     3,
@@ -58,9 +58,8 @@ const FALLING: &'static [Part] = &[(
 )];
 
 #[test]
-fn days_that_fall_are_raised_to_the_latest(rt: HostRuntime) -> Result<(), Fail> {
-    assert!(rt; is_played(rt.alloc(), 100, FALLING)?);
-    Ok(())
+fn days_that_fall_are_raised_to_the_latest(rt: HostRuntime) {
+    assert!(rt; is_played(rt.alloc(), 100, FALLING));
 }
 
 /// A serial that is drawn, voided, and drawn again once its interval has ended.
@@ -71,43 +70,43 @@ const VOIDED: &'static [Part] = &[
             DRAW,
             (
                 20000,
-                "53310102 00000007 00000002 52414742",
-                Reply("53310182 00000007 00000002 52414742 00 00004e20 52413030303030303031344742"),
+                b"S1\x01\x02\0\0\0\x07\0\0\0\x02RAGB",
+                Reply(b"S1\x01\x82\0\0\0\x07\0\0\0\x02RAGB\0\0\0\x4e\x20RA000000014GB"),
             ),
             (
                 20000,
-                "53310103 00000007 00000003 52413030303030303031344742",
-                Reply("53310183 00000007 00000003 52413030303030303031344742 00"),
+                b"S1\x01\x03\0\0\0\x07\0\0\0\x03RA000000014GB",
+                Reply(b"S1\x01\x83\0\0\0\x07\0\0\0\x03RA000000014GB\0"),
             ),
             (
                 20000,
-                "53310103 00000007 00000003 52413030303030303031344742",
-                Reply("53310183 00000007 00000003 52413030303030303031344742 00"),
+                b"S1\x01\x03\0\0\0\x07\0\0\0\x03RA000000014GB",
+                Reply(b"S1\x01\x83\0\0\0\x07\0\0\0\x03RA000000014GB\0"),
             ),
             (
                 20000,
-                "53310103 00000007 00000004 52413030303030303031344742",
-                Reply("53310183 00000007 00000004 52413030303030303031344742 08"),
+                b"S1\x01\x03\0\0\0\x07\0\0\0\x04RA000000014GB",
+                Reply(b"S1\x01\x83\0\0\0\x07\0\0\0\x04RA000000014GB\x08"),
             ),
             (
                 20000,
-                "53310102 00000007 00000005 52414742",
-                Reply("53310182 00000007 00000005 52414742 00 00004e20 52413030303030303032384742"),
+                b"S1\x01\x02\0\0\0\x07\0\0\0\x05RAGB",
+                Reply(b"S1\x01\x82\0\0\0\x07\0\0\0\x05RAGB\0\0\0\x4e\x20RA000000028GB"),
             ),
             (
                 20000,
-                "53310102 00000007 00000006 52414742",
-                Reply("53310182 00000007 00000006 52414742 05"),
+                b"S1\x01\x02\0\0\0\x07\0\0\0\x06RAGB",
+                Reply(b"S1\x01\x82\0\0\0\x07\0\0\0\x06RAGB\x05"),
             ),
             (
                 20030,
-                "53310102 00000007 00000007 52414742",
-                Reply("53310182 00000007 00000007 52414742 00 00004e3e 52413030303030303030354742"),
+                b"S1\x01\x02\0\0\0\x07\0\0\0\x07RAGB",
+                Reply(b"S1\x01\x82\0\0\0\x07\0\0\0\x07RAGB\0\0\0\x4e\x3eRA000000005GB"),
             ),
             (
                 20030,
-                "53310102 00000007 00000008 52414742",
-                Reply("53310182 00000007 00000008 52414742 00 00004e3e 52413030303030303031344742"),
+                b"S1\x01\x02\0\0\0\x07\0\0\0\x08RAGB",
+                Reply(b"S1\x01\x82\0\0\0\x07\0\0\0\x08RAGB\0\0\0\x4e\x3eRA000000014GB"),
             ),
         ],
         9,
@@ -116,8 +115,8 @@ const VOIDED: &'static [Part] = &[
     (
         &[(
             20030,
-            "53310104 00000007 00000009 52413030303030303031344742",
-            Reply("53310184 00000007 00000009 52413030303030303031344742 00 02 00004e3e"),
+            b"S1\x01\x04\0\0\0\x07\0\0\0\x09RA000000014GB",
+            Reply(b"S1\x01\x84\0\0\0\x07\0\0\0\x09RA000000014GB\0\x02\0\0\x4e\x3e"),
         )],
         10,
         20030,
@@ -125,7 +124,6 @@ const VOIDED: &'static [Part] = &[
 ];
 
 #[test]
-fn void_frees_nothing_before_the_interval_ends(rt: HostRuntime) -> Result<(), Fail> {
-    assert!(rt; is_played(rt.alloc(), 100, VOIDED)?);
-    Ok(())
+fn void_frees_nothing_before_the_interval_ends(rt: HostRuntime) {
+    assert!(rt; is_played(rt.alloc(), 100, VOIDED));
 }

@@ -1,13 +1,14 @@
 //! What several of these tests use: a server over an empty book, a scripted link, and two calls.
 
+ghost use Rattle.std.specs.Prelude.{◌≤◌};
+
 use s10_book::{PlainBook, TripBook};
 use s10_core::{Country, Service};
 use s10_ends::Server;
 use s10_history::Settings;
 use s10_link::{Packet, Peer, Receipt, ScriptLink};
-use s10_wire::Body;
+use s10_wire::{Body, Request};
 use std::alloc::{AllocError, Global};
-use std::test::Fail;
 
 /// A port of this machine that the system picks.
 pub const ANY_PORT: Peer = Peer {
@@ -28,17 +29,29 @@ pub const FIRST_DRAW: (&'static [u8], &'static [u8]) = (
 );
 
 /// A Draw of RA GB.
-pub(crate) fn draw() -> Result<Body, &'static str> {
-    match (Service::new(*b"RA"), Country::new(*b"GB")) {
-        (Some(service), Some(country)) => Ok(Body::Draw { service, country }),
-        _ => Err("letters"),
+pub(crate) fn draw() -> Body {
+    Body::Draw {
+        service: Service::new(*b"RA").unwrap(),
+        country: Country::new(*b"GB").unwrap(),
+    }
+}
+
+/// Customer 7's Draw with this number.
+pub(crate) fn request(number: u32) -> Request {
+    Request {
+        customer: 7,
+        number,
+        body: draw(),
     }
 }
 
 /// A server over an empty book.
-pub(crate) fn new_server(alloc: Global, limit: u32) -> Result<Server<PlainBook>, Fail> {
-    let settings = Settings::new(30, limit).ok_or("settings")?;
-    Ok(Server::new(PlainBook::new(alloc, settings)))
+pub(crate) fn new_server(alloc: Global, limit: u32) -> Server<PlainBook>
+    requires least { 1 ≤ limit }
+    requires most { limit ≤ 100 }
+{
+    let settings = Settings::new(30, limit).unwrap();
+    Server::new(PlainBook::new(alloc, settings))
 }
 
 /// A server over a book that fails at one of its calls.

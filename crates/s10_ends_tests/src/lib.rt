@@ -8,6 +8,8 @@ mod clients;
 #[cfg(test)]
 mod days;
 #[cfg(test)]
+mod expect;
+#[cfg(test)]
 mod failures;
 #[cfg(test)]
 mod fixtures;

@@ -1,3 +1,5 @@
+//! Runs of a server for which memory is refused.
+
 use crate::fixtures::new_server;
 use s10_book::{Book, BookFault, PlainBook};
 use s10_ends::{Answer, Delivery, Server};
@@ -46,7 +48,7 @@ fn none_is_faulted(answers: &[Answer]) -> bool {
 
 #[test]
 fn a_run_with_ample_memory_faults_nothing(rt: HostRuntime) -> Result<(), Fail> {
-    let mut server = new_server(rt.alloc(), 100)?;
+    let mut server = new_server(rt.alloc(), 100);
     let answers = server.run(rt.alloc(), &nine_deliveries())?;
     assert!(rt; answers.len() == 9 && none_is_faulted(&answers));
     assert!(rt; server.book().len() == 6);
@@ -97,8 +99,8 @@ fn a_refused_request_for_memory_leaves_a_run_of_the_other_deliveries(
     rt: HostRuntime,
 ) -> Result<(), Fail> {
     let deliveries = nine_deliveries();
-    let mut server = new_server(rt.alloc(), 100)?;
-    let mut other = new_server(rt.alloc(), 100)?;
+    let mut server = new_server(rt.alloc(), 100);
+    let mut other = new_server(rt.alloc(), 100);
     let Ok(answers) = server.run(rt.alloc(), &deliveries) else {
         assert!(rt; server.book().len() == 0);
         return Ok(());

@@ -1,59 +1,47 @@
+//! Bytes that ask nothing, and calls to a book that is full.
+
 use crate::fixtures::new_server;
 use crate::scripts::Want::{Dropped, Faulted, Reply};
-use crate::scripts::{DRAW, GRANT, Part, bytes_of, is_as_wanted, is_played};
-use s10_book::{Book, BookFault, PlainBook};
-use s10_ends::Server;
+use crate::scripts::{DRAW, GRANT, Part, is_as_wanted, is_played};
+use s10_book::{Book, BookFault};
 use s10_wire::WireFault;
-use std::alloc::{AllocError, Global};
-use std::test::Fail;
-
-/// Whether the server drops this datagram for this fault.
-fn is_dropped(
-    alloc: Global,
-    server: &mut Server<PlainBook>,
-    datagram: &str,
-    fault: WireFault,
-) -> Result<bool, AllocError> {
-    let bytes = bytes_of(alloc, datagram)?;
-    let answer = server.handle(&bytes, 20000);
-    is_as_wanted(alloc, &answer, Dropped(fault))
-}
+use std::alloc::Global;
 
 /// Whether a server drops each datagram for its fault, and keeps no call.
-fn all_are_dropped(alloc: Global, datagrams: &[(&str, WireFault)]) -> Result<bool, Fail> {
-    let mut server = new_server(alloc, 100)?;
+fn all_are_dropped(alloc: Global, datagrams: &[(&[u8], WireFault)]) -> bool {
+    let mut server = new_server(alloc, 100);
     for (datagram, fault) in datagrams {
-        if !is_dropped(alloc, &mut server, datagram, *fault)? {
-            return Ok(false);
+        let answer = server.handle(datagram, 20000);
+        if !is_as_wanted(&answer, &Dropped(*fault)) {
+            return false;
         }
     }
-    Ok(server.book().len() == 0)
+    server.book().len() == 0
 }
 
 /// Bytes that ask nothing, and why.
-const DROPPED: &'static [(&'static str, WireFault)] = &[
-    ("53310102 00000007 00000001 524147", WireFault::Length),
-    ("53310102 00000007 00000001 52414742 00", WireFault::Length),
-    ("53310902 00000007 00000001 52414742", WireFault::Version),
-    ("53310100 00000007 00000001 52414742", WireFault::Kind),
+const DROPPED: &'static [(&'static [u8], WireFault)] = &[
+    (b"S1\x01\x02\0\0\0\x07\0\0\0\x01RAG", WireFault::Length),
+    (b"S1\x01\x02\0\0\0\x07\0\0\0\x01RAGB\0", WireFault::Length),
+    (b"S1\x09\x02\0\0\0\x07\0\0\0\x01RAGB", WireFault::Version),
+    (b"S1\x01\0\0\0\0\x07\0\0\0\x01RAGB", WireFault::Kind),
     (
-        "53310182 00000007 00000001 52414742 00 00004e20 52413030303030303030354742",
+        b"S1\x01\x82\0\0\0\x07\0\0\0\x01RAGB\0\0\0\x4e\x20RA000000005GB",
         WireFault::Kind,
     ),
-    ("53310102 00000007 00000001 72614742", WireFault::Field(12)),
+    (b"S1\x01\x02\0\0\0\x07\0\0\0\x01raGB", WireFault::Field(12)),
     (
-        "53310101 00000000 00000001 00000007 52414742 00000000 05f5e100",
+        b"S1\x01\x01\0\0\0\0\0\0\0\x01\0\0\0\x07RAGB\0\0\0\0\x05\xf5\xe1\0",
         WireFault::Field(24),
     ),
-    ("53300102 00000007 00000001 52414742", WireFault::Magic),
-    ("53310102 00000007 000000", WireFault::Short),
-    ("", WireFault::Short),
+    (b"S0\x01\x02\0\0\0\x07\0\0\0\x01RAGB", WireFault::Magic),
+    (b"S1\x01\x02\0\0\0\x07\0\0\0", WireFault::Short),
+    (b"", WireFault::Short),
 ];
 
 #[test]
-fn bytes_that_ask_nothing_are_dropped(rt: HostRuntime) -> Result<(), Fail> {
-    assert!(rt; all_are_dropped(rt.alloc(), DROPPED)?);
-    Ok(())
+fn bytes_that_ask_nothing_are_dropped(rt: HostRuntime) {
+    assert!(rt; all_are_dropped(rt.alloc(), DROPPED));
 }
 
 /// A book with room for three calls, and what comes once it is full.
@@ -63,19 +51,19 @@ const FULL: &'static [Part] = &[(
         DRAW,
         (
             20000,
-            "53310102 00000007 00000002 52414742",
-            Reply("53310182 00000007 00000002 52414742 00 00004e20 52413030303030303031344742"),
+            b"S1\x01\x02\0\0\0\x07\0\0\0\x02RAGB",
+            Reply(b"S1\x01\x82\0\0\0\x07\0\0\0\x02RAGB\0\0\0\x4e\x20RA000000014GB"),
         ),
         (
             20000,
-            "53310102 00000007 00000003 52414742",
+            b"S1\x01\x02\0\0\0\x07\0\0\0\x03RAGB",
             Faulted(BookFault::Full),
         ),
         DRAW,
         (
             20000,
-            "53310104 00000007 00000001 52413030303030303030354742",
-            Reply("53310184 00000007 00000001 52413030303030303030354742 09"),
+            b"S1\x01\x04\0\0\0\x07\0\0\0\x01RA000000005GB",
+            Reply(b"S1\x01\x84\0\0\0\x07\0\0\0\x01RA000000005GB\x09"),
         ),
     ],
     3,
@@ -83,7 +71,6 @@ const FULL: &'static [Part] = &[(
 )];
 
 #[test]
-fn full_book_answers_kept_calls_alone(rt: HostRuntime) -> Result<(), Fail> {
-    assert!(rt; is_played(rt.alloc(), 3, FULL)?);
-    Ok(())
+fn full_book_answers_kept_calls_alone(rt: HostRuntime) {
+    assert!(rt; is_played(rt.alloc(), 3, FULL));
 }

@@ -1,13 +1,14 @@
+//! Datagrams that come again.
+
 use crate::scripts::Want::{Dropped, Reply};
 use crate::scripts::{DRAW, GRANT, Part, Step, is_played};
 use s10_wire::WireFault;
-use std::test::Fail;
 
 /// The first Draw, on a later day.
 const LATE_DRAW: Step = (
     20400,
-    "53310102 00000007 00000001 52414742",
-    Reply("53310182 00000007 00000001 52414742 00 00004e20 52413030303030303030354742"),
+    b"S1\x01\x02\0\0\0\x07\0\0\0\x01RAGB",
+    Reply(b"S1\x01\x82\0\0\0\x07\0\0\0\x01RAGB\0\0\0\x4e\x20RA000000005GB"),
 );
 
 /// A Grant, five Draws of which two come twice, and a datagram that is cut short.
@@ -18,32 +19,32 @@ const NINE: &'static [Part] = &[(
         LATE_DRAW,
         (
             20000,
-            "53310102 00000007 00000002 52414742",
-            Reply("53310182 00000007 00000002 52414742 00 00004e20 52413030303030303031344742"),
+            b"S1\x01\x02\0\0\0\x07\0\0\0\x02RAGB",
+            Reply(b"S1\x01\x82\0\0\0\x07\0\0\0\x02RAGB\0\0\0\x4e\x20RA000000014GB"),
         ),
         (
             20000,
-            "53310102 00000007 00000003 52414742",
-            Reply("53310182 00000007 00000003 52414742 00 00004e20 52413030303030303032384742"),
+            b"S1\x01\x02\0\0\0\x07\0\0\0\x03RAGB",
+            Reply(b"S1\x01\x82\0\0\0\x07\0\0\0\x03RAGB\0\0\0\x4e\x20RA000000028GB"),
         ),
         (
             20029,
-            "53310102 00000007 00000004 52414742",
-            Reply("53310182 00000007 00000004 52414742 05"),
+            b"S1\x01\x02\0\0\0\x07\0\0\0\x04RAGB",
+            Reply(b"S1\x01\x82\0\0\0\x07\0\0\0\x04RAGB\x05"),
         ),
         (
             20030,
-            "53310102 00000007 00000004 52414742",
-            Reply("53310182 00000007 00000004 52414742 05"),
+            b"S1\x01\x02\0\0\0\x07\0\0\0\x04RAGB",
+            Reply(b"S1\x01\x82\0\0\0\x07\0\0\0\x04RAGB\x05"),
         ),
         (
             20030,
-            "53310102 00000007 00000005 52414742",
-            Reply("53310182 00000007 00000005 52414742 00 00004e3e 52413030303030303030354742"),
+            b"S1\x01\x02\0\0\0\x07\0\0\0\x05RAGB",
+            Reply(b"S1\x01\x82\0\0\0\x07\0\0\0\x05RAGB\0\0\0\x4e\x3eRA000000005GB"),
         ),
         (
             20030,
-            "53310102 00000007 00000006 524147",
+            b"S1\x01\x02\0\0\0\x07\0\0\0\x06RAG",
             Dropped(WireFault::Length),
         ),
     ],
@@ -52,9 +53,8 @@ const NINE: &'static [Part] = &[(
 )];
 
 #[test]
-fn nine_deliveries_get_their_replies(rt: HostRuntime) -> Result<(), Fail> {
-    assert!(rt; is_played(rt.alloc(), 100, NINE)?);
-    Ok(())
+fn nine_deliveries_get_their_replies(rt: HostRuntime) {
+    assert!(rt; is_played(rt.alloc(), 100, NINE));
 }
 
 /// A Draw that comes again after its interval, which leaves the day as it was.
@@ -63,8 +63,8 @@ const LATER: &'static [Part] = &[
     (
         &[(
             20000,
-            "53310102 00000007 00000002 52414742",
-            Reply("53310182 00000007 00000002 52414742 00 00004e20 52413030303030303031344742"),
+            b"S1\x01\x02\0\0\0\x07\0\0\0\x02RAGB",
+            Reply(b"S1\x01\x82\0\0\0\x07\0\0\0\x02RAGB\0\0\0\x4e\x20RA000000014GB"),
         )],
         3,
         20000,
@@ -72,9 +72,8 @@ const LATER: &'static [Part] = &[
 ];
 
 #[test]
-fn repeat_on_a_later_day_gets_the_kept_reply(rt: HostRuntime) -> Result<(), Fail> {
-    assert!(rt; is_played(rt.alloc(), 100, LATER)?);
-    Ok(())
+fn repeat_on_a_later_day_gets_the_kept_reply(rt: HostRuntime) {
+    assert!(rt; is_played(rt.alloc(), 100, LATER));
 }
 
 /// A refused Draw that comes again on a day on which a new one is not refused.
@@ -85,23 +84,23 @@ const REFUSED: &'static [Part] = &[
             DRAW,
             (
                 20000,
-                "53310102 00000007 00000002 52414742",
-                Reply("53310182 00000007 00000002 52414742 00 00004e20 52413030303030303031344742"),
+                b"S1\x01\x02\0\0\0\x07\0\0\0\x02RAGB",
+                Reply(b"S1\x01\x82\0\0\0\x07\0\0\0\x02RAGB\0\0\0\x4e\x20RA000000014GB"),
             ),
             (
                 20000,
-                "53310102 00000007 00000003 52414742",
-                Reply("53310182 00000007 00000003 52414742 00 00004e20 52413030303030303032384742"),
+                b"S1\x01\x02\0\0\0\x07\0\0\0\x03RAGB",
+                Reply(b"S1\x01\x82\0\0\0\x07\0\0\0\x03RAGB\0\0\0\x4e\x20RA000000028GB"),
             ),
             (
                 20029,
-                "53310102 00000007 00000004 52414742",
-                Reply("53310182 00000007 00000004 52414742 05"),
+                b"S1\x01\x02\0\0\0\x07\0\0\0\x04RAGB",
+                Reply(b"S1\x01\x82\0\0\0\x07\0\0\0\x04RAGB\x05"),
             ),
             (
                 20030,
-                "53310102 00000007 00000004 52414742",
-                Reply("53310182 00000007 00000004 52414742 05"),
+                b"S1\x01\x02\0\0\0\x07\0\0\0\x04RAGB",
+                Reply(b"S1\x01\x82\0\0\0\x07\0\0\0\x04RAGB\x05"),
             ),
         ],
         5,
@@ -110,8 +109,8 @@ const REFUSED: &'static [Part] = &[
     (
         &[(
             20030,
-            "53310102 00000007 00000005 52414742",
-            Reply("53310182 00000007 00000005 52414742 00 00004e3e 52413030303030303030354742"),
+            b"S1\x01\x02\0\0\0\x07\0\0\0\x05RAGB",
+            Reply(b"S1\x01\x82\0\0\0\x07\0\0\0\x05RAGB\0\0\0\x4e\x3eRA000000005GB"),
         )],
         6,
         20030,
@@ -119,9 +118,8 @@ const REFUSED: &'static [Part] = &[
 ];
 
 #[test]
-fn repeat_of_a_refused_draw_is_refused_still(rt: HostRuntime) -> Result<(), Fail> {
-    assert!(rt; is_played(rt.alloc(), 100, REFUSED)?);
-    Ok(())
+fn repeat_of_a_refused_draw_is_refused_still(rt: HostRuntime) {
+    assert!(rt; is_played(rt.alloc(), 100, REFUSED));
 }
 
 /// A number that comes again with another request, and then with its own.
@@ -132,8 +130,8 @@ const REUSED: &'static [Part] = &[
             DRAW,
             (
                 20000,
-                "53310104 00000007 00000001 52413030303030303030354742",
-                Reply("53310184 00000007 00000001 52413030303030303030354742 09"),
+                b"S1\x01\x04\0\0\0\x07\0\0\0\x01RA000000005GB",
+                Reply(b"S1\x01\x84\0\0\0\x07\0\0\0\x01RA000000005GB\x09"),
             ),
         ],
         2,
@@ -143,7 +141,6 @@ const REUSED: &'static [Part] = &[
 ];
 
 #[test]
-fn number_reused_is_not_kept(rt: HostRuntime) -> Result<(), Fail> {
-    assert!(rt; is_played(rt.alloc(), 100, REUSED)?);
-    Ok(())
+fn number_reused_is_not_kept(rt: HostRuntime) {
+    assert!(rt; is_played(rt.alloc(), 100, REUSED));
 }

@@ -1,10 +1,12 @@
+//! Rounds of a server over links that follow a script.
+
+use crate::expect::holds_at;
 use crate::fixtures::{FIRST_DRAW, FIRST_GRANT, Tripping, deliver, new_server};
 use s10_book::{Book, BookFault, Settle, TripBook};
 use s10_ends::{Server, ServerTurn, Turn, serve_round};
 use s10_link::{Link, LinkFault, Peer, Receipt, ScriptLink};
 use s10_wire::{Frame, WireFault};
 use std::alloc::{AllocError, Global};
-use std::test::Fail;
 
 const PEER: Peer = Peer {
     ip: [10, 0, 0, 7],
@@ -119,13 +121,15 @@ fn serves<B: Settle>(
     server: &mut Server<B>,
     link: &mut ScriptLink,
     round: &Round,
-) -> Result<bool, AllocError> {
+) -> bool {
     let (most, told, sent) = *round;
     if most < 1 {
-        return Ok(false);
+        return false;
     }
-    let turns = serve_round(alloc, server, link, 20_000, most)?;
-    Ok(are_as_told(&turns, told) && link.log().len() == sent)
+    match serve_round(alloc, server, link, 20_000, most) {
+        Ok(turns) => are_as_told(&turns, told) && link.log().len() == sent,
+        Err(_) => false,
+    }
 }
 
 /// Whether the link sent these replies, in this order, and nothing else.
@@ -139,37 +143,30 @@ fn has_sent(link: &ScriptLink, replies: &[(Peer, Call)]) -> bool {
     link.log().len() == replies.len()
 }
 
-/// Whether the rounds of a script go as told, one after another, and so do its replies and calls.
-fn all_serve<B: Settle>(
-    alloc: Global,
-    server: &mut Server<B>,
-    link: &mut ScriptLink,
-    script: &Script,
-) -> Result<bool, AllocError> {
-    for round in script.rounds {
-        if !serves(alloc, server, link, round)? {
-            return Ok(false);
-        }
-    }
-    Ok(has_sent(link, script.replies) && link.trace().calls == script.calls)
-}
-
-/// Whether a server goes through a script as told.
-fn goes_through<B: Settle>(
-    alloc: Global,
-    server: &mut Server<B>,
-    script: &Script,
-) -> Result<bool, AllocError> {
+/// A link that follows a script.
+fn link_of(alloc: Global, script: &Script) -> Result<ScriptLink, AllocError> {
     let receipts = receipts_of(alloc, script.receipts)?;
     let sends = script.sends.to_vec(alloc)?;
-    let mut link = ScriptLink::new(alloc, receipts, sends)?;
-    all_serve(alloc, server, &mut link, script)
+    ScriptLink::new(alloc, receipts, sends)
+}
+
+/// Whether a server goes through the rounds of a script as told, one after another, and so do its replies and calls.
+fn goes_through<B: Settle>(alloc: Global, server: &mut Server<B>, script: &Script) -> bool {
+    let Ok(mut link) = link_of(alloc, script) else {
+        return false;
+    };
+    for round in script.rounds {
+        if !serves(alloc, server, &mut link, round) {
+            return false;
+        }
+    }
+    has_sent(&link, script.replies) && link.trace().calls == script.calls
 }
 
 /// Whether a script goes as told over an empty book, which then has so many calls.
-fn leaves(alloc: Global, script: &Script, calls: u32) -> Result<bool, Fail> {
-    let mut server = new_server(alloc, 100)?;
-    Ok(goes_through(alloc, &mut server, script)? && server.book().len() == calls)
+fn leaves(alloc: Global, script: &Script, calls: u32) -> bool {
+    let mut server = new_server(alloc, 100);
+    goes_through(alloc, &mut server, script) && server.book().len() == calls
 }
 
 /// All five in one round.
@@ -192,9 +189,8 @@ const ONE_ROUND: Script = Script {
 };
 
 #[test]
-fn each_reply_goes_to_its_peer_in_turn(rt: HostRuntime) -> Result<(), Fail> {
-    assert!(rt; leaves(rt.alloc(), &ONE_ROUND, 3)?);
-    Ok(())
+fn each_reply_goes_to_its_peer_in_turn(rt: HostRuntime) {
+    assert!(rt; leaves(rt.alloc(), &ONE_ROUND, 3));
 }
 
 /// Two at a time.
@@ -225,9 +221,8 @@ const THREE_ROUNDS: Script = Script {
 };
 
 #[test]
-fn a_round_leaves_the_others_for_the_next(rt: HostRuntime) -> Result<(), Fail> {
-    assert!(rt; leaves(rt.alloc(), &THREE_ROUNDS, 3)?);
-    Ok(())
+fn a_round_leaves_the_others_for_the_next(rt: HostRuntime) {
+    assert!(rt; leaves(rt.alloc(), &THREE_ROUNDS, 3));
 }
 
 /// A receive that fails between a Grant and a Draw.
@@ -254,9 +249,8 @@ const FAILED_RECEIVE: Script = Script {
 };
 
 #[test]
-fn a_failed_receive_is_told_behind_the_datagrams(rt: HostRuntime) -> Result<(), Fail> {
-    assert!(rt; leaves(rt.alloc(), &FAILED_RECEIVE, 2)?);
-    Ok(())
+fn a_failed_receive_is_told_behind_the_datagrams(rt: HostRuntime) {
+    assert!(rt; leaves(rt.alloc(), &FAILED_RECEIVE, 2));
 }
 
 /// Rounds over no receipt, over a receive that meets nothing, and over one that fails.
@@ -285,11 +279,10 @@ const LONE_ROUNDS: [Script; 3] = [
 ];
 
 #[test]
-fn a_round_without_a_datagram_is_one_turn(rt: HostRuntime) -> Result<(), Fail> {
+fn a_round_without_a_datagram_is_one_turn(rt: HostRuntime) {
     for (at, script) in LONE_ROUNDS.iter().enumerate() {
-        assert!(rt; leaves(rt.alloc(), script, 0)?, "script {at}");
+        holds_at(&rt, at, leaves(rt.alloc(), script, 0));
     }
-    Ok(())
 }
 
 /// A send that fails, and one that is not left.
@@ -312,17 +305,16 @@ const FAILED_SENDS: Script = Script {
 };
 
 #[test]
-fn a_failed_send_leaves_the_other_replies(rt: HostRuntime) -> Result<(), Fail> {
-    assert!(rt; leaves(rt.alloc(), &FAILED_SENDS, 3)?);
-    Ok(())
+fn a_failed_send_leaves_the_other_replies(rt: HostRuntime) {
+    assert!(rt; leaves(rt.alloc(), &FAILED_SENDS, 3));
 }
 
 /// A server that took the first Grant, over a book whose call with this number from then on fails.
-fn tripping_server(alloc: Global, at: u64) -> Result<Tripping, Fail> {
-    let mut server = new_server(alloc, 100)?;
+fn tripping_server(alloc: Global, at: u64) -> Tripping {
+    let mut server = new_server(alloc, 100);
     let _ = server.handle(FIRST_GRANT.0, 20_000);
     let server = Server::new(TripBook::new(server.into_book(), at));
-    Ok(Tripping { server })
+    Tripping { server }
 }
 
 /// Two Draws in one round, with their replies.
@@ -345,35 +337,29 @@ const TWO_DRAWS: Script = Script {
 };
 
 /// Whether a round over two Draws sends both replies, and how a settling behind it fails.
-fn served_then_settled(alloc: Global, at: u64) -> Result<(bool, Option<BookFault>), Fail> {
-    let Tripping { mut server } = tripping_server(alloc, at)?;
-    let is_sent = goes_through(alloc, &mut server, &TWO_DRAWS)?;
-    Ok((is_sent, server.into_book().settle().err()))
-}
-
-/// Whether both replies are sent where the settling of the round fails, which is this call of the book, and where the next does,
-/// which is the settling behind it.
-fn settlings_fail(alloc: Global, at: u64) -> Result<bool, Fail> {
-    let own = served_then_settled(alloc, at)?;
-    let next = served_then_settled(alloc, at.saturating_add(1))?;
-    Ok(own == (true, None) && next == (true, Some(BookFault::Store)))
+fn served_then_settled(alloc: Global, at: u64) -> (bool, Option<BookFault>) {
+    let Tripping { mut server } = tripping_server(alloc, at);
+    let is_sent = goes_through(alloc, &mut server, &TWO_DRAWS);
+    (is_sent, server.into_book().settle().err())
 }
 
 /// How many rounds do not send both replies, where a call of the book fails, each in turn.
-fn faulted_rounds(alloc: Global) -> Result<u64, Fail> {
+fn faulted_rounds(alloc: Global) -> u64 {
     let mut faulted: u64 = 0;
     for at in 0..20u64 {
-        if !served_then_settled(alloc, at)?.0 {
+        if !served_then_settled(alloc, at).0 {
             faulted = faulted.saturating_add(1);
         }
     }
-    Ok(faulted)
+    faulted
 }
 
-// All calls of a book in memory are settled. Its call behind those of the Draws is the settling.
+// All calls of a book in memory are settled. Its call behind those of the Draws is the settling of the round, and the next one the
+// settling behind it: both replies are sent where either fails.
 #[test]
-fn settled_calls_are_answered_though_a_settling_fails(rt: HostRuntime) -> Result<(), Fail> {
-    let faulted = faulted_rounds(rt.alloc())?;
-    assert!(rt; settlings_fail(rt.alloc(), faulted)?);
-    Ok(())
+fn settled_calls_are_answered_though_a_settling_fails(rt: HostRuntime) {
+    let own = faulted_rounds(rt.alloc());
+    let next = own.saturating_add(1);
+    assert!(rt; served_then_settled(rt.alloc(), own) == (true, None));
+    assert!(rt; served_then_settled(rt.alloc(), next) == (true, Some(BookFault::Store)));
 }

@@ -1,3 +1,8 @@
+//! Turns of a server over links that follow a script.
+
+ghost use Rattle.std.specs.Prelude.{◌≤◌};
+
+use crate::expect::holds_at;
 use crate::fixtures::{FIRST_DRAW, FIRST_GRANT, deliver, new_server, script};
 use s10_book::{Book, BookFault, PlainBook};
 use s10_ends::{Server, ServerTurn, serve_one};
@@ -35,10 +40,13 @@ const CALLS: [(&'static [u8], &'static [u8]); 5] = [
 ];
 
 /// A server that took the first Grant.
-fn granted_server(alloc: Global, limit: u32) -> Result<Server<PlainBook>, Fail> {
-    let mut server = new_server(alloc, limit)?;
+fn granted_server(alloc: Global, limit: u32) -> Server<PlainBook>
+    requires least { 1 ≤ limit }
+    requires most { limit ≤ 100 }
+{
+    let mut server = new_server(alloc, limit);
     let _ = server.handle(FIRST_GRANT.0, 20_000);
-    Ok(server)
+    server
 }
 
 /// Whether one turn ends so.
@@ -68,7 +76,7 @@ fn has_sent(link: &ScriptLink, reply: &[u8]) -> bool {
 
 #[test]
 fn reply_that_was_not_sent_is_kept(rt: HostRuntime) -> Result<(), Fail> {
-    let mut server = granted_server(rt.alloc(), 100)?;
+    let mut server = granted_server(rt.alloc(), 100);
     let receipts = [deliver(PEER, FIRST_DRAW.0), deliver(PEER, FIRST_DRAW.0)];
     let mut link = script(rt.alloc(), &receipts, &[false, true])?;
     assert!(rt; serves(&mut server, &mut link, Err(LinkFault::Send)));
@@ -88,22 +96,10 @@ fn receipts_without_a_reply() -> [Receipt; 5] {
     ]
 }
 
-/// The first turn that does not end so, if any.
-fn first_unlike(
-    server: &mut Server<PlainBook>,
-    link: &mut ScriptLink,
-    turns: &[Result<ServerTurn, LinkFault>],
-) -> Option<usize> {
-    for (at, turn) in turns.iter().enumerate() {
-        if !serves(server, link, *turn) {
-            return Some(at);
-        }
-    }
-    None
-}
-
-/// The first turn that does not end as those receipts do over a full book and a link that is spent, if any.
-fn first_replied(server: &mut Server<PlainBook>, link: &mut ScriptLink) -> Option<usize> {
+#[test]
+fn turns_without_a_reply(rt: HostRuntime) -> Result<(), Fail> {
+    let mut server = granted_server(rt.alloc(), 1);
+    let mut link = script(rt.alloc(), &receipts_without_a_reply(), &[])?;
     let turns = [
         Ok(ServerTurn::Quiet),
         Ok(ServerTurn::Dropped(PEER, WireFault::Short)),
@@ -112,15 +108,9 @@ fn first_replied(server: &mut Server<PlainBook>, link: &mut ScriptLink) -> Optio
         Err(LinkFault::Spent),
         Ok(ServerTurn::Quiet),
     ];
-    first_unlike(server, link, &turns)
-}
-
-#[test]
-fn turns_without_a_reply(rt: HostRuntime) -> Result<(), Fail> {
-    let mut server = granted_server(rt.alloc(), 1)?;
-    let mut link = script(rt.alloc(), &receipts_without_a_reply(), &[])?;
-    let replied = first_replied(&mut server, &mut link);
-    assert!(rt; replied.is_none(), "turn {replied:?}");
+    for (at, turn) in turns.iter().enumerate() {
+        holds_at(&rt, at, serves(&mut server, &mut link, *turn));
+    }
     assert!(rt; link.log().is_empty() && server.book().len() == 1);
     Ok(())
 }
@@ -139,61 +129,52 @@ fn each_call_twice(alloc: Global, failing: Option<usize>) -> Result<Vec<Receipt>
     Ok(receipts)
 }
 
-/// Whether ten turns over each call twice send each reply but one, whose send fails.
-fn survives_a_lost_reply(alloc: Global, failing: usize) -> Result<bool, Fail> {
-    let mut server = new_server(alloc, 100)?;
+/// Whether ten turns over each call twice send each reply, and one of them fails so: instead of its reply where that is not sent,
+/// and else before it.
+fn is_survived(alloc: Global, link: &mut ScriptLink, failing: usize, fault: LinkFault) -> bool {
+    let mut server = new_server(alloc, 100);
+    for turn in 0..10usize {
+        let fails = turn == failing;
+        if fails && !serves(&mut server, link, Err(fault)) {
+            return false;
+        }
+        let is_sent = !fails || fault == LinkFault::Receive;
+        if is_sent && !replies(&mut server, link, CALLS[turn / 2].1) {
+            return false;
+        }
+    }
+    server.book().len() == 5
+}
+
+/// Whether a server survives that this reply is lost.
+fn survives_a_lost_reply(alloc: Global, failing: usize) -> Result<bool, AllocError> {
     let mut sends = [true; 10];
     if let Some(send) = sends.get_mut(failing) {
         *send = false;
     }
     let mut link = script(alloc, &each_call_twice(alloc, None)?, &sends)?;
-    for turn in 0..10usize {
-        let done = if turn == failing {
-            serves(&mut server, &mut link, Err(LinkFault::Send))
-        } else {
-            replies(&mut server, &mut link, CALLS[turn / 2].1)
-        };
-        if !done {
-            return Ok(false);
-        }
-    }
-    Ok(server.book().len() == 5 && link.log().len() == 9)
+    Ok(is_survived(alloc, &mut link, failing, LinkFault::Send) && link.log().len() == 9)
 }
 
 #[test]
-fn any_one_reply_may_be_lost(rt: HostRuntime) -> Result<(), Fail> {
+fn any_one_reply_may_be_lost(rt: HostRuntime) {
     for failing in 0..10usize {
-        assert!(rt;
-            survives_a_lost_reply(rt.alloc(), failing)?,
-            "reply {failing}"
-        );
+        let survives = survives_a_lost_reply(rt.alloc(), failing);
+        holds_at(&rt, failing, survives == Ok(true));
     }
-    Ok(())
 }
 
-/// Whether turns over each call twice send each reply, beside one turn whose receive fails.
-fn survives_a_failed_receive(alloc: Global, failing: usize) -> Result<bool, Fail> {
-    let mut server = new_server(alloc, 100)?;
+/// Whether a server survives that this receive fails.
+fn survives_a_failed_receive(alloc: Global, failing: usize) -> Result<bool, AllocError> {
     let receipts = each_call_twice(alloc, Some(failing))?;
     let mut link = script(alloc, &receipts, &[true; 10])?;
-    for turn in 0..10usize {
-        if turn == failing && !serves(&mut server, &mut link, Err(LinkFault::Receive)) {
-            return Ok(false);
-        }
-        if !replies(&mut server, &mut link, CALLS[turn / 2].1) {
-            return Ok(false);
-        }
-    }
-    Ok(server.book().len() == 5 && link.log().len() == 10)
+    Ok(is_survived(alloc, &mut link, failing, LinkFault::Receive) && link.log().len() == 10)
 }
 
 #[test]
-fn any_one_receive_may_fail(rt: HostRuntime) -> Result<(), Fail> {
+fn any_one_receive_may_fail(rt: HostRuntime) {
     for failing in 0..10usize {
-        assert!(rt;
-            survives_a_failed_receive(rt.alloc(), failing)?,
-            "receive {failing}"
-        );
+        let survives = survives_a_failed_receive(rt.alloc(), failing);
+        holds_at(&rt, failing, survives == Ok(true));
     }
-    Ok(())
 }

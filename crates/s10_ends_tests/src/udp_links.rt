@@ -1,7 +1,10 @@
-use crate::fixtures::{ANY_PORT, FIRST_DRAW, draw};
+//! Links of two sockets of this machine.
+
+use crate::expect::holds_at;
+use crate::fixtures::{ANY_PORT, FIRST_DRAW, request};
 use s10_ends::UdpLink;
 use s10_link::{Link, LinkFault, Packet, Trace};
-use s10_wire::{Frame, Request, encode_request};
+use s10_wire::{Frame, encode_request};
 use std::net::Net;
 use std::test::Fail;
 
@@ -28,15 +31,6 @@ fn passes_both_ways(near: &mut UdpLink, far: &mut UdpLink, frame: &Frame, packet
     passes(near, far, frame, packet) && passes(far, near, frame, packet) && is_refused(near, frame)
 }
 
-/// The frame of customer 7's first Draw.
-fn draw_frame() -> Result<Frame, &'static str> {
-    Ok(encode_request(&Request {
-        customer: 7,
-        number: 1,
-        body: draw()?,
-    }))
-}
-
 /// Whether a link sent the frame once to the other one, took the packet from it, and failed in a third call.
 fn has_counted(near: &UdpLink, far: &UdpLink, frame: Frame, packet: Packet) -> bool {
     near.trace()
@@ -57,7 +51,7 @@ fn datagrams_pass_over_loopback(rt: HostRuntime) -> Result<(), Fail> {
     let mut far = UdpLink::bind(&rt, ANY_PORT, 1_000)?;
     assert!(rt; are_apart(&near, &far));
 
-    let frame = draw_frame()?;
+    let frame = encode_request(&request(1));
     let packet = Packet::new(FIRST_DRAW.0);
     assert!(rt; passes_both_ways(&mut near, &mut far, &frame, packet));
     assert!(rt; has_counted(&near, &far, frame, packet));
@@ -90,31 +84,33 @@ fn what_has_come_is_taken_at_once(rt: HostRuntime) -> Result<(), Fail> {
     let mut near = UdpLink::bind(&rt, ANY_PORT, 100_000)?;
     let mut far = UdpLink::bind(&rt, ANY_PORT, 100_000)?;
     let packet = Packet::new(FIRST_DRAW.0);
-    assert!(rt; takes_what_has_come(&mut near, &mut far, &draw_frame()?, packet));
+    let frame = encode_request(&request(1));
+    assert!(rt; takes_what_has_come(&mut near, &mut far, &frame, packet));
     assert!(rt; has_received(&far, 4, 2));
     Ok(())
 }
 
 /// Whether a receive that waits so many milliseconds answers that nothing came.
-fn hears_nothing<N: Net>(net: &N, wait_ms: u32) -> Result<bool, LinkFault> {
-    let mut link = UdpLink::bind(net, ANY_PORT, wait_ms)?;
-    Ok(link.receive() == Ok(None) && link.trace().calls == 1 && link.trace().failures == 0)
+fn hears_nothing<N: Net>(net: &N, wait_ms: u32) -> bool {
+    match UdpLink::bind(net, ANY_PORT, wait_ms) {
+        Ok(mut link) => {
+            link.receive() == Ok(None) && link.trace().calls == 1 && link.trace().failures == 0
+        }
+        Err(_) => false,
+    }
 }
 
 #[test]
-fn wait_that_ran_out_is_nothing(rt: HostRuntime) -> Result<(), Fail> {
-    for wait in [0, 1, 20] {
-        assert!(rt; hears_nothing(&rt, wait)?, "after {wait} ms");
+fn wait_that_ran_out_is_nothing(rt: HostRuntime) {
+    for (at, wait) in [0, 1, 20].iter().enumerate() {
+        holds_at(&rt, at, hears_nothing(&rt, *wait));
     }
-    Ok(())
 }
 
 #[test]
-fn taken_port_cannot_be_bound(rt: HostRuntime) -> Result<(), Fail> {
-    let first = UdpLink::bind(&rt, ANY_PORT, 1)?;
-    match UdpLink::bind(&rt, first.local(), 1) {
-        Err(fault) => assert_eq!(rt; fault, LinkFault::Bind),
-        Ok(_) => panic!(rt; "bound twice"),
-    }
-    Ok(())
+fn taken_port_cannot_be_bound(rt: HostRuntime) {
+    let Ok(first) = UdpLink::bind(&rt, ANY_PORT, 1) else {
+        panic!(rt; "no socket");
+    };
+    assert!(rt; UdpLink::bind(&rt, first.local(), 1).err() == Some(LinkFault::Bind));
 }

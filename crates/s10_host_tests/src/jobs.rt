@@ -1,22 +1,23 @@
 //! Jobs of command lines.
 
+use crate::expect::holds_at;
 use s10_cli::parse_job;
 use s10_host::run_job;
 use s10_jobs::JobStatus;
 use sqlite::Unknown;
 
 /// Whether the job of a command line has this status and prints this line.
-fn ends_with(rt: &HostRuntime, words: &[&str], status: JobStatus, line: &[u8]) -> bool {
+pub(crate) fn ends_with(rt: &HostRuntime, words: &[&str], status: JobStatus, line: &str) -> bool {
     let Ok(Some(job)) = parse_job(rt.alloc(), words) else {
         return false;
     };
     let mut output = Vec::new(rt.alloc());
     let (ended, _left) = run_job(rt, &job, Unknown, &mut output);
-    ended == Ok(status) && output.as_slice() == line
+    ended == Ok(status) && output.as_slice() == line.as_bytes()
 }
 
 /// The words of a command line, and the status and the line that its job ends with.
-const CASES: &[(&[&str], JobStatus, &[u8])] = &[
+const CASES: &[(&[&str], JobStatus, &str)] = &[
     (
         &[
             "s10",
@@ -29,7 +30,7 @@ const CASES: &[(&[&str], JobStatus, &[u8])] = &[
             "100",
         ],
         JobStatus::Failed,
-        b"ledger store\n",
+        "ledger store\n",
     ),
     (
         &[
@@ -43,7 +44,7 @@ const CASES: &[(&[&str], JobStatus, &[u8])] = &[
             "1",
         ],
         JobStatus::Refused,
-        b"refused peer\n",
+        "refused peer\n",
     ),
     (
         &[
@@ -57,23 +58,23 @@ const CASES: &[(&[&str], JobStatus, &[u8])] = &[
             "1",
         ],
         JobStatus::Failed,
-        b"ledger store\n",
+        "ledger store\n",
     ),
     (
         &["s10", "report", "--ledger", "nowhere/a.db", "--issues"],
         JobStatus::Failed,
-        b"ledger store\n",
+        "ledger store\n",
     ),
     (
         &["s10", "audit", "--ledger", "nothing.db"],
         JobStatus::Failed,
-        b"ledger not-a-ledger\n",
+        "ledger not-a-ledger\n",
     ),
 ];
 
 #[test]
 fn what_cannot_be_done_has_its_line_and_status(rt: HostRuntime) {
-    for (words, status, line) in CASES {
-        assert!(rt; ends_with(&rt, words, *status, line), "{words:?}");
+    for (at, (words, status, line)) in CASES.iter().enumerate() {
+        holds_at(&rt, at, ends_with(&rt, words, *status, line));
     }
 }

@@ -1,11 +1,11 @@
 //! The texts of requests, and requests over sockets.
 
+use crate::expect::holds_at;
 use crate::refusing::Refusing;
 use s10_jobs::{BodyWords, JobStatus, Question, Tries};
 use s10_lines::WriteFault;
 use s10_sockets::run_question;
 use std::net::Net;
-use std::test::Fail;
 
 /// What is asked for: by customer 7, or by the post.
 #[derive(Clone, Copy)]
@@ -110,7 +110,6 @@ fn is_told<R: Net + Eprint + AllocGlobal>(
 /// The same of the first question of the customer or the post.
 fn asked_is_told<R: Net + Eprint + AllocGlobal>(
     rt: &R,
-    tries: Tries,
     to: &str,
     asked: Asked,
     status: JobStatus,
@@ -126,19 +125,14 @@ fn asked_is_told<R: Net + Eprint + AllocGlobal>(
         customer,
         number: 1,
         body,
-        tries,
+        tries: Tries::new(1).unwrap(),
     };
     is_told(rt, &question, status, line)
 }
 
 #[test]
-fn what_is_not_asked_has_its_line(rt: HostRuntime) -> Result<(), Fail> {
-    let tries = Tries::new(1).ok_or("tries")?;
-    for (to, asked, status, line) in CASES {
-        assert!(rt;
-            asked_is_told(&rt, tries, to, *asked, *status, line),
-            "{line}"
-        );
+fn what_is_not_asked_has_its_line(rt: HostRuntime) {
+    for (at, (to, asked, status, line)) in CASES.iter().enumerate() {
+        holds_at(&rt, at, asked_is_told(&rt, to, *asked, *status, line));
     }
-    Ok(())
 }

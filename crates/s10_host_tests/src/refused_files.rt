@@ -1,10 +1,8 @@
 //! What is no ledger: each job over it is refused, and leaves its folder as it was.
 
-use s10_cli::parse_job;
-use s10_host::run_job;
+use crate::expect::holds_at;
+use crate::jobs::ends_with;
 use s10_jobs::JobStatus;
-use sqlite::Unknown;
-use std::test::Fail;
 use std::{fs, io};
 
 /// Made for each path, and taken away again.
@@ -14,17 +12,7 @@ const FILE: &str = "refused_files_test/ledger";
 
 const IN_NO_FOLDER: &str = "refused_files_test/nowhere/ledger";
 
-/// Whether the job of a command line ends with status 3 and this line.
-fn is_refused(rt: &HostRuntime, words: &[&str], line: &str) -> bool {
-    let Ok(Some(job)) = parse_job(rt.alloc(), words) else {
-        return false;
-    };
-    let mut output = Vec::new(rt.alloc());
-    let (ended, _left) = run_job(rt, &job, Unknown, &mut output);
-    ended == Ok(JobStatus::Failed) && output.as_slice() == line.as_bytes()
-}
-
-/// Whether each job over the ledger at the path is.
+/// Whether each job over the ledger at the path ends with status 3 and this line.
 fn are_refused(rt: &HostRuntime, ledger: &str, line: &str) -> bool {
     let audit = ["s10", "audit", "--ledger", ledger];
     let report = ["s10", "report", "--ledger", ledger, "--day", "20000"];
@@ -38,7 +26,9 @@ fn are_refused(rt: &HostRuntime, ledger: &str, line: &str) -> bool {
         "--count",
         "1",
     ];
-    is_refused(rt, &audit, line) && is_refused(rt, &report, line) && is_refused(rt, &serve, line)
+    ends_with(rt, &audit, JobStatus::Failed, line)
+        && ends_with(rt, &report, JobStatus::Failed, line)
+        && ends_with(rt, &serve, JobStatus::Failed, line)
 }
 
 /// Makes the folder, with nothing in it.
@@ -86,12 +76,11 @@ const OTHERS: &[(&str, &str)] = &[
 ];
 
 #[test]
-fn what_is_no_ledger_stays_as_it_was(rt: HostRuntime) -> Result<(), Fail> {
-    for (ledger, line) in ABSENT {
-        assert!(rt; stays_away(&rt, ledger, line)?, "{ledger}");
+fn what_is_no_ledger_stays_as_it_was(rt: HostRuntime) {
+    for (at, (ledger, line)) in ABSENT.iter().enumerate() {
+        holds_at(&rt, at, matches!(stays_away(&rt, ledger, line), Ok(true)));
     }
-    for (bytes, line) in OTHERS {
-        assert!(rt; stays(&rt, bytes, line)?, "{bytes}");
+    for (at, (bytes, line)) in OTHERS.iter().enumerate() {
+        holds_at(&rt, at, matches!(stays(&rt, bytes, line), Ok(true)));
     }
-    Ok(())
 }

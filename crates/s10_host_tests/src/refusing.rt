@@ -1,3 +1,5 @@
+//! A writer that refuses.
+
 use std::io;
 use std::io::Write;
 

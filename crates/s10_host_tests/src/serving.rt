@@ -8,7 +8,6 @@ use s10_link::Peer;
 use s10_sockets::serve_at;
 use std::alloc::Global;
 use std::net::Net;
-use std::test::Fail;
 use std::time::Clock;
 
 const ANY: Peer = Peer {
@@ -23,20 +22,18 @@ fn is_served_at<R: Net + Clock + Eprint + AllocGlobal>(
     count: u32,
     status: JobStatus,
     text: &str,
-) -> Result<bool, Fail> {
-    let settings = Settings::new(30, 2).ok_or("settings")?;
-    let book = PlainBook::new(rt.alloc(), settings);
+) -> bool {
+    let book = PlainBook::new(rt.alloc(), Settings::new(30, 2).unwrap());
     let mut out = Vec::new(rt.alloc());
     let (served, _link, _book) = serve_at(rt, rt.alloc(), at, book, count, Some(20_000), &mut out);
-    Ok(served == Ok(status) && out.as_slice() == text.as_bytes())
+    served == Ok(status) && out.as_slice() == text.as_bytes()
 }
 
 #[test]
-fn a_server_is_bound_before_its_turns(rt: HostRuntime) -> Result<(), Fail> {
-    assert!(rt; is_served_at(&rt, ANY, 0, JobStatus::Done, "")?);
+fn a_server_is_bound_before_its_turns(rt: HostRuntime) {
+    assert!(rt; is_served_at(&rt, ANY, 0, JobStatus::Done, ""));
     let Ok(taken) = UdpLink::bind(&rt, ANY, 1) else {
         panic!(rt; "no socket");
     };
-    assert!(rt; is_served_at(&rt, taken.local(), 1, JobStatus::Failed, "link bind\n")?);
-    Ok(())
+    assert!(rt; is_served_at(&rt, taken.local(), 1, JobStatus::Failed, "link bind\n"));
 }

@@ -2,81 +2,56 @@
 
 use s10_core::{Country, Id, Serial, Service};
 use s10_wire::{Body, Count, Request};
-use std::process::Abort;
 
-fn service(rt: &impl Abort) -> Service {
-    match Service::new(*b"RA") {
-        Some(service) => service,
-        None => panic!(rt),
-    }
+/// What a request asks.
+#[derive(Clone, Copy)]
+pub enum Asked {
+    /// The holder, and the serials from the first to the last.
+    Grant(u32, u32, u32),
+    Draw,
+    /// For so many identifiers.
+    DrawMany(u8),
+    Void(u32),
+    Query(u32),
+    /// The range with this number.
+    Withdraw(u32),
 }
 
-fn country(rt: &impl Abort) -> Country {
-    match Country::new(*b"GB") {
-        Some(country) => country,
-        None => panic!(rt),
-    }
+pub(crate) fn id(value: u32) -> Option<Id> {
+    Some(Id {
+        service: Service::new(*b"RA")?,
+        serial: Serial::new(value)?,
+        country: Country::new(*b"GB")?,
+    })
 }
 
-fn serial(rt: &impl Abort, value: u32) -> Serial {
-    match Serial::new(value) {
-        Some(serial) => serial,
-        None => panic!(rt),
-    }
-}
-
-pub(crate) fn id(rt: &impl Abort, value: u32) -> Id {
-    Id {
-        service: service(rt),
-        serial: serial(rt, value),
-        country: country(rt),
-    }
-}
-
-pub(crate) fn grant(rt: &impl Abort, holder: u32, first: u32, last: u32) -> Body {
-    Body::Grant {
-        holder,
-        service: service(rt),
-        country: country(rt),
-        first: serial(rt, first),
-        last: serial(rt, last),
-    }
-}
-
-pub(crate) fn draw(rt: &impl Abort) -> Body {
-    Body::Draw {
-        service: service(rt),
-        country: country(rt),
-    }
-}
-
-pub(crate) fn draw_many(rt: &impl Abort, count: u8) -> Body {
-    Body::DrawMany {
-        service: service(rt),
-        country: country(rt),
-        count: match Count::new(count) {
-            Some(count) => count,
-            None => panic!(rt),
+fn body(asked: &Asked) -> Option<Body> {
+    let any = id(0)?;
+    let (service, country) = (any.service, any.country);
+    Some(match *asked {
+        Asked::Grant(holder, first, last) => Body::Grant {
+            holder,
+            service,
+            country,
+            first: id(first)?.serial,
+            last: id(last)?.serial,
         },
-    }
+        Asked::Draw => Body::Draw { service, country },
+        Asked::DrawMany(count) => Body::DrawMany {
+            service,
+            country,
+            count: Count::new(count)?,
+        },
+        Asked::Void(value) => Body::Void { id: id(value)? },
+        Asked::Query(value) => Body::Query { id: id(value)? },
+        Asked::Withdraw(range) => Body::Withdraw { range },
+    })
 }
 
-pub(crate) fn void(rt: &impl Abort, value: u32) -> Body {
-    Body::Void { id: id(rt, value) }
-}
-
-pub(crate) fn query(rt: &impl Abort, value: u32) -> Body {
-    Body::Query { id: id(rt, value) }
-}
-
-pub(crate) fn withdraw(range: u32) -> Body {
-    Body::Withdraw { range }
-}
-
-pub(crate) fn request(customer: u32, number: u32, body: Body) -> Request {
-    Request {
+pub(crate) fn request(customer: u32, number: u32, asked: &Asked) -> Option<Request> {
+    Some(Request {
         customer,
         number,
-        body,
-    }
+        body: body(asked)?,
+    })
 }

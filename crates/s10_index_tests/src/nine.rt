@@ -1,19 +1,12 @@
 //! The nine worked calls.
 
-use crate::books::{answer, entry_is_alike, new_books, report_alike};
-use crate::calls::{draw, grant, id, query, request, void};
-use s10_book::{Book, BookFault, PlainBook};
+use crate::books::{ask, first_call_unlike, first_day_unlike, new_books, same};
+use crate::calls::{Asked, id};
+use s10_book::{Book, PlainBook};
 use s10_index::IndexedBook;
-use s10_wire::{Body, Outcome, Status};
+use s10_wire::{Outcome, Status};
 use std::process::Abort;
-
-/// What customer 7 asks, and the post in its place of a Grant.
-#[derive(Clone, Copy)]
-enum Asked {
-    Grant(u32, u32),
-    Draw,
-    Void(u32),
-}
+use std::test::Fail;
 
 /// What is answered.
 #[derive(Clone, Copy)]
@@ -23,142 +16,123 @@ enum Answered {
     Other(Outcome),
 }
 
-/// The number, what is asked, the day that it is handed in on, and what is answered.
-type Step = (u32, Asked, u32, Answered);
+/// The customer, the number, what is asked, the day that it is handed in on, and what is answered.
+type Step = (u32, u32, Asked, u32, Answered);
 
 /// One range of three serials is drawn, voided and drawn again: six calls. Then three Draws, two of
 /// them on the thirtieth day.
 const NINE_CALLS: [Step; 9] = [
     (
+        0,
         1,
-        Asked::Grant(0, 2),
+        Asked::Grant(7, 0, 2),
         20000,
         Answered::Other(Outcome::Granted { range: 1 }),
     ),
-    (1, Asked::Draw, 20000, Answered::Drawn(20000, 0)),
-    (2, Asked::Draw, 20000, Answered::Drawn(20000, 1)),
-    (3, Asked::Void(1), 20000, Answered::Other(Outcome::Voided)),
+    (7, 1, Asked::Draw, 20000, Answered::Drawn(20000, 0)),
+    (7, 2, Asked::Draw, 20000, Answered::Drawn(20000, 1)),
     (
+        7,
+        3,
+        Asked::Void(1),
+        20000,
+        Answered::Other(Outcome::Voided),
+    ),
+    (
+        7,
         4,
         Asked::Void(1),
         20000,
         Answered::Other(Outcome::AlreadyVoid),
     ),
-    (5, Asked::Draw, 20000, Answered::Drawn(20000, 2)),
-    (6, Asked::Draw, 20000, Answered::Other(Outcome::NoneFree)),
-    (7, Asked::Draw, 20030, Answered::Drawn(20030, 0)),
-    (8, Asked::Draw, 20030, Answered::Drawn(20030, 1)),
+    (7, 5, Asked::Draw, 20000, Answered::Drawn(20000, 2)),
+    (7, 6, Asked::Draw, 20000, Answered::Other(Outcome::NoneFree)),
+    (7, 7, Asked::Draw, 20030, Answered::Drawn(20030, 0)),
+    (7, 8, Asked::Draw, 20030, Answered::Drawn(20030, 1)),
 ];
 
-// The customer and what it asks.
-fn asks(rt: &impl Abort, asked: Asked) -> (u32, Body) {
-    match asked {
-        Asked::Grant(first, last) => (0, grant(rt, 7, first, last)),
-        Asked::Draw => (7, draw(rt)),
-        Asked::Void(value) => (7, void(rt, value)),
-    }
-}
-
-fn outcome(rt: &impl Abort, answered: Answered) -> Outcome {
-    match answered {
-        Answered::Drawn(day, value) => Outcome::Drawn {
+fn outcome(answered: &Answered) -> Option<Outcome> {
+    match *answered {
+        Answered::Drawn(day, value) => Some(Outcome::Drawn {
             day,
-            id: id(rt, value),
-        },
-        Answered::Other(outcome) => outcome,
+            id: id(value)?,
+        }),
+        Answered::Other(outcome) => Some(outcome),
     }
 }
 
-fn answer_to<R: Abort, B: Book>(rt: &R, book: &mut B, step: &Step) -> Result<Outcome, BookFault> {
-    let (number, asked, day, _) = *step;
-    let (customer, body) = asks(rt, asked);
-    answer(book, &request(customer, number, body), day)
-}
-
-// Whether the step is answered as its row says.
-fn is_right<R: Abort, B: Book>(rt: &R, book: &mut B, step: &Step) -> bool {
-    answer_to(rt, book, step) == Ok(outcome(rt, step.3))
-}
-
-// Whether it is, handed in again where memory was refused, with no call kept.
-fn is_right_at_last<R: Abort, B: Book>(rt: &R, book: &mut B, step: &Step) -> bool {
+/// Whether the step is answered as its row says: at once, or where it may be handed in again, then too if memory was refused and no
+/// call kept.
+fn is_right<B: Book>(book: &mut B, step: &Step, again: bool) -> Option<bool> {
+    let (customer, number, asked, day, answered) = step;
     let kept = book.len();
-    match answer_to(rt, book, step) {
-        Ok(answered) => answered == outcome(rt, step.3),
-        Err(_) => book.len() == kept && is_right(rt, book, step),
+    let mut answer = ask(book, *customer, *number, asked, *day)?;
+    if again && answer.is_err() && book.len() == kept {
+        answer = ask(book, *customer, *number, asked, *day)?;
     }
+    Some(answer == Ok(outcome(answered)?))
 }
 
-// How many steps are answered as their rows say.
-fn right_steps<R: Abort, B: Book>(rt: &R, book: &mut B) -> usize {
-    NINE_CALLS
-        .iter()
-        .filter(|step| is_right(rt, book, *step))
-        .count()
+/// The first step that is not answered as its row says, if any, and how many calls the book has then.
+fn first_wrong<B: Book>(book: &mut B, again: bool) -> (Option<usize>, u32) {
+    for (place, step) in NINE_CALLS.iter().enumerate() {
+        if is_right(book, step, again) != Some(true) {
+            return (Some(place), book.len());
+        }
+    }
+    (None, book.len())
 }
 
-// How many are at last.
-fn right_steps_at_last<R: Abort, B: Book>(rt: &R, book: &mut B) -> usize {
-    NINE_CALLS
-        .iter()
-        .filter(|step| is_right_at_last(rt, book, *step))
-        .count()
-}
-
-// What the post is told of a serial.
-fn told<R: Abort, B: Book>(rt: &R, book: &mut B, value: u32) -> Result<Outcome, BookFault> {
-    let number = value.saturating_add(100);
-    answer(book, &request(0, number, query(rt, value)), 20030)
-}
-
+/// Both books after the nine calls.
 fn books_after<R: Abort + AllocGlobal>(rt: &R) -> (PlainBook, IndexedBook) {
     let (mut plain, mut indexed) = new_books(rt);
-    assert_eq!(rt; right_steps(rt, &mut plain), 9);
-    assert_eq!(rt; right_steps(rt, &mut indexed), 9);
+    same(rt, "plain", &first_wrong(&mut plain, false), &(None, 9));
+    same(rt, "indexed", &first_wrong(&mut indexed, false), &(None, 9));
     (plain, indexed)
 }
 
 #[test]
-fn nine_calls_are_answered_as_worked_by_hand(rt: HostRuntime) {
+fn nine_calls_are_answered_as_worked_by_hand(rt: HostRuntime) -> Result<(), Fail> {
     let (mut plain, mut indexed) = books_after(&rt);
-    for at in 0..=10u32 {
-        assert!(rt; entry_is_alike(&mut plain, &mut indexed, at), "at {at}");
-    }
-    for day in [20000u32, 20029, 20030, 20060] {
-        assert!(rt;
-            report_alike(&rt, rt.alloc(), &mut plain, &mut indexed, day),
-            "on {day}"
-        );
-    }
+    let unlike = first_call_unlike(&mut plain, &mut indexed, 10);
+    same(&rt, "call", &unlike, &None);
+    let days = [20000, 20029, 20030, 20060];
+    let unlike = first_day_unlike(rt.alloc(), &mut plain, &mut indexed, &days)?;
+    same(&rt, "day", &unlike, &None);
+    Ok(())
 }
+
+/// What the post is told of each serial on day 20030.
+const TOLD: [(u32, Status); 4] = [
+    (0, Status::Issued { day: 20030 }),
+    (1, Status::Issued { day: 20030 }),
+    (2, Status::Issued { day: 20000 }),
+    (3, Status::Unknown),
+];
 
 #[test]
 fn the_last_issue_of_each_serial_is_told(rt: HostRuntime) {
     let (_, mut indexed) = books_after(&rt);
-    for (value, status) in [
-        (0u32, Status::Issued { day: 20030 }),
-        (1, Status::Issued { day: 20030 }),
-        (2, Status::Issued { day: 20000 }),
-        (3, Status::Unknown),
-    ] {
-        assert_eq!(rt;
-            told(&rt, &mut indexed, value),
-            Ok(Outcome::Told(status)),
-            "serial {value}"
-        );
+    for (value, status) in &TOLD {
+        let number = value.saturating_add(100);
+        let told = ask(&mut indexed, 0, number, &Asked::Query(*value), 20030);
+        assert!(rt; told == Some(Ok(Outcome::Told(*status))), "serial {value}");
     }
 }
 
 #[test]
 fn nine_calls_with_ample_memory_are_kept_at_once(rt: HostRuntime) {
     let (_, mut indexed) = new_books(&rt);
-    assert_eq!(rt; right_steps(&rt, &mut indexed), 9);
-    assert_eq!(rt; indexed.len(), 9);
+    same(
+        &rt,
+        "at once",
+        &first_wrong(&mut indexed, false),
+        &(None, 9),
+    );
 }
 
 #[test]
 fn a_refused_request_for_memory_is_made_good_by_a_repeat(rt: HostRuntime) {
     let (_, mut indexed) = new_books(&rt);
-    assert_eq!(rt; right_steps_at_last(&rt, &mut indexed), 9);
-    assert_eq!(rt; indexed.len(), 9);
+    same(&rt, "at last", &first_wrong(&mut indexed, true), &(None, 9));
 }

@@ -1,5 +1,6 @@
 //! Calls over links, and what is printed of them.
 
+use crate::expect::holds;
 use crate::refusing::Refusing;
 use s10_core::{Country, Service};
 use s10_ends::Client;
@@ -21,10 +22,10 @@ const DRAWN: &[u8] = b"S1\x01\x82\0\0\0\x07\0\0\0\x01RAGB\0\0\0\x4e\x20RA0000000
 // NoneFree, in reply to the same Draw
 const NONE_FREE: &[u8] = b"S1\x01\x82\0\0\0\x07\0\0\0\x01RAGB\x05";
 
-fn draw() -> Result<Body, &'static str> {
-    match (Service::new(*b"RA"), Country::new(*b"GB")) {
-        (Some(service), Some(country)) => Ok(Body::Draw { service, country }),
-        _ => Err("letters"),
+fn draw() -> Body {
+    Body::Draw {
+        service: Service::new(*b"RA").unwrap(),
+        country: Country::new(*b"GB").unwrap(),
     }
 }
 
@@ -50,7 +51,7 @@ fn is_told(
     asked == Ok(status) && out.as_slice() == line.as_bytes()
 }
 
-/// Whether customer 7's first call over this script has this status and prints this line, and the
+/// Whether customer 7's first call over this script, in two tries, has this status and prints this line, and the
 /// next asks nothing: the number is spent, whatever came of it.
 fn is_asked_once(
     alloc: Global,
@@ -60,23 +61,25 @@ fn is_asked_once(
     line: &str,
 ) -> Result<bool, Fail> {
     let mut link = script(alloc, receipts, sends)?;
-    let mut client = Client::new(7, 1, 1)?;
-    let draw = draw()?;
+    let mut client = Client::new(7, 1, 1).unwrap();
+    let draw = draw();
     let is_told_at_first = is_told(alloc, &mut client, &mut link, draw, status, line);
     let then = JobStatus::CommandLine;
     Ok(is_told_at_first && is_told(alloc, &mut client, &mut link, draw, then, ""))
 }
 
+/// Which sends succeed, and what is printed.
+const UNANSWERED: &[(&[bool], &str)] = &[
+    (&[true, true], "gave-up\n"),
+    (&[false], "link send\n"),
+    (&[true], "link spent\n"),
+];
+
 #[test]
 fn what_came_of_a_call_without_a_reply_is_printed(rt: HostRuntime) -> Result<(), Fail> {
-    let cases: &[(&[bool], &str)] = &[
-        (&[true, true], "gave-up\n"),
-        (&[false], "link send\n"),
-        (&[true], "link spent\n"),
-    ];
-    for (sends, line) in cases {
+    for (sends, line) in UNANSWERED {
         let is_asked = is_asked_once(rt.alloc(), &[], sends, JobStatus::Failed, line)?;
-        assert!(rt; is_asked, "{line}");
+        holds(&rt, line, is_asked);
     }
     Ok(())
 }
@@ -97,22 +100,24 @@ fn is_answered(alloc: Global, reply: &[u8], status: JobStatus, line: &str) -> Re
     Ok(at_once && is_asked_once(alloc, &late, &[true, true], status, line)?)
 }
 
+/// Replies, and what is printed of them.
+const ANSWERS: &[(&[u8], JobStatus, &str)] = &[
+    (
+        DRAWN,
+        JobStatus::Done,
+        "reply draw customer 7 number 1 RA GB done day 20000 RA000000005GB\n",
+    ),
+    (
+        NONE_FREE,
+        JobStatus::Refused,
+        "reply draw customer 7 number 1 RA GB none-free\n",
+    ),
+];
+
 #[test]
 fn what_came_of_a_call_is_printed(rt: HostRuntime) -> Result<(), Fail> {
-    let cases = [
-        (
-            DRAWN,
-            JobStatus::Done,
-            "reply draw customer 7 number 1 RA GB done day 20000 RA000000005GB\n",
-        ),
-        (
-            NONE_FREE,
-            JobStatus::Refused,
-            "reply draw customer 7 number 1 RA GB none-free\n",
-        ),
-    ];
-    for (reply, status, line) in cases {
-        assert!(rt; is_answered(rt.alloc(), reply, status, line)?, "{line}");
+    for (reply, status, line) in ANSWERS {
+        holds(&rt, line, is_answered(rt.alloc(), reply, *status, line)?);
     }
     Ok(())
 }
@@ -137,46 +142,48 @@ fn is_withdrawn(alloc: Global, code: u8, status: JobStatus, line: &str) -> Resul
     let mut reply = WITHDRAWN;
     reply[16] = code;
     let mut link = script(alloc, &[delivered(&reply)], &[true])?;
-    let mut client = Client::new(0, 2, 2)?;
-    let mut out = Vec::new(alloc);
+    let mut client = Client::new(0, 2, 2).unwrap();
     let body = Body::Withdraw { range: 1 };
+    let mut out = Vec::new(alloc);
     let asked = ask(&mut client, &mut link, SERVER, body, 1, &mut out);
     Ok(asked == Ok(status) && out.as_slice() == line.as_bytes() && has_sent(&link, &WITHDRAW))
 }
 
+/// Codes of outcomes, and what is printed of them.
+const WITHDRAWALS: &[(u8, JobStatus, &str)] = &[
+    (
+        0,
+        JobStatus::Done,
+        "reply withdraw customer 0 number 2 1 done\n",
+    ),
+    (
+        1,
+        JobStatus::Refused,
+        "reply withdraw customer 0 number 2 1 not-the-post\n",
+    ),
+    (
+        9,
+        JobStatus::Refused,
+        "reply withdraw customer 0 number 2 1 number-reused\n",
+    ),
+    (
+        10,
+        JobStatus::Refused,
+        "reply withdraw customer 0 number 2 1 no-such-range\n",
+    ),
+    (
+        11,
+        JobStatus::Refused,
+        "reply withdraw customer 0 number 2 1 closed\n",
+    ),
+    // An overlap is nothing that a withdrawal comes to.
+    (3, JobStatus::Failed, "gave-up\n"),
+];
+
 #[test]
 fn what_came_of_a_withdrawal_is_printed(rt: HostRuntime) -> Result<(), Fail> {
-    let cases = [
-        (
-            0,
-            JobStatus::Done,
-            "reply withdraw customer 0 number 2 1 done\n",
-        ),
-        (
-            1,
-            JobStatus::Refused,
-            "reply withdraw customer 0 number 2 1 not-the-post\n",
-        ),
-        (
-            9,
-            JobStatus::Refused,
-            "reply withdraw customer 0 number 2 1 number-reused\n",
-        ),
-        (
-            10,
-            JobStatus::Refused,
-            "reply withdraw customer 0 number 2 1 no-such-range\n",
-        ),
-        (
-            11,
-            JobStatus::Refused,
-            "reply withdraw customer 0 number 2 1 closed\n",
-        ),
-        // An overlap is nothing that a withdrawal comes to.
-        (3, JobStatus::Failed, "gave-up\n"),
-    ];
-    for (code, status, line) in cases {
-        assert!(rt; is_withdrawn(rt.alloc(), code, status, line)?, "{code}");
+    for (code, status, line) in WITHDRAWALS {
+        holds(&rt, code, is_withdrawn(rt.alloc(), *code, *status, line)?);
     }
     Ok(())
 }
@@ -184,8 +191,8 @@ fn what_came_of_a_withdrawal_is_printed(rt: HostRuntime) -> Result<(), Fail> {
 /// Whether a call whose line cannot be written was made.
 fn is_made_unwritten(alloc: Global) -> Result<bool, Fail> {
     let mut link = script(alloc, &[delivered(DRAWN)], &[true])?;
-    let mut client = Client::new(7, 1, 1)?;
-    let asked = ask(&mut client, &mut link, SERVER, draw()?, 1, &mut Refusing);
+    let mut client = Client::new(7, 1, 1).unwrap();
+    let asked = ask(&mut client, &mut link, SERVER, draw(), 1, &mut Refusing);
     Ok(asked == Err(WriteFault) && link.log().len() == 1 && client.pending().is_none())
 }
 

@@ -1,3 +1,5 @@
+//! A writer that fails once.
+
 use std::alloc::Global;
 use std::io;
 use std::io::Write;

@@ -4,6 +4,8 @@
 #[cfg(test)]
 mod asked;
 #[cfg(test)]
+mod expect;
+#[cfg(test)]
 mod hiccup;
 #[cfg(test)]
 mod many_lines;

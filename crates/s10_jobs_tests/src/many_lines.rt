@@ -1,5 +1,6 @@
 //! A replay of as many lines as an input may have, and of more.
 
+use crate::expect::holds;
 use s10_book::PlainBook;
 use s10_ends::Server;
 use s10_history::Settings;
@@ -7,7 +8,6 @@ use s10_jobs::{ReplayFault, replay_on};
 use std::alloc::Global;
 use std::io;
 use std::io::{Read, Write};
-use std::test::Fail;
 
 /// A day and no bytes: what stands behind the empty lines.
 const LAST: &[u8] = b"1 \n";
@@ -57,26 +57,25 @@ fn is_replayed(
     want: Result<u32, ReplayFault>,
     written: u32,
     left: usize,
-) -> Result<bool, Fail> {
-    let settings = Settings::new(30, 100).ok_or("settings")?;
+) -> bool {
+    let settings = Settings::new(30, 100).unwrap();
     let mut server = Server::new(PlainBook::new(alloc, settings));
     let mut input = Lines { empty, last: LAST };
     let mut output = Counting { lines: 0 };
     let answer = replay_on(&mut server, &mut input, &mut output);
-    Ok(answer == want && output.lines == written && input.last.len() == left)
+    answer == want && output.lines == written && input.last.len() == left
 }
 
+/// Empty lines, the answer behind them, the lines written, and the bytes left.
+const LONG_INPUTS: &[(u32, Result<u32, ReplayFault>, u32, usize)] = &[
+    (999_999, Ok(1), 1, 0),
+    (1_000_000, Err(ReplayFault::Line(1_000_001)), 0, 2),
+];
+
 #[test]
-fn the_line_past_the_millionth_is_refused(rt: HostRuntime) -> Result<(), Fail> {
-    let cases = [
-        (999_999, Ok(1), 1, 0),
-        (1_000_000, Err(ReplayFault::Line(1_000_001)), 0, 2),
-    ];
-    for (empty, want, written, left) in cases {
-        assert!(rt;
-            is_replayed(rt.alloc(), empty, want, written, left)?,
-            "behind {empty}"
-        );
+fn the_line_past_the_millionth_is_refused(rt: HostRuntime) {
+    for (empty, want, written, left) in LONG_INPUTS {
+        let is_replayed = is_replayed(rt.alloc(), *empty, *want, *written, *left);
+        holds(&rt, empty, is_replayed);
     }
-    Ok(())
 }

@@ -1,3 +1,5 @@
+//! A writer that takes nothing.
+
 use std::io;
 use std::io::Write;
 

@@ -1,5 +1,6 @@
 //! Replays of inputs over a new ledger.
 
+use crate::expect::holds;
 use s10_history::Settings;
 use s10_jobs::{JobStatus, ReplayFault, replay, run_replay};
 use std::alloc::{AllocError, Global};
@@ -7,32 +8,21 @@ use std::io;
 use std::io::{ErrorKind, Read, Write};
 use std::test::Fail;
 
-/// The post grants range 1 to customer 7: RA GB 0 to 2.
-const GRANT: &str = "20000 53310101000000000000000100000007524147420000000000000002\n";
-
-const GRANTED: &str = "5331018100000000000000010000000752414742000000000000000200\
-00000001\n";
-
-/// Customer 7's first Draw.
-const DRAW: &str = "20000 53310102000000070000000152414742\n";
-
-const DRAWN: &str = "533101820000000700000001524147420000004e2052413030303030303030354742\n";
-
-fn settings(limit: u32) -> Result<Settings, Fail> {
-    Ok(Settings::new(30, limit).ok_or("settings")?)
+fn settings() -> Settings {
+    Settings::new(30, 100).unwrap()
 }
 
-/// Whether a replay over a ledger of this limit has this answer and writes this text.
+/// Whether a replay over a ledger of these settings has this answer and writes this text.
 fn gives<R: Read>(
     alloc: Global,
-    limit: u32,
+    settings: Settings,
     input: &mut R,
     want: Result<u32, ReplayFault>,
     text: &str,
-) -> Result<bool, Fail> {
+) -> bool {
     let mut output = Vec::new(alloc);
-    let answer = replay(alloc, settings(limit)?, input, &mut output);
-    Ok(answer == want && output.as_slice() == text.as_bytes())
+    let answer = replay(alloc, settings, input, &mut output);
+    answer == want && output.as_slice() == text.as_bytes()
 }
 
 /// Whether a replay of these bytes has this answer and writes this text.
@@ -41,12 +31,12 @@ fn is_replayed(
     mut bytes: &[u8],
     want: Result<u32, ReplayFault>,
     text: &str,
-) -> Result<bool, Fail> {
-    gives(alloc, 100, &mut bytes, want, text)
+) -> bool {
+    gives(alloc, settings(), &mut bytes, want, text)
 }
 
 #[test]
-fn nine_lines_get_their_nine_lines(rt: HostRuntime) -> Result<(), Fail> {
+fn nine_lines_get_their_nine_lines(rt: HostRuntime) {
     let is_replayed = is_replayed(
         rt.alloc(),
         b"20000 53310101000000000000000100000007524147420000000000000002
@@ -70,13 +60,12 @@ fn nine_lines_get_their_nine_lines(rt: HostRuntime) -> Result<(), Fail> {
 533101820000000700000005524147420000004e3e52413030303030303030354742
 dropped length
 ",
-    )?;
+    );
     assert!(rt; is_replayed);
-    Ok(())
 }
 
 #[test]
-fn no_identifier_is_issued_from_a_withdrawn_range(rt: HostRuntime) -> Result<(), Fail> {
+fn no_identifier_is_issued_from_a_withdrawn_range(rt: HostRuntime) {
     // A draw, the withdrawal of range 1, and 400 days later a draw, a sheet, the first draw again, a
     // void and a query of its identifier, a grant of the last of its serials, and a draw from range 2.
     let is_replayed = is_replayed(
@@ -106,13 +95,12 @@ fn no_identifier_is_issued_from_a_withdrawn_range(rt: HostRuntime) -> Result<(),
 533101810000000000000004000000075241474200000004000000040000000002
 533101820000000700000006524147420000004fb052413030303030303034354742
 ",
-    )?;
+    );
     assert!(rt; is_replayed);
-    Ok(())
 }
 
 #[test]
-fn withdrawals_are_done_once_and_by_the_post(rt: HostRuntime) -> Result<(), Fail> {
+fn withdrawals_are_done_once_and_by_the_post(rt: HostRuntime) {
     // By customer 7, of ranges 2 and 0, of range 1 twice with one number, of range 1 with the next,
     // of range 2 with the number of range 1's, and with the number of the grant.
     let is_replayed = is_replayed(
@@ -142,9 +130,8 @@ fn withdrawals_are_done_once_and_by_the_post(rt: HostRuntime) -> Result<(), Fail
 dropped kind
 dropped length
 ",
-    )?;
+    );
     assert!(rt; is_replayed);
-    Ok(())
 }
 
 /// Bytes of an input, and what a replay of them answers and writes.
@@ -186,24 +173,22 @@ const SMALL_INPUTS: &[Case] = &[
 ];
 
 #[test]
-fn small_inputs_are_read_as_lines(rt: HostRuntime) -> Result<(), Fail> {
+fn small_inputs_are_read_as_lines(rt: HostRuntime) {
     for (bytes, want, text) in SMALL_INPUTS {
-        assert!(rt; is_replayed(rt.alloc(), bytes, *want, text)?, "{bytes:?}");
+        holds(&rt, bytes, is_replayed(rt.alloc(), bytes, *want, text));
     }
-    Ok(())
 }
 
 #[test]
-fn digits_of_both_cases_are_read_and_small_ones_written(rt: HostRuntime) -> Result<(), Fail> {
+fn digits_of_both_cases_are_read_and_small_ones_written(rt: HostRuntime) {
     let is_replayed = is_replayed(
         rt.alloc(),
         b"20000 53310101000000000000000100000007524147420000000A0000000c",
         Ok(1),
         "5331018100000000000000010000000752414742\
 0000000a0000000c0000000001\n",
-    )?;
+    );
     assert!(rt; is_replayed);
-    Ok(())
 }
 
 /// These bytes, and so many digits 0.
@@ -215,27 +200,33 @@ fn with_zeros(alloc: Global, bytes: &[u8], count: u32) -> Result<Vec<u8>, AllocE
     Ok(line)
 }
 
-/// The longest line: a day of ten digits, 512 bytes and a carriage return.
-fn longest_line(alloc: Global) -> Result<Vec<u8>, AllocError> {
+/// Whether the longest line, a day of ten digits and 512 bytes, has this length with this end, and is read whole.
+fn is_read_whole(alloc: Global, end: &[u8], len: usize) -> Result<bool, AllocError> {
     let mut line = with_zeros(alloc, b"0000020000 ", 1024)?;
-    line.push(b'\r')?;
-    Ok(line)
+    for byte in end {
+        line.push(*byte)?;
+    }
+    Ok(line.len() == len && is_replayed(alloc, &line, Ok(1), "dropped magic\n"))
 }
 
 #[test]
 fn longest_line_is_read_whole(rt: HostRuntime) -> Result<(), Fail> {
-    let mut line = longest_line(rt.alloc())?;
-    assert!(rt; line.len() == 1036 && is_replayed(rt.alloc(), &line, Ok(1), "dropped magic\n")?);
-    line.push(b'\n')?;
-    assert!(rt; is_replayed(rt.alloc(), &line, Ok(1), "dropped magic\n")?);
+    holds(&rt, &1036, is_read_whole(rt.alloc(), b"\r", 1036)?);
+    holds(&rt, &1037, is_read_whole(rt.alloc(), b"\r\n", 1037)?);
     Ok(())
 }
 
+/// Digits read of a line without end, and what the replay answers then.
+const LONG_LINES: &[(u32, ReplayFault)] = &[
+    (1036, ReplayFault::Read),
+    (1037, ReplayFault::Line(1)),
+];
+
 #[test]
 fn longer_line_is_refused_without_reading_more(rt: HostRuntime) -> Result<(), Fail> {
-    for (count, fault) in [(1036, ReplayFault::Read), (1037, ReplayFault::Line(1))] {
-        let line = with_zeros(rt.alloc(), b"", count)?;
-        assert!(rt; is_read_until(rt.alloc(), &line, fault, "")?, "{count}");
+    for (count, fault) in LONG_LINES {
+        let line = with_zeros(rt.alloc(), b"", *count)?;
+        holds(&rt, count, is_read_until(rt.alloc(), &line, *fault, ""));
     }
     Ok(())
 }
@@ -243,18 +234,25 @@ fn longer_line_is_refused_without_reading_more(rt: HostRuntime) -> Result<(), Fa
 #[test]
 fn longer_line_is_refused_where_the_input_ends(rt: HostRuntime) -> Result<(), Fail> {
     let line = with_zeros(rt.alloc(), b"", 1037)?;
-    assert!(rt; is_replayed(rt.alloc(), &line, Err(ReplayFault::Line(1)), "")?);
+    assert!(rt; is_replayed(rt.alloc(), &line, Err(ReplayFault::Line(1)), ""));
     Ok(())
 }
 
 #[test]
-fn full_ledger_is_told(rt: HostRuntime) -> Result<(), Fail> {
-    let other = "20000 53310102000000070000000252414742\n";
-    let text = format!(in rt.alloc(); "{GRANT}{DRAW}{other}{DRAW}")?;
-    let wanted = format!(in rt.alloc(); "{GRANTED}{DRAWN}faulted full\n{DRAWN}")?;
-    let mut input: &[u8] = text.as_bytes();
-    assert!(rt; gives(rt.alloc(), 2, &mut input, Ok(4), &wanted)?);
-    Ok(())
+fn full_ledger_is_told(rt: HostRuntime) {
+    // The post grants range 1 to customer 7: RA GB 0 to 2. Customer 7 draws, draws again, and repeats the first.
+    let mut input: &[u8] = b"20000 53310101000000000000000100000007524147420000000000000002
+20000 53310102000000070000000152414742
+20000 53310102000000070000000252414742
+20000 53310102000000070000000152414742
+";
+    let text = "533101810000000000000001000000075241474200000000000000020000000001
+533101820000000700000001524147420000004e2052413030303030303030354742
+faulted full
+533101820000000700000001524147420000004e2052413030303030303030354742
+";
+    let settings = Settings::new(30, 2).unwrap();
+    assert!(rt; gives(rt.alloc(), settings, &mut input, Ok(4), text));
 }
 
 /// A reader that fails once its bytes are read, and is interrupted before each read.
@@ -299,12 +297,12 @@ impl Write for Narrow {
 
 /// Whether a replay of a reader that fails after these bytes ends with this fault, and writes this
 /// text.
-fn is_read_until(alloc: Global, bytes: &[u8], want: ReplayFault, text: &str) -> Result<bool, Fail> {
+fn is_read_until(alloc: Global, bytes: &[u8], want: ReplayFault, text: &str) -> bool {
     let mut input = Failing {
         bytes,
         is_interrupted: false,
     };
-    gives(alloc, 100, &mut input, Err(want), text)
+    gives(alloc, settings(), &mut input, Err(want), text)
 }
 
 const SHORT: &str = "dropped short\n";
@@ -364,74 +362,69 @@ fn stops_there(
     ends: Result<u32, ReplayFault>,
     fails: ReplayFault,
     text: &str,
-) -> Result<bool, Fail> {
-    Ok(is_replayed(alloc, bytes, ends, text)? && is_read_until(alloc, bytes, fails, text)?)
+) -> bool {
+    is_replayed(alloc, bytes, ends, text) && is_read_until(alloc, bytes, fails, text)
 }
 
 #[test]
-fn a_refused_line_is_no_unreadable_input(rt: HostRuntime) -> Result<(), Fail> {
+fn a_refused_line_is_no_unreadable_input(rt: HostRuntime) {
     for (bytes, ends, fails, text) in STOPS {
-        assert!(rt;
-            stops_there(rt.alloc(), bytes, *ends, *fails, text)?,
-            "{bytes:?}"
-        );
+        let stops = stops_there(rt.alloc(), bytes, *ends, *fails, text);
+        holds(&rt, bytes, stops);
     }
-    Ok(())
 }
 
 /// Whether a replay of a reader that fails after these bytes has this status, and writes this text.
-fn is_run_until(alloc: Global, bytes: &[u8], want: JobStatus, text: &str) -> Result<bool, Fail> {
+fn is_run_until(alloc: Global, bytes: &[u8], want: JobStatus, text: &str) -> bool {
     let mut input = Failing {
         bytes,
         is_interrupted: false,
     };
     let mut output = Vec::new(alloc);
-    let status = run_replay(alloc, settings(100)?, &mut input, &mut output);
-    Ok(status == Ok(want) && output.as_slice() == text.as_bytes())
+    let status = run_replay(alloc, settings(), &mut input, &mut output);
+    status == Ok(want) && output.as_slice() == text.as_bytes()
 }
 
+/// Bytes of an input that fails behind them, and the status and the text of its replay.
+const UNREADABLE: &[(&[u8], JobStatus, &str)] = &[
+    (b"20000 \n", JobStatus::Failed, "dropped short\ninput\n"),
+    (
+        b"20000 \n20000 5",
+        JobStatus::Failed,
+        "dropped short\ninput\n",
+    ),
+    (
+        b"20000 \n20000 5\n",
+        JobStatus::Refused,
+        "dropped short\nrefused line 2\n",
+    ),
+];
+
 #[test]
-fn an_input_that_fails_has_its_line_and_status(rt: HostRuntime) -> Result<(), Fail> {
-    let cases: [(&[u8], JobStatus, &str); 3] = [
-        (b"20000 \n", JobStatus::Failed, "dropped short\ninput\n"),
-        (
-            b"20000 \n20000 5",
-            JobStatus::Failed,
-            "dropped short\ninput\n",
-        ),
-        (
-            b"20000 \n20000 5\n",
-            JobStatus::Refused,
-            "dropped short\nrefused line 2\n",
-        ),
-    ];
-    for (bytes, status, text) in cases {
-        assert!(rt; is_run_until(rt.alloc(), bytes, status, text)?, "{bytes:?}");
+fn an_input_that_fails_has_its_line_and_status(rt: HostRuntime) {
+    for (bytes, status, text) in UNREADABLE {
+        holds(&rt, bytes, is_run_until(rt.alloc(), bytes, *status, text));
     }
-    Ok(())
 }
 
 /// Whether a replay of two lines has this answer where the writer has so much room.
-fn is_replayed_into(
-    alloc: Global,
-    room: usize,
-    want: Result<u32, ReplayFault>,
-) -> Result<bool, Fail> {
+fn is_replayed_into(alloc: Global, room: usize, want: Result<u32, ReplayFault>) -> bool {
     let mut input: &[u8] = b"20000 \n20000 \n";
-    let answer = replay(alloc, settings(100)?, &mut input, &mut Narrow { room });
-    Ok(answer == want)
+    replay(alloc, settings(), &mut input, &mut Narrow { room }) == want
 }
 
+/// The room of a writer, and what a replay of two lines answers.
+const ROOMS: &[(usize, Result<u32, ReplayFault>)] = &[
+    (0, Err(ReplayFault::Write)),
+    (13, Err(ReplayFault::Write)),
+    (14, Err(ReplayFault::Write)),
+    (27, Err(ReplayFault::Write)),
+    (28, Ok(2)),
+];
+
 #[test]
-fn writer_that_fails_ends_the_replay(rt: HostRuntime) -> Result<(), Fail> {
-    for (room, want) in [
-        (0, Err(ReplayFault::Write)),
-        (13, Err(ReplayFault::Write)),
-        (14, Err(ReplayFault::Write)),
-        (27, Err(ReplayFault::Write)),
-        (28, Ok(2)),
-    ] {
-        assert!(rt; is_replayed_into(rt.alloc(), room, want)?, "{room}");
+fn writer_that_fails_ends_the_replay(rt: HostRuntime) {
+    for (room, want) in ROOMS {
+        holds(&rt, room, is_replayed_into(rt.alloc(), *room, *want));
     }
-    Ok(())
 }

@@ -1,5 +1,6 @@
 //! Reports, and the lines of those that end early.
 
+use crate::expect::holds;
 use crate::refusing::Refusing;
 use s10_book::{Book, PlainBook, TripBook};
 use s10_ends::Server;
@@ -9,7 +10,6 @@ use s10_lines::WriteFault;
 use std::alloc::Global;
 use std::io;
 use std::io::Write;
-use std::test::Fail;
 use std::time::Clock;
 
 const RANGES: &str = "range customer service country first last used voided free
@@ -25,14 +25,14 @@ const ISSUES: &str = "arrival day customer number identifier state
 ";
 
 /// The book of a grant of three serials and a draw.
-fn one_issue(alloc: Global) -> Result<PlainBook, Fail> {
-    let settings = Settings::new(30, 100).ok_or("settings")?;
+fn one_issue(alloc: Global) -> PlainBook {
+    let settings = Settings::new(30, 100).unwrap();
     let mut server = Server::new(PlainBook::new(alloc, settings));
     let grant = b"S1\x01\x01\0\0\0\0\0\0\0\x01\0\0\0\x07RAGB\0\0\0\0\0\0\0\x02";
     let draw = b"S1\x01\x02\0\0\0\x07\0\0\0\x01RAGB";
     let _ = server.handle(grant, 20_000);
     let _ = server.handle(draw, 20_000);
-    Ok(server.into_book())
+    server.into_book()
 }
 
 /// Whether a report of the book has this status and prints this text.
@@ -47,40 +47,40 @@ fn prints<B: Book>(
     write_report(book, report, &mut out) == Ok(status) && out.as_slice() == text.as_bytes()
 }
 
+/// Whether a report is of issues, and its text.
+const REPORTS: &[(bool, &str)] = &[(false, RANGES), (true, ISSUES)];
+
 #[test]
-fn reports_are_written_whole(rt: HostRuntime) -> Result<(), Fail> {
-    for (is_of_issues, text) in [(false, RANGES), (true, ISSUES)] {
-        let mut book = one_issue(rt.alloc())?;
-        let report = Report::new(&rt, is_of_issues, Some(20_000)).ok_or("day")?;
-        assert!(rt;
-            prints(rt.alloc(), &mut book, report, JobStatus::Done, text),
-            "{text}"
-        );
+fn reports_are_written_whole(rt: HostRuntime) {
+    for (is_of_issues, text) in REPORTS {
+        let mut book = one_issue(rt.alloc());
+        let report = Report::new(&rt, *is_of_issues, Some(20_000)).expect(&rt, "a day");
+        let prints = prints(rt.alloc(), &mut book, report, JobStatus::Done, text);
+        holds(&rt, text, prints);
     }
-    Ok(())
 }
 
 /// The book of a grant, a draw and the withdrawal of the range.
-fn one_withdrawn(alloc: Global) -> Result<PlainBook, Fail> {
-    let mut server = Server::new(one_issue(alloc)?);
+fn one_withdrawn(alloc: Global) -> PlainBook {
+    let mut server = Server::new(one_issue(alloc));
     let withdraw = b"S1\x02\x06\0\0\0\0\0\0\0\x02\0\0\0\x01";
     let _ = server.handle(withdraw, 20_000);
-    Ok(server.into_book())
+    server.into_book()
 }
 
+/// Reports of a range that was withdrawn, and their texts.
+const WITHDRAWN: &[(Report, &str)] = &[
+    (Report::Ranges { day: 20_000 }, RANGES_WITHDRAWN),
+    (Report::Issues, ISSUES),
+];
+
 #[test]
-fn a_withdrawn_range_is_reported_as_closed(rt: HostRuntime) -> Result<(), Fail> {
-    for (report, text) in [
-        (Report::Ranges { day: 20_000 }, RANGES_WITHDRAWN),
-        (Report::Issues, ISSUES),
-    ] {
-        let mut book = one_withdrawn(rt.alloc())?;
-        assert!(rt;
-            prints(rt.alloc(), &mut book, report, JobStatus::Done, text),
-            "{text}"
-        );
+fn a_withdrawn_range_is_reported_as_closed(rt: HostRuntime) {
+    for (report, text) in WITHDRAWN {
+        let mut book = one_withdrawn(rt.alloc());
+        let prints = prints(rt.alloc(), &mut book, *report, JobStatus::Done, text);
+        holds(&rt, text, prints);
     }
-    Ok(())
 }
 
 /// Whether a report of ranges has the day that is given, or one of its own.
@@ -101,26 +101,25 @@ fn a_report_has_the_day_that_is_given(rt: HostRuntime) {
     assert!(rt; has_no_day(&rt));
 }
 
+/// Reports of a book that fails, and their texts.
+const FAULTED: &[(Report, &str)] = &[
+    (
+        Report::Ranges { day: 20_000 },
+        "range customer service country first last used voided free\nfaulted store\n",
+    ),
+    (
+        Report::Issues,
+        "arrival day customer number identifier state\nfaulted store\n",
+    ),
+];
+
 #[test]
-fn a_fault_of_the_book_ends_a_report(rt: HostRuntime) -> Result<(), Fail> {
-    let cases = [
-        (
-            Report::Ranges { day: 20_000 },
-            "range customer service country first last used voided free\nfaulted store\n",
-        ),
-        (
-            Report::Issues,
-            "arrival day customer number identifier state\nfaulted store\n",
-        ),
-    ];
-    for (report, text) in cases {
-        let mut book = TripBook::new(one_issue(rt.alloc())?, 0);
-        assert!(rt;
-            prints(rt.alloc(), &mut book, report, JobStatus::Failed, text),
-            "{text}"
-        );
+fn a_fault_of_the_book_ends_a_report(rt: HostRuntime) {
+    for (report, text) in FAULTED {
+        let mut book = TripBook::new(one_issue(rt.alloc()), 0);
+        let prints = prints(rt.alloc(), &mut book, *report, JobStatus::Failed, text);
+        holds(&rt, text, prints);
     }
-    Ok(())
 }
 
 /// A writer that refuses its first bytes alone.
@@ -145,21 +144,20 @@ impl Write for Once {
 }
 
 /// Whether a report whose first bytes are refused ends with a line that says so.
-fn is_told_to_have_ended(alloc: Global) -> Result<bool, Fail> {
-    let mut book = one_issue(alloc)?;
+fn is_told_to_have_ended(alloc: Global) -> bool {
+    let mut book = one_issue(alloc);
     let mut once = Once {
         has_failed: false,
         bytes: Vec::new(alloc),
     };
     let written = write_report(&mut book, Report::Issues, &mut once);
-    Ok(written == Ok(JobStatus::Failed) && once.bytes.as_slice() == b"output\n".as_slice())
+    written == Ok(JobStatus::Failed) && once.bytes.as_slice() == b"output\n".as_slice()
 }
 
 #[test]
-fn a_writer_that_fails_ends_a_report(rt: HostRuntime) -> Result<(), Fail> {
-    assert!(rt; is_told_to_have_ended(rt.alloc())?);
-    let mut book = one_issue(rt.alloc())?;
+fn a_writer_that_fails_ends_a_report(rt: HostRuntime) {
+    assert!(rt; is_told_to_have_ended(rt.alloc()));
+    let mut book = one_issue(rt.alloc());
     let written = write_report(&mut book, Report::Issues, &mut Refusing);
     assert!(rt; written == Err(WriteFault));
-    Ok(())
 }

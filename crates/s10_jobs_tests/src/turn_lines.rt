@@ -1,5 +1,6 @@
 //! The lines of a server's turns, and of ledgers and links that failed.
 
+use crate::expect::holds;
 use crate::hiccup::Hiccup;
 use crate::refusing::Refusing;
 use s10_book::BookFault;
@@ -84,53 +85,56 @@ fn turns_have_their_lines(rt: HostRuntime) -> Result<(), Fail> {
         (Err(LinkFault::Receive), "link receive\n"),
         (Err(LinkFault::Spent), "link spent\n"),
     ];
-    for (turn, line) in turns {
-        assert!(rt;
-            is_line_of_turn(rt.alloc(), &turn, line.as_bytes()),
-            "{line}"
+    for (turn, line) in &turns {
+        holds(
+            &rt,
+            line,
+            is_line_of_turn(rt.alloc(), turn, line.as_bytes()),
         );
     }
     Ok(())
 }
 
+const LEDGER_FAULTS: &[(OpenFault, &str)] = &[
+    (OpenFault::NotALedger, "ledger not-a-ledger\n"),
+    (OpenFault::Schema(0), "ledger schema 0\n"),
+    (OpenFault::Schema(2), "ledger schema 2\n"),
+    (OpenFault::Schema(-1), "ledger schema -1\n"),
+    (
+        OpenFault::Schema(i64::MAX),
+        "ledger schema 9223372036854775807\n",
+    ),
+    (
+        OpenFault::Schema(i64::MIN),
+        "ledger schema -9223372036854775808\n",
+    ),
+    (OpenFault::Damaged(0), "ledger damaged 0\n"),
+    (
+        OpenFault::Damaged(1_000_000_000),
+        "ledger damaged 1000000000\n",
+    ),
+    (OpenFault::NotEmpty, "ledger not-empty\n"),
+    (OpenFault::Memory, "ledger memory\n"),
+    (OpenFault::Store, "ledger store\n"),
+];
+
 #[test]
 fn ledger_faults_have_their_lines(rt: HostRuntime) {
-    let faults = [
-        (OpenFault::NotALedger, "ledger not-a-ledger\n"),
-        (OpenFault::Schema(0), "ledger schema 0\n"),
-        (OpenFault::Schema(2), "ledger schema 2\n"),
-        (OpenFault::Schema(-1), "ledger schema -1\n"),
-        (
-            OpenFault::Schema(i64::MAX),
-            "ledger schema 9223372036854775807\n",
-        ),
-        (
-            OpenFault::Schema(i64::MIN),
-            "ledger schema -9223372036854775808\n",
-        ),
-        (OpenFault::Damaged(0), "ledger damaged 0\n"),
-        (
-            OpenFault::Damaged(1_000_000_000),
-            "ledger damaged 1000000000\n",
-        ),
-        (OpenFault::NotEmpty, "ledger not-empty\n"),
-        (OpenFault::Memory, "ledger memory\n"),
-        (OpenFault::Store, "ledger store\n"),
-    ];
-    for (fault, line) in faults {
-        assert!(rt; is_line_of_ledger_fault(rt.alloc(), fault, line), "{line}");
+    for (fault, line) in LEDGER_FAULTS {
+        holds(&rt, line, is_line_of_ledger_fault(rt.alloc(), *fault, line));
     }
 }
 
+const LINK_FAULTS: &[(LinkFault, &str)] = &[
+    (LinkFault::Bind, "link bind\n"),
+    (LinkFault::Receive, "link receive\n"),
+    (LinkFault::Send, "link send\n"),
+    (LinkFault::Spent, "link spent\n"),
+];
+
 #[test]
 fn link_faults_have_their_lines(rt: HostRuntime) {
-    let faults = [
-        (LinkFault::Bind, "link bind\n"),
-        (LinkFault::Receive, "link receive\n"),
-        (LinkFault::Send, "link send\n"),
-        (LinkFault::Spent, "link spent\n"),
-    ];
-    for (fault, line) in faults {
-        assert!(rt; is_line_of_link_fault(rt.alloc(), fault, line), "{line}");
+    for (fault, line) in LINK_FAULTS {
+        holds(&rt, line, is_line_of_link_fault(rt.alloc(), *fault, line));
     }
 }

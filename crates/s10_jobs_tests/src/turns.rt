@@ -1,5 +1,6 @@
 //! The turns of a server.
 
+use crate::expect::holds;
 use crate::hiccup::Hiccup;
 use s10_book::{Book, PlainBook};
 use s10_ends::Server;
@@ -88,9 +89,8 @@ impl Eprint for Listening {
     }
 }
 
-fn new_server(alloc: Global) -> Result<Server<PlainBook>, Fail> {
-    let settings = Settings::new(30, 2).ok_or("settings")?;
-    Ok(Server::new(PlainBook::new(alloc, settings)))
+fn new_server(alloc: Global) -> Server<PlainBook> {
+    Server::new(PlainBook::new(alloc, Settings::new(30, 2).unwrap()))
 }
 
 /// What came: a request and nothing with it, nothing, a failure, and together bytes that ask nothing, a draw, its repeat and
@@ -138,61 +138,49 @@ impl Write for Flushed {
     }
 }
 
-/// What turns on a link come to.
+/// Turns on a link, and what they come to.
 #[derive(Clone, Copy)]
-struct Expected<'a> {
-    status: Result<JobStatus, WriteFault>,
+struct Turns<'a> {
+    count: u32,
+    day: Option<u32>,
+    status: JobStatus,
     lines: &'a str,
-    /// How often whole lines were flushed.
+    /// How often whole lines are flushed.
     flushed: u32,
     /// How many calls the book has then.
     calls: u32,
 }
 
-/// Whether so many turns of a server on the link come to this.
+/// Whether the turns of a server on the link have their status, and write and flush their lines.
 fn come_to<R: Clock + Eprint>(
     rt: &R,
     alloc: Global,
     server: &mut Server<PlainBook>,
     link: &mut ScriptLink,
-    count: u32,
-    day: Option<u32>,
-    out: &mut Flushed,
-    expected: Expected<'_>,
+    turns: &Turns<'_>,
 ) -> bool {
-    let served = serve_turns(rt, alloc, server, link, count, day, out);
-    served == expected.status
-        && out.bytes.as_slice() == expected.lines.as_bytes()
-        && out.lines == expected.flushed
-}
-
-/// Whether the turns of a new server on a link of these receipts and sends come to this.
-fn are_served<R: Clock + Eprint>(
-    alloc: Global,
-    rt: &R,
-    receipts: Vec<Receipt>,
-    sends: &[bool],
-    count: u32,
-    day: Option<u32>,
-    expected: Expected<'_>,
-) -> Result<bool, Fail> {
-    let mut server = new_server(alloc)?;
-    let mut link = ScriptLink::new(alloc, receipts, sends.to_vec(alloc)?)?;
     let mut out = Flushed {
         bytes: Vec::new(alloc),
         lines: 0,
     };
-    let come_to_lines = come_to(
-        rt,
-        alloc,
-        &mut server,
-        &mut link,
-        count,
-        day,
-        &mut out,
-        expected,
-    );
-    Ok(come_to_lines && server.book().len() == expected.calls)
+    let served = serve_turns(rt, alloc, server, link, turns.count, turns.day, &mut out);
+    served == Ok(turns.status)
+        && out.bytes.as_slice() == turns.lines.as_bytes()
+        && out.lines == turns.flushed
+}
+
+/// Whether the turns of a new server on a link of these receipts and sends come to what they shall.
+fn are_served<R: Clock + Eprint>(
+    rt: &R,
+    alloc: Global,
+    receipts: Vec<Receipt>,
+    sends: &[bool],
+    turns: &Turns<'_>,
+) -> Result<bool, Fail> {
+    let mut server = new_server(alloc);
+    let mut link = ScriptLink::new(alloc, receipts, sends.to_vec(alloc)?)?;
+    let come_to_lines = come_to(rt, alloc, &mut server, &mut link, turns);
+    Ok(come_to_lines && server.book().len() == turns.calls)
 }
 
 /// The first so many of these lines.
@@ -213,34 +201,41 @@ fn have_first_lines<R: Clock + Eprint>(
     calls: u32,
 ) -> Result<bool, Fail> {
     let lines = first_of(alloc, SEVEN_LINES, count)?;
-    let expected = Expected {
-        status: Ok(JobStatus::Done),
+    let turns = Turns {
+        count,
+        day: Some(20_000),
+        status: JobStatus::Done,
         lines: &lines,
         flushed: rounds,
         calls,
     };
-    let receipts = receipts_of_seven(alloc)?;
-    let sends = [true, false, true];
-    are_served(alloc, rt, receipts, &sends, count, Some(20_000), expected)
+    are_served(
+        rt,
+        alloc,
+        receipts_of_seven(alloc)?,
+        &[true, false, true],
+        &turns,
+    )
 }
+
+/// Turns, the rounds that they are, and the calls of the book then. A grant is the first turn, and a draw whose reply
+/// is not sent the fifth. The last four come together.
+const TURNS: &[(u32, u32, u32)] = &[
+    (0, 0, 0),
+    (1, 1, 1),
+    (2, 2, 1),
+    (3, 3, 1),
+    (4, 4, 1),
+    (5, 4, 2),
+    (6, 4, 2),
+    (7, 4, 2),
+];
 
 #[test]
 fn each_turn_has_its_line(rt: HostRuntime) -> Result<(), Fail> {
-    // A grant is the first turn, and a draw whose reply is not sent the fifth. The last four come together.
-    for (count, rounds, calls) in [
-        (0, 0, 0),
-        (1, 1, 1),
-        (2, 2, 1),
-        (3, 3, 1),
-        (4, 4, 1),
-        (5, 4, 2),
-        (6, 4, 2),
-        (7, 4, 2),
-    ] {
-        assert!(rt;
-            have_first_lines(rt.alloc(), &rt, count, rounds, calls)?,
-            "{count}"
-        );
+    for (count, rounds, calls) in TURNS {
+        let have_lines = have_first_lines(rt.alloc(), &rt, *count, *rounds, *calls)?;
+        holds(&rt, count, have_lines);
     }
     Ok(())
 }
@@ -254,14 +249,15 @@ fn the_clock_gives_the_day_where_none_is_given(rt: HostRuntime) -> Result<(), Fa
         Receipt::Deliver(PEER, Packet::new(DRAW)),
     ]?;
     let lines = first_of(rt.alloc(), &[GRANTED, DRAWN], 2)?;
-    let expected = Expected {
-        status: Ok(JobStatus::Done),
+    let turns = Turns {
+        count: 2,
+        day: None,
+        status: JobStatus::Done,
         lines: &lines,
         flushed: 1,
         calls: 2,
     };
-    let sends = [true, true];
-    assert!(rt; are_served(rt.alloc(), &clock, receipts, &sends, 2, None, expected)?);
+    assert!(rt; are_served(&clock, rt.alloc(), receipts, &[true, true], &turns)?);
     Ok(())
 }
 
@@ -298,36 +294,39 @@ fn are_told(alloc: Global, count: u32, rounds: u32, told: &str) -> Result<bool, 
         told: RefCell::new(Vec::new(alloc)),
     };
     let lines = first_of(alloc, THREE_DROPPED, count)?;
-    let expected = Expected {
-        status: Ok(JobStatus::Done),
+    let turns = Turns {
+        count,
+        day: Some(20_000),
+        status: JobStatus::Done,
         lines: &lines,
         flushed: rounds,
         calls: if count < 3 { 0 } else { 1 },
     };
-    let receipts = three_dropped(alloc)?;
-    let are_served = are_served(alloc, &rt, receipts, &[true], count, Some(20_000), expected)?;
+    let are_served = are_served(&rt, alloc, three_dropped(alloc)?, &[true], &turns)?;
     Ok(are_served && rt.told.into_inner().as_slice() == told.as_bytes())
 }
 
+/// Turns, the rounds that they are, and what standard error is told.
+const TOLD: &[(u32, u32, &str)] = &[
+    (1, 1, ""),
+    (2, 2, "dropped from 10.0.0.8:40123\n"),
+    (3, 2, "dropped from 10.0.0.8:40123\n"),
+    (
+        4,
+        2,
+        "dropped from 10.0.0.8:40123\ndropped from 10.0.0.7:4711\n",
+    ),
+    (
+        6,
+        3,
+        "dropped from 10.0.0.8:40123\ndropped from 10.0.0.7:4711\ndropped from 10.0.0.8:40123\n",
+    ),
+];
+
 #[test]
 fn standard_error_is_told_who_sent_what_is_dropped(rt: HostRuntime) -> Result<(), Fail> {
-    let cases = [
-        (1, 1, ""),
-        (2, 2, "dropped from 10.0.0.8:40123\n"),
-        (3, 2, "dropped from 10.0.0.8:40123\n"),
-        (
-            4,
-            2,
-            "dropped from 10.0.0.8:40123\ndropped from 10.0.0.7:4711\n",
-        ),
-        (
-            6,
-            3,
-            "dropped from 10.0.0.8:40123\ndropped from 10.0.0.7:4711\ndropped from 10.0.0.8:40123\n",
-        ),
-    ];
-    for (count, rounds, told) in cases {
-        assert!(rt; are_told(rt.alloc(), count, rounds, told)?, "{count}");
+    for (count, rounds, told) in TOLD {
+        holds(&rt, count, are_told(rt.alloc(), *count, *rounds, told)?);
     }
     Ok(())
 }
@@ -338,26 +337,20 @@ fn a_closed_standard_error_ends_no_turn(rt: HostRuntime) -> Result<(), Fail> {
     Ok(())
 }
 
+/// Turns on a day that no clock gives.
+const DAYLESS: Turns<'static> = Turns {
+    count: 3,
+    day: None,
+    status: JobStatus::Failed,
+    lines: "clock\n",
+    flushed: 0,
+    calls: 0,
+};
+
 #[test]
 fn a_clock_that_gives_no_day_ends_the_turns(rt: HostRuntime) -> Result<(), Fail> {
-    let expected = Expected {
-        status: Ok(JobStatus::Failed),
-        lines: "clock\n",
-        flushed: 0,
-        calls: 0,
-    };
     let receipts = receipts_of_seven(rt.alloc())?;
-    assert!(rt;
-        are_served(
-            rt.alloc(),
-            &Standing(None),
-            receipts,
-            &[],
-            3,
-            None,
-            expected
-        )?
-    );
+    assert!(rt; are_served(&Standing(None), rt.alloc(), receipts, &[], &DAYLESS)?);
     Ok(())
 }
 
@@ -370,18 +363,20 @@ fn is_day_after(seconds: u64, day: Option<u32>) -> bool {
         && day_or_today(&clock, Some(7)) == Some(7)
 }
 
+/// Seconds since 1970, and the day.
+const DAYS: &[(u64, Option<u32>)] = &[
+    (0, Some(0)),
+    (86_399, Some(0)),
+    (86_400, Some(1)),
+    (1_728_000_000, Some(20_000)),
+    (4_294_967_296 * 86_400 - 1, Some(u32::MAX)),
+    (4_294_967_296 * 86_400, None),
+];
+
 #[test]
 fn days_are_whole_days_since_1970(rt: HostRuntime) {
-    let cases = [
-        (0, Some(0)),
-        (86_399, Some(0)),
-        (86_400, Some(1)),
-        (1_728_000_000, Some(20_000)),
-        (4_294_967_296 * 86_400 - 1, Some(u32::MAX)),
-        (4_294_967_296 * 86_400, None),
-    ];
-    for (seconds, day) in cases {
-        assert!(rt; is_day_after(seconds, day), "{seconds}");
+    for (seconds, day) in DAYS {
+        holds(&rt, seconds, is_day_after(*seconds, *day));
     }
     let clock = Standing(None);
     assert!(rt; today(&clock).is_none() && day_or_today(&clock, Some(7)) == Some(7));
@@ -422,7 +417,7 @@ fn ends_unwritten<R: Clock + Eprint>(
     lines: &[u8],
     room: usize,
 ) -> Result<bool, Fail> {
-    let mut server = new_server(alloc)?;
+    let mut server = new_server(alloc);
     let sends = [true, false, true];
     let mut link = ScriptLink::new(alloc, receipts_of_seven(alloc)?, sends.to_vec(alloc)?)?;
     let end = end_where_unwritten(alloc, rt, &mut server, &mut link, lines, room);
@@ -434,10 +429,8 @@ fn ends_unwritten<R: Clock + Eprint>(
 fn a_writer_that_fails_ends_the_turns(rt: HostRuntime) -> Result<(), Fail> {
     let lines = first_of(rt.alloc(), SEVEN_LINES, 7)?;
     for room in 0..lines.len() {
-        assert!(rt;
-            ends_unwritten(rt.alloc(), &rt, lines.as_bytes(), room)?,
-            "{room} bytes"
-        );
+        let ends = ends_unwritten(rt.alloc(), &rt, lines.as_bytes(), room)?;
+        holds(&rt, &room, ends);
     }
     Ok(())
 }

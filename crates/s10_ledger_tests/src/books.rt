@@ -4,6 +4,7 @@ use crate::calls::{
     Step, closed, draw, drawn, gb, grant, granted, id, ledger, nine_calls, opening, query, ra, rb,
     run, serial, settings, six_calls, told, us, void,
 };
+use crate::expect::same;
 use s10_book::{Book, BookFault, PlainBook};
 use s10_core::{Id, Serial};
 use s10_history::{Block, Candidate, Entry, Holding, Issue, Range, Usage};
@@ -256,121 +257,138 @@ fn candidate_of_first<B: Book>(book: &mut B) -> Result<Option<Candidate>, BookFa
     Ok(Some(candidate))
 }
 
-fn finds<B: Book>(book: &mut B, customer: u32, number: u32, call: Option<Entry>) -> bool {
-    book.find(customer, number) == Ok(call)
-}
-
-fn has_entry<B: Book>(book: &mut B, at: u32, call: Option<Entry>) -> bool {
-    book.entry(at) == Ok(call)
-}
-
-fn has_issue<B: Book>(book: &mut B, id: &Id, last: Option<Issue>) -> bool {
-    book.last_issue(id) == Ok(last)
-}
-
-fn has_usage<B: Book>(book: &mut B, day: u32, usage: Usage) -> bool {
-    usage_of_first(book, day) == Ok(Some(usage))
-}
-
-fn gives_next<B: Book>(book: &mut B, next: Candidate) -> bool {
-    candidate_of_first(book) == Ok(Some(next))
-}
-
 fn six_calls_are_read<R: Abort, B: Book>(rt: &R, book: &mut B) {
-    assert!(rt; has_issue(book, &id(1), Some(issue(20000, true, 2))));
-    assert!(rt; has_usage(book, 20000, usage(3, 1, 0)));
+    let voided = Ok(Some(issue(20000, true, 2)));
+    same(
+        rt,
+        &"the last issue of serial 1",
+        &book.last_issue(&id(1)),
+        &voided,
+    );
+    let usage = Ok(Some(usage(3, 1, 0)));
+    same(rt, &"the usage", &usage_of_first(book, 20000), &usage);
     let next = Candidate {
         serial: serial(0),
         issue: Some(issue(20000, false, 1)),
     };
-    assert!(rt; gives_next(book, next));
+    same(
+        rt,
+        &"what comes next",
+        &candidate_of_first(book),
+        &Ok(Some(next)),
+    );
 }
 
-fn calls_are_found<R: Abort, B: Book>(rt: &R, book: &mut B) {
-    for (customer, number, call) in [(7, 5, Some(sixth())), (5, 7, None)] {
-        assert!(rt; finds(book, customer, number, call), "{customer} {number}");
-    }
-}
-
-fn entries_are_read<R: Abort, B: Book>(rt: &R, book: &mut B) {
-    for (at, call) in [(6, Some(sixth())), (0, None), (10, None)] {
-        assert!(rt; has_entry(book, at, call), "{at}");
-    }
+fn calls_are_read<R: Abort, B: Book>(rt: &R, book: &mut B) {
+    let sixth = Ok(Some(sixth()));
+    same(rt, &"number 5 of customer 7", &book.find(7, 5), &sixth);
+    same(rt, &"number 7 of customer 5", &book.find(5, 7), &Ok(None));
+    same(rt, &"the sixth call", &book.entry(6), &sixth);
+    same(rt, &"no call", &book.entry(0), &Ok(None));
+    same(rt, &"the tenth call", &book.entry(10), &Ok(None));
 }
 
 fn issues_are_read<R: Abort, B: Book>(rt: &R, book: &mut B) {
-    for (value, last) in [(1, Some(issue(20030, false, 8))), (3, None)] {
-        assert!(rt; has_issue(book, &id(value), last), "{value}");
-    }
-}
-
-fn usages_are_read<R: Abort, B: Book>(rt: &R, book: &mut B) {
-    for (day, free) in [(0, 1), (20030, 1), (20059, 1), (20060, 3)] {
-        assert!(rt; has_usage(book, day, usage(3, 0, free)), "on {day}");
-    }
-}
-
-fn nine_calls_are_read<R: Abort, B: Book>(rt: &R, book: &mut B) {
-    calls_are_found(rt, book);
-    entries_are_read(rt, book);
-    issues_are_read(rt, book);
+    let last = Ok(Some(issue(20030, false, 8)));
+    same(
+        rt,
+        &"the last issue of serial 1",
+        &book.last_issue(&id(1)),
+        &last,
+    );
+    same(rt, &"serial 3", &book.last_issue(&id(3)), &Ok(None));
     let next = Candidate {
         serial: serial(2),
         issue: Some(issue(20000, false, 5)),
     };
-    assert!(rt; gives_next(book, next));
+    same(
+        rt,
+        &"what comes next",
+        &candidate_of_first(book),
+        &Ok(Some(next)),
+    );
+}
+
+// Days, and how many serials are free on them.
+const FREE: &[(u32, u32)] = &[(0, 1), (20030, 1), (20059, 1), (20060, 3)];
+
+fn usages_are_read<R: Abort, B: Book>(rt: &R, book: &mut B) {
+    for (day, free) in FREE {
+        let usage = Ok(Some(usage(3, 0, *free)));
+        same(rt, day, &usage_of_first(book, *day), &usage);
+    }
+}
+
+fn nine_calls_are_read<R: Abort, B: Book>(rt: &R, book: &mut B) {
+    calls_are_read(rt, book);
+    issues_are_read(rt, book);
     usages_are_read(rt, book);
 }
 
-fn has_range<B: Book>(book: &mut B, num: u32, range: Option<Range>) -> bool {
-    book.range(num) == Ok(range)
-}
-
-fn has_next<B: Book>(book: &mut B, customer: u32, after: u32, range: Option<Range>) -> bool {
-    let held = Holding {
-        holder: customer,
+fn held_by(holder: u32) -> Holding {
+    Holding {
+        holder,
         service: ra(),
         country: gb(),
-    };
-    book.next_range(&held, after) == Ok(range)
+    }
 }
 
-fn has_over<B: Book>(book: &mut B, first: Serial, last: Serial, range: Option<Range>) -> bool {
-    let block = Block {
+fn block(first: Serial, last: Serial) -> Block {
+    Block {
         service: ra(),
         country: gb(),
         first,
         last,
-    };
-    book.covering(&block) == Ok(range)
-}
-
-fn first_range_has_its_number<R: Abort, B: Book>(rt: &R, book: &mut B) {
-    for (num, range) in [(1, Some(first_range())), (2, None)] {
-        assert!(rt; has_range(book, num, range), "{num}");
     }
 }
 
 fn first_range_is_its_holder_s<R: Abort, B: Book>(rt: &R, book: &mut B) {
-    for (customer, after, range) in [(7, 0, Some(first_range())), (7, 1, None), (8, 0, None)] {
-        assert!(rt;
-            has_next(book, customer, after, range),
-            "{customer} {after}"
-        );
-    }
+    let range = Ok(Some(first_range()));
+    same(rt, &"range 1", &book.range(1), &range);
+    same(rt, &"range 2", &book.range(2), &Ok(None));
+    same(
+        rt,
+        &"customer 7's first",
+        &book.next_range(&held_by(7), 0),
+        &range,
+    );
+    same(
+        rt,
+        &"customer 7's next",
+        &book.next_range(&held_by(7), 1),
+        &Ok(None),
+    );
+    same(
+        rt,
+        &"customer 8's first",
+        &book.next_range(&held_by(8), 0),
+        &Ok(None),
+    );
 }
 
 fn first_range_covers_its_serials<R: Abort, B: Book>(rt: &R, book: &mut B) {
-    for (first, last, range) in [(2, 5, Some(first_range())), (3, 5, None), (2, 1, None)] {
-        assert!(rt;
-            has_over(book, serial(first), serial(last), range),
-            "{first} {last}"
-        );
-    }
+    let range = Ok(Some(first_range()));
+    same(
+        rt,
+        &"2 to 5",
+        &book.covering(&block(serial(2), serial(5))),
+        &range,
+    );
+    same(
+        rt,
+        &"3 to 5",
+        &book.covering(&block(serial(3), serial(5))),
+        &Ok(None),
+    );
+    same(
+        rt,
+        &"2 to 1",
+        &book.covering(&block(serial(2), serial(1))),
+        &Ok(None),
+    );
 }
 
 fn first_range_is_read<R: Abort, B: Book>(rt: &R, book: &mut B) {
-    first_range_has_its_number(rt, book);
     first_range_is_its_holder_s(rt, book);
     first_range_covers_its_serials(rt, book);
 }

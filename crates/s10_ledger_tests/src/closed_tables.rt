@@ -27,7 +27,7 @@ const ONE_CLOSED: &str = "INSERT INTO closed (num, arrival) VALUES (1, 3);";
 
 fn withdrawn_ledger(alloc: Global) -> Result<Connection<MemStore>, Error> {
     let mut conn = database(alloc, &TABLES)?;
-    for text in [HEAD, THREE_REPLIES, ONE_RANGE, ONE_SERIAL, ONE_CLOSED] {
+    for text in &[HEAD, THREE_REPLIES, ONE_RANGE, ONE_SERIAL, ONE_CLOSED] {
         run_batch(&mut conn, text)?;
     }
     Ok(conn)
@@ -51,19 +51,21 @@ fn a_ledger_with_a_closed_range_opens(rt: HostRuntime) -> Result<(), Fail> {
     Ok(())
 }
 
+const DAMAGES: &[&str] = &[
+    "DROP TABLE closed",
+    "DELETE FROM closed",
+    "UPDATE closed SET arrival = 2",
+    "UPDATE closed SET arrival = 4",
+    "UPDATE closed SET num = 2",
+    "UPDATE closed SET num = 0",
+    "INSERT INTO closed (num, arrival) VALUES (2, 3)",
+    "INSERT INTO closed (num, arrival) VALUES (0, 3)",
+    "INSERT INTO closed (num, arrival) VALUES (4294967297, 3)",
+];
+
 #[test]
 fn each_closed_range_is_compared(rt: HostRuntime) -> Result<(), Fail> {
-    for damage in [
-        "DROP TABLE closed",
-        "DELETE FROM closed",
-        "UPDATE closed SET arrival = 2",
-        "UPDATE closed SET arrival = 4",
-        "UPDATE closed SET num = 2",
-        "UPDATE closed SET num = 0",
-        "INSERT INTO closed (num, arrival) VALUES (2, 3)",
-        "INSERT INTO closed (num, arrival) VALUES (0, 3)",
-        "INSERT INTO closed (num, arrival) VALUES (4294967297, 3)",
-    ] {
+    for damage in DAMAGES {
         let conn = withdrawn_ledger(rt.alloc())?;
         assert!(rt; is_damaged(rt.alloc(), conn, damage)?, "{damage}");
     }

@@ -1,6 +1,7 @@
 //! A ledger is made in an empty database, and in no other.
 
 use crate::calls::{closed, ledger, nine_calls, run, settings};
+use crate::expect::same;
 use crate::tables::numbers;
 use s10_book::Book;
 use s10_history::Settings;
@@ -89,58 +90,61 @@ pub(crate) fn nine_kept<R: Abort + AllocGlobal>(rt: &R) -> Connection<MemStore> 
 #[test]
 fn a_ledger_is_not_made_over_a_ledger(rt: HostRuntime) -> Result<(), Fail> {
     let (fault, mut conn) = refusal(&rt, nine_kept(&rt), settings(&rt, 50));
-    assert_eq!(rt; fault, OpenFault::NotEmpty);
+    same(&rt, &"refused", &fault, &OpenFault::NotEmpty);
     assert!(rt; holds(rt.alloc(), &mut conn, &HEAD, [1, 9, 1, 3, 0])?);
     Ok(())
 }
 
+// A database in which that statement was executed.
+fn database_of<R: Abort + AllocGlobal>(rt: &R, text: &str) -> Connection<MemStore> {
+    let Ok(mut conn) = Connection::open_in_memory(rt.alloc()) else {
+        panic!(rt; "no connection")
+    };
+    if conn.execute(text, &[]).is_err() {
+        panic!(rt; "{text}")
+    }
+    conn
+}
+
+// A table, and what a ledger beside it is refused for.
+const TABLES: &[(&str, OpenFault)] = &[
+    (
+        "CREATE TABLE head (one INTEGER) STRICT",
+        OpenFault::NotEmpty,
+    ),
+    (
+        "CREATE TABLE Calls (one INTEGER) STRICT",
+        OpenFault::NotEmpty,
+    ),
+    (
+        "CREATE TABLE ranges (one INTEGER) STRICT",
+        OpenFault::NotEmpty,
+    ),
+    (
+        "CREATE TABLE serials (one INTEGER) STRICT",
+        OpenFault::NotEmpty,
+    ),
+    (
+        "CREATE TABLE closed (one INTEGER) STRICT",
+        OpenFault::NotEmpty,
+    ),
+    ("CREATE TABLE other (one INTEGER) STRICT", OpenFault::Store),
+];
+
 #[test]
 fn a_ledger_is_not_made_beside_other_tables(rt: HostRuntime) {
-    for (text, fault) in [
-        (
-            "CREATE TABLE head (one INTEGER) STRICT",
-            OpenFault::NotEmpty,
-        ),
-        (
-            "CREATE TABLE Calls (one INTEGER) STRICT",
-            OpenFault::NotEmpty,
-        ),
-        (
-            "CREATE TABLE ranges (one INTEGER) STRICT",
-            OpenFault::NotEmpty,
-        ),
-        (
-            "CREATE TABLE serials (one INTEGER) STRICT",
-            OpenFault::NotEmpty,
-        ),
-        (
-            "CREATE TABLE closed (one INTEGER) STRICT",
-            OpenFault::NotEmpty,
-        ),
-        ("CREATE TABLE other (one INTEGER) STRICT", OpenFault::Store),
-    ] {
-        let Ok(mut conn) = Connection::open_in_memory(rt.alloc()) else {
-            panic!(rt; "no connection")
-        };
-        if conn.execute(text, &[]).is_err() {
-            panic!(rt; "{text}")
-        }
-        let (found, conn) = refusal(&rt, conn, settings(&rt, 100));
-        assert_eq!(rt; found, fault, "{text}");
-        assert_eq!(rt; conn.schema().tables.len(), 1, "{text}");
+    for (text, fault) in TABLES {
+        let (found, conn) = refusal(&rt, database_of(&rt, text), settings(&rt, 100));
+        let tables = conn.schema().tables.len();
+        same(&rt, text, &(found, tables), &(*fault, 1));
     }
 }
 
 #[test]
 fn a_ledger_is_not_made_beside_a_view(rt: HostRuntime) {
-    let Ok(mut conn) = Connection::open_in_memory(rt.alloc()) else {
-        panic!(rt; "no connection")
-    };
-    if conn.execute("CREATE VIEW one AS SELECT 1", &[]).is_err() {
-        panic!(rt; "no view")
-    }
+    let conn = database_of(&rt, "CREATE VIEW one AS SELECT 1");
     let (found, conn) = refusal(&rt, conn, settings(&rt, 100));
-    assert_eq!(rt; found, OpenFault::Store);
-    assert_eq!(rt; conn.schema().views.len(), 1);
-    assert!(rt; conn.schema().tables.is_empty());
+    let schema = conn.schema();
+    let left = (found, schema.views.len(), schema.tables.len());
+    same(&rt, &"a view", &left, &(OpenFault::Store, 1, 0));
 }

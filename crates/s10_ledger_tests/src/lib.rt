@@ -10,6 +10,8 @@ mod closed_tables;
 #[cfg(test)]
 mod creating;
 #[cfg(test)]
+mod expect;
+#[cfg(test)]
 mod made_rows;
 #[cfg(test)]
 mod many_draws;

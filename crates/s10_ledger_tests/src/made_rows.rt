@@ -1,5 +1,6 @@
 //! The rows that calls make.
 
+use crate::expect::same;
 use s10_core::{Country, Id, Serial, Service};
 use s10_history::{Entry, Issuance, Range};
 use s10_replay::{granted_row, issue_rows, voided_row};
@@ -90,7 +91,8 @@ fn new_range_gives_its_first_serial_next(rt: HostRuntime) {
         day: 20000,
         outcome: Outcome::Granted { range: 1 },
     };
-    assert_eq!(rt; granted_row(&grant), Some(RangeWrite::New(new_range())));
+    let made = Some(RangeWrite::New(new_range()));
+    same(&rt, &"range 1", &granted_row(&grant), &made);
 }
 
 #[test]
@@ -110,44 +112,50 @@ fn a_closed_range_is_kept_with_the_arrival_of_its_withdrawal(rt: HostRuntime) {
             day: 20000,
             outcome,
         };
-        assert_eq!(rt; ClosedRow::made_by(3, &withdraw), row, "{outcome:?}");
+        same(&rt, &outcome, &ClosedRow::made_by(3, &withdraw), &row);
     }
 }
 
-// Each drawn serial, its arrival, day and request number, and the mark behind it.
+/// Each drawn serial, its arrival, day and request number, and the mark behind it.
+const DRAWN: &[(u32, u32, u32, u32, i64)] = &[
+    (0, 2, 20000, 1, 1),
+    (1, 3, 20000, 2, 2),
+    (2, 6, 20000, 5, 0),
+    (0, 8, 20030, 7, 1),
+    (1, 9, 20030, 8, 2),
+];
+
+/// The row of an issue that was not voided.
+fn issued_row(issuance: &Issuance, value: u32) -> SerialRow {
+    serial_row(
+        i64::from(value),
+        i64::from(issuance.arrival),
+        i64::from(issuance.day),
+        i64::from(issuance.number),
+        0,
+    )
+}
+
 #[test]
 fn mark_goes_on_by_one_and_back_behind_the_last(rt: HostRuntime) {
-    for (value, arrival, day, number, mark) in [
-        (0, 2, 20000, 1, 1),
-        (1, 3, 20000, 2, 2),
-        (2, 6, 20000, 5, 0),
-        (0, 8, 20030, 7, 1),
-        (1, 9, 20030, 8, 2),
-    ] {
+    let range = first_range(&rt);
+    for (value, arrival, day, number, mark) in DRAWN {
         let issuance = Issuance {
-            id: id(&rt, value),
-            day,
+            id: id(&rt, *value),
+            day: *day,
             customer: 7,
-            number,
-            arrival,
+            number: *number,
+            arrival: *arrival,
         };
-        let row = serial_row(
-            i64::from(value),
-            i64::from(arrival),
-            i64::from(day),
-            i64::from(number),
-            0,
-        );
-        for (issued, serial) in [
-            (Issued::Never, SerialWrite::New(row)),
-            (Issued::Before, SerialWrite::Again(row)),
-        ] {
-            assert_eq!(rt;
-                issue_rows(&first_range(&rt), issued, &issuance),
-                (RangeWrite::Mark { num: 1, mark }, serial),
-                "at {arrival}"
-            );
-        }
+        let row = issued_row(&issuance, *value);
+        let marked = RangeWrite::Mark {
+            num: 1,
+            mark: *mark,
+        };
+        let first = issue_rows(&range, Issued::Never, &issuance);
+        same(&rt, arrival, &first, &(marked, SerialWrite::New(row)));
+        let again = issue_rows(&range, Issued::Before, &issuance);
+        same(&rt, arrival, &again, &(marked, SerialWrite::Again(row)));
     }
 }
 
@@ -161,5 +169,5 @@ fn void_keeps_the_row_and_marks_it_as_voided(rt: HostRuntime) {
         arrival: 3,
     };
     let write = SerialWrite::Again(serial_row(1, 3, 20000, 2, 1));
-    assert_eq!(rt; voided_row(&issuance), write);
+    same(&rt, &"voided", &voided_row(&issuance), &write);
 }

@@ -4,6 +4,7 @@ ghost use Rattle.std.specs.Prelude.{◌<◌};
 
 use crate::books::issue;
 use crate::calls::{answer, closed, draw, drawn, grant, granted, ledger, settings};
+use crate::expect::same;
 use crate::tables::numbers;
 use s10_book::Book;
 use s10_core::Id;
@@ -15,10 +16,8 @@ use std::test::Fail;
 const DRAWS: u32 = 10_000;
 
 fn grant_all<R: Abort, B: Book>(rt: &R, book: &mut B) {
-    assert_eq!(rt;
-        answer(book, &grant(0, 1, 7, 0, 99_999_999), 20000),
-        granted(1)
-    );
+    let answered = answer(book, &grant(0, 1, 7, 0, 99_999_999), 20000);
+    same(rt, &"the Grant", &answered, &granted(1));
 }
 
 // Draw k gives serial k - 1.
@@ -26,21 +25,16 @@ fn draw_in_turn<R: Abort, B: Book>(rt: &R, book: &mut B, draws: u32)
     requires { draws < 100000000 }
 {
     for value in 0..draws {
-        assert_eq!(rt;
-            answer(book, &draw(7, value + 1), 20000),
-            drawn(20000, value),
-            "serial {value}"
-        );
+        let answered = answer(book, &draw(7, value + 1), 20000);
+        same(rt, &value, &answered, &drawn(20000, value));
     }
 }
 
 fn last_issue_is<R: Abort, B: Book>(rt: &R, book: &mut B, text: &[u8], number: u32) {
     match Id::read(text) {
         Ok(last) => {
-            assert_eq!(rt;
-                book.last_issue(&last),
-                Ok(Some(issue(20000, false, number)))
-            );
+            let issued = Ok(Some(issue(20000, false, number)));
+            same(rt, &number, &book.last_issue(&last), &issued);
         }
         Err(fault) => panic!(rt; "{fault}"),
     }
@@ -51,7 +45,7 @@ fn draw_all<R: Abort, B: Book>(rt: &R, book: &mut B) {
     grant_all(rt, book);
     draw_in_turn(rt, book, DRAWS);
     last_issue_is(rt, book, b"RA000099994GB", DRAWS);
-    assert_eq!(rt; book.len(), DRAWS + 1);
+    same(rt, &"calls", &book.len(), &(DRAWS + 1));
 }
 
 // Whether there are so many rows of serials, and one range with that mark.

@@ -55,24 +55,27 @@ fn a_ledger_without_closed_ranges_gets_their_table(rt: HostRuntime) -> Result<()
     Ok(())
 }
 
+/// The damage, and what opening answers then.
+const DAMAGES: &[(&str, OpenFault)] = &[
+    (
+        "UPDATE serials SET day = 20001 WHERE serial = 2",
+        OpenFault::Damaged(0),
+    ),
+    ("UPDATE ranges SET mark = 0", OpenFault::Damaged(0)),
+    (
+        "UPDATE calls SET day = 19999 WHERE arrival = 6",
+        OpenFault::Damaged(6),
+    ),
+    ("UPDATE head SET schema = 2", OpenFault::Schema(2)),
+    ("DELETE FROM head", OpenFault::NotALedger),
+];
+
 #[test]
 fn a_damaged_ledger_gets_no_table_of_closed_ranges(rt: HostRuntime) -> Result<(), Fail> {
-    for (damage, fault) in [
-        (
-            "UPDATE serials SET day = 20001 WHERE serial = 2",
-            OpenFault::Damaged(0),
-        ),
-        ("UPDATE ranges SET mark = 0", OpenFault::Damaged(0)),
-        (
-            "UPDATE calls SET day = 19999 WHERE arrival = 6",
-            OpenFault::Damaged(6),
-        ),
-        ("UPDATE head SET schema = 2", OpenFault::Schema(2)),
-        ("DELETE FROM head", OpenFault::NotALedger),
-    ] {
+    for (damage, fault) in DAMAGES {
         let mut conn = without_closed(&rt)?;
         run_batch(&mut conn, damage)?;
-        assert!(rt; is_left_as_it_is(rt.alloc(), conn, fault), "{damage}");
+        assert!(rt; is_left_as_it_is(rt.alloc(), conn, *fault), "{damage}");
     }
     Ok(())
 }
@@ -175,15 +178,18 @@ fn is_refused_beside_note(alloc: Global, texts: &[&str]) -> Result<bool, Error> 
     )
 }
 
+/// What else may stand beside a ledger.
+const BESIDE: &[&str] = &[
+    "CREATE VIEW late AS SELECT arrival FROM calls WHERE day > 20000",
+    "CREATE INDEX by_day ON calls (day)",
+];
+
 #[test]
 fn an_old_ledger_beside_a_table_of_the_office_is_left_as_it_is(
     rt: HostRuntime,
 ) -> Result<(), Fail> {
     assert!(rt; is_refused_beside_note(rt.alloc(), &OLD_LEDGER)?);
-    for beside in [
-        "CREATE VIEW late AS SELECT arrival FROM calls WHERE day > 20000",
-        "CREATE INDEX by_day ON calls (day)",
-    ] {
+    for beside in BESIDE {
         let mut conn = database(rt.alloc(), &OLD_LEDGER)?;
         run_batch(&mut conn, beside)?;
         assert!(rt;

@@ -37,130 +37,138 @@ fn opens_after(
     Ok(opens(alloc, conn, expected))
 }
 
+/// Which table of a ledger is another, that table, and the head.
+const OTHERS: &[(usize, &'static str, &'static str)] = &[
+    // A column of another type.
+    (
+        1,
+        "CREATE TABLE calls (arrival INTEGER NOT NULL PRIMARY KEY, customer INTEGER NOT NULL, number INTEGER NOT NULL, day TEXT NOT NULL, reply BLOB NOT NULL, UNIQUE (customer, number)) STRICT",
+        HEAD,
+    ),
+    // A column more.
+    (
+        1,
+        "CREATE TABLE calls (arrival INTEGER NOT NULL PRIMARY KEY, customer INTEGER NOT NULL, number INTEGER NOT NULL, day INTEGER NOT NULL, reply BLOB NOT NULL, note TEXT, UNIQUE (customer, number)) STRICT",
+        HEAD,
+    ),
+    // Keys that may come twice.
+    (
+        1,
+        "CREATE TABLE calls (arrival INTEGER NOT NULL PRIMARY KEY, customer INTEGER NOT NULL, number INTEGER NOT NULL, day INTEGER NOT NULL, reply BLOB NOT NULL) STRICT",
+        HEAD,
+    ),
+    // A day that may be NULL.
+    (
+        1,
+        "CREATE TABLE calls (arrival INTEGER NOT NULL PRIMARY KEY, customer INTEGER NOT NULL, number INTEGER NOT NULL, day INTEGER, reply BLOB NOT NULL, UNIQUE (customer, number)) STRICT",
+        HEAD,
+    ),
+    // A head of more rows, and one of another row.
+    (
+        0,
+        "CREATE TABLE head (one INTEGER NOT NULL PRIMARY KEY, schema INTEGER NOT NULL, interval INTEGER NOT NULL, cap INTEGER NOT NULL) STRICT",
+        HEAD,
+    ),
+    (
+        0,
+        "CREATE TABLE head (one INTEGER NOT NULL PRIMARY KEY CHECK (one = 2), schema INTEGER NOT NULL, interval INTEGER NOT NULL, cap INTEGER NOT NULL) STRICT",
+        OTHER_HEAD,
+    ),
+    // A column with a default.
+    (
+        2,
+        "CREATE TABLE ranges (num INTEGER NOT NULL PRIMARY KEY, holder INTEGER NOT NULL, pair INTEGER NOT NULL, low INTEGER NOT NULL DEFAULT 0, high INTEGER NOT NULL, mark INTEGER NOT NULL) STRICT",
+        HEAD,
+    ),
+    // A table of another name, and a table that is not there.
+    (3, "CREATE TABLE other (pair INTEGER NOT NULL) STRICT", HEAD),
+    (3, "", HEAD),
+    // A closed range whose withdrawal may be NULL, and one that may stand twice.
+    (
+        4,
+        "CREATE TABLE closed (num INTEGER NOT NULL PRIMARY KEY, arrival INTEGER) STRICT",
+        HEAD,
+    ),
+    (
+        4,
+        "CREATE TABLE closed (num INTEGER NOT NULL, arrival INTEGER NOT NULL) STRICT",
+        HEAD,
+    ),
+];
+
 #[test]
 fn schema_of_a_ledger_is_known(rt: HostRuntime) -> Result<(), Fail> {
     let whole = ledger_of(0, 0).ok_or("settings")?;
     assert!(rt; opens_after(rt.alloc(), HEAD, &Ok(whole))?);
-    let others = [
-        // A column of another type.
-        (
-            1,
-            "CREATE TABLE calls (arrival INTEGER NOT NULL PRIMARY KEY, customer INTEGER NOT NULL, number INTEGER NOT NULL, day TEXT NOT NULL, reply BLOB NOT NULL, UNIQUE (customer, number)) STRICT",
-            HEAD,
-        ),
-        // A column more.
-        (
-            1,
-            "CREATE TABLE calls (arrival INTEGER NOT NULL PRIMARY KEY, customer INTEGER NOT NULL, number INTEGER NOT NULL, day INTEGER NOT NULL, reply BLOB NOT NULL, note TEXT, UNIQUE (customer, number)) STRICT",
-            HEAD,
-        ),
-        // Keys that may come twice.
-        (
-            1,
-            "CREATE TABLE calls (arrival INTEGER NOT NULL PRIMARY KEY, customer INTEGER NOT NULL, number INTEGER NOT NULL, day INTEGER NOT NULL, reply BLOB NOT NULL) STRICT",
-            HEAD,
-        ),
-        // A day that may be NULL.
-        (
-            1,
-            "CREATE TABLE calls (arrival INTEGER NOT NULL PRIMARY KEY, customer INTEGER NOT NULL, number INTEGER NOT NULL, day INTEGER, reply BLOB NOT NULL, UNIQUE (customer, number)) STRICT",
-            HEAD,
-        ),
-        // A head of more rows, and one of another row.
-        (
-            0,
-            "CREATE TABLE head (one INTEGER NOT NULL PRIMARY KEY, schema INTEGER NOT NULL, interval INTEGER NOT NULL, cap INTEGER NOT NULL) STRICT",
-            HEAD,
-        ),
-        (
-            0,
-            "CREATE TABLE head (one INTEGER NOT NULL PRIMARY KEY CHECK (one = 2), schema INTEGER NOT NULL, interval INTEGER NOT NULL, cap INTEGER NOT NULL) STRICT",
-            OTHER_HEAD,
-        ),
-        // A column with a default.
-        (
-            2,
-            "CREATE TABLE ranges (num INTEGER NOT NULL PRIMARY KEY, holder INTEGER NOT NULL, pair INTEGER NOT NULL, low INTEGER NOT NULL DEFAULT 0, high INTEGER NOT NULL, mark INTEGER NOT NULL) STRICT",
-            HEAD,
-        ),
-        // A table of another name, and a table that is not there.
-        (3, "CREATE TABLE other (pair INTEGER NOT NULL) STRICT", HEAD),
-        (3, "", HEAD),
-        // A closed range whose withdrawal may be NULL, and one that may stand twice.
-        (
-            4,
-            "CREATE TABLE closed (num INTEGER NOT NULL PRIMARY KEY, arrival INTEGER) STRICT",
-            HEAD,
-        ),
-        (
-            4,
-            "CREATE TABLE closed (num INTEGER NOT NULL, arrival INTEGER NOT NULL) STRICT",
-            HEAD,
-        ),
-    ];
-    for (place, text, head) in others {
-        let texts = tables_but_one(place, text, head);
+    for (place, text, head) in OTHERS {
+        let texts = tables_but_one(*place, text, head);
         assert!(rt; make_no_ledger(rt.alloc(), &texts)?, "{text}");
     }
     Ok(())
 }
 
+/// What is made behind the tables of a ledger, and what it is refused for.
+const CASES: &[(&str, Option<OpenFault>)] = &[
+    (HEAD, None),
+    ("", Some(OpenFault::NotALedger)),
+    (
+        "INSERT INTO head (one, schema, interval, cap) VALUES (1, 2, 30, 100)",
+        Some(OpenFault::Schema(2)),
+    ),
+    (
+        "INSERT INTO head (one, schema, interval, cap) VALUES (1, 1, 3651, 100)",
+        Some(OpenFault::NotALedger),
+    ),
+    // A table of the office's own, its index and a view.
+    (
+        "INSERT INTO head (one, schema, interval, cap) VALUES (1, 1, 30, 100); CREATE TABLE note (n INTEGER NOT NULL) STRICT; CREATE INDEX by_n ON note (n); CREATE VIEW late AS SELECT arrival FROM calls WHERE day > 20000",
+        None,
+    ),
+    // A table of the office's own that refers to another of them, and one that refers to calls.
+    (
+        "INSERT INTO head (one, schema, interval, cap) VALUES (1, 1, 30, 100); CREATE TABLE note (n INTEGER NOT NULL PRIMARY KEY) STRICT; CREATE TABLE page (n INTEGER NOT NULL REFERENCES note) STRICT",
+        None,
+    ),
+    (
+        "INSERT INTO head (one, schema, interval, cap) VALUES (1, 1, 30, 100); CREATE TABLE note (n INTEGER NOT NULL REFERENCES CALLS) STRICT",
+        Some(OpenFault::NotALedger),
+    ),
+    (
+        "INSERT INTO head (one, schema, interval, cap) VALUES (1, 1, 30, 100); CREATE TABLE note (n INTEGER NOT NULL REFERENCES Closed) STRICT",
+        Some(OpenFault::NotALedger),
+    ),
+    (
+        "INSERT INTO head (one, schema, interval, cap) VALUES (1, 1, 30, 100); CREATE INDEX by_day ON calls (day)",
+        Some(OpenFault::NotALedger),
+    ),
+    (
+        "INSERT INTO head (one, schema, interval, cap) VALUES (1, 1, 30, 100); CREATE INDEX by_arrival ON closed (arrival)",
+        Some(OpenFault::NotALedger),
+    ),
+    // The table of closed ranges behind one of the office's own.
+    (
+        "INSERT INTO head (one, schema, interval, cap) VALUES (1, 1, 30, 100); DROP TABLE closed; CREATE TABLE note (n INTEGER NOT NULL) STRICT; CREATE TABLE closed (num INTEGER NOT NULL PRIMARY KEY, arrival INTEGER NOT NULL) STRICT",
+        Some(OpenFault::NotALedger),
+    ),
+    (
+        "INSERT INTO head (one, schema, interval, cap) VALUES (1, 1, 30, 100); DROP TABLE serials",
+        Some(OpenFault::NotALedger),
+    ),
+    (
+        "INSERT INTO head (one, schema, interval, cap) VALUES (1, 1, 30, 100); DROP TABLE serials; CREATE TABLE serials (pair INTEGER NOT NULL, serial INTEGER NOT NULL, PRIMARY KEY (pair, serial)) STRICT",
+        Some(OpenFault::NotALedger),
+    ),
+];
+
 #[test]
 fn other_databases_are_no_ledgers(rt: HostRuntime) -> Result<(), Fail> {
     let whole = ledger_of(0, 0).ok_or("settings")?;
-    let cases: [(&str, Result<Opened, OpenFault>); 13] = [
-        (HEAD, Ok(whole)),
-        ("", Err(OpenFault::NotALedger)),
-        (
-            "INSERT INTO head (one, schema, interval, cap) VALUES (1, 2, 30, 100)",
-            Err(OpenFault::Schema(2)),
-        ),
-        (
-            "INSERT INTO head (one, schema, interval, cap) VALUES (1, 1, 3651, 100)",
-            Err(OpenFault::NotALedger),
-        ),
-        // A table of the office's own, its index and a view.
-        (
-            "INSERT INTO head (one, schema, interval, cap) VALUES (1, 1, 30, 100); CREATE TABLE note (n INTEGER NOT NULL) STRICT; CREATE INDEX by_n ON note (n); CREATE VIEW late AS SELECT arrival FROM calls WHERE day > 20000",
-            Ok(whole),
-        ),
-        // A table of the office's own that refers to another of them, and one that refers to calls.
-        (
-            "INSERT INTO head (one, schema, interval, cap) VALUES (1, 1, 30, 100); CREATE TABLE note (n INTEGER NOT NULL PRIMARY KEY) STRICT; CREATE TABLE page (n INTEGER NOT NULL REFERENCES note) STRICT",
-            Ok(whole),
-        ),
-        (
-            "INSERT INTO head (one, schema, interval, cap) VALUES (1, 1, 30, 100); CREATE TABLE note (n INTEGER NOT NULL REFERENCES CALLS) STRICT",
-            Err(OpenFault::NotALedger),
-        ),
-        (
-            "INSERT INTO head (one, schema, interval, cap) VALUES (1, 1, 30, 100); CREATE TABLE note (n INTEGER NOT NULL REFERENCES Closed) STRICT",
-            Err(OpenFault::NotALedger),
-        ),
-        (
-            "INSERT INTO head (one, schema, interval, cap) VALUES (1, 1, 30, 100); CREATE INDEX by_day ON calls (day)",
-            Err(OpenFault::NotALedger),
-        ),
-        (
-            "INSERT INTO head (one, schema, interval, cap) VALUES (1, 1, 30, 100); CREATE INDEX by_arrival ON closed (arrival)",
-            Err(OpenFault::NotALedger),
-        ),
-        // The table of closed ranges behind one of the office's own.
-        (
-            "INSERT INTO head (one, schema, interval, cap) VALUES (1, 1, 30, 100); DROP TABLE closed; CREATE TABLE note (n INTEGER NOT NULL) STRICT; CREATE TABLE closed (num INTEGER NOT NULL PRIMARY KEY, arrival INTEGER NOT NULL) STRICT",
-            Err(OpenFault::NotALedger),
-        ),
-        (
-            "INSERT INTO head (one, schema, interval, cap) VALUES (1, 1, 30, 100); DROP TABLE serials",
-            Err(OpenFault::NotALedger),
-        ),
-        (
-            "INSERT INTO head (one, schema, interval, cap) VALUES (1, 1, 30, 100); DROP TABLE serials; CREATE TABLE serials (pair INTEGER NOT NULL, serial INTEGER NOT NULL, PRIMARY KEY (pair, serial)) STRICT",
-            Err(OpenFault::NotALedger),
-        ),
-    ];
-    for (at, (text, answer)) in cases.iter().enumerate() {
-        assert!(rt; opens_after(rt.alloc(), text, answer)?, "at {at}");
+    for (text, refused) in CASES {
+        let answer = match refused {
+            Some(fault) => Err(*fault),
+            None => Ok(whole),
+        };
+        assert!(rt; opens_after(rt.alloc(), text, &answer)?, "{text}");
     }
     assert!(rt; make_no_ledger(rt.alloc(), &[])?);
     Ok(())
@@ -199,35 +207,36 @@ fn is_told_and_mended(
     Ok(opens(alloc, conn, &Ok(whole)) && answer == Err(OpenFault::Damaged(call)))
 }
 
+/// The damage, where it is found, and what mends it.
+const MENDED: &[(&str, u32, &str)] = &[
+    (
+        "UPDATE serials SET day = 20001 WHERE serial = 2",
+        0,
+        "UPDATE serials SET day = 20000 WHERE serial = 2",
+    ),
+    (
+        "UPDATE ranges SET mark = 0",
+        0,
+        "UPDATE ranges SET mark = 2",
+    ),
+    (
+        "UPDATE calls SET day = 19999 WHERE arrival = 6",
+        6,
+        "UPDATE calls SET day = 20000 WHERE arrival = 6",
+    ),
+    (
+        "UPDATE calls SET arrival = 10 WHERE arrival = 2",
+        2,
+        "UPDATE calls SET arrival = 2 WHERE arrival = 10",
+    ),
+];
+
 #[test]
 fn damage_is_told_and_leaves_the_rows(rt: HostRuntime) -> Result<(), Fail> {
     let whole = ledger_of(9, 20030).ok_or("settings")?;
-    // The damage, where it is found, and what mends it.
-    let cases = [
-        (
-            "UPDATE serials SET day = 20001 WHERE serial = 2",
-            0,
-            "UPDATE serials SET day = 20000 WHERE serial = 2",
-        ),
-        (
-            "UPDATE ranges SET mark = 0",
-            0,
-            "UPDATE ranges SET mark = 2",
-        ),
-        (
-            "UPDATE calls SET day = 19999 WHERE arrival = 6",
-            6,
-            "UPDATE calls SET day = 20000 WHERE arrival = 6",
-        ),
-        (
-            "UPDATE calls SET arrival = 10 WHERE arrival = 2",
-            2,
-            "UPDATE calls SET arrival = 2 WHERE arrival = 10",
-        ),
-    ];
-    for (damage, call, mend) in cases {
+    for (damage, call, mend) in MENDED {
         assert!(rt;
-            is_told_and_mended(rt.alloc(), whole, damage, call, mend)?,
+            is_told_and_mended(rt.alloc(), whole, damage, *call, mend)?,
             "{damage}"
         );
     }

@@ -1,5 +1,6 @@
 //! Calls and usage, read off rows.
 
+use crate::expect::same;
 use s10_book::PlainBook;
 use s10_core::{Country, Serial, Service};
 use s10_history::{Range, Settings, Usage};
@@ -69,7 +70,7 @@ fn serial_row(serial: i64, arrival: i64, day: i64, number: i64, voided: i64) -> 
 fn pairs_are_four_letters_as_a_number(rt: HostRuntime) {
     let ra = service(&rt, *b"RA");
     let gb = country(&rt, *b"GB");
-    assert_eq!(rt; pair_number(ra, gb), 1380009794);
+    same(&rt, &"RA GB", &pair_number(ra, gb), &1380009794);
 }
 
 // What comes of the row of customer 7's first Draw as the second call of a ledger, with that day and that reply.
@@ -86,24 +87,25 @@ fn replayed(rt: &impl Abort, alloc: Global, day: i64, reply: &[u8]) -> Result<()
     replay_rows(&mut book, &[first, call_row(rt, alloc, day, reply)])
 }
 
+const LONG: &[u8] =
+    b"S1\x01\x82\x00\x00\x00\x07\x00\x00\x00\x01RAGB\x00\x00\x00\x4e\x20RA000000005GB\x00";
+
+const REQUEST: &[u8] = b"S1\x01\x02\x00\x00\x00\x07\x00\x00\x00\x01RAGB";
+
+/// The day and the reply of a row, and what comes of it.
+const ROWS: &[(i64, &[u8], Result<(), OpenFault>)] = &[
+    (20000, REPLY, Ok(())),
+    (20000, LONG, Err(OpenFault::Damaged(2))),
+    (20000, REQUEST, Err(OpenFault::Damaged(2))),
+    (-1, REPLY, Err(OpenFault::Damaged(2))),
+    (4294967296, REPLY, Err(OpenFault::Damaged(2))),
+];
+
 #[test]
 fn rows_that_do_not_read_are_damage(rt: HostRuntime) {
-    let long =
-        b"S1\x01\x82\x00\x00\x00\x07\x00\x00\x00\x01RAGB\x00\x00\x00\x4e\x20RA000000005GB\x00";
-    let request = b"S1\x01\x02\x00\x00\x00\x07\x00\x00\x00\x01RAGB";
-    let rows: [(i64, &[u8], Result<(), OpenFault>); 5] = [
-        (20000, REPLY, Ok(())),
-        (20000, long, Err(OpenFault::Damaged(2))),
-        (20000, request, Err(OpenFault::Damaged(2))),
-        (-1, REPLY, Err(OpenFault::Damaged(2))),
-        (4294967296, REPLY, Err(OpenFault::Damaged(2))),
-    ];
-    for (day, reply, told) in rows {
-        let size = reply.len();
-        assert!(rt;
-            replayed(&rt, rt.alloc(), day, reply) == told,
-            "a reply of {size} bytes on {day}"
-        );
+    for (day, reply, told) in ROWS {
+        let found = replayed(&rt, rt.alloc(), *day, reply);
+        same(&rt, &(*day, reply.len()), &found, told);
     }
 }
 

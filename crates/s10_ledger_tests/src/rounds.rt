@@ -1,6 +1,7 @@
 //! Rounds of a server over a ledger that could not be settled once.
 
 use crate::calls::{ledger, settings};
+use crate::expect::same;
 use s10_book::{BookFault, Settle, TripBook};
 use s10_ends::{Server, ServerTurn, Turn, serve_one, serve_round};
 use s10_link::{Packet, Peer, Receipt, ScriptLink};
@@ -183,7 +184,7 @@ fn waits<R: Abort + AllocGlobal>(
 fn no_reply_is_sent_before_its_call_is_settled(rt: HostRuntime) -> Result<(), Fail> {
     let first = new_call(PEER, SECOND)?;
     let second = new_call(OTHER, THIRD)?;
-    assert_eq!(rt; waits(&rt, &first, &second)?, Some((1, 1)));
+    same(&rt, &"rounds", &waits(&rt, &first, &second)?, &Some((1, 1)));
     Ok(())
 }
 
@@ -191,6 +192,6 @@ fn no_reply_is_sent_before_its_call_is_settled(rt: HostRuntime) -> Result<(), Fa
 fn a_settled_call_is_answered_though_another_is_not(rt: HostRuntime) -> Result<(), Fail> {
     let first = new_call(PEER, SECOND)?;
     let second = repeat(OTHER, FIRST)?;
-    assert_eq!(rt; waits(&rt, &first, &second)?, Some((1, 1)));
+    same(&rt, &"rounds", &waits(&rt, &first, &second)?, &Some((1, 1)));
     Ok(())
 }

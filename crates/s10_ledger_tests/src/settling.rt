@@ -1,6 +1,7 @@
 //! Calls that are pending, and their settling.
 
 use crate::calls::{answer, draw, drawn, grant, granted, ledger, settings};
+use crate::expect::same;
 use crate::stops::{Ended, files_of, opened_again};
 use crate::tables::found;
 use s10_book::{Book, BookFault, Settle};
@@ -14,7 +15,8 @@ use std::test::Fail;
 
 // The book keeps a Grant, and Draws of these numbers behind it.
 fn keep<R: Abort, B: Book>(rt: &R, book: &mut B, draws: u32) {
-    assert_eq!(rt; answer(book, &grant(0, 1, 7, 0, 999), 20000), granted(1));
+    let answered = answer(book, &grant(0, 1, 7, 0, 999), 20000);
+    same(rt, &"the Grant", &answered, &granted(1));
     for number in 0..draws {
         assert!(rt; answer(book, &draw(7, number), 20000).is_ok(), "{number}");
     }
@@ -44,18 +46,24 @@ fn settled<R: Abort + AllocGlobal>(rt: &R, draws: u32) -> Option<u32> {
     if settled == Ok(()) { calls } else { None }
 }
 
+// Draws behind a Grant, and how many calls are settled.
+const SETTLED_CALLS: &[(u32, u32)] = &[(0, 1), (1, 2), (63, 64), (64, 65)];
+
 #[test]
 fn settled_calls_are_found_again(rt: HostRuntime) {
-    for (draws, calls) in [(0, 1), (1, 2), (63, 64), (64, 65)] {
-        assert_eq!(rt; settled(&rt, draws), Some(calls), "{draws}");
+    for (draws, calls) in SETTLED_CALLS {
+        same(&rt, draws, &settled(&rt, *draws), &Some(*calls));
     }
 }
 
+// Draws behind a Grant, and how many calls were settled to make room.
+const FULL_ROUNDS: &[(u32, u32)] = &[(0, 0), (1, 0), (63, 0), (64, 64), (127, 64), (128, 128)];
+
 #[test]
 fn pending_calls_are_settled_by_the_one_behind_the_greatest_number(rt: HostRuntime) {
-    for (draws, calls) in [(0, 0), (1, 0), (63, 0), (64, 64), (127, 64), (128, 128)] {
-        let book = kept(&rt, draws);
-        assert_eq!(rt; calls_found(rt.alloc(), book), Some(calls), "{draws}");
+    for (draws, calls) in FULL_ROUNDS {
+        let found = calls_found(rt.alloc(), kept(&rt, *draws));
+        same(&rt, draws, &found, &Some(*calls));
     }
 }
 
@@ -69,7 +77,7 @@ fn repeated<R: Abort + AllocGlobal>(rt: &R) -> (bool, u32, Option<u32>) {
 
 #[test]
 fn a_pending_call_is_found(rt: HostRuntime) {
-    assert_eq!(rt; repeated(&rt), (true, 4, Some(0)));
+    same(&rt, &"repeated", &repeated(&rt), &(true, 4, Some(0)));
 }
 
 // What is told of a settling: which of four calls are settled before and behind it, what it answers, and how many calls the book

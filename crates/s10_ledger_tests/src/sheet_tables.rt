@@ -27,7 +27,7 @@ const FIVE_SERIALS: &str =
 
 fn sheet_ledger(alloc: Global) -> Result<Connection<MemStore>, Error> {
     let mut conn = database(alloc, &TABLES)?;
-    for text in [HEAD, THREE_REPLIES, TWO_RANGES, FIVE_SERIALS] {
+    for text in &[HEAD, THREE_REPLIES, TWO_RANGES, FIVE_SERIALS] {
         run_batch(&mut conn, text)?;
     }
     Ok(conn)
@@ -47,30 +47,31 @@ fn a_ledger_with_a_sheet_opens(rt: HostRuntime) -> Result<(), Fail> {
     Ok(())
 }
 
+/// The damage, and where it is found.
+const DAMAGES: &[(&str, u32)] = &[
+    ("UPDATE serials SET day = 20001 WHERE serial = 0", 0),
+    ("UPDATE serials SET arrival = 2 WHERE serial = 1", 0),
+    ("UPDATE serials SET number = 2 WHERE serial = 2", 0),
+    ("UPDATE serials SET voided = 1 WHERE serial = 4", 0),
+    ("UPDATE serials SET customer = 8 WHERE serial = 5", 0),
+    ("DELETE FROM serials WHERE serial = 4", 0),
+    ("UPDATE ranges SET mark = 1 WHERE num = 1", 0),
+    ("UPDATE ranges SET mark = 5 WHERE num = 2", 0),
+    (
+        "UPDATE calls SET reply = x'53310285000000070000000152414742050000004e205241303030303030303134474252413030303030303030354742524130303030303030323847425241303030303030303435474252413030303030303035394742' WHERE arrival = 3",
+        3,
+    ),
+    (
+        "UPDATE calls SET reply = x'533102850000000700000001524147420505' WHERE arrival = 3",
+        3,
+    ),
+    ("DELETE FROM calls WHERE arrival = 3", 0),
+];
+
 #[test]
 fn each_row_of_a_sheet_is_compared(rt: HostRuntime) -> Result<(), Fail> {
-    // The damage, and where it is found.
-    let cases = [
-        ("UPDATE serials SET day = 20001 WHERE serial = 0", 0),
-        ("UPDATE serials SET arrival = 2 WHERE serial = 1", 0),
-        ("UPDATE serials SET number = 2 WHERE serial = 2", 0),
-        ("UPDATE serials SET voided = 1 WHERE serial = 4", 0),
-        ("UPDATE serials SET customer = 8 WHERE serial = 5", 0),
-        ("DELETE FROM serials WHERE serial = 4", 0),
-        ("UPDATE ranges SET mark = 1 WHERE num = 1", 0),
-        ("UPDATE ranges SET mark = 5 WHERE num = 2", 0),
-        (
-            "UPDATE calls SET reply = x'53310285000000070000000152414742050000004e205241303030303030303134474252413030303030303030354742524130303030303030323847425241303030303030303435474252413030303030303035394742' WHERE arrival = 3",
-            3,
-        ),
-        (
-            "UPDATE calls SET reply = x'533102850000000700000001524147420505' WHERE arrival = 3",
-            3,
-        ),
-        ("DELETE FROM calls WHERE arrival = 3", 0),
-    ];
-    for (damage, call) in cases {
-        assert!(rt; is_damaged(rt.alloc(), damage, call)?, "{damage}");
+    for (damage, call) in DAMAGES {
+        assert!(rt; is_damaged(rt.alloc(), damage, *call)?, "{damage}");
     }
     Ok(())
 }

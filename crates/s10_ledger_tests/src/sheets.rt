@@ -1,6 +1,7 @@
 //! Sheets of identifiers, datagram by datagram, over a book in memory and over a ledger in tables.
 
 use crate::calls::{closed, ledger, settings};
+use crate::expect::same;
 use s10_book::{Book, PlainBook};
 use s10_ends::{Answer, Delivery, Server};
 use s10_link::Packet;
@@ -84,7 +85,7 @@ const TWO_RANGES: [Step; 3] = [
 ];
 
 /// The longest sheet.
-const SIXTEEN: [Step; 2] = [
+const SIXTEEN: &[Step] = &[
     (
         20_000,
         b"S1\x01\x01\0\0\0\0\0\0\0\x01\0\0\0\x07RAGB\0\0\0\0\0\0\0\x0f",
@@ -103,7 +104,7 @@ const SIXTEEN: [Step; 2] = [
 ];
 
 /// What asks for no sheet: no label, seventeen, and the kinds of one version under the other.
-const REFUSED: [Step; 4] = [
+const REFUSED: &[Step] = &[
     (
         20_000,
         b"S1\x02\x05\0\0\0\x07\0\0\0\x01RAGB\0",
@@ -184,10 +185,10 @@ pub(crate) fn played<B: Book>(
 fn are_answered<R: Abort + AllocGlobal>(rt: &R, name: &str, steps: &[Step]) -> Result<(), Fail> {
     let settings = settings(rt, 100);
     let (_, unlike) = played(rt.alloc(), PlainBook::new(rt.alloc(), settings), steps);
-    assert_eq!(rt; unlike?, None, "{name}, in memory");
+    same(rt, &(name, "in memory"), &unlike?, &None);
     let (tables, unlike) = played(rt.alloc(), ledger(rt, settings), steps);
     let _ = closed(tables);
-    assert_eq!(rt; unlike?, None, "{name}, in tables");
+    same(rt, &(name, "in tables"), &unlike?, &None);
     Ok(())
 }
 
@@ -195,8 +196,8 @@ fn are_answered<R: Abort + AllocGlobal>(rt: &R, name: &str, steps: &[Step]) -> R
 fn sheets_are_answered_as_worked_by_hand(rt: HostRuntime) -> Result<(), Fail> {
     are_answered(&rt, "one range", &ONE_RANGE)?;
     are_answered(&rt, "two ranges", &TWO_RANGES)?;
-    are_answered(&rt, "sixteen", &SIXTEEN)?;
-    are_answered(&rt, "refused", &REFUSED)
+    are_answered(&rt, "sixteen", SIXTEEN)?;
+    are_answered(&rt, "refused", REFUSED)
 }
 
 /// Draws with numbers that no sheet above has.

@@ -170,8 +170,8 @@ fn refused(
 #[test]
 fn a_ledger_whose_completion_stopped_is_whole(rt: HostRuntime) -> Result<(), Fail> {
     let old = old_ledger(rt.alloc()).ok_or("old ledger")?;
-    for (options, in_log) in [(Options::new(7), true), (TIGHT, true), (TIGHT, false)] {
-        let count = refused(rt.alloc(), &old, options, in_log)?;
+    for (options, in_log) in &[(Options::new(7), true), (TIGHT, true), (TIGHT, false)] {
+        let count = refused(rt.alloc(), &old, *options, *in_log)?;
         assert!(rt;
             count.is_some_and(|count| 0 < count),
             "{count:?}, in the log: {in_log}"

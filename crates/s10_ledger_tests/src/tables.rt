@@ -86,7 +86,7 @@ pub(crate) fn database(alloc: Global, texts: &[&str]) -> Result<Connection<MemSt
 // The ledger of the nine calls.
 pub(crate) fn nine_calls(alloc: Global) -> Result<Connection<MemStore>, Error> {
     let mut conn = database(alloc, &TABLES)?;
-    for text in [HEAD, NINE_REPLIES, ONE_RANGE, THREE_SERIALS] {
+    for text in &[HEAD, NINE_REPLIES, ONE_RANGE, THREE_SERIALS] {
         run_batch(&mut conn, text)?;
     }
     Ok(conn)

@@ -28,7 +28,7 @@ fn found_after(
 // Whether the nine calls are found whose serials were written in another order.
 fn found_turned(alloc: Global, whole: Opened) -> Result<bool, Error> {
     let mut conn = database(alloc, &TABLES)?;
-    for text in [HEAD, NINE_REPLIES, ONE_RANGE, TURNED] {
+    for text in &[HEAD, NINE_REPLIES, ONE_RANGE, TURNED] {
         run_batch(&mut conn, text)?;
     }
     Ok(opens(alloc, conn, &Ok(whole)))
@@ -42,44 +42,53 @@ fn nine_calls_are_a_ledger(rt: HostRuntime) -> Result<(), Fail> {
     Ok(())
 }
 
+/// What is changed of a call, and which call is wrong then.
+const CALLS: &[(&str, u32)] = &[
+    ("UPDATE calls SET customer = 8 WHERE arrival = 4", 4),
+    ("UPDATE calls SET day = 19999 WHERE arrival = 6", 6),
+    ("UPDATE calls SET day = 20029 WHERE arrival = 8", 8),
+    ("UPDATE calls SET day = 20029 WHERE arrival = 9", 9),
+    ("UPDATE calls SET arrival = 10 WHERE arrival = 9", 9),
+];
+
 #[test]
 fn first_wrong_call_is_named(rt: HostRuntime) -> Result<(), Fail> {
-    for (change, call) in [
-        ("UPDATE calls SET customer = 8 WHERE arrival = 4", 4),
-        ("UPDATE calls SET day = 19999 WHERE arrival = 6", 6),
-        ("UPDATE calls SET day = 20029 WHERE arrival = 8", 8),
-        ("UPDATE calls SET day = 20029 WHERE arrival = 9", 9),
-        ("UPDATE calls SET arrival = 10 WHERE arrival = 9", 9),
-    ] {
-        let answer = Err(OpenFault::Damaged(call));
+    for (change, call) in CALLS {
+        let answer = Err(OpenFault::Damaged(*call));
         assert!(rt; found_after(rt.alloc(), change, &answer)?, "{change}");
     }
     Ok(())
 }
 
+/// What is changed of the head, and what opening answers then.
+const HEADS: &[(&str, OpenFault)] = &[
+    ("UPDATE head SET interval = 31", OpenFault::Damaged(8)),
+    ("UPDATE head SET cap = 8", OpenFault::Damaged(9)),
+    ("UPDATE head SET schema = 2", OpenFault::Schema(2)),
+    ("UPDATE head SET interval = 0", OpenFault::NotALedger),
+    ("DELETE FROM head", OpenFault::NotALedger),
+];
+
 #[test]
 fn head_says_how_the_calls_were_made(rt: HostRuntime) -> Result<(), Fail> {
-    for (change, fault) in [
-        ("UPDATE head SET interval = 31", OpenFault::Damaged(8)),
-        ("UPDATE head SET cap = 8", OpenFault::Damaged(9)),
-        ("UPDATE head SET schema = 2", OpenFault::Schema(2)),
-        ("UPDATE head SET interval = 0", OpenFault::NotALedger),
-        ("DELETE FROM head", OpenFault::NotALedger),
-    ] {
-        assert!(rt; found_after(rt.alloc(), change, &Err(fault))?, "{change}");
+    for (change, fault) in HEADS {
+        assert!(rt; found_after(rt.alloc(), change, &Err(*fault))?, "{change}");
     }
     Ok(())
 }
 
+/// What is changed of the other tables.
+const OTHERS: &[&str] = &[
+    "UPDATE ranges SET high = 3",
+    "UPDATE ranges SET mark = 0",
+    "UPDATE serials SET voided = 1 WHERE serial = 1",
+    "DELETE FROM serials WHERE serial = 2",
+    "INSERT INTO serials (pair, serial, arrival, day, customer, number, voided) VALUES (1380009794, 3, 6, 20000, 7, 5, 0)",
+];
+
 #[test]
 fn other_tables_are_those_that_the_calls_make(rt: HostRuntime) -> Result<(), Fail> {
-    for change in [
-        "UPDATE ranges SET high = 3",
-        "UPDATE ranges SET mark = 0",
-        "UPDATE serials SET voided = 1 WHERE serial = 1",
-        "DELETE FROM serials WHERE serial = 2",
-        "INSERT INTO serials (pair, serial, arrival, day, customer, number, voided) VALUES (1380009794, 3, 6, 20000, 7, 5, 0)",
-    ] {
+    for change in OTHERS {
         let damaged = Err(OpenFault::Damaged(0));
         assert!(rt; found_after(rt.alloc(), change, &damaged)?, "{change}");
     }

@@ -1,6 +1,7 @@
 //! Withdrawals, datagram by datagram, over a book in memory and over a ledger in tables.
 
 use crate::calls::{closed, ledger, settings};
+use crate::expect::same;
 use crate::sheets::{GRANT, Step, Want, played};
 use s10_book::{Book, PlainBook};
 use s10_reports::write_ranges;
@@ -21,7 +22,7 @@ const WITHDRAW: Step = (
 );
 
 /// Range 1 is withdrawn, and what is asked of it then: other withdrawals, draws, a Void and a Query of what it gave, and Grants.
-const WITHDRAWN: [Step; 14] = [
+const WITHDRAWN: &[Step] = &[
     GRANT,
     DRAW,
     WITHDRAW,
@@ -83,7 +84,7 @@ const WITHDRAWN_RANGES: &[u8] = b"range customer service country first last used
 2 8 RA GB 00000003 00000003 0 0 1\n";
 
 /// The number of the withdrawal for another range and for a Grant, and then for the withdrawal once more.
-const REUSED: [Step; 6] = [
+const REUSED: &[Step] = &[
     GRANT,
     DRAW,
     WITHDRAW,
@@ -104,7 +105,7 @@ const REUSED_RANGES: &[u8] = b"range customer service country first last used vo
 1 7 RA GB 00000000 00000002 1 0 2 closed\n";
 
 /// The number of the Grant for a withdrawal.
-const NOT_WITHDRAWN: [Step; 3] = [
+const NOT_WITHDRAWN: &[Step] = &[
     GRANT,
     (
         20_000,
@@ -150,24 +151,22 @@ fn are_answered<R: Abort + AllocGlobal>(
     let settings = settings(rt, 100);
     let plain = PlainBook::new(rt.alloc(), settings);
     let (_, unlike, left) = behind(rt.alloc(), plain, steps, calls, ranges);
-    assert_eq!(rt; unlike?, None, "{name}, in memory");
-    assert!(rt; left, "{name}, in memory");
+    same(rt, &(name, "in memory"), &(unlike?, left), &(None, true));
     let tables = ledger(rt, settings);
     let (tables, unlike, left) = behind(rt.alloc(), tables, steps, calls, ranges);
     let _ = closed(tables);
-    assert_eq!(rt; unlike?, None, "{name}, in tables");
-    assert!(rt; left, "{name}, in tables");
+    same(rt, &(name, "in tables"), &(unlike?, left), &(None, true));
     Ok(())
 }
 
 #[test]
 fn withdrawals_are_answered_as_worked_by_hand(rt: HostRuntime) -> Result<(), Fail> {
-    are_answered(&rt, "withdrawn", &WITHDRAWN, 13, WITHDRAWN_RANGES)?;
-    are_answered(&rt, "number reused", &REUSED, 3, REUSED_RANGES)?;
+    are_answered(&rt, "withdrawn", WITHDRAWN, 13, WITHDRAWN_RANGES)?;
+    are_answered(&rt, "number reused", REUSED, 3, REUSED_RANGES)?;
     are_answered(
         &rt,
         "number of a Grant",
-        &NOT_WITHDRAWN,
+        NOT_WITHDRAWN,
         2,
         NOT_WITHDRAWN_RANGES,
     )

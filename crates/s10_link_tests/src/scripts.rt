@@ -1,7 +1,11 @@
+//! Links that follow a script.
+
+use crate::expect::same;
 use s10_core::{Country, Service};
 use s10_link::{Link, LinkFault, Packet, Peer, Receipt, ScriptLink, Trace};
 use s10_wire::{Body, Frame, Request, encode_request};
 use std::alloc::{AllocError, Global};
+use std::process::Abort;
 use std::test::Fail;
 
 const NEAR: Peer = Peer {
@@ -15,15 +19,15 @@ const FAR: Peer = Peer {
 };
 
 /// A Draw of RA GB with this number.
-fn draw(number: u32) -> Result<Frame, &'static str> {
-    match (Service::new(*b"RA"), Country::new(*b"GB")) {
-        (Some(service), Some(country)) => Ok(encode_request(&Request {
-            customer: 7,
-            number,
-            body: Body::Draw { service, country },
-        })),
-        _ => Err("letters"),
-    }
+fn draw(number: u32) -> Frame {
+    encode_request(&Request {
+        customer: 7,
+        number,
+        body: Body::Draw {
+            service: Service::new(*b"RA").unwrap(),
+            country: Country::new(*b"GB").unwrap(),
+        },
+    })
 }
 
 /// A link that gives this packet, nothing and a failure, and sends once.
@@ -61,8 +65,8 @@ fn calls_follow_the_script(rt: HostRuntime) -> Result<(), Fail> {
     let mut link = new_script(rt.alloc(), packet)?;
     assert!(rt; has_met(&link, Trace::new(), &[]));
     assert!(rt; receives_in_turn(&mut link, packet));
-    let first = draw(1)?;
-    let other = draw(2)?;
+    let first = draw(1);
+    let other = draw(2);
     assert!(rt; sends(&mut link, &first, Ok(())));
     assert!(rt; sends(&mut link, &other, Err(LinkFault::Send)));
     assert!(rt; sends(&mut link, &other, Err(LinkFault::Spent)));
@@ -103,40 +107,40 @@ fn receive_now_takes_the_next_receipt(rt: HostRuntime) -> Result<(), Fail> {
     Ok(())
 }
 
+/// The frame is sent, as the last of so many alike in a row.
+fn sends_alike(rt: &impl Abort, link: &mut ScriptLink, to: Peer, frame: &Frame, alike: u64) {
+    same(rt, &alike, &link.send(to, frame), &Ok(()));
+    same(rt, &to, &link.trace().alike, &alike);
+}
+
 #[test]
 fn alike_counts_the_last_sends_in_a_row(rt: HostRuntime) -> Result<(), Fail> {
     let receipts = Vec::new(rt.alloc());
     let sends = vec![in rt.alloc(); true; 6]?;
     let mut link = ScriptLink::new(rt.alloc(), receipts, sends)?;
-    let first = draw(1)?;
-    let other = draw(2)?;
-    let sent = [
-        (FAR, first, 1),
-        (FAR, first, 2),
-        (NEAR, first, 1),
-        (NEAR, other, 1),
-        (NEAR, other, 2),
-        (NEAR, other, 3),
-    ];
-    for (to, frame, alike) in sent {
-        assert_eq!(rt; link.send(to, &frame), Ok(()));
-        assert_eq!(rt; link.trace().alike, alike);
-    }
-    assert_eq!(rt; link.trace().sends, 6);
-    assert_eq!(rt; link.log().len(), 6);
+    let first = draw(1);
+    let other = draw(2);
+    sends_alike(&rt, &mut link, FAR, &first, 1);
+    sends_alike(&rt, &mut link, FAR, &first, 2);
+    sends_alike(&rt, &mut link, NEAR, &first, 1);
+    sends_alike(&rt, &mut link, NEAR, &other, 1);
+    sends_alike(&rt, &mut link, NEAR, &other, 2);
+    sends_alike(&rt, &mut link, NEAR, &other, 3);
+    assert!(rt; link.trace().sends == 6 && link.log().len() == 6);
     Ok(())
 }
 
+const TEXTS: &[(LinkFault, &str)] = &[
+    (LinkFault::Bind, "the address cannot be bound"),
+    (LinkFault::Receive, "receiving failed"),
+    (LinkFault::Send, "sending failed"),
+    (LinkFault::Spent, "the link is spent"),
+];
+
 #[test]
 fn link_faults_have_their_texts(rt: HostRuntime) -> Result<(), Fail> {
-    let texts = [
-        (LinkFault::Bind, "the address cannot be bound"),
-        (LinkFault::Receive, "receiving failed"),
-        (LinkFault::Send, "sending failed"),
-        (LinkFault::Spent, "the link is spent"),
-    ];
-    for (fault, text) in texts {
-        assert_eq!(rt; fault.to_string(rt.alloc())?.as_str(), text);
+    for (fault, text) in TEXTS {
+        same(&rt, fault, &fault.to_string(rt.alloc())?.as_str(), text);
     }
     Ok(())
 }

@@ -7,24 +7,15 @@ use s10_wire::{Body, Outcome, Request};
 use std::process::Abort;
 
 pub(crate) fn service(rt: &impl Abort, letters: [u8; 2]) -> Service {
-    match Service::new(letters) {
-        Some(service) => service,
-        None => panic!(rt),
-    }
+    Service::new(letters).expect(rt, "letters of a service")
 }
 
 pub(crate) fn country(rt: &impl Abort, letters: [u8; 2]) -> Country {
-    match Country::new(letters) {
-        Some(country) => country,
-        None => panic!(rt),
-    }
+    Country::new(letters).expect(rt, "letters of a country")
 }
 
 pub(crate) fn serial(rt: &impl Abort, value: u32) -> Serial {
-    match Serial::new(value) {
-        Some(serial) => serial,
-        None => panic!(rt),
-    }
+    Serial::new(value).expect(rt, "a serial number")
 }
 
 /// What the post grants of GB: the holder, the service, the first and the last serial.
@@ -62,10 +53,8 @@ pub(crate) fn numbered(rt: &impl Abort, num: u32) -> Option<Range> {
 }
 
 fn follow(rt: &impl Abort, ranges: &mut Ranges, entry: &Entry) {
-    match ranges.reserve() {
-        Ok(()) => ranges.follow(entry),
-        Err(fault) => panic!(rt; "{fault}"),
-    }
+    ranges.reserve().expect(rt, "room");
+    ranges.follow(entry);
 }
 
 /// A Grant of the range was Done.

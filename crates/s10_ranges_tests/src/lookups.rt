@@ -1,22 +1,36 @@
 //! The look-ups of ranges.
 
-use crate::calls::{all_granted, country, grant, numbered, range, serial, service, withdraw};
+use crate::calls::{
+    Granted, all_granted, country, grant, numbered, range, serial, service, withdraw,
+};
+use crate::expect::same;
 use s10_ranges::Ranges;
 use s10_wire::Outcome;
 use std::process::Abort;
 
-fn is_numbered(rt: &impl Abort, ranges: &Ranges, num: u32) -> bool {
-    ranges.numbered(num) == numbered(rt, num)
+/// Under the numbers from 0 to 8 stand the ranges that were granted.
+fn are_numbered(rt: &impl Abort, ranges: &Ranges) {
+    for num in 0..9u32 {
+        same(rt, &num, &ranges.numbered(num), &numbered(rt, num));
+    }
 }
 
-// Whether the next open range of RA GB of the customer behind that number is the one of the wanted number, 0 for none.
-fn has_next(rt: &impl Abort, ranges: &Ranges, customer: u32, after: u32, want: u32) -> bool {
+/// The next open range of RA GB of the customer behind that number is the one of the wanted number, 0 for none.
+fn has_next(rt: &impl Abort, ranges: &Ranges, customer: u32, after: u32, want: u32) {
     let ra = service(rt, *b"RA");
     let gb = country(rt, *b"GB");
-    ranges.open_after(customer, ra, gb, after) == numbered(rt, want)
+    let found = ranges.open_after(customer, ra, gb, after);
+    same(rt, &(customer, after), &found, &numbered(rt, want));
 }
 
-// Whether the range found over those serials of a service and a country is the one of the wanted number, 0 for none.
+/// Customers, the number behind which a range is looked for, and the wanted number.
+fn have_next(rt: &impl Abort, ranges: &Ranges, wanted: &[(u32, u32, u32)]) {
+    for (customer, after, want) in wanted {
+        has_next(rt, ranges, *customer, *after, *want);
+    }
+}
+
+/// The range found over those serials of a service and a country is the one of the wanted number, 0 for none.
 fn has_over(
     rt: &impl Abort,
     ranges: &Ranges,
@@ -25,105 +39,86 @@ fn has_over(
     first: u32,
     last: u32,
     want: u32,
-) -> bool {
+) {
     let service = service(rt, letters);
     let country = country(rt, code);
-    let first = serial(rt, first);
-    let last = serial(rt, last);
-    ranges.over(service, country, first, last) == numbered(rt, want)
+    let found = ranges.over(service, country, serial(rt, first), serial(rt, last));
+    same(rt, &(first, last), &found, &numbered(rt, want));
 }
 
 #[test]
 fn ranges_are_found_by_number(rt: HostRuntime) {
-    let ranges = all_granted(&rt);
-    for num in 0..9u32 {
-        assert!(rt; is_numbered(&rt, &ranges, num), "{num}");
-    }
+    are_numbered(&rt, &all_granted(&rt));
 }
+
+const NEXT: &[(u32, u32, u32)] = &[
+    (7, 0, 2),
+    (7, 1, 2),
+    (7, 2, 4),
+    (7, 4, 0),
+    (8, 0, 1),
+    (8, 1, 3),
+    (8, 3, 6),
+    (8, 6, 0),
+    (9, 0, 5),
+    (9, 5, 0),
+    (6, 0, 0),
+    (7, 4_294_967_295, 0),
+];
 
 #[test]
 fn ranges_of_a_holder_are_found_in_order_of_their_numbers(rt: HostRuntime) {
-    let ranges = all_granted(&rt);
-    for (customer, after, want) in [
-        (7, 0, 2),
-        (7, 1, 2),
-        (7, 2, 4),
-        (7, 4, 0),
-        (8, 0, 1),
-        (8, 1, 3),
-        (8, 3, 6),
-        (8, 6, 0),
-        (9, 0, 5),
-        (9, 5, 0),
-        (6, 0, 0),
-        (7, 4_294_967_295, 0),
-    ] {
-        assert!(rt;
-            has_next(&rt, &ranges, customer, after, want),
-            "customer {customer} after {after}"
-        );
-    }
+    have_next(&rt, &all_granted(&rt), NEXT);
 }
 
-// The seven ranges, of which the third and the second are closed, and then the fifth. A Withdraw that is refused closes none.
+/// The seven ranges, of which the third and the second are closed, and then the fifth. A Withdraw that is refused closes none.
 fn three_closed<R: Abort + AllocGlobal>(rt: &R) -> Ranges {
     let mut ranges = all_granted(rt);
-    for (num, outcome) in [
-        (3, Outcome::Withdrawn),
-        (2, Outcome::Withdrawn),
-        (2, Outcome::Closed),
-        (1, Outcome::NotThePost),
-        (8, Outcome::NoSuchRange),
-        (5, Outcome::Withdrawn),
-    ] {
-        withdraw(rt, &mut ranges, num, outcome);
-    }
+    withdraw(rt, &mut ranges, 3, Outcome::Withdrawn);
+    withdraw(rt, &mut ranges, 2, Outcome::Withdrawn);
+    withdraw(rt, &mut ranges, 2, Outcome::Closed);
+    withdraw(rt, &mut ranges, 1, Outcome::NotThePost);
+    withdraw(rt, &mut ranges, 8, Outcome::NoSuchRange);
+    withdraw(rt, &mut ranges, 5, Outcome::Withdrawn);
     ranges
+}
+
+/// Those three alone are closed.
+fn are_closed(rt: &impl Abort, ranges: &Ranges) {
+    for num in 0..9u32 {
+        let is_closed = num == 2 || num == 3 || num == 5;
+        same(rt, &num, &ranges.is_closed(num), &is_closed);
+    }
 }
 
 #[test]
 fn closed_ranges_are_found_by_number_and_by_serials(rt: HostRuntime) {
     let ranges = three_closed(&rt);
-    for num in 0..9u32 {
-        assert!(rt; is_numbered(&rt, &ranges, num), "{num}");
-        assert_eq!(rt;
-            ranges.is_closed(num),
-            num == 2 || num == 3 || num == 5,
-            "{num}"
-        );
-    }
-    for (first, last, want) in OVER {
-        assert!(rt;
-            has_over(&rt, &ranges, *b"RA", *b"GB", first, last, want),
-            "{first} to {last}"
-        );
-    }
+    are_numbered(&rt, &ranges);
+    are_closed(&rt, &ranges);
+    are_over(&rt, &ranges);
 }
+
+const NEXT_OPEN: &[(u32, u32, u32)] = &[
+    (7, 0, 4),
+    (7, 1, 4),
+    (7, 2, 4),
+    (7, 4, 0),
+    (8, 0, 1),
+    (8, 1, 6),
+    (8, 3, 6),
+    (8, 6, 0),
+    (9, 0, 0),
+    (6, 0, 0),
+];
 
 #[test]
 fn open_ranges_alone_are_found_by_holder(rt: HostRuntime) {
-    let ranges = three_closed(&rt);
-    for (customer, after, want) in [
-        (7, 0, 4),
-        (7, 1, 4),
-        (7, 2, 4),
-        (7, 4, 0),
-        (8, 0, 1),
-        (8, 1, 6),
-        (8, 3, 6),
-        (8, 6, 0),
-        (9, 0, 0),
-        (6, 0, 0),
-    ] {
-        assert!(rt;
-            has_next(&rt, &ranges, customer, after, want),
-            "customer {customer} after {after}"
-        );
-    }
+    have_next(&rt, &three_closed(&rt), NEXT_OPEN);
 }
 
-// The first and the last serials looked for, and the number of the range.
-const OVER: [(u32, u32, u32); 16] = [
+/// The first and the last serials looked for, and the number of the range.
+const OVER: &[(u32, u32, u32)] = &[
     (10, 10, 2),
     (19, 19, 2),
     (9, 9, 0),
@@ -142,30 +137,24 @@ const OVER: [(u32, u32, u32); 16] = [
     (29, 19, 0),
 ];
 
+/// The ranges of RA GB are found over their serials.
+fn are_over(rt: &impl Abort, ranges: &Ranges) {
+    for (first, last, want) in OVER {
+        has_over(rt, ranges, *b"RA", *b"GB", *first, *last, *want);
+    }
+}
+
 #[test]
 fn of_ranges_over_the_same_serials_the_one_of_least_number_is_found(rt: HostRuntime) {
-    let ranges = all_granted(&rt);
-    for (first, last, want) in OVER {
-        assert!(rt;
-            has_over(&rt, &ranges, *b"RA", *b"GB", first, last, want),
-            "{first} to {last}"
-        );
-    }
+    are_over(&rt, &all_granted(&rt));
 }
 
 #[test]
 fn ranges_of_another_service_or_country_are_not_found(rt: HostRuntime) {
     let ranges = all_granted(&rt);
-    for (letters, code, want) in [
-        (*b"RB", *b"GB", 7),
-        (*b"RC", *b"GB", 0),
-        (*b"RA", *b"US", 0),
-    ] {
-        assert!(rt;
-            has_over(&rt, &ranges, letters, code, 0, 99, want),
-            "{want}"
-        );
-    }
+    has_over(&rt, &ranges, *b"RB", *b"GB", 0, 99, 7);
+    has_over(&rt, &ranges, *b"RC", *b"GB", 0, 99, 0);
+    has_over(&rt, &ranges, *b"RA", *b"US", 0, 99, 0);
 }
 
 #[test]
@@ -173,20 +162,21 @@ fn in_no_ranges_none_is_found(rt: HostRuntime) {
     let ranges = Ranges::new(rt.alloc());
     assert!(rt; ranges.numbered(1).is_none());
     assert!(rt; !ranges.is_closed(1));
-    assert!(rt; has_next(&rt, &ranges, 7, 0, 0));
-    assert!(rt; has_over(&rt, &ranges, *b"RA", *b"GB", 0, 99_999_999, 0));
+    has_next(&rt, &ranges, 7, 0, 0);
+    has_over(&rt, &ranges, *b"RA", *b"GB", 0, 99_999_999, 0);
+}
+
+/// Once this is granted as well, nothing is found under the number 8.
+fn is_left_out<R: Abort + AllocGlobal>(rt: &R, num: u32, granted: Granted) {
+    let mut ranges = all_granted(rt);
+    grant(rt, &mut ranges, &range(rt, num, granted));
+    same(rt, &granted, &ranges.numbered(8), &None);
 }
 
 // A Grant that overlaps, one whose number is not the next, and one that ends before it begins.
 #[test]
 fn ranges_that_no_ledger_grants_are_left_out(rt: HostRuntime) {
-    for (num, granted) in [
-        (8, (7, *b"RA", 29, 31)),
-        (9, (7, *b"RA", 31, 40)),
-        (8, (7, *b"RA", 40, 31)),
-    ] {
-        let mut ranges = all_granted(&rt);
-        grant(&rt, &mut ranges, &range(&rt, num, granted));
-        assert!(rt; ranges.numbered(8).is_none());
-    }
+    is_left_out(&rt, 8, (7, *b"RA", 29, 31));
+    is_left_out(&rt, 9, (7, *b"RA", 31, 40));
+    is_left_out(&rt, 8, (7, *b"RA", 40, 31));
 }

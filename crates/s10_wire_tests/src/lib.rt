@@ -4,6 +4,8 @@
 #[cfg(test)]
 mod datagrams;
 #[cfg(test)]
+mod expect;
+#[cfg(test)]
 mod frames;
 #[cfg(test)]
 mod lines;

@@ -1,212 +1,212 @@
 //! Requests and replies as lines.
 
-use crate::vectors::{
-    draw, draw_many, drawn, drawn_many, grant, query, reply, request, void, withdraw,
-};
+use crate::expect::same;
+use crate::vectors::{Asked, Call, Came, reply, request};
 use s10_lines::{WriteFault, write_reply_line, write_request_line};
-use s10_wire::{Outcome, Reply, Request, Status};
+use s10_wire::{Reply, Request, Status};
 use std::alloc::Global;
 use std::io;
 use std::io::Write;
 use std::process::Abort;
 
-fn request_lines(rt: &impl Abort) -> [(Request, &'static [u8]); 6] {
-    [
-        (
-            request(0, 1, grant(rt, 7, 0, 2)),
-            b"request grant customer 0 number 1 holder 7 RA GB 00000000 00000002\n",
-        ),
-        (
-            request(7, 1, draw(rt)),
-            b"request draw customer 7 number 1 RA GB\n",
-        ),
-        (
-            request(7, 3, void(rt, b"RA000000014GB")),
-            b"request void customer 7 number 3 RA000000014GB\n",
-        ),
-        (
-            request(u32::MAX, 0, query(rt, b"RA473124829US")),
-            b"request query customer 4294967295 number 0 RA473124829US\n",
-        ),
-        (
-            request(7, 1, draw_many(rt, 16)),
-            b"request draw-many customer 7 number 1 RA GB 16\n",
-        ),
-        (
-            request(0, 2, withdraw(u32::MAX)),
-            b"request withdraw customer 0 number 2 4294967295\n",
-        ),
-    ]
-}
+/// Requests and their lines.
+const REQUEST_LINES: &[(Call, &[u8])] = &[
+    (
+        (0, 1, Asked::Grant(7, 0, 2)),
+        b"request grant customer 0 number 1 holder 7 RA GB 00000000 00000002\n",
+    ),
+    (
+        (7, 1, Asked::Draw),
+        b"request draw customer 7 number 1 RA GB\n",
+    ),
+    (
+        (7, 3, Asked::Void(b"RA000000014GB")),
+        b"request void customer 7 number 3 RA000000014GB\n",
+    ),
+    (
+        (u32::MAX, 0, Asked::Query(b"RA473124829US")),
+        b"request query customer 4294967295 number 0 RA473124829US\n",
+    ),
+    (
+        (7, 1, Asked::DrawMany(16)),
+        b"request draw-many customer 7 number 1 RA GB 16\n",
+    ),
+    (
+        (0, 2, Asked::Withdraw(u32::MAX)),
+        b"request withdraw customer 0 number 2 4294967295\n",
+    ),
+];
 
-fn reply_lines(rt: &impl Abort) -> [(Request, Outcome, &'static [u8]); 29] {
-    [
-        (
-            request(0, 1, grant(rt, 7, 0, 2)),
-            Outcome::Granted { range: 1 },
-            b"reply grant customer 0 number 1 holder 7 RA GB 00000000 00000002 done range 1\n",
-        ),
-        (
-            request(0, 1, grant(rt, 7, 0, 2)),
-            Outcome::NotThePost,
-            b"reply grant customer 0 number 1 holder 7 RA GB 00000000 00000002 not-the-post\n",
-        ),
-        (
-            request(0, 1, grant(rt, 7, 0, 2)),
-            Outcome::BadGrant,
-            b"reply grant customer 0 number 1 holder 7 RA GB 00000000 00000002 bad-grant\n",
-        ),
-        (
-            request(0, 1, grant(rt, 7, 0, 2)),
-            Outcome::Overlap,
-            b"reply grant customer 0 number 1 holder 7 RA GB 00000000 00000002 overlap\n",
-        ),
-        (
-            request(0, 1, grant(rt, 7, 0, 2)),
-            Outcome::NumberReused,
-            b"reply grant customer 0 number 1 holder 7 RA GB 00000000 00000002 number-reused\n",
-        ),
-        (
-            request(7, 1, draw(rt)),
-            drawn(rt, 20_000, b"RA000000005GB"),
-            b"reply draw customer 7 number 1 RA GB done day 20000 RA000000005GB\n",
-        ),
-        (
-            request(7, 1, draw(rt)),
-            Outcome::NoRange,
-            b"reply draw customer 7 number 1 RA GB no-range\n",
-        ),
-        (
-            request(7, 1, draw(rt)),
-            Outcome::NoneFree,
-            b"reply draw customer 7 number 1 RA GB none-free\n",
-        ),
-        (
-            request(7, 1, draw(rt)),
-            Outcome::NumberReused,
-            b"reply draw customer 7 number 1 RA GB number-reused\n",
-        ),
-        (
-            request(7, 3, void(rt, b"RA000000005GB")),
-            Outcome::Voided,
-            b"reply void customer 7 number 3 RA000000005GB done\n",
-        ),
-        (
-            request(7, 3, void(rt, b"RA000000005GB")),
-            Outcome::NotYours,
-            b"reply void customer 7 number 3 RA000000005GB not-yours\n",
-        ),
-        (
-            request(7, 3, void(rt, b"RA000000005GB")),
-            Outcome::NotIssued,
-            b"reply void customer 7 number 3 RA000000005GB not-issued\n",
-        ),
-        (
-            request(7, 3, void(rt, b"RA000000005GB")),
-            Outcome::AlreadyVoid,
-            b"reply void customer 7 number 3 RA000000005GB already-void\n",
-        ),
-        (
-            request(7, 3, void(rt, b"RA000000005GB")),
-            Outcome::NumberReused,
-            b"reply void customer 7 number 3 RA000000005GB number-reused\n",
-        ),
-        (
-            request(7, 4, query(rt, b"RA000000005GB")),
-            Outcome::Told(Status::Unknown),
-            b"reply query customer 7 number 4 RA000000005GB done unknown\n",
-        ),
-        (
-            request(7, 4, query(rt, b"RA000000005GB")),
-            Outcome::Told(Status::Never),
-            b"reply query customer 7 number 4 RA000000005GB done never\n",
-        ),
-        (
-            request(7, 4, query(rt, b"RA000000005GB")),
-            Outcome::Told(Status::Issued { day: 20_000 }),
-            b"reply query customer 7 number 4 RA000000005GB done issued 20000\n",
-        ),
-        (
-            request(7, 4, query(rt, b"RA000000005GB")),
-            Outcome::Told(Status::Voided { day: 20_000 }),
-            b"reply query customer 7 number 4 RA000000005GB done voided 20000\n",
-        ),
-        (
-            request(7, 4, query(rt, b"RA000000005GB")),
-            Outcome::NotYours,
-            b"reply query customer 7 number 4 RA000000005GB not-yours\n",
-        ),
-        (
-            request(7, 4, query(rt, b"RA000000005GB")),
-            Outcome::NumberReused,
-            b"reply query customer 7 number 4 RA000000005GB number-reused\n",
-        ),
-        (
-            request(7, 1, draw_many(rt, 2)),
-            drawn_many(rt, 20_000, &[b"RA000000005GB", b"RA000000014GB"]),
-            b"reply draw-many customer 7 number 1 RA GB 2 done day 20000 RA000000005GB RA000000014GB\n",
-        ),
-        (
-            request(7, 2, draw_many(rt, 2)),
-            Outcome::NoRange,
-            b"reply draw-many customer 7 number 2 RA GB 2 no-range\n",
-        ),
-        (
-            request(7, 2, draw_many(rt, 2)),
-            Outcome::NoneFree,
-            b"reply draw-many customer 7 number 2 RA GB 2 none-free\n",
-        ),
-        (
-            request(7, 2, draw_many(rt, 2)),
-            Outcome::NumberReused,
-            b"reply draw-many customer 7 number 2 RA GB 2 number-reused\n",
-        ),
-        (
-            request(0, 2, withdraw(1)),
-            Outcome::Withdrawn,
-            b"reply withdraw customer 0 number 2 1 done\n",
-        ),
-        (
-            request(7, 2, withdraw(1)),
-            Outcome::NotThePost,
-            b"reply withdraw customer 7 number 2 1 not-the-post\n",
-        ),
-        (
-            request(0, 2, withdraw(1)),
-            Outcome::NoSuchRange,
-            b"reply withdraw customer 0 number 2 1 no-such-range\n",
-        ),
-        (
-            request(0, 2, withdraw(1)),
-            Outcome::Closed,
-            b"reply withdraw customer 0 number 2 1 closed\n",
-        ),
-        (
-            request(0, 2, withdraw(1)),
-            Outcome::NumberReused,
-            b"reply withdraw customer 0 number 2 1 number-reused\n",
-        ),
-    ]
+/// Requests, what they came to, and the lines of the replies.
+const REPLY_LINES: &[(Call, Came, &[u8])] = &[
+    (
+        (0, 1, Asked::Grant(7, 0, 2)),
+        Came::Granted(1),
+        b"reply grant customer 0 number 1 holder 7 RA GB 00000000 00000002 done range 1\n",
+    ),
+    (
+        (0, 1, Asked::Grant(7, 0, 2)),
+        Came::NotThePost,
+        b"reply grant customer 0 number 1 holder 7 RA GB 00000000 00000002 not-the-post\n",
+    ),
+    (
+        (0, 1, Asked::Grant(7, 0, 2)),
+        Came::BadGrant,
+        b"reply grant customer 0 number 1 holder 7 RA GB 00000000 00000002 bad-grant\n",
+    ),
+    (
+        (0, 1, Asked::Grant(7, 0, 2)),
+        Came::Overlap,
+        b"reply grant customer 0 number 1 holder 7 RA GB 00000000 00000002 overlap\n",
+    ),
+    (
+        (0, 1, Asked::Grant(7, 0, 2)),
+        Came::NumberReused,
+        b"reply grant customer 0 number 1 holder 7 RA GB 00000000 00000002 number-reused\n",
+    ),
+    (
+        (7, 1, Asked::Draw),
+        Came::Drawn(20_000, b"RA000000005GB"),
+        b"reply draw customer 7 number 1 RA GB done day 20000 RA000000005GB\n",
+    ),
+    (
+        (7, 1, Asked::Draw),
+        Came::NoRange,
+        b"reply draw customer 7 number 1 RA GB no-range\n",
+    ),
+    (
+        (7, 1, Asked::Draw),
+        Came::NoneFree,
+        b"reply draw customer 7 number 1 RA GB none-free\n",
+    ),
+    (
+        (7, 1, Asked::Draw),
+        Came::NumberReused,
+        b"reply draw customer 7 number 1 RA GB number-reused\n",
+    ),
+    (
+        (7, 3, Asked::Void(b"RA000000005GB")),
+        Came::Voided,
+        b"reply void customer 7 number 3 RA000000005GB done\n",
+    ),
+    (
+        (7, 3, Asked::Void(b"RA000000005GB")),
+        Came::NotYours,
+        b"reply void customer 7 number 3 RA000000005GB not-yours\n",
+    ),
+    (
+        (7, 3, Asked::Void(b"RA000000005GB")),
+        Came::NotIssued,
+        b"reply void customer 7 number 3 RA000000005GB not-issued\n",
+    ),
+    (
+        (7, 3, Asked::Void(b"RA000000005GB")),
+        Came::AlreadyVoid,
+        b"reply void customer 7 number 3 RA000000005GB already-void\n",
+    ),
+    (
+        (7, 3, Asked::Void(b"RA000000005GB")),
+        Came::NumberReused,
+        b"reply void customer 7 number 3 RA000000005GB number-reused\n",
+    ),
+    (
+        (7, 4, Asked::Query(b"RA000000005GB")),
+        Came::Told(Status::Unknown),
+        b"reply query customer 7 number 4 RA000000005GB done unknown\n",
+    ),
+    (
+        (7, 4, Asked::Query(b"RA000000005GB")),
+        Came::Told(Status::Never),
+        b"reply query customer 7 number 4 RA000000005GB done never\n",
+    ),
+    (
+        (7, 4, Asked::Query(b"RA000000005GB")),
+        Came::Told(Status::Issued { day: 20_000 }),
+        b"reply query customer 7 number 4 RA000000005GB done issued 20000\n",
+    ),
+    (
+        (7, 4, Asked::Query(b"RA000000005GB")),
+        Came::Told(Status::Voided { day: 20_000 }),
+        b"reply query customer 7 number 4 RA000000005GB done voided 20000\n",
+    ),
+    (
+        (7, 4, Asked::Query(b"RA000000005GB")),
+        Came::NotYours,
+        b"reply query customer 7 number 4 RA000000005GB not-yours\n",
+    ),
+    (
+        (7, 4, Asked::Query(b"RA000000005GB")),
+        Came::NumberReused,
+        b"reply query customer 7 number 4 RA000000005GB number-reused\n",
+    ),
+    (
+        (7, 1, Asked::DrawMany(2)),
+        Came::DrawnMany(20_000, &[b"RA000000005GB", b"RA000000014GB"]),
+        b"reply draw-many customer 7 number 1 RA GB 2 done day 20000 RA000000005GB RA000000014GB\n",
+    ),
+    (
+        (7, 2, Asked::DrawMany(2)),
+        Came::NoRange,
+        b"reply draw-many customer 7 number 2 RA GB 2 no-range\n",
+    ),
+    (
+        (7, 2, Asked::DrawMany(2)),
+        Came::NoneFree,
+        b"reply draw-many customer 7 number 2 RA GB 2 none-free\n",
+    ),
+    (
+        (7, 2, Asked::DrawMany(2)),
+        Came::NumberReused,
+        b"reply draw-many customer 7 number 2 RA GB 2 number-reused\n",
+    ),
+    (
+        (0, 2, Asked::Withdraw(1)),
+        Came::Withdrawn,
+        b"reply withdraw customer 0 number 2 1 done\n",
+    ),
+    (
+        (7, 2, Asked::Withdraw(1)),
+        Came::NotThePost,
+        b"reply withdraw customer 7 number 2 1 not-the-post\n",
+    ),
+    (
+        (0, 2, Asked::Withdraw(1)),
+        Came::NoSuchRange,
+        b"reply withdraw customer 0 number 2 1 no-such-range\n",
+    ),
+    (
+        (0, 2, Asked::Withdraw(1)),
+        Came::Closed,
+        b"reply withdraw customer 0 number 2 1 closed\n",
+    ),
+    (
+        (0, 2, Asked::Withdraw(1)),
+        Came::NumberReused,
+        b"reply withdraw customer 0 number 2 1 number-reused\n",
+    ),
+];
+
+/// The line was written whole.
+fn is_written(rt: &impl Abort, answer: Result<(), WriteFault>, out: &[u8], line: &[u8]) {
+    same(rt, &line, &answer, &Ok(()));
+    same(rt, &line, &out, &line);
 }
 
 #[test]
 fn each_kind_of_request_has_its_line(rt: HostRuntime) {
-    for (request, line) in request_lines(&rt) {
+    for (call, line) in REQUEST_LINES {
         let mut out = Vec::new(rt.alloc());
-        assert_eq!(rt; write_request_line(&request, &mut out), Ok(()));
-        assert_eq!(rt; out.as_slice(), line);
+        let answer = write_request_line(&request(&rt, call), &mut out);
+        is_written(&rt, answer, &out, line);
     }
 }
 
 #[test]
 fn each_outcome_of_each_kind_has_its_line(rt: HostRuntime) {
-    for (request, outcome, line) in reply_lines(&rt) {
+    for (call, came, line) in REPLY_LINES {
         let mut out = Vec::new(rt.alloc());
-        assert_eq!(rt;
-            write_reply_line(&reply(&rt, request, outcome), &mut out),
-            Ok(())
-        );
-        assert_eq!(rt; out.as_slice(), line);
+        let answer = write_reply_line(&reply(&rt, line, call, came), &mut out);
+        is_written(&rt, answer, &out, line);
     }
 }
 
@@ -264,23 +264,26 @@ fn is_cut_reply_line(alloc: Global, reply: &Reply, line: &[u8], room: usize) -> 
     is_cut(answer, &out, line, room)
 }
 
+fn is_cut_everywhere(rt: &impl Abort, alloc: Global, request: &Request, line: &[u8]) {
+    for room in 0..line.len() {
+        let is_cut = is_cut_request_line(alloc, request, line, room);
+        same(rt, &&line[..room], &is_cut, &true);
+    }
+}
+
+fn is_reply_cut_everywhere(rt: &impl Abort, alloc: Global, reply: &Reply, line: &[u8]) {
+    for room in 0..line.len() {
+        let is_cut = is_cut_reply_line(alloc, reply, line, room);
+        same(rt, &&line[..room], &is_cut, &true);
+    }
+}
+
 #[test]
 fn a_writer_that_fails_once_has_got_the_beginning_of_the_line(rt: HostRuntime) {
-    for (request, line) in request_lines(&rt) {
-        for room in 0..line.len() {
-            assert!(rt;
-                is_cut_request_line(rt.alloc(), &request, line, room),
-                "{room} bytes"
-            );
-        }
+    for (call, line) in REQUEST_LINES {
+        is_cut_everywhere(&rt, rt.alloc(), &request(&rt, call), line);
     }
-    for (request, outcome, line) in reply_lines(&rt) {
-        let reply = reply(&rt, request, outcome);
-        for room in 0..line.len() {
-            assert!(rt;
-                is_cut_reply_line(rt.alloc(), &reply, line, room),
-                "{room} bytes"
-            );
-        }
+    for (call, came, line) in REPLY_LINES {
+        is_reply_cut_everywhere(&rt, rt.alloc(), &reply(&rt, line, call, came), line);
     }
 }

@@ -1,24 +1,26 @@
 //! Sheets of labels: how many identifiers they have, and which.
 
-use s10_core::{Country, Id, Serial, Service};
+use crate::expect::same;
+use crate::vectors::serial;
+use s10_core::{Country, Id, Service};
 use s10_wire::{Count, Ids};
-use std::test::Fail;
+use std::process::Abort;
 
-fn id(value: u32) -> Result<Id, &'static str> {
-    Ok(Id {
-        service: Service::new(*b"RA").ok_or("letters")?,
-        serial: Serial::new(value).ok_or("serial")?,
-        country: Country::new(*b"GB").ok_or("letters")?,
-    })
+fn id(rt: &impl Abort, value: u32) -> Id {
+    Id {
+        service: Service::new(*b"RA").unwrap(),
+        serial: serial(rt, value),
+        country: Country::new(*b"GB").unwrap(),
+    }
 }
 
 /// One identifier more than a sheet has, by their serials.
-fn seventeen() -> Result<[Id; 17], &'static str> {
-    let mut ids = [id(0)?; 17];
+fn seventeen(rt: &impl Abort) -> [Id; 17] {
+    let mut ids = [id(rt, 0); 17];
     for place in 1..17 {
-        ids[place] = id(place as u32)?;
+        ids[place] = id(rt, place as u32);
     }
-    Ok(ids)
+    ids
 }
 
 /// The sheet of the first of these identifiers, so many as there shall be.
@@ -51,58 +53,68 @@ fn is_sheet_of(ids: &[Id], labels: usize, those: &[Id]) -> bool {
     }
 }
 
+/// Values, and the counts that they are.
+const COUNTS: &[(u8, Option<u8>)] = &[
+    (0, None),
+    (1, Some(1)),
+    (16, Some(16)),
+    (17, None),
+    (255, None),
+];
+
+fn counted(value: u8) -> Option<u8> {
+    let count = Count::new(value)?;
+    Some(count.value())
+}
+
 #[test]
 fn a_count_is_one_to_sixteen(rt: HostRuntime) {
-    for (value, told) in [
-        (0, None),
-        (1, Some(1)),
-        (16, Some(16)),
-        (17, None),
-        (255, None),
-    ] {
-        let count = Count::new(value).map(|count| count.value());
-        assert_eq!(rt; count, told, "at {value}");
+    for (value, told) in COUNTS {
+        same(&rt, value, &counted(*value), told);
+    }
+}
+
+/// Labels asked for, and how many the sheet has.
+const LENGTHS: &[(usize, Option<usize>)] = &[(0, None), (1, Some(1)), (16, Some(16)), (17, None)];
+
+#[test]
+fn a_sheet_has_one_to_sixteen_labels(rt: HostRuntime) {
+    let ids = seventeen(&rt);
+    for (labels, told) in LENGTHS {
+        same(&rt, labels, &len(&ids, *labels), told);
+    }
+}
+
+/// Labels, a place among them, and the serial that stands there.
+const PLACES: &[(usize, usize, Option<u32>)] = &[
+    (0, 0, None),
+    (1, 0, Some(0)),
+    (1, 1, None),
+    (16, 0, Some(0)),
+    (16, 15, Some(15)),
+    (16, 16, None),
+    (17, 0, None),
+];
+
+#[test]
+fn labels_are_counted_from_0(rt: HostRuntime) {
+    let ids = seventeen(&rt);
+    for (labels, at, serial) in PLACES {
+        same(&rt, &(*labels, *at), &serial_at(&ids, *labels, *at), serial);
     }
 }
 
 #[test]
-fn a_sheet_has_one_to_sixteen_labels(rt: HostRuntime) -> Result<(), Fail> {
-    let ids = seventeen()?;
-    for (labels, told) in [(0, None), (1, Some(1)), (16, Some(16)), (17, None)] {
-        assert_eq!(rt; len(&ids, labels), told, "of {labels}");
-    }
-    Ok(())
-}
-
-#[test]
-fn labels_are_counted_from_0(rt: HostRuntime) -> Result<(), Fail> {
-    let ids = seventeen()?;
-    for (labels, at, serial) in [
-        (0, 0, None),
-        (1, 0, Some(0)),
-        (1, 1, None),
-        (16, 0, Some(0)),
-        (16, 15, Some(15)),
-        (16, 16, None),
-        (17, 0, None),
-    ] {
-        assert_eq!(rt; serial_at(&ids, labels, at), serial, "{at} of {labels}");
-    }
-    Ok(())
-}
-
-#[test]
-fn sheets_are_the_same_by_their_labels_in_order(rt: HostRuntime) -> Result<(), Fail> {
-    let ids = seventeen()?;
-    let pair = [id(0)?, id(1)?];
-    let turned = [id(1)?, id(0)?];
-    let one = [id(0)?];
-    let twice = [id(0)?, id(0)?];
-    let alike = [id(0)?; 16];
+fn sheets_are_the_same_by_their_labels_in_order(rt: HostRuntime) {
+    let ids = seventeen(&rt);
+    let pair = [id(&rt, 0), id(&rt, 1)];
+    let turned = [id(&rt, 1), id(&rt, 0)];
+    let one = [id(&rt, 0)];
+    let twice = [id(&rt, 0), id(&rt, 0)];
+    let alike = [id(&rt, 0); 16];
     assert!(rt; is_sheet_of(&ids, 2, &pair));
     assert!(rt; is_sheet_of(&ids, 1, &one));
     assert!(rt; !is_sheet_of(&ids, 2, &turned));
     assert!(rt; !is_sheet_of(&ids, 1, &twice));
     assert!(rt; !is_sheet_of(&ids, 16, &alike));
-    Ok(())
 }

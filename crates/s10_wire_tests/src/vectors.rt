@@ -1,211 +1,282 @@
 //! Datagrams as they stand in a dump, and what they say.
 
+use crate::expect::same;
 use s10_core::{Country, Id, Serial, Service};
 use s10_wire::{Body, Count, Ids, Outcome, Reply, Request, Status};
 use std::process::Abort;
 
-/// Requests.
-pub const REQUESTS: &[&[u8]] = &[
-    b"S1\x01\x01\x00\x00\x00\x00\x00\x00\x00\x01\x00\x00\x00\x07RAGB\x00\x00\x00\x00\x00\x00\x00\x02",
-    b"S1\x01\x02\x00\x00\x00\x07\x00\x00\x00\x01RAGB",
-    b"S1\x01\x02\x00\x00\x00\x07\x00\x00\x00\x02RAGB",
-    b"S1\x01\x02\x00\x00\x00\x07\x00\x00\x00\x03RAGB",
-    b"S1\x01\x02\x00\x00\x00\x07\x00\x00\x00\x04RAGB",
-    b"S1\x01\x02\x00\x00\x00\x07\x00\x00\x00\x05RAGB",
-    b"S1\x01\x03\x00\x00\x00\x07\x00\x00\x00\x03RA000000014GB",
-    b"S1\x01\x04\x00\x00\x00\x07\x00\x00\x00\x01RA000000005GB",
-    b"S1\x02\x05\x00\x00\x00\x07\x00\x00\x00\x01RAGB\x02",
-    b"S1\x02\x06\x00\x00\x00\x00\x00\x00\x00\x02\x00\x00\x00\x01",
-];
-
-/// Replies.
-pub const REPLIES: &[&[u8]] = &[
-    b"S1\x01\x81\x00\x00\x00\x00\x00\x00\x00\x01\x00\x00\x00\x07RAGB\x00\x00\x00\x00\x00\x00\x00\x02\x00\x00\x00\x00\x01",
-    b"S1\x01\x82\x00\x00\x00\x07\x00\x00\x00\x01RAGB\x00\x00\x00\x4e\x20RA000000005GB",
-    b"S1\x01\x82\x00\x00\x00\x07\x00\x00\x00\x02RAGB\x00\x00\x00\x4e\x20RA000000014GB",
-    b"S1\x01\x82\x00\x00\x00\x07\x00\x00\x00\x03RAGB\x00\x00\x00\x4e\x20RA000000028GB",
-    b"S1\x01\x82\x00\x00\x00\x07\x00\x00\x00\x04RAGB\x05",
-    b"S1\x01\x82\x00\x00\x00\x07\x00\x00\x00\x05RAGB\x00\x00\x00\x4e\x3eRA000000005GB",
-    b"S1\x01\x83\x00\x00\x00\x07\x00\x00\x00\x03RA000000014GB\x00",
-    b"S1\x01\x83\x00\x00\x00\x07\x00\x00\x00\x04RA000000014GB\x08",
-    b"S1\x01\x84\x00\x00\x00\x07\x00\x00\x00\x01RA000000005GB\x09",
-    b"S1\x01\x84\x00\x00\x00\x07\x00\x00\x00\x09RA000000014GB\x00\x02\x00\x00\x4e\x3e",
-    b"S1\x01\x84\x00\x00\x00\x00\x00\x00\x00\x02RA473124829US\x00\x00\x00\x00\x00\x00",
-    b"S1\x01\x81\x00\x00\x00\x00\x00\x00\x00\x02\x00\x00\x00\x08RAGB\x00\x00\x00\x02\x00\x00\x00\x05\x03",
-    b"S1\x02\x85\x00\x00\x00\x07\x00\x00\x00\x01RAGB\x02\x00\x00\x00\x4e\x20RA000000005GBRA000000014GB",
-    b"S1\x02\x85\x00\x00\x00\x07\x00\x00\x00\x02RAGB\x02\x05",
-    b"S1\x02\x85\x00\x00\x00\x07\x00\x00\x00\x04RAGB\x03\x00\x00\x00\x4e\x3eRA000000005GBRA000000014GBRA000000028GB",
-    b"S1\x02\x86\x00\x00\x00\x00\x00\x00\x00\x02\x00\x00\x00\x01\x00",
-    b"S1\x02\x86\x00\x00\x00\x07\x00\x00\x00\x02\x00\x00\x00\x01\x01",
-    b"S1\x02\x86\x00\x00\x00\x00\x00\x00\x00\x04\x00\x00\x00\x02\x0a",
-    b"S1\x02\x86\x00\x00\x00\x00\x00\x00\x00\x03\x00\x00\x00\x01\x0b",
-    b"S1\x02\x86\x00\x00\x00\x00\x00\x00\x00\x02\x00\x00\x00\x02\x09",
-];
-
-pub(crate) fn requests(rt: &impl Abort) -> [Request; 10] {
-    [
-        request(0, 1, grant(rt, 7, 0, 2)),
-        request(7, 1, draw(rt)),
-        request(7, 2, draw(rt)),
-        request(7, 3, draw(rt)),
-        request(7, 4, draw(rt)),
-        request(7, 5, draw(rt)),
-        request(7, 3, void(rt, b"RA000000014GB")),
-        request(7, 1, query(rt, b"RA000000005GB")),
-        request(7, 1, draw_many(rt, 2)),
-        request(0, 2, withdraw(1)),
-    ]
+/// What a request of a table asks for, of RA and GB.
+#[derive(Clone, Copy)]
+pub(crate) enum Asked {
+    /// The holder, and the first serial number and the last.
+    Grant(u32, u32, u32),
+    Draw,
+    Void(&'static [u8]),
+    Query(&'static [u8]),
+    DrawMany(u8),
+    Withdraw(u32),
 }
 
-pub(crate) fn replies(rt: &impl Abort) -> [(Request, Outcome); 20] {
-    [
-        (
-            request(0, 1, grant(rt, 7, 0, 2)),
-            Outcome::Granted { range: 1 },
-        ),
-        (request(7, 1, draw(rt)), drawn(rt, 20_000, b"RA000000005GB")),
-        (request(7, 2, draw(rt)), drawn(rt, 20_000, b"RA000000014GB")),
-        (request(7, 3, draw(rt)), drawn(rt, 20_000, b"RA000000028GB")),
-        (request(7, 4, draw(rt)), Outcome::NoneFree),
-        (request(7, 5, draw(rt)), drawn(rt, 20_030, b"RA000000005GB")),
-        (request(7, 3, void(rt, b"RA000000014GB")), Outcome::Voided),
-        (
-            request(7, 4, void(rt, b"RA000000014GB")),
-            Outcome::AlreadyVoid,
-        ),
-        (
-            request(7, 1, query(rt, b"RA000000005GB")),
-            Outcome::NumberReused,
-        ),
-        (
-            request(7, 9, query(rt, b"RA000000014GB")),
-            Outcome::Told(Status::Issued { day: 20_030 }),
-        ),
-        (
-            request(0, 2, query(rt, b"RA473124829US")),
-            Outcome::Told(Status::Unknown),
-        ),
-        (request(0, 2, grant(rt, 8, 2, 5)), Outcome::Overlap),
-        (
-            request(7, 1, draw_many(rt, 2)),
-            drawn_many(rt, 20_000, &[b"RA000000005GB", b"RA000000014GB"]),
-        ),
-        (request(7, 2, draw_many(rt, 2)), Outcome::NoneFree),
-        (
-            request(7, 4, draw_many(rt, 3)),
-            drawn_many(
-                rt,
-                20_030,
-                &[b"RA000000005GB", b"RA000000014GB", b"RA000000028GB"],
-            ),
-        ),
-        (request(0, 2, withdraw(1)), Outcome::Withdrawn),
-        (request(7, 2, withdraw(1)), Outcome::NotThePost),
-        (request(0, 4, withdraw(2)), Outcome::NoSuchRange),
-        (request(0, 3, withdraw(1)), Outcome::Closed),
-        (request(0, 2, withdraw(2)), Outcome::NumberReused),
-    ]
+/// What a request of a table came to.
+#[derive(Clone, Copy)]
+pub(crate) enum Came {
+    /// On this day, to the identifier with this text.
+    Drawn(u32, &'static [u8]),
+    /// On this day, to the sheet of the identifiers with these texts.
+    DrawnMany(u32, &'static [&'static [u8]]),
+    /// To the range of this number.
+    Granted(u32),
+    Told(Status),
+    Voided,
+    Withdrawn,
+    NotThePost,
+    BadGrant,
+    Overlap,
+    NoRange,
+    NoneFree,
+    NotYours,
+    NotIssued,
+    AlreadyVoid,
+    NoSuchRange,
+    Closed,
+    NumberReused,
 }
 
-pub(crate) fn request(customer: u32, number: u32, body: Body) -> Request {
+/// A request of a table: the customer, the number, and what is asked.
+pub(crate) type Call = (u32, u32, Asked);
+
+/// Requests: the bytes, and what they say.
+pub(crate) const REQUESTS: &[(&[u8], Call)] = &[
+    (
+        b"S1\x01\x01\x00\x00\x00\x00\x00\x00\x00\x01\x00\x00\x00\x07RAGB\x00\x00\x00\x00\x00\x00\x00\x02",
+        (0, 1, Asked::Grant(7, 0, 2)),
+    ),
+    (
+        b"S1\x01\x02\x00\x00\x00\x07\x00\x00\x00\x01RAGB",
+        (7, 1, Asked::Draw),
+    ),
+    (
+        b"S1\x01\x02\x00\x00\x00\x07\x00\x00\x00\x02RAGB",
+        (7, 2, Asked::Draw),
+    ),
+    (
+        b"S1\x01\x02\x00\x00\x00\x07\x00\x00\x00\x03RAGB",
+        (7, 3, Asked::Draw),
+    ),
+    (
+        b"S1\x01\x02\x00\x00\x00\x07\x00\x00\x00\x04RAGB",
+        (7, 4, Asked::Draw),
+    ),
+    (
+        b"S1\x01\x02\x00\x00\x00\x07\x00\x00\x00\x05RAGB",
+        (7, 5, Asked::Draw),
+    ),
+    (
+        b"S1\x01\x03\x00\x00\x00\x07\x00\x00\x00\x03RA000000014GB",
+        (7, 3, Asked::Void(b"RA000000014GB")),
+    ),
+    (
+        b"S1\x01\x04\x00\x00\x00\x07\x00\x00\x00\x01RA000000005GB",
+        (7, 1, Asked::Query(b"RA000000005GB")),
+    ),
+    (
+        b"S1\x02\x05\x00\x00\x00\x07\x00\x00\x00\x01RAGB\x02",
+        (7, 1, Asked::DrawMany(2)),
+    ),
+    (
+        b"S1\x02\x06\x00\x00\x00\x00\x00\x00\x00\x02\x00\x00\x00\x01",
+        (0, 2, Asked::Withdraw(1)),
+    ),
+];
+
+/// Replies: the bytes, the request, and what it came to.
+pub(crate) const REPLIES: &[(&[u8], Call, Came)] = &[
+    (
+        b"S1\x01\x81\x00\x00\x00\x00\x00\x00\x00\x01\x00\x00\x00\x07RAGB\x00\x00\x00\x00\x00\x00\x00\x02\x00\x00\x00\x00\x01",
+        (0, 1, Asked::Grant(7, 0, 2)),
+        Came::Granted(1),
+    ),
+    (
+        b"S1\x01\x82\x00\x00\x00\x07\x00\x00\x00\x01RAGB\x00\x00\x00\x4e\x20RA000000005GB",
+        (7, 1, Asked::Draw),
+        Came::Drawn(20_000, b"RA000000005GB"),
+    ),
+    (
+        b"S1\x01\x82\x00\x00\x00\x07\x00\x00\x00\x02RAGB\x00\x00\x00\x4e\x20RA000000014GB",
+        (7, 2, Asked::Draw),
+        Came::Drawn(20_000, b"RA000000014GB"),
+    ),
+    (
+        b"S1\x01\x82\x00\x00\x00\x07\x00\x00\x00\x03RAGB\x00\x00\x00\x4e\x20RA000000028GB",
+        (7, 3, Asked::Draw),
+        Came::Drawn(20_000, b"RA000000028GB"),
+    ),
+    (
+        b"S1\x01\x82\x00\x00\x00\x07\x00\x00\x00\x04RAGB\x05",
+        (7, 4, Asked::Draw),
+        Came::NoneFree,
+    ),
+    (
+        b"S1\x01\x82\x00\x00\x00\x07\x00\x00\x00\x05RAGB\x00\x00\x00\x4e\x3eRA000000005GB",
+        (7, 5, Asked::Draw),
+        Came::Drawn(20_030, b"RA000000005GB"),
+    ),
+    (
+        b"S1\x01\x83\x00\x00\x00\x07\x00\x00\x00\x03RA000000014GB\x00",
+        (7, 3, Asked::Void(b"RA000000014GB")),
+        Came::Voided,
+    ),
+    (
+        b"S1\x01\x83\x00\x00\x00\x07\x00\x00\x00\x04RA000000014GB\x08",
+        (7, 4, Asked::Void(b"RA000000014GB")),
+        Came::AlreadyVoid,
+    ),
+    (
+        b"S1\x01\x84\x00\x00\x00\x07\x00\x00\x00\x01RA000000005GB\x09",
+        (7, 1, Asked::Query(b"RA000000005GB")),
+        Came::NumberReused,
+    ),
+    (
+        b"S1\x01\x84\x00\x00\x00\x07\x00\x00\x00\x09RA000000014GB\x00\x02\x00\x00\x4e\x3e",
+        (7, 9, Asked::Query(b"RA000000014GB")),
+        Came::Told(Status::Issued { day: 20_030 }),
+    ),
+    (
+        b"S1\x01\x84\x00\x00\x00\x00\x00\x00\x00\x02RA473124829US\x00\x00\x00\x00\x00\x00",
+        (0, 2, Asked::Query(b"RA473124829US")),
+        Came::Told(Status::Unknown),
+    ),
+    (
+        b"S1\x01\x81\x00\x00\x00\x00\x00\x00\x00\x02\x00\x00\x00\x08RAGB\x00\x00\x00\x02\x00\x00\x00\x05\x03",
+        (0, 2, Asked::Grant(8, 2, 5)),
+        Came::Overlap,
+    ),
+    (
+        b"S1\x02\x85\x00\x00\x00\x07\x00\x00\x00\x01RAGB\x02\x00\x00\x00\x4e\x20RA000000005GBRA000000014GB",
+        (7, 1, Asked::DrawMany(2)),
+        Came::DrawnMany(20_000, &[b"RA000000005GB", b"RA000000014GB"]),
+    ),
+    (
+        b"S1\x02\x85\x00\x00\x00\x07\x00\x00\x00\x02RAGB\x02\x05",
+        (7, 2, Asked::DrawMany(2)),
+        Came::NoneFree,
+    ),
+    (
+        b"S1\x02\x85\x00\x00\x00\x07\x00\x00\x00\x04RAGB\x03\x00\x00\x00\x4e\x3eRA000000005GBRA000000014GBRA000000028GB",
+        (7, 4, Asked::DrawMany(3)),
+        Came::DrawnMany(
+            20_030,
+            &[b"RA000000005GB", b"RA000000014GB", b"RA000000028GB"],
+        ),
+    ),
+    (
+        b"S1\x02\x86\x00\x00\x00\x00\x00\x00\x00\x02\x00\x00\x00\x01\x00",
+        (0, 2, Asked::Withdraw(1)),
+        Came::Withdrawn,
+    ),
+    (
+        b"S1\x02\x86\x00\x00\x00\x07\x00\x00\x00\x02\x00\x00\x00\x01\x01",
+        (7, 2, Asked::Withdraw(1)),
+        Came::NotThePost,
+    ),
+    (
+        b"S1\x02\x86\x00\x00\x00\x00\x00\x00\x00\x04\x00\x00\x00\x02\x0a",
+        (0, 4, Asked::Withdraw(2)),
+        Came::NoSuchRange,
+    ),
+    (
+        b"S1\x02\x86\x00\x00\x00\x00\x00\x00\x00\x03\x00\x00\x00\x01\x0b",
+        (0, 3, Asked::Withdraw(1)),
+        Came::Closed,
+    ),
+    (
+        b"S1\x02\x86\x00\x00\x00\x00\x00\x00\x00\x02\x00\x00\x00\x02\x09",
+        (0, 2, Asked::Withdraw(2)),
+        Came::NumberReused,
+    ),
+];
+
+pub(crate) fn request(rt: &impl Abort, call: &Call) -> Request {
+    let (customer, number, asked) = *call;
     Request {
         customer,
         number,
-        body,
+        body: body(rt, asked),
     }
 }
 
-pub(crate) fn grant(rt: &impl Abort, holder: u32, first: u32, last: u32) -> Body {
-    Body::Grant {
-        holder,
-        service: service(rt),
-        country: country(rt),
-        first: serial(rt, first),
-        last: serial(rt, last),
-    }
-}
-
-pub(crate) fn draw(rt: &impl Abort) -> Body {
-    Body::Draw {
-        service: service(rt),
-        country: country(rt),
-    }
-}
-
-pub(crate) fn void(rt: &impl Abort, text: &[u8]) -> Body {
-    Body::Void { id: id(rt, text) }
-}
-
-pub(crate) fn query(rt: &impl Abort, text: &[u8]) -> Body {
-    Body::Query { id: id(rt, text) }
-}
-
-pub(crate) fn draw_many(rt: &impl Abort, labels: u8) -> Body {
-    match Count::new(labels) {
-        Some(count) => Body::DrawMany {
-            service: service(rt),
-            country: country(rt),
-            count,
+pub(crate) fn body(rt: &impl Abort, asked: Asked) -> Body {
+    let service = Service::new(*b"RA").unwrap();
+    let country = Country::new(*b"GB").unwrap();
+    match asked {
+        Asked::Grant(holder, first, last) => Body::Grant {
+            holder,
+            service,
+            country,
+            first: serial(rt, first),
+            last: serial(rt, last),
         },
-        None => panic!(rt; "{labels} labels"),
+        Asked::Draw => Body::Draw { service, country },
+        Asked::Void(text) => Body::Void { id: id(rt, text) },
+        Asked::Query(text) => Body::Query { id: id(rt, text) },
+        Asked::DrawMany(labels) => Body::DrawMany {
+            service,
+            country,
+            count: Count::new(labels).expect(rt, "labels"),
+        },
+        Asked::Withdraw(range) => Body::Withdraw { range },
     }
 }
 
-pub(crate) fn withdraw(range: u32) -> Body {
-    Body::Withdraw { range }
-}
-
-pub(crate) fn drawn(rt: &impl Abort, day: u32, text: &[u8]) -> Outcome {
-    Outcome::Drawn {
-        day,
-        id: id(rt, text),
+pub(crate) fn outcome(rt: &impl Abort, came: &Came) -> Outcome {
+    match *came {
+        Came::Drawn(day, text) => Outcome::Drawn {
+            day,
+            id: id(rt, text),
+        },
+        Came::DrawnMany(day, texts) => Outcome::DrawnMany {
+            day,
+            ids: sheet(rt, texts),
+        },
+        Came::Granted(range) => Outcome::Granted { range },
+        Came::Told(status) => Outcome::Told(status),
+        Came::Voided => Outcome::Voided,
+        Came::Withdrawn => Outcome::Withdrawn,
+        Came::NotThePost => Outcome::NotThePost,
+        Came::BadGrant => Outcome::BadGrant,
+        Came::Overlap => Outcome::Overlap,
+        Came::NoRange => Outcome::NoRange,
+        Came::NoneFree => Outcome::NoneFree,
+        Came::NotYours => Outcome::NotYours,
+        Came::NotIssued => Outcome::NotIssued,
+        Came::AlreadyVoid => Outcome::AlreadyVoid,
+        Came::NoSuchRange => Outcome::NoSuchRange,
+        Came::Closed => Outcome::Closed,
+        Came::NumberReused => Outcome::NumberReused,
     }
 }
 
 /// The sheet of the identifiers with these texts.
-pub(crate) fn drawn_many(rt: &impl Abort, day: u32, texts: &[&[u8]]) -> Outcome {
+fn sheet(rt: &impl Abort, texts: &[&[u8]]) -> Ids {
     let mut room = [id(rt, b"RA000000005GB"); 16];
     let labels = texts.len().min(16);
     for place in 0..labels {
         room[place] = id(rt, texts[place]);
     }
-    match Ids::new(&room[..labels]) {
-        Some(ids) => Outcome::DrawnMany { day, ids },
-        None => panic!(rt; "a sheet without labels"),
-    }
+    Ids::new(&room[..labels]).expect(rt, "a sheet without labels")
 }
 
-pub(crate) fn reply(rt: &impl Abort, request: Request, outcome: Outcome) -> Reply {
-    match Reply::new(request, outcome) {
-        Some(reply) => reply,
-        None => panic!(rt; "{request:?} {outcome:?}"),
-    }
+/// The reply of a row of a table, which is named by these bytes of it.
+pub(crate) fn reply(rt: &impl Abort, row: &[u8], call: &Call, came: &Came) -> Reply {
+    let reply = Reply::new(request(rt, call), outcome(rt, came));
+    same(rt, &row, &reply.is_some(), &true);
+    reply.expect(rt, "an outcome that does not fit")
 }
 
-fn service(rt: &impl Abort) -> Service {
-    match Service::new(*b"RA") {
-        Some(service) => service,
-        None => panic!(rt),
-    }
-}
-
-fn country(rt: &impl Abort) -> Country {
-    match Country::new(*b"GB") {
-        Some(country) => country,
-        None => panic!(rt),
-    }
-}
-
-fn serial(rt: &impl Abort, value: u32) -> Serial {
-    match Serial::new(value) {
-        Some(serial) => serial,
-        None => panic!(rt),
-    }
+pub(crate) fn serial(rt: &impl Abort, value: u32) -> Serial {
+    Serial::new(value).expect(rt, "a serial number")
 }
 
 fn id(rt: &impl Abort, text: &[u8]) -> Id {
-    match Id::read(text) {
-        Ok(id) => id,
-        Err(fault) => panic!(rt; "{fault}"),
-    }
+    Id::read(text).expect(rt, "an identifier")
 }

@@ -1,3 +1,5 @@
+//! A world for which memory is refused.
+
 use crate::story::{EVENTS, empty_book, new_world, story};
 use s10_book::{Book, BookFault, PlainBook};
 use s10_history::Entry;
@@ -13,8 +15,12 @@ fn are_alike(a: &World<PlainBook>, b: &World<PlainBook>) -> bool {
     if a.replied().len() != b.replied().len() {
         return false;
     }
-    let mut pairs = a.replied().iter().zip(b.replied());
-    pairs.all(|(x, y)| x.bytes() == y.bytes())
+    for (x, y) in a.replied().iter().zip(b.replied()) {
+        if x.bytes() != y.bytes() {
+            return false;
+        }
+    }
+    true
 }
 
 fn have_one_history<B: Book>(a: &mut B, b: &mut B) -> Result<bool, BookFault> {
@@ -72,7 +78,7 @@ fn alike_world(
 fn a_refused_request_for_memory_leaves_a_run_of_the_other_events(
     rt: HostRuntime,
 ) -> Result<(), Fail> {
-    let events = story().ok_or("events")?;
+    let events = story();
     let Ok(mut world) = new_world(rt.alloc(), empty_book(rt.alloc())) else {
         return Ok(());
     };

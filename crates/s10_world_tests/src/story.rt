@@ -15,22 +15,22 @@ use std::alloc::{AllocError, Global};
 pub const EVENTS: usize = 18;
 
 /// A Draw of RA GB.
-pub(crate) fn draw() -> Option<Body> {
-    Some(Body::Draw {
-        service: Service::new(*b"RA")?,
-        country: Country::new(*b"GB")?,
-    })
+pub(crate) fn draw() -> Body {
+    Body::Draw {
+        service: Service::new(*b"RA").unwrap(),
+        country: Country::new(*b"GB").unwrap(),
+    }
 }
 
 /// A Grant of RA GB 0 to 2 to customer 7.
-pub(crate) fn grant() -> Option<Body> {
-    Some(Body::Grant {
+pub(crate) fn grant() -> Body {
+    Body::Grant {
         holder: 7,
-        service: Service::new(*b"RA")?,
-        country: Country::new(*b"GB")?,
-        first: Serial::new(0)?,
-        last: Serial::new(2)?,
-    })
+        service: Service::new(*b"RA").unwrap(),
+        country: Country::new(*b"GB").unwrap(),
+        first: Serial::new(0).unwrap(),
+        last: Serial::new(2).unwrap(),
+    }
 }
 
 pub(crate) fn submit(client: u32, body: &Body) -> Event {
@@ -54,10 +54,10 @@ pub(crate) fn to_client(client: u32, index: usize) -> Event {
 
 /// The post grants three serials. Two clients of customer 7 draw: the second's request comes first,
 /// both come twice, and the second client gives up before its reply comes.
-pub(crate) fn story() -> Option<[Event; EVENTS]> {
-    let grant = grant()?;
-    let draw = draw()?;
-    Some([
+pub(crate) fn story() -> [Event; EVENTS] {
+    let grant = grant();
+    let draw = draw();
+    [
         submit(0, &grant),
         resend(0),
         to_server(0, 20_000),
@@ -76,7 +76,7 @@ pub(crate) fn story() -> Option<[Event; EVENTS]> {
         to_client(1, 2),
         to_client(1, 4),
         to_server(9, 20_000),
-    ])
+    ]
 }
 
 fn three_clients(alloc: Global) -> Result<Vec<Client>, AllocError>
@@ -99,10 +99,7 @@ fn three_clients(alloc: Global) -> Result<Vec<Client>, AllocError>
 
 /// An empty book of an interval of 30 days.
 pub(crate) fn empty_book(alloc: Global) -> PlainBook {
-    let Some(settings) = Settings::new(30, 100) else {
-        unreachable!();
-    };
-    PlainBook::new(alloc, settings)
+    PlainBook::new(alloc, Settings::new(30, 100).unwrap())
 }
 
 /// The three clients and a server over this book, before any event.

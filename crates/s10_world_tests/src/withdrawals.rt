@@ -4,7 +4,6 @@ use crate::odd_worlds::{DRAWN, Expected, GRANTED, come_to};
 use crate::story::{draw, grant, resend, submit, to_client, to_server};
 use s10_wire::Body;
 use s10_world::Event;
-use std::test::Fail;
 
 const WITHDRAWN: &[u8] = b"S1\x02\x86\0\0\0\0\0\0\0\x02\0\0\0\x01\0";
 
@@ -14,10 +13,10 @@ const NO_RANGE_10: &[u8] = b"S1\x01\x82\0\0\0\x07\0\0\0\x0aRAGB\x04";
 
 /// Customer 7 has drawn from its range, and its next Draw is overtaken by the post's Withdraw, which is lost once, comes twice,
 /// and whose first reply is late. The first Draw comes once more, and customer 7's second client draws.
-fn events() -> Option<[Event; 25]> {
-    let grant = grant()?;
-    let draw = draw()?;
-    Some([
+fn events() -> [Event; 25] {
+    let grant = grant();
+    let draw = draw();
+    [
         submit(0, &grant),
         resend(0),
         to_server(0, 20_000),
@@ -43,11 +42,11 @@ fn events() -> Option<[Event; 25]> {
         to_client(2, 3),
         to_server(5, 20_002),
         to_client(2, 6),
-    ])
+    ]
 }
 
 #[test]
-fn a_range_is_withdrawn_once_and_gives_no_more(rt: HostRuntime) -> Result<(), Fail> {
+fn a_range_is_withdrawn_once_and_gives_no_more(rt: HostRuntime) {
     let expected = Expected {
         replied: &[
             GRANTED,
@@ -62,7 +61,5 @@ fn a_range_is_withdrawn_once_and_gives_no_more(rt: HostRuntime) -> Result<(), Fa
         accepted: 5,
         calls: 5,
     };
-    let events = events().ok_or("events")?;
-    assert!(rt; come_to(rt.alloc(), 100, &events, expected)?);
-    Ok(())
+    assert!(rt; come_to(rt.alloc(), 100, &events(), &expected));
 }

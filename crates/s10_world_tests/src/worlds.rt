@@ -1,11 +1,13 @@
+//! Worlds in which the story happens.
+
+use crate::odd_worlds::are_frames;
 use crate::story::{draw, empty_book, grant, new_world, story};
-use s10_book::{Book, BookFault, TripBook};
-use s10_core::Id;
+use s10_book::{Book, BookFault, PlainBook, TripBook};
+use s10_core::{Country, Id, Serial, Service};
 use s10_history::Entry;
-use s10_wire::{Body, Frame, Outcome, Reply, Request};
+use s10_wire::{Body, Outcome, Reply, Request};
 use s10_world::World;
-use std::alloc::Global;
-use std::test::Fail;
+use std::alloc::{AllocError, Global};
 
 // the datagrams of the story
 const GRANT: &[u8] = b"S1\x01\x01\0\0\0\0\0\0\0\x01\0\0\0\x07RAGB\0\0\0\0\0\0\0\x02";
@@ -20,17 +22,6 @@ const DRAWN_1: &[u8] = b"S1\x01\x82\0\0\0\x07\0\0\0\x01RAGB\0\0\0\x4e\x20RA00000
 
 const DRAWN_10: &[u8] = b"S1\x01\x82\0\0\0\x07\0\0\0\x0aRAGB\0\0\0\x4e\x20RA000000005GB";
 
-/// The requests of the story with what comes of each, in the order of their execution.
-fn calls() -> Result<[(Request, Outcome); 3], Fail> {
-    let grant = grant().ok_or("grant")?;
-    let draw = draw().ok_or("draw")?;
-    Ok([
-        (request(0, 1, grant), Outcome::Granted { range: 1 }),
-        (request(7, 10, draw), drawn(b"RA000000005GB")?),
-        (request(7, 1, draw), drawn(b"RA000000014GB")?),
-    ])
-}
-
 fn request(customer: u32, number: u32, body: Body) -> Request {
     Request {
         customer,
@@ -39,33 +30,34 @@ fn request(customer: u32, number: u32, body: Body) -> Request {
     }
 }
 
-fn drawn(text: &[u8; 13]) -> Result<Outcome, Fail> {
-    Ok(Outcome::Drawn {
+/// A serial of RA GB that is drawn on day 20000.
+fn drawn(serial: Serial) -> Outcome {
+    Outcome::Drawn {
         day: 20_000,
-        id: Id::read(text)?,
-    })
-}
-
-/// The world after the story, over this book.
-fn world_after_story<B: Book + Drop>(alloc: Global, book: B) -> Result<World<B>, Fail> {
-    let mut world = new_world(alloc, book)?;
-    if happens(&mut world)? {
-        Ok(world)
-    } else {
-        Err("the story")?
+        id: Id {
+            service: Service::new(*b"RA").unwrap(),
+            serial,
+            country: Country::new(*b"GB").unwrap(),
+        },
     }
 }
 
-/// Whether the whole story happens in a world.
-fn happens<B: Book>(world: &mut World<B>) -> Result<bool, &'static str> {
-    let events = story().ok_or("events")?;
-    Ok(world.run(&events).is_ok())
+/// The requests of the story with what comes of each, in the order of their execution.
+fn calls() -> [(Request, Outcome); 3] {
+    let first = drawn(Serial::new(0).unwrap());
+    let second = drawn(Serial::new(1).unwrap());
+    [
+        (request(0, 1, grant()), Outcome::Granted { range: 1 }),
+        (request(7, 10, draw()), first),
+        (request(7, 1, draw()), second),
+    ]
 }
 
-/// Whether these are the frames, in turn.
-fn are_frames(frames: &[Frame], datagrams: &[&[u8]]) -> bool {
-    let mut pairs = frames.iter().zip(datagrams);
-    frames.len() == datagrams.len() && pairs.all(|(frame, bytes)| frame.bytes() == *bytes)
+/// The world after the whole story, over this book.
+fn world_after_story<B: Book + Drop>(alloc: Global, book: B) -> Option<World<B>> {
+    let mut world = new_world(alloc, book).ok()?;
+    world.run(&story()).ok()?;
+    Some(world)
 }
 
 /// Whether these clients accepted the replies to these calls, in turn, and no others.
@@ -96,72 +88,87 @@ fn holds<B: Book>(book: &mut B, calls: &[(Request, Outcome)]) -> Result<bool, Bo
 }
 
 #[test]
-fn each_call_is_executed_once_and_answered_to_its_own_client(rt: HostRuntime) -> Result<(), Fail> {
-    let world = world_after_story(rt.alloc(), empty_book(rt.alloc()))?;
-    let [granted, second, first] = calls()?;
-    let submitted = [(0, granted.0), (1, first.0), (2, second.0)];
-    assert_eq!(rt; world.submitted(), submitted.as_slice());
-    assert!(rt; have_accepted(&world, &[(0, granted), (1, first)]));
+fn each_call_is_executed_once_and_answered_to_its_own_client(rt: HostRuntime) {
+    let calls = calls();
+    let submitted = [(0, calls[0].0), (1, calls[2].0), (2, calls[1].0)];
+    let accepted = [(0, calls[0]), (1, calls[2])];
+    let replied = [GRANTED, DRAWN_10, DRAWN_1, DRAWN_10, DRAWN_1];
+    let Some(world) = world_after_story(rt.alloc(), empty_book(rt.alloc())) else {
+        panic!(rt; "the story");
+    };
+    assert!(rt; world.submitted() == submitted.as_slice());
+    assert!(rt; have_accepted(&world, &accepted));
     assert!(rt; are_frames(world.asked(), &[GRANT, DRAW_1, DRAW_10]));
-    assert!(rt;
-        are_frames(
-            world.replied(),
-            &[GRANTED, DRAWN_10, DRAWN_1, DRAWN_10, DRAWN_1]
-        )
-    );
+    assert!(rt; are_frames(world.replied(), &replied));
 
-    assert_eq!(rt; world.server().book().len(), 3);
+    assert!(rt; world.server().book().len() == 3);
     let mut book = world.into_server().into_book();
-    assert!(rt; holds(&mut book, &[granted, second, first])?);
-    Ok(())
+    assert!(rt; holds(&mut book, &calls) == Ok(true));
 }
 
-/// Whether each accepted reply is to a request that its client submitted.
-fn are_asked_for<B: Book>(world: &World<B>) -> bool {
-    for (client, reply) in world.accepted() {
-        let mut submitted = world.submitted().iter();
-        if !submitted.any(|s| s.0 == *client && s.1 == reply.request()) {
-            return false;
+/// Whether the request of an accepted reply is among those submitted, by its client.
+fn is_asked_for(submitted: &[(u32, Request)], client: u32, request: &Request) -> bool {
+    for sent in submitted {
+        if sent.0 == client && sent.1 == *request {
+            return true;
         }
     }
-    true
+    false
 }
 
-/// Whether the book keeps each reply's request with its outcome.
-fn keeps<B: Book>(book: &mut B, accepted: &[(u32, Reply)]) -> Result<bool, Fail> {
-    for (_, reply) in accepted {
-        let request = reply.request();
-        let entry = book.find(request.customer, request.number)?.ok_or("entry")?;
-        if entry.request != request || entry.outcome != reply.outcome() {
+/// Whether the book keeps a reply's request with its outcome.
+fn keeps<B: Book>(book: &mut B, reply: &Reply) -> bool {
+    let request = reply.request();
+    match book.find(request.customer, request.number) {
+        Ok(Some(entry)) => entry.request == request && entry.outcome == reply.outcome(),
+        _ => false,
+    }
+}
+
+/// Whether what a world's clients accepted was asked for, and agrees with its history.
+fn accepted_agree(alloc: Global, world: World<TripBook<PlainBook>>) -> Result<bool, AllocError> {
+    let submitted = world.submitted().to_vec(alloc)?;
+    let accepted = world.accepted().to_vec(alloc)?;
+    let mut book = world.into_server().into_book();
+    for (client, reply) in &accepted {
+        if !is_asked_for(&submitted, *client, &reply.request()) || !keeps(&mut book, reply) {
             return Ok(false);
         }
     }
     Ok(true)
 }
 
-/// Whether what a world's clients accepted was asked for, and agrees with its history.
-fn accepted_agree<B: Book + Drop>(alloc: Global, world: World<B>) -> Result<bool, Fail> {
-    let asked_for = are_asked_for(&world);
-    let accepted = world.accepted().to_vec(alloc)?;
-    let mut book = world.into_server().into_book();
-    Ok(asked_for && keeps(&mut book, &accepted)?)
+/// How many replies a world sends whose book fails at one of its calls; none where one is missing and what its clients accepted does
+/// not agree with its history.
+fn replies_that_agree(alloc: Global, at: u64) -> Option<usize> {
+    let book = TripBook::new(empty_book(alloc), at);
+    let world = world_after_story(alloc, book)?;
+    let replied = world.replied().len();
+    if replied != 4 {
+        return Some(replied);
+    }
+    if accepted_agree(alloc, world) == Ok(true) {
+        Some(replied)
+    } else {
+        None
+    }
+}
+
+/// The first call of a book that the run does not make, or at which it does not go on.
+fn first_passed_over(alloc: Global) -> (u64, Option<usize>) {
+    for at in 0..100u64 {
+        let replied = replies_that_agree(alloc, at);
+        if replied != Some(4) {
+            return (at, replied);
+        }
+    }
+    (100, None)
 }
 
 // A book fails at one of its calls, each in turn, and the run goes on.
 #[test]
-fn accepted_replies_agree_with_a_book_that_failed(rt: HostRuntime) -> Result<(), Fail> {
-    let mut whole = false;
-    for at in 0..100u64 {
-        let book = TripBook::new(empty_book(rt.alloc()), at);
-        let world = world_after_story(rt.alloc(), book)?;
-        if world.replied().len() == 5 {
-            assert!(rt; 4 < at);
-            whole = true;
-            break;
-        }
-        assert_eq!(rt; world.replied().len(), 4, "at {at}");
-        assert!(rt; accepted_agree(rt.alloc(), world)?, "at {at}");
-    }
-    assert!(rt; whole);
-    Ok(())
+fn accepted_replies_agree_with_a_book_that_failed(rt: HostRuntime) {
+    let (at, replied) = first_passed_over(rt.alloc());
+    assert!(rt; replied == Some(5), "at {at}");
+    assert!(rt; 4 < at);
 }
