@@ -1,4 +1,4 @@
-use Rattle.std.proofs.Common.{rules, List, true, length, arith, ap, sym, subst, refl}
+use Rattle.std.proofs.Common.{rules, List, true, length, arith, ap, sym, subst}
 use Rattle.sqlite.specs.Held.{state}
 use Rattle.s10_history.specs.declared.entry.Entry.{Entry}
 use Rattle.s10_history.specs.History.{day_of}
@@ -35,9 +35,6 @@ returns-in-Err-clause-was_refused c = search rules
 
 pub returns-in-Err-clause-kept : goal.returns-in-Err-clause-kept
 returns-in-Err-clause-kept c = search rules
-
-pub returns-clause-new : goal.returns-clause-new
-returns-clause-new g c = (refl, c.none.ensures)
 
 pub returns-clause-fresh : goal.returns-clause-fresh
 returns-clause-fresh g c = c.refusal_of.ensures.fresh c.in_default.is
