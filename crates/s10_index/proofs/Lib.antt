@@ -1,7 +1,12 @@
 pub mod Sheets
 pub mod LastDay
 pub mod Placing
-pub mod Issuing
+pub mod Noting
 pub mod Inserting
 pub mod Reserving
 pub mod LastRows
+pub mod RemadeLemmas
+pub mod Earlier
+pub mod IssueLemmas
+pub mod Voiding
+pub mod WrittenLemmas

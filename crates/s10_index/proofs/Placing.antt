@@ -19,7 +19,7 @@ use Rattle.s10_book.proofs.Carried.{made_by, after_call}
 use Rattle.s10_book.proofs.Own.{IsOwned, owned}
 use Rattle.s10_replay.proofs.SerialRows.{last_passes}
 use Rattle.s10_index.specs.LastIssues.{told}
-use Rattle.s10_index.proofs.Issuing.{last_told}
+use Rattle.s10_index.proofs.Noting.{last_told}
 
 -- where no call has a place, none is found
 pub none_placed : (p : Entry → Bool) (xs : List Entry) (i : ℕ) → position_from p i xs ≡ None → find p xs ≡ None

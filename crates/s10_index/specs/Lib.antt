@@ -5,3 +5,4 @@ pub mod Places
 pub mod LastIssues
 pub mod CallIndex
 pub mod RowsBehind
+pub mod Remade

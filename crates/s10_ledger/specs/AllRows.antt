@@ -16,11 +16,11 @@ use Rattle.s10_rows.specs.declared.opened.Opened.{Opened}
 use Rattle.s10_replay.specs.Verdict.{IsRefusal, IsWhole}
 use Rattle.s10_index.specs.declared.call_index.CallIndex.{CallIndex}
 use Rattle.s10_index.specs.CallIndex.{Indexes}
-use Rattle.s10_made.specs.declared.remade.Remade.{Remade}
+use Rattle.s10_index.specs.declared.remade.Remade.{Remade}
 use Rattle.s10_statements.specs.Shown.{shown_head, shown_call, shown_range, shown_serial, head_columns, call_columns, range_columns, serial_columns, IsNumbered}
 use Rattle.s10_ledger.specs.declared.form.Form.{Form}
-use Rattle.s10_made.specs.declared.made_rows.MadeRows.{MadeRows}
-use Rattle.s10_made.specs.Remade.{IsRemade, AreTheirs}
+use Rattle.s10_index.specs.declared.made_rows.MadeRows.{MadeRows}
+use Rattle.s10_index.specs.Remade.{IsRemade, AreTheirs}
 use Rattle.s10_ledger.specs.Form.{HasForm}
 
 -- these are the rows of head and of calls, the latter in order of arrival

@@ -9,11 +9,11 @@ ghost use Rattle.s10_schema.specs.Schema.{IsLedgerSchema};
 ghost use Rattle.s10_statements.specs.Settled.{IsSettled};
 ghost use Rattle.s10_statements.specs.Statements.{Leaves};
 ghost use Rattle.s10_ledger.specs.Form.{IsOfForm, AreClosed};
-ghost use Rattle.s10_made.specs.Remade.{IsRemade};
+ghost use Rattle.s10_index.specs.Remade.{IsRemade};
 ghost use Rattle.s10_ledger.specs.AllRows.{HasKept, HasMade, AreRead};
 
 use crate::form::Form;
-use s10_made::{MadeRows, Remade};
+use s10_index::{MadeRows, Remade};
 use s10_rows::{CallRow, ClosedRow, HeadRow, OpenFault, RangeRow, SerialRow};
 use s10_statements::{Watch, all_calls, all_closed, all_heads, all_ranges, all_serials};
 use sqlite::{Alter, Connection, Error};

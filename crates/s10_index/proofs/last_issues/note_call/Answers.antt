@@ -4,7 +4,7 @@ use Rattle.s10_history.specs.Issues.{carried_by}
 use Rattle.s10_history.specs.declared.issue.Issue.{Issue}
 use Rattle.s10_index.specs.Keys.{id_key}
 use Rattle.s10_index.specs.LastIssues.{voided_issue}
-use Rattle.s10_index.proofs.Issuing.{keys_tell, last_left, last_voided, last_told, told_before}
+use Rattle.s10_index.proofs.Noting.{keys_tell, last_left, last_voided, last_told, told_before}
 use Rattle.s10_index.proofs.last_issues.note_call.Goals as goal
 
 pub returns-in-Void : goal.returns-in-Void

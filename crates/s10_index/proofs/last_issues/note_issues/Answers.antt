@@ -8,7 +8,7 @@ use Rattle.s10_history.specs.Issues.{carried_by, issues_at, last_issuance_of}
 use Rattle.s10_ranges.proofs.Carrying.{upto_all, issue_within}
 use Rattle.s10_index.specs.Keys.{same_key, id_key}
 use Rattle.s10_index.specs.LastIssues.{as_issue, told}
-use Rattle.s10_index.proofs.Issuing.{keys_tell, told_upto}
+use Rattle.s10_index.proofs.Noting.{keys_tell, told_upto}
 use Rattle.s10_index.proofs.last_issues.note_issues.Goals as goal
 use Rattle.s10_index.proofs.last_issues.note_issues.Goals.{in-Some, in_default}
 

@@ -1,0 +1,81 @@
+//! The rows of a ledger are compared with those that its calls make.
+
+ghost use Rattle.std.specs.Prelude.{◌≡◌, ◌≤◌, ◌↔◌, length, All, IfOk, IfErr, IsTrue};
+ghost use Rattle.s10_history.specs.declared.settings.TheConstants.{GREATEST_LIMIT};
+ghost use Rattle.s10_index.specs.CallIndex.{Indexes};
+ghost use Rattle.s10_rows.specs.Tables.{Tables, HaveSameRows, range_rows, serial_rows, closed_rows};
+ghost use Rattle.s10_replay.specs.RightRows.{kept_of};
+ghost use Rattle.s10_replay.specs.Verdict.{IsWhole, IsRefusal};
+ghost use Rattle.s10_rows.specs.Selected.{IsCall};
+ghost use Rattle.s10_index.specs.Remade.{IsRemade, AreTheirs};
+
+use crate::call_index::CallIndex;
+use crate::indexed_book::IndexedBook;
+use crate::made_rows::MadeRows;
+use crate::remade::Remade;
+use s10_replay::{same_closed, same_ranges, same_serials};
+use s10_rows::{ClosedRow, OpenFault, Opened, RangeRow, SerialRow};
+use std::alloc::Global;
+
+// Whether these are the ranges of the book.
+fn has_ranges(alloc: Global, book: &IndexedBook, rows: Vec<RangeRow>) -> Result<bool, OpenFault>
+    ensures err { (tables : Tables) → IfErr result (IsRefusal tables) }
+    ensures answer { IfOk result (λ b. IsTrue b ↔ HaveSameRows (range_rows book.now.index.entries.items) rows.items) }
+{
+    let Ok(made) = book.range_rows(alloc) else {
+        return Err(OpenFault::Memory);
+    };
+    Ok(same_ranges(&made, rows))
+}
+
+// Whether these are the serials of the book.
+fn has_serials(alloc: Global, book: &IndexedBook, rows: Vec<SerialRow>) -> Result<bool, OpenFault>
+    ensures err { (tables : Tables) → IfErr result (IsRefusal tables) }
+    ensures answer { All IsCall book.now.index.entries.items → IfOk result (λ b. IsTrue b ↔ HaveSameRows (serial_rows book.now.index.entries.items) rows.items) }
+{
+    let Ok(made) = book.serial_rows(alloc) else {
+        return Err(OpenFault::Memory);
+    };
+    Ok(same_serials(made, rows))
+}
+
+// Whether these are the closed ranges of the book.
+fn has_closed(alloc: Global, book: &IndexedBook, rows: Vec<ClosedRow>) -> Result<bool, OpenFault>
+    ensures err { (tables : Tables) → IfErr result (IsRefusal tables) }
+    ensures answer { IfOk result (λ b. IsTrue b ↔ HaveSameRows (closed_rows book.now.index.entries.items) rows.items) }
+{
+    let Ok(made) = book.closed_rows(alloc) else {
+        return Err(OpenFault::Memory);
+    };
+    Ok(same_closed(&made, rows))
+}
+
+/// What is found of a ledger whose calls were done again, by the rows of the tables that they make, and the index of its
+/// calls. Refused with Damaged(0) where another row is there, and with Memory.
+pub fn verdict(
+    alloc: Global,
+    made: Remade,
+    rows: MadeRows,
+) -> Result<(Opened, CallIndex), OpenFault>
+    ensures few { IfOk result (λ found. length found.1.entries.items ≤ GREATEST_LIMIT) }
+    ensures indexed { (tables : Tables) → IsRemade tables.heads tables.calls made → IfOk result (λ found. Indexes found.1 (kept_of tables.calls)) }
+    ensures ok { (tables : Tables) → AreTheirs tables rows → IsRemade tables.heads tables.calls made → IfOk result (λ found. IsWhole tables found.0) }
+    ensures err { (tables : Tables) → AreTheirs tables rows → IsRemade tables.heads tables.calls made → IfErr result (IsRefusal tables) }
+{
+    let Remade { book, opened } = made;
+    let MadeRows {
+        ranges,
+        serials,
+        closed,
+    } = rows;
+    if !has_ranges(alloc, &book, ranges)? {
+        return Err(OpenFault::Damaged(0));
+    }
+    if !has_serials(alloc, &book, serials)? {
+        return Err(OpenFault::Damaged(0));
+    }
+    if !has_closed(alloc, &book, closed)? {
+        return Err(OpenFault::Damaged(0));
+    }
+    Ok((opened, book.into_index()))
+}

@@ -1,5 +1,0 @@
-pub mod RemadeLemmas
-pub mod Earlier
-pub mod IssueLemmas
-pub mod Voiding
-pub mod WrittenLemmas
