@@ -297,7 +297,7 @@ pub(crate) fn first_unlike<B: Book>(book: &mut B, steps: &[Step]) -> Option<usiz
 
 /// The book answers these steps as their rows say.
 pub(crate) fn go_on(rt: &impl Abort, name: &str, book: &mut PlainBook, steps: &[Step]) {
-    same(rt, name, &first_unlike(book, steps), &None);
+    same(rt, &name, &first_unlike(book, steps), &None);
 }
 
 /// An empty book whose interval is 30 days answers these steps as their rows say.

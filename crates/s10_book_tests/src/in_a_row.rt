@@ -97,7 +97,7 @@ const TWO_OF_THREE_DRAWN: &'static [Step] = &[
 #[test]
 fn a_sheet_from_one_range_has_its_serials_in_turn(rt: HostRuntime) {
     let wrong = first_wrong(rt.alloc(), TWO_OF_THREE_DRAWN, SHEETS_OF_ONE_RANGE);
-    same(&rt, "row", &wrong, &None);
+    same(&rt, &"row", &wrong, &None);
 }
 
 /// Sheets of one range, and of more.
@@ -123,7 +123,7 @@ const THREE_GRANTS: &'static [Step] = &[
 #[test]
 fn a_sheet_goes_on_in_the_next_range(rt: HostRuntime) {
     let wrong = first_wrong(rt.alloc(), THREE_GRANTS, SHEETS_OF_TWO_RANGES);
-    same(&rt, "row", &wrong, &None);
+    same(&rt, &"row", &wrong, &None);
 }
 
 /// Sheets that go on behind a closed range.
@@ -148,5 +148,5 @@ fn a_sheet_passes_over_a_closed_range(rt: HostRuntime) {
         SECOND_OF_THREE_CLOSED,
         SHEETS_OVER_A_CLOSED_RANGE,
     );
-    same(&rt, "row", &wrong, &None);
+    same(&rt, &"row", &wrong, &None);
 }

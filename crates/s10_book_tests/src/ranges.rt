@@ -1,7 +1,7 @@
 //! How many serials a range has, and which it gives in turn.
 
 use crate::books::{gb, ra, serial};
-use crate::expect::holds_at;
+use crate::expect::same;
 use s10_history::Range;
 
 fn range(first: u32, last: u32) -> Range {
@@ -37,8 +37,8 @@ const SIZES: &[(u32, u32, u32)] = &[
 
 #[test]
 fn a_range_has_its_last_serial_too(rt: HostRuntime) {
-    for (at, (first, last, size)) in SIZES.iter().enumerate() {
-        holds_at(&rt, at, range(*first, *last).size() == *size);
+    for (first, last, size) in SIZES {
+        same(&rt, &(first, last), &range(*first, *last).size(), size);
     }
 }
 
@@ -62,8 +62,8 @@ const BEHIND: &[(u32, u32, u32, u8, u32)] = &[
 
 #[test]
 fn behind_its_last_serial_a_range_gives_its_first(rt: HostRuntime) {
-    for (at, (first, last, from, count, serial)) in BEHIND.iter().enumerate() {
+    for (first, last, from, count, serial) in BEHIND {
         let found = behind(*first, *last, *from, *count);
-        holds_at(&rt, at, found == Some(*serial));
+        same(&rt, &(first, last, from, count), &found, &Some(*serial));
     }
 }

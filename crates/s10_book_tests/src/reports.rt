@@ -143,10 +143,10 @@ fn first_passed_over<R: Abort + AllocGlobal>(rt: &R, day: Option<u32>, whole: &[
 // The report of issues makes so many calls of the book, and that of ranges.
 #[test]
 fn a_book_that_fails_leaves_whole_lines(rt: HostRuntime) {
-    same(&rt, "issues", &first_passed_over(&rt, None, ISSUES), &14);
+    same(&rt, &"issues", &first_passed_over(&rt, None, ISSUES), &14);
     same(
         &rt,
-        "ranges",
+        &"ranges",
         &first_passed_over(&rt, Some(20030), RANGES),
         &4,
     );
@@ -226,9 +226,9 @@ fn has_text(alloc: Global, fault: ReportFault, text: &str) -> bool {
 fn a_writer_that_fails_once_has_got_the_beginning_of_the_report(rt: HostRuntime) {
     let mut book = book_after(&rt, "nine calls", NINE_CALLS);
     let uncut = first_uncut(rt.alloc(), &mut book, None, ISSUES);
-    same(&rt, "issues", &uncut, &ISSUES.len());
+    same(&rt, &"issues", &uncut, &ISSUES.len());
     let uncut = first_uncut(rt.alloc(), &mut book, Some(20030), RANGES);
-    same(&rt, "ranges", &uncut, &RANGES.len());
+    same(&rt, &"ranges", &uncut, &RANGES.len());
     let memory = ReportFault::Book(BookFault::Memory);
     assert!(rt; has_text(rt.alloc(), memory, "book: memory"));
     assert!(rt;

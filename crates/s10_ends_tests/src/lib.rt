@@ -1,4 +1,4 @@
-//! Tests of the server, the client and the links between them.
+//! Tests of the server, the client and the links between them, and of both ends in one world.
 #![tactic(auto)]
 
 #[cfg(test)]
@@ -20,9 +20,13 @@ mod near_links;
 #[cfg(test)]
 mod odd_datagrams;
 #[cfg(test)]
+mod odd_worlds;
+#[cfg(test)]
 mod ranges;
 #[cfg(test)]
 mod refusals;
+#[cfg(test)]
+mod refused_worlds;
 #[cfg(test)]
 mod repeats;
 #[cfg(test)]
@@ -30,6 +34,12 @@ mod rounds;
 #[cfg(test)]
 mod scripts;
 #[cfg(test)]
+mod story;
+#[cfg(test)]
 mod turns;
 #[cfg(test)]
 mod udp_links;
+#[cfg(test)]
+mod withdrawals;
+#[cfg(test)]
+mod worlds;

@@ -1,8 +1,9 @@
-//! What a loop over cases uses.
+//! What all tests here end with.
 
+use std::fmt::Debug;
 use std::process::Abort;
 
-/// The case with this number holds.
-pub(crate) fn holds_at(rt: &impl Abort, case: usize, holds: bool) {
-    assert!(rt; holds, "case {case}");
+/// It is so, in the case that is shown.
+pub(crate) fn holds<C: Debug>(rt: &impl Abort, case: &C, is_so: bool) {
+    assert!(rt; is_so, "{case:?}");
 }

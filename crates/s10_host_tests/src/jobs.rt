@@ -1,6 +1,6 @@
 //! Jobs of command lines.
 
-use crate::expect::holds_at;
+use crate::expect::holds;
 use s10_cli::parse_job;
 use s10_host::run_job;
 use s10_jobs::JobStatus;
@@ -74,7 +74,7 @@ const CASES: &[(&[&str], JobStatus, &str)] = &[
 
 #[test]
 fn what_cannot_be_done_has_its_line_and_status(rt: HostRuntime) {
-    for (at, (words, status, line)) in CASES.iter().enumerate() {
-        holds_at(&rt, at, ends_with(&rt, words, *status, line));
+    for (words, status, line) in CASES {
+        holds(&rt, words, ends_with(&rt, words, *status, line));
     }
 }

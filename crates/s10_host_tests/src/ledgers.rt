@@ -1,6 +1,6 @@
 //! The worked ledger of nine calls in tables: its replies and reports, and audits of it.
 
-use crate::expect::holds_at;
+use crate::expect::holds;
 use crate::refusing::Refusing;
 use s10_book::{Book, PlainBook, Settle};
 use s10_ends::{Delivery, Server};
@@ -259,10 +259,10 @@ const CHANGES: &[(&str, &str)] = &[
 
 #[test]
 fn one_change_of_the_tables_is_found(rt: HostRuntime) {
-    for (at, (change, line)) in CHANGES.iter().enumerate() {
-        holds_at(
+    for (change, line) in CHANGES {
+        holds(
             &rt,
-            at,
+            change,
             is_audited_with(&rt, change, JobStatus::Failed, line),
         );
     }

@@ -1,8 +1,14 @@
-//! Tests of jobs over ledgers in tables, and over files and sockets of this machine.
+//! Tests of the command line, of jobs over ledgers in tables, and of those over files and sockets of this machine.
 #![tactic(auto)]
 
 #[cfg(test)]
+mod buffers;
+#[cfg(test)]
+mod command_lines;
+#[cfg(test)]
 mod expect;
+#[cfg(test)]
+mod job_words;
 #[cfg(test)]
 mod jobs;
 #[cfg(test)]

@@ -1,6 +1,6 @@
 //! The texts of requests, and requests over sockets.
 
-use crate::expect::holds_at;
+use crate::expect::holds;
 use crate::refusing::Refusing;
 use s10_jobs::{BodyWords, JobStatus, Question, Tries};
 use s10_lines::WriteFault;
@@ -133,6 +133,6 @@ fn asked_is_told<R: Net + Eprint + AllocGlobal>(
 #[test]
 fn what_is_not_asked_has_its_line(rt: HostRuntime) {
     for (at, (to, asked, status, line)) in CASES.iter().enumerate() {
-        holds_at(&rt, at, asked_is_told(&rt, to, *asked, *status, line));
+        holds(&rt, &at, asked_is_told(&rt, to, *asked, *status, line));
     }
 }

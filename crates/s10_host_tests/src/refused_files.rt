@@ -1,6 +1,6 @@
 //! What is no ledger: each job over it is refused, and leaves its folder as it was.
 
-use crate::expect::holds_at;
+use crate::expect::holds;
 use crate::jobs::ends_with;
 use s10_jobs::JobStatus;
 use std::{fs, io};
@@ -77,10 +77,10 @@ const OTHERS: &[(&str, &str)] = &[
 
 #[test]
 fn what_is_no_ledger_stays_as_it_was(rt: HostRuntime) {
-    for (at, (ledger, line)) in ABSENT.iter().enumerate() {
-        holds_at(&rt, at, matches!(stays_away(&rt, ledger, line), Ok(true)));
+    for (ledger, line) in ABSENT {
+        holds(&rt, ledger, matches!(stays_away(&rt, ledger, line), Ok(true)));
     }
-    for (at, (bytes, line)) in OTHERS.iter().enumerate() {
-        holds_at(&rt, at, matches!(stays(&rt, bytes, line), Ok(true)));
+    for (bytes, line) in OTHERS {
+        holds(&rt, bytes, matches!(stays(&rt, bytes, line), Ok(true)));
     }
 }

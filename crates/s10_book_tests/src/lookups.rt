@@ -1,6 +1,6 @@
 //! The look-ups of ranges.
 
-use crate::calls::{
+use crate::granted::{
     Granted, all_granted, country, grant, numbered, range, serial, service, withdraw,
 };
 use crate::expect::same;

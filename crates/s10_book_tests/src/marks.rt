@@ -1,6 +1,6 @@
 //! The marks of ranges.
 
-use crate::calls::{all_granted, draw, serial, withdraw};
+use crate::granted::{all_granted, draw, serial, withdraw};
 use crate::expect::same;
 use s10_ranges::{Mark, Ranges, Turn};
 use s10_wire::Outcome;

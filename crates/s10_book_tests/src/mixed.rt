@@ -2,11 +2,11 @@
 
 ghost use Rattle.std.specs.Prelude.{◌≤◌, ◌<◌};
 
-use crate::books::{ask, first_call_unlike, first_day_unlike, new_books, same};
-use crate::calls::Asked;
+use crate::books::{Asked, answer, request};
+use crate::both_books::{first_call_unlike, first_day_unlike, new_books};
+use crate::expect::same;
 use s10_book::Book;
 use s10_wire::Outcome;
-use std::test::Fail;
 
 const ROUNDS: u32 = 60;
 
@@ -87,15 +87,14 @@ fn common_answer<A: Book, B: Book>(
 ) -> Option<Outcome>
     requires { round ≤ 1000 }
 {
-    let customer = customer(round, turn);
-    let asked = asked(round, turn);
+    let request = request(customer(round, turn), number, asked(round, turn));
     let day = if turn == 2 {
         19_000
     } else {
         20_000 + round * 5 / 4
     };
-    let first = ask(one, customer, number, &asked, day)?;
-    if ask(other, customer, number, &asked, day)? == first {
+    let first = answer(one, &request, day);
+    if answer(other, &request, day) == first {
         first.ok()
     } else {
         None
@@ -132,13 +131,12 @@ fn rounds_alike<A: Book, B: Book>(one: &mut A, other: &mut B) -> (u32, [bool; 17
 }
 
 #[test]
-fn mixed_calls_are_answered_alike(rt: HostRuntime) -> Result<(), Fail> {
-    let (mut plain, mut indexed) = new_books(&rt);
+fn mixed_calls_are_answered_alike(rt: HostRuntime) {
+    let (mut plain, mut indexed) = new_books(rt.alloc());
     let alike = rounds_alike(&mut plain, &mut indexed);
-    same(&rt, "rounds", &alike, &(ROUNDS, [true; 17]));
+    same(&rt, &"rounds", &alike, &(ROUNDS, [true; 17]));
     let unlike = first_call_unlike(&mut plain, &mut indexed, 12 * ROUNDS);
-    same(&rt, "call", &unlike, &None);
-    let unlike = first_day_unlike(rt.alloc(), &mut plain, &mut indexed, &[20_100])?;
-    same(&rt, "day", &unlike, &None);
-    Ok(())
+    same(&rt, &"call", &unlike, &None);
+    let unlike = first_day_unlike(rt.alloc(), &mut plain, &mut indexed, &[20_100]);
+    same(&rt, &"day", &unlike, &Ok(None));
 }

@@ -1,0 +1,57 @@
+//! The book with an index beside the one without, and what is alike in them.
+
+use s10_book::{Book, PlainBook};
+use s10_history::Settings;
+use s10_index::IndexedBook;
+use s10_reports::{ReportFault, write_issues, write_ranges};
+use std::alloc::Global;
+
+/// Both books, empty, with an interval of 30 days.
+pub(crate) fn new_books(alloc: Global) -> (PlainBook, IndexedBook) {
+    let settings = Settings::new(30, 10_000).unwrap();
+    (
+        PlainBook::new(alloc, settings),
+        IndexedBook::new(alloc, settings),
+    )
+}
+
+/// The reports of the ranges on a day and of the issues, one behind the other.
+fn reports<B: Book>(alloc: Global, book: &mut B, day: u32) -> Result<Vec<u8>, ReportFault> {
+    let mut out = Vec::new(alloc);
+    write_ranges(book, day, &mut out)?;
+    write_issues(book, &mut out)?;
+    Ok(out)
+}
+
+/// The first of the days on which the books do not report alike, if any.
+pub(crate) fn first_day_unlike<A: Book, B: Book>(
+    alloc: Global,
+    one: &mut A,
+    other: &mut B,
+    days: &[u32],
+) -> Result<Option<u32>, ReportFault> {
+    for day in days {
+        if reports(alloc, one, *day)? != reports(alloc, other, *day)? {
+            return Ok(Some(*day));
+        }
+    }
+    Ok(None)
+}
+
+/// The first number up to that one which has no like calls in both books, or no ranges that are closed alike; 0 where the books
+/// have not as many calls or not the same day.
+pub(crate) fn first_call_unlike<A: Book, B: Book>(
+    one: &mut A,
+    other: &mut B,
+    last: u32,
+) -> Option<u32> {
+    if one.len() != other.len() || one.day() != other.day() {
+        return Some(0);
+    }
+    for at in 0..=last {
+        if one.entry(at) != other.entry(at) || one.closed(at) != other.closed(at) {
+            return Some(at);
+        }
+    }
+    None
+}

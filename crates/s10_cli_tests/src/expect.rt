@@ -1,9 +1,0 @@
-//! What all tests here end with.
-
-use std::fmt::Debug;
-use std::process::Abort;
-
-/// It is so, in the case that is shown.
-pub(crate) fn holds<C: Debug>(rt: &impl Abort, case: &C, is_so: bool) {
-    assert!(rt; is_so, "{case:?}");
-}
