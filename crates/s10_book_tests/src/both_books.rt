@@ -6,13 +6,19 @@ use s10_index::IndexedBook;
 use s10_reports::{ReportFault, write_issues, write_ranges};
 use std::alloc::Global;
 
-/// Both books, empty, with an interval of 30 days.
-pub(crate) fn new_books(alloc: Global) -> (PlainBook, IndexedBook) {
-    let settings = Settings::new(30, 10_000).unwrap();
-    (
-        PlainBook::new(alloc, settings),
-        IndexedBook::new(alloc, settings),
-    )
+/// An interval of 30 days, and room for more calls than any test has.
+fn settings() -> Settings {
+    Settings::new(30, 10_000).unwrap()
+}
+
+/// An empty book without an index.
+pub(crate) fn plain_book(alloc: Global) -> PlainBook {
+    PlainBook::new(alloc, settings())
+}
+
+/// An empty book with one.
+pub(crate) fn indexed_book(alloc: Global) -> IndexedBook {
+    IndexedBook::new(alloc, settings())
 }
 
 /// The reports of the ranges on a day and of the issues, one behind the other.
@@ -24,7 +30,7 @@ fn reports<B: Book>(alloc: Global, book: &mut B, day: u32) -> Result<Vec<u8>, Re
 }
 
 /// The first of the days on which the books do not report alike, if any.
-pub(crate) fn first_day_unlike<A: Book, B: Book>(
+fn first_day_unlike<A: Book, B: Book>(
     alloc: Global,
     one: &mut A,
     other: &mut B,
@@ -40,7 +46,7 @@ pub(crate) fn first_day_unlike<A: Book, B: Book>(
 
 /// The first number up to that one which has no like calls in both books, or no ranges that are closed alike; 0 where the books
 /// have not as many calls or not the same day.
-pub(crate) fn first_call_unlike<A: Book, B: Book>(
+fn first_call_unlike<A: Book, B: Book>(
     one: &mut A,
     other: &mut B,
     last: u32,
@@ -54,4 +60,16 @@ pub(crate) fn first_call_unlike<A: Book, B: Book>(
         }
     }
     None
+}
+
+/// The first call up to that number which two books have not alike, and the first of the days on which they do not report alike.
+pub(crate) fn unlike<A: Book, B: Book>(
+    alloc: Global,
+    one: &mut A,
+    other: &mut B,
+    last: u32,
+    days: &[u32],
+) -> (Option<u32>, Result<Option<u32>, ReportFault>) {
+    let call = first_call_unlike(one, other, last);
+    (call, first_day_unlike(alloc, one, other, days))
 }

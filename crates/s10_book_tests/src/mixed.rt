@@ -3,7 +3,7 @@
 ghost use Rattle.std.specs.Prelude.{◌≤◌, ◌<◌};
 
 use crate::books::{Asked, answer, request};
-use crate::both_books::{first_call_unlike, first_day_unlike, new_books};
+use crate::both_books::{indexed_book, plain_book, unlike};
 use crate::expect::same;
 use s10_book::Book;
 use s10_wire::Outcome;
@@ -132,11 +132,10 @@ fn rounds_alike<A: Book, B: Book>(one: &mut A, other: &mut B) -> (u32, [bool; 17
 
 #[test]
 fn mixed_calls_are_answered_alike(rt: HostRuntime) {
-    let (mut plain, mut indexed) = new_books(rt.alloc());
+    let mut plain = plain_book(rt.alloc());
+    let mut indexed = indexed_book(rt.alloc());
     let alike = rounds_alike(&mut plain, &mut indexed);
     same(&rt, &"rounds", &alike, &(ROUNDS, [true; 17]));
-    let unlike = first_call_unlike(&mut plain, &mut indexed, 12 * ROUNDS);
-    same(&rt, &"call", &unlike, &None);
-    let unlike = first_day_unlike(rt.alloc(), &mut plain, &mut indexed, &[20_100]);
-    same(&rt, &"day", &unlike, &Ok(None));
+    let found = unlike(rt.alloc(), &mut plain, &mut indexed, 12 * ROUNDS, &[20_100]);
+    same(&rt, &"books", &found, &(None, Ok(None)));
 }

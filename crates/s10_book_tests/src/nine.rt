@@ -1,35 +1,27 @@
 //! The nine worked calls over the book with an index, beside the one without.
 
 use crate::books::{Answered, Asked, NINE_CALLS, Step, answer, first_unlike, is_as_answered, request};
-use crate::both_books::{first_call_unlike, first_day_unlike, new_books};
+use crate::both_books::{indexed_book, plain_book, unlike};
 use crate::expect::same;
-use s10_book::{Book, PlainBook};
-use s10_index::IndexedBook;
+use s10_book::Book;
 use s10_wire::Status;
-use std::process::Abort;
 
-/// The book answers the nine calls as their rows say, and keeps them.
-fn are_answered<B: Book>(rt: &impl Abort, name: &str, book: &mut B) {
-    let found = (first_unlike(book, NINE_CALLS), book.len());
-    same(rt, &name, &found, &(None, 9));
+/// The first of the nine calls that a book does not answer as its row says, if any, and how many calls it has then.
+fn nine_calls_of<B: Book>(book: &mut B) -> (Option<usize>, u32) {
+    (first_unlike(book, NINE_CALLS), book.len())
 }
 
-/// Both books after the nine calls.
-fn books_after<R: Abort + AllocGlobal>(rt: &R) -> (PlainBook, IndexedBook) {
-    let (mut plain, mut indexed) = new_books(rt.alloc());
-    are_answered(rt, "plain", &mut plain);
-    are_answered(rt, "indexed", &mut indexed);
-    (plain, indexed)
-}
+/// Days on which they are to report alike.
+const DAYS: &[u32] = &[20000, 20029, 20030, 20060];
 
 #[test]
 fn nine_calls_are_answered_as_worked_by_hand(rt: HostRuntime) {
-    let (mut plain, mut indexed) = books_after(&rt);
-    let unlike = first_call_unlike(&mut plain, &mut indexed, 10);
-    same(&rt, &"call", &unlike, &None);
-    let days = [20000, 20029, 20030, 20060];
-    let unlike = first_day_unlike(rt.alloc(), &mut plain, &mut indexed, &days);
-    same(&rt, &"day", &unlike, &Ok(None));
+    let mut plain = plain_book(rt.alloc());
+    let mut indexed = indexed_book(rt.alloc());
+    let found = (nine_calls_of(&mut plain), nine_calls_of(&mut indexed));
+    same(&rt, &"answers", &found, &((None, 9), (None, 9)));
+    let found = unlike(rt.alloc(), &mut plain, &mut indexed, 10, DAYS);
+    same(&rt, &"books", &found, &(None, Ok(None)));
 }
 
 /// What the post is told of each serial on day 20030.
@@ -66,14 +58,15 @@ const TOLD: &[Step] = &[
 
 #[test]
 fn the_last_issue_of_each_serial_is_told(rt: HostRuntime) {
-    let (_, mut indexed) = books_after(&rt);
-    same(&rt, &"serial", &first_unlike(&mut indexed, TOLD), &None);
+    let mut book = indexed_book(rt.alloc());
+    let found = (nine_calls_of(&mut book), first_unlike(&mut book, TOLD));
+    same(&rt, &"serial", &found, &((None, 9), None));
 }
 
 #[test]
 fn nine_calls_with_ample_memory_are_kept_at_once(rt: HostRuntime) {
-    let (_, mut indexed) = new_books(rt.alloc());
-    are_answered(&rt, "at once", &mut indexed);
+    let found = nine_calls_of(&mut indexed_book(rt.alloc()));
+    same(&rt, &"at once", &found, &(None, 9));
 }
 
 /// Whether the step is answered as its row says: at once, or once more where memory was refused and no call kept.
@@ -88,19 +81,18 @@ fn is_right_at_last<B: Book>(book: &mut B, step: &Step) -> bool {
     is_as_answered(&found, answered)
 }
 
-/// The first of the nine calls that is not answered as its row says even so.
-fn first_wrong_at_last<B: Book>(book: &mut B) -> Option<usize> {
+/// The first of the nine calls that is not answered as its row says even so, if any, and how many calls the book has then.
+fn nine_calls_at_last<B: Book>(book: &mut B) -> (Option<usize>, u32) {
     for (place, step) in NINE_CALLS.iter().enumerate() {
         if !is_right_at_last(book, step) {
-            return Some(place);
+            return (Some(place), book.len());
         }
     }
-    None
+    (None, book.len())
 }
 
 #[test]
 fn a_refused_request_for_memory_is_made_good_by_a_repeat(rt: HostRuntime) {
-    let (_, mut indexed) = new_books(rt.alloc());
-    let found = (first_wrong_at_last(&mut indexed), indexed.len());
+    let found = nine_calls_at_last(&mut indexed_book(rt.alloc()));
     same(&rt, &"at last", &found, &(None, 9));
 }

@@ -7,6 +7,7 @@ ghost use Rattle.s10_host.specs.Files.{IsFoundIn, IsPlain, Copies, LeavesClean, 
 use crate::front::{fault_of_front, fault_of_place, missing_log, remove_log};
 use s10_ledger::{OpenFault, Refused};
 use sqlite::{Connection, Error, ErrorCode, FileFrom, FileStore, Files, Start};
+use sqlite_disk::Disk;
 use std::fs::OpenOptions;
 use std::io::ErrorKind;
 use std::{fs, io};
@@ -24,11 +25,11 @@ pub type FileConnection<S> = Connection<FileStore<FileFrom<S>>>;
 pub type ClosedFiles<S> = Files<FileFrom<S>>;
 
 /// The files of a connection, with its last commit in the database file itself.
-pub fn close_copied<S: Start>(
+pub fn close_copied<D: Disk + Drop>(
     rt: &HostRuntime,
     path: &str,
-    connection: FileConnection<S>,
-) -> Result<ClosedFiles<S>, OpenFault>
+    connection: Connection<FileStore<D>>,
+) -> Result<Files<D>, OpenFault>
     ensures copied { IfOk result (Copies connection) }
     ensures refused { IfErr result (λ fault. fault ≡ OpenFault.Store) }
 {
@@ -39,10 +40,10 @@ pub fn close_copied<S: Start>(
 }
 
 // Says on standard error what kept the file from being closed.
-fn fault_of_closing<S: Start>(
+fn fault_of_closing<D: Disk + Drop>(
     rt: &HostRuntime,
     path: &str,
-    failed: (Error, FileStore<FileFrom<S>>),
+    failed: (Error, FileStore<D>),
 ) -> OpenFault
     ensures { result ≡ OpenFault.Store }
 {
@@ -53,7 +54,7 @@ fn fault_of_closing<S: Start>(
 }
 
 /// The files of a connection, as it leaves them: its last commits may stand in the log alone.
-pub fn leave_files<S: Start>(connection: FileConnection<S>) -> ClosedFiles<S>
+pub fn leave_files<D: Disk + Drop>(connection: Connection<FileStore<D>>) -> Files<D>
     ensures { LeavesClean connection result }
 {
     connection.into_store().close()
@@ -191,7 +192,7 @@ fn fault_of_opening(error: &Error) -> OpenFault
 }
 
 /// Why there is no ledger, with its file closed.
-pub fn fault_of_refusal<S: Start>(refusal: Refused<FileStore<FileFrom<S>>>) -> OpenFault
+pub fn fault_of_refusal<D: Disk + Drop>(refusal: Refused<FileStore<D>>) -> OpenFault
     ensures { result ≡ refusal.fault }
 {
     let Refused { fault, connection } = refusal;

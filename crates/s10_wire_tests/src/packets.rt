@@ -31,22 +31,31 @@ fn a_packet_keeps_512_bytes(rt: HostRuntime) {
     }
 }
 
-/// Whether the packets of these bytes are equal.
-fn are_equal(one: &[u8], other: &[u8]) -> bool {
-    Packet::new(one) == Packet::new(other)
+/// Whether the packets of so many bytes, and of so many, are equal. The bytes are all the same, but for one of the second packet
+/// where it has that many.
+fn are_equal(byte: u8, one: usize, other: usize, changed: usize) -> bool {
+    let bytes = [byte; 600];
+    let mut others = bytes;
+    if changed < 600 {
+        others[changed] = 8;
+    }
+    Packet::new(&bytes[..one.min(600)]) == Packet::new(&others[..other.min(600)])
 }
+
+/// The byte, how many there are of it in the two packets, the place of the one that is another, and whether the packets are equal.
+const PAIRS: &[(u8, usize, usize, usize, bool)] = &[
+    (7, 600, 600, 599, true),
+    (7, 600, 512, 600, true),
+    (7, 600, 600, 511, false),
+    (7, 600, 511, 600, false),
+    (0, 3, 2, 600, false),
+    (0, 1, 0, 600, false),
+];
 
 #[test]
 fn packets_are_equal_where_their_bytes_are(rt: HostRuntime) {
-    let sevens = [7u8; 600];
-    let mut last_differs = sevens;
-    last_differs[599] = 8;
-    let mut kept_differs = last_differs;
-    kept_differs[511] = 8;
-    assert!(rt; are_equal(&sevens, &last_differs));
-    assert!(rt; are_equal(&sevens, &sevens[..512]));
-    assert!(rt; !are_equal(&sevens, &kept_differs));
-    assert!(rt; !are_equal(&sevens, &sevens[..511]));
-    assert!(rt; !are_equal(&[0u8; 3], &[0u8; 2]));
-    assert!(rt; !are_equal(&[0u8], b""));
+    for (byte, one, other, changed, equal) in PAIRS {
+        let found = are_equal(*byte, *one, *other, *changed);
+        same(&rt, &(byte, one, other, changed), &found, equal);
+    }
 }

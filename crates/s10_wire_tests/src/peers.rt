@@ -3,8 +3,6 @@
 use crate::expect::same;
 use s10_link::Peer;
 use std::alloc::Global;
-use std::process::Abort;
-use std::test::Fail;
 
 const ADDRESSES: &[(&str, Peer)] = &[
     (
@@ -37,20 +35,20 @@ const ADDRESSES: &[(&str, Peer)] = &[
     ),
 ];
 
-/// The text is read as this address, and written so again.
-fn is_address(rt: &impl Abort, alloc: Global, text: &str, peer: &Peer) -> Result<(), Fail> {
-    same(rt, &text, &Peer::read(text.as_bytes()), &Some(*peer));
-    let written = peer.to_string(alloc)?;
-    same(rt, &text, &written.as_str(), &text);
-    Ok(())
+/// Whether the address is written as this text.
+fn is_written(alloc: Global, peer: &Peer, text: &str) -> bool {
+    match peer.to_string(alloc) {
+        Ok(written) => written.as_str() == text,
+        Err(_) => false,
+    }
 }
 
 #[test]
-fn addresses_are_read_and_written(rt: HostRuntime) -> Result<(), Fail> {
+fn addresses_are_read_and_written(rt: HostRuntime) {
     for (text, peer) in ADDRESSES {
-        is_address(&rt, rt.alloc(), text, peer)?;
+        let found = (Peer::read(text.as_bytes()), is_written(rt.alloc(), peer, text));
+        same(&rt, text, &found, &(Some(*peer), true));
     }
-    Ok(())
 }
 
 const OTHER_TEXTS: &[&str] = &[

@@ -5,7 +5,6 @@ use s10_core::{Country, Service};
 use s10_link::{Link, LinkFault, Packet, Peer, Receipt, ScriptLink, Trace};
 use s10_wire::{Body, Frame, Request, encode_request};
 use std::alloc::{AllocError, Global};
-use std::process::Abort;
 use std::test::Fail;
 
 const NEAR: Peer = Peer {
@@ -54,22 +53,23 @@ fn receives_in_turn(link: &mut ScriptLink, packet: Packet) -> bool {
         && link.receive() == Ok(None)
 }
 
-/// Whether the send of the frame to the far peer ends so.
-fn sends(link: &mut ScriptLink, frame: &Frame, sent: Result<(), LinkFault>) -> bool {
-    link.send(FAR, frame) == sent
-}
+/// Numbers of Draws that are sent to the far peer in turn, and how each send ends.
+const SENDS: &[(u32, Result<(), LinkFault>)] = &[
+    (1, Ok(())),
+    (2, Err(LinkFault::Send)),
+    (2, Err(LinkFault::Spent)),
+];
 
 #[test]
-fn calls_follow_the_script(rt: HostRuntime) -> Result<(), Fail> {
+fn calls_follow_the_script(rt: HostRuntime) {
     let packet = Packet::new(b"a datagram");
-    let mut link = new_script(rt.alloc(), packet)?;
-    assert!(rt; has_met(&link, Trace::new(), &[]));
-    assert!(rt; receives_in_turn(&mut link, packet));
+    let mut link = new_script(rt.alloc(), packet).expect(&rt, "a link");
+    let is_new = has_met(&link, Trace::new(), &[]);
+    assert!(rt; is_new && receives_in_turn(&mut link, packet));
+    for (number, end) in SENDS {
+        same(&rt, number, &link.send(FAR, &draw(*number)), end);
+    }
     let first = draw(1);
-    let other = draw(2);
-    assert!(rt; sends(&mut link, &first, Ok(())));
-    assert!(rt; sends(&mut link, &other, Err(LinkFault::Send)));
-    assert!(rt; sends(&mut link, &other, Err(LinkFault::Spent)));
     let trace = Trace {
         calls: 6,
         failures: 2,
@@ -80,7 +80,6 @@ fn calls_follow_the_script(rt: HostRuntime) -> Result<(), Fail> {
         given: Some((FAR, first)),
     };
     assert!(rt; has_met(&link, trace, &[(FAR, first)]));
-    Ok(())
 }
 
 /// Whether receives give the packet, nothing, a failure, and nothing, whether they wait or not.
@@ -92,10 +91,10 @@ fn receives_at_once(link: &mut ScriptLink, packet: Packet) -> bool {
 }
 
 #[test]
-fn receive_now_takes_the_next_receipt(rt: HostRuntime) -> Result<(), Fail> {
+fn receive_now_takes_the_next_receipt(rt: HostRuntime) {
     let packet = Packet::new(b"a datagram");
-    let mut link = new_script(rt.alloc(), packet)?;
-    assert!(rt; receives_at_once(&mut link, packet));
+    let mut link = new_script(rt.alloc(), packet).expect(&rt, "a link");
+    let is_received = receives_at_once(&mut link, packet);
     let trace = Trace {
         calls: 4,
         failures: 1,
@@ -103,31 +102,38 @@ fn receive_now_takes_the_next_receipt(rt: HostRuntime) -> Result<(), Fail> {
         taken: Some((FAR, packet)),
         ..Trace::new()
     };
-    assert!(rt; has_met(&link, trace, &[]));
-    Ok(())
+    assert!(rt; is_received && has_met(&link, trace, &[]));
 }
 
-/// The frame is sent, as the last of so many alike in a row.
-fn sends_alike(rt: &impl Abort, link: &mut ScriptLink, to: Peer, frame: &Frame, alike: u64) {
-    same(rt, &alike, &link.send(to, frame), &Ok(()));
-    same(rt, &to, &link.trace().alike, &alike);
+/// A link that sends six times.
+fn six_sends(alloc: Global) -> Result<ScriptLink, AllocError> {
+    ScriptLink::new(alloc, Vec::new(alloc), vec![in alloc; true; 6]?)
+}
+
+/// Where Draws are sent to in turn, their numbers, and how many sends were alike then, one behind another.
+const ALIKE: &[(Peer, u32, u64)] = &[
+    (FAR, 1, 1),
+    (FAR, 1, 2),
+    (NEAR, 1, 1),
+    (NEAR, 2, 1),
+    (NEAR, 2, 2),
+    (NEAR, 2, 3),
+];
+
+/// How the send of a Draw ends, and how many sends were alike then.
+fn sent_alike(link: &mut ScriptLink, to: Peer, number: u32) -> (Result<(), LinkFault>, u64) {
+    let sent = link.send(to, &draw(number));
+    (sent, link.trace().alike)
 }
 
 #[test]
-fn alike_counts_the_last_sends_in_a_row(rt: HostRuntime) -> Result<(), Fail> {
-    let receipts = Vec::new(rt.alloc());
-    let sends = vec![in rt.alloc(); true; 6]?;
-    let mut link = ScriptLink::new(rt.alloc(), receipts, sends)?;
-    let first = draw(1);
-    let other = draw(2);
-    sends_alike(&rt, &mut link, FAR, &first, 1);
-    sends_alike(&rt, &mut link, FAR, &first, 2);
-    sends_alike(&rt, &mut link, NEAR, &first, 1);
-    sends_alike(&rt, &mut link, NEAR, &other, 1);
-    sends_alike(&rt, &mut link, NEAR, &other, 2);
-    sends_alike(&rt, &mut link, NEAR, &other, 3);
+fn alike_counts_the_last_sends_in_a_row(rt: HostRuntime) {
+    let mut link = six_sends(rt.alloc()).expect(&rt, "a link");
+    for (to, number, alike) in ALIKE {
+        let found = sent_alike(&mut link, *to, *number);
+        same(&rt, &(to, number), &found, &(Ok(()), *alike));
+    }
     assert!(rt; link.trace().sends == 6 && link.log().len() == 6);
-    Ok(())
 }
 
 const TEXTS: &[(LinkFault, &str)] = &[
