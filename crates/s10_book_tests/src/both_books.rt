@@ -46,11 +46,7 @@ fn first_day_unlike<A: Book, B: Book>(
 
 /// The first number up to that one which has no like calls in both books, or no ranges that are closed alike; 0 where the books
 /// have not as many calls or not the same day.
-fn first_call_unlike<A: Book, B: Book>(
-    one: &mut A,
-    other: &mut B,
-    last: u32,
-) -> Option<u32> {
+fn first_call_unlike<A: Book, B: Book>(one: &mut A, other: &mut B, last: u32) -> Option<u32> {
     if one.len() != other.len() || one.day() != other.day() {
         return Some(0);
     }

@@ -1,9 +1,9 @@
 //! The look-ups of ranges.
 
+use crate::expect::same;
 use crate::granted::{
     Granted, all_granted, country, grant, numbered, range, serial, service, withdraw,
 };
-use crate::expect::same;
 use s10_ranges::Ranges;
 use s10_wire::Outcome;
 use std::process::Abort;

@@ -1,7 +1,7 @@
 //! The marks of ranges.
 
-use crate::granted::{all_granted, draw, serial, withdraw};
 use crate::expect::same;
+use crate::granted::{all_granted, draw, serial, withdraw};
 use s10_ranges::{Mark, Ranges, Turn};
 use s10_wire::Outcome;
 use std::process::Abort;

@@ -1,6 +1,8 @@
 //! The nine worked calls over the book with an index, beside the one without.
 
-use crate::books::{Answered, Asked, NINE_CALLS, Step, answer, first_unlike, is_as_answered, request};
+use crate::books::{
+    Answered, Asked, NINE_CALLS, Step, answer, first_unlike, is_as_answered, request,
+};
 use crate::both_books::{indexed_book, plain_book, unlike};
 use crate::expect::same;
 use s10_book::Book;

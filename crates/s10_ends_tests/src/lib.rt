@@ -36,6 +36,8 @@ mod scripts;
 #[cfg(test)]
 mod story;
 #[cfg(test)]
+mod told;
+#[cfg(test)]
 mod turns;
 #[cfg(test)]
 mod udp_links;

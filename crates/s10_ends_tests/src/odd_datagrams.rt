@@ -1,57 +1,41 @@
 //! Datagrams that come twice, and one that no link of ours sends.
 
-use crate::fixtures::{ANY_PORT, draw, new_server, request};
+use crate::expect::holds_at;
+use crate::fixtures::{bound, draw, is_answered, new_server, request};
 use s10_book::{Book, PlainBook};
-use s10_ends::{Client, Server, ServerTurn, UdpLink, call, serve_one};
+use s10_ends::{Client, Server, ServerTurn, UdpLink, serve_one};
 use s10_link::{Link, Packet, Peer};
 use s10_wire::{WireFault, decode_reply, encode_reply, encode_request};
-use std::io;
 use std::net::{Ipv4Addr, Net, SocketAddr, SocketAddrV4, UdpSocket};
 use std::process::Abort;
 use std::time::Duration;
 
-/// Whether the datagram of a reply is sent twice.
-fn is_sent_twice(far: &mut UdpLink, to: Peer, datagram: &[u8]) -> bool {
-    match decode_reply(datagram) {
-        Ok(reply) => {
-            let frame = encode_reply(&reply);
-            far.send(to, &frame) == Ok(()) && far.send(to, &frame) == Ok(())
-        }
-        Err(_) => false,
-    }
-}
-
-/// Whether the client's next Draw gets the reply of this datagram.
-fn is_answered(client: &mut Client, near: &mut UdpLink, to: Peer, datagram: &[u8]) -> bool {
-    match call(client, near, to, draw(), 2) {
-        Ok(reply) => encode_reply(&reply).bytes() == datagram,
-        Err(_) => false,
-    }
-}
-
-/// Each reply, which is sent twice, is that to the client's next Draw.
-fn each_is_answered(
-    rt: &impl Abort,
+/// Whether a reply that is sent twice to the client is that to its next Draw.
+fn is_answered_twice<L: Link>(
     client: &mut Client,
-    near: &mut UdpLink,
-    far: &mut UdpLink,
-    replies: &[&[u8]],
-) {
-    let (here, there) = (near.local(), far.local());
-    for reply in replies {
-        assert!(rt; is_sent_twice(far, here, reply));
-        assert!(rt; is_answered(client, near, there, reply));
-    }
+    near: (&mut L, Peer),
+    far: (&mut L, Peer),
+    datagram: &[u8],
+) -> bool {
+    let Ok(reply) = decode_reply(datagram) else {
+        return false;
+    };
+    let frame = encode_reply(&reply);
+    far.0.send(near.1, &frame) == Ok(())
+        && far.0.send(near.1, &frame) == Ok(())
+        && is_answered(client, near.0, far.1, draw(), 2, datagram)
+}
+
+/// Whether customer 7's Draw with this number comes.
+fn has_come<L: Link>(link: &mut L, from: Peer, number: u32) -> bool {
+    let packet = Packet::new(encode_request(&request(number)).bytes());
+    link.receive() == Ok(Some((from, packet)))
 }
 
 /// Customer 7's Draws with the numbers 1 to 3 come, and nothing behind them.
-fn three_draws_come(rt: &impl Abort, link: &mut UdpLink, from: Peer) {
-    for number in 1..=3u32 {
-        let packet = Packet::new(encode_request(&request(number)).bytes());
-        assert!(rt;
-            link.receive() == Ok(Some((from, packet))),
-            "number {number}"
-        );
+fn three_draws_come<L: Link>(rt: &impl Abort, link: &mut L, from: Peer) {
+    for number in 1..4u32 {
+        holds_at(rt, number as usize, has_come(link, from, number));
     }
     assert!(rt; link.receive() == Ok(None));
 }
@@ -65,21 +49,29 @@ const THREE_REPLIES: &'static [&'static [u8]] = &[
 
 #[test]
 fn a_client_that_gets_each_datagram_twice_sends_each_frame_once(rt: HostRuntime) {
-    let near = UdpLink::bind(&rt, ANY_PORT, 1_000);
-    let (Ok(mut near), Ok(mut far)) = (near, UdpLink::bind(&rt, ANY_PORT, 100)) else {
-        panic!(rt; "no socket");
-    };
+    let mut near = bound(&rt, 1_000);
+    let mut far = bound(&rt, 100);
+    let (here, there) = (near.local(), far.local());
     let mut client = Client::new(7, 1, 3).unwrap();
-    each_is_answered(&rt, &mut client, &mut near, &mut far, THREE_REPLIES);
-    three_draws_come(&rt, &mut far, near.local());
+    for (at, reply) in THREE_REPLIES.iter().enumerate() {
+        let is_answered = is_answered_twice(
+            &mut client,
+            (&mut near, here),
+            (&mut far, there),
+            reply,
+        );
+        holds_at(&rt, at, is_answered);
+    }
+    three_draws_come(&rt, &mut far, here);
 }
 
 /// A socket of this machine that waits so many milliseconds in a receive.
-fn raw_socket<N: Net>(net: &N, wait_ms: u64) -> io::Result<UdpSocket> {
+fn raw_socket<R: Abort + Net>(rt: &R, wait_ms: u64) -> UdpSocket {
     let any = SocketAddr::V4(SocketAddrV4::new(Ipv4Addr::LOCALHOST, 0));
-    let socket = UdpSocket::bind(net, any)?;
-    socket.set_read_timeout(Some(Duration::from_millis(wait_ms)))?;
-    Ok(socket)
+    let socket = UdpSocket::bind(rt, any).expect(rt, "a socket");
+    let wait = Some(Duration::from_millis(wait_ms));
+    assert!(rt; socket.set_read_timeout(wait).is_ok());
+    socket
 }
 
 /// Where a socket is bound.
@@ -115,10 +107,8 @@ fn is_dropped(server: &mut Server<PlainBook>, link: &mut UdpLink, socket: &UdpSo
 
 #[test]
 fn a_grant_of_29_bytes_is_dropped_unanswered(rt: HostRuntime) {
-    let far = UdpLink::bind(&rt, ANY_PORT, 1_000);
-    let (Ok(mut far), Ok(socket)) = (far, raw_socket(&rt, 100)) else {
-        panic!(rt; "no socket");
-    };
+    let mut far = bound(&rt, 1_000);
+    let socket = raw_socket(&rt, 100);
     let mut server = new_server(rt.alloc(), 100);
     assert!(rt; is_dropped(&mut server, &mut far, &socket));
 }

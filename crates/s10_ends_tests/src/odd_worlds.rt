@@ -1,47 +1,25 @@
 //! Worlds of strange bytes and of a full book.
 
-ghost use Rattle.std.specs.Prelude.{◌≤◌};
-
-use crate::story::{draw, grant, new_world, resend, story, submit, to_client, to_server};
-use s10_book::{Book, PlainBook};
-use s10_history::Settings;
-use s10_link::Packet;
-use s10_wire::Frame;
-use s10_world::{Event, World};
+use crate::fixtures::{DRAW, DRAWN, GRANTED, empty_book};
+use crate::story::{Asked, Happens, STORY, world_after};
+use s10_book::Book;
+use s10_wire::{Frame, Reply};
+use s10_world::World;
 use std::alloc::Global;
 
-pub(crate) const GRANTED: &[u8] =
-    b"S1\x01\x81\0\0\0\0\0\0\0\x01\0\0\0\x07RAGB\0\0\0\0\0\0\0\x02\0\0\0\0\x01";
-
-/// Customer 7's Draw with number 1, and its reply.
-const DRAW: &[u8] = b"S1\x01\x02\0\0\0\x07\0\0\0\x01RAGB";
-
-pub(crate) const DRAWN: &[u8] = b"S1\x01\x82\0\0\0\x07\0\0\0\x01RAGB\0\0\0\x4e\x20RA000000005GB";
-
-fn strange(bytes: &[u8], day: u32) -> Event {
-    Event::Strange {
-        packet: Packet::new(bytes),
-        day,
-    }
-}
-
 /// Bytes that ask nothing, and a Draw of customer 7 that nobody submitted, before the client's own with that number.
-fn strange_bytes() -> [Event; 10] {
-    let grant = grant();
-    let draw = draw();
-    [
-        strange(b"S1", 20_000),
-        submit(0, &grant),
-        resend(0),
-        to_server(0, 20_000),
-        to_client(0, 0),
-        strange(DRAW, 20_000),
-        submit(1, &draw),
-        resend(1),
-        to_server(1, 20_001),
-        to_client(1, 2),
-    ]
-}
+const STRANGE_BYTES: &'static [Happens] = &[
+    Happens::Strange(b"S1", 20_000),
+    Happens::Submit(0, Asked::Grant),
+    Happens::Resend(0),
+    Happens::ToServer(0, 20_000),
+    Happens::ToClient(0, 0),
+    Happens::Strange(DRAW, 20_000),
+    Happens::Submit(1, Asked::Draw),
+    Happens::Resend(1),
+    Happens::ToServer(1, 20_001),
+    Happens::ToClient(1, 2),
+];
 
 /// What events come to.
 #[derive(Clone, Copy)]
@@ -55,65 +33,82 @@ pub struct Expected<'a> {
 
 /// Whether these are the frames, in turn.
 pub(crate) fn are_frames(frames: &[Frame], datagrams: &[&[u8]]) -> bool {
-    for (frame, datagram) in frames.iter().zip(datagrams) {
-        if frame.bytes() != *datagram {
+    if frames.len() != datagrams.len() {
+        return false;
+    }
+    for at in 0..frames.len() {
+        if frames[at].bytes() != datagrams[at] {
             return false;
         }
     }
-    frames.len() == datagrams.len()
+    true
+}
+
+/// Whether a client accepted a reply with this number.
+fn has_accepted(accepted: &[(u32, Reply)], client: u32, number: u32) -> bool {
+    for (by, reply) in accepted {
+        if *by == client && reply.request().number == number {
+            return true;
+        }
+    }
+    false
 }
 
 /// Whether no client accepted two replies with one number.
-fn are_accepted_once(world: &World<PlainBook>) -> bool {
-    for (at, (client, reply)) in world.accepted().iter().enumerate() {
-        for (other, earlier) in world.accepted().iter().take(at) {
-            if other == client && earlier.request().number == reply.request().number {
-                return false;
-            }
+fn are_accepted_once(accepted: &[(u32, Reply)]) -> bool {
+    for at in 0..accepted.len() {
+        let (client, reply) = &accepted[at];
+        if has_accepted(&accepted[..at], *client, reply.request().number) {
+            return false;
         }
     }
     true
 }
 
 /// Whether a world is what was expected of it.
-fn is_as_expected(world: &World<PlainBook>, expected: &Expected<'_>) -> bool {
+fn is_as_expected<B: Book>(world: &World<B>, expected: &Expected<'_>) -> bool {
     are_frames(world.replied(), expected.replied)
-        && are_accepted_once(world)
+        && are_accepted_once(world.accepted())
         && world.submitted().len() == expected.submitted
         && world.accepted().len() == expected.accepted
         && world.server().book().len() == expected.calls
 }
 
-/// Whether the events over a book with room for so many calls come to this.
-pub(crate) fn come_to(alloc: Global, limit: u32, events: &[Event], expected: &Expected<'_>) -> bool
-    requires least { 1 ≤ limit }
-    requires most { limit ≤ 100 }
-{
-    let settings = Settings::new(30, limit).unwrap();
-    match new_world(alloc, PlainBook::new(alloc, settings)) {
-        Ok(mut world) => world.run(events).is_ok() && is_as_expected(&world, expected),
-        Err(_) => false,
+/// Whether what happens over a book with room for so many calls comes to this.
+pub(crate) fn comes_to(
+    alloc: Global,
+    limit: u32,
+    story: &[Happens],
+    expected: &Expected<'_>,
+) -> bool {
+    match &world_after(alloc, empty_book(alloc, limit), story) {
+        Some(world) => is_as_expected(world, expected),
+        None => false,
     }
 }
 
+/// Where bytes that ask for a call are executed once.
+const ASKED_ONCE: Expected<'static> = Expected {
+    replied: &[GRANTED, DRAWN, DRAWN],
+    submitted: 2,
+    accepted: 2,
+    calls: 2,
+};
+
 #[test]
 fn strange_bytes_are_executed_once_where_they_ask(rt: HostRuntime) {
-    let expected = Expected {
-        replied: &[GRANTED, DRAWN, DRAWN],
-        submitted: 2,
-        accepted: 2,
-        calls: 2,
-    };
-    assert!(rt; come_to(rt.alloc(), 100, &strange_bytes(), &expected));
+    assert!(rt; comes_to(rt.alloc(), 100, STRANGE_BYTES, &ASKED_ONCE));
 }
+
+/// Where a book has room for one call.
+const FULL: Expected<'static> = Expected {
+    replied: &[GRANTED],
+    submitted: 3,
+    accepted: 1,
+    calls: 1,
+};
 
 #[test]
 fn a_full_book_takes_no_new_call(rt: HostRuntime) {
-    let expected = Expected {
-        replied: &[GRANTED],
-        submitted: 3,
-        accepted: 1,
-        calls: 1,
-    };
-    assert!(rt; come_to(rt.alloc(), 1, &story(), &expected));
+    assert!(rt; comes_to(rt.alloc(), 1, STORY, &FULL));
 }

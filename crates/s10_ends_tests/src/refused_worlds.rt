@@ -1,36 +1,16 @@
 //! A world for which memory is refused.
 
-use crate::story::{EVENTS, empty_book, new_world, story};
-use s10_book::{Book, BookFault, PlainBook};
-use s10_history::Entry;
+use crate::fixtures::{empty_book, have_one_history};
+use crate::story::{EVENTS, STORY, events_of, new_world};
+use s10_book::{Book, PlainBook};
 use s10_world::{Event, World, WorldFault};
 use std::alloc::{AllocError, Global};
-use std::test::Fail;
 
-// Whether the lists of two worlds are alike; replies by their bytes.
-fn are_alike(a: &World<PlainBook>, b: &World<PlainBook>) -> bool {
-    if a.submitted() != b.submitted() || a.accepted() != b.accepted() {
-        return false;
-    }
-    if a.replied().len() != b.replied().len() {
-        return false;
-    }
-    for (x, y) in a.replied().iter().zip(b.replied()) {
-        if x.bytes() != y.bytes() {
-            return false;
-        }
-    }
-    true
-}
-
-fn have_one_history<B: Book>(a: &mut B, b: &mut B) -> Result<bool, BookFault> {
-    for at in 1..=4 {
-        let entry: Option<Entry> = a.entry(at)?;
-        if b.entry(at)? != entry {
-            return Ok(false);
-        }
-    }
-    Ok(true)
+// Whether the lists of two worlds are alike.
+fn are_alike<B: Book>(one: &World<B>, other: &World<B>) -> bool {
+    one.submitted() == other.submitted()
+        && one.accepted() == other.accepted()
+        && one.replied() == other.replied()
 }
 
 // A world after these events, without the one at a place where one is named.
@@ -39,7 +19,7 @@ fn world_without(
     events: &[Event],
     left_out: Option<usize>,
 ) -> Result<World<PlainBook>, AllocError> {
-    let mut world = new_world(alloc, empty_book(alloc))?;
+    let mut world = new_world(alloc, empty_book(alloc, 100))?;
     for (place, event) in events.iter().enumerate() {
         if left_out != Some(place) {
             let Ok(()) = world.run(&[*event]) else {
@@ -71,27 +51,38 @@ fn alike_world(
     Ok(None)
 }
 
+fn end_alike<B: Book + Drop>(one: World<B>, other: World<B>) -> bool {
+    let mut book = one.into_server().into_book();
+    let mut same = other.into_server().into_book();
+    have_one_history(&mut book, &mut same)
+}
+
+// Whether a world has the history of the one that is alike; none where there is none.
+fn has_its_history(alloc: Global, world: World<PlainBook>, events: &[Event]) -> Option<bool> {
+    match alike_world(alloc, &world, events) {
+        Ok(Some(other)) => Some(end_alike(world, other)),
+        Ok(None) => None,
+        Err(_) => Some(true),
+    }
+}
+
 // checks/refused_memory.sh refuses each request for memory in turn; without it none is refused. What
 // was refused is as if it had not come: the event that wanted memory and those behind it, or else
 // the delivery that the book had no memory for.
 #[test]
-fn a_refused_request_for_memory_leaves_a_run_of_the_other_events(
-    rt: HostRuntime,
-) -> Result<(), Fail> {
-    let events = story();
-    let Ok(mut world) = new_world(rt.alloc(), empty_book(rt.alloc())) else {
-        return Ok(());
+fn a_refused_request_for_memory_leaves_a_run_of_the_other_events(rt: HostRuntime) {
+    let events = events_of(STORY);
+    let Ok(mut world) = new_world(rt.alloc(), empty_book(rt.alloc(), 100)) else {
+        return;
     };
-    let done = match world.run(&events) {
+    let done = match world.run(&events[..EVENTS]) {
         Ok(()) => EVENTS,
         Err(WorldFault::Memory(place)) => place,
     };
-    let Ok(found) = alike_world(rt.alloc(), &world, &events[..done]) else {
-        return Ok(());
-    };
-    let other = found.ok_or("no list of deliveries gives this world")?;
-    let mut book = world.into_server().into_book();
-    let mut same = other.into_server().into_book();
-    assert!(rt; have_one_history(&mut book, &mut same)?);
-    Ok(())
+    let has_history = has_its_history(rt.alloc(), world, &events[..done]);
+    assert!(rt;
+        has_history.is_some(),
+        "no list of deliveries gives this world"
+    );
+    assert!(rt; has_history == Some(true));
 }

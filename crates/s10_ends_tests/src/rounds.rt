@@ -1,12 +1,16 @@
 //! Rounds of a server over links that follow a script.
 
 use crate::expect::holds_at;
-use crate::fixtures::{FIRST_DRAW, FIRST_GRANT, Tripping, deliver, new_server};
+use crate::fixtures::{
+    DRAW, DRAWN, GRANT, GRANTED, Meets, SECOND_DRAW, SECOND_DRAWN, Sent, granted_server, has_sent,
+    link_of, new_server,
+};
+use crate::told::{Ends, is_as_told};
 use s10_book::{Book, BookFault, Settle, TripBook};
-use s10_ends::{Server, ServerTurn, Turn, serve_round};
-use s10_link::{Link, LinkFault, Peer, Receipt, ScriptLink};
-use s10_wire::{Frame, WireFault};
-use std::alloc::{AllocError, Global};
+use s10_ends::{Server, Turn, serve_round};
+use s10_link::{Link, LinkFault, Peer, ScriptLink};
+use s10_wire::WireFault;
+use std::alloc::Global;
 
 const PEER: Peer = Peer {
     ip: [10, 0, 0, 7],
@@ -18,35 +22,6 @@ const OTHER: Peer = Peer {
     port: 4712,
 };
 
-/// A datagram and its reply.
-type Call = (&'static [u8], &'static [u8]);
-
-/// Customer 7's second Draw and its reply.
-const SECOND_DRAW: Call = (
-    b"S1\x01\x02\0\0\0\x07\0\0\0\x02RAGB",
-    b"S1\x01\x82\0\0\0\x07\0\0\0\x02RAGB\0\0\0\x4e\x20RA000000014GB",
-);
-
-/// Bytes that ask nothing, and get no reply.
-const NO_CALL: Call = (b"S1", b"");
-
-/// What a receive meets.
-#[derive(Clone, Copy)]
-enum Meets {
-    Call(Peer, Call),
-    Nothing,
-    Fault,
-}
-
-/// What a turn ends in.
-#[derive(Clone, Copy)]
-enum Ends {
-    Replied(Peer, Call),
-    Dropped(Peer, WireFault),
-    Quiet,
-    Failed(LinkFault),
-}
-
 /// A round: how many datagrams it takes at most, what its turns end in, and how many replies were sent by then.
 type Round = (u32, &'static [Ends], usize);
 
@@ -56,63 +31,38 @@ struct Script {
     receipts: &'static [Meets],
     sends: &'static [bool],
     rounds: &'static [Round],
-    replies: &'static [(Peer, Call)],
+    replies: &'static [Sent],
     calls: u64,
 }
 
 /// A Grant, a Draw, a datagram that asks nothing, another Draw, and the first one again, from two peers.
 const FIVE_RECEIPTS: &'static [Meets] = &[
-    Meets::Call(OTHER, FIRST_GRANT),
-    Meets::Call(PEER, FIRST_DRAW),
-    Meets::Call(OTHER, NO_CALL),
-    Meets::Call(PEER, SECOND_DRAW),
-    Meets::Call(OTHER, FIRST_DRAW),
+    Meets::Bytes(OTHER, GRANT),
+    Meets::Bytes(PEER, DRAW),
+    Meets::Bytes(OTHER, b"S1"),
+    Meets::Bytes(PEER, SECOND_DRAW),
+    Meets::Bytes(OTHER, DRAW),
 ];
 
 /// Their replies, and where they go.
-const FOUR_REPLIES: &'static [(Peer, Call)] = &[
-    (OTHER, FIRST_GRANT),
-    (PEER, FIRST_DRAW),
-    (PEER, SECOND_DRAW),
-    (OTHER, FIRST_DRAW),
+const FOUR_REPLIES: &'static [Sent] = &[
+    (OTHER, GRANTED),
+    (PEER, DRAWN),
+    (PEER, SECOND_DRAWN),
+    (OTHER, DRAWN),
 ];
-
-/// The receipts of a script.
-fn receipts_of(alloc: Global, list: &[Meets]) -> Result<Vec<Receipt>, AllocError> {
-    let mut receipts = Vec::new(alloc);
-    for meets in list {
-        receipts.push(match *meets {
-            Meets::Call(from, call) => deliver(from, call.0),
-            Meets::Nothing => Receipt::Nothing,
-            Meets::Fault => Receipt::Fail,
-        })?;
-    }
-    Ok(receipts)
-}
-
-/// Whether a turn ends so.
-fn is_as_told(turn: &Turn, ends: &Ends) -> bool {
-    match (turn, ends) {
-        (Ok(ServerTurn::Replied(to, frame)), Ends::Replied(peer, call)) => {
-            to == peer && frame.bytes() == call.1
-        }
-        (Ok(ServerTurn::Dropped(from, fault)), Ends::Dropped(peer, refusal)) => {
-            from == peer && fault == refusal
-        }
-        (Ok(ServerTurn::Quiet), Ends::Quiet) => true,
-        (Err(fault), Ends::Failed(failure)) => fault == failure,
-        _ => false,
-    }
-}
 
 /// Whether turns end so, one by one.
 fn are_as_told(turns: &[Turn], told: &[Ends]) -> bool {
-    for (turn, ends) in turns.iter().zip(told) {
-        if !is_as_told(turn, ends) {
+    if turns.len() != told.len() {
+        return false;
+    }
+    for at in 0..turns.len() {
+        if !is_as_told(&turns[at], &told[at]) {
             return false;
         }
     }
-    turns.len() == told.len()
+    true
 }
 
 /// Whether a round goes as told.
@@ -132,27 +82,9 @@ fn serves<B: Settle>(
     }
 }
 
-/// Whether the link sent these replies, in this order, and nothing else.
-fn has_sent(link: &ScriptLink, replies: &[(Peer, Call)]) -> bool {
-    for (sent, reply) in link.log().iter().zip(replies) {
-        let (to, frame): &(Peer, Frame) = sent;
-        if *to != reply.0 || frame.bytes() != reply.1.1 {
-            return false;
-        }
-    }
-    link.log().len() == replies.len()
-}
-
-/// A link that follows a script.
-fn link_of(alloc: Global, script: &Script) -> Result<ScriptLink, AllocError> {
-    let receipts = receipts_of(alloc, script.receipts)?;
-    let sends = script.sends.to_vec(alloc)?;
-    ScriptLink::new(alloc, receipts, sends)
-}
-
 /// Whether a server goes through the rounds of a script as told, one after another, and so do its replies and calls.
 fn goes_through<B: Settle>(alloc: Global, server: &mut Server<B>, script: &Script) -> bool {
-    let Ok(mut link) = link_of(alloc, script) else {
+    let Ok(mut link) = link_of(alloc, script.receipts, script.sends) else {
         return false;
     };
     for round in script.rounds {
@@ -176,11 +108,11 @@ const ONE_ROUND: Script = Script {
     rounds: &[(
         8,
         &[
-            Ends::Replied(OTHER, FIRST_GRANT),
-            Ends::Replied(PEER, FIRST_DRAW),
+            Ends::Replied(OTHER, GRANTED),
+            Ends::Replied(PEER, DRAWN),
             Ends::Dropped(OTHER, WireFault::Short),
-            Ends::Replied(PEER, SECOND_DRAW),
-            Ends::Replied(OTHER, FIRST_DRAW),
+            Ends::Replied(PEER, SECOND_DRAWN),
+            Ends::Replied(OTHER, DRAWN),
         ],
         4,
     )],
@@ -200,21 +132,18 @@ const THREE_ROUNDS: Script = Script {
     rounds: &[
         (
             2,
-            &[
-                Ends::Replied(OTHER, FIRST_GRANT),
-                Ends::Replied(PEER, FIRST_DRAW),
-            ],
+            &[Ends::Replied(OTHER, GRANTED), Ends::Replied(PEER, DRAWN)],
             2,
         ),
         (
             2,
             &[
                 Ends::Dropped(OTHER, WireFault::Short),
-                Ends::Replied(PEER, SECOND_DRAW),
+                Ends::Replied(PEER, SECOND_DRAWN),
             ],
             3,
         ),
-        (2, &[Ends::Replied(OTHER, FIRST_DRAW)], 4),
+        (2, &[Ends::Replied(OTHER, DRAWN)], 4),
     ],
     replies: FOUR_REPLIES,
     calls: 10,
@@ -228,23 +157,23 @@ fn a_round_leaves_the_others_for_the_next(rt: HostRuntime) {
 /// A receive that fails between a Grant and a Draw.
 const FAILED_RECEIVE: Script = Script {
     receipts: &[
-        Meets::Call(OTHER, FIRST_GRANT),
+        Meets::Bytes(OTHER, GRANT),
         Meets::Fault,
-        Meets::Call(PEER, FIRST_DRAW),
+        Meets::Bytes(PEER, DRAW),
     ],
     sends: &[true; 2],
     rounds: &[
         (
             8,
             &[
-                Ends::Replied(OTHER, FIRST_GRANT),
+                Ends::Replied(OTHER, GRANTED),
                 Ends::Failed(LinkFault::Receive),
             ],
             1,
         ),
-        (8, &[Ends::Replied(PEER, FIRST_DRAW)], 2),
+        (8, &[Ends::Replied(PEER, DRAWN)], 2),
     ],
-    replies: &[(OTHER, FIRST_GRANT), (PEER, FIRST_DRAW)],
+    replies: &[(OTHER, GRANTED), (PEER, DRAWN)],
     calls: 6,
 };
 
@@ -254,7 +183,7 @@ fn a_failed_receive_is_told_behind_the_datagrams(rt: HostRuntime) {
 }
 
 /// Rounds over no receipt, over a receive that meets nothing, and over one that fails.
-const LONE_ROUNDS: [Script; 3] = [
+const LONE_ROUNDS: &'static [Script] = &[
     Script {
         receipts: &[],
         sends: &[],
@@ -292,15 +221,15 @@ const FAILED_SENDS: Script = Script {
     rounds: &[(
         8,
         &[
-            Ends::Replied(OTHER, FIRST_GRANT),
+            Ends::Replied(OTHER, GRANTED),
             Ends::Failed(LinkFault::Send),
             Ends::Dropped(OTHER, WireFault::Short),
-            Ends::Replied(PEER, SECOND_DRAW),
+            Ends::Replied(PEER, SECOND_DRAWN),
             Ends::Failed(LinkFault::Spent),
         ],
         2,
     )],
-    replies: &[(OTHER, FIRST_GRANT), (PEER, SECOND_DRAW)],
+    replies: &[(OTHER, GRANTED), (PEER, SECOND_DRAWN)],
     calls: 9,
 };
 
@@ -309,38 +238,35 @@ fn a_failed_send_leaves_the_other_replies(rt: HostRuntime) {
     assert!(rt; leaves(rt.alloc(), &FAILED_SENDS, 3));
 }
 
-/// A server that took the first Grant, over a book whose call with this number from then on fails.
-fn tripping_server(alloc: Global, at: u64) -> Tripping {
-    let mut server = new_server(alloc, 100);
-    let _ = server.handle(FIRST_GRANT.0, 20_000);
-    let server = Server::new(TripBook::new(server.into_book(), at));
-    Tripping { server }
-}
-
 /// Two Draws in one round, with their replies.
 const TWO_DRAWS: Script = Script {
-    receipts: &[
-        Meets::Call(PEER, FIRST_DRAW),
-        Meets::Call(OTHER, SECOND_DRAW),
-    ],
+    receipts: &[Meets::Bytes(PEER, DRAW), Meets::Bytes(OTHER, SECOND_DRAW)],
     sends: &[true; 2],
     rounds: &[(
         2,
         &[
-            Ends::Replied(PEER, FIRST_DRAW),
-            Ends::Replied(OTHER, SECOND_DRAW),
+            Ends::Replied(PEER, DRAWN),
+            Ends::Replied(OTHER, SECOND_DRAWN),
         ],
         2,
     )],
-    replies: &[(PEER, FIRST_DRAW), (OTHER, SECOND_DRAW)],
+    replies: &[(PEER, DRAWN), (OTHER, SECOND_DRAWN)],
     calls: 4,
 };
 
 /// Whether a round over two Draws sends both replies, and how a settling behind it fails.
-fn served_then_settled(alloc: Global, at: u64) -> (bool, Option<BookFault>) {
-    let Tripping { mut server } = tripping_server(alloc, at);
+fn sent_then_settled<B: Settle + Drop>(
+    alloc: Global,
+    mut server: Server<B>,
+) -> (bool, Option<BookFault>) {
     let is_sent = goes_through(alloc, &mut server, &TWO_DRAWS);
-    (is_sent, server.into_book().settle().err())
+    (is_sent, server.settle().err())
+}
+
+/// The same where a book that has the first Grant fails at one of its calls from then on.
+fn served_then_settled(alloc: Global, at: u64) -> (bool, Option<BookFault>) {
+    let book = granted_server(alloc, 100).into_book();
+    sent_then_settled(alloc, Server::new(TripBook::new(book, at)))
 }
 
 /// How many rounds do not send both replies, where a call of the book fails, each in turn.

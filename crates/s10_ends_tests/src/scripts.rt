@@ -1,9 +1,7 @@
 //! Scripts of deliveries, each with the answer that it gets.
 
-ghost use Rattle.std.specs.Prelude.{◌≤◌};
-
 use crate::fixtures::new_server;
-use s10_book::{Book, BookFault, PlainBook};
+use s10_book::{Book, BookFault};
 use s10_ends::{Answer, Delivery, Server};
 use s10_link::Packet;
 use s10_wire::WireFault;
@@ -59,16 +57,19 @@ fn deliveries_of(alloc: Global, steps: &[Step]) -> Result<Vec<Delivery>, AllocEr
 
 /// Whether each step has its answer.
 fn are_as_wanted(answers: &[Answer], steps: &[Step]) -> bool {
-    for (answer, step) in answers.iter().zip(steps) {
-        if !is_as_wanted(answer, &step.2) {
+    if answers.len() != steps.len() {
+        return false;
+    }
+    for at in 0..answers.len() {
+        if !is_as_wanted(&answers[at], &steps[at].2) {
             return false;
         }
     }
-    answers.len() == steps.len()
+    true
 }
 
 /// Whether a server that is handed all datagrams of a part at once answers each as wanted, and has the calls and the day told.
-fn plays(alloc: Global, server: &mut Server<PlainBook>, part: &Part) -> Result<bool, AllocError> {
+fn plays<B: Book>(alloc: Global, server: &mut Server<B>, part: &Part) -> Result<bool, AllocError> {
     let (steps, calls, day) = part;
     let deliveries = deliveries_of(alloc, steps)?;
     let answers = server.run(alloc, &deliveries)?;
@@ -79,16 +80,18 @@ fn plays(alloc: Global, server: &mut Server<PlainBook>, part: &Part) -> Result<b
     )
 }
 
-/// Whether a server over an empty book of that limit plays these parts, one after another.
-pub(crate) fn is_played(alloc: Global, limit: u32, parts: &[Part]) -> bool
-    requires least { 1 ≤ limit }
-    requires most { limit ≤ 100 }
-{
-    let mut server = new_server(alloc, limit);
+/// Whether a server plays these parts, one after another.
+fn plays_all<B: Book>(alloc: Global, server: &mut Server<B>, parts: &[Part]) -> bool {
     for part in parts {
-        if plays(alloc, &mut server, part) != Ok(true) {
+        if plays(alloc, server, part) != Ok(true) {
             return false;
         }
     }
     true
+}
+
+/// Whether a server over an empty book of that limit plays these parts, one after another.
+pub(crate) fn is_played(alloc: Global, limit: u32, parts: &[Part]) -> bool {
+    let mut server = new_server(alloc, limit);
+    plays_all(alloc, &mut server, parts)
 }

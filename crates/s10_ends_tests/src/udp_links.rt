@@ -1,12 +1,12 @@
 //! Links of two sockets of this machine.
 
 use crate::expect::holds_at;
-use crate::fixtures::{ANY_PORT, FIRST_DRAW, request};
+use crate::fixtures::{ANY_PORT, DRAW, bound, request};
 use s10_ends::UdpLink;
 use s10_link::{Link, LinkFault, Packet, Trace};
 use s10_wire::{Frame, encode_request};
 use std::net::Net;
-use std::test::Fail;
+use std::process::Abort;
 
 /// Whether two unused links stand at two ports of this machine.
 fn are_apart(near: &UdpLink, far: &UdpLink) -> bool {
@@ -46,16 +46,15 @@ fn has_counted(near: &UdpLink, far: &UdpLink, frame: Frame, packet: Packet) -> b
 }
 
 #[test]
-fn datagrams_pass_over_loopback(rt: HostRuntime) -> Result<(), Fail> {
-    let mut near = UdpLink::bind(&rt, ANY_PORT, 1_000)?;
-    let mut far = UdpLink::bind(&rt, ANY_PORT, 1_000)?;
+fn datagrams_pass_over_loopback(rt: HostRuntime) {
+    let mut near = bound(&rt, 1_000);
+    let mut far = bound(&rt, 1_000);
     assert!(rt; are_apart(&near, &far));
 
     let frame = encode_request(&request(1));
-    let packet = Packet::new(FIRST_DRAW.0);
+    let packet = Packet::new(DRAW);
     assert!(rt; passes_both_ways(&mut near, &mut far, &frame, packet));
     assert!(rt; has_counted(&near, &far, frame, packet));
-    Ok(())
 }
 
 /// Whether receives that do not wait give the frame once it was sent, and else nothing; and one that waits gives the next.
@@ -80,37 +79,30 @@ fn has_received(link: &UdpLink, calls: u64, received: u64) -> bool {
 
 // A receive that waited would take longer than a test may.
 #[test]
-fn what_has_come_is_taken_at_once(rt: HostRuntime) -> Result<(), Fail> {
-    let mut near = UdpLink::bind(&rt, ANY_PORT, 100_000)?;
-    let mut far = UdpLink::bind(&rt, ANY_PORT, 100_000)?;
-    let packet = Packet::new(FIRST_DRAW.0);
+fn what_has_come_is_taken_at_once(rt: HostRuntime) {
+    let mut near = bound(&rt, 100_000);
+    let mut far = bound(&rt, 100_000);
+    let packet = Packet::new(DRAW);
     let frame = encode_request(&request(1));
     assert!(rt; takes_what_has_come(&mut near, &mut far, &frame, packet));
     assert!(rt; has_received(&far, 4, 2));
-    Ok(())
 }
 
 /// Whether a receive that waits so many milliseconds answers that nothing came.
-fn hears_nothing<N: Net>(net: &N, wait_ms: u32) -> bool {
-    match UdpLink::bind(net, ANY_PORT, wait_ms) {
-        Ok(mut link) => {
-            link.receive() == Ok(None) && link.trace().calls == 1 && link.trace().failures == 0
-        }
-        Err(_) => false,
-    }
+fn hears_nothing<R: Abort + Net>(rt: &R, wait_ms: u32) -> bool {
+    let mut link = bound(rt, wait_ms);
+    link.receive() == Ok(None) && link.trace().calls == 1 && link.trace().failures == 0
 }
 
 #[test]
 fn wait_that_ran_out_is_nothing(rt: HostRuntime) {
-    for (at, wait) in [0, 1, 20].iter().enumerate() {
-        holds_at(&rt, at, hears_nothing(&rt, *wait));
-    }
+    holds_at(&rt, 0, hears_nothing(&rt, 0));
+    holds_at(&rt, 1, hears_nothing(&rt, 1));
+    holds_at(&rt, 20, hears_nothing(&rt, 20));
 }
 
 #[test]
 fn taken_port_cannot_be_bound(rt: HostRuntime) {
-    let Ok(first) = UdpLink::bind(&rt, ANY_PORT, 1) else {
-        panic!(rt; "no socket");
-    };
+    let first = bound(&rt, 1);
     assert!(rt; UdpLink::bind(&rt, first.local(), 1).err() == Some(LinkFault::Bind));
 }

@@ -1,109 +1,97 @@
 //! Worlds in which the story happens.
 
+use crate::fixtures::{DRAW, GRANT, GRANTED, empty_book};
 use crate::odd_worlds::are_frames;
-use crate::story::{draw, empty_book, grant, new_world, story};
-use s10_book::{Book, BookFault, PlainBook, TripBook};
-use s10_core::{Country, Id, Serial, Service};
-use s10_history::Entry;
-use s10_wire::{Body, Outcome, Reply, Request};
+use crate::story::{STORY, world_after};
+use s10_book::{Book, TripBook};
+use s10_wire::{Reply, Request, encode_reply, encode_request};
 use s10_world::World;
 use std::alloc::{AllocError, Global};
+use std::process::Abort;
 
-// the datagrams of the story
-const GRANT: &[u8] = b"S1\x01\x01\0\0\0\0\0\0\0\x01\0\0\0\x07RAGB\0\0\0\0\0\0\0\x02";
-
-const DRAW_1: &[u8] = b"S1\x01\x02\0\0\0\x07\0\0\0\x01RAGB";
-
+/// The draws of customer 7's second client and of its first one, with their replies.
 const DRAW_10: &[u8] = b"S1\x01\x02\0\0\0\x07\0\0\0\x0aRAGB";
-
-const GRANTED: &[u8] = b"S1\x01\x81\0\0\0\0\0\0\0\x01\0\0\0\x07RAGB\0\0\0\0\0\0\0\x02\0\0\0\0\x01";
-
-const DRAWN_1: &[u8] = b"S1\x01\x82\0\0\0\x07\0\0\0\x01RAGB\0\0\0\x4e\x20RA000000014GB";
 
 const DRAWN_10: &[u8] = b"S1\x01\x82\0\0\0\x07\0\0\0\x0aRAGB\0\0\0\x4e\x20RA000000005GB";
 
-fn request(customer: u32, number: u32, body: Body) -> Request {
-    Request {
-        customer,
-        number,
-        body,
+const DRAWN_1: &[u8] = b"S1\x01\x82\0\0\0\x07\0\0\0\x01RAGB\0\0\0\x4e\x20RA000000014GB";
+
+/// The clients that submitted, with the datagrams of their requests.
+const SUBMITTED: &'static [(u32, &'static [u8])] = &[(0, GRANT), (1, DRAW), (2, DRAW_10)];
+
+/// The clients that accepted, with the datagrams of their replies.
+const ACCEPTED: &'static [(u32, &'static [u8])] = &[(0, GRANTED), (1, DRAWN_1)];
+
+const ASKED: &'static [&'static [u8]] = &[GRANT, DRAW, DRAW_10];
+
+const REPLIED: &'static [&'static [u8]] = &[GRANTED, DRAWN_10, DRAWN_1, DRAWN_10, DRAWN_1];
+
+/// Whether these clients submitted the requests of these datagrams, in turn, and no others.
+fn are_submitted(submitted: &[(u32, Request)], told: &[(u32, &[u8])]) -> bool {
+    if submitted.len() != told.len() {
+        return false;
     }
-}
-
-/// A serial of RA GB that is drawn on day 20000.
-fn drawn(serial: Serial) -> Outcome {
-    Outcome::Drawn {
-        day: 20_000,
-        id: Id {
-            service: Service::new(*b"RA").unwrap(),
-            serial,
-            country: Country::new(*b"GB").unwrap(),
-        },
-    }
-}
-
-/// The requests of the story with what comes of each, in the order of their execution.
-fn calls() -> [(Request, Outcome); 3] {
-    let first = drawn(Serial::new(0).unwrap());
-    let second = drawn(Serial::new(1).unwrap());
-    [
-        (request(0, 1, grant()), Outcome::Granted { range: 1 }),
-        (request(7, 10, draw()), first),
-        (request(7, 1, draw()), second),
-    ]
-}
-
-/// The world after the whole story, over this book.
-fn world_after_story<B: Book + Drop>(alloc: Global, book: B) -> Option<World<B>> {
-    let mut world = new_world(alloc, book).ok()?;
-    world.run(&story()).ok()?;
-    Some(world)
-}
-
-/// Whether these clients accepted the replies to these calls, in turn, and no others.
-fn have_accepted<B: Book>(world: &World<B>, calls: &[(u32, (Request, Outcome))]) -> bool {
-    for (accepted, call) in world.accepted().iter().zip(calls) {
-        let (client, (request, outcome)) = *call;
-        let reply = accepted.1;
-        if accepted.0 != client || reply.request() != request || reply.outcome() != outcome {
+    for at in 0..submitted.len() {
+        let (client, request) = &submitted[at];
+        if *client != told[at].0 || encode_request(request).bytes() != told[at].1 {
             return false;
         }
     }
-    world.accepted().len() == calls.len()
+    true
 }
 
-/// Whether a book holds these calls of day 20000, in turn.
-fn holds<B: Book>(book: &mut B, calls: &[(Request, Outcome)]) -> Result<bool, BookFault> {
-    for (at, (request, outcome)) in (1..).zip(calls) {
-        let entry = Entry {
-            request: *request,
-            day: 20_000,
-            outcome: *outcome,
-        };
-        if book.entry(at)? != Some(entry) {
-            return Ok(false);
+/// Whether these clients accepted the replies of these datagrams, in turn, and no others.
+fn are_accepted(accepted: &[(u32, Reply)], told: &[(u32, &[u8])]) -> bool {
+    if accepted.len() != told.len() {
+        return false;
+    }
+    for at in 0..accepted.len() {
+        let (client, reply) = &accepted[at];
+        if *client != told[at].0 || encode_reply(reply).bytes() != told[at].1 {
+            return false;
         }
     }
-    Ok(true)
+    true
+}
+
+/// Whether the call at a place of a book is of day 20000, with the request and the reply of these datagrams.
+fn holds<B: Book>(book: &mut B, at: u32, request: &[u8], reply: &[u8]) -> bool {
+    let Ok(Some(entry)) = book.entry(at) else {
+        return false;
+    };
+    match &Reply::new(entry.request, entry.outcome) {
+        Some(kept) => {
+            entry.day == 20_000
+                && encode_request(&entry.request).bytes() == request
+                && encode_reply(kept).bytes() == reply
+        }
+        None => false,
+    }
+}
+
+/// The lists of a world are those of the story.
+fn are_told<B: Book>(rt: &impl Abort, world: &World<B>) {
+    assert!(rt; are_submitted(world.submitted(), SUBMITTED));
+    assert!(rt; are_accepted(world.accepted(), ACCEPTED));
+    assert!(rt; are_frames(world.asked(), ASKED));
+    assert!(rt; are_frames(world.replied(), REPLIED));
+}
+
+/// A book holds the three calls of the story.
+fn are_held<B: Book>(rt: &impl Abort, book: &mut B) {
+    assert!(rt; book.len() == 3);
+    assert!(rt; holds(book, 1, GRANT, GRANTED));
+    assert!(rt; holds(book, 2, DRAW_10, DRAWN_10));
+    assert!(rt; holds(book, 3, DRAW, DRAWN_1));
 }
 
 #[test]
 fn each_call_is_executed_once_and_answered_to_its_own_client(rt: HostRuntime) {
-    let calls = calls();
-    let submitted = [(0, calls[0].0), (1, calls[2].0), (2, calls[1].0)];
-    let accepted = [(0, calls[0]), (1, calls[2])];
-    let replied = [GRANTED, DRAWN_10, DRAWN_1, DRAWN_10, DRAWN_1];
-    let Some(world) = world_after_story(rt.alloc(), empty_book(rt.alloc())) else {
+    let Some(world) = world_after(rt.alloc(), empty_book(rt.alloc(), 100), STORY) else {
         panic!(rt; "the story");
     };
-    assert!(rt; world.submitted() == submitted.as_slice());
-    assert!(rt; have_accepted(&world, &accepted));
-    assert!(rt; are_frames(world.asked(), &[GRANT, DRAW_1, DRAW_10]));
-    assert!(rt; are_frames(world.replied(), &replied));
-
-    assert!(rt; world.server().book().len() == 3);
-    let mut book = world.into_server().into_book();
-    assert!(rt; holds(&mut book, &calls) == Ok(true));
+    are_told(&rt, &world);
+    are_held(&rt, &mut world.into_server().into_book());
 }
 
 /// Whether the request of an accepted reply is among those submitted, by its client.
@@ -125,29 +113,30 @@ fn keeps<B: Book>(book: &mut B, reply: &Reply) -> bool {
     }
 }
 
+/// Whether what was accepted was asked for, and the book keeps it.
+fn agree<B: Book>(book: &mut B, submitted: &[(u32, Request)], accepted: &[(u32, Reply)]) -> bool {
+    for (client, reply) in accepted {
+        if !is_asked_for(submitted, *client, &reply.request()) || !keeps(book, reply) {
+            return false;
+        }
+    }
+    true
+}
+
 /// Whether what a world's clients accepted was asked for, and agrees with its history.
-fn accepted_agree(alloc: Global, world: World<TripBook<PlainBook>>) -> Result<bool, AllocError> {
+fn accepted_agree<B: Book + Drop>(alloc: Global, world: World<B>) -> Result<bool, AllocError> {
     let submitted = world.submitted().to_vec(alloc)?;
     let accepted = world.accepted().to_vec(alloc)?;
     let mut book = world.into_server().into_book();
-    for (client, reply) in &accepted {
-        if !is_asked_for(&submitted, *client, &reply.request()) || !keeps(&mut book, reply) {
-            return Ok(false);
-        }
-    }
-    Ok(true)
+    Ok(agree(&mut book, &submitted, &accepted))
 }
 
-/// How many replies a world sends whose book fails at one of its calls; none where one is missing and what its clients accepted does
-/// not agree with its history.
-fn replies_that_agree(alloc: Global, at: u64) -> Option<usize> {
-    let book = TripBook::new(empty_book(alloc), at);
-    let world = world_after_story(alloc, book)?;
+/// How many replies a world of this book sends; none where one is missing and what its clients accepted does not agree with its
+/// history.
+fn replies_that_agree<B: Book + Drop>(alloc: Global, book: B) -> Option<usize> {
+    let world = world_after(alloc, book, STORY)?;
     let replied = world.replied().len();
-    if replied != 4 {
-        return Some(replied);
-    }
-    if accepted_agree(alloc, world) == Ok(true) {
+    if replied != 4 || accepted_agree(alloc, world) == Ok(true) {
         Some(replied)
     } else {
         None
@@ -157,7 +146,8 @@ fn replies_that_agree(alloc: Global, at: u64) -> Option<usize> {
 /// The first call of a book that the run does not make, or at which it does not go on.
 fn first_passed_over(alloc: Global) -> (u64, Option<usize>) {
     for at in 0..100u64 {
-        let replied = replies_that_agree(alloc, at);
+        let book = TripBook::new(empty_book(alloc, 100), at);
+        let replied = replies_that_agree(alloc, book);
         if replied != Some(4) {
             return (at, replied);
         }

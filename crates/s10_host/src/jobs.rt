@@ -1,8 +1,11 @@
 //! The subcommands over files, sockets and the clock. `S` stands for what the files held.
 
-ghost use Rattle.std.specs.Prelude.{◌≡◌, codes, false, None, Ok, Err, IsOk, IfOk, IfSome};
+ghost use Rattle.std.specs.Prelude.{◌≡◌, ℕ, codes, false, None, Result, Ok, Err, IsOk, IfOk, IfSome};
 ghost use Rattle.std.specs.Io.KnownBytes.{Appends};
+ghost use Rattle.sqlite.specs.Files.{over_files};
 ghost use Rattle.s10_rows.specs.declared.open_fault.OpenFault.{OpenFault};
+ghost use Rattle.s10_host.specs.Audited.{HasFound, audit_line, audit_status};
+ghost use Rattle.s10_host.specs.Files.{LeavesClean};
 ghost use Rattle.s10_host.specs.Jobs.{ledger_line, HasCreated, HasServed, HasReported, HasAudited, IsRunOn, HasEnded};
 ghost use Rattle.s10_host.specs.Work.{EndsOver, EndsIn};
 
@@ -24,7 +27,8 @@ use s10_ledger::OpenFault;
 use s10_lines::{WriteFault, write_text};
 use s10_link::Peer;
 use s10_sockets::run_question;
-use sqlite::Start;
+use sqlite::{Connection, FileStore, Files, Start};
+use sqlite_disk::Disk;
 use std::io::Write;
 
 /// What came of a job, and what it leaves behind it.
@@ -266,13 +270,29 @@ fn audit_file<S: Start, W: Write>(
     let missing = missing_log(rt, ledger);
     match connect_to_ledger(rt, ledger, start) {
         Ok(connection) => {
-            let mut onlooker = Onlooker::new(rt, ledger);
-            let (audited, left) = run_audit(rt.alloc(), connection, &mut onlooker, out);
-            forget_log(rt, missing, &audited);
-            (audited, Some(leave_files(left)))
+            let (audited, files) = audit_over(rt, ledger, connection, missing, out);
+            (audited, Some(files))
         }
         Err(fault) => (fail_by_ledger(fault, out), None),
     }
+}
+
+// The files are closed as the audit leaves them. Where it refuses them, the log that was made is taken away before.
+fn audit_over<D: Disk + Drop, W: Write>(
+    rt: &HostRuntime,
+    ledger: &str,
+    connection: Connection<FileStore<D>>,
+    missing: Option<String>,
+    out: &mut W,
+) -> (Result<JobStatus, WriteFault>, Files<D>)
+    requires idle { connection.in_transaction ≡ false }
+    ensures { (left : _) × (found : Result ℕ OpenFault) × HasFound over_files connection left found × IfOk result.0 (λ status. (status ≡ audit_status found)
+        × Appends (W.contents out.old) (W.contents out.new) (audit_line found)) × LeavesClean left result.1 }
+{
+    let mut onlooker = Onlooker::new(rt, ledger);
+    let (audited, left) = run_audit(rt.alloc(), connection, &mut onlooker, out);
+    forget_log(rt, missing, &audited);
+    (audited, leave_files(left))
 }
 
 // Takes away the log of a file that is refused.

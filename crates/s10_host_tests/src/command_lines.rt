@@ -3,34 +3,37 @@
 use crate::expect::holds;
 use crate::refusing::Refusing;
 use s10_cli::run_line;
-use std::alloc::{AllocError, Global};
 use std::io;
 use std::io::Read;
 use std::process::Abort;
-use std::test::Fail;
 
 /// Words, the exit status, and what is printed.
 type Case = (&'static [&'static str], u8, &'static str);
 
-/// Whether a command line over this input has this status and prints this text.
-fn prints<R: Eprint + AllocGlobal, I: Read>(
+/// Whether a command line over this input has this status, or is left to the program, and prints this text.
+pub(crate) fn prints<R: Eprint + AllocGlobal, I: Read>(
     rt: &R,
     words: &[&str],
     input: &mut I,
-    status: u8,
+    status: Option<u8>,
     text: &str,
 ) -> bool {
     let mut output = Vec::new(rt.alloc());
-    let answer = run_line(rt, words, input, &mut output);
-    answer == Some(status) && output.as_slice() == text.as_bytes()
+    run_line(rt, words, input, &mut output) == status && output.as_slice() == text.as_bytes()
+}
+
+/// Command lines over this input.
+fn run_over<R: Eprint + AllocGlobal + Abort>(rt: &R, input: &[u8], cases: &[Case]) {
+    for case in cases {
+        let (words, status, text) = case;
+        let mut left = input;
+        holds(rt, case, prints(rt, words, &mut left, Some(*status), text));
+    }
 }
 
 /// Command lines that read no input.
 fn run_cases<R: Eprint + AllocGlobal + Abort>(rt: &R, cases: &[Case]) {
-    for (words, status, text) in cases {
-        let mut input: &[u8] = b"";
-        holds(rt, words, prints(rt, words, &mut input, *status, text));
-    }
+    run_over(rt, b"", cases);
 }
 
 const VALID: &[Case] = &[
@@ -444,12 +447,6 @@ fn show_names_what_is_wrong_with_a_datagram(rt: HostRuntime) {
     run_cases(&rt, WRONG_DATAGRAMS);
 }
 
-/// Whether these digits are refused with this line.
-fn is_refused_to_be_shown<R: Eprint + AllocGlobal>(rt: &R, digits: &str, line: &str) -> bool {
-    let mut input: &[u8] = b"";
-    prints(rt, &["s10", "show", digits], &mut input, 1, line)
-}
-
 const WRONG_DIGITS: &[Case] = &[
     (&["s10", "show", "533"], 1, "refused hex\n"),
     (&["s10", "show", "53g1"], 1, "refused hex\n"),
@@ -461,25 +458,27 @@ fn show_reads_two_digits_for_each_byte(rt: HostRuntime) {
     run_cases(&rt, WRONG_DIGITS);
 }
 
-/// The digits of so many bytes 0.
-fn zeros(alloc: Global, count: u32) -> Result<String, AllocError> {
-    let mut digits = String::new(alloc);
-    for _ in 0..count {
-        digits.push_str("00")?;
-    }
-    Ok(digits)
+/// Whether so many bytes 0 are refused with this line.
+fn are_refused_to_be_shown<R: Eprint + AllocGlobal>(rt: &R, count: usize, line: &str) -> bool {
+    let Ok(digits) = "00".repeat(rt.alloc(), count) else {
+        return false;
+    };
+    let mut input: &[u8] = b"";
+    prints(rt, &["s10", "show", &digits], &mut input, Some(1), line)
 }
 
-/// How many bytes are shown, and the answer.
-const LONG_DATAGRAMS: &[(u32, &str)] = &[(512, "refused magic\n"), (513, "refused hex\n")];
-
 #[test]
-fn show_reads_at_most_512_bytes(rt: HostRuntime) -> Result<(), Fail> {
-    for (count, line) in LONG_DATAGRAMS {
-        let digits = zeros(rt.alloc(), *count)?;
-        holds(&rt, count, is_refused_to_be_shown(&rt, &digits, line));
-    }
-    Ok(())
+fn show_reads_at_most_512_bytes(rt: HostRuntime) {
+    holds(
+        &rt,
+        &512,
+        are_refused_to_be_shown(&rt, 512, "refused magic\n"),
+    );
+    holds(
+        &rt,
+        &513,
+        are_refused_to_be_shown(&rt, 513, "refused hex\n"),
+    );
 }
 
 /// The post grants one serial number, and customer 7 draws twice, 29 days apart.
@@ -487,17 +486,6 @@ const TWO_DRAWS: &[u8] = b"20000 53310101000000000000000100000007524147420000000
 20000 53310102000000070000000152414742
 20029 53310102000000070000000252414742
 ";
-
-/// Whether a replay of these bytes has this status and prints this text.
-fn is_replayed<R: Eprint + AllocGlobal>(
-    rt: &R,
-    words: &[&str],
-    mut bytes: &[u8],
-    status: u8,
-    text: &str,
-) -> bool {
-    prints(rt, words, &mut bytes, status, text)
-}
 
 const NONE_FREE: &str = "533101810000000000000001000000075241474200000000000000000000000001
 533101820000000700000001524147420000004e2052413030303030303030354742
@@ -514,41 +502,41 @@ const FULL: &str = "533101810000000000000001000000075241474200000000000000000000
 faulted full
 ";
 
-const REPLAYS: &[(&[&str], &str)] = &[
-    (&["s10", "replay"], NONE_FREE),
+const REPLAYS: &[Case] = &[
+    (&["s10", "replay"], 0, NONE_FREE),
     (
         &["s10", "replay", "--interval", "30", "--limit", "3"],
+        0,
         NONE_FREE,
     ),
-    (&["s10", "replay", "--interval", "29"], DRAWN_AGAIN),
-    (&["s10", "replay", "--limit=2"], FULL),
+    (&["s10", "replay", "--interval", "29"], 0, DRAWN_AGAIN),
+    (&["s10", "replay", "--limit=2"], 0, FULL),
 ];
+
+const NO_REPLAY: &[Case] = &[(&["s10", "replay"], 0, "")];
 
 #[test]
 fn replay_has_the_interval_and_the_limit_that_are_given(rt: HostRuntime) {
-    for (words, text) in REPLAYS {
-        holds(&rt, words, is_replayed(&rt, words, TWO_DRAWS, 0, text));
-    }
-    assert!(rt; is_replayed(&rt, &["s10", "replay"], b"", 0, ""));
+    run_over(&rt, TWO_DRAWS, REPLAYS);
+    run_over(&rt, b"", NO_REPLAY);
 }
 
-const REFUSED: &[(&[u8], &str)] = &[
-    (b"20000 5", "refused line 1\n"),
-    (
-        b"1 53310102000000070000000152414742\n\n1 53\n4294967296 53\n1 53\n",
-        "5331018200000007000000015241474204\ndropped short\nrefused line 4\n",
-    ),
-];
+const FIRST_REFUSED: &[Case] = &[(&["s10", "replay"], 1, "refused line 1\n")];
+
+const FOURTH_REFUSED: &[Case] = &[(
+    &["s10", "replay"],
+    1,
+    "5331018200000007000000015241474204\ndropped short\nrefused line 4\n",
+)];
 
 #[test]
 fn replay_names_the_first_refused_line(rt: HostRuntime) {
-    for (bytes, text) in REFUSED {
-        holds(
-            &rt,
-            text,
-            is_replayed(&rt, &["s10", "replay"], bytes, 1, text),
-        );
-    }
+    run_over(&rt, b"20000 5", FIRST_REFUSED);
+    run_over(
+        &rt,
+        b"1 53310102000000070000000152414742\n\n1 53\n4294967296 53\n1 53\n",
+        FOURTH_REFUSED,
+    );
 }
 
 const NO_COMMAND_LINES: &[Case] = &[
@@ -651,7 +639,7 @@ fn a_reader_that_fails_ends_a_replay_after_the_lines_before(rt: HostRuntime) {
             &rt,
             &["s10", "replay"],
             &mut input,
-            3,
+            Some(3),
             "dropped short\ninput\n"
         )
     );

@@ -1,153 +1,199 @@
 //! What command lines ask of the program itself.
 
+use crate::command_lines::prints;
 use crate::expect::holds;
 use s10_cli::{parse_job, run_line};
 use std::alloc::Global;
-use std::test::Fail;
+use std::fmt::Debug;
+use std::process::Abort;
 
-const DRAW: &[&str] = &[
-    "s10",
-    "draw",
-    "--to",
-    "127.0.0.1:4711",
-    "--customer",
-    "7",
-    "--number",
-    "1",
-    "--service",
-    "RA",
-    "--country",
-    "GB",
-];
+/// The words of a command line, and what they ask, as it is shown for debugging.
+type Line = (&'static [&'static str], &'static str);
 
 /// Each subcommand of the program with its required options alone.
-const LINES: &[&[&str]] = &[
-    &[
-        "s10",
-        "create",
-        "--ledger",
-        "a.db",
-        "--interval",
-        "30",
-        "--limit",
-        "100",
-    ],
-    &[
-        "s10",
-        "serve",
-        "--ledger",
-        "a.db",
-        "--bind",
-        "0.0.0.0:0",
-        "--count",
-        "3",
-    ],
-    &[
-        "s10",
-        "grant",
-        "--to",
-        "127.0.0.1:4711",
-        "--number",
-        "1",
-        "--holder",
-        "7",
-        "--service",
-        "RA",
-        "--country",
-        "GB",
-        "--first",
-        "0",
-        "--last",
-        "2",
-    ],
-    DRAW,
-    &[
-        "s10",
-        "void",
-        "--to",
-        "127.0.0.1:4711",
-        "--customer",
-        "7",
-        "--number",
-        "3",
-        "--id",
-        "RA000000005GB",
-    ],
-    &[
-        "s10",
-        "query",
-        "--to",
-        "127.0.0.1:4711",
-        "--customer",
-        "7",
-        "--number",
-        "4",
-        "--id",
-        "RA000000005GB",
-    ],
-    &[
-        "s10",
-        "withdraw",
-        "--to",
-        "127.0.0.1:4711",
-        "--number",
-        "5",
-        "--range",
-        "1",
-    ],
-    &["s10", "report", "--ledger", "a.db"],
-    &["s10", "audit", "--ledger", "a.db"],
-    &["s10", "loop"],
+const LINES: &[Line] = &[
+    (
+        &[
+            "s10",
+            "create",
+            "--ledger",
+            "a.db",
+            "--interval",
+            "30",
+            "--limit",
+            "100",
+        ],
+        r#"Some(Create { ledger: "a.db", settings: Settings { interval: 30, limit: 100 } })"#,
+    ),
+    (
+        &[
+            "s10",
+            "serve",
+            "--ledger",
+            "a.db",
+            "--bind",
+            "0.0.0.0:0",
+            "--count",
+            "3",
+        ],
+        r#"Some(Serve { ledger: "a.db", bind: "0.0.0.0:0", count: 3, day: None })"#,
+    ),
+    (
+        &[
+            "s10",
+            "grant",
+            "--to",
+            "127.0.0.1:4711",
+            "--number",
+            "1",
+            "--holder",
+            "7",
+            "--service",
+            "RA",
+            "--country",
+            "GB",
+            "--first",
+            "0",
+            "--last",
+            "2",
+        ],
+        r#"Some(Ask(Question { to: "127.0.0.1:4711", customer: 0, number: 1, body: Grant { holder: 7, service: "RA", country: "GB", first: Serial { value: 0 }, last: Serial { value: 2 } }, tries: Tries { count: 5 } }))"#,
+    ),
+    (
+        &[
+            "s10",
+            "draw",
+            "--to",
+            "127.0.0.1:4711",
+            "--customer",
+            "7",
+            "--number",
+            "1",
+            "--service",
+            "RA",
+            "--country",
+            "GB",
+        ],
+        r#"Some(Ask(Question { to: "127.0.0.1:4711", customer: 7, number: 1, body: Draw { service: "RA", country: "GB" }, tries: Tries { count: 5 } }))"#,
+    ),
+    (
+        &[
+            "s10",
+            "void",
+            "--to",
+            "127.0.0.1:4711",
+            "--customer",
+            "7",
+            "--number",
+            "3",
+            "--id",
+            "RA000000005GB",
+        ],
+        r#"Some(Ask(Question { to: "127.0.0.1:4711", customer: 7, number: 3, body: Void { id: "RA000000005GB" }, tries: Tries { count: 5 } }))"#,
+    ),
+    (
+        &[
+            "s10",
+            "query",
+            "--to",
+            "127.0.0.1:4711",
+            "--customer",
+            "7",
+            "--number",
+            "4",
+            "--id",
+            "RA000000005GB",
+        ],
+        r#"Some(Ask(Question { to: "127.0.0.1:4711", customer: 7, number: 4, body: Query { id: "RA000000005GB" }, tries: Tries { count: 5 } }))"#,
+    ),
+    (
+        &[
+            "s10",
+            "withdraw",
+            "--to",
+            "127.0.0.1:4711",
+            "--number",
+            "5",
+            "--range",
+            "1",
+        ],
+        r#"Some(Ask(Question { to: "127.0.0.1:4711", customer: 0, number: 5, body: Withdraw { range: 1 }, tries: Tries { count: 5 } }))"#,
+    ),
+    (
+        &["s10", "report", "--ledger", "a.db"],
+        r#"Some(Report { ledger: "a.db", is_of_issues: false, day: None })"#,
+    ),
+    (
+        &["s10", "audit", "--ledger", "a.db"],
+        r#"Some(Audit { ledger: "a.db" })"#,
+    ),
+    (&["s10", "loop"], "Some(Loop { day: None })"),
 ];
 
-/// What they ask, as it is shown for debugging.
-const JOBS: &[&str] = &[
-    r#"Some(Create { ledger: "a.db", settings: Settings { interval: 30, limit: 100 } })"#,
-    r#"Some(Serve { ledger: "a.db", bind: "0.0.0.0:0", count: 3, day: None })"#,
-    r#"Some(Ask(Question { to: "127.0.0.1:4711", customer: 0, number: 1, body: Grant { holder: 7, service: "RA", country: "GB", first: Serial { value: 0 }, last: Serial { value: 2 } }, tries: Tries { count: 5 } }))"#,
-    r#"Some(Ask(Question { to: "127.0.0.1:4711", customer: 7, number: 1, body: Draw { service: "RA", country: "GB" }, tries: Tries { count: 5 } }))"#,
-    r#"Some(Ask(Question { to: "127.0.0.1:4711", customer: 7, number: 3, body: Void { id: "RA000000005GB" }, tries: Tries { count: 5 } }))"#,
-    r#"Some(Ask(Question { to: "127.0.0.1:4711", customer: 7, number: 4, body: Query { id: "RA000000005GB" }, tries: Tries { count: 5 } }))"#,
-    r#"Some(Ask(Question { to: "127.0.0.1:4711", customer: 0, number: 5, body: Withdraw { range: 1 }, tries: Tries { count: 5 } }))"#,
-    r#"Some(Report { ledger: "a.db", is_of_issues: false, day: None })"#,
-    r#"Some(Audit { ledger: "a.db" })"#,
-    "Some(Loop { day: None })",
-];
+/// Those lines.
+fn lines() -> &'static [Line] {
+    LINES
+}
+
+/// Where they stand.
+const CREATE: usize = 0;
+
+const SERVE: usize = 1;
+
+const GRANT: usize = 2;
+
+const DRAW: usize = 3;
+
+const VOID: usize = 4;
+
+const QUERY: usize = 5;
+
+const WITHDRAW: usize = 6;
+
+const REPORT: usize = 7;
+
+const AUDIT: usize = 8;
+
+const LOOP: usize = 9;
+
+/// Whether a value is shown like this for debugging.
+fn is_shown_as<T: Debug>(alloc: Global, value: &T, text: &str) -> bool {
+    match format!(in alloc; "{value:?}") {
+        Ok(shown) => shown.as_str() == text,
+        Err(_) => false,
+    }
+}
 
 /// Whether this is what the words ask of the program.
-fn asks(alloc: Global, words: &[&str], job: &str) -> Result<bool, Fail> {
-    let Ok(asked) = parse_job(alloc, words) else {
-        return Ok(false);
-    };
-    let text = format!(in alloc; "{asked:?}")?;
-    Ok(text.as_str() == job)
+fn asks(alloc: Global, words: &[&str], job: &str) -> bool {
+    match parse_job(alloc, words) {
+        Ok(asked) => is_shown_as(alloc, &asked, job),
+        Err(_) => false,
+    }
+}
+
+/// Lines ask what is shown beside them.
+fn ask_as_shown<R: AllocGlobal + Abort>(rt: &R, lines: &[Line]) {
+    for (words, job) in lines {
+        holds(rt, words, asks(rt.alloc(), words, job));
+    }
 }
 
 /// Whether a command line has this status, or is left to the program, and prints nothing.
 fn is_silent<R: Eprint + AllocGlobal>(rt: &R, words: &[&str], status: Option<u8>) -> bool {
     let mut input: &[u8] = b"";
-    let mut output = Vec::new(rt.alloc());
-    run_line(rt, words, &mut input, &mut output) == status && output.is_empty()
-}
-
-/// Whether a command line is left to the program, prints nothing, and asks this.
-fn is_left_to_the_program<R: Eprint + AllocGlobal>(
-    rt: &R,
-    words: &[&str],
-    job: &str,
-) -> Result<bool, Fail> {
-    Ok(is_silent(rt, words, None) && asks(rt.alloc(), words, job)?)
+    prints(rt, words, &mut input, status, "")
 }
 
 #[test]
-fn what_needs_files_or_sockets_is_left_to_the_program(rt: HostRuntime) -> Result<(), Fail> {
-    for (words, job) in LINES.iter().zip(JOBS.iter()) {
-        holds(&rt, words, is_left_to_the_program(&rt, words, job)?);
+fn what_needs_files_or_sockets_is_left_to_the_program(rt: HostRuntime) {
+    for (words, _) in lines() {
+        holds(&rt, words, is_silent(&rt, words, None));
     }
-    Ok(())
+    ask_as_shown(&rt, lines());
 }
 
-const OPTIONS: &[(&[&str], &str)] = &[
+const OPTIONS: &[Line] = &[
     (
         &[
             "s10",
@@ -195,14 +241,11 @@ const OPTIONS: &[(&[&str], &str)] = &[
 ];
 
 #[test]
-fn options_that_may_be_left_out_are_read(rt: HostRuntime) -> Result<(), Fail> {
-    for (words, job) in OPTIONS {
-        holds(&rt, words, asks(rt.alloc(), words, job)?);
-    }
-    Ok(())
+fn options_that_may_be_left_out_are_read(rt: HostRuntime) {
+    ask_as_shown(&rt, OPTIONS);
 }
 
-const LIMITS: &[(&[&str], &str)] = &[
+const LIMITS: &[Line] = &[
     (
         &[
             "s10",
@@ -258,209 +301,232 @@ const LIMITS: &[(&[&str], &str)] = &[
 ];
 
 #[test]
-fn numbers_are_read_up_to_their_limits(rt: HostRuntime) -> Result<(), Fail> {
-    for (words, job) in LIMITS {
-        holds(&rt, words, asks(rt.alloc(), words, job)?);
-    }
-    Ok(())
+fn numbers_are_read_up_to_their_limits(rt: HostRuntime) {
+    ask_as_shown(&rt, LIMITS);
 }
 
-/// The words but for two of them: an option and its value.
-fn without<'a>(alloc: Global, words: &[&'a str], at: usize) -> Result<Vec<&'a str>, Fail> {
+/// The words but for an option and its value. None where memory is refused.
+fn without<'a>(alloc: Global, words: &[&'a str], option: &str) -> Option<Vec<&'a str>> {
     let mut left = Vec::new(alloc);
-    for (place, word) in words.iter().enumerate() {
-        if place != at && place != at.saturating_add(1) {
-            left.push(*word)?;
+    let mut follows = false;
+    for word in words {
+        let is_option = *word == option;
+        if !follows && !is_option {
+            left.push(*word).ok()?;
+        }
+        follows = is_option;
+    }
+    Some(left)
+}
+
+/// Whether a command line without this option is none, and asks nothing.
+fn is_required<R: Eprint + AllocGlobal>(rt: &R, words: &[&str], option: &str) -> bool {
+    match without(rt.alloc(), words, option) {
+        Some(left) => is_silent(rt, &left, Some(2)) && asks(rt.alloc(), &left, "None"),
+        None => false,
+    }
+}
+
+/// Each option of these words is required.
+fn options_are_required<R: Eprint + AllocGlobal + Abort>(rt: &R, words: &[&str]) {
+    for word in words {
+        if word.starts_with("--") {
+            holds(rt, &(words, word), is_required(rt, words, word));
         }
     }
-    Ok(left)
-}
-
-/// Whether a command line without the option at this place is none, where there is an option.
-fn is_required_at<R: Eprint + AllocGlobal>(
-    rt: &R,
-    words: &[&str],
-    at: usize,
-) -> Result<bool, Fail> {
-    if !words.get(at).is_some_and(|word| word.starts_with("--")) {
-        return Ok(true);
-    }
-    let left = without(rt.alloc(), words, at)?;
-    Ok(is_silent(rt, &left, Some(2)) && asks(rt.alloc(), &left, "None")?)
 }
 
 #[test]
-fn each_option_but_the_day_and_the_tries_is_required(rt: HostRuntime) -> Result<(), Fail> {
-    for words in LINES {
-        for at in 2..words.len() {
-            holds(&rt, &(*words, at), is_required_at(&rt, words, at)?);
-        }
+fn each_option_but_the_day_and_the_tries_is_required(rt: HostRuntime) {
+    for (words, _) in lines() {
+        options_are_required(&rt, words);
     }
-    Ok(())
 }
 
-/// The words with another value of an option.
+/// In place of an option: the value is one word more.
+const ONE_MORE: &str = "";
+
+/// The words with another value of an option. None where memory is refused.
 fn with_value<'a>(
     alloc: Global,
     words: &[&'a str],
     option: &str,
     value: &'a str,
-) -> Result<Vec<&'a str>, Fail> {
+) -> Option<Vec<&'a str>> {
     let mut changed = Vec::new(alloc);
     let mut follows = false;
     for word in words {
-        changed.push(if follows { value } else { *word })?;
+        changed.push(if follows { value } else { *word }).ok()?;
         follows = *word == option;
     }
-    Ok(changed)
+    if option == ONE_MORE {
+        changed.push(value).ok()?;
+    }
+    Some(changed)
 }
 
 /// Whether the words ask the job that this text shows, but for one field.
-fn asks_but_for(
-    alloc: Global,
-    words: &[&str],
-    job: &str,
-    field: &str,
-    changed: &str,
-) -> Result<bool, Fail> {
+fn ask_but_for(alloc: Global, words: &[&str], job: &str, field: &str, changed: &str) -> bool {
     let Some((before, after)) = job.split_once(field) else {
-        return Ok(false);
+        return false;
     };
-    let job = format!(in alloc; "{before}{changed}{after}")?;
-    asks(alloc, words, &job)
+    match [before, changed, after].concat(alloc) {
+        Ok(job) => asks(alloc, words, &job),
+        Err(_) => false,
+    }
 }
 
-/// Whether the line with another value of an option asks for its job with that field changed.
-fn value_reaches(
-    alloc: Global,
-    line: usize,
-    option: &str,
-    value: &'static str,
-    field: &str,
-    changed: &str,
-) -> Result<bool, Fail> {
-    let (Some(words), Some(job)) = (LINES.get(line), JOBS.get(line)) else {
-        return Ok(false);
+/// A line, an option and another value of it; a field of the job, and what stands there then.
+type Reach = (
+    usize,
+    &'static str,
+    &'static str,
+    &'static str,
+    &'static str,
+);
+
+/// Whether the line with the other value asks for its job with that field changed.
+fn reaches(alloc: Global, reach: &Reach) -> bool {
+    let (line, option, value, field, changed) = reach;
+    let Some((words, job)) = lines().get(*line) else {
+        return false;
     };
-    let words = with_value(alloc, words, option, value)?;
-    asks_but_for(alloc, &words, job, field, changed)
+    match with_value(alloc, words, option, value) {
+        Some(words) => ask_but_for(alloc, &words, job, field, changed),
+        None => false,
+    }
 }
 
-/// Whether the line with one more word asks for its job with that field changed.
-fn option_reaches(
-    alloc: Global,
-    line: usize,
-    option: &'static str,
-    field: &str,
-    changed: &str,
-) -> Result<bool, Fail> {
-    let (Some(words), Some(job)) = (LINES.get(line), JOBS.get(line)) else {
-        return Ok(false);
-    };
-    let mut words = words.to_vec(alloc)?;
-    words.push(option)?;
-    asks_but_for(alloc, &words, job, field, changed)
+/// Values reach their own fields.
+fn reach_their_fields<R: AllocGlobal + Abort>(rt: &R, values: &[Reach]) {
+    for reach in values {
+        holds(rt, reach, reaches(rt.alloc(), reach));
+    }
 }
 
-const VALUES: &[(usize, &str, &str, &str, &str)] = &[
+const VALUES: &[Reach] = &[
     (
-        0,
+        CREATE,
         "--ledger",
         "b.db",
         r#"ledger: "a.db""#,
         r#"ledger: "b.db""#,
     ),
-    (0, "--interval", "31", "interval: 30", "interval: 31"),
-    (0, "--limit", "99", "limit: 100", "limit: 99"),
+    (CREATE, "--interval", "31", "interval: 30", "interval: 31"),
+    (CREATE, "--limit", "99", "limit: 100", "limit: 99"),
     (
-        1,
+        SERVE,
         "--ledger",
         "b.db",
         r#"ledger: "a.db""#,
         r#"ledger: "b.db""#,
     ),
     (
-        1,
+        SERVE,
         "--bind",
         "[::1]:9",
         r#"bind: "0.0.0.0:0""#,
         r#"bind: "[::1]:9""#,
     ),
-    (1, "--count", "8", "count: 3", "count: 8"),
+    (SERVE, "--count", "8", "count: 3", "count: 8"),
     (
-        2,
+        GRANT,
         "--to",
         "[::1]:9",
         r#"to: "127.0.0.1:4711""#,
         r#"to: "[::1]:9""#,
     ),
-    (2, "--number", "8", "number: 1", "number: 8"),
-    (2, "--holder", "8", "holder: 7", "holder: 8"),
-    (2, "--service", "LA", r#"service: "RA""#, r#"service: "LA""#),
-    (2, "--country", "FR", r#"country: "GB""#, r#"country: "FR""#),
+    (GRANT, "--number", "8", "number: 1", "number: 8"),
+    (GRANT, "--holder", "8", "holder: 7", "holder: 8"),
     (
-        2,
+        GRANT,
+        "--service",
+        "LA",
+        r#"service: "RA""#,
+        r#"service: "LA""#,
+    ),
+    (
+        GRANT,
+        "--country",
+        "FR",
+        r#"country: "GB""#,
+        r#"country: "FR""#,
+    ),
+    (
+        GRANT,
         "--first",
         "1",
         "first: Serial { value: 0 }",
         "first: Serial { value: 1 }",
     ),
     (
-        2,
+        GRANT,
         "--last",
         "8",
         "last: Serial { value: 2 }",
         "last: Serial { value: 8 }",
     ),
     (
-        3,
+        DRAW,
         "--to",
         "[::1]:9",
         r#"to: "127.0.0.1:4711""#,
         r#"to: "[::1]:9""#,
     ),
-    (3, "--customer", "8", "customer: 7", "customer: 8"),
-    (3, "--number", "8", "number: 1", "number: 8"),
-    (3, "--service", "LA", r#"service: "RA""#, r#"service: "LA""#),
-    (3, "--country", "FR", r#"country: "GB""#, r#"country: "FR""#),
+    (DRAW, "--customer", "8", "customer: 7", "customer: 8"),
+    (DRAW, "--number", "8", "number: 1", "number: 8"),
     (
-        4,
+        DRAW,
+        "--service",
+        "LA",
+        r#"service: "RA""#,
+        r#"service: "LA""#,
+    ),
+    (
+        DRAW,
+        "--country",
+        "FR",
+        r#"country: "GB""#,
+        r#"country: "FR""#,
+    ),
+    (
+        VOID,
         "--to",
         "[::1]:9",
         r#"to: "127.0.0.1:4711""#,
         r#"to: "[::1]:9""#,
     ),
-    (4, "--customer", "8", "customer: 7", "customer: 8"),
-    (4, "--number", "8", "number: 3", "number: 8"),
-    (4, "--id", "x", r#"id: "RA000000005GB""#, r#"id: "x""#),
+    (VOID, "--customer", "8", "customer: 7", "customer: 8"),
+    (VOID, "--number", "8", "number: 3", "number: 8"),
+    (VOID, "--id", "x", r#"id: "RA000000005GB""#, r#"id: "x""#),
     (
-        5,
+        QUERY,
         "--to",
         "[::1]:9",
         r#"to: "127.0.0.1:4711""#,
         r#"to: "[::1]:9""#,
     ),
-    (5, "--customer", "8", "customer: 7", "customer: 8"),
-    (5, "--number", "8", "number: 4", "number: 8"),
-    (5, "--id", "x", r#"id: "RA000000005GB""#, r#"id: "x""#),
+    (QUERY, "--customer", "8", "customer: 7", "customer: 8"),
+    (QUERY, "--number", "8", "number: 4", "number: 8"),
+    (QUERY, "--id", "x", r#"id: "RA000000005GB""#, r#"id: "x""#),
     (
-        6,
+        WITHDRAW,
         "--to",
         "[::1]:9",
         r#"to: "127.0.0.1:4711""#,
         r#"to: "[::1]:9""#,
     ),
-    (6, "--number", "8", "number: 5", "number: 8"),
-    (6, "--range", "8", "range: 1", "range: 8"),
+    (WITHDRAW, "--number", "8", "number: 5", "number: 8"),
+    (WITHDRAW, "--range", "8", "range: 1", "range: 8"),
     (
-        7,
+        REPORT,
         "--ledger",
         "b.db",
         r#"ledger: "a.db""#,
         r#"ledger: "b.db""#,
     ),
     (
-        8,
+        AUDIT,
         "--ledger",
         "b.db",
         r#"ledger: "a.db""#,
@@ -469,173 +535,204 @@ const VALUES: &[(usize, &str, &str, &str, &str)] = &[
 ];
 
 #[test]
-fn each_required_option_reaches_its_own_field(rt: HostRuntime) -> Result<(), Fail> {
-    for (line, option, value, field, changed) in VALUES {
-        let reaches = value_reaches(rt.alloc(), *line, option, value, field, changed)?;
-        holds(&rt, &(*line, *option), reaches);
-    }
-    Ok(())
+fn each_required_option_reaches_its_own_field(rt: HostRuntime) {
+    reach_their_fields(&rt, VALUES);
 }
 
-const MORE: &[(usize, &str, &str, &str)] = &[
-    (1, "--day=9", "day: None", "day: Some(9)"),
-    (2, "--tries=9", "Tries { count: 5 }", "Tries { count: 9 }"),
-    (3, "--tries=9", "Tries { count: 5 }", "Tries { count: 9 }"),
+const MORE: &[Reach] = &[
+    (SERVE, ONE_MORE, "--day=9", "day: None", "day: Some(9)"),
     (
-        3,
+        GRANT,
+        ONE_MORE,
+        "--tries=9",
+        "Tries { count: 5 }",
+        "Tries { count: 9 }",
+    ),
+    (
+        DRAW,
+        ONE_MORE,
+        "--tries=9",
+        "Tries { count: 5 }",
+        "Tries { count: 9 }",
+    ),
+    (
+        DRAW,
+        ONE_MORE,
         "--count=9",
         r#"Draw { service: "RA", country: "GB" }"#,
         r#"DrawMany { service: "RA", country: "GB", count: Count { value: 9 } }"#,
     ),
-    (4, "--tries=9", "Tries { count: 5 }", "Tries { count: 9 }"),
-    (5, "--tries=9", "Tries { count: 5 }", "Tries { count: 9 }"),
-    (6, "--tries=9", "Tries { count: 5 }", "Tries { count: 9 }"),
-    (7, "--day=9", "day: None", "day: Some(9)"),
-    (7, "--issues", "is_of_issues: false", "is_of_issues: true"),
-    (9, "--day=9", "day: None", "day: Some(9)"),
+    (
+        VOID,
+        ONE_MORE,
+        "--tries=9",
+        "Tries { count: 5 }",
+        "Tries { count: 9 }",
+    ),
+    (
+        QUERY,
+        ONE_MORE,
+        "--tries=9",
+        "Tries { count: 5 }",
+        "Tries { count: 9 }",
+    ),
+    (
+        WITHDRAW,
+        ONE_MORE,
+        "--tries=9",
+        "Tries { count: 5 }",
+        "Tries { count: 9 }",
+    ),
+    (REPORT, ONE_MORE, "--day=9", "day: None", "day: Some(9)"),
+    (
+        REPORT,
+        ONE_MORE,
+        "--issues",
+        "is_of_issues: false",
+        "is_of_issues: true",
+    ),
+    (LOOP, ONE_MORE, "--day=9", "day: None", "day: Some(9)"),
 ];
 
 #[test]
-fn each_option_that_may_be_left_out_reaches_its_own_field(rt: HostRuntime) -> Result<(), Fail> {
-    for (line, option, field, changed) in MORE {
-        let reaches = option_reaches(rt.alloc(), *line, option, field, changed)?;
-        holds(&rt, &(*line, *option), reaches);
-    }
-    Ok(())
+fn each_option_that_may_be_left_out_reaches_its_own_field(rt: HostRuntime) {
+    reach_their_fields(&rt, MORE);
 }
 
-/// Whether the line with any other of these values of an option is no command line.
-fn are_refused<R: Eprint + AllocGlobal>(
-    rt: &R,
-    line: usize,
-    option: &str,
-    values: &[&'static str],
-) -> Result<bool, Fail> {
-    let Some(words) = LINES.get(line) else {
-        return Ok(false);
+/// A line, an option and another value of it.
+type Edit = (usize, &'static str, &'static str);
+
+/// Whether the line with the other value is no command line.
+fn is_refused<R: Eprint + AllocGlobal>(rt: &R, edit: &Edit) -> bool {
+    let (line, option, value) = edit;
+    let Some((words, _)) = lines().get(*line) else {
+        return false;
     };
-    for value in values {
-        let changed = with_value(rt.alloc(), words, option, value)?;
-        if !is_silent(rt, &changed, Some(2)) {
-            return Ok(false);
+    match with_value(rt.alloc(), words, option, value) {
+        Some(words) => is_silent(rt, &words, Some(2)),
+        None => false,
+    }
+}
+
+/// Lines with other values are no command lines.
+fn are_refused<R: Eprint + AllocGlobal + Abort>(rt: &R, edits: &[Edit]) {
+    for edit in edits {
+        holds(rt, edit, is_refused(rt, edit));
+    }
+}
+
+const WRONG_VALUES: &[Edit] = &[
+    (CREATE, "--interval", "0"),
+    (CREATE, "--interval", "3651"),
+    (CREATE, "--interval", "-1"),
+    (CREATE, "--interval", ""),
+    (CREATE, "--interval", "x"),
+    (CREATE, "--limit", "0"),
+    (CREATE, "--limit", "1000000001"),
+    (CREATE, "--limit", "4294967297"),
+    (SERVE, "--count", "4294967296"),
+    (SERVE, "--count", "-1"),
+    (SERVE, "--count", "1.5"),
+    (GRANT, "--first", "100000000"),
+    (GRANT, "--first", "-1"),
+    (GRANT, "--last", "100000000"),
+    (GRANT, "--last", "4294967296"),
+    (GRANT, "--holder", "4294967296"),
+    (GRANT, "--holder", "post"),
+    (DRAW, "--customer", "4294967296"),
+    (DRAW, "--number", "4294967296"),
+    (DRAW, "--number", "0x1"),
+    (VOID, "--number", "-1"),
+    (QUERY, "--customer", ""),
+    (WITHDRAW, "--number", "4294967296"),
+    (WITHDRAW, "--range", "4294967296"),
+    (WITHDRAW, "--range", "-1"),
+    (WITHDRAW, "--range", ""),
+    (WITHDRAW, "--range", "RA"),
+];
+
+#[test]
+fn numbers_out_of_their_ranges_are_no_command_line(rt: HostRuntime) {
+    are_refused(&rt, WRONG_VALUES);
+}
+
+const WRONG_OPTIONS: &[Edit] = &[
+    (GRANT, ONE_MORE, "--tries=0"),
+    (GRANT, ONE_MORE, "--tries=101"),
+    (DRAW, ONE_MORE, "--tries=0"),
+    (DRAW, ONE_MORE, "--tries=101"),
+    (DRAW, ONE_MORE, "--count=0"),
+    (DRAW, ONE_MORE, "--count=17"),
+    (VOID, ONE_MORE, "--tries=0"),
+    (VOID, ONE_MORE, "--tries=101"),
+    (QUERY, ONE_MORE, "--tries=0"),
+    (QUERY, ONE_MORE, "--tries=101"),
+    (WITHDRAW, ONE_MORE, "--tries=0"),
+    (WITHDRAW, ONE_MORE, "--tries=101"),
+    (SERVE, ONE_MORE, "--day=4294967296"),
+    (REPORT, ONE_MORE, "--day=4294967296"),
+    (LOOP, ONE_MORE, "--day=4294967296"),
+];
+
+#[test]
+fn tries_counts_and_days_out_of_their_ranges_are_no_command_line(rt: HostRuntime) {
+    are_refused(&rt, WRONG_OPTIONS);
+}
+
+const CUSTOMERS: &[Edit] = &[
+    (GRANT, ONE_MORE, "--customer=0"),
+    (WITHDRAW, ONE_MORE, "--customer=0"),
+];
+
+#[test]
+fn what_the_post_alone_asks_names_no_customer(rt: HostRuntime) {
+    are_refused(&rt, CUSTOMERS);
+}
+
+const PARTS: &[Edit] = &[
+    (WITHDRAW, ONE_MORE, "--range=2"),
+    (WITHDRAW, ONE_MORE, "--first=0"),
+    (WITHDRAW, ONE_MORE, "--id=RA000000005GB"),
+    (WITHDRAW, ONE_MORE, "1"),
+];
+
+#[test]
+fn a_withdrawal_is_of_a_whole_range_by_its_number(rt: HostRuntime) {
+    are_refused(&rt, PARTS);
+}
+
+/// Whether a text names each option of the words.
+fn names_options(text: &str, words: &[&str]) -> bool {
+    for word in words {
+        if word.starts_with("--") && !text.contains(*word) {
+            return false;
         }
     }
-    Ok(true)
+    true
 }
 
-/// Whether a command line with one more word is none.
-fn is_refused_before<'a, R: Eprint + AllocGlobal>(
-    rt: &R,
-    words: &[&'a str],
-    more: &'a str,
-) -> Result<bool, Fail> {
-    let mut longer = words.to_vec(rt.alloc())?;
-    longer.push(more)?;
-    Ok(is_silent(rt, &longer, Some(2)))
-}
-
-const WRONG_VALUES: &[(usize, &str, &[&str])] = &[
-    (0, "--interval", &["0", "3651", "-1", "", "x"]),
-    (0, "--limit", &["0", "1000000001", "4294967297"]),
-    (1, "--count", &["4294967296", "-1", "1.5"]),
-    (2, "--first", &["100000000", "-1"]),
-    (2, "--last", &["100000000", "4294967296"]),
-    (2, "--holder", &["4294967296", "post"]),
-    (3, "--customer", &["4294967296"]),
-    (3, "--number", &["4294967296", "0x1"]),
-    (4, "--number", &["-1"]),
-    (5, "--customer", &[""]),
-    (6, "--number", &["4294967296"]),
-    (6, "--range", &["4294967296", "-1", "", "RA"]),
-];
-
-#[test]
-fn numbers_out_of_their_ranges_are_no_command_line(rt: HostRuntime) -> Result<(), Fail> {
-    for (line, option, values) in WRONG_VALUES {
-        holds(
-            &rt,
-            &(*line, *option),
-            are_refused(&rt, *line, option, values)?,
-        );
-    }
-    Ok(())
-}
-
-/// Whether the line with any one of these words more is no command line.
-fn are_refused_before<R: Eprint + AllocGlobal>(
-    rt: &R,
-    line: usize,
-    more: &[&'static str],
-) -> Result<bool, Fail> {
-    let Some(words) = LINES.get(line) else {
-        return Ok(false);
+/// Whether a help has an example, and names each option of the words.
+fn explains(help: &[u8], words: &[&str]) -> bool {
+    let Ok(text) = std::str::from_utf8(help) else {
+        return false;
     };
-    for word in more {
-        if !is_refused_before(rt, words, word)? {
-            return Ok(false);
-        }
-    }
-    Ok(true)
+    text.contains("Example:\n  s10 ") && names_options(text, words)
 }
 
-const WRONG_OPTIONS: &[(usize, &[&str])] = &[
-    (2, &["--tries=0", "--tries=101"]),
-    (3, &["--tries=0", "--tries=101"]),
-    (3, &["--count=0", "--count=17"]),
-    (4, &["--tries=0", "--tries=101"]),
-    (5, &["--tries=0", "--tries=101"]),
-    (6, &["--tries=0", "--tries=101"]),
-    (1, &["--day=4294967296"]),
-    (7, &["--day=4294967296"]),
-    (9, &["--day=4294967296"]),
-];
-
-#[test]
-fn tries_counts_and_days_out_of_their_ranges_are_no_command_line(
-    rt: HostRuntime,
-) -> Result<(), Fail> {
-    for (line, options) in WRONG_OPTIONS {
-        holds(
-            &rt,
-            &(*line, *options),
-            are_refused_before(&rt, *line, options)?,
-        );
-    }
-    Ok(())
-}
-
-#[test]
-fn what_the_post_alone_asks_names_no_customer(rt: HostRuntime) -> Result<(), Fail> {
-    holds(&rt, &2, are_refused_before(&rt, 2, &["--customer=0"])?);
-    holds(&rt, &6, are_refused_before(&rt, 6, &["--customer=0"])?);
-    Ok(())
-}
-
-#[test]
-fn a_withdrawal_is_of_a_whole_range_by_its_number(rt: HostRuntime) -> Result<(), Fail> {
-    let words = ["--range=2", "--first=0", "--id=RA000000005GB", "1"];
-    for word in &words {
-        holds(&rt, word, are_refused_before(&rt, 6, &[*word])?);
-    }
-    Ok(())
-}
-
-/// Whether the help of a command line's subcommand has an example, and names its options.
-fn is_explained<R: Eprint + AllocGlobal>(rt: &R, words: &[&str], name: &str) -> bool {
+/// Whether the help of a command line's subcommand explains it.
+fn is_explained<R: Eprint + AllocGlobal>(rt: &R, words: &[&str]) -> bool {
+    let Some(name) = words.get(1) else {
+        return false;
+    };
     let mut input: &[u8] = b"";
     let mut output = Vec::new(rt.alloc());
-    let status = run_line(rt, &["s10", "help", name], &mut input, &mut output);
-    let text = std::str::from_utf8(output.as_slice()).unwrap_or("");
-    status == Some(0)
-        && text.contains("Example:\n  s10 ")
-        && words
-            .iter()
-            .all(|word| !word.starts_with("--") || text.contains(*word))
+    let status = run_line(rt, &["s10", "help", *name], &mut input, &mut output);
+    status == Some(0) && explains(output.as_slice(), words)
 }
 
 #[test]
 fn help_names_the_options(rt: HostRuntime) {
-    for words in LINES {
-        holds(&rt, words, is_explained(&rt, words, words[1]));
+    for (words, _) in lines() {
+        holds(&rt, words, is_explained(&rt, words));
     }
 }

@@ -3,17 +3,29 @@
 use crate::expect::holds;
 use s10_cli::parse_job;
 use s10_host::run_job;
-use s10_jobs::JobStatus;
+use s10_jobs::{Job, JobStatus};
+use s10_lines::WriteFault;
 use sqlite::Unknown;
+use std::io::Write;
 
-/// Whether the job of a command line has this status and prints this line.
-pub(crate) fn ends_with(rt: &HostRuntime, words: &[&str], status: JobStatus, line: &str) -> bool {
-    let Ok(Some(job)) = parse_job(rt.alloc(), words) else {
-        return false;
-    };
+/// What came of a job.
+fn ended<W: Write>(rt: &HostRuntime, job: &Job<'_>, out: &mut W) -> Result<JobStatus, WriteFault> {
+    let (ended, _left) = run_job(rt, job, Unknown, out);
+    ended
+}
+
+/// Whether a job has this status and prints this line.
+fn is_ended(rt: &HostRuntime, job: &Job<'_>, status: JobStatus, line: &str) -> bool {
     let mut output = Vec::new(rt.alloc());
-    let (ended, _left) = run_job(rt, &job, Unknown, &mut output);
-    ended == Ok(status) && output.as_slice() == line.as_bytes()
+    ended(rt, job, &mut output) == Ok(status) && output.as_slice() == line.as_bytes()
+}
+
+/// The same of the job of a command line.
+pub(crate) fn ends_with(rt: &HostRuntime, words: &[&str], status: JobStatus, line: &str) -> bool {
+    match parse_job(rt.alloc(), words) {
+        Ok(Some(job)) => is_ended(rt, &job, status, line),
+        _ => false,
+    }
 }
 
 /// The words of a command line, and the status and the line that its job ends with.

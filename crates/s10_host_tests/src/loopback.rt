@@ -4,6 +4,7 @@ use crate::refusing::Refusing;
 use s10_host::run_loop;
 use s10_jobs::JobStatus;
 use s10_lines::WriteFault;
+use std::io::Write;
 use std::net::Net;
 
 const LINES: &str = "\
@@ -14,12 +15,21 @@ reply void customer 7 number 3 RA000000005GB done
 reply query customer 7 number 4 RA000000005GB done voided 20000
 ";
 
+/// What came of a loop.
+fn looped<R: Net + Eprint + AllocGlobal, W: Write>(
+    rt: &R,
+    out: &mut W,
+) -> Result<JobStatus, WriteFault> {
+    let (done, _link) = run_loop(rt, 20_000, out);
+    done
+}
+
 /// Whether a loop prints the five replies, on a writer that takes them alone.
 fn prints_five_replies<R: Net + Eprint + AllocGlobal>(rt: &R) -> bool {
     let mut out = Vec::new(rt.alloc());
-    let (looped, _link) = run_loop(rt, 20_000, &mut out);
-    let (failed, _other) = run_loop(rt, 20_000, &mut Refusing);
-    looped == Ok(JobStatus::Done) && out.as_slice() == LINES.as_bytes() && failed == Err(WriteFault)
+    looped(rt, &mut out) == Ok(JobStatus::Done)
+        && out.as_slice() == LINES.as_bytes()
+        && looped(rt, &mut Refusing) == Err(WriteFault)
 }
 
 #[test]

@@ -5,6 +5,7 @@ use crate::refusing::Refusing;
 use s10_jobs::{BodyWords, JobStatus, Question, Tries};
 use s10_lines::WriteFault;
 use s10_sockets::run_question;
+use std::io::Write;
 use std::net::Net;
 
 /// What is asked for: by customer 7, or by the post.
@@ -94,6 +95,16 @@ const CASES: &[(&str, Asked, JobStatus, &str)] = &[
     ),
 ];
 
+/// What came of a question.
+fn answer_of<R: Net + Eprint, W: Write>(
+    rt: &R,
+    question: &Question<'_>,
+    out: &mut W,
+) -> Result<JobStatus, WriteFault> {
+    let (done, _link) = run_question(rt, question, out);
+    done
+}
+
 /// Whether a question has this status and prints this line, on a writer that takes it alone.
 fn is_told<R: Net + Eprint + AllocGlobal>(
     rt: &R,
@@ -102,9 +113,9 @@ fn is_told<R: Net + Eprint + AllocGlobal>(
     line: &str,
 ) -> bool {
     let mut out = Vec::new(rt.alloc());
-    let (done, _link) = run_question(rt, question, &mut out);
-    let (failed, _other) = run_question(rt, question, &mut Refusing);
-    done == Ok(status) && out.as_slice() == line.as_bytes() && failed == Err(WriteFault)
+    answer_of(rt, question, &mut out) == Ok(status)
+        && out.as_slice() == line.as_bytes()
+        && answer_of(rt, question, &mut Refusing) == Err(WriteFault)
 }
 
 /// The same of the first question of the customer or the post.

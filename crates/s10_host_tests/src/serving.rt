@@ -4,9 +4,10 @@ use s10_book::PlainBook;
 use s10_ends::UdpLink;
 use s10_history::Settings;
 use s10_jobs::JobStatus;
+use s10_lines::WriteFault;
 use s10_link::Peer;
 use s10_sockets::serve_at;
-use std::alloc::Global;
+use std::io::Write;
 use std::net::Net;
 use std::time::Clock;
 
@@ -14,6 +15,18 @@ const ANY: Peer = Peer {
     ip: [127, 0, 0, 1],
     port: 0,
 };
+
+/// What came of so many turns of a new server at the address.
+fn served_at<R: Net + Clock + Eprint + AllocGlobal, W: Write>(
+    rt: &R,
+    at: Peer,
+    count: u32,
+    out: &mut W,
+) -> Result<JobStatus, WriteFault> {
+    let book = PlainBook::new(rt.alloc(), Settings::new(30, 2).unwrap());
+    let (served, _link, _book) = serve_at(rt, rt.alloc(), at, book, count, Some(20_000), out);
+    served
+}
 
 /// Whether so many turns of a new server at the address have this status and print this text.
 fn is_served_at<R: Net + Clock + Eprint + AllocGlobal>(
@@ -23,10 +36,8 @@ fn is_served_at<R: Net + Clock + Eprint + AllocGlobal>(
     status: JobStatus,
     text: &str,
 ) -> bool {
-    let book = PlainBook::new(rt.alloc(), Settings::new(30, 2).unwrap());
     let mut out = Vec::new(rt.alloc());
-    let (served, _link, _book) = serve_at(rt, rt.alloc(), at, book, count, Some(20_000), &mut out);
-    served == Ok(status) && out.as_slice() == text.as_bytes()
+    served_at(rt, at, count, &mut out) == Ok(status) && out.as_slice() == text.as_bytes()
 }
 
 #[test]

@@ -8,6 +8,8 @@ mod expect;
 #[cfg(test)]
 mod hiccup;
 #[cfg(test)]
+mod links;
+#[cfg(test)]
 mod many_lines;
 #[cfg(test)]
 mod refusing;

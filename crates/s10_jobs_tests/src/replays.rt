@@ -3,10 +3,9 @@
 use crate::expect::holds;
 use s10_history::Settings;
 use s10_jobs::{JobStatus, ReplayFault, replay, run_replay};
-use std::alloc::{AllocError, Global};
+use std::alloc::Global;
 use std::io;
 use std::io::{ErrorKind, Read, Write};
-use std::test::Fail;
 
 fn settings() -> Settings {
     Settings::new(30, 100).unwrap()
@@ -191,51 +190,40 @@ fn digits_of_both_cases_are_read_and_small_ones_written(rt: HostRuntime) {
     assert!(rt; is_replayed);
 }
 
-/// These bytes, and so many digits 0.
-fn with_zeros(alloc: Global, bytes: &[u8], count: u32) -> Result<Vec<u8>, AllocError> {
-    let mut line = bytes.to_vec(alloc)?;
-    for _ in 0..count {
-        line.push(b'0')?;
-    }
-    Ok(line)
-}
-
-/// Whether the longest line, a day of ten digits and 512 bytes, has this length with this end, and is read whole.
-fn is_read_whole(alloc: Global, end: &[u8], len: usize) -> Result<bool, AllocError> {
-    let mut line = with_zeros(alloc, b"0000020000 ", 1024)?;
-    for byte in end {
-        line.push(*byte)?;
-    }
-    Ok(line.len() == len && is_replayed(alloc, &line, Ok(1), "dropped magic\n"))
+/// Whether the longest line, a day of ten digits and 512 bytes, is read whole where it has so many bytes with its end.
+fn is_read_whole(alloc: Global, len: usize) -> bool {
+    let mut line = [b'0'; 1037];
+    line[5] = b'2';
+    line[10] = b' ';
+    line[1035] = b'\r';
+    line[1036] = b'\n';
+    is_replayed(alloc, &line[..len.min(1037)], Ok(1), "dropped magic\n")
 }
 
 #[test]
-fn longest_line_is_read_whole(rt: HostRuntime) -> Result<(), Fail> {
-    holds(&rt, &1036, is_read_whole(rt.alloc(), b"\r", 1036)?);
-    holds(&rt, &1037, is_read_whole(rt.alloc(), b"\r\n", 1037)?);
-    Ok(())
+fn longest_line_is_read_whole(rt: HostRuntime) {
+    holds(&rt, &1036, is_read_whole(rt.alloc(), 1036));
+    holds(&rt, &1037, is_read_whole(rt.alloc(), 1037));
 }
 
-/// Digits read of a line without end, and what the replay answers then.
-const LONG_LINES: &[(u32, ReplayFault)] = &[
-    (1036, ReplayFault::Read),
-    (1037, ReplayFault::Line(1)),
-];
+/// As many digits as the longest line has bytes.
+const ZEROS: [u8; 1037] = [b'0'; 1037];
 
 #[test]
-fn longer_line_is_refused_without_reading_more(rt: HostRuntime) -> Result<(), Fail> {
-    for (count, fault) in LONG_LINES {
-        let line = with_zeros(rt.alloc(), b"", *count)?;
-        holds(&rt, count, is_read_until(rt.alloc(), &line, *fault, ""));
-    }
-    Ok(())
+fn longer_line_is_refused_without_reading_more(rt: HostRuntime) {
+    let line = ZEROS;
+    let (read, refused) = (ReplayFault::Read, ReplayFault::Line(1));
+    holds(
+        &rt,
+        &1036,
+        is_read_until(rt.alloc(), &line[..1036], read, ""),
+    );
+    holds(&rt, &1037, is_read_until(rt.alloc(), &line, refused, ""));
 }
 
 #[test]
-fn longer_line_is_refused_where_the_input_ends(rt: HostRuntime) -> Result<(), Fail> {
-    let line = with_zeros(rt.alloc(), b"", 1037)?;
-    assert!(rt; is_replayed(rt.alloc(), &line, Err(ReplayFault::Line(1)), ""));
-    Ok(())
+fn longer_line_is_refused_where_the_input_ends(rt: HostRuntime) {
+    assert!(rt; is_replayed(rt.alloc(), &ZEROS, Err(ReplayFault::Line(1)), ""));
 }
 
 #[test]

@@ -1,6 +1,7 @@
 //! Reports, and the lines of those that end early.
 
 use crate::expect::holds;
+use crate::hiccup::Hiccup;
 use crate::refusing::Refusing;
 use s10_book::{Book, PlainBook, TripBook};
 use s10_ends::Server;
@@ -8,7 +9,6 @@ use s10_history::Settings;
 use s10_jobs::{JobStatus, Report, write_report};
 use s10_lines::WriteFault;
 use std::alloc::Global;
-use std::io;
 use std::io::Write;
 use std::time::Clock;
 
@@ -36,15 +36,15 @@ fn one_issue(alloc: Global) -> PlainBook {
 }
 
 /// Whether a report of the book has this status and prints this text.
-fn prints<B: Book>(
+fn prints<B: Book + Drop>(
     alloc: Global,
-    book: &mut B,
+    mut book: B,
     report: Report,
     status: JobStatus,
     text: &str,
 ) -> bool {
     let mut out = Vec::new(alloc);
-    write_report(book, report, &mut out) == Ok(status) && out.as_slice() == text.as_bytes()
+    write_report(&mut book, report, &mut out) == Ok(status) && out.as_slice() == text.as_bytes()
 }
 
 /// Whether a report is of issues, and its text.
@@ -53,9 +53,9 @@ const REPORTS: &[(bool, &str)] = &[(false, RANGES), (true, ISSUES)];
 #[test]
 fn reports_are_written_whole(rt: HostRuntime) {
     for (is_of_issues, text) in REPORTS {
-        let mut book = one_issue(rt.alloc());
         let report = Report::new(&rt, *is_of_issues, Some(20_000)).expect(&rt, "a day");
-        let prints = prints(rt.alloc(), &mut book, report, JobStatus::Done, text);
+        let book = one_issue(rt.alloc());
+        let prints = prints(rt.alloc(), book, report, JobStatus::Done, text);
         holds(&rt, text, prints);
     }
 }
@@ -77,8 +77,8 @@ const WITHDRAWN: &[(Report, &str)] = &[
 #[test]
 fn a_withdrawn_range_is_reported_as_closed(rt: HostRuntime) {
     for (report, text) in WITHDRAWN {
-        let mut book = one_withdrawn(rt.alloc());
-        let prints = prints(rt.alloc(), &mut book, *report, JobStatus::Done, text);
+        let book = one_withdrawn(rt.alloc());
+        let prints = prints(rt.alloc(), book, *report, JobStatus::Done, text);
         holds(&rt, text, prints);
     }
 }
@@ -116,48 +116,26 @@ const FAULTED: &[(Report, &str)] = &[
 #[test]
 fn a_fault_of_the_book_ends_a_report(rt: HostRuntime) {
     for (report, text) in FAULTED {
-        let mut book = TripBook::new(one_issue(rt.alloc()), 0);
-        let prints = prints(rt.alloc(), &mut book, *report, JobStatus::Failed, text);
+        let book = TripBook::new(one_issue(rt.alloc()), 0);
+        let prints = prints(rt.alloc(), book, *report, JobStatus::Failed, text);
         holds(&rt, text, prints);
     }
 }
 
-/// A writer that refuses its first bytes alone.
-#[derive(Drop)]
-struct Once {
-    has_failed: bool,
-    bytes: Vec<u8>,
-}
-
-impl Write for Once {
-    fn write(&mut self, buf: &[u8]) -> io::Result<usize> {
-        if self.has_failed {
-            return self.bytes.write(buf);
-        }
-        self.has_failed = true;
-        Err(io::Error::from(io::ErrorKind::Other))
-    }
-
-    fn flush(&mut self) -> io::Result<()> {
-        Ok(())
-    }
+/// What comes of a report of issues to this writer.
+fn written<W: Write>(alloc: Global, out: &mut W) -> Result<JobStatus, WriteFault> {
+    write_report(&mut one_issue(alloc), Report::Issues, out)
 }
 
 /// Whether a report whose first bytes are refused ends with a line that says so.
 fn is_told_to_have_ended(alloc: Global) -> bool {
-    let mut book = one_issue(alloc);
-    let mut once = Once {
-        has_failed: false,
-        bytes: Vec::new(alloc),
-    };
-    let written = write_report(&mut book, Report::Issues, &mut once);
-    written == Ok(JobStatus::Failed) && once.bytes.as_slice() == b"output\n".as_slice()
+    let mut out = Hiccup::new(alloc, 0);
+    written(alloc, &mut out) == Ok(JobStatus::Failed)
+        && out.bytes.as_slice() == "output\n".as_bytes()
 }
 
 #[test]
 fn a_writer_that_fails_ends_a_report(rt: HostRuntime) {
     assert!(rt; is_told_to_have_ended(rt.alloc()));
-    let mut book = one_issue(rt.alloc());
-    let written = write_report(&mut book, Report::Issues, &mut Refusing);
-    assert!(rt; written == Err(WriteFault));
+    assert!(rt; written(rt.alloc(), &mut Refusing) == Err(WriteFault));
 }

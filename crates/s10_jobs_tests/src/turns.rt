@@ -2,18 +2,18 @@
 
 use crate::expect::holds;
 use crate::hiccup::Hiccup;
-use s10_book::{Book, PlainBook};
+use crate::links::{Meets, link_of};
+use s10_book::{Book, PlainBook, Settle};
 use s10_ends::Server;
 use s10_history::Settings;
 use s10_jobs::{JobStatus, day_or_today, serve_turns, today};
 use s10_lines::WriteFault;
-use s10_link::{Packet, Peer, Receipt, ScriptLink};
-use std::alloc::{AllocError, Global};
+use s10_link::{Link, Peer};
+use std::alloc::Global;
 use std::cell::RefCell;
 use std::fmt::Display;
 use std::io;
 use std::io::Write;
-use std::test::Fail;
 use std::time::{Clock, Duration};
 
 const PEER: Peer = Peer {
@@ -26,12 +26,6 @@ const GRANT: &[u8] = b"S1\x01\x01\0\0\0\0\0\0\0\x01\0\0\0\x07RAGB\0\0\0\0\0\0\0\
 const DRAW: &[u8] = b"S1\x01\x02\0\0\0\x07\0\0\0\x01RAGB";
 
 const ONE_MORE: &[u8] = b"S1\x01\x02\0\0\0\x07\0\0\0\x02RAGB";
-
-const GRANTED: &str =
-    "replied 533101810000000000000001000000075241474200000000000000020000000001\n";
-
-const DRAWN: &str =
-    "replied 533101820000000700000001524147420000004e2052413030303030303030354742\n";
 
 /// A clock that stands still, or none. Standard error is closed.
 #[derive(Drop)]
@@ -95,28 +89,43 @@ fn new_server(alloc: Global) -> Server<PlainBook> {
 
 /// What came: a request and nothing with it, nothing, a failure, and together bytes that ask nothing, a draw, its repeat and
 /// one too many.
-fn receipts_of_seven(alloc: Global) -> Result<Vec<Receipt>, Fail> {
-    Ok(vec![in alloc;
-        Receipt::Deliver(PEER, Packet::new(GRANT)),
-        Receipt::Nothing,
-        Receipt::Nothing,
-        Receipt::Fail,
-        Receipt::Deliver(PEER, Packet::new(b"S1")),
-        Receipt::Deliver(PEER, Packet::new(DRAW)),
-        Receipt::Deliver(PEER, Packet::new(DRAW)),
-        Receipt::Deliver(PEER, Packet::new(ONE_MORE)),
-    ]?)
-}
-
-const SEVEN_LINES: &[&str] = &[
-    GRANTED,
-    "quiet\n",
-    "link receive\n",
-    "dropped short\n",
-    "link send\n",
-    DRAWN,
-    "faulted full\n",
+const SEVEN: &[Meets] = &[
+    Meets::Bytes(PEER, GRANT),
+    Meets::Nothing,
+    Meets::Nothing,
+    Meets::Fault,
+    Meets::Bytes(PEER, b"S1"),
+    Meets::Bytes(PEER, DRAW),
+    Meets::Bytes(PEER, DRAW),
+    Meets::Bytes(PEER, ONE_MORE),
 ];
+
+/// Which of their replies are sent.
+const THREE_SENDS: &[bool] = &[true, false, true];
+
+const SEVEN_LINES: &[u8] =
+    b"replied 533101810000000000000001000000075241474200000000000000020000000001
+quiet
+link receive
+dropped short
+link send
+replied 533101820000000700000001524147420000004e2052413030303030303030354742
+faulted full
+";
+
+/// The first so many lines of a text.
+fn first_lines(text: &[u8], count: u32) -> &[u8] {
+    let mut left = count;
+    for (at, byte) in text.iter().enumerate() {
+        if left == 0 {
+            return &text[..at];
+        }
+        if *byte == b'\n' {
+            left -= 1;
+        }
+    }
+    text
+}
 
 /// A writer that counts how often it was flushed after a whole line.
 #[derive(Drop)]
@@ -138,13 +147,15 @@ impl Write for Flushed {
     }
 }
 
-/// Turns on a link, and what they come to.
+/// Turns on a link of these receipts and sends, and what they come to.
 #[derive(Clone, Copy)]
 struct Turns<'a> {
+    receipts: &'a [Meets],
+    sends: &'a [bool],
     count: u32,
     day: Option<u32>,
     status: JobStatus,
-    lines: &'a str,
+    lines: &'a [u8],
     /// How often whole lines are flushed.
     flushed: u32,
     /// How many calls the book has then.
@@ -152,11 +163,11 @@ struct Turns<'a> {
 }
 
 /// Whether the turns of a server on the link have their status, and write and flush their lines.
-fn come_to<R: Clock + Eprint>(
+fn come_to<R: Clock + Eprint, B: Settle, L: Link>(
     rt: &R,
     alloc: Global,
-    server: &mut Server<PlainBook>,
-    link: &mut ScriptLink,
+    server: &mut Server<B>,
+    link: &mut L,
     turns: &Turns<'_>,
 ) -> bool {
     let mut out = Flushed {
@@ -164,58 +175,30 @@ fn come_to<R: Clock + Eprint>(
         lines: 0,
     };
     let served = serve_turns(rt, alloc, server, link, turns.count, turns.day, &mut out);
-    served == Ok(turns.status)
-        && out.bytes.as_slice() == turns.lines.as_bytes()
-        && out.lines == turns.flushed
+    served == Ok(turns.status) && out.bytes.as_slice() == turns.lines && out.lines == turns.flushed
 }
 
-/// Whether the turns of a new server on a link of these receipts and sends come to what they shall.
-fn are_served<R: Clock + Eprint>(
-    rt: &R,
-    alloc: Global,
-    receipts: Vec<Receipt>,
-    sends: &[bool],
-    turns: &Turns<'_>,
-) -> Result<bool, Fail> {
+/// Whether the turns of a new server come to what they shall.
+fn are_served<R: Clock + Eprint>(rt: &R, alloc: Global, turns: &Turns<'_>) -> bool {
+    let Ok(mut link) = link_of(alloc, turns.receipts, turns.sends) else {
+        return false;
+    };
     let mut server = new_server(alloc);
-    let mut link = ScriptLink::new(alloc, receipts, sends.to_vec(alloc)?)?;
-    let come_to_lines = come_to(rt, alloc, &mut server, &mut link, turns);
-    Ok(come_to_lines && server.book().len() == turns.calls)
+    come_to(rt, alloc, &mut server, &mut link, turns) && server.book().len() == turns.calls
 }
 
-/// The first so many of these lines.
-fn first_of(alloc: Global, lines: &[&str], count: u32) -> Result<String, AllocError> {
-    let mut first = String::new(alloc);
-    for line in lines.iter().take(count as usize) {
-        first.push_str(line)?;
-    }
-    Ok(first)
-}
-
-/// Whether so many turns of a new server, on the link of the seven, have the first of the lines, and leave so many calls.
-fn have_first_lines<R: Clock + Eprint>(
-    alloc: Global,
-    rt: &R,
-    count: u32,
-    rounds: u32,
-    calls: u32,
-) -> Result<bool, Fail> {
-    let lines = first_of(alloc, SEVEN_LINES, count)?;
-    let turns = Turns {
+/// So many turns on the link of the seven, which have the first of the lines, and leave so many calls.
+fn first_turns(count: u32, rounds: u32, calls: u32) -> Turns<'static> {
+    Turns {
+        receipts: SEVEN,
+        sends: THREE_SENDS,
         count,
         day: Some(20_000),
         status: JobStatus::Done,
-        lines: &lines,
+        lines: first_lines(SEVEN_LINES, count),
         flushed: rounds,
         calls,
-    };
-    are_served(
-        rt,
-        alloc,
-        receipts_of_seven(alloc)?,
-        &[true, false, true],
-        &turns,
-    )
+    }
 }
 
 /// Turns, the rounds that they are, and the calls of the book then. A grant is the first turn, and a draw whose reply
@@ -232,33 +215,32 @@ const TURNS: &[(u32, u32, u32)] = &[
 ];
 
 #[test]
-fn each_turn_has_its_line(rt: HostRuntime) -> Result<(), Fail> {
+fn each_turn_has_its_line(rt: HostRuntime) {
     for (count, rounds, calls) in TURNS {
-        let have_lines = have_first_lines(rt.alloc(), &rt, *count, *rounds, *calls)?;
-        holds(&rt, count, have_lines);
+        let turns = first_turns(*count, *rounds, *calls);
+        holds(&rt, count, are_served(&rt, rt.alloc(), &turns));
     }
-    Ok(())
 }
 
+/// A grant and a draw in one round, on a day that a clock gives.
+const TWO_TURNS: Turns<'static> = Turns {
+    receipts: &[Meets::Bytes(PEER, GRANT), Meets::Bytes(PEER, DRAW)],
+    sends: &[true, true],
+    count: 2,
+    day: None,
+    status: JobStatus::Done,
+    lines: b"replied 533101810000000000000001000000075241474200000000000000020000000001
+replied 533101820000000700000001524147420000004e2052413030303030303030354742
+",
+    flushed: 1,
+    calls: 2,
+};
+
 #[test]
-fn the_clock_gives_the_day_where_none_is_given(rt: HostRuntime) -> Result<(), Fail> {
+fn the_clock_gives_the_day_where_none_is_given(rt: HostRuntime) {
     // The last second of day 20000.
     let clock = Standing(Some(Duration::from_secs(20_001 * 86_400 - 1)));
-    let receipts = vec![in rt.alloc();
-        Receipt::Deliver(PEER, Packet::new(GRANT)),
-        Receipt::Deliver(PEER, Packet::new(DRAW)),
-    ]?;
-    let lines = first_of(rt.alloc(), &[GRANTED, DRAWN], 2)?;
-    let turns = Turns {
-        count: 2,
-        day: None,
-        status: JobStatus::Done,
-        lines: &lines,
-        flushed: 1,
-        calls: 2,
-    };
-    assert!(rt; are_served(&clock, rt.alloc(), receipts, &[true, true], &turns)?);
-    Ok(())
+    assert!(rt; are_served(&clock, rt.alloc(), &TWO_TURNS));
 }
 
 /// Who sent what asks nothing.
@@ -268,42 +250,39 @@ const OTHER: Peer = Peer {
 };
 
 /// What two ends sent: each what asks nothing, one twice, and between these nothing came and a grant was asked for.
-fn three_dropped(alloc: Global) -> Result<Vec<Receipt>, Fail> {
-    Ok(vec![in alloc;
-        Receipt::Nothing,
-        Receipt::Deliver(OTHER, Packet::new(b"S1")),
-        Receipt::Deliver(PEER, Packet::new(GRANT)),
-        Receipt::Deliver(PEER, Packet::new(b"")),
-        Receipt::Fail,
-        Receipt::Deliver(OTHER, Packet::new(b"S1")),
-    ]?)
-}
-
-const THREE_DROPPED: &[&str] = &[
-    "quiet\n",
-    "dropped short\n",
-    GRANTED,
-    "dropped short\n",
-    "link receive\n",
-    "dropped short\n",
+const THREE_DROPPED: &[Meets] = &[
+    Meets::Nothing,
+    Meets::Bytes(OTHER, b"S1"),
+    Meets::Bytes(PEER, GRANT),
+    Meets::Bytes(PEER, b""),
+    Meets::Fault,
+    Meets::Bytes(OTHER, b"S1"),
 ];
 
+const SIX_LINES: &[u8] = b"quiet
+dropped short
+replied 533101810000000000000001000000075241474200000000000000020000000001
+dropped short
+link receive
+dropped short
+";
+
 /// Whether so many turns on the link of the two ends have the first of the lines, and standard error is told this.
-fn are_told(alloc: Global, count: u32, rounds: u32, told: &str) -> Result<bool, Fail> {
+fn are_told(alloc: Global, count: u32, rounds: u32, told: &str) -> bool {
     let rt = Listening {
         told: RefCell::new(Vec::new(alloc)),
     };
-    let lines = first_of(alloc, THREE_DROPPED, count)?;
     let turns = Turns {
+        receipts: THREE_DROPPED,
+        sends: &[true],
         count,
         day: Some(20_000),
         status: JobStatus::Done,
-        lines: &lines,
+        lines: first_lines(SIX_LINES, count),
         flushed: rounds,
         calls: if count < 3 { 0 } else { 1 },
     };
-    let are_served = are_served(&rt, alloc, three_dropped(alloc)?, &[true], &turns)?;
-    Ok(are_served && rt.told.into_inner().as_slice() == told.as_bytes())
+    are_served(&rt, alloc, &turns) && rt.told.into_inner().as_slice() == told.as_bytes()
 }
 
 /// Turns, the rounds that they are, and what standard error is told.
@@ -324,34 +303,32 @@ const TOLD: &[(u32, u32, &str)] = &[
 ];
 
 #[test]
-fn standard_error_is_told_who_sent_what_is_dropped(rt: HostRuntime) -> Result<(), Fail> {
+fn standard_error_is_told_who_sent_what_is_dropped(rt: HostRuntime) {
     for (count, rounds, told) in TOLD {
-        holds(&rt, count, are_told(rt.alloc(), *count, *rounds, told)?);
+        holds(&rt, count, are_told(rt.alloc(), *count, *rounds, told));
     }
-    Ok(())
 }
 
 #[test]
-fn a_closed_standard_error_ends_no_turn(rt: HostRuntime) -> Result<(), Fail> {
-    assert!(rt; have_first_lines(rt.alloc(), &Standing(None), 7, 4, 2)?);
-    Ok(())
+fn a_closed_standard_error_ends_no_turn(rt: HostRuntime) {
+    assert!(rt; are_served(&Standing(None), rt.alloc(), &first_turns(7, 4, 2)));
 }
 
 /// Turns on a day that no clock gives.
 const DAYLESS: Turns<'static> = Turns {
+    receipts: SEVEN,
+    sends: &[],
     count: 3,
     day: None,
     status: JobStatus::Failed,
-    lines: "clock\n",
+    lines: b"clock\n",
     flushed: 0,
     calls: 0,
 };
 
 #[test]
-fn a_clock_that_gives_no_day_ends_the_turns(rt: HostRuntime) -> Result<(), Fail> {
-    let receipts = receipts_of_seven(rt.alloc())?;
-    assert!(rt; are_served(&Standing(None), rt.alloc(), receipts, &[], &DAYLESS)?);
-    Ok(())
+fn a_clock_that_gives_no_day_ends_the_turns(rt: HostRuntime) {
+    assert!(rt; are_served(&Standing(None), rt.alloc(), &DAYLESS));
 }
 
 /// Whether this is the day of a clock that has stood still for so many seconds since 1970, where
@@ -383,54 +360,36 @@ fn days_are_whole_days_since_1970(rt: HostRuntime) {
     assert!(rt; today(&rt).is_some());
 }
 
-/// How many whole lines stand in the first so many bytes of the seven.
-fn whole_lines(room: usize) -> usize {
-    let mut left = room;
-    for (count, line) in SEVEN_LINES.iter().enumerate() {
-        if left < line.len() {
-            return count;
-        }
-        left -= line.len();
-    }
-    SEVEN_LINES.len()
-}
-
 /// Whether the turns of a server on a link end where a line cannot be written whole, and the writer has got the lines to
 /// there.
-fn end_where_unwritten<R: Clock + Eprint>(
+fn end_where_unwritten<R: Clock + Eprint, B: Settle, L: Link>(
     alloc: Global,
     rt: &R,
-    server: &mut Server<PlainBook>,
-    link: &mut ScriptLink,
-    lines: &[u8],
+    server: &mut Server<B>,
+    link: &mut L,
     room: usize,
 ) -> bool {
     let mut out = Hiccup::new(alloc, room);
     let served = serve_turns(rt, alloc, server, link, 7, Some(20_000), &mut out);
-    served == Err(WriteFault) && lines.starts_with(out.bytes.as_slice()) && out.bytes.len() == room
+    served == Err(WriteFault)
+        && out.bytes.len() == room
+        && SEVEN_LINES.starts_with(out.bytes.as_slice())
 }
 
 /// Whether the turns end at the one whose line cannot be written whole, and the book has its calls and those before.
-fn ends_unwritten<R: Clock + Eprint>(
-    alloc: Global,
-    rt: &R,
-    lines: &[u8],
-    room: usize,
-) -> Result<bool, Fail> {
+fn ends_unwritten<R: Clock + Eprint>(alloc: Global, rt: &R, room: usize) -> bool {
+    let Ok(mut link) = link_of(alloc, SEVEN, THREE_SENDS) else {
+        return false;
+    };
     let mut server = new_server(alloc);
-    let sends = [true, false, true];
-    let mut link = ScriptLink::new(alloc, receipts_of_seven(alloc)?, sends.to_vec(alloc)?)?;
-    let end = end_where_unwritten(alloc, rt, &mut server, &mut link, lines, room);
-    let calls = if whole_lines(room) < 3 { 1 } else { 2 };
-    Ok(end && server.book().len() == calls)
+    let ends = end_where_unwritten(alloc, rt, &mut server, &mut link, room);
+    let is_early = room < first_lines(SEVEN_LINES, 3).len();
+    ends && server.book().len() == if is_early { 1 } else { 2 }
 }
 
 #[test]
-fn a_writer_that_fails_ends_the_turns(rt: HostRuntime) -> Result<(), Fail> {
-    let lines = first_of(rt.alloc(), SEVEN_LINES, 7)?;
-    for room in 0..lines.len() {
-        let ends = ends_unwritten(rt.alloc(), &rt, lines.as_bytes(), room)?;
-        holds(&rt, &room, ends);
+fn a_writer_that_fails_ends_the_turns(rt: HostRuntime) {
+    for room in 0..SEVEN_LINES.len() {
+        holds(&rt, &room, ends_unwritten(rt.alloc(), &rt, room));
     }
-    Ok(())
 }

@@ -1,23 +1,99 @@
-//! Requests, what is answered to them, and books that they are handed in to.
-
-ghost use Rattle.std.specs.Prelude.{◌<◌};
+//! Calls in rows, and books that they are handed in to.
 
 use s10_book::{Book, BookFault, Settle, decide};
 use s10_core::{Country, Id, Serial, Service};
 use s10_history::{Entry, Settings};
 use s10_ledger::SqlBook;
+use s10_rows::Opened;
 use s10_wire::{Body, Outcome, Request, Status};
 use sqlite::{Alter, Connection, MemStore};
 use std::process::Abort;
 
-// A request, the day that it is handed in on, and what is answered.
-pub(crate) type Step = (Request, u32, Result<Outcome, BookFault>);
+/// What a request asks, of RA GB where no other letters are named.
+#[derive(Clone, Copy)]
+pub(crate) enum Asked {
+    /// The holder, and the serials from the first to the last.
+    Grant(u32, u32, u32),
+    GrantOfRb(u32, u32, u32),
+    Draw,
+    DrawOfRb,
+    Void(u32),
+    Query(u32),
+    QueryOfUs(u32),
+    /// The range with this number.
+    Withdraw(u32),
+}
+
+/// What is answered.
+#[derive(Clone, Copy)]
+pub(crate) enum Answered {
+    /// The day, and the serial of RA GB.
+    Drawn(u32, u32),
+    /// The range with this number.
+    Granted(u32),
+    Told(Status),
+    Voided,
+    Withdrawn,
+    NotThePost,
+    BadGrant,
+    Overlap,
+    NoRange,
+    NoneFree,
+    NotYours,
+    NotIssued,
+    AlreadyVoid,
+    NumberReused,
+    NoSuchRange,
+    Closed,
+    /// The book is full.
+    Full,
+}
+
+/// Customer and number, what is asked, the day that it is handed in on, and what is answered.
+pub(crate) type Step = (u32, u32, Asked, u32, Answered);
+
+/// Customer 7 is granted range 1: the serials 0 to 2.
+pub(crate) const OPENING: Step = (0, 1, Asked::Grant(7, 0, 2), 20000, Answered::Granted(1));
+
+/// Its first Draw.
+pub(crate) const FIRST_DRAW: Step = (7, 1, Asked::Draw, 20000, Answered::Drawn(20000, 0));
+
+const SECOND_DRAW: Step = (7, 2, Asked::Draw, 20000, Answered::Drawn(20000, 1));
+
+const VOID: Step = (7, 3, Asked::Void(1), 20000, Answered::Voided);
+
+const SECOND_VOID: Step = (7, 4, Asked::Void(1), 20000, Answered::AlreadyVoid);
+
+const LAST_DRAW: Step = (7, 5, Asked::Draw, 20000, Answered::Drawn(20000, 2));
+
+/// One range of three serials is drawn, voided and drawn again: the first six calls.
+pub(crate) const SIX_CALLS: &'static [Step] = &[
+    OPENING,
+    FIRST_DRAW,
+    SECOND_DRAW,
+    VOID,
+    SECOND_VOID,
+    LAST_DRAW,
+];
+
+/// The six calls, a Draw that is refused, and two Draws once the interval is over.
+pub(crate) const NINE_CALLS: &'static [Step] = &[
+    OPENING,
+    FIRST_DRAW,
+    SECOND_DRAW,
+    VOID,
+    SECOND_VOID,
+    LAST_DRAW,
+    (7, 6, Asked::Draw, 20000, Answered::NoneFree),
+    (7, 7, Asked::Draw, 20030, Answered::Drawn(20030, 0)),
+    (7, 8, Asked::Draw, 20030, Answered::Drawn(20030, 1)),
+];
 
 pub(crate) fn ra() -> Service {
     Service::new(*b"RA").unwrap()
 }
 
-pub(crate) fn rb() -> Service {
+fn rb() -> Service {
     Service::new(*b"RB").unwrap()
 }
 
@@ -25,19 +101,13 @@ pub(crate) fn gb() -> Country {
     Country::new(*b"GB").unwrap()
 }
 
-pub(crate) fn us() -> Country {
-    Country::new(*b"US").unwrap()
+/// The serial of this value, or the last one where there is none of it.
+pub(crate) fn serial(value: u32) -> Serial {
+    Serial::new(value.min(99_999_999)).unwrap()
 }
 
-pub(crate) fn serial(value: u32) -> Serial
-    requires { value < 100000000 }
-{
-    Serial::new(value).unwrap()
-}
-
-pub(crate) fn id(value: u32) -> Id
-    requires { value < 100000000 }
-{
+/// The identifier of RA GB.
+pub(crate) fn id(value: u32) -> Id {
     Id {
         service: ra(),
         serial: serial(value),
@@ -45,74 +115,53 @@ pub(crate) fn id(value: u32) -> Id
     }
 }
 
-pub(crate) fn grant(customer: u32, number: u32, holder: u32, first: u32, last: u32) -> Request
-    requires first { first < 100000000 }
-    requires last { last < 100000000 }
-{
-    Request {
-        customer,
-        number,
-        body: Body::Grant {
-            holder,
-            service: ra(),
-            country: gb(),
-            first: serial(first),
-            last: serial(last),
+fn grant(service: Service, holder: u32, first: u32, last: u32) -> Body {
+    Body::Grant {
+        holder,
+        service,
+        country: gb(),
+        first: serial(first),
+        last: serial(last),
+    }
+}
+
+fn draw(service: Service) -> Body {
+    Body::Draw {
+        service,
+        country: gb(),
+    }
+}
+
+/// A Query of the identifier of RA US.
+fn query_of_us(value: u32) -> Body {
+    Body::Query {
+        id: Id {
+            country: Country::new(*b"US").unwrap(),
+            ..id(value)
         },
     }
 }
 
-pub(crate) fn draw(customer: u32, number: u32) -> Request {
-    Request {
-        customer,
-        number,
-        body: Body::Draw {
-            service: ra(),
-            country: gb(),
-        },
+fn body(asked: Asked) -> Body {
+    match asked {
+        Asked::Grant(holder, first, last) => grant(ra(), holder, first, last),
+        Asked::GrantOfRb(holder, first, last) => grant(rb(), holder, first, last),
+        Asked::Draw => draw(ra()),
+        Asked::DrawOfRb => draw(rb()),
+        Asked::Void(value) => Body::Void { id: id(value) },
+        Asked::Query(value) => Body::Query { id: id(value) },
+        Asked::QueryOfUs(value) => query_of_us(value),
+        Asked::Withdraw(range) => Body::Withdraw { range },
     }
 }
 
-pub(crate) fn void(customer: u32, number: u32, value: u32) -> Request
-    requires { value < 100000000 }
-{
+/// A customer's request with this number.
+pub(crate) fn request(customer: u32, number: u32, asked: Asked) -> Request {
     Request {
         customer,
         number,
-        body: Body::Void { id: id(value) },
+        body: body(asked),
     }
-}
-
-pub(crate) fn query(customer: u32, number: u32, value: u32) -> Request
-    requires { value < 100000000 }
-{
-    Request {
-        customer,
-        number,
-        body: Body::Query { id: id(value) },
-    }
-}
-
-pub(crate) fn withdraw(customer: u32, number: u32, range: u32) -> Request {
-    Request {
-        customer,
-        number,
-        body: Body::Withdraw { range },
-    }
-}
-
-pub(crate) fn drawn(day: u32, value: u32) -> Result<Outcome, BookFault>
-    requires { value < 100000000 }
-{
-    Ok(Outcome::Drawn { day, id: id(value) })
-}
-
-pub(crate) fn granted(range: u32) -> Result<Outcome, BookFault> {
-    Ok(Outcome::Granted { range })
-}
-
-pub(crate) fn told(status: Status) -> Result<Outcome, BookFault> {
-    Ok(Outcome::Told(status))
 }
 
 pub(crate) fn settings<R: Abort>(rt: &R, limit: u32) -> Settings {
@@ -122,7 +171,16 @@ pub(crate) fn settings<R: Abort>(rt: &R, limit: u32) -> Settings {
     }
 }
 
-// A new ledger in memory.
+/// What a ledger holds whose interval is 30 days and whose limit is 100 calls.
+pub(crate) fn whole(len: u32, day: u32) -> Opened {
+    Opened {
+        settings: Settings::new(30, 100).unwrap(),
+        len,
+        day,
+    }
+}
+
+/// A new ledger in memory.
 pub(crate) fn ledger<R: Abort + AllocGlobal>(rt: &R, settings: Settings) -> SqlBook<MemStore> {
     match SqlBook::in_memory(rt.alloc(), settings) {
         Ok(book) => book,
@@ -130,13 +188,13 @@ pub(crate) fn ledger<R: Abort + AllocGlobal>(rt: &R, settings: Settings) -> SqlB
     }
 }
 
-// The connection of a ledger, once its calls are settled.
+/// The connection of a ledger, once its calls are settled.
 pub(crate) fn closed<S: Alter>(mut book: SqlBook<S>) -> Connection<S> {
     let _ = book.settle();
     book.close()
 }
 
-// What a server does with a request: a kept one is answered from the book, a new one is decided and kept.
+/// What a server does with a request: a kept one is answered from the book, a new one is decided and kept.
 pub(crate) fn answer<B: Book>(
     book: &mut B,
     request: &Request,
@@ -162,47 +220,36 @@ pub(crate) fn answer<B: Book>(
     Ok(outcome)
 }
 
-fn answers<B: Book>(book: &mut B, step: &Step) -> bool {
-    let (request, day, expected) = step;
-    answer(book, request, *day) == *expected
+/// The answer that a row says.
+pub(crate) fn said(answered: Answered) -> Result<Outcome, BookFault> {
+    Ok(match answered {
+        Answered::Drawn(day, value) => Outcome::Drawn { day, id: id(value) },
+        Answered::Granted(range) => Outcome::Granted { range },
+        Answered::Told(status) => Outcome::Told(status),
+        Answered::Voided => Outcome::Voided,
+        Answered::Withdrawn => Outcome::Withdrawn,
+        Answered::NotThePost => Outcome::NotThePost,
+        Answered::BadGrant => Outcome::BadGrant,
+        Answered::Overlap => Outcome::Overlap,
+        Answered::NoRange => Outcome::NoRange,
+        Answered::NoneFree => Outcome::NoneFree,
+        Answered::NotYours => Outcome::NotYours,
+        Answered::NotIssued => Outcome::NotIssued,
+        Answered::AlreadyVoid => Outcome::AlreadyVoid,
+        Answered::NumberReused => Outcome::NumberReused,
+        Answered::NoSuchRange => Outcome::NoSuchRange,
+        Answered::Closed => Outcome::Closed,
+        Answered::Full => return Err(BookFault::Full),
+    })
 }
 
-// The book answers each step as expected.
-pub(crate) fn run<R: Abort, B: Book>(rt: &R, name: &str, book: &mut B, steps: &[Step]) {
-    for (place, step) in steps.iter().enumerate() {
-        assert!(rt; answers(book, step), "{name}, step {place}");
+/// Whether a book answers each step as its row says; otherwise the place of the first that it doesn't.
+pub(crate) fn first_unlike<B: Book>(book: &mut B, steps: &[Step]) -> Option<usize> {
+    for (place, (customer, number, asked, day, answered)) in steps.iter().enumerate() {
+        let request = request(*customer, *number, *asked);
+        if answer(book, &request, *day) != said(*answered) {
+            return Some(place);
+        }
     }
-}
-
-// Customer 7 is granted range 1: the serials 0 to 2.
-pub(crate) fn opening() -> Step {
-    (grant(0, 1, 7, 0, 2), 20000, granted(1))
-}
-
-// The ledger of one range of three serials that is drawn, voided and drawn again: its first six calls.
-pub(crate) fn six_calls() -> [Step; 6] {
-    [
-        opening(),
-        (draw(7, 1), 20000, drawn(20000, 0)),
-        (draw(7, 2), 20000, drawn(20000, 1)),
-        (void(7, 3, 1), 20000, Ok(Outcome::Voided)),
-        (void(7, 4, 1), 20000, Ok(Outcome::AlreadyVoid)),
-        (draw(7, 5), 20000, drawn(20000, 2)),
-    ]
-}
-
-// The six calls, a Draw that is refused, and two Draws once the interval is over.
-pub(crate) fn nine_calls() -> [Step; 9] {
-    let [a, b, c, d, e, f] = six_calls();
-    [
-        a,
-        b,
-        c,
-        d,
-        e,
-        f,
-        (draw(7, 6), 20000, Ok(Outcome::NoneFree)),
-        (draw(7, 7), 20030, drawn(20030, 0)),
-        (draw(7, 8), 20030, drawn(20030, 1)),
-    ]
+    None
 }

@@ -1,14 +1,15 @@
 //! A ledger with a closed range in it, made by statements, and what opening finds where its table of closed ranges is damaged.
 
-use crate::books::both_after;
-use crate::calls::{closed, grant, granted, opening, withdraw};
-use crate::tables::{HEAD, TABLES, database, found, ledger_of, nine_calls, opens, run_batch};
+use crate::books::tables_after;
+use crate::calls::Answered::{Granted, Withdrawn};
+use crate::calls::Asked::{Grant, Withdraw};
+use crate::calls::{OPENING, Step, whole};
+use crate::expect::same;
+use crate::rows::{COMPLETE, INCOMPLETE, Left, left_behind};
+use crate::tables::{HEAD, NINE_CALLS, TABLES, database, run_batches};
 use s10_ledger::OpenFault;
-use s10_wire::Outcome;
 use sqlite::{Connection, Error, MemStore};
 use std::alloc::Global;
-use std::process::Abort;
-use std::test::Fail;
 
 /// The post grants RA GB 0 to 2 to customer 7, which draws serial 0, and withdraws that range.
 const THREE_REPLIES: &str = "INSERT INTO calls (arrival, customer, number, day, reply) VALUES
@@ -25,73 +26,70 @@ const ONE_SERIAL: &str =
 
 const ONE_CLOSED: &str = "INSERT INTO closed (num, arrival) VALUES (1, 3);";
 
+const ROWS: &'static [&'static str] = &[HEAD, THREE_REPLIES, ONE_RANGE, ONE_SERIAL, ONE_CLOSED];
+
 fn withdrawn_ledger(alloc: Global) -> Result<Connection<MemStore>, Error> {
     let mut conn = database(alloc, &TABLES)?;
-    for text in &[HEAD, THREE_REPLIES, ONE_RANGE, ONE_SERIAL, ONE_CLOSED] {
-        run_batch(&mut conn, text)?;
-    }
+    run_batches(&mut conn, ROWS)?;
     Ok(conn)
 }
 
-// Whether another row than a call's is told to be wrong where the ledger is changed so, and no table is made or taken away.
-fn is_damaged(alloc: Global, mut conn: Connection<MemStore>, damage: &str) -> Result<bool, Error> {
-    run_batch(&mut conn, damage)?;
-    let tables = conn.schema().tables.len();
-    let Some((answer, conn)) = found(alloc, conn) else {
-        return Ok(false);
-    };
-    Ok(answer == Err(OpenFault::Damaged(0)) && conn.schema().tables.len() == tables)
-}
-
 #[test]
-fn a_ledger_with_a_closed_range_opens(rt: HostRuntime) -> Result<(), Fail> {
-    let whole = ledger_of(3, 20000).ok_or("settings")?;
-    let conn = withdrawn_ledger(rt.alloc())?;
-    assert!(rt; opens(rt.alloc(), conn, &Ok(whole)));
-    Ok(())
+fn a_ledger_with_a_closed_range_opens(rt: HostRuntime) {
+    let found = left_behind(rt.alloc(), withdrawn_ledger(rt.alloc()), &[], &[]);
+    let wanted = (Ok(whole(3, 20000)), true, COMPLETE, Ok(None));
+    same(&rt, &"withdrawn", &found, &Ok(Some(wanted)));
 }
 
-const DAMAGES: &[&str] = &[
-    "DROP TABLE closed",
-    "DELETE FROM closed",
-    "UPDATE closed SET arrival = 2",
-    "UPDATE closed SET arrival = 4",
-    "UPDATE closed SET num = 2",
-    "UPDATE closed SET num = 0",
-    "INSERT INTO closed (num, arrival) VALUES (2, 3)",
-    "INSERT INTO closed (num, arrival) VALUES (0, 3)",
-    "INSERT INTO closed (num, arrival) VALUES (4294967297, 3)",
+/// Another row than a call's is told to be wrong, and these tables are left.
+fn damaged(tables: (usize, bool)) -> Result<Option<Left>, Error> {
+    Ok(Some((Err(OpenFault::Damaged(0)), true, tables, Ok(None))))
+}
+
+/// A damage, and the tables behind it.
+const DAMAGES: &[(&str, (usize, bool))] = &[
+    ("DROP TABLE closed", INCOMPLETE),
+    ("DELETE FROM closed", COMPLETE),
+    ("UPDATE closed SET arrival = 2", COMPLETE),
+    ("UPDATE closed SET arrival = 4", COMPLETE),
+    ("UPDATE closed SET num = 2", COMPLETE),
+    ("UPDATE closed SET num = 0", COMPLETE),
+    ("INSERT INTO closed (num, arrival) VALUES (2, 3)", COMPLETE),
+    ("INSERT INTO closed (num, arrival) VALUES (0, 3)", COMPLETE),
+    (
+        "INSERT INTO closed (num, arrival) VALUES (4294967297, 3)",
+        COMPLETE,
+    ),
 ];
 
 #[test]
-fn each_closed_range_is_compared(rt: HostRuntime) -> Result<(), Fail> {
-    for damage in DAMAGES {
-        let conn = withdrawn_ledger(rt.alloc())?;
-        assert!(rt; is_damaged(rt.alloc(), conn, damage)?, "{damage}");
+fn each_closed_range_is_compared(rt: HostRuntime) {
+    for (damage, tables) in DAMAGES {
+        let conn = withdrawn_ledger(rt.alloc());
+        let found = left_behind(rt.alloc(), conn, &[damage], &[]);
+        same(&rt, damage, &found, &damaged(*tables));
     }
-    let conn = nine_calls(rt.alloc())?;
     let damage = "INSERT INTO closed (num, arrival) VALUES (1, 9)";
-    assert!(rt; is_damaged(rt.alloc(), conn, damage)?, "{damage}");
-    Ok(())
+    let found = left_behind(rt.alloc(), database(rt.alloc(), NINE_CALLS), &[damage], &[]);
+    same(&rt, &damage, &found, &damaged(COMPLETE));
 }
 
-// The tables of a ledger whose second range was closed before its first.
-fn both_closed<R: Abort + AllocGlobal>(rt: &R) -> Connection<MemStore> {
-    let steps = [
-        opening(),
-        (grant(0, 2, 7, 4, 6), 20000, granted(2)),
-        (withdraw(0, 3, 2), 20000, Ok(Outcome::Withdrawn)),
-        (withdraw(0, 4, 1), 20000, Ok(Outcome::Withdrawn)),
-    ];
-    let (_, tables) = both_after(rt, "both ranges", 100, &steps);
-    closed(tables)
-}
+/// A ledger's second range is closed before its first.
+const BOTH_CLOSED: &'static [Step] = &[
+    OPENING,
+    (0, 2, Grant(7, 4, 6), 20000, Granted(2)),
+    (0, 3, Withdraw(2), 20000, Withdrawn),
+    (0, 4, Withdraw(1), 20000, Withdrawn),
+];
 
 #[test]
-fn ranges_are_closed_in_any_order(rt: HostRuntime) -> Result<(), Fail> {
-    let whole = ledger_of(4, 20000).ok_or("settings")?;
-    assert!(rt; opens(rt.alloc(), both_closed(&rt), &Ok(whole)));
+fn ranges_are_closed_in_any_order(rt: HostRuntime) {
+    let conn = tables_after(&rt, "both ranges", BOTH_CLOSED);
+    let found = left_behind(rt.alloc(), Ok(conn), &[], &[]);
+    let wanted = (Ok(whole(4, 20000)), true, COMPLETE, Ok(None));
+    same(&rt, &"both ranges", &found, &Ok(Some(wanted)));
+    let conn = tables_after(&rt, "both ranges", BOTH_CLOSED);
     let damage = "UPDATE closed SET arrival = 7 - arrival";
-    assert!(rt; is_damaged(rt.alloc(), both_closed(&rt), damage)?);
-    Ok(())
+    let found = left_behind(rt.alloc(), Ok(conn), &[damage], &[]);
+    same(&rt, &damage, &found, &damaged(COMPLETE));
 }

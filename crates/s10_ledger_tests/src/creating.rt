@@ -1,47 +1,43 @@
 //! A ledger is made in an empty database, and in no other.
 
-use crate::calls::{closed, ledger, nine_calls, run, settings};
+use crate::calls::{NINE_CALLS, closed, first_unlike, ledger, settings};
 use crate::expect::same;
-use crate::tables::numbers;
+use crate::rows::{Shown, first_unshown};
 use s10_book::Book;
 use s10_history::Settings;
 use s10_ledger::{OpenFault, Refused, SqlBook, Unwatched};
-use sqlite::{Connection, Error, MemStore};
-use std::alloc::Global;
+use sqlite::{Connection, MemStore};
 use std::process::Abort;
-use std::test::Fail;
 
-const HEAD: [i64; 4] = [1, 1, 30, 100];
+const HEAD: Shown = (
+    "SELECT one, schema, interval, cap FROM head",
+    4,
+    &[1, 1, 30, 100],
+);
 
-// Whether the one row of the head is this one, and the five tables have so many rows.
-fn holds(
-    alloc: Global,
-    conn: &mut Connection<MemStore>,
-    head: &[i64],
-    counts: [usize; 5],
-) -> Result<bool, Error> {
-    let texts = [
-        "SELECT one FROM head",
-        "SELECT arrival FROM calls",
-        "SELECT num FROM ranges",
-        "SELECT serial FROM serials",
-        "SELECT num FROM closed",
-    ];
-    for (text, count) in texts.iter().zip(counts) {
-        if numbers(alloc, conn, text, 1)?.len() != count {
-            return Ok(false);
-        }
-    }
-    let row = numbers(
-        alloc,
-        conn,
-        "SELECT one, schema, interval, cap FROM head",
-        4,
-    )?;
-    Ok(row.as_slice() == head)
-}
+/// The one row of the head, and no row of the other tables.
+const NEW: &'static [Shown] = &[
+    HEAD,
+    ("SELECT arrival FROM calls", 1, &[]),
+    ("SELECT num FROM ranges", 1, &[]),
+    ("SELECT serial FROM serials", 1, &[]),
+    ("SELECT num FROM closed", 1, &[]),
+];
 
-// Whether the book has these settings, and no call and no range.
+/// The one row of the head, and those of the nine calls.
+const NINE_KEPT: &'static [Shown] = &[
+    HEAD,
+    (
+        "SELECT arrival FROM calls ORDER BY arrival",
+        1,
+        &[1, 2, 3, 4, 5, 6, 7, 8, 9],
+    ),
+    ("SELECT num FROM ranges", 1, &[1]),
+    ("SELECT serial FROM serials ORDER BY serial", 1, &[0, 1, 2]),
+    ("SELECT num FROM closed", 1, &[]),
+];
+
+/// Whether the book has these settings, and no call and no range.
 fn is_new<B: Book>(book: &mut B, settings: Settings) -> bool {
     book.len() == 0
         && book.day() == 0
@@ -50,22 +46,19 @@ fn is_new<B: Book>(book: &mut B, settings: Settings) -> bool {
         && book.range(1) == Ok(None)
 }
 
-fn is_idle(book: &SqlBook<MemStore>) -> bool {
-    book.connection().is_autocommit()
-}
-
 #[test]
-fn a_new_ledger_has_its_settings_and_no_call(rt: HostRuntime) -> Result<(), Fail> {
+fn a_new_ledger_has_its_settings_and_no_call(rt: HostRuntime) {
     let settings = settings(&rt, 100);
     let mut book = ledger(&rt, settings);
-    assert!(rt; is_new(&mut book, settings));
-    assert!(rt; is_idle(&book));
+    let is_new = is_new(&mut book, settings);
+    let is_idle = book.connection().is_autocommit();
     let mut conn = closed(book);
-    assert!(rt; holds(rt.alloc(), &mut conn, &HEAD, [1, 0, 0, 0, 0])?);
-    Ok(())
+    let unshown = first_unshown(rt.alloc(), &mut conn, NEW);
+    let found = (is_new, is_idle, unshown);
+    same(&rt, &"new, idle, its rows", &found, &(true, true, Ok(None)));
 }
 
-// What the making of a ledger is refused for, and the connection.
+/// What the making of a ledger is refused for, and the connection.
 fn refusal<R: Abort + AllocGlobal>(
     rt: &R,
     conn: Connection<MemStore>,
@@ -80,22 +73,24 @@ fn refusal<R: Abort + AllocGlobal>(
     }
 }
 
-// A ledger of nine calls.
+/// A ledger of nine calls.
 pub(crate) fn nine_kept<R: Abort + AllocGlobal>(rt: &R) -> Connection<MemStore> {
     let mut book = ledger(rt, settings(rt, 100));
-    run(rt, "nine calls", &mut book, &nine_calls());
-    closed(book)
+    let unlike = first_unlike(&mut book, NINE_CALLS);
+    let conn = closed(book);
+    same(rt, &"nine calls", &unlike, &None);
+    conn
 }
 
 #[test]
-fn a_ledger_is_not_made_over_a_ledger(rt: HostRuntime) -> Result<(), Fail> {
+fn a_ledger_is_not_made_over_a_ledger(rt: HostRuntime) {
     let (fault, mut conn) = refusal(&rt, nine_kept(&rt), settings(&rt, 50));
-    same(&rt, &"refused", &fault, &OpenFault::NotEmpty);
-    assert!(rt; holds(rt.alloc(), &mut conn, &HEAD, [1, 9, 1, 3, 0])?);
-    Ok(())
+    let unshown = first_unshown(rt.alloc(), &mut conn, NINE_KEPT);
+    let wanted = (OpenFault::NotEmpty, Ok(None));
+    same(&rt, &"the fault, its rows", &(fault, unshown), &wanted);
 }
 
-// A database in which that statement was executed.
+/// A database in which that statement was executed.
 fn database_of<R: Abort + AllocGlobal>(rt: &R, text: &str) -> Connection<MemStore> {
     let Ok(mut conn) = Connection::open_in_memory(rt.alloc()) else {
         panic!(rt; "no connection")
@@ -106,7 +101,7 @@ fn database_of<R: Abort + AllocGlobal>(rt: &R, text: &str) -> Connection<MemStor
     conn
 }
 
-// A table, and what a ledger beside it is refused for.
+/// A table, and what a ledger beside it is refused for.
 const TABLES: &[(&str, OpenFault)] = &[
     (
         "CREATE TABLE head (one INTEGER) STRICT",
@@ -131,20 +126,22 @@ const TABLES: &[(&str, OpenFault)] = &[
     ("CREATE TABLE other (one INTEGER) STRICT", OpenFault::Store),
 ];
 
+/// What a ledger in a database made by that statement is refused for, and how many tables and views are left there.
+fn refused_beside<R: Abort + AllocGlobal>(rt: &R, text: &str) -> (OpenFault, usize, usize) {
+    let (fault, conn) = refusal(rt, database_of(rt, text), settings(rt, 100));
+    let schema = conn.schema();
+    (fault, schema.tables.len(), schema.views.len())
+}
+
 #[test]
 fn a_ledger_is_not_made_beside_other_tables(rt: HostRuntime) {
     for (text, fault) in TABLES {
-        let (found, conn) = refusal(&rt, database_of(&rt, text), settings(&rt, 100));
-        let tables = conn.schema().tables.len();
-        same(&rt, text, &(found, tables), &(*fault, 1));
+        same(&rt, text, &refused_beside(&rt, text), &(*fault, 1, 0));
     }
 }
 
 #[test]
 fn a_ledger_is_not_made_beside_a_view(rt: HostRuntime) {
-    let conn = database_of(&rt, "CREATE VIEW one AS SELECT 1");
-    let (found, conn) = refusal(&rt, conn, settings(&rt, 100));
-    let schema = conn.schema();
-    let left = (found, schema.views.len(), schema.tables.len());
-    same(&rt, &"a view", &left, &(OpenFault::Store, 1, 0));
+    let found = refused_beside(&rt, "CREATE VIEW one AS SELECT 1");
+    same(&rt, &"a view", &found, &(OpenFault::Store, 0, 1));
 }

@@ -10,99 +10,79 @@ use std::process::Abort;
 
 const RA_GB: i64 = 1380009794;
 
-fn letters(rt: &impl Abort) -> (Service, Country) {
-    match Service::new(*b"RA") {
-        Some(service) => match Country::new(*b"GB") {
-            Some(country) => (service, country),
-            None => panic!(rt),
-        },
-        None => panic!(rt),
-    }
-}
-
-fn serial(rt: &impl Abort, value: u32) -> Serial {
-    match Serial::new(value) {
-        Some(serial) => serial,
-        None => panic!(rt),
-    }
-}
-
-fn id(rt: &impl Abort, value: u32) -> Id {
-    let (service, country) = letters(rt);
-    Id {
-        service,
-        serial: serial(rt, value),
-        country,
-    }
+/// The serial of this value, or the last one where there is none of it.
+fn serial(value: u32) -> Serial {
+    Serial::new(value.min(99_999_999)).unwrap()
 }
 
 /// Customer 7's range 1, RA GB 0 to 2.
-fn first_range(rt: &impl Abort) -> Range {
-    let (service, country) = letters(rt);
+fn first_range() -> Range {
     Range {
         num: 1,
         holder: 7,
-        service,
-        country,
-        first: serial(rt, 0),
-        last: serial(rt, 2),
+        service: Service::new(*b"RA").unwrap(),
+        country: Country::new(*b"GB").unwrap(),
+        first: serial(0),
+        last: serial(2),
     }
 }
 
 /// Its row, where it gave no serial.
-fn new_range() -> RangeRow {
-    RangeRow {
-        num: 1,
-        holder: 7,
-        pair: RA_GB,
-        low: 0,
-        high: 2,
-        mark: 0,
-    }
-}
+const NEW_RANGE: RangeRow = RangeRow {
+    num: 1,
+    holder: 7,
+    pair: RA_GB,
+    low: 0,
+    high: 2,
+    mark: 0,
+};
 
-fn serial_row(serial: i64, arrival: i64, day: i64, number: i64, voided: i64) -> SerialRow {
-    SerialRow {
-        pair: RA_GB,
-        serial,
-        arrival,
+/// An issue of a serial of that range to customer 7.
+fn issuance(range: &Range, value: u32, arrival: u32, day: u32, number: u32) -> Issuance {
+    Issuance {
+        id: Id {
+            service: range.service,
+            serial: serial(value),
+            country: range.country,
+        },
         day,
         customer: 7,
         number,
-        voided,
+        arrival,
     }
 }
 
 #[test]
 fn new_range_gives_its_first_serial_next(rt: HostRuntime) {
-    let (service, country) = letters(&rt);
+    let range = first_range();
     let grant = Entry {
         request: Request {
             customer: 0,
             number: 1,
             body: Body::Grant {
                 holder: 7,
-                service,
-                country,
-                first: serial(&rt, 0),
-                last: serial(&rt, 2),
+                service: range.service,
+                country: range.country,
+                first: range.first,
+                last: range.last,
             },
         },
         day: 20000,
         outcome: Outcome::Granted { range: 1 },
     };
-    let made = Some(RangeWrite::New(new_range()));
+    let made = Some(RangeWrite::New(NEW_RANGE));
     same(&rt, &"range 1", &granted_row(&grant), &made);
 }
 
 #[test]
 fn a_closed_range_is_kept_with_the_arrival_of_its_withdrawal(rt: HostRuntime) {
-    for (outcome, row) in [
+    let rows = [
         (Outcome::Withdrawn, Some(ClosedRow { num: 1, arrival: 3 })),
         (Outcome::NotThePost, None),
         (Outcome::NoSuchRange, None),
         (Outcome::Closed, None),
-    ] {
+    ];
+    for (outcome, row) in &rows {
         let withdraw = Entry {
             request: Request {
                 customer: 0,
@@ -110,9 +90,9 @@ fn a_closed_range_is_kept_with_the_arrival_of_its_withdrawal(rt: HostRuntime) {
                 body: Body::Withdraw { range: 1 },
             },
             day: 20000,
-            outcome,
+            outcome: *outcome,
         };
-        same(&rt, &outcome, &ClosedRow::made_by(3, &withdraw), &row);
+        same(&rt, outcome, &ClosedRow::made_by(3, &withdraw), row);
     }
 }
 
@@ -125,49 +105,47 @@ const DRAWN: &[(u32, u32, u32, u32, i64)] = &[
     (1, 9, 20030, 8, 2),
 ];
 
-/// The row of an issue that was not voided.
-fn issued_row(issuance: &Issuance, value: u32) -> SerialRow {
-    serial_row(
-        i64::from(value),
-        i64::from(issuance.arrival),
-        i64::from(issuance.day),
-        i64::from(issuance.number),
-        0,
-    )
-}
-
 #[test]
 fn mark_goes_on_by_one_and_back_behind_the_last(rt: HostRuntime) {
-    let range = first_range(&rt);
+    let range = first_range();
     for (value, arrival, day, number, mark) in DRAWN {
-        let issuance = Issuance {
-            id: id(&rt, *value),
-            day: *day,
+        let issuance = issuance(&range, *value, *arrival, *day, *number);
+        let row = SerialRow {
+            pair: RA_GB,
+            serial: i64::from(*value),
+            arrival: i64::from(*arrival),
+            day: i64::from(*day),
             customer: 7,
-            number: *number,
-            arrival: *arrival,
+            number: i64::from(*number),
+            voided: 0,
         };
-        let row = issued_row(&issuance, *value);
         let marked = RangeWrite::Mark {
             num: 1,
             mark: *mark,
         };
-        let first = issue_rows(&range, Issued::Never, &issuance);
-        same(&rt, arrival, &first, &(marked, SerialWrite::New(row)));
-        let again = issue_rows(&range, Issued::Before, &issuance);
-        same(&rt, arrival, &again, &(marked, SerialWrite::Again(row)));
+        let found = (
+            issue_rows(&range, Issued::Never, &issuance),
+            issue_rows(&range, Issued::Before, &issuance),
+        );
+        let wanted = (
+            (marked, SerialWrite::New(row)),
+            (marked, SerialWrite::Again(row)),
+        );
+        same(&rt, arrival, &found, &wanted);
     }
 }
 
 #[test]
 fn void_keeps_the_row_and_marks_it_as_voided(rt: HostRuntime) {
-    let issuance = Issuance {
-        id: id(&rt, 1),
+    let issuance = issuance(&first_range(), 1, 3, 20000, 2);
+    let write = SerialWrite::Again(SerialRow {
+        pair: RA_GB,
+        serial: 1,
+        arrival: 3,
         day: 20000,
         customer: 7,
         number: 2,
-        arrival: 3,
-    };
-    let write = SerialWrite::Again(serial_row(1, 3, 20000, 2, 1));
+        voided: 1,
+    });
     same(&rt, &"voided", &voided_row(&issuance), &write);
 }

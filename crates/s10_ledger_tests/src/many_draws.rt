@@ -1,79 +1,91 @@
 //! A range of all serials, and ten thousand draws from it.
 
-ghost use Rattle.std.specs.Prelude.{◌<◌};
-
-use crate::books::issue;
-use crate::calls::{answer, closed, draw, drawn, grant, granted, ledger, settings};
+use crate::calls::{
+    Answered, Asked, Step, answer, closed, first_unlike, id, ledger, request, said, settings,
+};
 use crate::expect::same;
-use crate::tables::numbers;
-use s10_book::Book;
+use crate::rows::{Shown, first_unshown};
+use s10_book::{Book, BookFault};
 use s10_core::Id;
-use sqlite::{Connection, Error, MemStore};
-use std::alloc::Global;
-use std::process::Abort;
-use std::test::Fail;
+use s10_history::Issue;
 
-const DRAWS: u32 = 10_000;
+const GRANT: &'static [Step] = &[(
+    0,
+    1,
+    Asked::Grant(7, 0, 99_999_999),
+    20000,
+    Answered::Granted(1),
+)];
 
-fn grant_all<R: Abort, B: Book>(rt: &R, book: &mut B) {
-    let answered = answer(book, &grant(0, 1, 7, 0, 99_999_999), 20000);
-    same(rt, &"the Grant", &answered, &granted(1));
+/// No row of a serial, and one range whose mark is its first serial.
+const GRANTED: &'static [Shown] = &[
+    ("SELECT count(*) FROM serials", 1, &[0]),
+    ("SELECT mark FROM ranges", 1, &[0]),
+];
+
+/// A row for each serial that was drawn, and one range whose mark is behind them.
+const DRAWN: &'static [Shown] = &[
+    ("SELECT count(*) FROM serials", 1, &[10_000]),
+    ("SELECT mark FROM ranges", 1, &[10_000]),
+];
+
+#[test]
+fn a_grant_writes_no_row_of_a_serial(rt: HostRuntime) {
+    let mut book = ledger(&rt, settings(&rt, 20_000));
+    let unlike = first_unlike(&mut book, GRANT);
+    let mut conn = closed(book);
+    let unshown = first_unshown(rt.alloc(), &mut conn, GRANTED);
+    same(&rt, &"the Grant", &(unlike, unshown), &(None, Ok(None)));
 }
 
-// Draw k gives serial k - 1.
-fn draw_in_turn<R: Abort, B: Book>(rt: &R, book: &mut B, draws: u32)
-    requires { draws < 100000000 }
-{
-    for value in 0..draws {
-        let answered = answer(book, &draw(7, value + 1), 20000);
-        same(rt, &value, &answered, &drawn(20000, value));
-    }
-}
-
-fn last_issue_is<R: Abort, B: Book>(rt: &R, book: &mut B, text: &[u8], number: u32) {
-    match Id::read(text) {
-        Ok(last) => {
-            let issued = Ok(Some(issue(20000, false, number)));
-            same(rt, &number, &book.last_issue(&last), &issued);
+/// Whether of ten thousand Draws the k-th gives serial k - 1; otherwise the first serial that is not given so.
+fn first_not_drawn<B: Book>(book: &mut B) -> Option<u32> {
+    for value in 0..10_000u32 {
+        let drawn = answer(book, &request(7, value + 1, Asked::Draw), 20000);
+        if drawn != said(Answered::Drawn(20000, value)) {
+            return Some(value);
         }
-        Err(fault) => panic!(rt; "{fault}"),
     }
+    None
 }
 
-// All draws of the granted range, the last of which is told as it was made.
-fn draw_all<R: Abort, B: Book>(rt: &R, book: &mut B) {
-    grant_all(rt, book);
-    draw_in_turn(rt, book, DRAWS);
-    last_issue_is(rt, book, b"RA000099994GB", DRAWS);
-    same(rt, &"calls", &book.len(), &(DRAWS + 1));
-}
+/// The last Draw's issue.
+const LAST_ISSUE: Issue = Issue {
+    day: 20000,
+    voided: false,
+    customer: 7,
+    number: 10_000,
+};
 
-// Whether there are so many rows of serials, and one range with that mark.
-fn has_serials_and_mark(
-    alloc: Global,
-    conn: &mut Connection<MemStore>,
-    serials: usize,
-    mark: i64,
-) -> Result<bool, Error> {
-    let found = numbers(alloc, conn, "SELECT serial FROM serials", 1)?;
-    let marks = numbers(alloc, conn, "SELECT mark FROM ranges", 1)?;
-    Ok(found.len() == serials && marks.as_slice() == [mark].as_slice())
+/// What is found where all is granted and drawn: the first call that is answered otherwise, the last Draw's issue, and how many
+/// calls there are.
+type Drawn = (
+    Option<usize>,
+    Option<u32>,
+    Result<Option<Issue>, BookFault>,
+    u32,
+);
+
+fn all_drawn<B: Book>(book: &mut B) -> Drawn {
+    (
+        first_unlike(book, GRANT),
+        first_not_drawn(book),
+        book.last_issue(&id(9_999)),
+        book.len(),
+    )
 }
 
 #[test]
-fn a_grant_writes_no_row_of_a_serial(rt: HostRuntime) -> Result<(), Fail> {
+fn ten_thousand_draws_give_the_serials_in_turn(rt: HostRuntime) {
     let mut book = ledger(&rt, settings(&rt, 20_000));
-    grant_all(&rt, &mut book);
+    let drawn = all_drawn(&mut book);
     let mut conn = closed(book);
-    assert!(rt; has_serials_and_mark(rt.alloc(), &mut conn, 0, 0)?);
-    Ok(())
-}
-
-#[test]
-fn ten_thousand_draws_give_the_serials_in_turn(rt: HostRuntime) -> Result<(), Fail> {
-    let mut book = ledger(&rt, settings(&rt, 20_000));
-    draw_all(&rt, &mut book);
-    let mut conn = closed(book);
-    assert!(rt; has_serials_and_mark(rt.alloc(), &mut conn, 10_000, 10_000)?);
-    Ok(())
+    let unshown = first_unshown(rt.alloc(), &mut conn, DRAWN);
+    let is_named = Id::read(b"RA000099994GB") == Ok(id(9_999));
+    same(
+        &rt,
+        &"the calls, the last Draw's identifier, the rows",
+        &(drawn, is_named, unshown),
+        &((None, None, Ok(Some(LAST_ISSUE)), 10_001), true, Ok(None)),
+    );
 }

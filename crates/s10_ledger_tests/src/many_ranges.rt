@@ -2,7 +2,8 @@
 
 ghost use Rattle.std.specs.Prelude.{◌≤◌};
 
-use crate::calls::{answer, closed, draw, gb, grant, ledger, ra, serial, settings};
+use crate::calls::{Asked, answer, closed, gb, ledger, ra, request, serial, settings};
+use crate::expect::same;
 use s10_book::{Book, PlainBook, Settle};
 use s10_history::{Block, Holding};
 use s10_ledger::{SqlBook, Unwatched};
@@ -26,7 +27,8 @@ fn grants_are_alike<A: Book, B: Book>(one: &mut A, other: &mut B, grants: u32) -
     for place in 0..grants {
         let slot = place * 7 % grants;
         let first = slot * 10;
-        let request = grant(0, place + 1, 1 + place % HOLDERS, first, first + slot % 10);
+        let asked = Asked::Grant(1 + place % HOLDERS, first, first + slot % 10);
+        let request = request(0, place + 1, asked);
         if !answer_alike(one, other, &request) {
             return false;
         }
@@ -40,7 +42,8 @@ fn overlaps_are_alike<A: Book, B: Book>(one: &mut A, other: &mut B, grants: u32)
 {
     for place in 0..grants {
         let first = place * 37;
-        let request = grant(0, 2000 + place, 1, first, first + place % 20);
+        let asked = Asked::Grant(1, first, first + place % 20);
+        let request = request(0, 2000 + place, asked);
         if !answer_alike(one, other, &request) {
             return false;
         }
@@ -51,7 +54,7 @@ fn overlaps_are_alike<A: Book, B: Book>(one: &mut A, other: &mut B, grants: u32)
 // Whether they answer as many Draws of the holders in turn alike.
 fn draws_are_alike<A: Book, B: Book>(one: &mut A, other: &mut B, draws: u32) -> bool {
     for place in 0..draws {
-        let request = draw(1 + place % HOLDERS, 1 + place / HOLDERS);
+        let request = request(1 + place % HOLDERS, 1 + place / HOLDERS, Asked::Draw);
         if !answer_alike(one, other, &request) {
             return false;
         }
@@ -111,17 +114,19 @@ fn calls_are_alike<A: Book, B: Book>(one: &mut A, other: &mut B) -> bool {
         && draws_are_alike(one, other, 1_000)
 }
 
-// Whether they find the same ranges, and keep as many calls.
-fn books_are_alike<A: Book, B: Book>(one: &mut A, other: &mut B) -> bool {
-    ranges_are_alike(one, other, RANGES + 10) && one.len() == other.len()
+// Whether they do, and whether they find the same ranges then, and keep as many calls.
+fn found_alike<A: Book, B: Book>(one: &mut A, other: &mut B) -> (bool, bool) {
+    let calls = calls_are_alike(one, other);
+    let ranges = ranges_are_alike(one, other, RANGES + 10);
+    (calls, ranges && one.len() == other.len())
 }
 
 #[test]
 fn ranges_of_many_holders_are_answered_alike(rt: HostRuntime) {
     let (mut plain, mut tables) = new_books(&rt);
-    assert!(rt; calls_are_alike(&mut plain, &mut tables));
-    assert!(rt; books_are_alike(&mut plain, &mut tables));
+    let found = found_alike(&mut plain, &mut tables);
     let _ = closed(tables);
+    same(&rt, &"calls, books", &found, &(true, true));
 }
 
 // Whether the books answer all Grants and Draws alike.
@@ -139,8 +144,9 @@ fn overlaps_are_found_alike<A: Book, B: Book>(one: &mut A, other: &mut B) -> boo
 #[test]
 fn ranges_are_found_as_before_once_the_ledger_is_opened_again(rt: HostRuntime) {
     let (mut plain, mut tables) = new_books(&rt);
-    assert!(rt; grants_and_draws_are_alike(&mut plain, &mut tables));
+    let before = grants_and_draws_are_alike(&mut plain, &mut tables);
     let mut opened = opened_again(&rt, tables);
-    assert!(rt; overlaps_are_found_alike(&mut plain, &mut opened));
+    let behind = overlaps_are_found_alike(&mut plain, &mut opened);
     let _ = closed(opened);
+    same(&rt, &"before, behind", &(before, behind), &(true, true));
 }

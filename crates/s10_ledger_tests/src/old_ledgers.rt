@@ -1,58 +1,44 @@
 //! Ledgers of the build that had no table of closed ranges, with other tables beside them and without.
 
-use crate::calls::{Step, closed, draw, drawn, nine_calls, run, withdraw};
+use crate::calls::Answered::{Drawn, NoRange, Withdrawn};
+use crate::calls::Asked::{Draw, Withdraw};
+use crate::calls::{NINE_CALLS, Step, closed, first_unlike, whole};
 use crate::creating::nine_kept;
-use crate::tables::{OLD_LEDGER, database, found, ledger_of, numbers, opens, run_batch};
-use s10_book::Book;
+use crate::expect::same;
+use crate::rows::{CLOSED, COMPLETE, INCOMPLETE, Left, NONE_CLOSED, Shown, left, left_behind};
+use crate::tables::{OLD_LEDGER, database};
 use s10_ledger::{OpenFault, Refused, SqlBook, Unwatched};
-use s10_rows::Opened;
-use s10_wire::Outcome;
 use sqlite::{Connection, Error, MemStore};
 use std::alloc::Global;
 use std::process::Abort;
-use std::test::Fail;
 
-const CLOSED: &str = "SELECT num, arrival FROM closed ORDER BY num";
+const DROP: &'static str = "DROP TABLE closed";
 
 /// A table of the office's own, with a row.
-const NOTE: &str =
+const NOTE: &'static str =
     "CREATE TABLE note (n INTEGER NOT NULL) STRICT; INSERT INTO note (n) VALUES (5);";
 
-// Whether the ledger is found, gets a table of closed ranges with no row, and is found again.
-fn is_completed(alloc: Global, conn: Connection<MemStore>, whole: Opened) -> Result<bool, Error> {
-    let Some((answer, mut conn)) = found(alloc, conn) else {
-        return Ok(false);
-    };
-    let closed = numbers(alloc, &mut conn, CLOSED, 2)?;
-    Ok(answer == Ok(whole) && closed.is_empty() && opens(alloc, conn, &Ok(whole)))
+/// What is left of an old ledger that is changed so.
+fn left_of_old(alloc: Global, changes: &[&str], shown: &[Shown]) -> Result<Option<Left>, Error> {
+    left_behind(alloc, database(alloc, &OLD_LEDGER), changes, shown)
 }
 
-// Whether the database is refused so, and has the tables then that it had.
-fn is_left_as_it_is(alloc: Global, conn: Connection<MemStore>, fault: OpenFault) -> bool {
-    let tables = conn.schema().tables.len();
-    let Some((answer, conn)) = found(alloc, conn) else {
-        return false;
-    };
-    answer == Err(fault)
-        && conn.schema().tables.len() == tables
-        && conn.schema().table_named(b"closed").is_none()
-}
-
-// The nine calls as this build keeps them, without the table of closed ranges.
-fn without_closed<R: Abort + AllocGlobal>(rt: &R) -> Result<Connection<MemStore>, Error> {
-    let mut conn = nine_kept(rt);
-    run_batch(&mut conn, "DROP TABLE closed")?;
-    Ok(conn)
+/// What is left of nine calls as this build keeps them that are changed so.
+fn left_of_kept<R: Abort + AllocGlobal>(
+    rt: &R,
+    changes: &[&str],
+    shown: &[Shown],
+) -> Result<Option<Left>, Error> {
+    left_behind(rt.alloc(), Ok(nine_kept(rt)), changes, shown)
 }
 
 #[test]
-fn a_ledger_without_closed_ranges_gets_their_table(rt: HostRuntime) -> Result<(), Fail> {
-    let whole = ledger_of(9, 20030).ok_or("settings")?;
-    let conn = without_closed(&rt)?;
-    assert!(rt; is_completed(rt.alloc(), conn, whole)?, "of this build");
-    let conn = database(rt.alloc(), &OLD_LEDGER)?;
-    assert!(rt; is_completed(rt.alloc(), conn, whole)?, "of an earlier one");
-    Ok(())
+fn a_ledger_without_closed_ranges_gets_their_table(rt: HostRuntime) {
+    let of_this_build = left_of_kept(&rt, &[DROP], NONE_CLOSED);
+    let of_an_earlier_one = left_of_old(rt.alloc(), &[], NONE_CLOSED);
+    let wanted = Ok(Some((Ok(whole(9, 20030)), true, COMPLETE, Ok(None))));
+    same(&rt, &"of this build", &of_this_build, &wanted);
+    same(&rt, &"of an earlier one", &of_an_earlier_one, &wanted);
 }
 
 /// The damage, and what opening answers then.
@@ -71,16 +57,15 @@ const DAMAGES: &[(&str, OpenFault)] = &[
 ];
 
 #[test]
-fn a_damaged_ledger_gets_no_table_of_closed_ranges(rt: HostRuntime) -> Result<(), Fail> {
+fn a_damaged_ledger_gets_no_table_of_closed_ranges(rt: HostRuntime) {
     for (damage, fault) in DAMAGES {
-        let mut conn = without_closed(&rt)?;
-        run_batch(&mut conn, damage)?;
-        assert!(rt; is_left_as_it_is(rt.alloc(), conn, *fault), "{damage}");
+        let found = left_of_kept(&rt, &[DROP, damage], &[]);
+        let wanted = (Err(*fault), true, INCOMPLETE, Ok(None));
+        same(&rt, damage, &found, &Ok(Some(wanted)));
     }
-    Ok(())
 }
 
-// The ledger in a connection, behind these steps. None where it does not open.
+/// The ledger in a connection, behind these steps. None where it does not open.
 fn served<R: Abort + AllocGlobal>(
     rt: &R,
     conn: Connection<MemStore>,
@@ -91,8 +76,10 @@ fn served<R: Abort + AllocGlobal>(
     }
     match SqlBook::open(rt.alloc(), conn, &mut Unwatched) {
         Ok(mut book) => {
-            run(rt, "served on", &mut book, steps);
-            Some(closed(book))
+            let unlike = first_unlike(&mut book, steps);
+            let conn = closed(book);
+            same(rt, &"served on", &unlike, &None);
+            Some(conn)
         }
         Err(
             Refused {
@@ -103,99 +90,74 @@ fn served<R: Abort + AllocGlobal>(
     }
 }
 
-// A Draw, a withdrawal and a Draw behind the nine calls, and two of them once more.
-fn later_calls() -> [Step; 5] {
-    [
-        (draw(7, 9), 20030, drawn(20030, 2)),
-        (withdraw(0, 2, 1), 20031, Ok(Outcome::Withdrawn)),
-        (draw(7, 10), 20031, Ok(Outcome::NoRange)),
-        (draw(7, 9), 20031, drawn(20030, 2)),
-        (withdraw(0, 2, 1), 20031, Ok(Outcome::Withdrawn)),
-    ]
-}
+/// A Draw, a withdrawal and a Draw behind the nine calls, and two of them once more.
+const LATER_CALLS: &'static [Step] = &[
+    (7, 9, Draw, 20030, Drawn(20030, 2)),
+    (0, 2, Withdraw(1), 20031, Withdrawn),
+    (7, 10, Draw, 20031, NoRange),
+    (7, 9, Draw, 20031, Drawn(20030, 2)),
+    (0, 2, Withdraw(1), 20031, Withdrawn),
+];
 
-// Whether the nine calls are answered as they were, later ones are kept, and all are found again.
-fn is_served_on<R: Abort + AllocGlobal>(
-    rt: &R,
-    conn: Connection<MemStore>,
-    whole: Opened,
-) -> Result<bool, Error> {
-    let Some(conn) = served(rt, conn, &nine_calls()) else {
-        return Ok(false);
-    };
-    let Some(mut conn) = served(rt, conn, &later_calls()) else {
-        return Ok(false);
-    };
-    let closed = numbers(rt.alloc(), &mut conn, CLOSED, 2)?;
-    Ok(closed.as_slice() == [1, 11].as_slice() && opens(rt.alloc(), conn, &Ok(whole)))
+const ONE_CLOSED: &'static [Shown] = &[(CLOSED, 2, &[1, 11])];
+
+/// What is left of an old ledger that answers the nine calls as they were answered, and later ones.
+fn left_of_served<R: Abort + AllocGlobal>(rt: &R) -> Option<Left> {
+    let conn = database(rt.alloc(), &OLD_LEDGER).ok()?;
+    let conn = served(rt, conn, NINE_CALLS)?;
+    let conn = served(rt, conn, LATER_CALLS)?;
+    left(rt.alloc(), conn, ONE_CLOSED)
 }
 
 #[test]
-fn a_ledger_of_an_earlier_build_is_served_on(rt: HostRuntime) -> Result<(), Fail> {
-    let whole = ledger_of(12, 20031).ok_or("settings")?;
-    let conn = database(rt.alloc(), &OLD_LEDGER)?;
-    assert!(rt; is_served_on(&rt, conn, whole)?);
-    Ok(())
+fn a_ledger_of_an_earlier_build_is_served_on(rt: HostRuntime) {
+    let wanted = (Ok(whole(12, 20031)), true, COMPLETE, Ok(None));
+    same(&rt, &"served on", &left_of_served(&rt), &Some(wanted));
 }
 
-// Whether the office's table has its row.
-fn has_note(alloc: Global, conn: &mut Connection<MemStore>) -> Result<bool, Error> {
-    let found = numbers(alloc, conn, "SELECT n FROM note", 1)?;
-    Ok(found.as_slice() == [5].as_slice())
-}
+/// The office's table has its row.
+const NOTE_ALONE: &'static [Shown] = &[("SELECT n FROM note", 1, &[5])];
 
-// Whether a ledger with a table beside it is served on, and that table is as it was.
-fn is_served_beside_note<R: Abort + AllocGlobal>(rt: &R, whole: Opened) -> Result<bool, Error> {
+/// What is left of the nine calls with a table of the office beside them, and later calls.
+fn left_beside_note<R: Abort + AllocGlobal>(rt: &R) -> Option<Left> {
     let mut conn = nine_kept(rt);
-    run_batch(&mut conn, NOTE)?;
-    let Some(mut conn) = served(rt, conn, &later_calls()) else {
-        return Ok(false);
-    };
-    Ok(has_note(rt.alloc(), &mut conn)? && opens(rt.alloc(), conn, &Ok(whole)))
+    conn.execute_batch(NOTE).ok()?;
+    let conn = served(rt, conn, LATER_CALLS)?;
+    left(rt.alloc(), conn, NOTE_ALONE)
 }
 
 #[test]
-fn a_ledger_is_served_beside_a_table_of_the_office(rt: HostRuntime) -> Result<(), Fail> {
-    let whole = ledger_of(12, 20031).ok_or("settings")?;
-    assert!(rt; is_served_beside_note(&rt, whole)?);
-    Ok(())
+fn a_ledger_is_served_beside_a_table_of_the_office(rt: HostRuntime) {
+    let wanted = (Ok(whole(12, 20031)), true, (6, true), Ok(None));
+    same(
+        &rt,
+        &"beside a table",
+        &left_beside_note(&rt),
+        &Some(wanted),
+    );
 }
 
-// Whether an old ledger with a table beside it is refused, and both are as they were.
-fn is_refused_beside_note(alloc: Global, texts: &[&str]) -> Result<bool, Error> {
-    let mut conn = database(alloc, texts)?;
-    run_batch(&mut conn, NOTE)?;
-    let Some((answer, mut conn)) = found(alloc, conn) else {
-        return Ok(false);
-    };
-    let calls = numbers(alloc, &mut conn, "SELECT arrival FROM calls", 1)?;
-    Ok(
-        answer == Err(OpenFault::NotALedger)
-            && has_note(alloc, &mut conn)?
-            && calls.len() == 9
-            && conn.schema().tables.len() == 5
-            && conn.schema().table_named(b"closed").is_none(),
-    )
-}
+const NOTE_AND_CALLS: &'static [Shown] = &[
+    ("SELECT n FROM note", 1, &[5]),
+    ("SELECT count(*) FROM calls", 1, &[9]),
+];
 
-/// What else may stand beside a ledger.
-const BESIDE: &[&str] = &[
-    "CREATE VIEW late AS SELECT arrival FROM calls WHERE day > 20000",
-    "CREATE INDEX by_day ON calls (day)",
+/// What else may stand beside an old ledger, the rows that are left, and the tables.
+const BESIDE: &[(&str, &'static [Shown], (usize, bool))] = &[
+    (NOTE, NOTE_AND_CALLS, (5, false)),
+    (
+        "CREATE VIEW late AS SELECT arrival FROM calls WHERE day > 20000",
+        &[],
+        INCOMPLETE,
+    ),
+    ("CREATE INDEX by_day ON calls (day)", &[], INCOMPLETE),
 ];
 
 #[test]
-fn an_old_ledger_beside_a_table_of_the_office_is_left_as_it_is(
-    rt: HostRuntime,
-) -> Result<(), Fail> {
-    assert!(rt; is_refused_beside_note(rt.alloc(), &OLD_LEDGER)?);
-    for beside in BESIDE {
-        let mut conn = database(rt.alloc(), &OLD_LEDGER)?;
-        run_batch(&mut conn, beside)?;
-        assert!(rt;
-            is_left_as_it_is(rt.alloc(), conn, OpenFault::NotALedger),
-            "{beside}"
-        );
+fn an_old_ledger_beside_a_table_of_the_office_is_left_as_it_is(rt: HostRuntime) {
+    for (beside, shown, tables) in BESIDE {
+        let found = left_of_old(rt.alloc(), &[beside], shown);
+        let wanted = (Err(OpenFault::NotALedger), true, *tables, Ok(None));
+        same(&rt, beside, &found, &Ok(Some(wanted)));
     }
-    Ok(())
 }

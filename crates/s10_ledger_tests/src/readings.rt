@@ -1,7 +1,7 @@
 //! Calls and usage, read off rows.
 
 use crate::expect::same;
-use s10_book::PlainBook;
+use s10_book::{BookFault, PlainBook};
 use s10_core::{Country, Serial, Service};
 use s10_history::{Range, Settings, Usage};
 use s10_replay::{replay_rows, usage_among};
@@ -11,80 +11,33 @@ use std::process::Abort;
 
 const RA_GB: i64 = 1380009794;
 
+/// The reply to the post's Grant of RA GB 0 to 2 to customer 7.
+const GRANT: &[u8] = b"S1\x01\x81\0\0\0\0\0\0\0\x01\0\0\0\x07RAGB\0\0\0\0\0\0\0\x02\0\0\0\0\x01";
+
 /// The reply to customer 7's first Draw of RA GB, on day 20000.
 const REPLY: &[u8] =
     b"S1\x01\x82\x00\x00\x00\x07\x00\x00\x00\x01RAGB\x00\x00\x00\x4e\x20RA000000005GB";
 
-fn service(rt: &impl Abort, letters: [u8; 2]) -> Service {
-    match Service::new(letters) {
-        Some(service) => service,
-        None => panic!(rt),
-    }
-}
-
-fn country(rt: &impl Abort, letters: [u8; 2]) -> Country {
-    match Country::new(letters) {
-        Some(country) => country,
-        None => panic!(rt),
-    }
-}
-
-fn serial(rt: &impl Abort, value: u32) -> Serial {
-    match Serial::new(value) {
-        Some(serial) => serial,
-        None => panic!(rt),
-    }
-}
-
-fn call_row(rt: &impl Abort, alloc: Global, day: i64, reply: &[u8]) -> CallRow {
-    match Vec::from_slice(alloc, reply) {
-        Ok(reply) => CallRow::new(2, 7, 1, day, reply),
-        Err(_) => panic!(rt),
-    }
-}
-
-fn range(rt: &impl Abort, num: u32, holder: u32, letters: [u8; 2], first: u32, last: u32) -> Range {
-    Range {
-        num,
-        holder,
-        service: service(rt, letters),
-        country: country(rt, *b"GB"),
-        first: serial(rt, first),
-        last: serial(rt, last),
-    }
-}
-
-fn serial_row(serial: i64, arrival: i64, day: i64, number: i64, voided: i64) -> SerialRow {
-    SerialRow {
-        pair: RA_GB,
-        serial,
-        arrival,
-        day,
-        customer: 7,
-        number,
-        voided,
-    }
-}
-
 #[test]
 fn pairs_are_four_letters_as_a_number(rt: HostRuntime) {
-    let ra = service(&rt, *b"RA");
-    let gb = country(&rt, *b"GB");
+    let ra = Service::new(*b"RA").unwrap();
+    let gb = Country::new(*b"GB").unwrap();
     same(&rt, &"RA GB", &pair_number(ra, gb), &1380009794);
 }
 
-// What comes of the row of customer 7's first Draw as the second call of a ledger, with that day and that reply.
-fn replayed(rt: &impl Abort, alloc: Global, day: i64, reply: &[u8]) -> Result<(), OpenFault> {
-    let Some(settings) = Settings::new(30, 100) else {
-        panic!(rt)
+// What comes of the row of customer 7's first Draw as the second call of a ledger, with that day and that reply. None where there
+// is no memory for it.
+fn replayed(alloc: Global, day: i64, reply: &[u8]) -> Option<Result<(), OpenFault>> {
+    let Ok(grant) = Vec::from_slice(alloc, GRANT) else {
+        return None;
     };
-    let grant = b"S1\x01\x81\0\0\0\0\0\0\0\x01\0\0\0\x07RAGB\0\0\0\0\0\0\0\x02\0\0\0\0\x01";
-    let first = match Vec::from_slice(alloc, grant) {
-        Ok(grant) => CallRow::new(1, 0, 1, 20000, grant),
-        Err(_) => panic!(rt),
+    let first = CallRow::new(1, 0, 1, 20000, grant);
+    let Ok(reply) = Vec::from_slice(alloc, reply) else {
+        return None;
     };
-    let mut book = PlainBook::new(alloc, settings);
-    replay_rows(&mut book, &[first, call_row(rt, alloc, day, reply)])
+    let rows = [first, CallRow::new(2, 7, 1, day, reply)];
+    let mut book = PlainBook::new(alloc, Settings::new(30, 100).unwrap());
+    Some(replay_rows(&mut book, &rows))
 }
 
 const LONG: &[u8] =
@@ -104,32 +57,107 @@ const ROWS: &[(i64, &[u8], Result<(), OpenFault>)] = &[
 #[test]
 fn rows_that_do_not_read_are_damage(rt: HostRuntime) {
     for (day, reply, told) in ROWS {
-        let found = replayed(&rt, rt.alloc(), *day, reply);
-        same(&rt, &(*day, reply.len()), &found, told);
+        let found = replayed(rt.alloc(), *day, reply);
+        same(&rt, &(*day, reply.len()), &found, &Some(*told));
     }
 }
 
-// Whether the rows of the range RA GB 0 to 2 tell so many serials used, voided and free.
-fn is_used(rt: &impl Abort, rows: &[SerialRow], day: u32, usage: (u32, u32, u32)) -> bool {
-    let range = range(rt, 1, 7, *b"RA", 0, 2);
-    let (used, voided, free) = usage;
-    usage_among(rows, &range, day, 30) == Ok(Usage { used, voided, free })
-}
+/// Serials 0 and 1 of RA GB as customer 7 drew them first, the second of which was voided; and as it drew them again on day 20030.
+const FIRST: SerialRow = SerialRow {
+    pair: RA_GB,
+    serial: 0,
+    arrival: 2,
+    day: 20000,
+    customer: 7,
+    number: 1,
+    voided: 0,
+};
 
-// Three draws, of which one was voided; and, thirty days on, two more.
+const VOIDED: SerialRow = SerialRow {
+    pair: RA_GB,
+    serial: 1,
+    arrival: 3,
+    day: 20000,
+    customer: 7,
+    number: 2,
+    voided: 1,
+};
+
+const FIRST_AGAIN: SerialRow = SerialRow {
+    pair: RA_GB,
+    serial: 0,
+    arrival: 8,
+    day: 20030,
+    customer: 7,
+    number: 7,
+    voided: 0,
+};
+
+const SECOND_AGAIN: SerialRow = SerialRow {
+    pair: RA_GB,
+    serial: 1,
+    arrival: 9,
+    day: 20030,
+    customer: 7,
+    number: 8,
+    voided: 0,
+};
+
+/// Serial 2, drawn once.
+const THIRD: SerialRow = SerialRow {
+    pair: RA_GB,
+    serial: 2,
+    arrival: 6,
+    day: 20000,
+    customer: 7,
+    number: 5,
+    voided: 0,
+};
+
+/// The rows of the range RA GB 0 to 2, a day, and the usage of the range: three draws, of which one was voided; thirty days on, two
+/// more; and no row.
+const USED: &[(&[SerialRow], u32, Result<Usage, BookFault>)] = &[
+    (
+        &[FIRST, VOIDED, THIRD],
+        20000,
+        Ok(Usage {
+            used: 3,
+            voided: 1,
+            free: 0,
+        }),
+    ),
+    (
+        &[FIRST_AGAIN, SECOND_AGAIN, THIRD],
+        20030,
+        Ok(Usage {
+            used: 3,
+            voided: 0,
+            free: 1,
+        }),
+    ),
+    (
+        &[],
+        20000,
+        Ok(Usage {
+            used: 0,
+            voided: 0,
+            free: 3,
+        }),
+    ),
+];
+
 #[test]
 fn usage_is_that_of_the_report(rt: HostRuntime) {
-    let first_day = [
-        serial_row(0, 2, 20000, 1, 0),
-        serial_row(1, 3, 20000, 2, 1),
-        serial_row(2, 6, 20000, 5, 0),
-    ];
-    let thirty_on = [
-        serial_row(0, 8, 20030, 7, 0),
-        serial_row(1, 9, 20030, 8, 0),
-        serial_row(2, 6, 20000, 5, 0),
-    ];
-    assert!(rt; is_used(&rt, &first_day, 20000, (3, 1, 0)));
-    assert!(rt; is_used(&rt, &thirty_on, 20030, (3, 0, 1)));
-    assert!(rt; is_used(&rt, &[], 20000, (0, 0, 3)));
+    let range = Range {
+        num: 1,
+        holder: 7,
+        service: Service::new(*b"RA").unwrap(),
+        country: Country::new(*b"GB").unwrap(),
+        first: Serial::new(0).unwrap(),
+        last: Serial::new(2).unwrap(),
+    };
+    for (rows, day, usage) in USED {
+        let found = usage_among(rows, &range, *day, 30);
+        same(&rt, &(rows.len(), *day), &found, usage);
+    }
 }

@@ -1,10 +1,9 @@
 //! A ledger with a sheet in it, made by statements, and what opening finds where a row of it is damaged.
 
-use crate::tables::{HEAD, TABLES, database, ledger_of, opens, run_batch};
+use crate::tables::{
+    CALLS_TABLE, CLOSED_TABLE, Change, HEAD, HEAD_TABLE, RANGES_TABLE, SERIALS_TABLE, are_found,
+};
 use s10_ledger::OpenFault;
-use sqlite::{Connection, Error, MemStore};
-use std::alloc::Global;
-use std::test::Fail;
 
 /// The post grants RA GB 0 to 2 and 4 to 5 to customer 7, which draws a sheet of five.
 const THREE_REPLIES: &str = "INSERT INTO calls (arrival, customer, number, day, reply) VALUES
@@ -25,53 +24,72 @@ const FIVE_SERIALS: &str =
 (1380009794, 4, 3, 20000, 7, 1, 0),
 (1380009794, 5, 3, 20000, 7, 1, 0);";
 
-fn sheet_ledger(alloc: Global) -> Result<Connection<MemStore>, Error> {
-    let mut conn = database(alloc, &TABLES)?;
-    for text in &[HEAD, THREE_REPLIES, TWO_RANGES, FIVE_SERIALS] {
-        run_batch(&mut conn, text)?;
-    }
-    Ok(conn)
-}
-
-fn is_damaged(alloc: Global, damage: &str, call: u32) -> Result<bool, Error> {
-    let mut conn = sheet_ledger(alloc)?;
-    run_batch(&mut conn, damage)?;
-    Ok(opens(alloc, conn, &Err(OpenFault::Damaged(call))))
-}
-
-#[test]
-fn a_ledger_with_a_sheet_opens(rt: HostRuntime) -> Result<(), Fail> {
-    let whole = ledger_of(3, 20000).ok_or("settings")?;
-    let conn = sheet_ledger(rt.alloc())?;
-    assert!(rt; opens(rt.alloc(), conn, &Ok(whole)));
-    Ok(())
-}
-
-/// The damage, and where it is found.
-const DAMAGES: &[(&str, u32)] = &[
-    ("UPDATE serials SET day = 20001 WHERE serial = 0", 0),
-    ("UPDATE serials SET arrival = 2 WHERE serial = 1", 0),
-    ("UPDATE serials SET number = 2 WHERE serial = 2", 0),
-    ("UPDATE serials SET voided = 1 WHERE serial = 4", 0),
-    ("UPDATE serials SET customer = 8 WHERE serial = 5", 0),
-    ("DELETE FROM serials WHERE serial = 4", 0),
-    ("UPDATE ranges SET mark = 1 WHERE num = 1", 0),
-    ("UPDATE ranges SET mark = 5 WHERE num = 2", 0),
-    (
-        "UPDATE calls SET reply = x'53310285000000070000000152414742050000004e205241303030303030303134474252413030303030303030354742524130303030303030323847425241303030303030303435474252413030303030303035394742' WHERE arrival = 3",
-        3,
-    ),
-    (
-        "UPDATE calls SET reply = x'533102850000000700000001524147420505' WHERE arrival = 3",
-        3,
-    ),
-    ("DELETE FROM calls WHERE arrival = 3", 0),
+const SHEET_LEDGER: &[&str] = &[
+    HEAD_TABLE,
+    CALLS_TABLE,
+    RANGES_TABLE,
+    SERIALS_TABLE,
+    CLOSED_TABLE,
+    HEAD,
+    THREE_REPLIES,
+    TWO_RANGES,
+    FIVE_SERIALS,
 ];
 
 #[test]
-fn each_row_of_a_sheet_is_compared(rt: HostRuntime) -> Result<(), Fail> {
-    for (damage, call) in DAMAGES {
-        assert!(rt; is_damaged(rt.alloc(), damage, *call)?, "{damage}");
-    }
-    Ok(())
+fn a_ledger_with_a_sheet_opens(rt: HostRuntime) {
+    are_found(&rt, SHEET_LEDGER, &[("", Ok((30, 100, 3, 20000)))]);
+}
+
+/// The damage, and what is found then.
+const DAMAGES: &[Change] = &[
+    (
+        "UPDATE serials SET day = 20001 WHERE serial = 0",
+        Err(OpenFault::Damaged(0)),
+    ),
+    (
+        "UPDATE serials SET arrival = 2 WHERE serial = 1",
+        Err(OpenFault::Damaged(0)),
+    ),
+    (
+        "UPDATE serials SET number = 2 WHERE serial = 2",
+        Err(OpenFault::Damaged(0)),
+    ),
+    (
+        "UPDATE serials SET voided = 1 WHERE serial = 4",
+        Err(OpenFault::Damaged(0)),
+    ),
+    (
+        "UPDATE serials SET customer = 8 WHERE serial = 5",
+        Err(OpenFault::Damaged(0)),
+    ),
+    (
+        "DELETE FROM serials WHERE serial = 4",
+        Err(OpenFault::Damaged(0)),
+    ),
+    (
+        "UPDATE ranges SET mark = 1 WHERE num = 1",
+        Err(OpenFault::Damaged(0)),
+    ),
+    (
+        "UPDATE ranges SET mark = 5 WHERE num = 2",
+        Err(OpenFault::Damaged(0)),
+    ),
+    (
+        "UPDATE calls SET reply = x'53310285000000070000000152414742050000004e205241303030303030303134474252413030303030303030354742524130303030303030323847425241303030303030303435474252413030303030303035394742' WHERE arrival = 3",
+        Err(OpenFault::Damaged(3)),
+    ),
+    (
+        "UPDATE calls SET reply = x'533102850000000700000001524147420505' WHERE arrival = 3",
+        Err(OpenFault::Damaged(3)),
+    ),
+    (
+        "DELETE FROM calls WHERE arrival = 3",
+        Err(OpenFault::Damaged(0)),
+    ),
+];
+
+#[test]
+fn each_row_of_a_sheet_is_compared(rt: HostRuntime) {
+    are_found(&rt, SHEET_LEDGER, DAMAGES);
 }

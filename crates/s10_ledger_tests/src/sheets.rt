@@ -5,13 +5,13 @@ use crate::expect::same;
 use s10_book::{Book, PlainBook};
 use s10_ends::{Answer, Delivery, Server};
 use s10_link::Packet;
+use s10_reports::write_ranges;
 use s10_wire::WireFault;
 use std::alloc::{AllocError, Global};
 use std::process::Abort;
-use std::test::Fail;
 
 /// The answer to a delivery.
-#[derive(Clone, Copy, Debug)]
+#[derive(Clone, Copy)]
 pub enum Want {
     Reply(&'static [u8]),
     Dropped(WireFault),
@@ -32,28 +32,37 @@ const SHEET: Step = (
     Want::Reply(b"S1\x02\x85\0\0\0\x07\0\0\0\x01RAGB\x02\0\0\0\x4e\x20RA000000005GBRA000000014GB"),
 );
 
-/// Sheets from one range of three serials, until the thirtieth day, on which it goes round.
-const ONE_RANGE: [Step; 8] = [
+const NONE_FREE: Step = (
+    20_000,
+    b"S1\x02\x05\0\0\0\x07\0\0\0\x02RAGB\x02",
+    Want::Reply(b"S1\x02\x85\0\0\0\x07\0\0\0\x02RAGB\x02\x05"),
+);
+
+const THIRD_SERIAL: Step = (
+    20_000,
+    b"S1\x01\x02\0\0\0\x07\0\0\0\x03RAGB",
+    Want::Reply(b"S1\x01\x82\0\0\0\x07\0\0\0\x03RAGB\0\0\0\x4e\x20RA000000028GB"),
+);
+
+const GOING_ROUND: Step = (
+    20_030,
+    b"S1\x02\x05\0\0\0\x07\0\0\0\x04RAGB\x03",
+    Want::Reply(
+        b"S1\x02\x85\0\0\0\x07\0\0\0\x04RAGB\x03\0\0\0\x4e\x3eRA000000005GBRA000000014GBRA000000028GB",
+    ),
+);
+
+/// Sheets from one range of three serials, until the thirtieth day.
+const FIRST_ROUND: &[Step] = &[GRANT, SHEET, SHEET, NONE_FREE, THIRD_SERIAL];
+
+/// The same, and on that day, on which it goes round.
+const ONE_RANGE: &[Step] = &[
     GRANT,
     SHEET,
     SHEET,
-    (
-        20_000,
-        b"S1\x02\x05\0\0\0\x07\0\0\0\x02RAGB\x02",
-        Want::Reply(b"S1\x02\x85\0\0\0\x07\0\0\0\x02RAGB\x02\x05"),
-    ),
-    (
-        20_000,
-        b"S1\x01\x02\0\0\0\x07\0\0\0\x03RAGB",
-        Want::Reply(b"S1\x01\x82\0\0\0\x07\0\0\0\x03RAGB\0\0\0\x4e\x20RA000000028GB"),
-    ),
-    (
-        20_030,
-        b"S1\x02\x05\0\0\0\x07\0\0\0\x04RAGB\x03",
-        Want::Reply(
-            b"S1\x02\x85\0\0\0\x07\0\0\0\x04RAGB\x03\0\0\0\x4e\x3eRA000000005GBRA000000014GBRA000000028GB",
-        ),
-    ),
+    NONE_FREE,
+    THIRD_SERIAL,
+    GOING_ROUND,
     (
         20_030,
         b"S1\x02\x05\0\0\0\x07\0\0\0\x05RAGB\x01",
@@ -66,23 +75,25 @@ const ONE_RANGE: [Step; 8] = [
     ),
 ];
 
+const SECOND_GRANT: Step = (
+    20_000,
+    b"S1\x01\x01\0\0\0\0\0\0\0\x02\0\0\0\x07RAGB\0\0\0\x04\0\0\0\x05",
+    Want::Reply(b"S1\x01\x81\0\0\0\0\0\0\0\x02\0\0\0\x07RAGB\0\0\0\x04\0\0\0\x05\0\0\0\0\x02"),
+);
+
+const OF_BOTH: Step = (
+    20_000,
+    b"S1\x02\x05\0\0\0\x07\0\0\0\x01RAGB\x05",
+    Want::Reply(
+        b"S1\x02\x85\0\0\0\x07\0\0\0\x01RAGB\x05\0\0\0\x4e\x20\
+        RA000000005GBRA000000014GBRA000000028GBRA000000045GBRA000000059GB",
+    ),
+);
+
+const TWO_GRANTS: &[Step] = &[GRANT, SECOND_GRANT];
+
 /// A sheet that goes on in the customer's second range.
-const TWO_RANGES: [Step; 3] = [
-    GRANT,
-    (
-        20_000,
-        b"S1\x01\x01\0\0\0\0\0\0\0\x02\0\0\0\x07RAGB\0\0\0\x04\0\0\0\x05",
-        Want::Reply(b"S1\x01\x81\0\0\0\0\0\0\0\x02\0\0\0\x07RAGB\0\0\0\x04\0\0\0\x05\0\0\0\0\x02"),
-    ),
-    (
-        20_000,
-        b"S1\x02\x05\0\0\0\x07\0\0\0\x01RAGB\x05",
-        Want::Reply(
-            b"S1\x02\x85\0\0\0\x07\0\0\0\x01RAGB\x05\0\0\0\x4e\x20\
-            RA000000005GBRA000000014GBRA000000028GBRA000000045GBRA000000059GB",
-        ),
-    ),
-];
+const TWO_RANGES: &[Step] = &[GRANT, SECOND_GRANT, OF_BOTH];
 
 /// The longest sheet.
 const SIXTEEN: &[Step] = &[
@@ -139,69 +150,91 @@ fn is_as_wanted(answer: &Answer, want: Want) -> bool {
 fn deliveries_of(alloc: Global, steps: &[Step]) -> Result<Vec<Delivery>, AllocError> {
     let mut deliveries = Vec::new(alloc);
     for (day, datagram, _) in steps {
-        deliveries.push(Delivery {
-            packet: Packet::new(datagram),
-            day: *day,
-        })?;
+        let packet = Packet::new(datagram);
+        deliveries.push(Delivery { packet, day: *day })?;
     }
     Ok(deliveries)
 }
 
-/// The answers of a server to what it is handed at once, and its book behind that.
-fn served<B: Book>(
+/// Which of the steps a server that is handed all at once answers otherwise than wanted.
+fn first_unlike<B: Book>(
     alloc: Global,
-    book: B,
-    deliveries: &[Delivery],
-) -> (B, Result<Vec<Answer>, AllocError>) {
-    let mut server = Server::new(book);
-    let answers = server.run(alloc, deliveries);
-    (server.into_book(), answers)
-}
-
-/// Which step was answered otherwise than wanted.
-fn first_unlike(answers: &[Answer], steps: &[Step]) -> Option<usize> {
-    let mut pairs = answers.iter().zip(steps);
-    pairs.position(|(answer, (_, _, want))| !is_as_wanted(answer, *want))
-}
-
-/// Which of the steps a book answers otherwise than wanted, and the book behind them.
-pub(crate) fn played<B: Book>(
-    alloc: Global,
-    book: B,
+    server: &mut Server<B>,
     steps: &[Step],
-) -> (B, Result<Option<usize>, AllocError>) {
-    match deliveries_of(alloc, steps) {
-        Ok(deliveries) => {
-            let (book, answers) = served(alloc, book, &deliveries);
-            match answers {
-                Ok(answers) => (book, Ok(first_unlike(&answers, steps))),
-                Err(error) => (book, Err(error)),
-            }
+) -> Result<Option<usize>, AllocError> {
+    let deliveries = deliveries_of(alloc, steps)?;
+    let answers = server.run(alloc, &deliveries)?;
+    for (place, (answer, (_, _, want))) in answers.iter().zip(steps).enumerate() {
+        if !is_as_wanted(answer, *want) {
+            return Ok(Some(place));
         }
-        Err(error) => (book, Err(error)),
     }
+    Ok(None)
 }
 
-fn are_answered<R: Abort + AllocGlobal>(rt: &R, name: &str, steps: &[Step]) -> Result<(), Fail> {
+/// How many calls a book keeps, and the ranges that it reports.
+pub(crate) type Left = (u32, &'static [u8]);
+
+/// Whether a book is left so, where that is told.
+fn is_left<B: Book>(alloc: Global, book: &mut B, left: Option<Left>) -> bool {
+    let Some((calls, ranges)) = left else {
+        return true;
+    };
+    let mut out = Vec::new(alloc);
+    write_ranges(book, 20_000, &mut out) == Ok(())
+        && out.as_slice() == ranges
+        && book.len() == calls
+}
+
+/// Which of the steps a book answers otherwise than wanted, and whether it is left so then.
+type Behind = (Result<Option<usize>, AllocError>, bool);
+
+/// That, and the book.
+fn behind<B: Book>(alloc: Global, book: B, steps: &[Step], left: Option<Left>) -> (B, Behind) {
+    let mut server = Server::new(book);
+    let unlike = first_unlike(alloc, &mut server, steps);
+    let mut book = server.into_book();
+    let is_left = is_left(alloc, &mut book, left);
+    (book, (unlike, is_left))
+}
+
+/// A book in memory and one in tables answer the steps as wanted, and are left so.
+pub(crate) fn are_answered<R: Abort + AllocGlobal>(
+    rt: &R,
+    name: &str,
+    steps: &[Step],
+    left: Option<Left>,
+) {
     let settings = settings(rt, 100);
-    let (_, unlike) = played(rt.alloc(), PlainBook::new(rt.alloc(), settings), steps);
-    same(rt, &(name, "in memory"), &unlike?, &None);
-    let (tables, unlike) = played(rt.alloc(), ledger(rt, settings), steps);
+    let plain = PlainBook::new(rt.alloc(), settings);
+    let (_, in_memory) = behind(rt.alloc(), plain, steps, left);
+    let (tables, in_tables) = behind(rt.alloc(), ledger(rt, settings), steps, left);
     let _ = closed(tables);
-    same(rt, &(name, "in tables"), &unlike?, &None);
-    Ok(())
+    let wanted = (Ok(None), true);
+    same(
+        rt,
+        &(name, "in memory, in tables"),
+        &(in_memory, in_tables),
+        &(wanted, wanted),
+    );
 }
 
 #[test]
-fn sheets_are_answered_as_worked_by_hand(rt: HostRuntime) -> Result<(), Fail> {
-    are_answered(&rt, "one range", &ONE_RANGE)?;
-    are_answered(&rt, "two ranges", &TWO_RANGES)?;
-    are_answered(&rt, "sixteen", SIXTEEN)?;
-    are_answered(&rt, "refused", REFUSED)
+fn sheets_are_answered_as_worked_by_hand(rt: HostRuntime) {
+    are_answered(&rt, "one range", ONE_RANGE, None);
+    are_answered(&rt, "two ranges", TWO_RANGES, None);
+    are_answered(&rt, "sixteen", SIXTEEN, None);
+    are_answered(&rt, "refused", REFUSED, None);
 }
 
 /// Draws with numbers that no sheet above has.
-const DRAWS: [&[u8]; 5] = [
+const THREE_DRAWS: &[&[u8]] = &[
+    b"S1\x01\x02\0\0\0\x07\0\0\0\x0aRAGB",
+    b"S1\x01\x02\0\0\0\x07\0\0\0\x0bRAGB",
+    b"S1\x01\x02\0\0\0\x07\0\0\0\x0cRAGB",
+];
+
+const FIVE_DRAWS: &[&[u8]] = &[
     b"S1\x01\x02\0\0\0\x07\0\0\0\x0aRAGB",
     b"S1\x01\x02\0\0\0\x07\0\0\0\x0bRAGB",
     b"S1\x01\x02\0\0\0\x07\0\0\0\x0cRAGB",
@@ -209,8 +242,64 @@ const DRAWS: [&[u8]; 5] = [
     b"S1\x01\x02\0\0\0\x07\0\0\0\x0eRAGB",
 ];
 
-/// What the replies to datagrams say from the byte of that place on, one behind the other, where a ledger gets them on that day
-/// behind those steps.
+/// These datagrams on this day.
+fn deliveries_on(
+    alloc: Global,
+    day: u32,
+    datagrams: &[&[u8]],
+) -> Result<Vec<Delivery>, AllocError> {
+    let mut deliveries = Vec::new(alloc);
+    for datagram in datagrams {
+        deliveries.push(Delivery {
+            packet: Packet::new(datagram),
+            day,
+        })?;
+    }
+    Ok(deliveries)
+}
+
+/// What replies say from the byte of that place on, one behind the other.
+fn texts_of(alloc: Global, answers: &[Answer], from: usize) -> Result<Vec<u8>, AllocError> {
+    let mut text = Vec::new(alloc);
+    for answer in answers {
+        if let Answer::Reply(frame) = answer {
+            if let Some(tail) = frame.bytes().get(from..) {
+                text.extend_from_slice(tail)?;
+            }
+        }
+    }
+    Ok(text)
+}
+
+/// What the replies say to datagrams that a server gets at once.
+fn text_from<B: Book>(
+    alloc: Global,
+    server: &mut Server<B>,
+    day: u32,
+    datagrams: &[&[u8]],
+    from: usize,
+) -> Result<Vec<u8>, AllocError> {
+    let deliveries = deliveries_on(alloc, day, datagrams)?;
+    let answers = server.run(alloc, &deliveries)?;
+    texts_of(alloc, &answers, from)
+}
+
+/// The same over a book that gets them on that day behind those steps; and the book.
+fn text_behind<B: Book>(
+    alloc: Global,
+    book: B,
+    steps: &[Step],
+    day: u32,
+    datagrams: &[&[u8]],
+    from: usize,
+) -> (B, Result<Vec<u8>, AllocError>) {
+    let mut server = Server::new(book);
+    let _ = first_unlike(alloc, &mut server, steps);
+    let text = text_from(alloc, &mut server, day, datagrams, from);
+    (server.into_book(), text)
+}
+
+/// The same over a ledger.
 fn told<R: Abort + AllocGlobal>(
     rt: &R,
     steps: &[Step],
@@ -218,33 +307,10 @@ fn told<R: Abort + AllocGlobal>(
     datagrams: &[&[u8]],
     from: usize,
 ) -> Result<Vec<u8>, AllocError> {
-    let mut deliveries = deliveries_of(rt.alloc(), steps)?;
-    for datagram in datagrams {
-        deliveries.push(Delivery {
-            packet: Packet::new(datagram),
-            day,
-        })?;
-    }
-    let (tables, answers) = served(rt.alloc(), ledger(rt, settings(rt, 100)), &deliveries);
-    let _ = closed(tables);
-    texts_of(rt.alloc(), &answers?, steps.len(), from)
-}
-
-fn texts_of(
-    alloc: Global,
-    answers: &[Answer],
-    first: usize,
-    from: usize,
-) -> Result<Vec<u8>, AllocError> {
-    let mut text = Vec::new(alloc);
-    for answer in answers.iter().skip(first) {
-        if let Answer::Reply(frame) = answer {
-            for byte in frame.bytes().iter().skip(from) {
-                text.push(*byte)?;
-            }
-        }
-    }
-    Ok(text)
+    let ledger = ledger(rt, settings(rt, 100));
+    let (ledger, text) = text_behind(rt.alloc(), ledger, steps, day, datagrams, from);
+    let _ = closed(ledger);
+    text
 }
 
 /// Whether a sheet behind those steps has the identifiers that so many Draws have in its place.
@@ -253,22 +319,25 @@ fn is_as_draws<R: Abort + AllocGlobal>(
     steps: &[Step],
     sheet: Step,
     draws: &[&[u8]],
-) -> Result<bool, AllocError> {
+) -> bool {
     let (day, datagram, _) = sheet;
-    let together = told(rt, steps, day, &[datagram], 22)?;
-    let apart = told(rt, steps, day, draws, 21)?;
-    Ok(together.len() == 13 * draws.len() && *together == *apart)
+    let Ok(together) = told(rt, steps, day, &[datagram], 22) else {
+        return false;
+    };
+    let Ok(apart) = told(rt, steps, day, draws, 21) else {
+        return false;
+    };
+    together.len() == 13 * draws.len() && *together == *apart
 }
 
 #[test]
-fn a_sheet_has_the_identifiers_of_so_many_draws(rt: HostRuntime) -> Result<(), Fail> {
-    assert!(rt;
-        is_as_draws(&rt, &ONE_RANGE[..5], ONE_RANGE[5], &DRAWS[..3])?,
-        "going round"
+fn a_sheet_has_the_identifiers_of_so_many_draws(rt: HostRuntime) {
+    let is_round = is_as_draws(&rt, FIRST_ROUND, GOING_ROUND, THREE_DRAWS);
+    let is_of_both = is_as_draws(&rt, TWO_GRANTS, OF_BOTH, FIVE_DRAWS);
+    same(
+        &rt,
+        &"going round, two ranges",
+        &(is_round, is_of_both),
+        &(true, true),
     );
-    assert!(rt;
-        is_as_draws(&rt, &TWO_RANGES[..2], TWO_RANGES[2], &DRAWS)?,
-        "two ranges"
-    );
-    Ok(())
 }

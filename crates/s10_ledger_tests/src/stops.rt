@@ -1,11 +1,13 @@
 //! A ledger of the build that had no table of closed ranges, opened over files that stop at one of their calls.
 
-use crate::tables::{OLD_LEDGER, run_batch};
+use crate::expect::same;
+use crate::tables::{OLD_LEDGER, run_batches};
 use s10_book::Book;
 use s10_ledger::{OpenFault, Refused, SqlBook, Unwatched};
 use sqlite::{Alter, Connection, FileStore, Files, Options};
 use sqlite_disk::{Crash, Disk, Fuse, Memory};
 use std::alloc::Global;
+use std::process::Abort;
 use std::test::Fail;
 
 /// How an opening ended.
@@ -35,117 +37,146 @@ const TIGHT: Options = Options {
     seed: 7,
 };
 
-/// A file of these bytes, all of them synced.
-fn file_of(alloc: Global, bytes: &[u8]) -> Result<Memory, Fail> {
-    let mut file = Memory::new(alloc);
-    file.write_at(0, bytes)?;
-    file.sync()?;
-    Ok(file)
+/// What is done in a connection.
+#[derive(Clone, Copy)]
+enum Act {
+    Nothing,
+    /// The statements of the ledger of the nine calls are run.
+    Fill,
+    /// Its ledger is opened.
+    Open(Global),
 }
 
-/// A connection over two empty files.
-fn new_database(alloc: Global) -> Option<Connection<FileStore<Memory>>> {
-    let files = Files {
+/// Two files of these bytes, all of them synced.
+fn files_with(alloc: Global, log: &[u8], db: &[u8]) -> Option<Files<Memory>> {
+    let mut files = Files {
         log: Memory::new(alloc),
         db: Memory::new(alloc),
     };
-    Connection::open_files(alloc, files, Options::new(7)).ok()
-}
-
-/// The files of a connection that is closed. None where they were not written.
-fn written_files(conn: Connection<FileStore<Memory>>) -> Option<Files<Memory>> {
-    conn.close_files().ok()
-}
-
-/// Whether the tables and the rows of the nine calls are made.
-fn is_filled<S: Alter>(conn: &mut Connection<S>) -> bool {
-    for text in OLD_LEDGER {
-        if run_batch(conn, text).is_err() {
-            return false;
-        }
+    let is_written = files.log.write_at(0, log).is_ok() && files.db.write_at(0, db).is_ok();
+    if is_written && files.log.sync().is_ok() && files.db.sync().is_ok() {
+        Some(files)
+    } else {
+        None
     }
-    true
 }
 
-/// The files of the ledger of the nine calls.
-fn old_ledger(alloc: Global) -> Option<Files<Memory>> {
-    let mut conn = new_database(alloc)?;
-    let is_filled = is_filled(&mut conn);
-    let files = written_files(conn)?;
-    if is_filled { Some(files) } else { None }
-}
-
-/// The files of a connection, as they are.
-pub(crate) fn files_of<D: Disk + Drop>(conn: Connection<FileStore<D>>) -> Files<D> {
-    conn.into_store().close()
-}
-
-/// What was found of a ledger that opened, and its connection.
-fn closed<S: Alter>(book: SqlBook<S>) -> (Ended, Connection<S>) {
-    let calls = book.len();
-    let conn = book.close();
-    let ended = if conn.schema().table_named(b"closed").is_some() {
+/// What is found of a connection whose ledger has so many calls.
+fn ending_of<S: Alter>(conn: &Connection<S>, calls: u32) -> Ended {
+    if conn.schema().table_named(b"closed").is_some() {
         Ended::Found(calls)
     } else {
         Ended::Incomplete
-    };
-    (ended, conn)
+    }
 }
 
 /// How the ledger in a connection opens, and its connection.
-fn ledger_in<S: Alter>(alloc: Global, conn: Connection<S>) -> (Ended, Connection<S>) {
+fn ledger_in<S: Alter + Drop>(alloc: Global, conn: Connection<S>) -> (Ended, Connection<S>) {
     if !conn.is_autocommit() {
         return (Ended::Unconnected, conn);
     }
     match SqlBook::open(alloc, conn, &mut Unwatched) {
-        Ok(book) => closed(book),
+        Ok(book) => {
+            let calls = book.len();
+            let conn = book.close();
+            (ending_of(&conn, calls), conn)
+        }
         Err(Refused { fault, connection }) => (Ended::Refused(fault), connection),
     }
 }
 
+/// What is found of a connection in which this is done, and its store.
+fn done<S: Alter + Drop>(mut conn: Connection<S>, act: Act) -> (Ended, S) {
+    match act {
+        Act::Nothing => (Ended::Unconnected, conn.into_store()),
+        Act::Fill => {
+            let is_filled = run_batches(&mut conn, &OLD_LEDGER).is_ok();
+            let ended = if is_filled {
+                ending_of(&conn, 0)
+            } else {
+                Ended::Unconnected
+            };
+            (ended, conn.into_store())
+        }
+        Act::Open(alloc) => {
+            let (ended, conn) = ledger_in(alloc, conn);
+            (ended, conn.into_store())
+        }
+    }
+}
+
+/// The same of a connection over files.
+fn done_over<D: Disk + Drop>(conn: Connection<FileStore<D>>, act: Act) -> (Ended, FileStore<D>) {
+    done(conn, act)
+}
+
+/// The files of the ledger of the nine calls, copied into the database file.
+fn old_ledger(alloc: Global) -> Option<Files<Memory>> {
+    let files = Files {
+        log: Memory::new(alloc),
+        db: Memory::new(alloc),
+    };
+    let Ok(conn) = Connection::open_files(alloc, files, Options::new(7)) else {
+        return None;
+    };
+    let (ended, mut store) = done_over(conn, Act::Fill);
+    let is_written = ended == Ended::Incomplete && store.checkpoint().is_ok();
+    let files = store.close();
+    if is_written { Some(files) } else { None }
+}
+
+/// The files of a connection, as they are.
+pub(crate) fn files_of<D: Disk + Drop>(conn: Connection<FileStore<D>>) -> Files<D> {
+    let (_, store) = done_over(conn, Act::Nothing);
+    store.close()
+}
+
 /// How the ledger in files opens, and the files.
 fn opened<D: Disk + Drop>(alloc: Global, files: Files<D>, options: Options) -> (Ended, Files<D>) {
-    if !files.log.may_be_used() || !files.db.may_be_used() {
+    if !files.may_be_used() {
         return (Ended::Unconnected, files);
     }
     match Connection::open_files(alloc, files, options) {
         Ok(conn) => {
-            let (ended, conn) = ledger_in(alloc, conn);
-            (ended, files_of(conn))
+            let (ended, store) = done_over(conn, Act::Open(alloc));
+            (ended, store.close())
         }
         Err((_, left)) => (Ended::Unconnected, left.into_files()),
     }
 }
 
-/// How it opens over whole files with the same bytes.
-pub(crate) fn opened_again(alloc: Global, files: &Files<Fuse<Memory>>) -> Result<Ended, Fail> {
-    let log = file_of(alloc, files.log.inner().bytes())?;
-    let db = file_of(alloc, files.db.inner().bytes())?;
-    let (ended, _files) = opened(alloc, Files { log, db }, Options::new(7));
-    Ok(ended)
+/// How it opens over whole files with the same bytes. None where these are not made.
+fn again(alloc: Global, files: &Files<Fuse<Memory>>) -> Option<Ended> {
+    let files = files_with(alloc, files.log.inner().bytes(), files.db.inner().bytes())?;
+    let (ended, _files) = opened(alloc, files, Options::new(7));
+    Some(ended)
 }
 
-/// How the ledger opens where its files stop so; and then over whole files, with all that was written, and with what was synced
-/// alone.
-fn stopped(alloc: Global, old: &Files<Memory>, stops: Stops) -> Result<[Ended; 3], Fail> {
-    let log = Fuse::new(file_of(alloc, old.log.bytes())?, stops.log);
-    let db = Fuse::new(file_of(alloc, old.db.bytes())?, stops.db);
-    let (ended, mut files) = opened(alloc, Files { log, db }, stops.options);
-    let written = opened_again(alloc, &files)?;
+/// The same.
+pub(crate) fn opened_again(alloc: Global, files: &Files<Fuse<Memory>>) -> Result<Ended, Fail> {
+    Ok(again(alloc, files).ok_or("files")?)
+}
+
+/// How the ledger opens where its files stop so; and whether it is found whole then over whole files, with all that was written, and
+/// with what was synced alone.
+fn stopped(alloc: Global, old: &Files<Memory>, stops: Stops) -> Option<(Ended, bool)> {
+    let whole = files_with(alloc, old.log.bytes(), old.db.bytes())?;
+    let files = Files {
+        log: Fuse::new(whole.log, stops.log),
+        db: Fuse::new(whole.db, stops.db),
+    };
+    let (ended, mut files) = opened(alloc, files, stops.options);
+    let written = again(alloc, &files);
     files.log.crash();
     files.db.crash();
-    let synced = opened_again(alloc, &files)?;
-    Ok([ended, written, synced])
+    let synced = again(alloc, &files);
+    let whole = Some(Ended::Found(9));
+    Some((ended, written == whole && synced == whole))
 }
 
 /// At how many calls of one file the ledger is refused for want of its store, before it opens with no stop met. None where it is
 /// refused for another reason, or is not found whole behind a stop.
-fn refused(
-    alloc: Global,
-    old: &Files<Memory>,
-    options: Options,
-    in_log: bool,
-) -> Result<Option<u32>, Fail> {
+fn refused(alloc: Global, old: &Files<Memory>, options: Options, in_log: bool) -> Option<u32> {
     let mut count: u32 = 0;
     for at in 0..1000u64 {
         let (log, db) = if in_log {
@@ -153,30 +184,33 @@ fn refused(
         } else {
             (u64::MAX, at)
         };
-        let [ended, written, synced] = stopped(alloc, old, Stops { options, log, db })?;
-        if written != Ended::Found(9) || synced != Ended::Found(9) {
-            return Ok(None);
-        }
-        match ended {
-            Ended::Found(9) => return Ok(Some(count)),
-            Ended::Refused(OpenFault::Store) => count = count.saturating_add(1),
-            Ended::Unconnected => {}
-            _ => return Ok(None),
+        match stopped(alloc, old, Stops { options, log, db })? {
+            (Ended::Found(9), true) => return Some(count),
+            (Ended::Refused(OpenFault::Store), true) => count = count.saturating_add(1),
+            (Ended::Unconnected, true) => {}
+            _ => return None,
         }
     }
-    Ok(None)
+    None
 }
 
 #[test]
-fn a_ledger_whose_completion_stopped_is_whole(rt: HostRuntime) -> Result<(), Fail> {
-    let old = old_ledger(rt.alloc()).ok_or("old ledger")?;
-    for (options, in_log) in &[(Options::new(7), true), (TIGHT, true), (TIGHT, false)] {
-        let count = refused(rt.alloc(), &old, *options, *in_log)?;
-        assert!(rt;
-            count.is_some_and(|count| 0 < count),
-            "{count:?}, in the log: {in_log}"
-        );
-    }
-    assert!(rt; refused(rt.alloc(), &old, Options::new(7), false)?.is_some());
-    Ok(())
+fn a_ledger_whose_completion_stopped_is_whole(rt: HostRuntime) {
+    let Some(old) = old_ledger(rt.alloc()) else {
+        panic!(rt; "old ledger");
+    };
+    let plain = Options::new(7);
+    let counts = [
+        refused(rt.alloc(), &old, plain, true),
+        refused(rt.alloc(), &old, TIGHT, true),
+        refused(rt.alloc(), &old, TIGHT, false),
+        refused(rt.alloc(), &old, plain, false),
+    ];
+    let are_met = [
+        0 < counts[0].unwrap_or(0),
+        0 < counts[1].unwrap_or(0),
+        0 < counts[2].unwrap_or(0),
+        counts[3].is_some(),
+    ];
+    same(&rt, &counts, &are_met, &[true; 4]);
 }

@@ -1,25 +1,26 @@
 //! Databases made by statements, and what opening finds in them.
 
+use crate::expect::same;
 use s10_book::Book;
-use s10_history::Settings;
 use s10_ledger::{OpenFault, Refused, SqlBook, Unwatched};
 use s10_rows::Opened;
 use sqlite::{Alter, Connection, Error, MemStore};
 use std::alloc::Global;
+use std::process::Abort;
 
-const HEAD_TABLE: &str =
+pub(crate) const HEAD_TABLE: &str =
     "CREATE TABLE head (one INTEGER NOT NULL PRIMARY KEY CHECK (one = 1), schema INTEGER NOT NULL, interval INTEGER NOT NULL, cap INTEGER NOT NULL) STRICT;";
 
-const CALLS_TABLE: &str =
+pub(crate) const CALLS_TABLE: &str =
     "CREATE TABLE calls (arrival INTEGER NOT NULL PRIMARY KEY, customer INTEGER NOT NULL, number INTEGER NOT NULL, day INTEGER NOT NULL, reply BLOB NOT NULL, UNIQUE (customer, number)) STRICT;";
 
-const RANGES_TABLE: &str =
+pub(crate) const RANGES_TABLE: &str =
     "CREATE TABLE ranges (num INTEGER NOT NULL PRIMARY KEY, holder INTEGER NOT NULL, pair INTEGER NOT NULL, low INTEGER NOT NULL, high INTEGER NOT NULL, mark INTEGER NOT NULL) STRICT;";
 
-const SERIALS_TABLE: &str =
+pub(crate) const SERIALS_TABLE: &str =
     "CREATE TABLE serials (pair INTEGER NOT NULL, serial INTEGER NOT NULL, arrival INTEGER NOT NULL, day INTEGER NOT NULL, customer INTEGER NOT NULL, number INTEGER NOT NULL, voided INTEGER NOT NULL, PRIMARY KEY (pair, serial)) STRICT;";
 
-const CLOSED_TABLE: &str =
+pub(crate) const CLOSED_TABLE: &str =
     "CREATE TABLE closed (num INTEGER NOT NULL PRIMARY KEY, arrival INTEGER NOT NULL) STRICT;";
 
 pub(crate) const HEAD: &str =
@@ -27,8 +28,7 @@ pub(crate) const HEAD: &str =
 
 /// The post grants RA GB 0 to 2 to customer 7, which draws serials 0 and 1, voids 1 twice, draws serial 2, is told that none is
 /// free, and 30 days after it draws 0 and 1 again.
-pub(crate) const NINE_REPLIES: &str =
-    "INSERT INTO calls (arrival, customer, number, day, reply) VALUES
+const NINE_REPLIES: &str = "INSERT INTO calls (arrival, customer, number, day, reply) VALUES
 (1, 0, 1, 20000, x'533101810000000000000001000000075241474200000000000000020000000001'),
 (2, 7, 1, 20000, x'533101820000000700000001524147420000004e2052413030303030303030354742'),
 (3, 7, 2, 20000, x'533101820000000700000002524147420000004e2052413030303030303031344742'),
@@ -40,15 +40,19 @@ pub(crate) const NINE_REPLIES: &str =
 (9, 7, 8, 20030, x'533101820000000700000008524147420000004e3e52413030303030303031344742');";
 
 /// Range 1 is customer 7's, RA GB 0 to 2, and gives serial 2 next.
-pub(crate) const ONE_RANGE: &str =
+const ONE_RANGE: &str =
     "INSERT INTO ranges (num, holder, pair, low, high, mark) VALUES (1, 7, 1380009794, 0, 2, 2);";
 
 /// The last issues of its serials.
-const THREE_SERIALS: &str =
+pub(crate) const THREE_SERIALS: &str =
     "INSERT INTO serials (pair, serial, arrival, day, customer, number, voided) VALUES
 (1380009794, 0, 8, 20030, 7, 7, 0),
 (1380009794, 1, 9, 20030, 7, 8, 0),
 (1380009794, 2, 6, 20000, 7, 5, 0);";
+
+/// The same rows, written in another order.
+pub(crate) const TURNED_SERIALS: &str =
+    "INSERT INTO serials (pair, serial, arrival, day, customer, number, voided) VALUES (1380009794, 2, 6, 20000, 7, 5, 0), (1380009794, 0, 8, 20030, 7, 7, 0), (1380009794, 1, 9, 20030, 7, 8, 0);";
 
 pub(crate) const TABLES: [&str; 5] = [
     HEAD_TABLE,
@@ -56,6 +60,31 @@ pub(crate) const TABLES: [&str; 5] = [
     RANGES_TABLE,
     SERIALS_TABLE,
     CLOSED_TABLE,
+];
+
+/// The tables, and the rows of the nine calls.
+pub(crate) const NINE_CALLS: &'static [&'static str] = &[
+    HEAD_TABLE,
+    CALLS_TABLE,
+    RANGES_TABLE,
+    SERIALS_TABLE,
+    CLOSED_TABLE,
+    HEAD,
+    NINE_REPLIES,
+    ONE_RANGE,
+    THREE_SERIALS,
+];
+
+/// The same without the rows of serials.
+pub(crate) const NINE_WITHOUT_SERIALS: &'static [&'static str] = &[
+    HEAD_TABLE,
+    CALLS_TABLE,
+    RANGES_TABLE,
+    SERIALS_TABLE,
+    CLOSED_TABLE,
+    HEAD,
+    NINE_REPLIES,
+    ONE_RANGE,
 ];
 
 /// The tables, and the rows of the nine calls, as the build wrote them that had no table of closed ranges.
@@ -70,32 +99,29 @@ pub(crate) const OLD_LEDGER: [&str; 8] = [
     THREE_SERIALS,
 ];
 
-pub(crate) fn run_batch<S: Alter>(conn: &mut Connection<S>, text: &str) -> Result<(), Error> {
-    conn.execute_batch(text)
+/// What a ledger is found to be: its interval, its limit, how many calls it keeps, and the day of the last one; or why it is none.
+pub(crate) type Finding = Result<(u32, u32, u32, u32), OpenFault>;
+
+pub(crate) const NINE_FOUND: Finding = Ok((30, 100, 9, 20030));
+
+pub(crate) const NO_LEDGER: Finding = Err(OpenFault::NotALedger);
+
+/// What is changed of a database, and what it is found to be then.
+pub(crate) type Change = (&'static str, Finding);
+
+// Runs the statements of each text in turn.
+pub(crate) fn run_batches<S: Alter>(conn: &mut Connection<S>, texts: &[&str]) -> Result<(), Error> {
+    for text in texts {
+        conn.execute_batch(text)?;
+    }
+    Ok(())
 }
 
 // A database in memory, made by the statements.
 pub(crate) fn database(alloc: Global, texts: &[&str]) -> Result<Connection<MemStore>, Error> {
     let mut conn = Connection::open_in_memory(alloc)?;
-    for text in texts {
-        run_batch(&mut conn, text)?;
-    }
+    run_batches(&mut conn, texts)?;
     Ok(conn)
-}
-
-// The ledger of the nine calls.
-pub(crate) fn nine_calls(alloc: Global) -> Result<Connection<MemStore>, Error> {
-    let mut conn = database(alloc, &TABLES)?;
-    for text in &[HEAD, NINE_REPLIES, ONE_RANGE, THREE_SERIALS] {
-        run_batch(&mut conn, text)?;
-    }
-    Ok(conn)
-}
-
-/// What a ledger holds whose interval is 30 days and whose limit is 100 calls.
-pub(crate) fn ledger_of(len: u32, day: u32) -> Option<Opened> {
-    let settings = Settings::new(30, 100)?;
-    Some(Opened { settings, len, day })
 }
 
 // What opening finds, and the connection. None where a transaction was begun.
@@ -119,16 +145,51 @@ pub(crate) fn found<S: Alter + Drop>(
     }
 }
 
-// Whether the database opens as a ledger that holds what is expected, or is refused so.
-pub(crate) fn opens(
+// What opening answers, in numbers.
+fn in_numbers(answer: &Result<Opened, OpenFault>) -> Finding {
+    match answer {
+        Ok(opened) => Ok((
+            opened.settings.interval(),
+            opened.settings.limit(),
+            opened.len,
+            opened.day,
+        )),
+        Err(fault) => Err(*fault),
+    }
+}
+
+// What the ledger in a connection is found to be once it is changed so, and the connection. None where the change is refused.
+pub(crate) fn changed<S: Alter + Drop>(
     alloc: Global,
-    conn: Connection<MemStore>,
-    expected: &Result<Opened, OpenFault>,
-) -> bool {
-    let Some((answer, _conn)) = found(alloc, conn) else {
-        return false;
+    mut conn: Connection<S>,
+    change: &str,
+) -> Option<(Finding, Connection<S>)> {
+    if conn.execute_batch(change).is_err() {
+        return None;
+    }
+    let (answer, conn) = found(alloc, conn)?;
+    Some((in_numbers(&answer), conn))
+}
+
+// What the ledger that these statements make is found to be once it is changed so. None where one of them is refused.
+pub(crate) fn opening(alloc: Global, texts: &[&str], change: &str) -> Option<Finding> {
+    let Ok(conn) = database(alloc, texts) else {
+        return None;
     };
-    answer == *expected
+    let (finding, _conn) = changed(alloc, conn, change)?;
+    Some(finding)
+}
+
+/// The ledger that these statements make is found to be what is told, however it is changed.
+pub(crate) fn are_found<R: Abort + AllocGlobal>(rt: &R, texts: &[&str], changes: &[Change]) {
+    for (change, finding) in changes {
+        same(
+            rt,
+            change,
+            &opening(rt.alloc(), texts, change),
+            &Some(*finding),
+        );
+    }
 }
 
 // The numbers that a query shows, row after row.

@@ -1,96 +1,81 @@
 //! What is found of the rows of a ledger's tables.
 
 use crate::tables::{
-    HEAD, NINE_REPLIES, ONE_RANGE, TABLES, database, ledger_of, nine_calls, opens, run_batch,
+    Change, NINE_CALLS, NINE_FOUND, NINE_WITHOUT_SERIALS, NO_LEDGER, THREE_SERIALS, TURNED_SERIALS,
+    are_found,
 };
 use s10_ledger::OpenFault;
-use s10_rows::Opened;
-use sqlite::Error;
-use std::alloc::Global;
-use std::process::Abort;
-use std::test::Fail;
 
-/// The serials of the nine calls, the last of them first.
-const TURNED: &str =
-    "INSERT INTO serials (pair, serial, arrival, day, customer, number, voided) VALUES (1380009794, 2, 6, 20000, 7, 5, 0), (1380009794, 0, 8, 20030, 7, 7, 0), (1380009794, 1, 9, 20030, 7, 8, 0);";
-
-// Whether the nine calls, with rows changed so, are found as expected.
-fn found_after(
-    alloc: Global,
-    change: &str,
-    expected: &Result<Opened, OpenFault>,
-) -> Result<bool, Error> {
-    let mut conn = nine_calls(alloc)?;
-    run_batch(&mut conn, change)?;
-    Ok(opens(alloc, conn, expected))
-}
-
-// Whether the nine calls are found whose serials were written in another order.
-fn found_turned(alloc: Global, whole: Opened) -> Result<bool, Error> {
-    let mut conn = database(alloc, &TABLES)?;
-    for text in &[HEAD, NINE_REPLIES, ONE_RANGE, TURNED] {
-        run_batch(&mut conn, text)?;
-    }
-    Ok(opens(alloc, conn, &Ok(whole)))
-}
+/// The serials of the nine calls, in one order and in another.
+const SERIALS: &[Change] = &[(THREE_SERIALS, NINE_FOUND), (TURNED_SERIALS, NINE_FOUND)];
 
 #[test]
-fn nine_calls_are_a_ledger(rt: HostRuntime) -> Result<(), Fail> {
-    let whole = ledger_of(9, 20030).ok_or("settings")?;
-    assert!(rt; found_after(rt.alloc(), "", &Ok(whole))?);
-    assert!(rt; found_turned(rt.alloc(), whole)?);
-    Ok(())
+fn nine_calls_are_a_ledger(rt: HostRuntime) {
+    are_found(&rt, NINE_WITHOUT_SERIALS, SERIALS);
 }
 
-/// What is changed of a call, and which call is wrong then.
-const CALLS: &[(&str, u32)] = &[
-    ("UPDATE calls SET customer = 8 WHERE arrival = 4", 4),
-    ("UPDATE calls SET day = 19999 WHERE arrival = 6", 6),
-    ("UPDATE calls SET day = 20029 WHERE arrival = 8", 8),
-    ("UPDATE calls SET day = 20029 WHERE arrival = 9", 9),
-    ("UPDATE calls SET arrival = 10 WHERE arrival = 9", 9),
+/// What is changed of a call, and what is found then.
+const CALLS: &[Change] = &[
+    (
+        "UPDATE calls SET customer = 8 WHERE arrival = 4",
+        Err(OpenFault::Damaged(4)),
+    ),
+    (
+        "UPDATE calls SET day = 19999 WHERE arrival = 6",
+        Err(OpenFault::Damaged(6)),
+    ),
+    (
+        "UPDATE calls SET day = 20029 WHERE arrival = 8",
+        Err(OpenFault::Damaged(8)),
+    ),
+    (
+        "UPDATE calls SET day = 20029 WHERE arrival = 9",
+        Err(OpenFault::Damaged(9)),
+    ),
+    (
+        "UPDATE calls SET arrival = 10 WHERE arrival = 9",
+        Err(OpenFault::Damaged(9)),
+    ),
 ];
 
 #[test]
-fn first_wrong_call_is_named(rt: HostRuntime) -> Result<(), Fail> {
-    for (change, call) in CALLS {
-        let answer = Err(OpenFault::Damaged(*call));
-        assert!(rt; found_after(rt.alloc(), change, &answer)?, "{change}");
-    }
-    Ok(())
+fn first_wrong_call_is_named(rt: HostRuntime) {
+    are_found(&rt, NINE_CALLS, CALLS);
 }
 
-/// What is changed of the head, and what opening answers then.
-const HEADS: &[(&str, OpenFault)] = &[
-    ("UPDATE head SET interval = 31", OpenFault::Damaged(8)),
-    ("UPDATE head SET cap = 8", OpenFault::Damaged(9)),
-    ("UPDATE head SET schema = 2", OpenFault::Schema(2)),
-    ("UPDATE head SET interval = 0", OpenFault::NotALedger),
-    ("DELETE FROM head", OpenFault::NotALedger),
+/// What is changed of the head, and what is found then.
+const HEADS: &[Change] = &[
+    ("UPDATE head SET interval = 31", Err(OpenFault::Damaged(8))),
+    ("UPDATE head SET cap = 8", Err(OpenFault::Damaged(9))),
+    ("UPDATE head SET schema = 2", Err(OpenFault::Schema(2))),
+    ("UPDATE head SET interval = 0", NO_LEDGER),
+    ("DELETE FROM head", NO_LEDGER),
 ];
 
 #[test]
-fn head_says_how_the_calls_were_made(rt: HostRuntime) -> Result<(), Fail> {
-    for (change, fault) in HEADS {
-        assert!(rt; found_after(rt.alloc(), change, &Err(*fault))?, "{change}");
-    }
-    Ok(())
+fn head_says_how_the_calls_were_made(rt: HostRuntime) {
+    are_found(&rt, NINE_CALLS, HEADS);
 }
 
-/// What is changed of the other tables.
-const OTHERS: &[&str] = &[
-    "UPDATE ranges SET high = 3",
-    "UPDATE ranges SET mark = 0",
-    "UPDATE serials SET voided = 1 WHERE serial = 1",
-    "DELETE FROM serials WHERE serial = 2",
-    "INSERT INTO serials (pair, serial, arrival, day, customer, number, voided) VALUES (1380009794, 3, 6, 20000, 7, 5, 0)",
+/// What is changed of the other tables, and what is found then.
+const OTHERS: &[Change] = &[
+    ("UPDATE ranges SET high = 3", Err(OpenFault::Damaged(0))),
+    ("UPDATE ranges SET mark = 0", Err(OpenFault::Damaged(0))),
+    (
+        "UPDATE serials SET voided = 1 WHERE serial = 1",
+        Err(OpenFault::Damaged(0)),
+    ),
+    (
+        "DELETE FROM serials WHERE serial = 2",
+        Err(OpenFault::Damaged(0)),
+    ),
+    (
+        "INSERT INTO serials (pair, serial, arrival, day, customer, number, voided) VALUES (1380009794, 3, 6, 20000, 7, 5, 0)",
+        Err(OpenFault::Damaged(0)),
+    ),
 ];
 
 #[test]
-fn other_tables_are_those_that_the_calls_make(rt: HostRuntime) -> Result<(), Fail> {
-    for change in OTHERS {
-        let damaged = Err(OpenFault::Damaged(0));
-        assert!(rt; found_after(rt.alloc(), change, &damaged)?, "{change}");
-    }
-    Ok(())
+fn other_tables_are_those_that_the_calls_make(rt: HostRuntime) {
+    are_found(&rt, NINE_CALLS, OTHERS);
 }

@@ -46,7 +46,10 @@ fn is_written(alloc: Global, peer: &Peer, text: &str) -> bool {
 #[test]
 fn addresses_are_read_and_written(rt: HostRuntime) {
     for (text, peer) in ADDRESSES {
-        let found = (Peer::read(text.as_bytes()), is_written(rt.alloc(), peer, text));
+        let found = (
+            Peer::read(text.as_bytes()),
+            is_written(rt.alloc(), peer, text),
+        );
         same(&rt, text, &found, &(Some(*peer), true));
     }
 }
