@@ -37,72 +37,59 @@ fn replies(rt: &impl Abort) -> [Reply; 3] {
     }
 }
 
-// The post grants three serials. Two clients of customer 7 draw: the second's request comes first,
-// both come twice, and the second client gives up before its reply comes.
+/// What happens in the world. A client submits the request of the reply at a place.
+#[derive(Clone, Copy)]
+enum Happens {
+    Submit(u32, usize),
+    Resend(u32),
+    GiveUp(u32),
+    ToServer(usize, u32),
+    ToClient(u32, usize),
+}
+
+/// The post grants three serials. Two clients of customer 7 draw: the second's request comes first,
+/// both come twice, and the second client gives up before its reply comes.
+const STORY: &[Happens] = &[
+    Happens::Submit(0, 0),
+    Happens::Resend(0),
+    Happens::ToServer(0, 20_000),
+    Happens::ToClient(0, 0),
+    Happens::Submit(1, 1),
+    Happens::Resend(1),
+    Happens::Submit(2, 2),
+    Happens::Resend(2),
+    Happens::ToServer(2, 20_000),
+    Happens::ToServer(1, 20_000),
+    Happens::ToServer(2, 20_001),
+    Happens::ToServer(1, 20_001),
+    Happens::ToClient(1, 1),
+    Happens::GiveUp(2),
+    Happens::ToClient(2, 1),
+    Happens::ToClient(1, 2),
+    Happens::ToClient(1, 4),
+    Happens::ToServer(9, 20_000),
+];
+
+fn event(happens: Happens, replies: &[Reply; 3]) -> Event {
+    match happens {
+        Happens::Submit(client, place) => Event::Submit {
+            client,
+            body: replies[place.min(2)].request().body,
+        },
+        Happens::Resend(client) => Event::Resend { client },
+        Happens::GiveUp(client) => Event::GiveUp { client },
+        Happens::ToServer(index, day) => Event::ToServer { index, day },
+        Happens::ToClient(client, index) => Event::ToClient { client, index },
+    }
+}
+
+/// The events of the story.
 fn story(replies: &[Reply; 3]) -> [Event; EVENTS] {
-    let [granted, first, second] = replies;
-    [
-        Event::Submit {
-            client: 0,
-            body: granted.request().body,
-        },
-        Event::Resend { client: 0 },
-        Event::ToServer {
-            index: 0,
-            day: 20_000,
-        },
-        Event::ToClient {
-            client: 0,
-            index: 0,
-        },
-        Event::Submit {
-            client: 1,
-            body: first.request().body,
-        },
-        Event::Resend { client: 1 },
-        Event::Submit {
-            client: 2,
-            body: second.request().body,
-        },
-        Event::Resend { client: 2 },
-        Event::ToServer {
-            index: 2,
-            day: 20_000,
-        },
-        Event::ToServer {
-            index: 1,
-            day: 20_000,
-        },
-        Event::ToServer {
-            index: 2,
-            day: 20_001,
-        },
-        Event::ToServer {
-            index: 1,
-            day: 20_001,
-        },
-        Event::ToClient {
-            client: 1,
-            index: 1,
-        },
-        Event::GiveUp { client: 2 },
-        Event::ToClient {
-            client: 2,
-            index: 1,
-        },
-        Event::ToClient {
-            client: 1,
-            index: 2,
-        },
-        Event::ToClient {
-            client: 1,
-            index: 4,
-        },
-        Event::ToServer {
-            index: 9,
-            day: 20_000,
-        },
-    ]
+    let mut events = [Event::Resend { client: 0 }; EVENTS];
+    for at in 0..STORY.len().min(EVENTS) {
+        events[at] = event(STORY[at], replies);
+    }
+    events
 }
 
 fn three_clients(alloc: Global) -> Result<Vec<Client>, AllocError>
