@@ -2,6 +2,9 @@
 
 use crate::command_lines::prints;
 use crate::expect::holds;
+use crate::job_words::Subcommand::{
+    Audit, Create, Draw, Grant, Loop, Query, Report, Serve, Void, Withdraw,
+};
 use s10_cli::{parse_job, run_line};
 use std::alloc::Global;
 use std::fmt::Debug;
@@ -135,26 +138,25 @@ fn lines() -> &'static [Line] {
     LINES
 }
 
-/// Where they stand.
-const CREATE: usize = 0;
+/// The subcommand of a line, in their order.
+#[derive(Clone, Copy, Debug)]
+enum Subcommand {
+    Create,
+    Serve,
+    Grant,
+    Draw,
+    Void,
+    Query,
+    Withdraw,
+    Report,
+    Audit,
+    Loop,
+}
 
-const SERVE: usize = 1;
-
-const GRANT: usize = 2;
-
-const DRAW: usize = 3;
-
-const VOID: usize = 4;
-
-const QUERY: usize = 5;
-
-const WITHDRAW: usize = 6;
-
-const REPORT: usize = 7;
-
-const AUDIT: usize = 8;
-
-const LOOP: usize = 9;
+/// The line of a subcommand.
+fn line_of(subcommand: Subcommand) -> Option<&'static Line> {
+    lines().get(subcommand as usize)
+}
 
 /// Whether a value is shown like this for debugging.
 fn is_shown_as<T: Debug>(alloc: Global, value: &T, text: &str) -> bool {
@@ -378,7 +380,7 @@ fn ask_but_for(alloc: Global, words: &[&str], job: &str, field: &str, changed: &
 
 /// A line, an option and another value of it; a field of the job, and what stands there then.
 type Reach = (
-    usize,
+    Subcommand,
     &'static str,
     &'static str,
     &'static str,
@@ -387,8 +389,8 @@ type Reach = (
 
 /// Whether the line with the other value asks for its job with that field changed.
 fn reaches(alloc: Global, reach: &Reach) -> bool {
-    let (line, option, value, field, changed) = reach;
-    let Some((words, job)) = lines().get(*line) else {
+    let (subcommand, option, value, field, changed) = reach;
+    let Some((words, job)) = line_of(*subcommand) else {
         return false;
     };
     match with_value(alloc, words, option, value) {
@@ -406,127 +408,127 @@ fn reach_their_fields<R: AllocGlobal + Abort>(rt: &R, values: &[Reach]) {
 
 const VALUES: &[Reach] = &[
     (
-        CREATE,
+        Create,
         "--ledger",
         "b.db",
         r#"ledger: "a.db""#,
         r#"ledger: "b.db""#,
     ),
-    (CREATE, "--interval", "31", "interval: 30", "interval: 31"),
-    (CREATE, "--limit", "99", "limit: 100", "limit: 99"),
+    (Create, "--interval", "31", "interval: 30", "interval: 31"),
+    (Create, "--limit", "99", "limit: 100", "limit: 99"),
     (
-        SERVE,
+        Serve,
         "--ledger",
         "b.db",
         r#"ledger: "a.db""#,
         r#"ledger: "b.db""#,
     ),
     (
-        SERVE,
+        Serve,
         "--bind",
         "[::1]:9",
         r#"bind: "0.0.0.0:0""#,
         r#"bind: "[::1]:9""#,
     ),
-    (SERVE, "--count", "8", "count: 3", "count: 8"),
+    (Serve, "--count", "8", "count: 3", "count: 8"),
     (
-        GRANT,
+        Grant,
         "--to",
         "[::1]:9",
         r#"to: "127.0.0.1:4711""#,
         r#"to: "[::1]:9""#,
     ),
-    (GRANT, "--number", "8", "number: 1", "number: 8"),
-    (GRANT, "--holder", "8", "holder: 7", "holder: 8"),
+    (Grant, "--number", "8", "number: 1", "number: 8"),
+    (Grant, "--holder", "8", "holder: 7", "holder: 8"),
     (
-        GRANT,
+        Grant,
         "--service",
         "LA",
         r#"service: "RA""#,
         r#"service: "LA""#,
     ),
     (
-        GRANT,
+        Grant,
         "--country",
         "FR",
         r#"country: "GB""#,
         r#"country: "FR""#,
     ),
     (
-        GRANT,
+        Grant,
         "--first",
         "1",
         "first: Serial { value: 0 }",
         "first: Serial { value: 1 }",
     ),
     (
-        GRANT,
+        Grant,
         "--last",
         "8",
         "last: Serial { value: 2 }",
         "last: Serial { value: 8 }",
     ),
     (
-        DRAW,
+        Draw,
         "--to",
         "[::1]:9",
         r#"to: "127.0.0.1:4711""#,
         r#"to: "[::1]:9""#,
     ),
-    (DRAW, "--customer", "8", "customer: 7", "customer: 8"),
-    (DRAW, "--number", "8", "number: 1", "number: 8"),
+    (Draw, "--customer", "8", "customer: 7", "customer: 8"),
+    (Draw, "--number", "8", "number: 1", "number: 8"),
     (
-        DRAW,
+        Draw,
         "--service",
         "LA",
         r#"service: "RA""#,
         r#"service: "LA""#,
     ),
     (
-        DRAW,
+        Draw,
         "--country",
         "FR",
         r#"country: "GB""#,
         r#"country: "FR""#,
     ),
     (
-        VOID,
+        Void,
         "--to",
         "[::1]:9",
         r#"to: "127.0.0.1:4711""#,
         r#"to: "[::1]:9""#,
     ),
-    (VOID, "--customer", "8", "customer: 7", "customer: 8"),
-    (VOID, "--number", "8", "number: 3", "number: 8"),
-    (VOID, "--id", "x", r#"id: "RA000000005GB""#, r#"id: "x""#),
+    (Void, "--customer", "8", "customer: 7", "customer: 8"),
+    (Void, "--number", "8", "number: 3", "number: 8"),
+    (Void, "--id", "x", r#"id: "RA000000005GB""#, r#"id: "x""#),
     (
-        QUERY,
+        Query,
         "--to",
         "[::1]:9",
         r#"to: "127.0.0.1:4711""#,
         r#"to: "[::1]:9""#,
     ),
-    (QUERY, "--customer", "8", "customer: 7", "customer: 8"),
-    (QUERY, "--number", "8", "number: 4", "number: 8"),
-    (QUERY, "--id", "x", r#"id: "RA000000005GB""#, r#"id: "x""#),
+    (Query, "--customer", "8", "customer: 7", "customer: 8"),
+    (Query, "--number", "8", "number: 4", "number: 8"),
+    (Query, "--id", "x", r#"id: "RA000000005GB""#, r#"id: "x""#),
     (
-        WITHDRAW,
+        Withdraw,
         "--to",
         "[::1]:9",
         r#"to: "127.0.0.1:4711""#,
         r#"to: "[::1]:9""#,
     ),
-    (WITHDRAW, "--number", "8", "number: 5", "number: 8"),
-    (WITHDRAW, "--range", "8", "range: 1", "range: 8"),
+    (Withdraw, "--number", "8", "number: 5", "number: 8"),
+    (Withdraw, "--range", "8", "range: 1", "range: 8"),
     (
-        REPORT,
+        Report,
         "--ledger",
         "b.db",
         r#"ledger: "a.db""#,
         r#"ledger: "b.db""#,
     ),
     (
-        AUDIT,
+        Audit,
         "--ledger",
         "b.db",
         r#"ledger: "a.db""#,
@@ -540,58 +542,58 @@ fn each_required_option_reaches_its_own_field(rt: HostRuntime) {
 }
 
 const MORE: &[Reach] = &[
-    (SERVE, ONE_MORE, "--day=9", "day: None", "day: Some(9)"),
+    (Serve, ONE_MORE, "--day=9", "day: None", "day: Some(9)"),
     (
-        GRANT,
+        Grant,
         ONE_MORE,
         "--tries=9",
         "Tries { count: 5 }",
         "Tries { count: 9 }",
     ),
     (
-        DRAW,
+        Draw,
         ONE_MORE,
         "--tries=9",
         "Tries { count: 5 }",
         "Tries { count: 9 }",
     ),
     (
-        DRAW,
+        Draw,
         ONE_MORE,
         "--count=9",
         r#"Draw { service: "RA", country: "GB" }"#,
         r#"DrawMany { service: "RA", country: "GB", count: Count { value: 9 } }"#,
     ),
     (
-        VOID,
+        Void,
         ONE_MORE,
         "--tries=9",
         "Tries { count: 5 }",
         "Tries { count: 9 }",
     ),
     (
-        QUERY,
+        Query,
         ONE_MORE,
         "--tries=9",
         "Tries { count: 5 }",
         "Tries { count: 9 }",
     ),
     (
-        WITHDRAW,
+        Withdraw,
         ONE_MORE,
         "--tries=9",
         "Tries { count: 5 }",
         "Tries { count: 9 }",
     ),
-    (REPORT, ONE_MORE, "--day=9", "day: None", "day: Some(9)"),
+    (Report, ONE_MORE, "--day=9", "day: None", "day: Some(9)"),
     (
-        REPORT,
+        Report,
         ONE_MORE,
         "--issues",
         "is_of_issues: false",
         "is_of_issues: true",
     ),
-    (LOOP, ONE_MORE, "--day=9", "day: None", "day: Some(9)"),
+    (Loop, ONE_MORE, "--day=9", "day: None", "day: Some(9)"),
 ];
 
 #[test]
@@ -600,12 +602,12 @@ fn each_option_that_may_be_left_out_reaches_its_own_field(rt: HostRuntime) {
 }
 
 /// A line, an option and another value of it.
-type Edit = (usize, &'static str, &'static str);
+type Edit = (Subcommand, &'static str, &'static str);
 
 /// Whether the line with the other value is no command line.
 fn is_refused<R: Eprint + AllocGlobal>(rt: &R, edit: &Edit) -> bool {
-    let (line, option, value) = edit;
-    let Some((words, _)) = lines().get(*line) else {
+    let (subcommand, option, value) = edit;
+    let Some((words, _)) = line_of(*subcommand) else {
         return false;
     };
     match with_value(rt.alloc(), words, option, value) {
@@ -622,33 +624,33 @@ fn are_refused<R: Eprint + AllocGlobal + Abort>(rt: &R, edits: &[Edit]) {
 }
 
 const WRONG_VALUES: &[Edit] = &[
-    (CREATE, "--interval", "0"),
-    (CREATE, "--interval", "3651"),
-    (CREATE, "--interval", "-1"),
-    (CREATE, "--interval", ""),
-    (CREATE, "--interval", "x"),
-    (CREATE, "--limit", "0"),
-    (CREATE, "--limit", "1000000001"),
-    (CREATE, "--limit", "4294967297"),
-    (SERVE, "--count", "4294967296"),
-    (SERVE, "--count", "-1"),
-    (SERVE, "--count", "1.5"),
-    (GRANT, "--first", "100000000"),
-    (GRANT, "--first", "-1"),
-    (GRANT, "--last", "100000000"),
-    (GRANT, "--last", "4294967296"),
-    (GRANT, "--holder", "4294967296"),
-    (GRANT, "--holder", "post"),
-    (DRAW, "--customer", "4294967296"),
-    (DRAW, "--number", "4294967296"),
-    (DRAW, "--number", "0x1"),
-    (VOID, "--number", "-1"),
-    (QUERY, "--customer", ""),
-    (WITHDRAW, "--number", "4294967296"),
-    (WITHDRAW, "--range", "4294967296"),
-    (WITHDRAW, "--range", "-1"),
-    (WITHDRAW, "--range", ""),
-    (WITHDRAW, "--range", "RA"),
+    (Create, "--interval", "0"),
+    (Create, "--interval", "3651"),
+    (Create, "--interval", "-1"),
+    (Create, "--interval", ""),
+    (Create, "--interval", "x"),
+    (Create, "--limit", "0"),
+    (Create, "--limit", "1000000001"),
+    (Create, "--limit", "4294967297"),
+    (Serve, "--count", "4294967296"),
+    (Serve, "--count", "-1"),
+    (Serve, "--count", "1.5"),
+    (Grant, "--first", "100000000"),
+    (Grant, "--first", "-1"),
+    (Grant, "--last", "100000000"),
+    (Grant, "--last", "4294967296"),
+    (Grant, "--holder", "4294967296"),
+    (Grant, "--holder", "post"),
+    (Draw, "--customer", "4294967296"),
+    (Draw, "--number", "4294967296"),
+    (Draw, "--number", "0x1"),
+    (Void, "--number", "-1"),
+    (Query, "--customer", ""),
+    (Withdraw, "--number", "4294967296"),
+    (Withdraw, "--range", "4294967296"),
+    (Withdraw, "--range", "-1"),
+    (Withdraw, "--range", ""),
+    (Withdraw, "--range", "RA"),
 ];
 
 #[test]
@@ -657,21 +659,21 @@ fn numbers_out_of_their_ranges_are_no_command_line(rt: HostRuntime) {
 }
 
 const WRONG_OPTIONS: &[Edit] = &[
-    (GRANT, ONE_MORE, "--tries=0"),
-    (GRANT, ONE_MORE, "--tries=101"),
-    (DRAW, ONE_MORE, "--tries=0"),
-    (DRAW, ONE_MORE, "--tries=101"),
-    (DRAW, ONE_MORE, "--count=0"),
-    (DRAW, ONE_MORE, "--count=17"),
-    (VOID, ONE_MORE, "--tries=0"),
-    (VOID, ONE_MORE, "--tries=101"),
-    (QUERY, ONE_MORE, "--tries=0"),
-    (QUERY, ONE_MORE, "--tries=101"),
-    (WITHDRAW, ONE_MORE, "--tries=0"),
-    (WITHDRAW, ONE_MORE, "--tries=101"),
-    (SERVE, ONE_MORE, "--day=4294967296"),
-    (REPORT, ONE_MORE, "--day=4294967296"),
-    (LOOP, ONE_MORE, "--day=4294967296"),
+    (Grant, ONE_MORE, "--tries=0"),
+    (Grant, ONE_MORE, "--tries=101"),
+    (Draw, ONE_MORE, "--tries=0"),
+    (Draw, ONE_MORE, "--tries=101"),
+    (Draw, ONE_MORE, "--count=0"),
+    (Draw, ONE_MORE, "--count=17"),
+    (Void, ONE_MORE, "--tries=0"),
+    (Void, ONE_MORE, "--tries=101"),
+    (Query, ONE_MORE, "--tries=0"),
+    (Query, ONE_MORE, "--tries=101"),
+    (Withdraw, ONE_MORE, "--tries=0"),
+    (Withdraw, ONE_MORE, "--tries=101"),
+    (Serve, ONE_MORE, "--day=4294967296"),
+    (Report, ONE_MORE, "--day=4294967296"),
+    (Loop, ONE_MORE, "--day=4294967296"),
 ];
 
 #[test]
@@ -680,8 +682,8 @@ fn tries_counts_and_days_out_of_their_ranges_are_no_command_line(rt: HostRuntime
 }
 
 const CUSTOMERS: &[Edit] = &[
-    (GRANT, ONE_MORE, "--customer=0"),
-    (WITHDRAW, ONE_MORE, "--customer=0"),
+    (Grant, ONE_MORE, "--customer=0"),
+    (Withdraw, ONE_MORE, "--customer=0"),
 ];
 
 #[test]
@@ -690,10 +692,10 @@ fn what_the_post_alone_asks_names_no_customer(rt: HostRuntime) {
 }
 
 const PARTS: &[Edit] = &[
-    (WITHDRAW, ONE_MORE, "--range=2"),
-    (WITHDRAW, ONE_MORE, "--first=0"),
-    (WITHDRAW, ONE_MORE, "--id=RA000000005GB"),
-    (WITHDRAW, ONE_MORE, "1"),
+    (Withdraw, ONE_MORE, "--range=2"),
+    (Withdraw, ONE_MORE, "--first=0"),
+    (Withdraw, ONE_MORE, "--id=RA000000005GB"),
+    (Withdraw, ONE_MORE, "1"),
 ];
 
 #[test]

@@ -29,6 +29,9 @@ struct Stops {
     db: u64,
 }
 
+/// The number of no call.
+const NEVER: u64 = u64::MAX;
+
 /// Few pages are kept in memory, and the log is copied into the database file at once, so that both files are called until the end.
 const TIGHT: Options = Options {
     cache_pages: 2,
@@ -47,18 +50,21 @@ enum Act {
     Open(Global),
 }
 
-/// Two files of these bytes, all of them synced.
-fn files_with(alloc: Global, log: &[u8], db: &[u8]) -> Option<Files<Memory>> {
-    let mut files = Files {
-        log: Memory::new(alloc),
-        db: Memory::new(alloc),
-    };
-    let is_written = files.log.write_at(0, log).is_ok() && files.db.write_at(0, db).is_ok();
-    if is_written && files.log.sync().is_ok() && files.db.sync().is_ok() {
-        Some(files)
+/// A file of these bytes, all of them synced, that stops at one of its calls.
+fn file_of(alloc: Global, bytes: &[u8], stop: u64) -> Option<Fuse<Memory>> {
+    let mut file = Memory::new(alloc);
+    if file.write_at(0, bytes).is_ok() && file.sync().is_ok() {
+        Some(Fuse::new(file, stop))
     } else {
         None
     }
+}
+
+/// Whole files with the same bytes, which stop so.
+fn copied(alloc: Global, files: &Files<Fuse<Memory>>, stops: Stops) -> Option<Files<Fuse<Memory>>> {
+    let log = file_of(alloc, files.log.inner().bytes(), stops.log)?;
+    let db = file_of(alloc, files.db.inner().bytes(), stops.db)?;
+    Some(Files { log, db })
 }
 
 /// What is found of a connection whose ledger has so many calls.
@@ -111,10 +117,10 @@ fn done_over<D: Disk + Drop>(conn: Connection<FileStore<D>>, act: Act) -> (Ended
 }
 
 /// The files of the ledger of the nine calls, copied into the database file.
-fn old_ledger(alloc: Global) -> Option<Files<Memory>> {
+fn old_ledger(alloc: Global) -> Option<Files<Fuse<Memory>>> {
     let files = Files {
-        log: Memory::new(alloc),
-        db: Memory::new(alloc),
+        log: Fuse::new(Memory::new(alloc), NEVER),
+        db: Fuse::new(Memory::new(alloc), NEVER),
     };
     let Ok(conn) = Connection::open_files(alloc, files, Options::new(7)) else {
         return None;
@@ -145,10 +151,14 @@ fn opened<D: Disk + Drop>(alloc: Global, files: Files<D>, options: Options) -> (
     }
 }
 
-/// How it opens over whole files with the same bytes. None where these are not made.
+/// How it opens over whole files with the same bytes that do not stop. None where these are not made.
 fn again(alloc: Global, files: &Files<Fuse<Memory>>) -> Option<Ended> {
-    let files = files_with(alloc, files.log.inner().bytes(), files.db.inner().bytes())?;
-    let (ended, _files) = opened(alloc, files, Options::new(7));
+    let stops = Stops {
+        options: Options::new(7),
+        log: NEVER,
+        db: NEVER,
+    };
+    let (ended, _files) = opened(alloc, copied(alloc, files, stops)?, stops.options);
     Some(ended)
 }
 
@@ -159,13 +169,8 @@ pub(crate) fn opened_again(alloc: Global, files: &Files<Fuse<Memory>>) -> Result
 
 /// How the ledger opens where its files stop so; and whether it is found whole then over whole files, with all that was written, and
 /// with what was synced alone.
-fn stopped(alloc: Global, old: &Files<Memory>, stops: Stops) -> Option<(Ended, bool)> {
-    let whole = files_with(alloc, old.log.bytes(), old.db.bytes())?;
-    let files = Files {
-        log: Fuse::new(whole.log, stops.log),
-        db: Fuse::new(whole.db, stops.db),
-    };
-    let (ended, mut files) = opened(alloc, files, stops.options);
+fn stopped(alloc: Global, old: &Files<Fuse<Memory>>, stops: Stops) -> Option<(Ended, bool)> {
+    let (ended, mut files) = opened(alloc, copied(alloc, old, stops)?, stops.options);
     let written = again(alloc, &files);
     files.log.crash();
     files.db.crash();
@@ -176,14 +181,15 @@ fn stopped(alloc: Global, old: &Files<Memory>, stops: Stops) -> Option<(Ended, b
 
 /// At how many calls of one file the ledger is refused for want of its store, before it opens with no stop met. None where it is
 /// refused for another reason, or is not found whole behind a stop.
-fn refused(alloc: Global, old: &Files<Memory>, options: Options, in_log: bool) -> Option<u32> {
+fn refused(
+    alloc: Global,
+    old: &Files<Fuse<Memory>>,
+    options: Options,
+    in_log: bool,
+) -> Option<u32> {
     let mut count: u32 = 0;
     for at in 0..1000u64 {
-        let (log, db) = if in_log {
-            (at, u64::MAX)
-        } else {
-            (u64::MAX, at)
-        };
+        let (log, db) = if in_log { (at, NEVER) } else { (NEVER, at) };
         match stopped(alloc, old, Stops { options, log, db })? {
             (Ended::Found(9), true) => return Some(count),
             (Ended::Refused(OpenFault::Store), true) => count = count.saturating_add(1),
