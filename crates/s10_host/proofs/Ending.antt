@@ -4,8 +4,12 @@ use Rattle.std.proofs.Common.{◌≡◌, ◌∙◌, inl, inr, ℕ, Bool, List, [
 use Rattle.std.proofs.KnownBytes.{Appends-trans}
 use Rattle.std.specs.Prelude.{IfOk, IfErr, IfSome, IsOk, codes}
 use Rattle.std.specs.Io.KnownBytes.{Appends}
+use Rattle.sqlite_disk.specs.declared.Disk as disk
+use Rattle.sqlite_disk.specs.declared.Files.{Files}
 use Rattle.sqlite_disk.specs.declared.start.Start.{Ghosts}
 use Rattle.sqlite_wal.specs.Files.{image_at}
+use Rattle.sqlite_store.specs.declared.store.FileStore.{FileStore}
+use Rattle.sqlite.specs.Held.{Held}
 use Rattle.sqlite.specs.Files.{over_files}
 use Rattle.s10_lines.specs.declared.write_fault.WriteFault.{WriteFault}
 use Rattle.s10_lines.specs.Lines.{line_of}
@@ -68,22 +72,23 @@ no_report true day made is issues ranges = absurd (let one = issues refl in cc)
 no_report false None made is issues ranges = (refl, refl)
 no_report false (Some d) made is issues ranges = absurd (let one = ranges d refl refl in cc)
 
-module _ (S : RattleType) (first : Ghosts S.Denot) where
+-- what could not be closed
+pub lost_closing : {D : Type 0} (put : Result (Files D) OpenFault) (done result : Result JobStatus WriteFault) (new last : Option (List ℕ))
+    → IfErr put (λ fault. fault ≡ Store) → (fault : OpenFault) × (put ≡ Err fault) × IfOk result (λ status. IsOk done × (status ≡ Failed) × Appends new last (ledger_line fault))
+    → FailsByClosing done new last result
+lost_closing put done (Ok status) new last store (fault, is, (well, failed, written)) = (well, (failed, fault, subst (λ r. IfErr r (λ fault. fault ≡ Store)) is store, written))
+lost_closing put done (Err e) new last store says = tt
+
+module _ {D : Type 0} {g : disk.Ghosts D} where
   -- what was closed, and what came of that
-  pub kept_copied : (closed : FileConnection S first) (put : Result (ClosedFiles S first) OpenFault) (files : Option (ClosedFiles S first)) (done result : Result JobStatus WriteFault) (new last : Option (List ℕ))
+  pub kept_copied : (closed : Held (FileStore D g)) (put : Result (Files D) OpenFault) (files : Option (Files D)) (done result : Result JobStatus WriteFault) (new last : Option (List ℕ))
       → IfOk put (Copies closed) → IfSome files (λ f. (put ≡ Ok f) × (result ≡ done) × (last ≡ new)) → IfSome files (λ f. Copies closed f × (result ≡ done) × (last ≡ new))
   kept_copied closed put None done result new last copied kept = tt
   kept_copied closed put (Some f) done result new last copied (is, same, still) = (subst (λ r. IfOk r (Copies closed)) is copied, same, still)
 
-  pub lost_closing : (put : Result (ClosedFiles S first) OpenFault) (done result : Result JobStatus WriteFault) (new last : Option (List ℕ))
-      → IfErr put (λ fault. fault ≡ Store) → (fault : OpenFault) × (put ≡ Err fault) × IfOk result (λ status. IsOk done × (status ≡ Failed) × Appends new last (ledger_line fault))
-      → FailsByClosing done new last result
-  lost_closing put done (Ok status) new last store (fault, is, (well, failed, written)) = (well, (failed, fault, subst (λ r. IfErr r (λ fault. fault ≡ Store)) is store, written))
-  lost_closing put done (Err e) new last store says = tt
-
-  pub refused_over : (work : Work) (was left : FileConnection S first) (old between new : Option (List ℕ)) (fault named : OpenFault) (told result : Result JobStatus WriteFault) (files : Option (ClosedFiles S first)) (link : Option BoundLink)
+  pub refused_over : (work : Work) (was left : Held (FileStore D g)) (old between new : Option (List ℕ)) (fault named : OpenFault) (told result : Result JobStatus WriteFault) (files : Option (Files D)) (link : Option BoundLink)
       → IsWorkRefusal over_files work was left fault → named ≡ fault → between ≡ old → IfOk told (λ status. (status ≡ Failed) × Appends between new (ledger_line named))
-      → result ≡ told → files ≡ None → link ≡ None → EndsOver S first work was old new result files link
+      → result ≡ told → files ≡ None → link ≡ None → EndsOver work was old new result files link
   refused_over work was left old between new fault named told result files link refusal is still says same no_files no_link =
       let Told : Option (List ℕ) → OpenFault → Result JobStatus WriteFault → Type 0 = λ text f r. IfOk r (λ status. (status ≡ Failed) × Appends text new (ledger_line f)) in
       inr (record {
@@ -95,9 +100,10 @@ module _ (S : RattleType) (first : Ghosts S.Denot) where
         no_link = no_link;
       })
 
+module _ (S : RattleType) (first : Ghosts S.Denot) where
   -- a ledger that was made and put away, of which that was said then
   pub created : (terms : Terms) (was : FileConnection S first) (old between new : Option (List ℕ)) (done told : Result JobStatus WriteFault) (files : Option (ClosedFiles S first)) (link : Option BoundLink) (f : ClosedFiles S first)
-      → files ≡ Some f → EndsOver S first (Create terms) was old between done files link
+      → files ≡ Some f → EndsOver (Create terms) was old between done files link
       → IfOk told (λ status. (status ≡ Done) × Appends between new (codes "created\n")) → HasCreated S first terms old new told files
   created terms was old between new done told None link f is ends written = absurd cc
   created terms was old between new done told (Some g) link f is (inr refused) written = absurd (let none = refused.no_files in cc)
@@ -112,7 +118,7 @@ module _ (S : RattleType) (first : Ghosts S.Denot) where
 
   -- one that was refused, or could not be put away
   pub not_created : (terms : Terms) (was : FileConnection S first) (old new : Option (List ℕ)) (result : Result JobStatus WriteFault) (files : Option (ClosedFiles S first)) (link : Option BoundLink)
-      → files ≡ None → IsFoundIn (image_at first) was → EndsOver S first (Create terms) was old new result files link → HasCreated S first terms old new result files
+      → files ≡ None → IsFoundIn (image_at first) was → EndsOver (Create terms) was old new result files link → HasCreated S first terms old new result files
   not_created terms was old new result (Some f) link none found ends = absurd cc
   not_created terms was old new result None link none found (inr refused) = record {
     made = tt;
@@ -191,7 +197,7 @@ module _ (S : RattleType) (first : Ghosts S.Denot) where
 
   -- what came of the turns over files that are there
   served_over : (bind : List ℕ) (at : Peer) (day : Option ℕ) (count : ℕ) (was : FileConnection S first) (old new : Option (List ℕ)) (result : Result JobStatus WriteFault) (files : Option (ClosedFiles S first)) (link : Option BoundLink)
-      → IsPeerText bind → IsFoundIn (image_at first) was → EndsOver S first (Serve at count day) was old new result files link → HasServed S first bind day count old new result files link
+      → IsPeerText bind → IsFoundIn (image_at first) was → EndsOver (Serve at count day) was old new result files link → HasServed S first bind day count old new result files link
   served_over bind at day count was old new result files None text found (inr refused) = record {
     served = tt;
     unlinked = λ _. inr (inl (text, fails_by (IsNotOpened S first) refused.fault old new result (inr (inr (record { was = was; found = found; left = refused.left; refusal = refused.refusal }))) refused.told));
@@ -253,7 +259,7 @@ module _ (S : RattleType) (first : Ghosts S.Denot) where
   }
 
   reported_over : (is_of_issues : Bool) (day : Option ℕ) (report : Report) (was : FileConnection S first) (old new : Option (List ℕ)) (result : Result JobStatus WriteFault) (files : Option (ClosedFiles S first)) (link : Option BoundLink)
-      → IsAskedFor is_of_issues day report → IsFoundIn (image_at first) was → EndsOver S first (ReportOn report) was old new result files link → HasReported S first is_of_issues day old new result files
+      → IsAskedFor is_of_issues day report → IsFoundIn (image_at first) was → EndsOver (ReportOn report) was old new result files link → HasReported S first is_of_issues day old new result files
   reported_over is_of_issues day report was old new result None link asked found (inr refused) = record {
     reported = tt;
     unreported = λ _. inl (inr (fails_by (IsNotOpened S first) refused.fault old new result (inr (inr (record { was = was; found = found; left = refused.left; refusal = refused.refusal }))) refused.told));

@@ -2,8 +2,11 @@
 use denote.RattleType.{RattleType}
 use Rattle.std.specs.Prelude.{◌≡◌, ◌⊎◌, ℕ, List, [], Option, None, Result, Ok, IfOk, IfSome}
 use Rattle.std.specs.Io.KnownBytes.{Appends}
+use Rattle.sqlite_disk.specs.declared.Disk as disk
+use Rattle.sqlite_disk.specs.declared.Files.{Files}
 use Rattle.sqlite_disk.specs.declared.start.Start as start
 use Rattle.sqlite_wal.specs.Files.{image_at}
+use Rattle.sqlite_store.specs.declared.store.FileStore.{FileStore}
 use Rattle.sqlite_trees.specs.declared.store.Store.{Ghosts}
 use Rattle.sqlite.specs.Files.{over_files}
 use Rattle.sqlite.specs.Held.{Held, state}
@@ -69,10 +72,10 @@ module _ {S : Type 0} (g : Ghosts S) where
   IsWorkRefusal (Serve at count day) was left fault = IsRefusedLeft was left fault
   IsWorkRefusal (Report report) was left fault = IsRefusedLeft was left fault
 
-module _ (S : RattleType) (first : start.Ghosts S.Denot) where
+module _ {D : Type 0} {g : disk.Ghosts D} where
   -- the work was done over a connection, and the ledger is put away in these files, or could not be put away
-  pub record IsWorkedOver (work : Work) (was : FileConnection S first) (old new : Option (List ℕ)) (result : Result JobStatus WriteFault) (files : Option (ClosedFiles S first)) (link : Option BoundLink) : Type 0 where
-    pub closed : FileConnection S first
+  pub record IsWorkedOver (work : Work) (was : Held (FileStore D g)) (old new : Option (List ℕ)) (result : Result JobStatus WriteFault) (files : Option (Files D)) (link : Option BoundLink) : Type 0 where
+    pub closed : Held (FileStore D g)
     pub done : Result JobStatus WriteFault
     pub between : Option (List ℕ)
     pub worked : HasWorked over_files work was old between done link closed
@@ -80,17 +83,18 @@ module _ (S : RattleType) (first : start.Ghosts S.Denot) where
     pub lost : files ≡ None → FailsByClosing done between new result
 
   -- nothing was done, and the line says why
-  pub record IsRefusedOver (work : Work) (was : FileConnection S first) (old new : Option (List ℕ)) (result : Result JobStatus WriteFault) (files : Option (ClosedFiles S first)) (link : Option BoundLink) : Type 0 where
+  pub record IsRefusedOver (work : Work) (was : Held (FileStore D g)) (old new : Option (List ℕ)) (result : Result JobStatus WriteFault) (files : Option (Files D)) (link : Option BoundLink) : Type 0 where
     pub fault : OpenFault
-    pub left : FileConnection S first
+    pub left : Held (FileStore D g)
     pub refusal : IsWorkRefusal over_files work was left fault
     pub told : IfOk result (λ status. (status ≡ Failed) × Appends old new (ledger_line fault))
     pub no_files : files ≡ None
     pub no_link : link ≡ None
 
-  abbrev pub EndsOver : Work → FileConnection S first → Option (List ℕ) → Option (List ℕ) → Result JobStatus WriteFault → Option (ClosedFiles S first) → Option BoundLink → Type 0
+  abbrev pub EndsOver : Work → Held (FileStore D g) → Option (List ℕ) → Option (List ℕ) → Result JobStatus WriteFault → Option (Files D) → Option BoundLink → Type 0
   EndsOver work was old new result files link = IsWorkedOver work was old new result files link ⊎ IsRefusedOver work was old new result files link
 
+module _ (S : RattleType) (first : start.Ghosts S.Denot) where
   -- a file that is there was opened for the work; or it could not be, and the line says why
   abbrev pub EndsIn : Work → Option (List ℕ) → Option (List ℕ) → Result JobStatus WriteFault → Option (ClosedFiles S first) → Option BoundLink → Type 0
   EndsIn work old new result files link =

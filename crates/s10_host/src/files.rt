@@ -2,7 +2,7 @@
 
 ghost use Rattle.std.specs.Prelude.{◌≡◌, false, IfOk, IfErr};
 ghost use Rattle.sqlite_wal.specs.Files.{image_at};
-ghost use Rattle.s10_host.specs.Files.{IsFoundIn, IsPlain, Copies, LeavesClean, IsFileFault, IsAbsenceOr};
+ghost use Rattle.s10_host.specs.Files.{IsFoundIn, IsPlain, Copies, IsFileFault, IsAbsenceOr};
 
 use crate::front::{fault_of_front, fault_of_place, missing_log, remove_log};
 use s10_ledger::{OpenFault, Refused};
@@ -51,13 +51,6 @@ fn fault_of_closing<D: Disk + Drop>(
     let _ = eprintln!(rt; "cannot close {path}: {error}");
     drop(store.close());
     OpenFault::Store
-}
-
-/// The files of a connection, as it leaves them: its last commits may stand in the log alone.
-pub fn leave_files<D: Disk + Drop>(connection: Connection<FileStore<D>>) -> Files<D>
-    ensures { LeavesClean connection result }
-{
-    connection.into_store().close()
 }
 
 /// Opens a file that is there as a database. One that is not there is no ledger, and is not made; in

@@ -9,10 +9,9 @@ ghost use Rattle.s10_host.specs.Files.{LeavesClean};
 ghost use Rattle.s10_host.specs.Jobs.{ledger_line, HasCreated, HasServed, HasReported, HasAudited, IsRunOn, HasEnded};
 ghost use Rattle.s10_host.specs.Work.{EndsOver, EndsIn};
 
-use crate::audit::run_audit;
+use crate::audit::audit_to_store;
 use crate::files::{
-    ClosedFiles, FileConnection, close_copied, connect_to_ledger, connect_to_place,
-    fault_of_refusal, leave_files,
+    ClosedFiles, close_copied, connect_to_ledger, connect_to_place, fault_of_refusal,
 };
 use crate::front::{missing_log, remove_log};
 use crate::left::Left;
@@ -36,6 +35,13 @@ type Ended<S> = (Result<JobStatus, WriteFault>, Left<S>);
 
 /// What came of a job over the ledger of a file alone, and its files, where they were closed.
 type Closed<S> = (Result<JobStatus, WriteFault>, Option<ClosedFiles<S>>);
+
+/// What came of a work over the files of a ledger, the link that it was served on, and the files, where they were closed.
+type WorkedOver<D> = (
+    Result<JobStatus, WriteFault>,
+    Option<UdpLink>,
+    Option<Files<D>>,
+);
 
 /// Does a job, and answers how it ended, and what it leaves behind it.
 pub fn run_job<S: Start, W: Write>(
@@ -93,6 +99,17 @@ fn with_link<S: Start>(asked: (Result<JobStatus, WriteFault>, Option<UdpLink>)) 
     )
 }
 
+fn left_of_work<S: Start>(link: Option<UdpLink>, files: Option<ClosedFiles<S>>) -> Left<S>
+    ensures files { result.files ≡ files }
+    ensures link { result.link ≡ link }
+{
+    Left {
+        files,
+        link,
+        looped: None,
+    }
+}
+
 fn with_looped<S: Start>(ended: (Result<JobStatus, WriteFault>, Option<Looped>)) -> Ended<S>
     ensures same { (result.0 ≡ ended.0) × (result.1.looped ≡ ended.1) }
 {
@@ -121,10 +138,10 @@ fn run_create<S: Start, W: Write>(
     match connect_to_place(rt, ledger, start) {
         Ok(connection) => {
             let work = Work::Create(settings);
-            let (made, left) = work_over(rt, ledger, connection, missing, work, out);
-            match left.files {
-                Some(_) => (write_created(out), left),
-                None => (made, left),
+            let (made, link, files) = work_over(rt, ledger, connection, missing, work, out);
+            match files {
+                Some(files) => (write_created(out), left_of_work(link, Some(files))),
+                None => (made, left_of_work(link, None)),
             }
         }
         Err(fault) => with_link((fail_by_ledger(fault, out), None)),
@@ -190,43 +207,39 @@ fn work_in<S: Start, W: Write>(
 {
     let missing = missing_log(rt, ledger);
     match connect_to_ledger(rt, ledger, start) {
-        Ok(connection) => work_over(rt, ledger, connection, missing, work, out),
+        Ok(connection) => {
+            let (done, link, files) = work_over(rt, ledger, connection, missing, work, out);
+            (done, left_of_work(link, files))
+        }
         Err(fault) => with_link((fail_by_ledger(fault, out), None)),
     }
 }
 
 // The ledger is put away whatever came of the work. A file that is refused is closed without the log that was made.
-fn work_over<'a, S: Start, W: Write>(
-    rt: &'a HostRuntime,
-    ledger: &'a str,
-    connection: FileConnection<S>,
+fn work_over<D: Disk + Drop, W: Write>(
+    rt: &HostRuntime,
+    ledger: &str,
+    connection: Connection<FileStore<D>>,
     missing: Option<String>,
     work: Work,
     out: &mut W,
-) -> Ended<S>
+) -> WorkedOver<D>
     requires idle { connection.in_transaction ≡ false }
-    ensures { EndsOver S.row S.Start work connection (W.contents out.old) (W.contents out.new) result.0 result.1.files result.1.link }
+    ensures { EndsOver work connection (W.contents out.old) (W.contents out.new) result.0 result.2 result.1 }
 {
     let mut onlooker = Onlooker::new(rt, ledger);
     match work_on(rt, connection, work, &mut onlooker, out) {
         Ok((worked, link, connection)) => {
             let closed = close_copied(rt, ledger, connection);
             let (done, files) = ended(worked, closed, out);
-            (
-                done,
-                Left {
-                    files,
-                    link,
-                    looped: None,
-                },
-            )
+            (done, link, files)
         }
         Err(refusal) => {
             if let Work::Create(_) = &work {
                 onlooker.tell_place(refusal.fault);
             }
             remove_log(rt, missing);
-            with_link((fail_by_ledger(fault_of_refusal(refusal), out), None))
+            (fail_by_ledger(fault_of_refusal(refusal), out), None, None)
         }
     }
 }
@@ -277,7 +290,8 @@ fn audit_file<S: Start, W: Write>(
     }
 }
 
-// The files are closed as the audit leaves them. Where it refuses them, the log that was made is taken away before.
+// The files are closed as the audit leaves them: their last commits may stand in the log alone. Where it refuses them, the log
+// that was made is taken away before.
 fn audit_over<D: Disk + Drop, W: Write>(
     rt: &HostRuntime,
     ledger: &str,
@@ -290,9 +304,9 @@ fn audit_over<D: Disk + Drop, W: Write>(
         × Appends (W.contents out.old) (W.contents out.new) (audit_line found)) × LeavesClean left result.1 }
 {
     let mut onlooker = Onlooker::new(rt, ledger);
-    let (audited, left) = run_audit(rt.alloc(), connection, &mut onlooker, out);
+    let (audited, store) = audit_to_store(rt.alloc(), connection, &mut onlooker, out);
     forget_log(rt, missing, &audited);
-    (audited, leave_files(left))
+    (audited, store.close())
 }
 
 // Takes away the log of a file that is refused.

@@ -26,11 +26,15 @@ fn first_refused<B: Book>(book: &mut B, numbers: Range<u32>) -> Option<u32> {
     None
 }
 
-/// A new ledger, and whether it keeps a Grant, and so many Draws behind it.
+/// Whether the book keeps a Grant, and so many Draws behind it.
+fn keeps<B: Book>(book: &mut B, draws: u32) -> bool {
+    first_unlike(book, GRANT).is_none() && first_refused(book, 0..draws).is_none()
+}
+
+/// A new ledger, and whether it keeps them.
 fn kept<R: Abort + AllocGlobal>(rt: &R, draws: u32) -> (SqlBook<MemStore>, bool) {
     let mut book = ledger(rt, settings(rt, 1000));
-    let is_kept = first_unlike(&mut book, GRANT).is_none()
-        && first_refused(&mut book, 0..draws).is_none();
+    let is_kept = keeps(&mut book, draws);
     (book, is_kept)
 }
 

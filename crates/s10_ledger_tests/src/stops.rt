@@ -116,12 +116,11 @@ fn done_over<D: Disk + Drop>(conn: Connection<FileStore<D>>, act: Act) -> (Ended
     done(conn, act)
 }
 
-/// The files of the ledger of the nine calls, copied into the database file.
-fn old_ledger(alloc: Global) -> Option<Files<Fuse<Memory>>> {
-    let files = Files {
-        log: Fuse::new(Memory::new(alloc), NEVER),
-        db: Fuse::new(Memory::new(alloc), NEVER),
-    };
+/// These files with the ledger of the nine calls, copied into the database file.
+fn filled<D: Disk + Drop>(alloc: Global, files: Files<D>) -> Option<Files<D>> {
+    if !files.may_be_used() {
+        return None;
+    }
     let Ok(conn) = Connection::open_files(alloc, files, Options::new(7)) else {
         return None;
     };
@@ -129,6 +128,13 @@ fn old_ledger(alloc: Global) -> Option<Files<Fuse<Memory>>> {
     let is_written = ended == Ended::Incomplete && store.checkpoint().is_ok();
     let files = store.close();
     if is_written { Some(files) } else { None }
+}
+
+/// The files of the ledger of the nine calls.
+fn old_ledger(alloc: Global) -> Option<Files<Fuse<Memory>>> {
+    let log = Fuse::new(Memory::new(alloc), NEVER);
+    let db = Fuse::new(Memory::new(alloc), NEVER);
+    filled(alloc, Files { log, db })
 }
 
 /// The files of a connection, as they are.

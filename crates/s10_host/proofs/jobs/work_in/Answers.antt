@@ -4,7 +4,7 @@ use Rattle.s10_host.proofs.Ending.{fails_as}
 use Rattle.s10_host.proofs.jobs.work_in.Goals as goal
 
 pub returns-in-Ok : goal.returns-in-Ok
-returns-in-Ok g c = inl (c.in-Ok.connection, c.in-Ok.ensures.found, c.work_over.ensures)
+returns-in-Ok g c = inl (c.in-Ok.connection, c.in-Ok.ensures.found, rw (c.left_of_work.ensures.files, c.left_of_work.ensures.link) c.work_over-done.ensures)
 
 pub returns-in-Err : goal.returns-in-Err
 returns-in-Err g c =

@@ -1,4 +1,4 @@
-use Rattle.std.proofs.Common.{rules, List, true, length, arith, ap, sym, subst}
+use Rattle.std.proofs.Common.{List, true, length, arith, ap, sym, subst}
 use Rattle.sqlite.specs.Held.{state}
 use Rattle.s10_history.specs.declared.entry.Entry.{Entry}
 use Rattle.s10_history.specs.History.{day_of}
@@ -28,13 +28,13 @@ pub returns-clause-alone : goal.returns-clause-alone
 returns-clause-alone g c honest = c.in_default-make_ledger.ensures.alone honest.clean (c.refusal_of.ensures.none c.in_default.is)
 
 pub returns-in-Err-clause-left_idle : goal.returns-in-Err-clause-left_idle
-returns-in-Err-clause-left_idle c = search rules
+returns-in-Err-clause-left_idle g c = c.make_ledger.ensures.settled.idle
 
 pub returns-in-Err-clause-was_refused : goal.returns-in-Err-clause-was_refused
-returns-in-Err-clause-was_refused c = search rules
+returns-in-Err-clause-was_refused g c = c.make_ledger.ensures.was
 
 pub returns-in-Err-clause-kept : goal.returns-in-Err-clause-kept
-returns-in-Err-clause-kept c = search rules
+returns-in-Err-clause-kept g c = λ clean opened. c.in-Err.ensures.none clean opened
 
 pub returns-clause-fresh : goal.returns-clause-fresh
 returns-clause-fresh g c = c.refusal_of.ensures.fresh c.in_default.is
