@@ -20,6 +20,10 @@ IsDone b body = (done_length (kind_of body) b ≤ length b) × (byte b (request_
 abbrev Stands : List ℕ → Body → Outcome → Type 0
 Stands b body o = IsOutcome o × (drop (request_length (kind_of body)) b ≡ outcome_bytes o ++ drop (done_length (kind_of body) b) b)
 
+-- a byte and what stands behind it
+pub behind_byte : (b tail : List ℕ) (at n : ℕ) → at < length b → byte b at ≡ n → drop (at + 1) b ≡ tail → drop at b ≡ n ∷ tail
+behind_byte b tail at n within is rest = drop_more b at 0 within ∙ ap (λ (x : ℕ). x ∷ drop (at + 1) b) is ∙ ap (λ (l : List ℕ). n ∷ l) rest
+
 -- the byte of Done, a day and identifiers, read one behind the other, are all that stands up to there
 behind_done : (b day ids : List ℕ) (at upto : ℕ) → at < length b → byte b at ≡ 0 → drop (at + 1) b ≡ day ++ drop (at + 5) b → drop (at + 5) b ≡ ids ++ drop upto b
     → drop at b ≡ (0 ∷ day ++ ids) ++ drop upto b
@@ -36,7 +40,7 @@ drawn_read b body service country day id is done fits day_read id_read =
     subst P (sym is) (λ here. ((fits, id_read.0), behind_done b (u32_bytes day) (spelling_of id) 16 34 (omega (arith, here.0)) here.1 day_read id_read.1)) done
 
 -- how many identifiers are asked for, in the request
-asked_count : (b : List ℕ) (service country : ℕ × ℕ) (count : ℕ) → drop 12 b ≡ fields (DrawMany service country count) ++ drop 17 b → count ≡ byte b 16
+pub asked_count : (b : List ℕ) (service country : ℕ × ℕ) (count : ℕ) → drop 12 b ≡ fields (DrawMany service country count) ++ drop 17 b → count ≡ byte b 16
 asked_count b service country count begins = sym (ap (λ (l : List ℕ). get_or l 4 0) begins) ∙ get_or-drop 12 b 4 0
 
 -- a day and as many identifiers as the request asks for are what a Done sheet has

@@ -23,7 +23,7 @@ both false b e = absurd cc
 pub capital_passes : (c : ℕ) → IsCapital c → is_capital c ≡ true
 capital_passes c ok = grind (arith, common_steps)
 
-capital_of : (c : ℕ) → is_capital c ≡ true → IsCapital c
+pub capital_of : (c : ℕ) → is_capital c ≡ true → IsCapital c
 capital_of c e = let p = both (nat_le 65 c) (nat_le c 90) e in (leb-true _ _ p.0, leb-true _ _ p.1)
 
 digit_of_test : (c : ℕ) → is_ascii_digit c ≡ true → IsAsciiDigit c

@@ -1,3 +1,4 @@
+pub mod Bytes
 pub mod Rooms
 pub mod Identifiers
 pub mod Refusals

@@ -1,7 +1,25 @@
-use Rattle.std.proofs.Common.{◌≡◌, ◌+◌, ◌<◌, ◌^◌, sym, ◌∙◌, arith}
+use Rattle.std.proofs.Common.{◌≡◌, ◌+◌, ◌<◌, ◌^◌, sym, ◌∙◌, arith, length-take}
 use Rattle.std.proofs.lemmas.Option.{same_Some}
 use Rattle.s10_link.proofs.Numerals.{cut_behind, place_behind, stands_at_position, not_too_great, kept_value, behind}
 use Rattle.s10_link.proofs.peer.octet_before.Goals as goal
+
+pub place_of-requires : goal.place_of-requires
+place_of-requires c = tt
+
+pub read_number-requires : goal.read_number-requires
+read_number-requires c = tt
+
+pub slice_bounds-read_number-end : goal.slice_bounds-read_number-end
+slice_bounds-read_number-end c =
+    let stands = stands_at_position c.args.separator c.args.text.now c.in_ok-at.at (sym c.in_ok-at.ensures) in
+    let here = stands.0 in
+    omega (arith, length-take c.in_ok-at.at c.args.text.now, here)
+
+pub slice_bounds-result-count : goal.slice_bounds-result-count
+slice_bounds-result-count c =
+    let stands = stands_at_position c.args.separator c.args.text.now c.in_ok-at.at (sym c.in_ok-at.ensures) in
+    let here = stands.0 in
+    omega (arith, here)
 
 pub returns-in_err-at-clause-read : goal.returns-in_err-at-clause-read
 returns-in_err-at-clause-read c = λ n rest small is. absurd (place_behind c.args.text.now n rest c.args.separator (omega arith) c.requires is c.in_err-at.ensures)
