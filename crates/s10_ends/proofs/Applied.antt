@@ -5,8 +5,12 @@ use Rattle.std.specs.List.{list_any}
 use Rattle.std.proofs.lemmas.Bool.{and_from, eq-eqb, cond-true}
 use Rattle.std.proofs.lemmas.List.Folds.{find-append}
 use Rattle.std.specs.Option.{option_or}
+use Rattle.s10_wire.specs.Kind.{fits}
+use Rattle.s10_wire.specs.declared.body.Body.{Body}
+use Rattle.s10_wire.specs.declared.body.Body.TheVariants.{Grant, Draw, Void, Query, DrawMany, Withdraw}
 use Rattle.s10_wire.specs.declared.request.Request.{Request}
 use Rattle.s10_wire.specs.declared.outcome.Outcome.{Outcome}
+use Rattle.s10_wire.specs.declared.outcome.Outcome.TheVariants.{NumberReused}
 use Rattle.s10_history.specs.declared.entry.Entry.{Entry}
 use Rattle.s10_history.specs.History.{has_key, entry_with_key, day_of}
 use Rattle.s10_book.specs.Rules.{answer_of}
@@ -49,3 +53,12 @@ kept_new h new e none grown =
     ∙ find-append (has_key e.request.customer e.request.number) h (e ∷ [])
     ∙ ap (λ o. option_or o (find (has_key e.request.customer e.request.number) (e ∷ []))) none
     ∙ kept_at (has_key e.request.customer e.request.number e) e (and_from (eqb e.request.customer e.request.customer) (eqb e.request.number e.request.number) (eq-eqb _ _ refl) (eq-eqb _ _ refl))
+
+-- any request may be told that its number was used before
+pub reused_fits : (b : Body) → fits b NumberReused ≡ true
+reused_fits (Grant holder service country first last) = refl
+reused_fits (Draw service country) = refl
+reused_fits (Void id) = refl
+reused_fits (Query id) = refl
+reused_fits (DrawMany service country count) = refl
+reused_fits (Withdraw range) = refl

@@ -1,6 +1,6 @@
 //! The server: what becomes of datagrams, over any book.
 
-ghost use Rattle.std.specs.Prelude.{◌≡◌, ◌∷◌, [], IfOk, OnErr, IsTrue, Ok, Err};
+ghost use Rattle.std.specs.Prelude.{◌≡◌, ◌∷◌, [], IfOk, OnErr, IsTrue, Ok, Err, None};
 ghost use Rattle.s10_wire.specs.Kind.{fits};
 ghost use Rattle.s10_history.specs.History.{entry_with_key};
 ghost use Rattle.s10_book.specs.Once.{applied_once};
@@ -15,7 +15,6 @@ use s10_wire::{Outcome, Reply, Request, decode_request, encode_reply, same_reque
 use std::alloc::{AllocError, Global};
 
 // The outcome of a request, which is kept where its key is new.
-#[tactic(auto, using(crate::proofs::Applied::once_kept))]
 fn respond<B: Book>(book: &mut B, request: &Request, day: u32) -> Result<Outcome, BookFault>
     ensures faults { CountsFull result (B.faults book.old) (B.faults book.new) }
     ensures was_honest { B.honest book.new → B.honest book.old }
@@ -33,17 +32,32 @@ fn respond<B: Book>(book: &mut B, request: &Request, day: u32) -> Result<Outcome
             Outcome::NumberReused
         });
     }
+    execute(book, request, day)
+}
+
+// Executes a request whose key is new, and keeps it with its outcome.
+fn execute<B: Book>(book: &mut B, request: &Request, day: u32) -> Result<Outcome, BookFault>
+    requires { B.honest book.old → entry_with_key (B.history book.old) request.now.customer request.now.number ≡ None }
+    ensures faults { CountsFull result (B.faults book.old) (B.faults book.new) }
+    ensures was_honest { B.honest book.new → B.honest book.old }
+    ensures same_terms { B.honest book.new → B.terms book.new ≡ B.terms book.old }
+    ensures applied { B.honest book.new → IfOk result (λ o. B.history book.new ≡ applied_once (B.history book.old) ((request.now, day) ∷ []) (B.terms book.old).interval) }
+    ensures owed { B.honest book.new → IfOk result (Gives (entry_with_key (B.history book.new) request.now.customer request.now.number) request.now) }
+    ensures err { B.honest book.new → OnErr result (B.history book.new ≡ B.history book.old) }
+    ensures full { B.honest book.new → result ≡ Err BookFault.Full → IsFullFor (B.history book.old) (B.terms book.old) request.now }
+    ensures fits { IfOk result (λ o. IsTrue (fits request.now.body o)) }
+{
     if book.settings().limit() <= book.len() {
         return Err(BookFault::Full);
     }
     let day = book.day().max(day);
-    let outcome = decide(book, request, day)?;
-    book.keep(Entry {
+    let entry = Entry {
         request: *request,
         day,
-        outcome,
-    })?;
-    Ok(outcome)
+        outcome: decide(book, request, day)?,
+    };
+    book.keep(entry)?;
+    Ok(entry.outcome)
 }
 
 /// A server over a book: each distinct request is executed once and its reply is kept (Birrell and Nelson 1984).
