@@ -18,7 +18,7 @@ use Rattle.s10_replay.specs.Verdict.{IsWhole}
 use Rattle.s10_replay.proofs.SameRows.{same_length}
 use Rattle.s10_replay.proofs.Compared.{right_calls}
 use Rattle.s10_schema.specs.Schema.{IsClosedSchema}
-use Rattle.s10_statements.specs.Settled.{IsSettled, WasSound}
+use Rattle.s10_statements.specs.Settled.{IsSettled, StaysUnclean, WasSound}
 use Rattle.s10_statements.specs.Shown.{HasTables, HasOldTables, shown_head, shown_range, shown_serial, head_columns}
 use Rattle.s10_statements.specs.Statements.{Leaves}
 use Rattle.s10_ledger.specs.declared.form.Form.{Form}
@@ -29,6 +29,10 @@ use Rattle.s10_ledger.specs.Refusals.{IsOpeningRefusal}
 use Rattle.s10_ledger.specs.AllRows.{IsFound}
 use Rattle.s10_ledger.proofs.Forms.{form_ledger, four_lack}
 use Rattle.s10_ledger.proofs.WholeLemmas.{history, whole_ledger, found_history, right_rows, right_legal, shown_again}
+
+-- a disk that is clean was so before, and a connection that is open was so too
+pub sound_before : {S : Type 0} (g : Ghosts S) (old new : Held S) → StaysUnclean g old new → (HasCleanDisk (state g new) → IsTrue (state g new).is_open → IsTrue (state g old).is_open) → WasSound g old new
+sound_before g old new stays was_open clean = (omega (arith, stays, clean), was_open clean)
 
 -- the tables are read, and completed then
 module _ {S : Type 0} (g : Ghosts S) (old read new : Held S) (form : Form) (declared : IsOfForm form (state g old).now.schema) (settled : IsSettled g old) (leaves : Leaves g old read) (sound : WasSound g read new) where

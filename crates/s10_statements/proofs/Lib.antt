@@ -20,4 +20,6 @@ pub mod MarkLemmas
 pub mod Apart
 pub mod CrashLemmas
 pub mod WriteLemmas
+pub mod StepLemmas
+pub mod TransactionLemmas
 pub mod CallLemmas

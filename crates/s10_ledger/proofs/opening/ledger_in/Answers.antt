@@ -1,11 +1,11 @@
-use Rattle.std.proofs.Common.{inl, subst, ◌∙◌}
+use Rattle.std.proofs.Common.{inl, refl, subst, ◌∙◌}
 use Rattle.std.proofs.lemmas.Result.{err_from_is_err_and}
 use Rattle.sqlite_schema.specs.declared.schema.Schema.{Schema}
 use Rattle.sqlite.specs.Held.{state}
 use Rattle.s10_ledger.specs.Form.{IsOfForm}
 use Rattle.s10_ledger.specs.Refusals.{HasAForm}
 use Rattle.s10_ledger.proofs.Forms.{form_ledger}
-use Rattle.s10_ledger.proofs.OpeningLemmas.{was_sound, as_read, as_it_was, same_history, completed_ledger, completed_index, found_ledger, refused_by_store}
+use Rattle.s10_ledger.proofs.OpeningLemmas.{sound_before, was_sound, as_read, as_it_was, same_history, completed_ledger, completed_index, found_ledger, refused_by_store}
 use Rattle.s10_ledger.proofs.opening.ledger_in.Goals as goal
 
 pub found_in-requires-clause-form : goal.found_in-requires-clause-form
@@ -92,3 +92,120 @@ pub returns-in_default-clause-refused : goal.returns-in_default-clause-refused
 returns-in_default-clause-refused g c clean opened =
     let none = rw c.in_default.is at c.form_of.ensures.none in
     inl (subst (λ (s : Schema). HasAForm s → ⊥) c.schema.ensures.value none)
+
+pub returns-in_default-clause-settled : goal.returns-in_default-clause-settled
+returns-in_default-clause-settled g c = c.requires.settled
+
+pub returns-in_default-clause-was : goal.returns-in_default-clause-was
+returns-in_default-clause-was g c = λ clean. (clean, λ opened. opened)
+
+pub returns-in_default-clause-opened : goal.returns-in_default-clause-opened
+returns-in_default-clause-opened g c = λ clean. tt
+
+pub returns-in_default-clause-few : goal.returns-in_default-clause-few
+returns-in_default-clause-few g c = tt
+
+pub returns-in_default-clause-same : goal.returns-in_default-clause-same
+returns-in_default-clause-same g c = λ clean opened closed. refl
+
+pub returns-in_default-clause-kept : goal.returns-in_default-clause-kept
+returns-in_default-clause-kept g c = λ clean opened. refl
+
+pub returns-in_default-clause-history : goal.returns-in_default-clause-history
+returns-in_default-clause-history g c = λ clean opened. tt
+
+pub returns-in_default-clause-ledger : goal.returns-in_default-clause-ledger
+returns-in_default-clause-ledger g c = λ clean opened. tt
+
+pub returns-in_default-clause-found : goal.returns-in_default-clause-found
+returns-in_default-clause-found g c = λ clean opened. tt
+
+pub returns-in_default-clause-indexed : goal.returns-in_default-clause-indexed
+returns-in_default-clause-indexed g c = tt
+
+pub found_in-requires-clause-settled : goal.found_in-requires-clause-settled
+found_in-requires-clause-settled g c = c.requires.settled
+
+pub returns-in_err-found-clause-settled : goal.returns-in_err-found-clause-settled
+returns-in_err-found-clause-settled g c = c.found_in.ensures.leaves.settled c.requires.settled
+
+pub returns-in_err-found-clause-was : goal.returns-in_err-found-clause-was
+returns-in_err-found-clause-was g c = sound_before g.S.Store c.args.conn.now c.found_in.new.conn c.found_in.ensures.leaves.clean c.found_in.ensures.leaves.was_open
+
+pub returns-in_err-found-clause-opened : goal.returns-in_err-found-clause-opened
+returns-in_err-found-clause-opened g c =
+    let p = err_from_is_err_and c.from_residual.result c.from_residual.ensures.1 in
+    rw p.1 (λ clean. tt)
+
+pub returns-in_err-found-clause-few : goal.returns-in_err-found-clause-few
+returns-in_err-found-clause-few g c =
+    let p = err_from_is_err_and c.from_residual.result c.from_residual.ensures.1 in
+    rw p.1 tt
+
+pub returns-in_err-found-clause-history : goal.returns-in_err-found-clause-history
+returns-in_err-found-clause-history g c =
+    let p = err_from_is_err_and c.from_residual.result c.from_residual.ensures.1 in
+    rw p.1 (λ clean opened. tt)
+
+pub returns-in_err-found-clause-ledger : goal.returns-in_err-found-clause-ledger
+returns-in_err-found-clause-ledger g c =
+    let p = err_from_is_err_and c.from_residual.result c.from_residual.ensures.1 in
+    rw p.1 (λ clean opened. tt)
+
+pub returns-in_err-found-clause-found : goal.returns-in_err-found-clause-found
+returns-in_err-found-clause-found g c =
+    let p = err_from_is_err_and c.from_residual.result c.from_residual.ensures.1 in
+    rw p.1 (λ clean opened. tt)
+
+pub returns-in_err-found-clause-indexed : goal.returns-in_err-found-clause-indexed
+returns-in_err-found-clause-indexed g c =
+    let p = err_from_is_err_and c.from_residual.result c.from_residual.ensures.1 in
+    rw p.1 tt
+
+pub returns-in_err-complete-clause-settled : goal.returns-in_err-complete-clause-settled
+returns-in_err-complete-clause-settled g c = c.complete.ensures.settled
+
+pub returns-in_err-complete-clause-opened : goal.returns-in_err-complete-clause-opened
+returns-in_err-complete-clause-opened g c =
+    let p = err_from_is_err_and c.from_residual-in_err-complete.result c.from_residual-in_err-complete.ensures.1 in
+    rw p.1 (λ clean. tt)
+
+pub returns-in_err-complete-clause-few : goal.returns-in_err-complete-clause-few
+returns-in_err-complete-clause-few g c =
+    let p = err_from_is_err_and c.from_residual-in_err-complete.result c.from_residual-in_err-complete.ensures.1 in
+    rw p.1 tt
+
+pub returns-in_err-complete-clause-history : goal.returns-in_err-complete-clause-history
+returns-in_err-complete-clause-history g c =
+    let p = err_from_is_err_and c.from_residual-in_err-complete.result c.from_residual-in_err-complete.ensures.1 in
+    rw p.1 (λ clean opened. tt)
+
+pub returns-in_err-complete-clause-ledger : goal.returns-in_err-complete-clause-ledger
+returns-in_err-complete-clause-ledger g c =
+    let p = err_from_is_err_and c.from_residual-in_err-complete.result c.from_residual-in_err-complete.ensures.1 in
+    rw p.1 (λ clean opened. tt)
+
+pub returns-in_err-complete-clause-found : goal.returns-in_err-complete-clause-found
+returns-in_err-complete-clause-found g c =
+    let p = err_from_is_err_and c.from_residual-in_err-complete.result c.from_residual-in_err-complete.ensures.1 in
+    rw p.1 (λ clean opened. tt)
+
+pub returns-in_err-complete-clause-indexed : goal.returns-in_err-complete-clause-indexed
+returns-in_err-complete-clause-indexed g c =
+    let p = err_from_is_err_and c.from_residual-in_err-complete.result c.from_residual-in_err-complete.ensures.1 in
+    rw p.1 tt
+
+pub returns-clause-settled : goal.returns-clause-settled
+returns-clause-settled g c = c.complete.ensures.settled
+
+pub returns-clause-opened : goal.returns-clause-opened
+returns-clause-opened g c = λ clean. c.in_ok-complete.ensures.opened clean (c.in_ok-found.ensures.opened (c.complete.ensures.was clean).0)
+
+pub returns-clause-few : goal.returns-clause-few
+returns-clause-few g c = c.in_ok-found.ensures.few
+
+pub returns-clause-kept : goal.returns-clause-kept
+returns-clause-kept g c = λ clean opened. tt
+
+pub returns-clause-refused : goal.returns-clause-refused
+returns-clause-refused g c = λ clean opened. tt

@@ -1,12 +1,21 @@
-use Rattle.std.proofs.Common.{List, true, length, arith, ap, sym, subst}
+use Rattle.std.proofs.Common.{◌≡◌, ◌⊎◌, inl, inr, List, true, length, arith, refl, ap, sym, subst}
+use Rattle.sqlite_schema.specs.declared.schema.Schema.{Schema}
 use Rattle.sqlite.specs.Held.{state}
 use Rattle.s10_history.specs.declared.entry.Entry.{Entry}
 use Rattle.s10_history.specs.History.{day_of}
 use Rattle.s10_index.specs.CallIndex.{Indexes}
+use Rattle.s10_rows.specs.declared.open_fault.OpenFault.{OpenFault}
+use Rattle.s10_rows.specs.declared.open_fault.OpenFault.TheVariants.{Memory, Store}
+use Rattle.s10_statements.specs.Making.{HasOneOfTheNames, IsMakingRefusal}
 use Rattle.s10_ledger.specs.Ledger.{IsLedger}
+use Rattle.s10_ledger.specs.Pending.{calls_of}
 use Rattle.s10_ledger.proofs.NewLedger.{no_history, new_ledger}
 use Rattle.s10_ledger.proofs.PendingLemmas.{sound_at_first, sound_is_honest}
 use Rattle.s10_ledger.proofs.sql_book.SqlBook.create.Goals as goal
+
+not_made : (s : Schema) (f : OpenFault) → ¬ HasOneOfTheNames s → (f ≡ Memory) ⊎ (f ≡ Store) → IsMakingRefusal s f
+not_made s f fresh (inl is) = subst (λ (x : OpenFault). IsMakingRefusal s x) (sym is) tt
+not_made s f fresh (inr is) = subst (λ (x : OpenFault). IsMakingRefusal s x) (sym is) fresh
 
 pub invariant_of-result : goal.invariant_of-result
 invariant_of-result g c =
@@ -50,3 +59,96 @@ returns-clause-was g c = c.make_ledger.ensures.was
 
 pub returns-clause-committed : goal.returns-clause-committed
 returns-clause-committed g c = λ honest. c.make_ledger.ensures.settled.committed honest.clean honest.is_open
+
+pub returns-in-Some-clause-new : goal.returns-in-Some-clause-new
+returns-in-Some-clause-new g c = tt
+
+pub returns-in-Some-clause-fresh : goal.returns-in-Some-clause-fresh
+returns-in-Some-clause-fresh g c = tt
+
+pub returns-in-Some-clause-idle : goal.returns-in-Some-clause-idle
+returns-in-Some-clause-idle g c = tt
+
+pub returns-in-Some-clause-opened : goal.returns-in-Some-clause-opened
+returns-in-Some-clause-opened g c = tt
+
+pub returns-in-Some-clause-was : goal.returns-in-Some-clause-was
+returns-in-Some-clause-was g c = tt
+
+pub returns-in-Some-clause-empty : goal.returns-in-Some-clause-empty
+returns-in-Some-clause-empty g c = tt
+
+pub returns-in-Some-clause-alone : goal.returns-in-Some-clause-alone
+returns-in-Some-clause-alone g c = tt
+
+pub returns-in-Some-clause-committed : goal.returns-in-Some-clause-committed
+returns-in-Some-clause-committed g c = tt
+
+pub returns-in-Some-clause-honest : goal.returns-in-Some-clause-honest
+returns-in-Some-clause-honest g c = tt
+
+pub returns-in-Some-clause-none_pending : goal.returns-in-Some-clause-none_pending
+returns-in-Some-clause-none_pending g c = tt
+
+pub returns-in-Err-clause-new : goal.returns-in-Err-clause-new
+returns-in-Err-clause-new g c = tt
+
+pub returns-in-Err-clause-fresh : goal.returns-in-Err-clause-fresh
+returns-in-Err-clause-fresh g c = tt
+
+pub returns-in-Err-clause-idle : goal.returns-in-Err-clause-idle
+returns-in-Err-clause-idle g c = tt
+
+pub returns-in-Err-clause-opened : goal.returns-in-Err-clause-opened
+returns-in-Err-clause-opened g c = tt
+
+pub returns-in-Err-clause-was : goal.returns-in-Err-clause-was
+returns-in-Err-clause-was g c = tt
+
+pub returns-in-Err-clause-empty : goal.returns-in-Err-clause-empty
+returns-in-Err-clause-empty g c = tt
+
+pub returns-in-Err-clause-alone : goal.returns-in-Err-clause-alone
+returns-in-Err-clause-alone g c = tt
+
+pub returns-in-Err-clause-committed : goal.returns-in-Err-clause-committed
+returns-in-Err-clause-committed g c = tt
+
+pub returns-in-Err-clause-honest : goal.returns-in-Err-clause-honest
+returns-in-Err-clause-honest g c = tt
+
+pub returns-in-Err-clause-none_pending : goal.returns-in-Err-clause-none_pending
+returns-in-Err-clause-none_pending g c = tt
+
+pub returns-in-Some-clause-left_idle : goal.returns-in-Some-clause-left_idle
+returns-in-Some-clause-left_idle g c = c.requires.idle
+
+pub returns-in-Some-clause-was_refused : goal.returns-in-Some-clause-was_refused
+returns-in-Some-clause-was_refused g c = λ clean. (clean, λ opened. opened)
+
+pub returns-in-Some-clause-refused : goal.returns-in-Some-clause-refused
+returns-in-Some-clause-refused g c = c.in-Some.ensures.refusal
+
+pub returns-in-Some-clause-kept : goal.returns-in-Some-clause-kept
+returns-in-Some-clause-kept g c = λ clean opened. refl
+
+pub returns-clause-new : goal.returns-clause-new
+returns-clause-new g c = (refl, λ i. record { memory = c.none.ensures.memory i; store = c.none.ensures.store i })
+
+pub returns-clause-none_pending : goal.returns-clause-none_pending
+returns-clause-none_pending g c = ap calls_of c.new-2.ensures.items
+
+pub returns-clause-left_idle : goal.returns-clause-left_idle
+returns-clause-left_idle g c = tt
+
+pub returns-clause-was_refused : goal.returns-clause-was_refused
+returns-clause-was_refused g c = tt
+
+pub returns-clause-refused : goal.returns-clause-refused
+returns-clause-refused g c = tt
+
+pub returns-clause-kept : goal.returns-clause-kept
+returns-clause-kept g c = tt
+
+pub returns-in-Err-clause-refused : goal.returns-in-Err-clause-refused
+returns-in-Err-clause-refused g c = not_made (state g.S.Store c.args.conn).now.schema c.opening_fault-fault.result (c.refusal_of.ensures.fresh c.in_default.is) c.opening_fault-fault.ensures.fault
