@@ -27,12 +27,12 @@ refuse_each() {
     done
 }
 
-refuse_each s10_ends_tests \
-    memory::a_refused_request_for_memory_leaves_a_run_of_the_other_deliveries \
-    memory::a_run_with_ample_memory_faults_nothing
-refuse_each s10_ends_tests \
-    refused_worlds::a_refused_request_for_memory_leaves_a_run_of_the_other_events \
-    worlds::each_call_is_executed_once_and_answered_to_its_own_client
+refuse_each s10_jobs_tests \
+    ends::memory::a_refused_request_for_memory_leaves_a_run_of_the_other_deliveries \
+    ends::memory::a_run_with_ample_memory_faults_nothing
+refuse_each s10_jobs_tests \
+    ends::refused_worlds::a_refused_request_for_memory_leaves_a_run_of_the_other_events \
+    ends::worlds::each_call_is_executed_once_and_answered_to_its_own_client
 refuse_each s10_book_tests \
-    nine::a_refused_request_for_memory_is_made_good_by_a_repeat \
-    nine::nine_calls_with_ample_memory_are_kept_at_once
+    book::nine::a_refused_request_for_memory_is_made_good_by_a_repeat \
+    book::nine::nine_calls_with_ample_memory_are_kept_at_once

@@ -7,3 +7,8 @@ use std::process::Abort;
 pub(crate) fn holds<C: Debug>(rt: &impl Abort, case: &C, is_so: bool) {
     assert!(rt; is_so, "{case:?}");
 }
+
+/// It is so, in the case with this number.
+pub(crate) fn holds_at(rt: &impl Abort, case: usize, is_so: bool) {
+    assert!(rt; is_so, "case {case}");
+}

@@ -1,25 +1,9 @@
-//! Tests of jobs: calls, reports, turns and their lines.
+//! Tests of the server, the client and the links between them, of both ends in one world, and of jobs over them.
 #![tactic(auto)]
 
 #[cfg(test)]
-mod asked;
+mod ends;
 #[cfg(test)]
 mod expect;
 #[cfg(test)]
-mod hiccup;
-#[cfg(test)]
-mod links;
-#[cfg(test)]
-mod many_lines;
-#[cfg(test)]
-mod refusing;
-#[cfg(test)]
-mod replays;
-#[cfg(test)]
-mod reports;
-#[cfg(test)]
-mod tries;
-#[cfg(test)]
-mod turn_lines;
-#[cfg(test)]
-mod turns;
+mod jobs;

@@ -1,0 +1,204 @@
+//! What books answer, as worked by hand.
+
+use crate::book::books::Answered::{
+    BadGrant, Drawn, DrawnMany, Full, Granted, NoRange, NoneFree, NotIssued, NotThePost, NotYours,
+    NumberReused, Overlap, Told, Voided,
+};
+use crate::book::books::Asked::{
+    Draw, DrawMany, DrawOfRb, Grant, GrantOfRb, Query, QueryOfUs, Void,
+};
+use crate::book::books::{OPENING, Step, are_answered};
+use s10_wire::Status;
+
+/// The interval ends on its thirtieth day; a repeat is not executed and moves no day.
+const INTERVAL: &'static [Step] = &[
+    OPENING,
+    (7, 1, Draw, 20000, Drawn(20000, 0)),
+    (7, 2, Draw, 20000, Drawn(20000, 1)),
+    (7, 3, Draw, 20000, Drawn(20000, 2)),
+    (7, 4, Draw, 20029, NoneFree),
+    (7, 4, Draw, 20030, NoneFree),
+    (7, 5, Draw, 20029, NoneFree),
+    (7, 6, Draw, 20030, Drawn(20030, 0)),
+    (7, 1, Query(0), 20030, NumberReused),
+    (7, 1, Draw, 20400, Drawn(20000, 0)),
+];
+
+/// A day that falls counts as the last one.
+const FALLING_DAY: &'static [Step] = &[
+    OPENING,
+    (7, 1, Draw, 20010, Drawn(20010, 0)),
+    (7, 2, Draw, 19000, Drawn(20010, 1)),
+];
+
+/// The last serials, and a void that frees nothing.
+const LAST_SERIALS: &'static [Step] = &[
+    (0, 1, Grant(7, 99_999_998, 99_999_999), 20000, Granted(1)),
+    (7, 1, Draw, 20000, Drawn(20000, 99_999_998)),
+    (7, 2, Draw, 20000, Drawn(20000, 99_999_999)),
+    (7, 3, Draw, 20000, NoneFree),
+    (7, 4, Void(99_999_998), 20000, Voided),
+    (7, 5, Draw, 20000, NoneFree),
+];
+
+/// A full ledger answers what it kept.
+const FULL_LEDGER: &'static [Step] = &[
+    OPENING,
+    (7, 1, Draw, 20000, Drawn(20000, 0)),
+    (7, 2, Draw, 20000, Drawn(20000, 1)),
+    (7, 3, Draw, 20000, Full),
+    (7, 1, Draw, 20000, Drawn(20000, 0)),
+    (7, 1, Query(0), 20000, NumberReused),
+];
+
+#[test]
+fn draws_and_voids_are_answered_as_worked_by_hand(rt: HostRuntime) {
+    are_answered(
+        &rt,
+        "the interval ends on its thirtieth day; a repeat is not executed and moves no day",
+        100,
+        INTERVAL,
+    );
+    are_answered(
+        &rt,
+        "a day that falls counts as the last one",
+        100,
+        FALLING_DAY,
+    );
+    are_answered(
+        &rt,
+        "the last serials, and a void that frees nothing",
+        100,
+        LAST_SERIALS,
+    );
+    are_answered(&rt, "a full ledger answers what it kept", 3, FULL_LEDGER);
+}
+
+/// No two ranges have a serial in common, and a draw stays in its own.
+const RANGES_APART: &'static [Step] = &[
+    (0, 1, Grant(7, 10, 12), 20000, Granted(1)),
+    (0, 2, Grant(8, 12, 15), 20000, Overlap),
+    (0, 3, Grant(8, 8, 10), 20000, Overlap),
+    (0, 4, Grant(8, 11, 11), 20000, Overlap),
+    (0, 5, Grant(8, 9, 13), 20000, Overlap),
+    (0, 6, Grant(8, 13, 13), 20000, Granted(2)),
+    (0, 7, Grant(7, 8, 9), 20000, Granted(3)),
+    (7, 1, Draw, 20000, Drawn(20000, 10)),
+    (7, 2, Draw, 20000, Drawn(20000, 11)),
+    (7, 3, Draw, 20000, Drawn(20000, 12)),
+    (7, 4, Draw, 20000, Drawn(20000, 8)),
+    (7, 5, Draw, 20000, Drawn(20000, 9)),
+    (7, 6, Draw, 20000, NoneFree),
+    (8, 1, Draw, 20000, Drawn(20000, 13)),
+];
+
+/// Grants are refused in their order.
+const REFUSED_GRANTS: &'static [Step] = &[
+    OPENING,
+    (0, 2, Grant(8, 2, 5), 20000, Overlap),
+    (0, 3, Grant(8, 3, 3), 20000, Granted(2)),
+    (0, 4, GrantOfRb(8, 0, 2), 20000, Granted(3)),
+    (0, 5, Grant(8, 9, 8), 20000, BadGrant),
+    (0, 6, Grant(0, 4, 5), 20000, BadGrant),
+    (0, 7, Grant(0, 0, 2), 20000, BadGrant),
+    (7, 1, Grant(7, 4, 5), 20000, NotThePost),
+    (7, 9, Grant(0, 9, 8), 20000, NotThePost),
+    (7, 2, Draw, 20000, Drawn(20000, 0)),
+    (7, 3, Draw, 20000, Drawn(20000, 1)),
+    (7, 4, Draw, 20000, Drawn(20000, 2)),
+    (7, 5, Draw, 20000, NoneFree),
+    (8, 1, Draw, 20000, Drawn(20000, 3)),
+];
+
+/// Who may draw, void and query what.
+const WHO_MAY: &'static [Step] = &[
+    OPENING,
+    (8, 1, Query(0), 20000, NotYours),
+    (8, 2, Void(0), 20000, NotYours),
+    (0, 2, QueryOfUs(47_312_482), 20000, Told(Status::Unknown)),
+    (0, 3, Query(0), 20000, Told(Status::Never)),
+    (0, 4, Draw, 20000, NoRange),
+    (0, 5, Void(0), 20000, NotYours),
+    (7, 1, Void(2), 20000, NotIssued),
+    (7, 2, Void(3), 20000, NotYours),
+    (7, 3, DrawOfRb, 20000, NoRange),
+    (7, 4, Draw, 20000, Drawn(20000, 0)),
+    (7, 5, Query(0), 20001, Told(Status::Issued { day: 20000 })),
+    (7, 6, Void(0), 20001, Voided),
+    (0, 6, Query(0), 20001, Told(Status::Voided { day: 20000 })),
+];
+
+#[test]
+fn grants_and_refusals_are_answered_as_worked_by_hand(rt: HostRuntime) {
+    are_answered(
+        &rt,
+        "no two ranges have a serial in common, and a draw stays in its own",
+        100,
+        RANGES_APART,
+    );
+    are_answered(
+        &rt,
+        "grants are refused in their order",
+        100,
+        REFUSED_GRANTS,
+    );
+    are_answered(&rt, "who may draw, void and query what", 100, WHO_MAY);
+}
+
+/// All that are asked for or none, and nothing is issued for none.
+const ALL_OR_NONE: &'static [Step] = &[
+    OPENING,
+    (7, 1, DrawMany(2), 20000, DrawnMany(20000, (0, 2), (0, 0))),
+    (7, 1, DrawMany(2), 20001, DrawnMany(20000, (0, 2), (0, 0))),
+    (7, 1, DrawMany(1), 20001, NumberReused),
+    (7, 1, Draw, 20001, NumberReused),
+    (7, 2, DrawMany(2), 20000, NoneFree),
+    (7, 3, Draw, 20000, Drawn(20000, 2)),
+    (7, 4, DrawMany(3), 20030, DrawnMany(20030, (0, 3), (0, 0))),
+    (7, 5, DrawMany(1), 20030, NoneFree),
+    (8, 1, DrawMany(1), 20030, NoRange),
+    (8, 2, DrawMany(16), 20030, NoRange),
+    (7, 6, Query(1), 20030, Told(Status::Issued { day: 20030 })),
+    (7, 7, Void(1), 20030, Voided),
+    (7, 8, DrawMany(1), 20059, NoneFree),
+    (7, 9, DrawMany(1), 20060, DrawnMany(20060, (0, 1), (0, 0))),
+];
+
+/// One range after the other, and no more than they have.
+const RANGE_AFTER_RANGE: &'static [Step] = &[
+    OPENING,
+    (0, 2, Grant(7, 4, 5), 20000, Granted(2)),
+    (7, 9, DrawMany(6), 20000, NoneFree),
+    (7, 1, DrawMany(5), 20000, DrawnMany(20000, (0, 3), (4, 6))),
+    (7, 2, Draw, 20000, NoneFree),
+];
+
+/// A sheet of sixteen, and one that goes round.
+const SHEET_OF_SIXTEEN: &'static [Step] = &[
+    (0, 1, Grant(7, 0, 15), 20000, Granted(1)),
+    (7, 1, Draw, 20000, Drawn(20000, 0)),
+    (7, 2, DrawMany(16), 20029, NoneFree),
+    (7, 3, DrawMany(16), 20030, DrawnMany(20030, (1, 16), (0, 1))),
+];
+
+#[test]
+fn larger_draws_are_answered_as_worked_by_hand(rt: HostRuntime) {
+    are_answered(
+        &rt,
+        "all that are asked for or none, and nothing is issued for none",
+        100,
+        ALL_OR_NONE,
+    );
+    are_answered(
+        &rt,
+        "one range after the other, and no more than they have",
+        100,
+        RANGE_AFTER_RANGE,
+    );
+    are_answered(
+        &rt,
+        "a sheet of sixteen, and one that goes round",
+        100,
+        SHEET_OF_SIXTEEN,
+    );
+}

@@ -1,0 +1,154 @@
+//! The identifiers of single Draws in a row, beside the Draws themselves.
+
+use crate::book::books::Answered::{Drawn, Granted, Withdrawn};
+use crate::book::books::Asked::{Draw, Grant, Withdraw};
+use crate::book::books::{
+    OPENING, Step, answer, empty_book, first_unlike, gb, id, ra, request, sheet,
+};
+use crate::expect::same;
+use s10_book::{PlainBook, draws_in_a_row};
+use s10_wire::{Ids, Outcome};
+use std::alloc::Global;
+
+/// Who asks, for how many and on which day, and the serials of RA GB that are given.
+type Row = (u32, u8, u32, Option<&'static [u32]>);
+
+/// A book after these steps.
+fn book_of(alloc: Global, steps: &[Step]) -> Option<PlainBook> {
+    let mut book = empty_book(alloc, 100);
+    match first_unlike(&mut book, steps) {
+        Some(_) => None,
+        None => Some(book),
+    }
+}
+
+/// Whether these identifiers are what so many single Draws give, kept one after another.
+fn are_single_draws(book: &mut PlainBook, row: &Row, ids: &Option<Ids>) -> bool {
+    let (customer, count, day, _) = *row;
+    for place in 0..count {
+        let request = request(customer, 1000 + u32::from(place), Draw);
+        let drawn = match answer(book, &request, day) {
+            Ok(Outcome::Drawn { id, .. }) => Some(id),
+            Ok(_) => None,
+            Err(_) => return false,
+        };
+        let given = match ids {
+            None => drawn,
+            Some(ids) => ids.get(usize::from(place)),
+        };
+        if drawn.is_none() || drawn != given {
+            return drawn.is_none() && ids.is_none();
+        }
+    }
+    ids.is_some()
+}
+
+fn are_serials(ids: &Option<Ids>, serials: Option<&[u32]>) -> bool {
+    let (Some(ids), Some(serials)) = (ids, serials) else {
+        return ids.is_none() && serials.is_none();
+    };
+    for (place, serial) in serials.iter().enumerate() {
+        if ids.get(place) != Some(id(*serial)) {
+            return false;
+        }
+    }
+    ids.len() == serials.len()
+}
+
+/// Whether a row is as it says after these steps, and like single Draws.
+fn is_right(alloc: Global, steps: &[Step], row: &Row) -> bool {
+    let (customer, count, day, serials) = *row;
+    let (Some(mut book), Some(mut other)) = (book_of(alloc, steps), book_of(alloc, steps)) else {
+        return false;
+    };
+    match draws_in_a_row(&mut book, customer, ra(), gb(), sheet(count), day) {
+        Ok(ids) => are_serials(&ids, serials) && are_single_draws(&mut other, row, &ids),
+        Err(_) => false,
+    }
+}
+
+/// The first row that is not right, if any.
+fn first_wrong(alloc: Global, steps: &[Step], rows: &[Row]) -> Option<usize> {
+    for (place, row) in rows.iter().enumerate() {
+        if !is_right(alloc, steps, row) {
+            return Some(place);
+        }
+    }
+    None
+}
+
+/// Sheets of customer 7 from the last serial of its range, and of one who has none.
+const SHEETS_OF_ONE_RANGE: &'static [Row] = &[
+    (7, 1, 20000, Some(&[2])),
+    (7, 2, 20000, None),
+    (7, 2, 20029, None),
+    (7, 2, 20030, Some(&[2, 0])),
+    (7, 3, 20030, Some(&[2, 0, 1])),
+    (7, 4, 20030, None),
+    (7, 16, 20030, None),
+    (8, 1, 20030, None),
+];
+
+/// Two of three serials are drawn.
+const TWO_OF_THREE_DRAWN: &'static [Step] = &[
+    OPENING,
+    (7, 1, Draw, 20000, Drawn(20000, 0)),
+    (7, 2, Draw, 20000, Drawn(20000, 1)),
+];
+
+#[test]
+fn a_sheet_from_one_range_has_its_serials_in_turn(rt: HostRuntime) {
+    let wrong = first_wrong(rt.alloc(), TWO_OF_THREE_DRAWN, SHEETS_OF_ONE_RANGE);
+    same(&rt, &"row", &wrong, &None);
+}
+
+/// Sheets of one range, and of more.
+const SHEETS_OF_TWO_RANGES: &'static [Row] = &[
+    (7, 3, 20000, Some(&[0, 1, 2])),
+    (7, 5, 20000, Some(&[0, 1, 2, 4, 5])),
+    (7, 6, 20000, None),
+    (
+        8,
+        16,
+        20000,
+        Some(&[6, 7, 8, 9, 10, 11, 12, 13, 14, 15, 16, 17, 18, 19, 20, 21]),
+    ),
+];
+
+/// Customer 7 has two ranges, and customer 8 another.
+const THREE_GRANTS: &'static [Step] = &[
+    OPENING,
+    (0, 2, Grant(7, 4, 5), 20000, Granted(2)),
+    (0, 3, Grant(8, 6, 30), 20000, Granted(3)),
+];
+
+#[test]
+fn a_sheet_goes_on_in_the_next_range(rt: HostRuntime) {
+    let wrong = first_wrong(rt.alloc(), THREE_GRANTS, SHEETS_OF_TWO_RANGES);
+    same(&rt, &"row", &wrong, &None);
+}
+
+/// Sheets that go on behind a closed range.
+const SHEETS_OVER_A_CLOSED_RANGE: &'static [Row] = &[
+    (7, 3, 20000, Some(&[0, 1, 2])),
+    (7, 5, 20000, Some(&[0, 1, 2, 8, 9])),
+    (7, 6, 20000, None),
+];
+
+/// The second of three ranges is closed.
+const SECOND_OF_THREE_CLOSED: &'static [Step] = &[
+    OPENING,
+    (0, 2, Grant(7, 4, 5), 20000, Granted(2)),
+    (0, 3, Grant(7, 8, 9), 20000, Granted(3)),
+    (0, 4, Withdraw(2), 20000, Withdrawn),
+];
+
+#[test]
+fn a_sheet_passes_over_a_closed_range(rt: HostRuntime) {
+    let wrong = first_wrong(
+        rt.alloc(),
+        SECOND_OF_THREE_CLOSED,
+        SHEETS_OVER_A_CLOSED_RANGE,
+    );
+    same(&rt, &"row", &wrong, &None);
+}

@@ -1,0 +1,182 @@
+//! The look-ups of ranges.
+
+use crate::book::granted::{
+    Granted, all_granted, country, grant, numbered, range, serial, service, withdraw,
+};
+use crate::expect::same;
+use s10_ranges::Ranges;
+use s10_wire::Outcome;
+use std::process::Abort;
+
+/// Under the numbers from 0 to 8 stand the ranges that were granted.
+fn are_numbered(rt: &impl Abort, ranges: &Ranges) {
+    for num in 0..9u32 {
+        same(rt, &num, &ranges.numbered(num), &numbered(rt, num));
+    }
+}
+
+/// The next open range of RA GB of the customer behind that number is the one of the wanted number, 0 for none.
+fn has_next(rt: &impl Abort, ranges: &Ranges, customer: u32, after: u32, want: u32) {
+    let ra = service(rt, *b"RA");
+    let gb = country(rt, *b"GB");
+    let found = ranges.open_after(customer, ra, gb, after);
+    same(rt, &(customer, after), &found, &numbered(rt, want));
+}
+
+/// Customers, the number behind which a range is looked for, and the wanted number.
+fn have_next(rt: &impl Abort, ranges: &Ranges, wanted: &[(u32, u32, u32)]) {
+    for (customer, after, want) in wanted {
+        has_next(rt, ranges, *customer, *after, *want);
+    }
+}
+
+/// The range found over those serials of a service and a country is the one of the wanted number, 0 for none.
+fn has_over(
+    rt: &impl Abort,
+    ranges: &Ranges,
+    letters: [u8; 2],
+    code: [u8; 2],
+    first: u32,
+    last: u32,
+    want: u32,
+) {
+    let service = service(rt, letters);
+    let country = country(rt, code);
+    let found = ranges.over(service, country, serial(rt, first), serial(rt, last));
+    same(rt, &(first, last), &found, &numbered(rt, want));
+}
+
+#[test]
+fn ranges_are_found_by_number(rt: HostRuntime) {
+    are_numbered(&rt, &all_granted(&rt));
+}
+
+const NEXT: &[(u32, u32, u32)] = &[
+    (7, 0, 2),
+    (7, 1, 2),
+    (7, 2, 4),
+    (7, 4, 0),
+    (8, 0, 1),
+    (8, 1, 3),
+    (8, 3, 6),
+    (8, 6, 0),
+    (9, 0, 5),
+    (9, 5, 0),
+    (6, 0, 0),
+    (7, 4_294_967_295, 0),
+];
+
+#[test]
+fn ranges_of_a_holder_are_found_in_order_of_their_numbers(rt: HostRuntime) {
+    have_next(&rt, &all_granted(&rt), NEXT);
+}
+
+/// The seven ranges, of which the third and the second are closed, and then the fifth. A Withdraw that is refused closes none.
+fn three_closed<R: Abort + AllocGlobal>(rt: &R) -> Ranges {
+    let mut ranges = all_granted(rt);
+    withdraw(rt, &mut ranges, 3, Outcome::Withdrawn);
+    withdraw(rt, &mut ranges, 2, Outcome::Withdrawn);
+    withdraw(rt, &mut ranges, 2, Outcome::Closed);
+    withdraw(rt, &mut ranges, 1, Outcome::NotThePost);
+    withdraw(rt, &mut ranges, 8, Outcome::NoSuchRange);
+    withdraw(rt, &mut ranges, 5, Outcome::Withdrawn);
+    ranges
+}
+
+/// Those three alone are closed.
+fn are_closed(rt: &impl Abort, ranges: &Ranges) {
+    for num in 0..9u32 {
+        let is_closed = num == 2 || num == 3 || num == 5;
+        same(rt, &num, &ranges.is_closed(num), &is_closed);
+    }
+}
+
+#[test]
+fn closed_ranges_are_found_by_number_and_by_serials(rt: HostRuntime) {
+    let ranges = three_closed(&rt);
+    are_numbered(&rt, &ranges);
+    are_closed(&rt, &ranges);
+    are_over(&rt, &ranges);
+}
+
+const NEXT_OPEN: &[(u32, u32, u32)] = &[
+    (7, 0, 4),
+    (7, 1, 4),
+    (7, 2, 4),
+    (7, 4, 0),
+    (8, 0, 1),
+    (8, 1, 6),
+    (8, 3, 6),
+    (8, 6, 0),
+    (9, 0, 0),
+    (6, 0, 0),
+];
+
+#[test]
+fn open_ranges_alone_are_found_by_holder(rt: HostRuntime) {
+    have_next(&rt, &three_closed(&rt), NEXT_OPEN);
+}
+
+/// The first and the last serials looked for, and the number of the range.
+const OVER: &[(u32, u32, u32)] = &[
+    (10, 10, 2),
+    (19, 19, 2),
+    (9, 9, 0),
+    (20, 20, 6),
+    (30, 30, 3),
+    (31, 49, 0),
+    (31, 50, 1),
+    (60, 89, 0),
+    (0, 0, 5),
+    (99, 99, 4),
+    (100, 99_999_999, 0),
+    (0, 99_999_999, 1),
+    (15, 35, 2),
+    (25, 55, 1),
+    (20, 35, 3),
+    (29, 19, 0),
+];
+
+/// The ranges of RA GB are found over their serials.
+fn are_over(rt: &impl Abort, ranges: &Ranges) {
+    for (first, last, want) in OVER {
+        has_over(rt, ranges, *b"RA", *b"GB", *first, *last, *want);
+    }
+}
+
+#[test]
+fn of_ranges_over_the_same_serials_the_one_of_least_number_is_found(rt: HostRuntime) {
+    are_over(&rt, &all_granted(&rt));
+}
+
+#[test]
+fn ranges_of_another_service_or_country_are_not_found(rt: HostRuntime) {
+    let ranges = all_granted(&rt);
+    has_over(&rt, &ranges, *b"RB", *b"GB", 0, 99, 7);
+    has_over(&rt, &ranges, *b"RC", *b"GB", 0, 99, 0);
+    has_over(&rt, &ranges, *b"RA", *b"US", 0, 99, 0);
+}
+
+#[test]
+fn in_no_ranges_none_is_found(rt: HostRuntime) {
+    let ranges = Ranges::new(rt.alloc());
+    assert!(rt; ranges.numbered(1).is_none());
+    assert!(rt; !ranges.is_closed(1));
+    has_next(&rt, &ranges, 7, 0, 0);
+    has_over(&rt, &ranges, *b"RA", *b"GB", 0, 99_999_999, 0);
+}
+
+/// Once this is granted as well, nothing is found under the number 8.
+fn is_left_out<R: Abort + AllocGlobal>(rt: &R, num: u32, granted: Granted) {
+    let mut ranges = all_granted(rt);
+    grant(rt, &mut ranges, &range(rt, num, granted));
+    same(rt, &granted, &ranges.numbered(8), &None);
+}
+
+// A Grant that overlaps, one whose number is not the next, and one that ends before it begins.
+#[test]
+fn ranges_that_no_ledger_grants_are_left_out(rt: HostRuntime) {
+    is_left_out(&rt, 8, (7, *b"RA", 29, 31));
+    is_left_out(&rt, 9, (7, *b"RA", 31, 40));
+    is_left_out(&rt, 8, (7, *b"RA", 40, 31));
+}

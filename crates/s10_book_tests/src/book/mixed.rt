@@ -1,0 +1,141 @@
+//! Some hundred calls of several customers on rising days, over both books.
+
+ghost use Rattle.std.specs.Prelude.{◌≤◌, ◌<◌};
+
+use crate::book::books::{Asked, answer, request};
+use crate::book::both_books::{indexed_book, plain_book, unlike};
+use crate::expect::same;
+use s10_book::Book;
+use s10_wire::Outcome;
+
+const ROUNDS: u32 = 60;
+
+// Of each turn of a round, what is added to ten times the round for the number of its call: turn 8 is turn 3 again, and turn 11
+// has the number of turn 4.
+const NUMBERS: [u32; 12] = [0, 1, 2, 3, 4, 5, 6, 7, 3, 8, 9, 4];
+
+// The customers 1 to 4 draw in turn; the others are the post, holders of a slot, and any.
+fn customer(round: u32, turn: usize) -> u32
+    requires { round ≤ 1000 }
+{
+    match turn {
+        1 => 1 + (round + 1) % 4,
+        2 => 1 + (round + 2) % 4,
+        3 | 8 | 9 => 1 + (round + 3) % 4,
+        // The holder of the slot of the serial.
+        4 | 11 => 1 + round * 5 % 12 % 3,
+        5 => 1 + round % 4,
+        6 => round % 2,
+        10 => u32::from(round % 4 == 1),
+        _ => 0,
+    }
+}
+
+// A Grant of one of twelve ranges, which have three serials each, from 0, 4, 8 and so on, and belong to customers 1 to 3 in turn;
+// a Void and a Query of a serial of the slots in turn; a Grant that is not the post's, or has its first serial above its last; a
+// Query of the post; a sheet of two; and four Withdraws of a range, the second by customer 1, and then of the next one, from a
+// number that no range has on. The others are Draws.
+fn asked(round: u32, turn: usize) -> Asked
+    requires { round ≤ 1000 }
+{
+    let slot = round % 12;
+    let serial = 4 * (round * 5 % 12) + round % 3;
+    match turn {
+        0 => Asked::Grant(1 + slot % 3, 4 * slot, 4 * slot + 2),
+        4 => Asked::Void(serial),
+        5 => Asked::Query(serial),
+        6 => Asked::Grant(1, 50, 49),
+        7 => Asked::Query(round),
+        9 => Asked::DrawMany(2),
+        10 => Asked::Withdraw(round / 4),
+        _ => Asked::Draw,
+    }
+}
+
+fn kind(outcome: &Outcome) -> usize
+    ensures { result < 17 }
+{
+    match outcome {
+        Outcome::Granted { .. } => 0,
+        Outcome::Drawn { .. } => 1,
+        Outcome::Voided => 2,
+        Outcome::Told(_) => 3,
+        Outcome::NotThePost => 4,
+        Outcome::BadGrant => 5,
+        Outcome::Overlap => 6,
+        Outcome::NoRange => 7,
+        Outcome::NoneFree => 8,
+        Outcome::NotYours => 9,
+        Outcome::NotIssued => 10,
+        Outcome::AlreadyVoid => 11,
+        Outcome::NumberReused => 12,
+        Outcome::DrawnMany { .. } => 13,
+        Outcome::Withdrawn => 14,
+        Outcome::NoSuchRange => 15,
+        Outcome::Closed => 16,
+    }
+}
+
+// What both books answer to the call; None where they differ, or one fails. The days rise by five in four rounds; one call of each
+// round is handed in on an earlier day.
+fn common_answer<A: Book, B: Book>(
+    one: &mut A,
+    other: &mut B,
+    round: u32,
+    turn: usize,
+    number: u32,
+) -> Option<Outcome>
+    requires { round ≤ 1000 }
+{
+    let request = request(customer(round, turn), number, asked(round, turn));
+    let day = if turn == 2 {
+        19_000
+    } else {
+        20_000 + round * 5 / 4
+    };
+    let first = answer(one, &request, day);
+    if answer(other, &request, day) == first {
+        first.ok()
+    } else {
+        None
+    }
+}
+
+// Whether both books answer the twelve calls of the round alike; the kinds of their answers are noted.
+fn round_is_alike<A: Book, B: Book>(
+    one: &mut A,
+    other: &mut B,
+    round: u32,
+    seen: &mut [bool; 17],
+) -> bool
+    requires { round ≤ 1000 }
+{
+    for (turn, number) in NUMBERS.iter().enumerate() {
+        match common_answer(one, other, round, turn, number.saturating_add(10 * round)) {
+            None => return false,
+            Some(outcome) => seen[kind(&outcome)] = true,
+        }
+    }
+    true
+}
+
+// How many of the rounds both books answer alike, one after another, and which kinds of answers came.
+fn rounds_alike<A: Book, B: Book>(one: &mut A, other: &mut B) -> (u32, [bool; 17]) {
+    let mut seen = [false; 17];
+    for round in 0..ROUNDS {
+        if !round_is_alike(one, other, round, &mut seen) {
+            return (round, seen);
+        }
+    }
+    (ROUNDS, seen)
+}
+
+#[test]
+fn mixed_calls_are_answered_alike(rt: HostRuntime) {
+    let mut plain = plain_book(rt.alloc());
+    let mut indexed = indexed_book(rt.alloc());
+    let alike = rounds_alike(&mut plain, &mut indexed);
+    same(&rt, &"rounds", &alike, &(ROUNDS, [true; 17]));
+    let found = unlike(rt.alloc(), &mut plain, &mut indexed, 12 * ROUNDS, &[20_100]);
+    same(&rt, &"books", &found, &(None, Ok(None)));
+}

@@ -1,0 +1,69 @@
+//! How many serials a range has, and which it gives in turn.
+
+use crate::book::books::{gb, ra, serial};
+use crate::expect::same;
+use s10_history::Range;
+
+fn range(first: u32, last: u32) -> Range {
+    Range {
+        num: 1,
+        holder: 7,
+        service: ra(),
+        country: gb(),
+        first: serial(first),
+        last: serial(last),
+    }
+}
+
+/// The serial so many behind that one, where a range has that one and more serials than so many.
+fn behind(first: u32, last: u32, from: u32, count: u8) -> Option<u32> {
+    let range = range(first, last);
+    let from = serial(from);
+    let is_own = range.first.value() <= from.value() && from.value() <= range.last.value();
+    if is_own && u32::from(count) < range.size() {
+        Some(range.serial_behind(from, count).value())
+    } else {
+        None
+    }
+}
+
+/// The first serials of ranges, their last ones, and how many they have.
+const SIZES: &[(u32, u32, u32)] = &[
+    (5, 5, 1),
+    (4, 6, 3),
+    (0, 99_999_999, 100_000_000),
+    (99_999_999, 99_999_999, 1),
+];
+
+#[test]
+fn a_range_has_its_last_serial_too(rt: HostRuntime) {
+    for (first, last, size) in SIZES {
+        same(&rt, &(first, last), &range(*first, *last).size(), size);
+    }
+}
+
+/// The first serial of a range, its last one, one of them, so many, and the serial that stands so many behind that one.
+const BEHIND: &[(u32, u32, u32, u8, u32)] = &[
+    (5, 5, 5, 0, 5),
+    (4, 6, 4, 0, 4),
+    (4, 6, 4, 1, 5),
+    (4, 6, 4, 2, 6),
+    (4, 6, 5, 2, 4),
+    (4, 6, 6, 0, 6),
+    (4, 6, 6, 1, 4),
+    (4, 6, 6, 2, 5),
+    (0, 255, 0, 255, 255),
+    (0, 255, 1, 255, 0),
+    (0, 255, 255, 255, 254),
+    (0, 99_999_999, 99_999_998, 1, 99_999_999),
+    (0, 99_999_999, 99_999_999, 1, 0),
+    (0, 99_999_999, 99_999_999, 255, 254),
+];
+
+#[test]
+fn behind_its_last_serial_a_range_gives_its_first(rt: HostRuntime) {
+    for (first, last, from, count, serial) in BEHIND {
+        let found = behind(*first, *last, *from, *count);
+        same(&rt, &(first, last, from, count), &found, &Some(*serial));
+    }
+}

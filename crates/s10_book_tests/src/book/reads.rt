@@ -1,0 +1,186 @@
+//! What the reads of a book answer.
+
+use crate::book::books::{
+    Asked, SIX_CALLS, THREE_MORE, book_after, gb, go_on, id, ra, request, serial,
+};
+use s10_book::{Book, PlainBook};
+use s10_history::{Block, Candidate, Entry, Holding, Issuance, Issue, Range, Usage};
+use s10_wire::Outcome;
+use std::process::Abort;
+
+/// The range of the opening.
+fn first_range() -> Range {
+    Range {
+        num: 1,
+        holder: 7,
+        service: ra(),
+        country: gb(),
+        first: serial(0),
+        last: serial(2),
+    }
+}
+
+fn issue(day: u32, voided: bool, number: u32) -> Issue {
+    Issue {
+        day,
+        voided,
+        customer: 7,
+        number,
+    }
+}
+
+/// The sixth call: a Draw of the last serial.
+fn sixth() -> Entry {
+    Entry {
+        request: request(7, 5, Asked::Draw),
+        day: 20000,
+        outcome: Outcome::Drawn {
+            day: 20000,
+            id: id(2),
+        },
+    }
+}
+
+/// The usage of the book's first range: used, voided and free.
+fn usage_of_first(book: &mut PlainBook, day: u32) -> Option<Usage> {
+    match book.range(1) {
+        Ok(Some(range)) => book.usage(&range, day).ok(),
+        _ => None,
+    }
+}
+
+/// What the book's first range gives next.
+fn candidate_of_first(book: &mut PlainBook) -> Option<Candidate> {
+    match book.range(1) {
+        Ok(Some(range)) => book.candidate(&range).ok(),
+        _ => None,
+    }
+}
+
+/// Whether the first range is used so on a day.
+fn is_used(book: &mut PlainBook, day: u32, used: u32, voided: u32, free: u32) -> bool {
+    usage_of_first(book, day) == Some(Usage { used, voided, free })
+}
+
+/// Whether serial 1 was issued last so.
+fn was_last_issued(book: &mut PlainBook, issue: Issue) -> bool {
+    book.last_issue(&id(1)) == Ok(Some(issue))
+}
+
+/// Whether the call of customer and number is this.
+fn finds(book: &mut PlainBook, customer: u32, number: u32, entry: Option<Entry>) -> bool {
+    book.find(customer, number) == Ok(entry)
+}
+
+/// Whether the call that arrived at a place is this.
+fn holds(book: &mut PlainBook, at: u32, entry: Option<Entry>) -> bool {
+    book.entry(at) == Ok(entry)
+}
+
+/// Whether range 1 is the first, there is no other, and customer 7 holds it alone.
+fn has_one_range(book: &mut PlainBook) -> bool {
+    let held = Holding {
+        holder: 7,
+        service: ra(),
+        country: gb(),
+    };
+    book.range(1) == Ok(Some(first_range()))
+        && book.range(2) == Ok(None)
+        && book.next_range(&held, 0) == Ok(Some(first_range()))
+        && book.next_range(&held, 1) == Ok(None)
+}
+
+/// Whether the range found over these serials is this.
+fn has_over(book: &mut PlainBook, first: u32, last: u32, range: Option<Range>) -> bool {
+    let block = Block {
+        service: ra(),
+        country: gb(),
+        first: serial(first),
+        last: serial(last),
+    };
+    book.covering(&block) == Ok(range)
+}
+
+/// Whether the first range gives this serial next, which was issued last so.
+fn gives_next(book: &mut PlainBook, value: u32, issue: Issue) -> bool {
+    let candidate = Candidate {
+        serial: serial(value),
+        issue: Some(issue),
+    };
+    candidate_of_first(book) == Some(candidate)
+}
+
+/// Whether the book is that of nine calls, the last on day 20030.
+fn is_of_nine_calls(book: &PlainBook) -> bool {
+    let settings = book.settings();
+    book.len() == 9 && book.day() == 20030 && settings.interval() == 30 && settings.limit() == 100
+}
+
+fn usages_are_read(rt: &impl Abort, book: &mut PlainBook) {
+    assert!(rt; is_used(book, 0, 3, 0, 1));
+    assert!(rt; is_used(book, 20030, 3, 0, 1));
+    assert!(rt; is_used(book, 20059, 3, 0, 1));
+    assert!(rt; is_used(book, 20060, 3, 0, 3));
+}
+
+fn calls_are_read(rt: &impl Abort, book: &mut PlainBook) {
+    assert!(rt; finds(book, 7, 5, Some(sixth())));
+    assert!(rt; finds(book, 5, 7, None));
+    assert!(rt; holds(book, 6, Some(sixth())));
+    assert!(rt; holds(book, 0, None));
+    assert!(rt; holds(book, 10, None));
+}
+
+/// The last of the nine calls issued serial 1 again, and serial 2 is next.
+fn ranges_are_read(rt: &impl Abort, book: &mut PlainBook) {
+    assert!(rt; has_over(book, 2, 5, Some(first_range())));
+    assert!(rt; has_over(book, 3, 5, None));
+    assert!(rt; has_over(book, 2, 1, None));
+    assert!(rt; has_one_range(book));
+    assert!(rt; was_last_issued(book, issue(20030, false, 8)));
+    assert!(rt; gives_next(book, 2, issue(20000, false, 5)));
+}
+
+#[test]
+fn reads_answer_from_the_kept_calls(rt: HostRuntime) {
+    let mut book = book_after(&rt, "six calls", SIX_CALLS);
+    assert!(rt; was_last_issued(&mut book, issue(20000, true, 2)));
+    assert!(rt; is_used(&mut book, 20000, 3, 1, 0));
+    go_on(&rt, "three more", &mut book, THREE_MORE);
+    assert!(rt; is_of_nine_calls(&book));
+    usages_are_read(&rt, &mut book);
+    calls_are_read(&rt, &mut book);
+    ranges_are_read(&rt, &mut book);
+}
+
+/// The one issue of the sixth call.
+fn sixth_issue() -> Issuance {
+    Issuance {
+        id: id(2),
+        day: 20000,
+        customer: 7,
+        number: 5,
+        arrival: 6,
+    }
+}
+
+/// Whether a call made this issue alone as call number 6.
+fn made_one(entry: &Entry, issuance: Issuance) -> bool {
+    entry.issued() == 1 && entry.issue(6, 0) == Some(issuance) && entry.issue(6, 1).is_none()
+}
+
+/// Whether a call made no issue as call number 6.
+fn made_none(entry: &Entry) -> bool {
+    entry.issued() == 0 && entry.issue(6, 0).is_none()
+}
+
+#[test]
+fn a_done_draw_made_one_issue_and_a_refused_one_none(rt: HostRuntime) {
+    let drawn = sixth();
+    let refused = Entry {
+        outcome: Outcome::NoneFree,
+        ..drawn
+    };
+    assert!(rt; made_one(&drawn, sixth_issue()));
+    assert!(rt; made_none(&refused));
+}

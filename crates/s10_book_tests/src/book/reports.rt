@@ -1,0 +1,241 @@
+//! The two reports.
+
+use crate::book::books::Answered::{Drawn, DrawnMany, Granted, Voided, Withdrawn};
+use crate::book::books::Asked::{Draw, DrawMany, Grant, Void, Withdraw};
+use crate::book::books::{NINE_CALLS, OPENING, SIX_CALLS, Step, book_after};
+use crate::expect::same;
+use s10_book::{Book, BookFault, PlainBook, TripBook};
+use s10_reports::{ReportFault, write_issues, write_ranges};
+use std::alloc::Global;
+use std::io;
+use std::io::Write;
+use std::process::Abort;
+
+const NO_RANGES: &[u8] = b"range customer service country first last used voided free\n";
+
+const NO_ISSUES: &[u8] = b"arrival day customer number identifier state\n";
+
+const SIX_CALLS_RANGES: &[u8] = b"range customer service country first last used voided free\n\
+1 7 RA GB 00000000 00000002 3 1 0\n";
+
+const SIX_CALLS_ISSUES: &[u8] = b"arrival day customer number identifier state\n\
+2 20000 7 1 RA000000005GB issued\n\
+3 20000 7 2 RA000000014GB voided\n\
+6 20000 7 5 RA000000028GB issued\n";
+
+const RANGES: &[u8] = b"range customer service country first last used voided free\n\
+1 7 RA GB 00000000 00000002 3 0 1\n";
+
+const ISSUES: &[u8] = b"arrival day customer number identifier state\n\
+2 20000 7 1 RA000000005GB reissued\n\
+3 20000 7 2 RA000000014GB reissued\n\
+6 20000 7 5 RA000000028GB issued\n\
+8 20030 7 7 RA000000005GB issued\n\
+9 20030 7 8 RA000000014GB issued\n";
+
+const SHEETS_RANGES: &[u8] = b"range customer service country first last used voided free\n\
+1 7 RA GB 00000000 00000002 3 1 1\n";
+
+const CLOSED_RANGES: &[u8] = b"range customer service country first last used voided free\n\
+1 7 RA GB 00000000 00000002 1 1 2 closed\n\
+2 8 RA GB 00000003 00000003 0 0 1\n";
+
+const SHEETS_ISSUES: &[u8] = b"arrival day customer number identifier state\n\
+2 20000 7 1 RA000000005GB reissued\n\
+2 20000 7 1 RA000000014GB issued\n\
+3 20030 7 2 RA000000028GB issued\n\
+3 20030 7 2 RA000000005GB voided\n";
+
+/// Writes the report of a book's ranges on a day, or that of its issues where no day is named.
+fn write_report<B: Book, W: Write>(
+    book: &mut B,
+    day: Option<u32>,
+    out: &mut W,
+) -> Result<(), ReportFault> {
+    match day {
+        Some(day) => write_ranges(book, day, out),
+        None => write_issues(book, out),
+    }
+}
+
+/// Whether this is that report.
+fn reports(alloc: Global, book: &mut PlainBook, day: Option<u32>, report: &[u8]) -> bool {
+    let mut out = Vec::new(alloc);
+    write_report(book, day, &mut out) == Ok(()) && out.as_slice() == report
+}
+
+#[test]
+fn reports_are_as_worked_by_hand(rt: HostRuntime) {
+    let mut book = book_after(&rt, "nine calls", NINE_CALLS);
+    assert!(rt; reports(rt.alloc(), &mut book, Some(20030), RANGES));
+    assert!(rt; reports(rt.alloc(), &mut book, None, ISSUES));
+}
+
+#[test]
+fn a_voided_identifier_is_counted_and_named(rt: HostRuntime) {
+    let mut book = book_after(&rt, "six calls", SIX_CALLS);
+    assert!(rt; reports(rt.alloc(), &mut book, Some(20000), SIX_CALLS_RANGES));
+    assert!(rt; reports(rt.alloc(), &mut book, None, SIX_CALLS_ISSUES));
+}
+
+/// Two sheets, and a Void of what is on both.
+const TWO_SHEETS: &'static [Step] = &[
+    OPENING,
+    (7, 1, DrawMany(2), 20000, DrawnMany(20000, (0, 2), (0, 0))),
+    (7, 2, DrawMany(2), 20030, DrawnMany(20030, (2, 3), (0, 1))),
+    (7, 3, Void(0), 20030, Voided),
+];
+
+#[test]
+fn a_sheet_has_a_line_for_each_identifier(rt: HostRuntime) {
+    let mut book = book_after(&rt, "two sheets", TWO_SHEETS);
+    assert!(rt; reports(rt.alloc(), &mut book, Some(20030), SHEETS_RANGES));
+    assert!(rt; reports(rt.alloc(), &mut book, None, SHEETS_ISSUES));
+}
+
+/// A range is closed, and another granted behind it.
+const CLOSED_RANGE: &'static [Step] = &[
+    OPENING,
+    (7, 1, Draw, 20000, Drawn(20000, 0)),
+    (0, 2, Withdraw(1), 20000, Withdrawn),
+    (7, 2, Void(0), 20000, Voided),
+    (0, 3, Grant(8, 3, 3), 20000, Granted(2)),
+];
+
+#[test]
+fn the_line_of_a_closed_range_says_so(rt: HostRuntime) {
+    let mut book = book_after(&rt, "a closed range", CLOSED_RANGE);
+    assert!(rt; reports(rt.alloc(), &mut book, Some(20000), CLOSED_RANGES));
+}
+
+#[test]
+fn an_empty_ledger_has_headers_alone(rt: HostRuntime) {
+    let mut book = book_after(&rt, "empty", &[]);
+    assert!(rt; reports(rt.alloc(), &mut book, Some(20000), NO_RANGES));
+    let mut book = book_after(&rt, "one grant", &[OPENING]);
+    assert!(rt; reports(rt.alloc(), &mut book, None, NO_ISSUES));
+}
+
+/// Whether a text ends where a line of the whole ends.
+fn is_of_whole_lines(text: &[u8], whole: &[u8]) -> bool {
+    whole.starts_with(text) && (text.is_empty() || text.ends_with(b"\n"))
+}
+
+/// Whether a report stops at this call of the book, after whole lines.
+fn stops(alloc: Global, book: PlainBook, at: u64, day: Option<u32>, whole: &[u8]) -> bool {
+    let mut book = TripBook::new(book, at);
+    let mut out = Vec::new(alloc);
+    write_report(&mut book, day, &mut out) == Err(ReportFault::Book(BookFault::Store))
+        && is_of_whole_lines(out.as_slice(), whole)
+}
+
+/// The first call of the book, of the nine calls, at which a report does not stop: it makes no more.
+fn first_passed_over<R: Abort + AllocGlobal>(rt: &R, day: Option<u32>, whole: &[u8]) -> u64 {
+    for at in 0..100u64 {
+        let book = book_after(rt, "nine calls", NINE_CALLS);
+        if !stops(rt.alloc(), book, at, day, whole) {
+            return at;
+        }
+    }
+    100
+}
+
+// The report of issues makes so many calls of the book, and that of ranges.
+#[test]
+fn a_book_that_fails_leaves_whole_lines(rt: HostRuntime) {
+    same(&rt, &"issues", &first_passed_over(&rt, None, ISSUES), &14);
+    same(
+        &rt,
+        &"ranges",
+        &first_passed_over(&rt, Some(20030), RANGES),
+        &4,
+    );
+}
+
+/// A writer that takes so many bytes, then fails once, and from then on takes all.
+#[derive(Drop)]
+struct Hiccup {
+    bytes: Vec<u8>,
+    room: usize,
+    failed: bool,
+}
+
+impl Write for Hiccup {
+    fn write(&mut self, text: &[u8]) -> io::Result<usize> {
+        if self.failed {
+            return self.bytes.write(text);
+        }
+        let taken = self.room.min(text.len());
+        if taken == 0 && !text.is_empty() {
+            self.failed = true;
+            return Err(io::Error::from(io::ErrorKind::Other));
+        }
+        self.room -= taken;
+        self.bytes.write(&text[..taken])
+    }
+
+    fn flush(&mut self) -> io::Result<()> {
+        Ok(())
+    }
+}
+
+impl Hiccup {
+    fn new(alloc: Global, room: usize) -> Hiccup {
+        Hiccup {
+            bytes: Vec::new(alloc),
+            room,
+            failed: false,
+        }
+    }
+}
+
+/// Whether a report on a writer that cannot take it whole is its beginning up to where the writer failed.
+fn is_cut(
+    alloc: Global,
+    book: &mut PlainBook,
+    room: usize,
+    day: Option<u32>,
+    whole: &[u8],
+) -> bool {
+    let mut out = Hiccup::new(alloc, room);
+    let answer = write_report(book, day, &mut out);
+    room < whole.len()
+        && answer == Err(ReportFault::Write)
+        && out.bytes.as_slice() == &whole[..room]
+}
+
+/// How many bytes a writer has room for at least that takes a report whole.
+fn first_uncut(alloc: Global, book: &mut PlainBook, day: Option<u32>, whole: &[u8]) -> usize {
+    for room in 0..whole.len() {
+        if !is_cut(alloc, book, room, day, whole) {
+            return room;
+        }
+    }
+    whole.len()
+}
+
+/// Whether a fault is written as this text.
+fn has_text(alloc: Global, fault: ReportFault, text: &str) -> bool {
+    match fault.to_string(alloc) {
+        Ok(found) => found.as_str() == text,
+        Err(_) => false,
+    }
+}
+
+#[test]
+fn a_writer_that_fails_once_has_got_the_beginning_of_the_report(rt: HostRuntime) {
+    let mut book = book_after(&rt, "nine calls", NINE_CALLS);
+    let uncut = first_uncut(rt.alloc(), &mut book, None, ISSUES);
+    same(&rt, &"issues", &uncut, &ISSUES.len());
+    let uncut = first_uncut(rt.alloc(), &mut book, Some(20030), RANGES);
+    same(&rt, &"ranges", &uncut, &RANGES.len());
+    let memory = ReportFault::Book(BookFault::Memory);
+    assert!(rt; has_text(rt.alloc(), memory, "book: memory"));
+    assert!(rt;
+        has_text(
+            rt.alloc(),
+            ReportFault::Write,
+            "the report could not be written"
+        )
+    );
+}

@@ -1,0 +1,187 @@
+//! Which call of a book that fails once is the one that fails.
+
+use crate::book::books::{OPENING, answer, empty_book, first_unlike, id, sheet};
+use crate::expect::same;
+use s10_book::{Book, BookFault, Settle, TripBook, decide, draws_in_a_row};
+use s10_core::Id;
+use s10_history::{Block, Holding};
+use s10_reports::{ReportFault, write_ranges};
+use s10_wire::{Body, Request};
+use std::alloc::Global;
+
+/// What a book is asked.
+#[derive(Clone, Copy)]
+enum Question {
+    Find,
+    Entry,
+    Range,
+    Closed,
+    NextRange,
+    Covering,
+    LastIssue,
+    Settle,
+    /// What a Draw would be given: the customer's range is looked for, and its candidate.
+    Candidate,
+    /// What a sheet of one label would be given: the customer's range is looked for, and its pick behind none.
+    Sheet,
+    /// The report of the ranges: range 1 is looked for, its usage, and whether it is closed.
+    Usage,
+    /// What a Withdraw would be answered: the range is looked for, and whether it is closed.
+    Withdraw,
+    /// A Query of the post with a new number: its key, the range of the identifier and its last issue are looked for,
+    /// and it is kept.
+    Keep,
+}
+
+/// Each question by its name, and how many calls of the book it takes.
+const QUESTIONS: &[(&str, Question, u64)] = &[
+    ("find", Question::Find, 1),
+    ("entry", Question::Entry, 1),
+    ("range", Question::Range, 1),
+    ("closed", Question::Closed, 1),
+    ("next range", Question::NextRange, 1),
+    ("covering", Question::Covering, 1),
+    ("last issue", Question::LastIssue, 1),
+    ("settle", Question::Settle, 1),
+    ("candidate", Question::Candidate, 2),
+    ("sheet", Question::Sheet, 2),
+    ("usage", Question::Usage, 3),
+    ("withdraw", Question::Withdraw, 2),
+    ("keep", Question::Keep, 4),
+];
+
+fn asked(customer: u32, number: u32, body: Body) -> Request {
+    Request {
+        customer,
+        number,
+        body,
+    }
+}
+
+/// A Draw of the service and country of an identifier.
+fn draw_of(id: &Id) -> Body {
+    Body::Draw {
+        service: id.service,
+        country: id.country,
+    }
+}
+
+/// An answer, whatever it holds, or its fault.
+fn told<T: Copy>(answer: Result<T, BookFault>) -> Result<(), BookFault> {
+    match answer {
+        Ok(_) => Ok(()),
+        Err(fault) => Err(fault),
+    }
+}
+
+fn next_range<B: Book>(book: &mut B, id: &Id) -> Result<(), BookFault> {
+    let held = Holding {
+        holder: 7,
+        service: id.service,
+        country: id.country,
+    };
+    told(book.next_range(&held, 0))
+}
+
+fn covering<B: Book>(book: &mut B, id: &Id) -> Result<(), BookFault> {
+    let block = Block::of(id);
+    told(book.covering(&block))
+}
+
+/// What a new request of customer or post would be answered.
+fn decided<B: Book>(book: &mut B, request: &Request) -> Result<(), BookFault> {
+    let day = book.day().max(20_000);
+    told(decide(book, request, day))
+}
+
+fn report<B: Book>(alloc: Global, book: &mut B) -> Result<(), BookFault> {
+    let mut out = Vec::new(alloc);
+    match write_ranges(book, 20_000, &mut out) {
+        Ok(()) => Ok(()),
+        Err(ReportFault::Book(fault)) => Err(fault),
+        Err(ReportFault::Write) => Err(BookFault::Memory),
+    }
+}
+
+fn sheet_of_one<B: Book>(book: &mut B, id: &Id) -> Result<(), BookFault> {
+    let one = sheet(1);
+    told(draws_in_a_row(book, 7, id.service, id.country, one, 20_000))
+}
+
+fn ask<B: Settle>(
+    alloc: Global,
+    book: &mut B,
+    question: Question,
+    id: &Id,
+    number: u32,
+) -> Result<(), BookFault> {
+    match question {
+        Question::Find => told(book.find(0, 1)),
+        Question::Entry => told(book.entry(1)),
+        Question::Range => told(book.range(1)),
+        Question::Closed => told(book.closed(1)),
+        Question::NextRange => next_range(book, id),
+        Question::Covering => covering(book, id),
+        Question::LastIssue => told(book.last_issue(id)),
+        Question::Settle => book.settle(),
+        Question::Candidate => decided(book, &asked(7, number, draw_of(id))),
+        Question::Sheet => sheet_of_one(book, id),
+        Question::Usage => report(alloc, book),
+        Question::Withdraw => decided(book, &asked(0, number, Body::Withdraw { range: 1 })),
+        Question::Keep => told(answer(book, &asked(0, number, Body::Query { id: *id }), 20_000)),
+    }
+}
+
+/// Whether a question is refused; None where it is refused with another fault than Store.
+fn is_refused<B: Settle>(
+    alloc: Global,
+    book: &mut B,
+    question: Question,
+    id: &Id,
+    number: u32,
+) -> Option<bool> {
+    match ask(alloc, book, question, id, number) {
+        Ok(()) => Some(false),
+        Err(BookFault::Store) => Some(true),
+        Err(_) => None,
+    }
+}
+
+/// Which of two questions of a kind, and of a third one of a single call, a book refuses that fails at one of its calls,
+/// counted from 0.
+fn refused(alloc: Global, question: Question, at: u64) -> Option<[bool; 3]> {
+    let mut inner = empty_book(alloc, 100);
+    if first_unlike(&mut inner, &[OPENING]).is_some() {
+        return None;
+    }
+    let mut book = TripBook::new(inner, at);
+    let id = id(0);
+    let first = is_refused(alloc, &mut book, question, &id, 2);
+    let second = is_refused(alloc, &mut book, question, &id, 3);
+    let third = is_refused(alloc, &mut book, Question::Entry, &id, 4);
+    match (first, second, third) {
+        (Some(first), Some(second), Some(third)) => Some([first, second, third]),
+        _ => None,
+    }
+}
+
+/// The first call, counted from 0, that is not refused in turn, if any, where a question of the kind makes so many: a book that
+/// fails at one of its calls refuses that one of the questions that makes it.
+fn first_passed_over(alloc: Global, question: Question, calls: u64) -> Option<u64> {
+    let both = calls.saturating_mul(2);
+    for at in 0..both.saturating_add(2) {
+        let expected = [at < calls, calls <= at && at < both, at == both];
+        if refused(alloc, question, at) != Some(expected) {
+            return Some(at);
+        }
+    }
+    None
+}
+
+#[test]
+fn each_call_of_the_book_is_counted_and_fails_in_its_turn(rt: HostRuntime) {
+    for (name, question, calls) in QUESTIONS {
+        let passed_over = first_passed_over(rt.alloc(), *question, *calls);
+        same(&rt, name, &passed_over, &None);
+    }
+}

@@ -1,0 +1,247 @@
+//! Withdraws, and what is issued after them.
+
+use crate::book::books::Answered::{
+    AlreadyVoid, Closed, Drawn, DrawnMany, Full, Granted, NoRange, NoSuchRange, NoneFree,
+    NotIssued, NotThePost, NotYours, NumberReused, Overlap, Told, Voided, Withdrawn,
+};
+use crate::book::books::Asked::{
+    Draw, DrawMany, DrawOfRb, Grant, GrantOfRb, Query, Void, Withdraw,
+};
+use crate::book::books::{OPENING, Step, are_answered, book_after, gb, id, ra};
+use s10_book::{Book, BookFault, PlainBook};
+use s10_history::{Block, Holding, Range};
+use s10_wire::Status;
+use std::process::Abort;
+
+/// Customer 7 is granted range 2: the serials 4 to 6.
+const SECOND_GRANT: Step = (0, 2, Grant(7, 4, 6), 20000, Granted(2));
+
+/// And range 3: the serials 8 and 9.
+const THIRD_GRANT: Step = (0, 3, Grant(7, 8, 9), 20000, Granted(3));
+
+/// Who asks comes first, then whether there is such a range, then whether it is closed.
+const ORDER_OF_THE_RULE: &'static [Step] = &[
+    OPENING,
+    (7, 1, Withdraw(1), 20000, NotThePost),
+    (7, 2, Withdraw(9), 20000, NotThePost),
+    (0, 2, Withdraw(2), 20000, NoSuchRange),
+    (0, 3, Withdraw(0), 20000, NoSuchRange),
+    (0, 4, Withdraw(1), 20000, Withdrawn),
+    (0, 4, Withdraw(1), 20000, Withdrawn),
+    (0, 5, Withdraw(1), 20000, Closed),
+    (0, 5, Withdraw(1), 20000, Closed),
+    (7, 3, Withdraw(1), 20000, NotThePost),
+    (0, 4, Withdraw(2), 20000, NumberReused),
+    (0, 4, Grant(8, 3, 3), 20000, NumberReused),
+    (0, 6, Withdraw(2), 20000, NoSuchRange),
+];
+
+/// A closed range keeps its serials and its number.
+const CLOSED_RANGE: &'static [Step] = &[
+    OPENING,
+    (0, 2, Withdraw(1), 20000, Withdrawn),
+    (0, 3, Grant(8, 0, 2), 20000, Overlap),
+    (0, 4, Grant(8, 3, 3), 20000, Granted(2)),
+    (0, 5, Withdraw(2), 20000, Withdrawn),
+    (0, 6, Withdraw(1), 20000, Closed),
+    (0, 7, Withdraw(2), 20000, Closed),
+    (0, 8, Withdraw(3), 20000, NoSuchRange),
+];
+
+/// A full ledger withdraws nothing.
+const FULL_LEDGER: &'static [Step] = &[OPENING, (0, 2, Withdraw(1), 20000, Full)];
+
+#[test]
+fn withdrawals_are_answered_in_the_order_of_the_rule(rt: HostRuntime) {
+    are_answered(
+        &rt,
+        "who asks comes first, then whether there is such a range, then whether it is closed",
+        100,
+        ORDER_OF_THE_RULE,
+    );
+    are_answered(
+        &rt,
+        "a closed range keeps its serials and its number",
+        100,
+        CLOSED_RANGE,
+    );
+    are_answered(&rt, "a full ledger withdraws nothing", 1, FULL_LEDGER);
+}
+
+/// What it gave is voided and told of as before.
+const VOIDED_AS_BEFORE: &'static [Step] = &[
+    OPENING,
+    (7, 1, Draw, 20000, Drawn(20000, 0)),
+    (0, 2, Withdraw(1), 20000, Withdrawn),
+    (7, 1, Draw, 20000, Drawn(20000, 0)),
+    (7, 2, Draw, 20000, NoRange),
+    (7, 3, DrawMany(1), 20000, NoRange),
+    (7, 4, Void(0), 20000, Voided),
+    (7, 5, Void(0), 20000, AlreadyVoid),
+    (7, 6, Void(1), 20000, NotIssued),
+    (7, 7, Query(0), 20000, Told(Status::Voided { day: 20000 })),
+    (7, 8, Query(1), 20000, Told(Status::Never)),
+    (8, 1, Query(0), 20000, NotYours),
+    (7, 9, Draw, 20030, NoRange),
+];
+
+/// Ranges of others, and of another service, are as open as before.
+const OTHER_RANGES: &'static [Step] = &[
+    OPENING,
+    (0, 2, Grant(8, 4, 6), 20000, Granted(2)),
+    (0, 3, GrantOfRb(7, 0, 2), 20000, Granted(3)),
+    (0, 4, Withdraw(3), 20000, Withdrawn),
+    (7, 1, DrawOfRb, 20000, NoRange),
+    (7, 2, Draw, 20000, Drawn(20000, 0)),
+    (0, 5, Withdraw(1), 20000, Withdrawn),
+    (7, 3, Draw, 20000, NoRange),
+    (8, 1, Draw, 20000, Drawn(20000, 4)),
+    (8, 2, DrawMany(2), 20000, DrawnMany(20000, (5, 7), (0, 0))),
+];
+
+#[test]
+fn a_closed_range_gives_no_more_identifiers(rt: HostRuntime) {
+    are_answered(
+        &rt,
+        "what it gave is voided and told of as before",
+        100,
+        VOIDED_AS_BEFORE,
+    );
+    are_answered(
+        &rt,
+        "ranges of others, and of another service, are as open as before",
+        100,
+        OTHER_RANGES,
+    );
+}
+
+/// None is free where an open range has none, and there is no range where all are closed.
+const OPEN_RANGES: &'static [Step] = &[
+    OPENING,
+    SECOND_GRANT,
+    (7, 1, Draw, 20000, Drawn(20000, 0)),
+    (0, 3, Withdraw(1), 20000, Withdrawn),
+    (7, 2, Draw, 20000, Drawn(20000, 4)),
+    (7, 3, DrawMany(3), 20000, NoneFree),
+    (7, 4, DrawMany(2), 20000, DrawnMany(20000, (5, 7), (0, 0))),
+    (7, 5, Draw, 20000, NoneFree),
+    (7, 6, DrawMany(1), 20000, NoneFree),
+    (0, 4, Withdraw(2), 20000, Withdrawn),
+    (7, 7, Draw, 20000, NoRange),
+    (7, 8, DrawMany(1), 20000, NoRange),
+];
+
+/// A sheet of three is of the open range alone, and not before the day of the withdrawal.
+const SHEET_OF_AN_OPEN_RANGE: &'static [Step] = &[
+    OPENING,
+    SECOND_GRANT,
+    (7, 1, Draw, 20000, Drawn(20000, 0)),
+    (0, 3, Withdraw(1), 20010, Withdrawn),
+    (7, 2, DrawMany(3), 20000, DrawnMany(20010, (4, 7), (0, 0))),
+];
+
+/// A sheet passes over a closed range between two others.
+const SHEET_OVER_A_CLOSED_RANGE: &'static [Step] = &[
+    OPENING,
+    SECOND_GRANT,
+    THIRD_GRANT,
+    (0, 4, Withdraw(2), 20000, Withdrawn),
+    (7, 1, DrawMany(4), 20000, DrawnMany(20000, (0, 3), (8, 9))),
+    (7, 2, DrawMany(2), 20000, NoneFree),
+    (7, 3, Draw, 20000, Drawn(20000, 9)),
+];
+
+#[test]
+fn draws_go_on_in_the_ranges_that_are_open(rt: HostRuntime) {
+    are_answered(
+        &rt,
+        "none is free where an open range has none, and there is no range where all are closed",
+        100,
+        OPEN_RANGES,
+    );
+    are_answered(
+        &rt,
+        "a sheet of three is of the open range alone, and not before the day of the withdrawal",
+        100,
+        SHEET_OF_AN_OPEN_RANGE,
+    );
+    are_answered(
+        &rt,
+        "a sheet passes over a closed range between two others",
+        100,
+        SHEET_OVER_A_CLOSED_RANGE,
+    );
+}
+
+/// Whether a range of this number was found; where none is named, whether there was none.
+fn has_number(found: Result<Option<Range>, BookFault>, num: Option<u32>) -> bool {
+    match (found, num) {
+        (Ok(Some(range)), Some(num)) => range.num == num,
+        (Ok(None), None) => true,
+        _ => false,
+    }
+}
+
+/// Whether the range of that number is closed, or is not.
+fn has_closed(book: &mut PlainBook, num: u32, closed: bool) -> bool {
+    book.closed(num) == Ok(closed)
+}
+
+/// Whether the next open range of customer 7 behind that one has this number.
+fn has_open(book: &mut PlainBook, after: u32, num: Option<u32>) -> bool {
+    let held = Holding {
+        holder: 7,
+        service: ra(),
+        country: gb(),
+    };
+    has_number(book.next_range(&held, after), num)
+}
+
+/// Whether the range that has a serial has this number.
+fn has_over(book: &mut PlainBook, value: u32, num: Option<u32>) -> bool {
+    has_number(book.covering(&Block::of(&id(value))), num)
+}
+
+fn are_closed_as_told(rt: &impl Abort, book: &mut PlainBook) {
+    assert!(rt; has_closed(book, 0, false));
+    assert!(rt; has_closed(book, 1, false));
+    assert!(rt; has_closed(book, 2, true));
+    assert!(rt; has_closed(book, 3, false));
+    assert!(rt; has_closed(book, 4, false));
+}
+
+fn open_ranges_are_next(rt: &impl Abort, book: &mut PlainBook) {
+    assert!(rt; has_open(book, 0, Some(1)));
+    assert!(rt; has_open(book, 1, Some(3)));
+    assert!(rt; has_open(book, 2, Some(3)));
+    assert!(rt; has_open(book, 3, None));
+}
+
+fn all_ranges_are_over_their_serials(rt: &impl Abort, book: &mut PlainBook) {
+    assert!(rt; has_over(book, 2, Some(1)));
+    assert!(rt; has_over(book, 4, Some(2)));
+    assert!(rt; has_over(book, 8, Some(3)));
+    assert!(rt; has_over(book, 7, None));
+}
+
+/// The second of three ranges is closed.
+const SECOND_OF_THREE_CLOSED: &'static [Step] = &[
+    OPENING,
+    SECOND_GRANT,
+    THIRD_GRANT,
+    (0, 4, Withdraw(2), 20000, Withdrawn),
+    (7, 1, Withdraw(3), 20000, NotThePost),
+    (0, 5, Withdraw(4), 20000, NoSuchRange),
+];
+
+#[test]
+fn a_draw_alone_passes_over_a_closed_range(rt: HostRuntime) {
+    let mut book = book_after(
+        &rt,
+        "the second of three ranges is closed",
+        SECOND_OF_THREE_CLOSED,
+    );
+    are_closed_as_told(&rt, &mut book);
+    open_ranges_are_next(&rt, &mut book);
+    all_ranges_are_over_their_serials(&rt, &mut book);
+}

@@ -1,0 +1,187 @@
+//! The datagrams: read, written, cut short and changed.
+
+use crate::expect::same;
+use crate::wire::vectors::{Asked, Call, Came, REPLIES, REQUESTS, outcome, reply, request};
+use s10_wire::{
+    Frame, Reply, Request, WireFault, decode_reply, decode_request, encode_reply, encode_request,
+};
+use std::process::Abort;
+
+/// These bytes are read as the request, and it is written as they stand.
+fn stand_for(rt: &impl Abort, bytes: &[u8], request: &Request) {
+    same(rt, &bytes, &decode_request(bytes), &Ok(*request));
+    same(rt, &bytes, &encode_request(request).bytes(), &bytes);
+}
+
+#[test]
+fn requests_are_read_and_written_as_they_stand(rt: HostRuntime) {
+    for (bytes, call) in REQUESTS {
+        stand_for(&rt, bytes, &request(&rt, call));
+    }
+}
+
+/// These bytes are read as the reply, and it is written as they stand.
+fn stand_for_reply(rt: &impl Abort, bytes: &[u8], reply: &Reply) {
+    same(rt, &bytes, &decode_reply(bytes), &Ok(*reply));
+    same(rt, &bytes, &encode_reply(reply).bytes(), &bytes);
+}
+
+#[test]
+fn replies_are_read_and_written_as_they_stand(rt: HostRuntime) {
+    for (bytes, call, came) in REPLIES {
+        let reply = reply(&rt, bytes, call, came);
+        stand_for_reply(&rt, bytes, &reply);
+        same(&rt, bytes, &reply.request(), &request(&rt, call));
+        same(&rt, bytes, &reply.outcome(), &outcome(&rt, came));
+    }
+}
+
+fn cut_at(end: usize) -> WireFault {
+    if end < 12 {
+        WireFault::Short
+    } else {
+        WireFault::Length
+    }
+}
+
+/// These bytes are no request wherever they are cut.
+fn are_refused_where_cut(rt: &impl Abort, bytes: &[u8]) {
+    for end in 0..bytes.len() {
+        let cut = &bytes[..end];
+        same(rt, &cut, &decode_request(cut), &Err(cut_at(end)));
+    }
+}
+
+/// These bytes are no reply wherever they are cut.
+fn are_no_reply_where_cut(rt: &impl Abort, bytes: &[u8]) {
+    for end in 0..bytes.len() {
+        let cut = &bytes[..end];
+        same(rt, &cut, &decode_reply(cut), &Err(cut_at(end)));
+    }
+}
+
+#[test]
+fn a_datagram_cut_short_is_refused(rt: HostRuntime) {
+    for (bytes, _) in REQUESTS {
+        are_refused_where_cut(&rt, bytes);
+    }
+    for (bytes, _, _) in REPLIES {
+        are_no_reply_where_cut(&rt, bytes);
+    }
+}
+
+/// What is written of the request that these bytes are.
+fn request_again(bytes: &[u8]) -> Option<Frame> {
+    match decode_request(bytes) {
+        Ok(request) => Some(encode_request(&request)),
+        Err(_) => None,
+    }
+}
+
+/// What is written of the reply that these bytes are.
+fn reply_again(bytes: &[u8]) -> Option<Frame> {
+    match decode_reply(bytes) {
+        Ok(reply) => Some(encode_reply(&reply)),
+        Err(_) => None,
+    }
+}
+
+/// Whether these bytes are read, as a reply or as a request; it is written as they stand then.
+fn are_read(rt: &impl Abort, bytes: &[u8], is_reply: bool) -> bool {
+    let again = if is_reply {
+        reply_again(bytes)
+    } else {
+        request_again(bytes)
+    };
+    match again {
+        Some(frame) => {
+            same(rt, &bytes, &frame.bytes(), &bytes);
+            true
+        }
+        None => false,
+    }
+}
+
+/// How many of all changes of one byte are still read.
+fn changes_read(rt: &impl Abort, bytes: &mut [u8], is_reply: bool) -> u32 {
+    let mut count: u32 = 0;
+    for at in 0..bytes.len() {
+        let right = bytes[at];
+        for changed in 0..=255u8 {
+            bytes[at] = changed;
+            if changed != right && are_read(rt, bytes, is_reply) {
+                count = count.saturating_add(1);
+            }
+        }
+        bytes[at] = right;
+    }
+    count
+}
+
+/// So many of all changes of one byte of these are still read, as a reply or as a request.
+fn change(rt: &impl Abort, bytes: &mut [u8], is_reply: bool, wanted: u32) {
+    let read = changes_read(rt, bytes, is_reply);
+    same(rt, &&*bytes, &read, &wanted);
+}
+
+#[test]
+fn changed_bytes_are_refused_or_written_again(rt: HostRuntime) {
+    let mut draw = *b"S1\x01\x02\x00\x00\x00\x07\x00\x00\x00\x01RAGB";
+    let mut void = *b"S1\x01\x03\x00\x00\x00\x07\x00\x00\x00\x03RA000000014GB";
+    let mut query = *b"S1\x01\x04\x00\x00\x00\x07\x00\x00\x00\x01RA000000005GB";
+    change(&rt, &mut draw, false, 2_140);
+    change(&rt, &mut void, false, 2_141);
+    change(&rt, &mut query, false, 2_148);
+}
+
+#[test]
+fn changed_bytes_of_a_larger_draw_are_refused_or_written_again(rt: HostRuntime) {
+    let mut asked = *b"S1\x02\x05\x00\x00\x00\x07\x00\x00\x00\x01RAGB\x02";
+    let mut done =
+        *b"S1\x02\x85\x00\x00\x00\x07\x00\x00\x00\x01RAGB\x02\x00\x00\x00\x4e\x20RA000000005GBRA000000014GB";
+    let mut refused = *b"S1\x02\x85\x00\x00\x00\x07\x00\x00\x00\x02RAGB\x02\x05";
+    change(&rt, &mut asked, false, 2_155);
+    change(&rt, &mut done, true, 3_367);
+    change(&rt, &mut refused, true, 2_157);
+}
+
+#[test]
+fn changed_bytes_of_a_withdrawal_are_refused_or_written_again(rt: HostRuntime) {
+    let mut asked = *b"S1\x02\x06\x00\x00\x00\x00\x00\x00\x00\x02\x00\x00\x00\x01";
+    let mut done = *b"S1\x02\x86\x00\x00\x00\x00\x00\x00\x00\x02\x00\x00\x00\x01\x00";
+    let mut refused = *b"S1\x02\x86\x00\x00\x00\x00\x00\x00\x00\x03\x00\x00\x00\x01\x0b";
+    // Any customer, number and range; and of outcomes each of the other four.
+    change(&rt, &mut asked, false, 12 * 255);
+    change(&rt, &mut done, true, 12 * 255 + 4);
+    change(&rt, &mut refused, true, 12 * 255 + 4);
+}
+
+const SHEET: &[u8] =
+    b"S1\x02\x85\x00\x00\x00\x07\x00\x00\x00\x01RAGB\x10\x00\x00\x00\x4e\x20RA000000005GBRA000000014GBRA000000028GBRA000000031GBRA000000045GBRA000000059GBRA000000062GBRA000000076GBRA000000080GBRA000000093GBRA000000102GBRA000000116GBRA000000120GBRA000000133GBRA000000147GBRA000000155GB";
+
+const TEXTS: &[&[u8]] = &[
+    b"RA000000005GB",
+    b"RA000000014GB",
+    b"RA000000028GB",
+    b"RA000000031GB",
+    b"RA000000045GB",
+    b"RA000000059GB",
+    b"RA000000062GB",
+    b"RA000000076GB",
+    b"RA000000080GB",
+    b"RA000000093GB",
+    b"RA000000102GB",
+    b"RA000000116GB",
+    b"RA000000120GB",
+    b"RA000000133GB",
+    b"RA000000147GB",
+    b"RA000000155GB",
+];
+
+#[test]
+fn a_sheet_of_sixteen_is_the_longest_reply(rt: HostRuntime) {
+    let call: Call = (7, 1, Asked::DrawMany(16));
+    let reply = reply(&rt, SHEET, &call, &Came::DrawnMany(20_000, TEXTS));
+    stand_for_reply(&rt, SHEET, &reply);
+    same(&rt, &SHEET, &SHEET.len(), &230);
+}

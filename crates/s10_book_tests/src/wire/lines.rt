@@ -1,0 +1,289 @@
+//! Requests and replies as lines.
+
+use crate::expect::same;
+use crate::wire::vectors::{Asked, Call, Came, reply, request};
+use s10_lines::{WriteFault, write_reply_line, write_request_line};
+use s10_wire::{Reply, Request, Status};
+use std::alloc::Global;
+use std::io;
+use std::io::Write;
+use std::process::Abort;
+
+/// Requests and their lines.
+const REQUEST_LINES: &[(Call, &[u8])] = &[
+    (
+        (0, 1, Asked::Grant(7, 0, 2)),
+        b"request grant customer 0 number 1 holder 7 RA GB 00000000 00000002\n",
+    ),
+    (
+        (7, 1, Asked::Draw),
+        b"request draw customer 7 number 1 RA GB\n",
+    ),
+    (
+        (7, 3, Asked::Void(b"RA000000014GB")),
+        b"request void customer 7 number 3 RA000000014GB\n",
+    ),
+    (
+        (u32::MAX, 0, Asked::Query(b"RA473124829US")),
+        b"request query customer 4294967295 number 0 RA473124829US\n",
+    ),
+    (
+        (7, 1, Asked::DrawMany(16)),
+        b"request draw-many customer 7 number 1 RA GB 16\n",
+    ),
+    (
+        (0, 2, Asked::Withdraw(u32::MAX)),
+        b"request withdraw customer 0 number 2 4294967295\n",
+    ),
+];
+
+/// Requests, what they came to, and the lines of the replies.
+const REPLY_LINES: &[(Call, Came, &[u8])] = &[
+    (
+        (0, 1, Asked::Grant(7, 0, 2)),
+        Came::Granted(1),
+        b"reply grant customer 0 number 1 holder 7 RA GB 00000000 00000002 done range 1\n",
+    ),
+    (
+        (0, 1, Asked::Grant(7, 0, 2)),
+        Came::NotThePost,
+        b"reply grant customer 0 number 1 holder 7 RA GB 00000000 00000002 not-the-post\n",
+    ),
+    (
+        (0, 1, Asked::Grant(7, 0, 2)),
+        Came::BadGrant,
+        b"reply grant customer 0 number 1 holder 7 RA GB 00000000 00000002 bad-grant\n",
+    ),
+    (
+        (0, 1, Asked::Grant(7, 0, 2)),
+        Came::Overlap,
+        b"reply grant customer 0 number 1 holder 7 RA GB 00000000 00000002 overlap\n",
+    ),
+    (
+        (0, 1, Asked::Grant(7, 0, 2)),
+        Came::NumberReused,
+        b"reply grant customer 0 number 1 holder 7 RA GB 00000000 00000002 number-reused\n",
+    ),
+    (
+        (7, 1, Asked::Draw),
+        Came::Drawn(20_000, b"RA000000005GB"),
+        b"reply draw customer 7 number 1 RA GB done day 20000 RA000000005GB\n",
+    ),
+    (
+        (7, 1, Asked::Draw),
+        Came::NoRange,
+        b"reply draw customer 7 number 1 RA GB no-range\n",
+    ),
+    (
+        (7, 1, Asked::Draw),
+        Came::NoneFree,
+        b"reply draw customer 7 number 1 RA GB none-free\n",
+    ),
+    (
+        (7, 1, Asked::Draw),
+        Came::NumberReused,
+        b"reply draw customer 7 number 1 RA GB number-reused\n",
+    ),
+    (
+        (7, 3, Asked::Void(b"RA000000005GB")),
+        Came::Voided,
+        b"reply void customer 7 number 3 RA000000005GB done\n",
+    ),
+    (
+        (7, 3, Asked::Void(b"RA000000005GB")),
+        Came::NotYours,
+        b"reply void customer 7 number 3 RA000000005GB not-yours\n",
+    ),
+    (
+        (7, 3, Asked::Void(b"RA000000005GB")),
+        Came::NotIssued,
+        b"reply void customer 7 number 3 RA000000005GB not-issued\n",
+    ),
+    (
+        (7, 3, Asked::Void(b"RA000000005GB")),
+        Came::AlreadyVoid,
+        b"reply void customer 7 number 3 RA000000005GB already-void\n",
+    ),
+    (
+        (7, 3, Asked::Void(b"RA000000005GB")),
+        Came::NumberReused,
+        b"reply void customer 7 number 3 RA000000005GB number-reused\n",
+    ),
+    (
+        (7, 4, Asked::Query(b"RA000000005GB")),
+        Came::Told(Status::Unknown),
+        b"reply query customer 7 number 4 RA000000005GB done unknown\n",
+    ),
+    (
+        (7, 4, Asked::Query(b"RA000000005GB")),
+        Came::Told(Status::Never),
+        b"reply query customer 7 number 4 RA000000005GB done never\n",
+    ),
+    (
+        (7, 4, Asked::Query(b"RA000000005GB")),
+        Came::Told(Status::Issued { day: 20_000 }),
+        b"reply query customer 7 number 4 RA000000005GB done issued 20000\n",
+    ),
+    (
+        (7, 4, Asked::Query(b"RA000000005GB")),
+        Came::Told(Status::Voided { day: 20_000 }),
+        b"reply query customer 7 number 4 RA000000005GB done voided 20000\n",
+    ),
+    (
+        (7, 4, Asked::Query(b"RA000000005GB")),
+        Came::NotYours,
+        b"reply query customer 7 number 4 RA000000005GB not-yours\n",
+    ),
+    (
+        (7, 4, Asked::Query(b"RA000000005GB")),
+        Came::NumberReused,
+        b"reply query customer 7 number 4 RA000000005GB number-reused\n",
+    ),
+    (
+        (7, 1, Asked::DrawMany(2)),
+        Came::DrawnMany(20_000, &[b"RA000000005GB", b"RA000000014GB"]),
+        b"reply draw-many customer 7 number 1 RA GB 2 done day 20000 RA000000005GB RA000000014GB\n",
+    ),
+    (
+        (7, 2, Asked::DrawMany(2)),
+        Came::NoRange,
+        b"reply draw-many customer 7 number 2 RA GB 2 no-range\n",
+    ),
+    (
+        (7, 2, Asked::DrawMany(2)),
+        Came::NoneFree,
+        b"reply draw-many customer 7 number 2 RA GB 2 none-free\n",
+    ),
+    (
+        (7, 2, Asked::DrawMany(2)),
+        Came::NumberReused,
+        b"reply draw-many customer 7 number 2 RA GB 2 number-reused\n",
+    ),
+    (
+        (0, 2, Asked::Withdraw(1)),
+        Came::Withdrawn,
+        b"reply withdraw customer 0 number 2 1 done\n",
+    ),
+    (
+        (7, 2, Asked::Withdraw(1)),
+        Came::NotThePost,
+        b"reply withdraw customer 7 number 2 1 not-the-post\n",
+    ),
+    (
+        (0, 2, Asked::Withdraw(1)),
+        Came::NoSuchRange,
+        b"reply withdraw customer 0 number 2 1 no-such-range\n",
+    ),
+    (
+        (0, 2, Asked::Withdraw(1)),
+        Came::Closed,
+        b"reply withdraw customer 0 number 2 1 closed\n",
+    ),
+    (
+        (0, 2, Asked::Withdraw(1)),
+        Came::NumberReused,
+        b"reply withdraw customer 0 number 2 1 number-reused\n",
+    ),
+];
+
+/// The line was written whole.
+fn is_written(rt: &impl Abort, answer: Result<(), WriteFault>, out: &[u8], line: &[u8]) {
+    same(rt, &line, &answer, &Ok(()));
+    same(rt, &line, &out, &line);
+}
+
+#[test]
+fn each_kind_of_request_has_its_line(rt: HostRuntime) {
+    for (call, line) in REQUEST_LINES {
+        let mut out = Vec::new(rt.alloc());
+        let answer = write_request_line(&request(&rt, call), &mut out);
+        is_written(&rt, answer, &out, line);
+    }
+}
+
+#[test]
+fn each_outcome_of_each_kind_has_its_line(rt: HostRuntime) {
+    for (call, came, line) in REPLY_LINES {
+        let mut out = Vec::new(rt.alloc());
+        let answer = write_reply_line(&reply(&rt, line, call, came), &mut out);
+        is_written(&rt, answer, &out, line);
+    }
+}
+
+/// A writer that takes so many bytes, then fails once, and from then on takes all.
+#[derive(Drop)]
+struct Hiccup {
+    bytes: Vec<u8>,
+    room: usize,
+    failed: bool,
+}
+
+impl Write for Hiccup {
+    fn write(&mut self, text: &[u8]) -> io::Result<usize> {
+        if self.failed {
+            return self.bytes.write(text);
+        }
+        let taken = self.room.min(text.len());
+        if taken == 0 && !text.is_empty() {
+            self.failed = true;
+            return Err(io::Error::from(io::ErrorKind::Other));
+        }
+        self.room -= taken;
+        self.bytes.write(&text[..taken])
+    }
+
+    fn flush(&mut self) -> io::Result<()> {
+        Ok(())
+    }
+}
+
+impl Hiccup {
+    fn new(alloc: Global, room: usize) -> Hiccup {
+        Hiccup {
+            bytes: Vec::new(alloc),
+            room,
+            failed: false,
+        }
+    }
+}
+
+/// Whether a writer that failed has got the line up to there, and nothing behind it.
+fn is_cut(answer: Result<(), WriteFault>, out: &Hiccup, line: &[u8], room: usize) -> bool {
+    room < line.len() && answer == Err(WriteFault) && out.bytes.as_slice() == &line[..room]
+}
+
+fn is_cut_request_line(alloc: Global, request: &Request, line: &[u8], room: usize) -> bool {
+    let mut out = Hiccup::new(alloc, room);
+    let answer = write_request_line(request, &mut out);
+    is_cut(answer, &out, line, room)
+}
+
+fn is_cut_reply_line(alloc: Global, reply: &Reply, line: &[u8], room: usize) -> bool {
+    let mut out = Hiccup::new(alloc, room);
+    let answer = write_reply_line(reply, &mut out);
+    is_cut(answer, &out, line, room)
+}
+
+fn is_cut_everywhere(rt: &impl Abort, alloc: Global, request: &Request, line: &[u8]) {
+    for room in 0..line.len() {
+        let is_cut = is_cut_request_line(alloc, request, line, room);
+        same(rt, &&line[..room], &is_cut, &true);
+    }
+}
+
+fn is_reply_cut_everywhere(rt: &impl Abort, alloc: Global, reply: &Reply, line: &[u8]) {
+    for room in 0..line.len() {
+        let is_cut = is_cut_reply_line(alloc, reply, line, room);
+        same(rt, &&line[..room], &is_cut, &true);
+    }
+}
+
+#[test]
+fn a_writer_that_fails_once_has_got_the_beginning_of_the_line(rt: HostRuntime) {
+    for (call, line) in REQUEST_LINES {
+        is_cut_everywhere(&rt, rt.alloc(), &request(&rt, call), line);
+    }
+    for (call, came, line) in REPLY_LINES {
+        is_reply_cut_everywhere(&rt, rt.alloc(), &reply(&rt, line, call, came), line);
+    }
+}

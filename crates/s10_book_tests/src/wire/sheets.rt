@@ -1,0 +1,120 @@
+//! Sheets of labels: how many identifiers they have, and which.
+
+use crate::expect::same;
+use crate::wire::vectors::serial;
+use s10_core::{Country, Id, Service};
+use s10_wire::{Count, Ids};
+use std::process::Abort;
+
+fn id(rt: &impl Abort, value: u32) -> Id {
+    Id {
+        service: Service::new(*b"RA").unwrap(),
+        serial: serial(rt, value),
+        country: Country::new(*b"GB").unwrap(),
+    }
+}
+
+/// One identifier more than a sheet has, by their serials.
+fn seventeen(rt: &impl Abort) -> [Id; 17] {
+    let mut ids = [id(rt, 0); 17];
+    for place in 1..17 {
+        ids[place] = id(rt, place as u32);
+    }
+    ids
+}
+
+/// The sheet of the first of these identifiers, so many as there shall be.
+fn sheet(ids: &[Id], labels: usize) -> Option<Ids> {
+    if labels <= ids.len() {
+        Ids::new(&ids[..labels])
+    } else {
+        None
+    }
+}
+
+/// How many labels such a sheet has.
+fn len(ids: &[Id], labels: usize) -> Option<usize> {
+    let sheet = sheet(ids, labels)?;
+    Some(sheet.len())
+}
+
+/// The serial at a place of such a sheet.
+fn serial_at(ids: &[Id], labels: usize, at: usize) -> Option<u32> {
+    let sheet = sheet(ids, labels)?;
+    let id = sheet.get(at)?;
+    Some(id.serial.value())
+}
+
+/// Whether the sheet of the first of these identifiers is the one of those.
+fn is_sheet_of(ids: &[Id], labels: usize, those: &[Id]) -> bool {
+    match (sheet(ids, labels), Ids::new(those)) {
+        (Some(left), Some(right)) => left == right,
+        _ => false,
+    }
+}
+
+/// Values, and the counts that they are.
+const COUNTS: &[(u8, Option<u8>)] = &[
+    (0, None),
+    (1, Some(1)),
+    (16, Some(16)),
+    (17, None),
+    (255, None),
+];
+
+fn counted(value: u8) -> Option<u8> {
+    let count = Count::new(value)?;
+    Some(count.value())
+}
+
+#[test]
+fn a_count_is_one_to_sixteen(rt: HostRuntime) {
+    for (value, told) in COUNTS {
+        same(&rt, value, &counted(*value), told);
+    }
+}
+
+/// Labels asked for, and how many the sheet has.
+const LENGTHS: &[(usize, Option<usize>)] = &[(0, None), (1, Some(1)), (16, Some(16)), (17, None)];
+
+#[test]
+fn a_sheet_has_one_to_sixteen_labels(rt: HostRuntime) {
+    let ids = seventeen(&rt);
+    for (labels, told) in LENGTHS {
+        same(&rt, labels, &len(&ids, *labels), told);
+    }
+}
+
+/// Labels, a place among them, and the serial that stands there.
+const PLACES: &[(usize, usize, Option<u32>)] = &[
+    (0, 0, None),
+    (1, 0, Some(0)),
+    (1, 1, None),
+    (16, 0, Some(0)),
+    (16, 15, Some(15)),
+    (16, 16, None),
+    (17, 0, None),
+];
+
+#[test]
+fn labels_are_counted_from_0(rt: HostRuntime) {
+    let ids = seventeen(&rt);
+    for (labels, at, serial) in PLACES {
+        same(&rt, &(*labels, *at), &serial_at(&ids, *labels, *at), serial);
+    }
+}
+
+#[test]
+fn sheets_are_the_same_by_their_labels_in_order(rt: HostRuntime) {
+    let ids = seventeen(&rt);
+    let pair = [id(&rt, 0), id(&rt, 1)];
+    let turned = [id(&rt, 1), id(&rt, 0)];
+    let one = [id(&rt, 0)];
+    let twice = [id(&rt, 0), id(&rt, 0)];
+    let alike = [id(&rt, 0); 16];
+    assert!(rt; is_sheet_of(&ids, 2, &pair));
+    assert!(rt; is_sheet_of(&ids, 1, &one));
+    assert!(rt; !is_sheet_of(&ids, 2, &turned));
+    assert!(rt; !is_sheet_of(&ids, 1, &twice));
+    assert!(rt; !is_sheet_of(&ids, 16, &alike));
+}

@@ -1,0 +1,12 @@
+//! Tests of the command line, of jobs over ledgers in tables, and of those over files and sockets of this machine.
+
+mod buffers;
+mod command_lines;
+mod job_words;
+mod jobs;
+mod ledgers;
+mod loopback;
+mod questions;
+mod refused_files;
+mod refusing;
+mod serving;

@@ -1,0 +1,57 @@
+//! Buffers of a command line.
+
+use crate::host::refusing::Refusing;
+use s10_cli::run_buffered;
+use std::io;
+use std::io::Write;
+
+const CHECK: &[&str] = &["s10", "check", "RA473124829US"];
+
+/// What it prints.
+const REGISTERED: &str = "RA473124829US valid registered\n";
+
+const NOTHING: &[u8] = b"";
+
+/// The status of a check over this output, and the output behind it. None where it is not written out.
+fn checked<R: Eprint + AllocGlobal, W: Write + Drop>(rt: &R, output: W) -> Option<(Option<u8>, W)> {
+    run_buffered(rt, CHECK, NOTHING, output).ok()
+}
+
+/// Whether a check is done over a list of bytes, and its line in there.
+fn is_written_out<R: Eprint + AllocGlobal>(rt: &R) -> bool {
+    match checked(rt, Vec::new(rt.alloc())) {
+        Some((status, output)) => {
+            status == Some(0) && output.as_slice() == REGISTERED.as_bytes()
+        }
+        None => false,
+    }
+}
+
+#[test]
+fn the_buffer_is_written_out(rt: HostRuntime) {
+    assert!(rt; is_written_out(&rt));
+}
+
+#[test]
+fn a_buffer_that_cannot_be_written_out_is_an_error(rt: HostRuntime) {
+    assert!(rt; checked(&rt, Refusing).is_none());
+}
+
+/// A writer that takes every byte, and fails to pass them on.
+#[derive(Drop)]
+struct Stuck;
+
+impl Write for Stuck {
+    fn write(&mut self, buf: &[u8]) -> io::Result<usize> {
+        Ok(buf.len())
+    }
+
+    fn flush(&mut self) -> io::Result<()> {
+        Err(io::Error::from(io::ErrorKind::Other))
+    }
+}
+
+#[test]
+fn an_output_that_cannot_be_flushed_is_an_error(rt: HostRuntime) {
+    assert!(rt; checked(&rt, Stuck).is_none());
+}

@@ -1,0 +1,740 @@
+//! What command lines ask of the program itself.
+
+use crate::expect::holds;
+use crate::host::command_lines::prints;
+use crate::host::job_words::Subcommand::{
+    Audit, Create, Draw, Grant, Loop, Query, Report, Serve, Void, Withdraw,
+};
+use s10_cli::{parse_job, run_line};
+use std::alloc::Global;
+use std::fmt::Debug;
+use std::process::Abort;
+
+/// The words of a command line, and what they ask, as it is shown for debugging.
+type Line = (&'static [&'static str], &'static str);
+
+/// Each subcommand of the program with its required options alone.
+const LINES: &[Line] = &[
+    (
+        &[
+            "s10",
+            "create",
+            "--ledger",
+            "a.db",
+            "--interval",
+            "30",
+            "--limit",
+            "100",
+        ],
+        r#"Some(Create { ledger: "a.db", settings: Settings { interval: 30, limit: 100 } })"#,
+    ),
+    (
+        &[
+            "s10",
+            "serve",
+            "--ledger",
+            "a.db",
+            "--bind",
+            "0.0.0.0:0",
+            "--count",
+            "3",
+        ],
+        r#"Some(Serve { ledger: "a.db", bind: "0.0.0.0:0", count: 3, day: None })"#,
+    ),
+    (
+        &[
+            "s10",
+            "grant",
+            "--to",
+            "127.0.0.1:4711",
+            "--number",
+            "1",
+            "--holder",
+            "7",
+            "--service",
+            "RA",
+            "--country",
+            "GB",
+            "--first",
+            "0",
+            "--last",
+            "2",
+        ],
+        r#"Some(Ask(Question { to: "127.0.0.1:4711", customer: 0, number: 1, body: Grant { holder: 7, service: "RA", country: "GB", first: Serial { value: 0 }, last: Serial { value: 2 } }, tries: Tries { count: 5 } }))"#,
+    ),
+    (
+        &[
+            "s10",
+            "draw",
+            "--to",
+            "127.0.0.1:4711",
+            "--customer",
+            "7",
+            "--number",
+            "1",
+            "--service",
+            "RA",
+            "--country",
+            "GB",
+        ],
+        r#"Some(Ask(Question { to: "127.0.0.1:4711", customer: 7, number: 1, body: Draw { service: "RA", country: "GB" }, tries: Tries { count: 5 } }))"#,
+    ),
+    (
+        &[
+            "s10",
+            "void",
+            "--to",
+            "127.0.0.1:4711",
+            "--customer",
+            "7",
+            "--number",
+            "3",
+            "--id",
+            "RA000000005GB",
+        ],
+        r#"Some(Ask(Question { to: "127.0.0.1:4711", customer: 7, number: 3, body: Void { id: "RA000000005GB" }, tries: Tries { count: 5 } }))"#,
+    ),
+    (
+        &[
+            "s10",
+            "query",
+            "--to",
+            "127.0.0.1:4711",
+            "--customer",
+            "7",
+            "--number",
+            "4",
+            "--id",
+            "RA000000005GB",
+        ],
+        r#"Some(Ask(Question { to: "127.0.0.1:4711", customer: 7, number: 4, body: Query { id: "RA000000005GB" }, tries: Tries { count: 5 } }))"#,
+    ),
+    (
+        &[
+            "s10",
+            "withdraw",
+            "--to",
+            "127.0.0.1:4711",
+            "--number",
+            "5",
+            "--range",
+            "1",
+        ],
+        r#"Some(Ask(Question { to: "127.0.0.1:4711", customer: 0, number: 5, body: Withdraw { range: 1 }, tries: Tries { count: 5 } }))"#,
+    ),
+    (
+        &["s10", "report", "--ledger", "a.db"],
+        r#"Some(Report { ledger: "a.db", is_of_issues: false, day: None })"#,
+    ),
+    (
+        &["s10", "audit", "--ledger", "a.db"],
+        r#"Some(Audit { ledger: "a.db" })"#,
+    ),
+    (&["s10", "loop"], "Some(Loop { day: None })"),
+];
+
+/// Those lines.
+fn lines() -> &'static [Line] {
+    LINES
+}
+
+/// The subcommand of a line, in their order.
+#[derive(Clone, Copy, Debug)]
+enum Subcommand {
+    Create,
+    Serve,
+    Grant,
+    Draw,
+    Void,
+    Query,
+    Withdraw,
+    Report,
+    Audit,
+    Loop,
+}
+
+/// The line of a subcommand.
+fn line_of(subcommand: Subcommand) -> Option<&'static Line> {
+    lines().get(subcommand as usize)
+}
+
+/// Whether a value is shown like this for debugging.
+fn is_shown_as<T: Debug>(alloc: Global, value: &T, text: &str) -> bool {
+    match format!(in alloc; "{value:?}") {
+        Ok(shown) => shown.as_str() == text,
+        Err(_) => false,
+    }
+}
+
+/// Whether this is what the words ask of the program.
+fn asks(alloc: Global, words: &[&str], job: &str) -> bool {
+    match parse_job(alloc, words) {
+        Ok(asked) => is_shown_as(alloc, &asked, job),
+        Err(_) => false,
+    }
+}
+
+/// Lines ask what is shown beside them.
+fn ask_as_shown<R: AllocGlobal + Abort>(rt: &R, lines: &[Line]) {
+    for (words, job) in lines {
+        holds(rt, words, asks(rt.alloc(), words, job));
+    }
+}
+
+/// Whether a command line has this status, or is left to the program, and prints nothing.
+fn is_silent<R: Eprint + AllocGlobal>(rt: &R, words: &[&str], status: Option<u8>) -> bool {
+    let mut input: &[u8] = b"";
+    prints(rt, words, &mut input, status, "")
+}
+
+#[test]
+fn what_needs_files_or_sockets_is_left_to_the_program(rt: HostRuntime) {
+    for (words, _) in lines() {
+        holds(&rt, words, is_silent(&rt, words, None));
+    }
+    ask_as_shown(&rt, lines());
+}
+
+const OPTIONS: &[Line] = &[
+    (
+        &[
+            "s10",
+            "draw",
+            "--count",
+            "16",
+            "--to",
+            "127.0.0.1:4711",
+            "--customer",
+            "7",
+            "--number",
+            "1",
+            "--service",
+            "RA",
+            "--country",
+            "GB",
+        ],
+        r#"Some(Ask(Question { to: "127.0.0.1:4711", customer: 7, number: 1, body: DrawMany { service: "RA", country: "GB", count: Count { value: 16 } }, tries: Tries { count: 5 } }))"#,
+    ),
+    (
+        &[
+            "s10",
+            "serve",
+            "--day",
+            "4294967295",
+            "--count=4294967295",
+            "--bind",
+            "",
+            "--ledger",
+            "",
+        ],
+        r#"Some(Serve { ledger: "", bind: "", count: 4294967295, day: Some(4294967295) })"#,
+    ),
+    (
+        &[
+            "s10", "report", "--day", "0", "--issues", "--ledger", "a b.db",
+        ],
+        r#"Some(Report { ledger: "a b.db", is_of_issues: true, day: Some(0) })"#,
+    ),
+    (
+        &["s10", "loop", "--day", "20000"],
+        "Some(Loop { day: Some(20000) })",
+    ),
+    (&["s10", "check", "RA473124829US"], "None"),
+];
+
+#[test]
+fn options_that_may_be_left_out_are_read(rt: HostRuntime) {
+    ask_as_shown(&rt, OPTIONS);
+}
+
+const LIMITS: &[Line] = &[
+    (
+        &[
+            "s10",
+            "create",
+            "--ledger",
+            "a.db",
+            "--interval",
+            "3650",
+            "--limit",
+            "1000000000",
+        ],
+        r#"Some(Create { ledger: "a.db", settings: Settings { interval: 3650, limit: 1000000000 } })"#,
+    ),
+    (
+        &[
+            "s10",
+            "grant",
+            "--tries",
+            "100",
+            "--last",
+            "99999999",
+            "--first",
+            "99999998",
+            "--country",
+            "gb",
+            "--service",
+            "",
+            "--holder",
+            "4294967295",
+            "--number",
+            "4294967295",
+            "--to",
+            "post",
+        ],
+        r#"Some(Ask(Question { to: "post", customer: 0, number: 4294967295, body: Grant { holder: 4294967295, service: "", country: "gb", first: Serial { value: 99999998 }, last: Serial { value: 99999999 } }, tries: Tries { count: 100 } }))"#,
+    ),
+    (
+        &[
+            "s10", "withdraw", "--tries", "1", "--range", "0", "--number", "0", "--to", "",
+        ],
+        r#"Some(Ask(Question { to: "", customer: 0, number: 0, body: Withdraw { range: 0 }, tries: Tries { count: 1 } }))"#,
+    ),
+    (
+        &[
+            "s10",
+            "withdraw",
+            "--range=4294967295",
+            "--number=4294967295",
+            "--to=post",
+        ],
+        r#"Some(Ask(Question { to: "post", customer: 0, number: 4294967295, body: Withdraw { range: 4294967295 }, tries: Tries { count: 5 } }))"#,
+    ),
+];
+
+#[test]
+fn numbers_are_read_up_to_their_limits(rt: HostRuntime) {
+    ask_as_shown(&rt, LIMITS);
+}
+
+/// The words but for an option and its value. None where memory is refused.
+fn without<'a>(alloc: Global, words: &[&'a str], option: &str) -> Option<Vec<&'a str>> {
+    let mut left = Vec::new(alloc);
+    let mut follows = false;
+    for word in words {
+        let is_option = *word == option;
+        if !follows && !is_option {
+            left.push(*word).ok()?;
+        }
+        follows = is_option;
+    }
+    Some(left)
+}
+
+/// Whether a command line without this option is none, and asks nothing.
+fn is_required<R: Eprint + AllocGlobal>(rt: &R, words: &[&str], option: &str) -> bool {
+    match without(rt.alloc(), words, option) {
+        Some(left) => is_silent(rt, &left, Some(2)) && asks(rt.alloc(), &left, "None"),
+        None => false,
+    }
+}
+
+/// Each option of these words is required.
+fn options_are_required<R: Eprint + AllocGlobal + Abort>(rt: &R, words: &[&str]) {
+    for word in words {
+        if word.starts_with("--") {
+            holds(rt, &(words, word), is_required(rt, words, word));
+        }
+    }
+}
+
+#[test]
+fn each_option_but_the_day_and_the_tries_is_required(rt: HostRuntime) {
+    for (words, _) in lines() {
+        options_are_required(&rt, words);
+    }
+}
+
+/// In place of an option: the value is one word more.
+const ONE_MORE: &str = "";
+
+/// The words with another value of an option. None where memory is refused.
+fn with_value<'a>(
+    alloc: Global,
+    words: &[&'a str],
+    option: &str,
+    value: &'a str,
+) -> Option<Vec<&'a str>> {
+    let mut changed = Vec::new(alloc);
+    let mut follows = false;
+    for word in words {
+        changed.push(if follows { value } else { *word }).ok()?;
+        follows = *word == option;
+    }
+    if option == ONE_MORE {
+        changed.push(value).ok()?;
+    }
+    Some(changed)
+}
+
+/// Whether the words ask the job that this text shows, but for one field.
+fn ask_but_for(alloc: Global, words: &[&str], job: &str, field: &str, changed: &str) -> bool {
+    let Some((before, after)) = job.split_once(field) else {
+        return false;
+    };
+    match [before, changed, after].concat(alloc) {
+        Ok(job) => asks(alloc, words, &job),
+        Err(_) => false,
+    }
+}
+
+/// A line, an option and another value of it; a field of the job, and what stands there then.
+type Reach = (
+    Subcommand,
+    &'static str,
+    &'static str,
+    &'static str,
+    &'static str,
+);
+
+/// Whether the line with the other value asks for its job with that field changed.
+fn reaches(alloc: Global, reach: &Reach) -> bool {
+    let (subcommand, option, value, field, changed) = reach;
+    let Some((words, job)) = line_of(*subcommand) else {
+        return false;
+    };
+    match with_value(alloc, words, option, value) {
+        Some(words) => ask_but_for(alloc, &words, job, field, changed),
+        None => false,
+    }
+}
+
+/// Values reach their own fields.
+fn reach_their_fields<R: AllocGlobal + Abort>(rt: &R, values: &[Reach]) {
+    for reach in values {
+        holds(rt, reach, reaches(rt.alloc(), reach));
+    }
+}
+
+const VALUES: &[Reach] = &[
+    (
+        Create,
+        "--ledger",
+        "b.db",
+        r#"ledger: "a.db""#,
+        r#"ledger: "b.db""#,
+    ),
+    (Create, "--interval", "31", "interval: 30", "interval: 31"),
+    (Create, "--limit", "99", "limit: 100", "limit: 99"),
+    (
+        Serve,
+        "--ledger",
+        "b.db",
+        r#"ledger: "a.db""#,
+        r#"ledger: "b.db""#,
+    ),
+    (
+        Serve,
+        "--bind",
+        "[::1]:9",
+        r#"bind: "0.0.0.0:0""#,
+        r#"bind: "[::1]:9""#,
+    ),
+    (Serve, "--count", "8", "count: 3", "count: 8"),
+    (
+        Grant,
+        "--to",
+        "[::1]:9",
+        r#"to: "127.0.0.1:4711""#,
+        r#"to: "[::1]:9""#,
+    ),
+    (Grant, "--number", "8", "number: 1", "number: 8"),
+    (Grant, "--holder", "8", "holder: 7", "holder: 8"),
+    (
+        Grant,
+        "--service",
+        "LA",
+        r#"service: "RA""#,
+        r#"service: "LA""#,
+    ),
+    (
+        Grant,
+        "--country",
+        "FR",
+        r#"country: "GB""#,
+        r#"country: "FR""#,
+    ),
+    (
+        Grant,
+        "--first",
+        "1",
+        "first: Serial { value: 0 }",
+        "first: Serial { value: 1 }",
+    ),
+    (
+        Grant,
+        "--last",
+        "8",
+        "last: Serial { value: 2 }",
+        "last: Serial { value: 8 }",
+    ),
+    (
+        Draw,
+        "--to",
+        "[::1]:9",
+        r#"to: "127.0.0.1:4711""#,
+        r#"to: "[::1]:9""#,
+    ),
+    (Draw, "--customer", "8", "customer: 7", "customer: 8"),
+    (Draw, "--number", "8", "number: 1", "number: 8"),
+    (
+        Draw,
+        "--service",
+        "LA",
+        r#"service: "RA""#,
+        r#"service: "LA""#,
+    ),
+    (
+        Draw,
+        "--country",
+        "FR",
+        r#"country: "GB""#,
+        r#"country: "FR""#,
+    ),
+    (
+        Void,
+        "--to",
+        "[::1]:9",
+        r#"to: "127.0.0.1:4711""#,
+        r#"to: "[::1]:9""#,
+    ),
+    (Void, "--customer", "8", "customer: 7", "customer: 8"),
+    (Void, "--number", "8", "number: 3", "number: 8"),
+    (Void, "--id", "x", r#"id: "RA000000005GB""#, r#"id: "x""#),
+    (
+        Query,
+        "--to",
+        "[::1]:9",
+        r#"to: "127.0.0.1:4711""#,
+        r#"to: "[::1]:9""#,
+    ),
+    (Query, "--customer", "8", "customer: 7", "customer: 8"),
+    (Query, "--number", "8", "number: 4", "number: 8"),
+    (Query, "--id", "x", r#"id: "RA000000005GB""#, r#"id: "x""#),
+    (
+        Withdraw,
+        "--to",
+        "[::1]:9",
+        r#"to: "127.0.0.1:4711""#,
+        r#"to: "[::1]:9""#,
+    ),
+    (Withdraw, "--number", "8", "number: 5", "number: 8"),
+    (Withdraw, "--range", "8", "range: 1", "range: 8"),
+    (
+        Report,
+        "--ledger",
+        "b.db",
+        r#"ledger: "a.db""#,
+        r#"ledger: "b.db""#,
+    ),
+    (
+        Audit,
+        "--ledger",
+        "b.db",
+        r#"ledger: "a.db""#,
+        r#"ledger: "b.db""#,
+    ),
+];
+
+#[test]
+fn each_required_option_reaches_its_own_field(rt: HostRuntime) {
+    reach_their_fields(&rt, VALUES);
+}
+
+const MORE: &[Reach] = &[
+    (Serve, ONE_MORE, "--day=9", "day: None", "day: Some(9)"),
+    (
+        Grant,
+        ONE_MORE,
+        "--tries=9",
+        "Tries { count: 5 }",
+        "Tries { count: 9 }",
+    ),
+    (
+        Draw,
+        ONE_MORE,
+        "--tries=9",
+        "Tries { count: 5 }",
+        "Tries { count: 9 }",
+    ),
+    (
+        Draw,
+        ONE_MORE,
+        "--count=9",
+        r#"Draw { service: "RA", country: "GB" }"#,
+        r#"DrawMany { service: "RA", country: "GB", count: Count { value: 9 } }"#,
+    ),
+    (
+        Void,
+        ONE_MORE,
+        "--tries=9",
+        "Tries { count: 5 }",
+        "Tries { count: 9 }",
+    ),
+    (
+        Query,
+        ONE_MORE,
+        "--tries=9",
+        "Tries { count: 5 }",
+        "Tries { count: 9 }",
+    ),
+    (
+        Withdraw,
+        ONE_MORE,
+        "--tries=9",
+        "Tries { count: 5 }",
+        "Tries { count: 9 }",
+    ),
+    (Report, ONE_MORE, "--day=9", "day: None", "day: Some(9)"),
+    (
+        Report,
+        ONE_MORE,
+        "--issues",
+        "is_of_issues: false",
+        "is_of_issues: true",
+    ),
+    (Loop, ONE_MORE, "--day=9", "day: None", "day: Some(9)"),
+];
+
+#[test]
+fn each_option_that_may_be_left_out_reaches_its_own_field(rt: HostRuntime) {
+    reach_their_fields(&rt, MORE);
+}
+
+/// A line, an option and another value of it.
+type Edit = (Subcommand, &'static str, &'static str);
+
+/// Whether the line with the other value is no command line.
+fn is_refused<R: Eprint + AllocGlobal>(rt: &R, edit: &Edit) -> bool {
+    let (subcommand, option, value) = edit;
+    let Some((words, _)) = line_of(*subcommand) else {
+        return false;
+    };
+    match with_value(rt.alloc(), words, option, value) {
+        Some(words) => is_silent(rt, &words, Some(2)),
+        None => false,
+    }
+}
+
+/// Lines with other values are no command lines.
+fn are_refused<R: Eprint + AllocGlobal + Abort>(rt: &R, edits: &[Edit]) {
+    for edit in edits {
+        holds(rt, edit, is_refused(rt, edit));
+    }
+}
+
+const WRONG_VALUES: &[Edit] = &[
+    (Create, "--interval", "0"),
+    (Create, "--interval", "3651"),
+    (Create, "--interval", "-1"),
+    (Create, "--interval", ""),
+    (Create, "--interval", "x"),
+    (Create, "--limit", "0"),
+    (Create, "--limit", "1000000001"),
+    (Create, "--limit", "4294967297"),
+    (Serve, "--count", "4294967296"),
+    (Serve, "--count", "-1"),
+    (Serve, "--count", "1.5"),
+    (Grant, "--first", "100000000"),
+    (Grant, "--first", "-1"),
+    (Grant, "--last", "100000000"),
+    (Grant, "--last", "4294967296"),
+    (Grant, "--holder", "4294967296"),
+    (Grant, "--holder", "post"),
+    (Draw, "--customer", "4294967296"),
+    (Draw, "--number", "4294967296"),
+    (Draw, "--number", "0x1"),
+    (Void, "--number", "-1"),
+    (Query, "--customer", ""),
+    (Withdraw, "--number", "4294967296"),
+    (Withdraw, "--range", "4294967296"),
+    (Withdraw, "--range", "-1"),
+    (Withdraw, "--range", ""),
+    (Withdraw, "--range", "RA"),
+];
+
+#[test]
+fn numbers_out_of_their_ranges_are_no_command_line(rt: HostRuntime) {
+    are_refused(&rt, WRONG_VALUES);
+}
+
+const WRONG_OPTIONS: &[Edit] = &[
+    (Grant, ONE_MORE, "--tries=0"),
+    (Grant, ONE_MORE, "--tries=101"),
+    (Draw, ONE_MORE, "--tries=0"),
+    (Draw, ONE_MORE, "--tries=101"),
+    (Draw, ONE_MORE, "--count=0"),
+    (Draw, ONE_MORE, "--count=17"),
+    (Void, ONE_MORE, "--tries=0"),
+    (Void, ONE_MORE, "--tries=101"),
+    (Query, ONE_MORE, "--tries=0"),
+    (Query, ONE_MORE, "--tries=101"),
+    (Withdraw, ONE_MORE, "--tries=0"),
+    (Withdraw, ONE_MORE, "--tries=101"),
+    (Serve, ONE_MORE, "--day=4294967296"),
+    (Report, ONE_MORE, "--day=4294967296"),
+    (Loop, ONE_MORE, "--day=4294967296"),
+];
+
+#[test]
+fn tries_counts_and_days_out_of_their_ranges_are_no_command_line(rt: HostRuntime) {
+    are_refused(&rt, WRONG_OPTIONS);
+}
+
+const CUSTOMERS: &[Edit] = &[
+    (Grant, ONE_MORE, "--customer=0"),
+    (Withdraw, ONE_MORE, "--customer=0"),
+];
+
+#[test]
+fn what_the_post_alone_asks_names_no_customer(rt: HostRuntime) {
+    are_refused(&rt, CUSTOMERS);
+}
+
+const PARTS: &[Edit] = &[
+    (Withdraw, ONE_MORE, "--range=2"),
+    (Withdraw, ONE_MORE, "--first=0"),
+    (Withdraw, ONE_MORE, "--id=RA000000005GB"),
+    (Withdraw, ONE_MORE, "1"),
+];
+
+#[test]
+fn a_withdrawal_is_of_a_whole_range_by_its_number(rt: HostRuntime) {
+    are_refused(&rt, PARTS);
+}
+
+/// Whether a text names each option of the words.
+fn names_options(text: &str, words: &[&str]) -> bool {
+    for word in words {
+        if word.starts_with("--") && !text.contains(*word) {
+            return false;
+        }
+    }
+    true
+}
+
+/// Whether a help has an example, and names each option of the words.
+fn explains(help: &[u8], words: &[&str]) -> bool {
+    let Ok(text) = std::str::from_utf8(help) else {
+        return false;
+    };
+    text.contains("Example:\n  s10 ") && names_options(text, words)
+}
+
+/// Whether the help of a command line's subcommand explains it.
+fn is_explained<R: Eprint + AllocGlobal>(rt: &R, words: &[&str]) -> bool {
+    let Some(name) = words.get(1) else {
+        return false;
+    };
+    let mut input: &[u8] = b"";
+    let mut output = Vec::new(rt.alloc());
+    let status = run_line(rt, &["s10", "help", *name], &mut input, &mut output);
+    status == Some(0) && explains(output.as_slice(), words)
+}
+
+#[test]
+fn help_names_the_options(rt: HostRuntime) {
+    for (words, _) in lines() {
+        holds(&rt, words, is_explained(&rt, words));
+    }
+}

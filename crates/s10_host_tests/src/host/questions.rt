@@ -1,0 +1,149 @@
+//! The texts of requests, and requests over sockets.
+
+use crate::expect::holds;
+use crate::host::refusing::Refusing;
+use s10_jobs::{BodyWords, JobStatus, Question, Tries};
+use s10_lines::WriteFault;
+use s10_sockets::run_question;
+use std::io::Write;
+use std::net::Net;
+
+/// What is asked for: by customer 7, or by the post.
+#[derive(Clone, Copy)]
+enum Asked {
+    Draw(&'static str, &'static str),
+    Query(&'static str),
+    Withdraw,
+}
+
+const SERVER: &str = "127.0.0.1:4711";
+
+/// To whom a question goes, what it asks for, and the status and the line that it ends with.
+const CASES: &[(&str, Asked, JobStatus, &str)] = &[
+    (
+        "127.0.0.1",
+        Asked::Draw("ra", "gb"),
+        JobStatus::Refused,
+        "refused peer\n",
+    ),
+    (
+        "127.0.0.1:04711",
+        Asked::Draw("RA", "GB"),
+        JobStatus::Refused,
+        "refused peer\n",
+    ),
+    (
+        SERVER,
+        Asked::Draw("ra", "gb"),
+        JobStatus::Refused,
+        "refused service\n",
+    ),
+    (
+        SERVER,
+        Asked::Draw("RAA", "GB"),
+        JobStatus::Refused,
+        "refused service\n",
+    ),
+    (
+        SERVER,
+        Asked::Draw("RA", "G8"),
+        JobStatus::Refused,
+        "refused country\n",
+    ),
+    (
+        "post:4711",
+        Asked::Query("RA"),
+        JobStatus::Refused,
+        "refused peer\n",
+    ),
+    (
+        SERVER,
+        Asked::Query("RA"),
+        JobStatus::Refused,
+        "refused length\n",
+    ),
+    (
+        SERVER,
+        Asked::Query("ra 473 124 82x us"),
+        JobStatus::Refused,
+        "refused digit 10\n",
+    ),
+    (
+        SERVER,
+        Asked::Query("RA 000 000 006 GB"),
+        JobStatus::Refused,
+        "refused check-digit\n",
+    ),
+    (
+        "127.0.0.1",
+        Asked::Withdraw,
+        JobStatus::Refused,
+        "refused peer\n",
+    ),
+    // No datagram can be sent to port 0.
+    (
+        "127.0.0.1:0",
+        Asked::Query("ra 000 000 005 gb"),
+        JobStatus::Failed,
+        "link send\n",
+    ),
+    (
+        "127.0.0.1:0",
+        Asked::Withdraw,
+        JobStatus::Failed,
+        "link send\n",
+    ),
+];
+
+/// What came of a question.
+fn answer_of<R: Net + Eprint, W: Write>(
+    rt: &R,
+    question: &Question<'_>,
+    out: &mut W,
+) -> Result<JobStatus, WriteFault> {
+    let (done, _link) = run_question(rt, question, out);
+    done
+}
+
+/// Whether a question has this status and prints this line, on a writer that takes it alone.
+fn is_told<R: Net + Eprint + AllocGlobal>(
+    rt: &R,
+    question: &Question<'_>,
+    status: JobStatus,
+    line: &str,
+) -> bool {
+    let mut out = Vec::new(rt.alloc());
+    answer_of(rt, question, &mut out) == Ok(status)
+        && out.as_slice() == line.as_bytes()
+        && answer_of(rt, question, &mut Refusing) == Err(WriteFault)
+}
+
+/// The same of the first question of the customer or the post.
+fn asked_is_told<R: Net + Eprint + AllocGlobal>(
+    rt: &R,
+    to: &str,
+    asked: Asked,
+    status: JobStatus,
+    line: &str,
+) -> bool {
+    let (customer, body) = match asked {
+        Asked::Draw(service, country) => (7, BodyWords::Draw { service, country }),
+        Asked::Query(id) => (7, BodyWords::Query { id }),
+        Asked::Withdraw => (0, BodyWords::Withdraw { range: 1 }),
+    };
+    let question = Question {
+        to,
+        customer,
+        number: 1,
+        body,
+        tries: Tries::new(1).unwrap(),
+    };
+    is_told(rt, &question, status, line)
+}
+
+#[test]
+fn what_is_not_asked_has_its_line(rt: HostRuntime) {
+    for (at, (to, asked, status, line)) in CASES.iter().enumerate() {
+        holds(&rt, &at, asked_is_told(&rt, to, *asked, *status, line));
+    }
+}

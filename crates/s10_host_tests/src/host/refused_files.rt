@@ -1,0 +1,111 @@
+//! What is no ledger: each job over it is refused, and leaves its folder as it was.
+
+use crate::expect::holds;
+use crate::host::jobs::ends_with;
+use s10_jobs::JobStatus;
+use std::fs;
+
+/// Made for each path, and taken away again.
+const FOLDER: &str = "refused_files_test";
+
+const FILE: &str = "refused_files_test/ledger";
+
+const IN_NO_FOLDER: &str = "refused_files_test/nowhere/ledger";
+
+/// Each job over the file.
+const OVER_FILE: &[&[&str]] = &[
+    &["s10", "audit", "--ledger", FILE],
+    &["s10", "report", "--ledger", FILE, "--day", "20000"],
+    &[
+        "s10",
+        "serve",
+        "--ledger",
+        FILE,
+        "--bind",
+        "127.0.0.1:0",
+        "--count",
+        "1",
+    ],
+];
+
+/// Each job over the path in a folder that is none.
+const OVER_NO_FOLDER: &[&[&str]] = &[
+    &["s10", "audit", "--ledger", IN_NO_FOLDER],
+    &["s10", "report", "--ledger", IN_NO_FOLDER, "--day", "20000"],
+    &[
+        "s10",
+        "serve",
+        "--ledger",
+        IN_NO_FOLDER,
+        "--bind",
+        "127.0.0.1:0",
+        "--count",
+        "1",
+    ],
+];
+
+/// Whether each of the jobs ends with status 3 and this line.
+fn are_refused(rt: &HostRuntime, jobs: &[&[&str]], line: &str) -> bool {
+    for words in jobs {
+        if !ends_with(rt, words, JobStatus::Failed, line) {
+            return false;
+        }
+    }
+    true
+}
+
+/// Makes the folder, with nothing in it. Whether it is there.
+fn make_folder(rt: &HostRuntime) -> bool {
+    let _ = fs::remove_dir_all(rt, FOLDER);
+    fs::create_dir(rt, FOLDER).is_ok()
+}
+
+/// Takes the folder away. Whether it was empty: one with something in it cannot be taken away.
+fn take_folder(rt: &HostRuntime) -> bool {
+    fs::remove_dir(rt, FOLDER).is_ok()
+}
+
+/// Takes the file away. Whether these were its bytes.
+fn take_file(rt: &HostRuntime, bytes: &str) -> bool {
+    match fs::read(rt, FILE) {
+        Ok(left) => fs::remove_file(rt, FILE).is_ok() && left.as_slice() == bytes.as_bytes(),
+        Err(_) => false,
+    }
+}
+
+/// Whether they are, and no file is in the folder afterwards.
+fn stays_away(rt: &HostRuntime, jobs: &[&[&str]], line: &str) -> bool {
+    let refused = make_folder(rt) && are_refused(rt, jobs, line);
+    take_folder(rt) && refused
+}
+
+/// Whether they are, and the file keeps its bytes and has no other beside it.
+fn stays(rt: &HostRuntime, bytes: &str, line: &str) -> bool {
+    let refused = make_folder(rt)
+        && fs::write(rt, FILE, bytes).is_ok()
+        && are_refused(rt, OVER_FILE, line);
+    take_file(rt, bytes) && take_folder(rt) && refused
+}
+
+/// Jobs over no file, and the line of each.
+const ABSENT: &[(&[&[&str]], &str)] = &[
+    (OVER_FILE, "ledger not-a-ledger\n"),
+    (OVER_NO_FOLDER, "ledger store\n"),
+];
+
+/// What stands in a file, and the line of each job over it.
+const OTHERS: &[(&str, &str)] = &[
+    ("", "ledger not-a-ledger\n"),
+    ("short", "ledger store\n"),
+    ("a text, and longer than sixteen bytes\n", "ledger store\n"),
+];
+
+#[test]
+fn what_is_no_ledger_stays_as_it_was(rt: HostRuntime) {
+    for (jobs, line) in ABSENT {
+        holds(&rt, jobs, stays_away(&rt, jobs, line));
+    }
+    for (bytes, line) in OTHERS {
+        holds(&rt, bytes, stays(&rt, bytes, line));
+    }
+}

@@ -1,0 +1,413 @@
+//! The same calls over a book in memory and over one in tables.
+
+use crate::expect::same;
+use crate::ledger::calls::Answered::{
+    AlreadyVoid, BadGrant, Drawn, Full, Granted, NoRange, NoneFree, NotIssued, NotThePost,
+    NotYours, NumberReused, Overlap, Told, Voided,
+};
+use crate::ledger::calls::Asked::{Draw, DrawOfRb, Grant, GrantOfRb, Query, QueryOfUs, Void};
+use crate::ledger::calls::{
+    FIRST_DRAW, NINE_CALLS, OPENING, SIX_CALLS, Step, closed, first_unlike, gb, id, ledger, ra,
+    request, serial, settings,
+};
+use s10_book::{Book, BookFault, PlainBook};
+use s10_history::{Block, Candidate, Entry, Holding, Issue, Range, Settings, Usage};
+use s10_wire::{Outcome, Status};
+use sqlite::{Connection, MemStore};
+use std::process::Abort;
+
+/// What is read of a book, and what is found.
+#[derive(Clone, Copy)]
+enum Read {
+    /// How many calls there are, and the day of the last.
+    Calls(u32, u32),
+    /// The call of this customer and number: the sixth, or none.
+    Find(u32, u32, bool),
+    /// The call that arrived at this place: the sixth, or none.
+    Entry(u32, bool),
+    /// The range with this number: the first, or none.
+    Range(u32, bool),
+    /// The range of this holder behind that number: the first, or none.
+    NextRange(u32, u32, bool),
+    /// The range over the serials from one to the other: the first, or none.
+    Covering(u32, u32, bool),
+    /// The last issue of a serial.
+    LastIssue(u32, Option<Issue>),
+    /// What the first range gives next: a serial, and its last issue.
+    Candidate(u32, Issue),
+    /// The usage of the first range on a day.
+    Usage(u32, Usage),
+}
+
+/// Nothing is read.
+const UNREAD: &'static [Read] = &[];
+
+/// What is found of a book behind steps: the places of the first step that was not answered as its row says, and of the first that
+/// is not read so; how many calls there are, the day of the last, and the settings.
+type Found = (Option<usize>, Option<usize>, u32, u32, Settings);
+
+fn found<B: Book>(book: &mut B, steps: &[Step], reads: &[Read]) -> Found {
+    let step = first_unlike(book, steps);
+    let read = first_unread(book, reads);
+    (step, read, book.len(), book.day(), book.settings())
+}
+
+fn found_in_memory<R: AllocGlobal>(
+    rt: &R,
+    settings: Settings,
+    steps: &[Step],
+    reads: &[Read],
+) -> Found {
+    let mut book = PlainBook::new(rt.alloc(), settings);
+    found(&mut book, steps, reads)
+}
+
+/// The connection of a ledger behind these steps, which it and a book in memory answer, and are read then, as the rows say.
+fn both_after<R: Abort + AllocGlobal>(
+    rt: &R,
+    name: &str,
+    limit: u32,
+    steps: &[Step],
+    reads: &[Read],
+) -> Connection<MemStore> {
+    let settings = settings(rt, limit);
+    let plain = found_in_memory(rt, settings, steps, reads);
+    let mut tables = ledger(rt, settings);
+    let found = found(&mut tables, steps, reads);
+    same(rt, &name, &(plain.0, plain.1, found), &(None, None, plain));
+    closed(tables)
+}
+
+/// The same of a ledger whose limit is 100 and that is not read.
+pub(crate) fn tables_after<R: Abort + AllocGlobal>(
+    rt: &R,
+    name: &str,
+    steps: &[Step],
+) -> Connection<MemStore> {
+    both_after(rt, name, 100, steps, UNREAD)
+}
+
+/// Both books answer the steps and are read then as the rows say.
+fn both_answer<R: Abort + AllocGlobal>(
+    rt: &R,
+    name: &str,
+    limit: u32,
+    steps: &[Step],
+    reads: &[Read],
+) {
+    let _ = both_after(rt, name, limit, steps, reads);
+}
+
+const INTERVAL_ENDS: &'static [Step] = &[
+    OPENING,
+    FIRST_DRAW,
+    (7, 2, Draw, 20000, Drawn(20000, 1)),
+    (7, 3, Draw, 20000, Drawn(20000, 2)),
+    (7, 4, Draw, 20029, NoneFree),
+    (7, 4, Draw, 20030, NoneFree),
+    (7, 5, Draw, 20030, Drawn(20030, 0)),
+    (7, 1, Query(0), 20030, NumberReused),
+    (7, 1, Draw, 20400, Drawn(20000, 0)),
+];
+
+const VOID_IS_REPEATED: &'static [Step] = &[
+    OPENING,
+    FIRST_DRAW,
+    (7, 2, Draw, 20000, Drawn(20000, 1)),
+    (7, 3, Void(1), 20000, Voided),
+    (7, 3, Void(1), 20000, Voided),
+    (7, 4, Void(1), 20000, AlreadyVoid),
+    (7, 9, Query(1), 20000, Told(Status::Voided { day: 20000 })),
+    (7, 5, Draw, 20000, Drawn(20000, 2)),
+    (7, 6, Draw, 20000, NoneFree),
+    (7, 7, Draw, 20030, Drawn(20030, 0)),
+    (7, 8, Draw, 20030, Drawn(20030, 1)),
+    (7, 10, Query(1), 20030, Told(Status::Issued { day: 20030 })),
+];
+
+const LAST_SERIALS: &'static [Step] = &[
+    (0, 1, Grant(7, 99_999_998, 99_999_999), 20000, Granted(1)),
+    (7, 1, Draw, 20000, Drawn(20000, 99_999_998)),
+    (7, 2, Draw, 20000, Drawn(20000, 99_999_999)),
+    (7, 3, Draw, 20000, NoneFree),
+    (7, 4, Void(99_999_998), 20000, Voided),
+    (7, 5, Draw, 20000, NoneFree),
+];
+
+const FULL_LEDGER: &'static [Step] = &[
+    OPENING,
+    FIRST_DRAW,
+    (7, 2, Draw, 20000, Drawn(20000, 1)),
+    (7, 3, Draw, 20000, Full),
+    (7, 1, Draw, 20000, Drawn(20000, 0)),
+    (7, 1, Query(0), 20000, NumberReused),
+];
+
+#[test]
+fn draws_and_voids_are_answered_alike(rt: HostRuntime) {
+    both_answer(
+        &rt,
+        "the interval ends on its thirtieth day; a repeat is not executed and moves no day",
+        100,
+        INTERVAL_ENDS,
+        UNREAD,
+    );
+    both_answer(
+        &rt,
+        "a void is repeated, and voided again",
+        100,
+        VOID_IS_REPEATED,
+        UNREAD,
+    );
+    both_answer(
+        &rt,
+        "the last serials, and a void that frees nothing",
+        100,
+        LAST_SERIALS,
+        UNREAD,
+    );
+    both_answer(
+        &rt,
+        "a full ledger answers what it kept",
+        3,
+        FULL_LEDGER,
+        UNREAD,
+    );
+}
+
+const GRANTS: &'static [Step] = &[
+    OPENING,
+    (0, 2, Grant(8, 2, 5), 20000, Overlap),
+    (0, 3, Grant(8, 3, 3), 20000, Granted(2)),
+    (0, 4, GrantOfRb(8, 0, 2), 20000, Granted(3)),
+    (0, 5, Grant(8, 9, 8), 20000, BadGrant),
+    (0, 6, Grant(0, 4, 5), 20000, BadGrant),
+    (7, 1, Grant(7, 4, 5), 20000, NotThePost),
+    (7, 2, Draw, 20000, Drawn(20000, 0)),
+    (7, 3, Draw, 20000, Drawn(20000, 1)),
+    (7, 4, Draw, 20000, Drawn(20000, 2)),
+    (7, 5, Draw, 20000, NoneFree),
+    (8, 1, Draw, 20000, Drawn(20000, 3)),
+];
+
+#[test]
+fn grants_are_answered_alike(rt: HostRuntime) {
+    both_answer(
+        &rt,
+        "grants are refused in their order, and a draw stays in its own ranges",
+        100,
+        GRANTS,
+        UNREAD,
+    );
+}
+
+const REFUSALS: &'static [Step] = &[
+    OPENING,
+    (8, 1, Query(0), 20000, NotYours),
+    (8, 2, Void(0), 20000, NotYours),
+    (0, 2, QueryOfUs(47_312_482), 20000, Told(Status::Unknown)),
+    (0, 3, Query(0), 20000, Told(Status::Never)),
+    (0, 4, Draw, 20000, NoRange),
+    (0, 5, Void(0), 20000, NotYours),
+    (7, 1, Void(2), 20000, NotIssued),
+    (7, 2, Void(3), 20000, NotYours),
+    (7, 3, DrawOfRb, 20000, NoRange),
+];
+
+#[test]
+fn refusals_are_answered_alike(rt: HostRuntime) {
+    both_answer(
+        &rt,
+        "who may draw, void and query what",
+        100,
+        REFUSALS,
+        UNREAD,
+    );
+}
+
+/// The range of the opening, where it is the one that is meant.
+fn first_range(is_there: bool) -> Option<Range> {
+    let range = Range {
+        num: 1,
+        holder: 7,
+        service: ra(),
+        country: gb(),
+        first: serial(0),
+        last: serial(2),
+    };
+    if is_there { Some(range) } else { None }
+}
+
+/// The sixth call, a Draw of the last serial, where it is the one that is meant.
+fn sixth(is_there: bool) -> Option<Entry> {
+    let entry = Entry {
+        request: request(7, 5, Draw),
+        day: 20000,
+        outcome: Outcome::Drawn {
+            day: 20000,
+            id: id(2),
+        },
+    };
+    if is_there { Some(entry) } else { None }
+}
+
+/// The usage of the book's first range.
+fn usage_of_first<B: Book>(book: &mut B, day: u32) -> Result<Option<Usage>, BookFault> {
+    let found = book.range(1)?;
+    let Some(range) = found else {
+        return Ok(None);
+    };
+    let usage = book.usage(&range, day)?;
+    Ok(Some(usage))
+}
+
+/// What the book's first range gives next.
+fn candidate_of_first<B: Book>(book: &mut B) -> Result<Option<Candidate>, BookFault> {
+    let found = book.range(1)?;
+    let Some(range) = found else {
+        return Ok(None);
+    };
+    let candidate = book.candidate(&range)?;
+    Ok(Some(candidate))
+}
+
+/// Whether the range that a holder has behind that number is the first, or none.
+fn has_behind<B: Book>(book: &mut B, holder: u32, after: u32, is_there: bool) -> bool {
+    let held = Holding {
+        holder,
+        service: ra(),
+        country: gb(),
+    };
+    book.next_range(&held, after) == Ok(first_range(is_there))
+}
+
+/// Whether the range over these serials is the first, or none.
+fn has_over<B: Book>(book: &mut B, first: u32, last: u32, is_there: bool) -> bool {
+    let block = Block {
+        service: ra(),
+        country: gb(),
+        first: serial(first),
+        last: serial(last),
+    };
+    book.covering(&block) == Ok(first_range(is_there))
+}
+
+/// Whether the first range gives this serial next, which was issued last so.
+fn gives_next<B: Book>(book: &mut B, value: u32, issue: Issue) -> bool {
+    let candidate = Candidate {
+        serial: serial(value),
+        issue: Some(issue),
+    };
+    candidate_of_first(book) == Ok(Some(candidate))
+}
+
+/// Whether a book is read as the row says.
+fn is_as_read<B: Book>(book: &mut B, read: Read) -> bool {
+    match read {
+        Read::Calls(calls, day) => book.len() == calls && book.day() == day,
+        Read::Find(customer, number, is_there) => {
+            book.find(customer, number) == Ok(sixth(is_there))
+        }
+        Read::Entry(at, is_there) => book.entry(at) == Ok(sixth(is_there)),
+        Read::Range(number, is_there) => book.range(number) == Ok(first_range(is_there)),
+        Read::NextRange(holder, after, is_there) => has_behind(book, holder, after, is_there),
+        Read::Covering(first, last, is_there) => has_over(book, first, last, is_there),
+        Read::LastIssue(value, issue) => book.last_issue(&id(value)) == Ok(issue),
+        Read::Candidate(value, issue) => gives_next(book, value, issue),
+        Read::Usage(day, usage) => usage_of_first(book, day) == Ok(Some(usage)),
+    }
+}
+
+/// Whether a book is read as each row says; otherwise the place of the first that it isn't read so.
+fn first_unread<B: Book>(book: &mut B, reads: &[Read]) -> Option<usize> {
+    for (place, read) in reads.iter().enumerate() {
+        if !is_as_read(book, *read) {
+            return Some(place);
+        }
+    }
+    None
+}
+
+const VOIDED: Issue = Issue {
+    day: 20000,
+    voided: true,
+    customer: 7,
+    number: 2,
+};
+
+const FIRST: Issue = Issue {
+    day: 20000,
+    voided: false,
+    customer: 7,
+    number: 1,
+};
+
+const LAST: Issue = Issue {
+    day: 20000,
+    voided: false,
+    customer: 7,
+    number: 5,
+};
+
+const AGAIN: Issue = Issue {
+    day: 20030,
+    voided: false,
+    customer: 7,
+    number: 8,
+};
+
+const ONE_VOIDED: Usage = Usage {
+    used: 3,
+    voided: 1,
+    free: 0,
+};
+
+const ONE_FREE: Usage = Usage {
+    used: 3,
+    voided: 0,
+    free: 1,
+};
+
+const THREE_FREE: Usage = Usage {
+    used: 3,
+    voided: 0,
+    free: 3,
+};
+
+/// What is read behind six calls.
+const SIX_CALLS_READ: &'static [Read] = &[
+    Read::LastIssue(1, Some(VOIDED)),
+    Read::Usage(20000, ONE_VOIDED),
+    Read::Candidate(0, FIRST),
+];
+
+/// What is read behind nine calls.
+const NINE_CALLS_READ: &'static [Read] = &[
+    Read::Find(7, 5, true),
+    Read::Find(5, 7, false),
+    Read::Entry(6, true),
+    Read::Entry(0, false),
+    Read::Entry(10, false),
+    Read::LastIssue(1, Some(AGAIN)),
+    Read::LastIssue(3, None),
+    Read::Candidate(2, LAST),
+    Read::Usage(0, ONE_FREE),
+    Read::Usage(20030, ONE_FREE),
+    Read::Usage(20059, ONE_FREE),
+    Read::Usage(20060, THREE_FREE),
+    Read::Range(1, true),
+    Read::Range(2, false),
+    Read::NextRange(7, 0, true),
+    Read::NextRange(7, 1, false),
+    Read::NextRange(8, 0, false),
+    Read::Covering(2, 5, true),
+    Read::Covering(3, 5, false),
+    Read::Covering(2, 1, false),
+    Read::Calls(9, 20030),
+];
+
+#[test]
+fn reads_of_both_books_are_alike(rt: HostRuntime) {
+    both_answer(&rt, "six calls", 100, SIX_CALLS, SIX_CALLS_READ);
+    both_answer(&rt, "nine calls", 100, NINE_CALLS, NINE_CALLS_READ);
+}

@@ -1,0 +1,147 @@
+//! A ledger is made in an empty database, and in no other.
+
+use crate::expect::same;
+use crate::ledger::calls::{NINE_CALLS, closed, first_unlike, ledger, settings};
+use crate::ledger::rows::{Shown, first_unshown};
+use s10_book::Book;
+use s10_history::Settings;
+use s10_ledger::{OpenFault, Refused, SqlBook, Unwatched};
+use sqlite::{Connection, MemStore};
+use std::process::Abort;
+
+const HEAD: Shown = (
+    "SELECT one, schema, interval, cap FROM head",
+    4,
+    &[1, 1, 30, 100],
+);
+
+/// The one row of the head, and no row of the other tables.
+const NEW: &'static [Shown] = &[
+    HEAD,
+    ("SELECT arrival FROM calls", 1, &[]),
+    ("SELECT num FROM ranges", 1, &[]),
+    ("SELECT serial FROM serials", 1, &[]),
+    ("SELECT num FROM closed", 1, &[]),
+];
+
+/// The one row of the head, and those of the nine calls.
+const NINE_KEPT: &'static [Shown] = &[
+    HEAD,
+    (
+        "SELECT arrival FROM calls ORDER BY arrival",
+        1,
+        &[1, 2, 3, 4, 5, 6, 7, 8, 9],
+    ),
+    ("SELECT num FROM ranges", 1, &[1]),
+    ("SELECT serial FROM serials ORDER BY serial", 1, &[0, 1, 2]),
+    ("SELECT num FROM closed", 1, &[]),
+];
+
+/// Whether the book has these settings, and no call and no range.
+fn is_new<B: Book>(book: &mut B, settings: Settings) -> bool {
+    book.len() == 0
+        && book.day() == 0
+        && book.settings() == settings
+        && book.entry(1) == Ok(None)
+        && book.range(1) == Ok(None)
+}
+
+#[test]
+fn a_new_ledger_has_its_settings_and_no_call(rt: HostRuntime) {
+    let settings = settings(&rt, 100);
+    let mut book = ledger(&rt, settings);
+    let is_new = is_new(&mut book, settings);
+    let is_idle = book.connection().is_autocommit();
+    let mut conn = closed(book);
+    let unshown = first_unshown(rt.alloc(), &mut conn, NEW);
+    let found = (is_new, is_idle, unshown);
+    same(&rt, &"new, idle, its rows", &found, &(true, true, Ok(None)));
+}
+
+/// What the making of a ledger is refused for, and the connection.
+fn refusal<R: Abort + AllocGlobal>(
+    rt: &R,
+    conn: Connection<MemStore>,
+    settings: Settings,
+) -> (OpenFault, Connection<MemStore>) {
+    if !conn.is_autocommit() {
+        panic!(rt; "in a transaction")
+    }
+    match SqlBook::create(rt.alloc(), conn, settings, &mut Unwatched) {
+        Ok(_) => panic!(rt; "made"),
+        Err(Refused { fault, connection }) => (fault, connection),
+    }
+}
+
+/// A ledger of nine calls.
+pub(crate) fn nine_kept<R: Abort + AllocGlobal>(rt: &R) -> Connection<MemStore> {
+    let mut book = ledger(rt, settings(rt, 100));
+    let unlike = first_unlike(&mut book, NINE_CALLS);
+    let conn = closed(book);
+    same(rt, &"nine calls", &unlike, &None);
+    conn
+}
+
+#[test]
+fn a_ledger_is_not_made_over_a_ledger(rt: HostRuntime) {
+    let (fault, mut conn) = refusal(&rt, nine_kept(&rt), settings(&rt, 50));
+    let unshown = first_unshown(rt.alloc(), &mut conn, NINE_KEPT);
+    let wanted = (OpenFault::NotEmpty, Ok(None));
+    same(&rt, &"the fault, its rows", &(fault, unshown), &wanted);
+}
+
+/// A database in which that statement was executed.
+fn database_of<R: Abort + AllocGlobal>(rt: &R, text: &str) -> Connection<MemStore> {
+    let Ok(mut conn) = Connection::open_in_memory(rt.alloc()) else {
+        panic!(rt; "no connection")
+    };
+    if conn.execute(text, &[]).is_err() {
+        panic!(rt; "{text}")
+    }
+    conn
+}
+
+/// A table, and what a ledger beside it is refused for.
+const TABLES: &[(&str, OpenFault)] = &[
+    (
+        "CREATE TABLE head (one INTEGER) STRICT",
+        OpenFault::NotEmpty,
+    ),
+    (
+        "CREATE TABLE Calls (one INTEGER) STRICT",
+        OpenFault::NotEmpty,
+    ),
+    (
+        "CREATE TABLE ranges (one INTEGER) STRICT",
+        OpenFault::NotEmpty,
+    ),
+    (
+        "CREATE TABLE serials (one INTEGER) STRICT",
+        OpenFault::NotEmpty,
+    ),
+    (
+        "CREATE TABLE closed (one INTEGER) STRICT",
+        OpenFault::NotEmpty,
+    ),
+    ("CREATE TABLE other (one INTEGER) STRICT", OpenFault::Store),
+];
+
+/// What a ledger in a database made by that statement is refused for, and how many tables and views are left there.
+fn refused_beside<R: Abort + AllocGlobal>(rt: &R, text: &str) -> (OpenFault, usize, usize) {
+    let (fault, conn) = refusal(rt, database_of(rt, text), settings(rt, 100));
+    let schema = conn.schema();
+    (fault, schema.tables.len(), schema.views.len())
+}
+
+#[test]
+fn a_ledger_is_not_made_beside_other_tables(rt: HostRuntime) {
+    for (text, fault) in TABLES {
+        same(&rt, text, &refused_beside(&rt, text), &(*fault, 1, 0));
+    }
+}
+
+#[test]
+fn a_ledger_is_not_made_beside_a_view(rt: HostRuntime) {
+    let found = refused_beside(&rt, "CREATE VIEW one AS SELECT 1");
+    same(&rt, &"a view", &found, &(OpenFault::Store, 0, 1));
+}

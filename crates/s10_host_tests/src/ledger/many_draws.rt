@@ -1,0 +1,91 @@
+//! A range of all serials, and ten thousand draws from it.
+
+use crate::expect::same;
+use crate::ledger::calls::{
+    Answered, Asked, Step, answer, closed, first_unlike, id, ledger, request, said, settings,
+};
+use crate::ledger::rows::{Shown, first_unshown};
+use s10_book::{Book, BookFault};
+use s10_core::Id;
+use s10_history::Issue;
+
+const GRANT: &'static [Step] = &[(
+    0,
+    1,
+    Asked::Grant(7, 0, 99_999_999),
+    20000,
+    Answered::Granted(1),
+)];
+
+/// No row of a serial, and one range whose mark is its first serial.
+const GRANTED: &'static [Shown] = &[
+    ("SELECT count(*) FROM serials", 1, &[0]),
+    ("SELECT mark FROM ranges", 1, &[0]),
+];
+
+/// A row for each serial that was drawn, and one range whose mark is behind them.
+const DRAWN: &'static [Shown] = &[
+    ("SELECT count(*) FROM serials", 1, &[10_000]),
+    ("SELECT mark FROM ranges", 1, &[10_000]),
+];
+
+#[test]
+fn a_grant_writes_no_row_of_a_serial(rt: HostRuntime) {
+    let mut book = ledger(&rt, settings(&rt, 20_000));
+    let unlike = first_unlike(&mut book, GRANT);
+    let mut conn = closed(book);
+    let unshown = first_unshown(rt.alloc(), &mut conn, GRANTED);
+    same(&rt, &"the Grant", &(unlike, unshown), &(None, Ok(None)));
+}
+
+/// Whether of ten thousand Draws the k-th gives serial k - 1; otherwise the first serial that is not given so.
+fn first_not_drawn<B: Book>(book: &mut B) -> Option<u32> {
+    for value in 0..10_000u32 {
+        let drawn = answer(book, &request(7, value + 1, Asked::Draw), 20000);
+        if drawn != said(Answered::Drawn(20000, value)) {
+            return Some(value);
+        }
+    }
+    None
+}
+
+/// The last Draw's issue.
+const LAST_ISSUE: Issue = Issue {
+    day: 20000,
+    voided: false,
+    customer: 7,
+    number: 10_000,
+};
+
+/// What is found where all is granted and drawn: the first call that is answered otherwise, the last Draw's issue, and how many
+/// calls there are.
+type Drawn = (
+    Option<usize>,
+    Option<u32>,
+    Result<Option<Issue>, BookFault>,
+    u32,
+);
+
+fn all_drawn<B: Book>(book: &mut B) -> Drawn {
+    (
+        first_unlike(book, GRANT),
+        first_not_drawn(book),
+        book.last_issue(&id(9_999)),
+        book.len(),
+    )
+}
+
+#[test]
+fn ten_thousand_draws_give_the_serials_in_turn(rt: HostRuntime) {
+    let mut book = ledger(&rt, settings(&rt, 20_000));
+    let drawn = all_drawn(&mut book);
+    let mut conn = closed(book);
+    let unshown = first_unshown(rt.alloc(), &mut conn, DRAWN);
+    let is_named = Id::read(b"RA000099994GB") == Ok(id(9_999));
+    same(
+        &rt,
+        &"the calls, the last Draw's identifier, the rows",
+        &(drawn, is_named, unshown),
+        &((None, None, Ok(Some(LAST_ISSUE)), 10_001), true, Ok(None)),
+    );
+}

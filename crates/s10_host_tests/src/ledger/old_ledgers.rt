@@ -1,0 +1,165 @@
+//! Ledgers of the build that had no table of closed ranges, with other tables beside them and without.
+
+use crate::expect::same;
+use crate::ledger::calls::Answered::{Drawn, NoRange, Withdrawn};
+use crate::ledger::calls::Asked::{Draw, Withdraw};
+use crate::ledger::calls::{NINE_CALLS, Step, closed, first_unlike, whole};
+use crate::ledger::creating::nine_kept;
+use crate::ledger::rows::{
+    CLOSED, COMPLETE, INCOMPLETE, Left, NONE_CLOSED, Shown, left, left_behind,
+};
+use crate::ledger::tables::{OLD_LEDGER, database};
+use s10_ledger::{OpenFault, Refused, SqlBook, Unwatched};
+use sqlite::{Connection, Error, MemStore};
+use std::alloc::Global;
+use std::process::Abort;
+
+const DROP: &'static str = "DROP TABLE closed";
+
+/// A table of the office's own, with a row.
+const NOTE: &'static str =
+    "CREATE TABLE note (n INTEGER NOT NULL) STRICT; INSERT INTO note (n) VALUES (5);";
+
+/// What is left of an old ledger that is changed so.
+fn left_of_old(alloc: Global, changes: &[&str], shown: &[Shown]) -> Result<Option<Left>, Error> {
+    left_behind(alloc, database(alloc, &OLD_LEDGER), changes, shown)
+}
+
+/// What is left of nine calls as this build keeps them that are changed so.
+fn left_of_kept<R: Abort + AllocGlobal>(
+    rt: &R,
+    changes: &[&str],
+    shown: &[Shown],
+) -> Result<Option<Left>, Error> {
+    left_behind(rt.alloc(), Ok(nine_kept(rt)), changes, shown)
+}
+
+#[test]
+fn a_ledger_without_closed_ranges_gets_their_table(rt: HostRuntime) {
+    let of_this_build = left_of_kept(&rt, &[DROP], NONE_CLOSED);
+    let of_an_earlier_one = left_of_old(rt.alloc(), &[], NONE_CLOSED);
+    let wanted = Ok(Some((Ok(whole(9, 20030)), true, COMPLETE, Ok(None))));
+    same(&rt, &"of this build", &of_this_build, &wanted);
+    same(&rt, &"of an earlier one", &of_an_earlier_one, &wanted);
+}
+
+/// The damage, and what opening answers then.
+const DAMAGES: &[(&str, OpenFault)] = &[
+    (
+        "UPDATE serials SET day = 20001 WHERE serial = 2",
+        OpenFault::Damaged(0),
+    ),
+    ("UPDATE ranges SET mark = 0", OpenFault::Damaged(0)),
+    (
+        "UPDATE calls SET day = 19999 WHERE arrival = 6",
+        OpenFault::Damaged(6),
+    ),
+    ("UPDATE head SET schema = 2", OpenFault::Schema(2)),
+    ("DELETE FROM head", OpenFault::NotALedger),
+];
+
+#[test]
+fn a_damaged_ledger_gets_no_table_of_closed_ranges(rt: HostRuntime) {
+    for (damage, fault) in DAMAGES {
+        let found = left_of_kept(&rt, &[DROP, damage], &[]);
+        let wanted = (Err(*fault), true, INCOMPLETE, Ok(None));
+        same(&rt, damage, &found, &Ok(Some(wanted)));
+    }
+}
+
+/// The ledger in a connection, behind these steps. None where it does not open.
+fn served<R: Abort + AllocGlobal>(
+    rt: &R,
+    conn: Connection<MemStore>,
+    steps: &[Step],
+) -> Option<Connection<MemStore>> {
+    if !conn.is_autocommit() {
+        return None;
+    }
+    match SqlBook::open(rt.alloc(), conn, &mut Unwatched) {
+        Ok(mut book) => {
+            let unlike = first_unlike(&mut book, steps);
+            let conn = closed(book);
+            same(rt, &"served on", &unlike, &None);
+            Some(conn)
+        }
+        Err(
+            Refused {
+                fault: _,
+                connection: _,
+            },
+        ) => None,
+    }
+}
+
+/// A Draw, a withdrawal and a Draw behind the nine calls, and two of them once more.
+const LATER_CALLS: &'static [Step] = &[
+    (7, 9, Draw, 20030, Drawn(20030, 2)),
+    (0, 2, Withdraw(1), 20031, Withdrawn),
+    (7, 10, Draw, 20031, NoRange),
+    (7, 9, Draw, 20031, Drawn(20030, 2)),
+    (0, 2, Withdraw(1), 20031, Withdrawn),
+];
+
+const ONE_CLOSED: &'static [Shown] = &[(CLOSED, 2, &[1, 11])];
+
+/// What is left of an old ledger that answers the nine calls as they were answered, and later ones.
+fn left_of_served<R: Abort + AllocGlobal>(rt: &R) -> Option<Left> {
+    let conn = database(rt.alloc(), &OLD_LEDGER).ok()?;
+    let conn = served(rt, conn, NINE_CALLS)?;
+    let conn = served(rt, conn, LATER_CALLS)?;
+    left(rt.alloc(), conn, ONE_CLOSED)
+}
+
+#[test]
+fn a_ledger_of_an_earlier_build_is_served_on(rt: HostRuntime) {
+    let wanted = (Ok(whole(12, 20031)), true, COMPLETE, Ok(None));
+    same(&rt, &"served on", &left_of_served(&rt), &Some(wanted));
+}
+
+/// The office's table has its row.
+const NOTE_ALONE: &'static [Shown] = &[("SELECT n FROM note", 1, &[5])];
+
+/// What is left of the nine calls with a table of the office beside them, and later calls.
+fn left_beside_note<R: Abort + AllocGlobal>(rt: &R) -> Option<Left> {
+    let mut conn = nine_kept(rt);
+    conn.execute_batch(NOTE).ok()?;
+    let conn = served(rt, conn, LATER_CALLS)?;
+    left(rt.alloc(), conn, NOTE_ALONE)
+}
+
+#[test]
+fn a_ledger_is_served_beside_a_table_of_the_office(rt: HostRuntime) {
+    let wanted = (Ok(whole(12, 20031)), true, (6, true), Ok(None));
+    same(
+        &rt,
+        &"beside a table",
+        &left_beside_note(&rt),
+        &Some(wanted),
+    );
+}
+
+const NOTE_AND_CALLS: &'static [Shown] = &[
+    ("SELECT n FROM note", 1, &[5]),
+    ("SELECT count(*) FROM calls", 1, &[9]),
+];
+
+/// What else may stand beside an old ledger, the rows that are left, and the tables.
+const BESIDE: &[(&str, &'static [Shown], (usize, bool))] = &[
+    (NOTE, NOTE_AND_CALLS, (5, false)),
+    (
+        "CREATE VIEW late AS SELECT arrival FROM calls WHERE day > 20000",
+        &[],
+        INCOMPLETE,
+    ),
+    ("CREATE INDEX by_day ON calls (day)", &[], INCOMPLETE),
+];
+
+#[test]
+fn an_old_ledger_beside_a_table_of_the_office_is_left_as_it_is(rt: HostRuntime) {
+    for (beside, shown, tables) in BESIDE {
+        let found = left_of_old(rt.alloc(), &[beside], shown);
+        let wanted = (Err(OpenFault::NotALedger), true, *tables, Ok(None));
+        same(&rt, beside, &found, &Ok(Some(wanted)));
+    }
+}

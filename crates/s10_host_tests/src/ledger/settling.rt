@@ -1,0 +1,230 @@
+//! Calls that are pending, and their settling.
+
+use crate::expect::same;
+use crate::ledger::calls::{
+    Answered, Asked, Step, answer, first_unlike, ledger, request, settings,
+};
+use crate::ledger::stops::{Ended, files_of, opened_again};
+use crate::ledger::tables::found;
+use s10_book::{Book, BookFault, Settle};
+use s10_history::Settings;
+use s10_ledger::{Refused, SqlBook, Unwatched};
+use sqlite::{Alter, Connection, FileStore, Files, MemStore, Options};
+use sqlite_disk::{Crash, Disk, Fuse, Memory};
+use std::alloc::Global;
+use std::ops::Range;
+use std::process::Abort;
+use std::test::Fail;
+
+const GRANT: &'static [Step] = &[(0, 1, Asked::Grant(7, 0, 999), 20000, Answered::Granted(1))];
+
+/// The first of these numbers with which a Draw is refused.
+fn first_refused<B: Book>(book: &mut B, numbers: Range<u32>) -> Option<u32> {
+    for number in numbers {
+        if answer(book, &request(7, number, Asked::Draw), 20000).is_err() {
+            return Some(number);
+        }
+    }
+    None
+}
+
+/// Whether the book keeps a Grant, and so many Draws behind it.
+fn keeps<B: Book>(book: &mut B, draws: u32) -> bool {
+    first_unlike(book, GRANT).is_none() && first_refused(book, 0..draws).is_none()
+}
+
+/// A new ledger, and whether it keeps them.
+fn kept<R: Abort + AllocGlobal>(rt: &R, draws: u32) -> (SqlBook<MemStore>, bool) {
+    let mut book = ledger(rt, settings(rt, 1000));
+    let is_kept = keeps(&mut book, draws);
+    (book, is_kept)
+}
+
+/// How many calls are found of a ledger that is closed as it is.
+fn calls_found(alloc: Global, book: SqlBook<MemStore>) -> Option<u32> {
+    let (answer, _conn) = found(alloc, book.close())?;
+    match answer {
+        Ok(opened) => Some(opened.len),
+        Err(_) => None,
+    }
+}
+
+/// Whether the calls are kept and settled, and how many are found then.
+fn settled<R: Abort + AllocGlobal>(rt: &R, draws: u32) -> (bool, Option<u32>) {
+    let (mut book, is_kept) = kept(rt, draws);
+    let is_settled = book.settle().is_ok();
+    (is_kept && is_settled, calls_found(rt.alloc(), book))
+}
+
+/// Draws behind a Grant, and how many calls are settled.
+const SETTLED_CALLS: &[(u32, u32)] = &[(0, 1), (1, 2), (63, 64), (64, 65)];
+
+#[test]
+fn settled_calls_are_found_again(rt: HostRuntime) {
+    for (draws, calls) in SETTLED_CALLS {
+        same(&rt, draws, &settled(&rt, *draws), &(true, Some(*calls)));
+    }
+}
+
+/// Whether the calls are kept, and how many are found where nobody settles them.
+fn unsettled<R: Abort + AllocGlobal>(rt: &R, draws: u32) -> (bool, Option<u32>) {
+    let (book, is_kept) = kept(rt, draws);
+    (is_kept, calls_found(rt.alloc(), book))
+}
+
+/// Draws behind a Grant, and how many calls were settled to make room.
+const FULL_ROUNDS: &[(u32, u32)] = &[(0, 0), (1, 0), (63, 0), (64, 64), (127, 64), (128, 128)];
+
+#[test]
+fn pending_calls_are_settled_by_the_one_behind_the_greatest_number(rt: HostRuntime) {
+    for (draws, calls) in FULL_ROUNDS {
+        same(&rt, draws, &unsettled(&rt, *draws), &(true, Some(*calls)));
+    }
+}
+
+const REPEATED: &'static [Step] = &[(7, 1, Asked::Draw, 20001, Answered::Drawn(20000, 1))];
+
+/// Whether three Draws are kept and the second is answered as it was while it is pending, and how many calls the ledger has and
+/// leaves.
+fn repeated<R: Abort + AllocGlobal>(rt: &R) -> (bool, u32, Option<u32>) {
+    let (mut book, is_kept) = kept(rt, 3);
+    let is_repeated = first_unlike(&mut book, REPEATED).is_none();
+    let calls = book.len();
+    (is_kept && is_repeated, calls, calls_found(rt.alloc(), book))
+}
+
+#[test]
+fn a_pending_call_is_found(rt: HostRuntime) {
+    same(&rt, &"repeated", &repeated(&rt), &(true, 4, Some(0)));
+}
+
+/// What is told of a settling: which of four calls are settled before it, what it answers, which are settled behind it, and how many
+/// calls the book has then.
+type Told = ([bool; 4], Result<(), BookFault>, [bool; 4], u32);
+
+/// The third call is settled by the settling alone.
+const SETTLED: Told = ([true, true, false, true], Ok(()), [true; 4], 5);
+
+/// The settling fails, and what was pending stays so.
+const UNSETTLED: Told = (
+    [true, true, false, true],
+    Err(BookFault::Store),
+    [true, true, false, true],
+    5,
+);
+
+/// Whether the calls of these keys are settled. The last is the key of no call.
+fn settled_keys<B: Settle>(book: &B) -> [bool; 4] {
+    [
+        book.is_settled(0, 1),
+        book.is_settled(7, 1),
+        book.is_settled(7, 2),
+        book.is_settled(7, 5),
+    ]
+}
+
+const GRANT_OF_TEN: &'static [Step] = &[(0, 1, Asked::Grant(7, 0, 9), 20000, Answered::Granted(1))];
+
+/// Whether the book settles a Grant and a Draw, and keeps three Draws behind them.
+fn keeps_three<B: Settle>(book: &mut B) -> bool {
+    first_unlike(book, GRANT_OF_TEN).is_none()
+        && first_refused(book, 1..2).is_none()
+        && book.settle().is_ok()
+        && first_refused(book, 2..5).is_none()
+}
+
+/// What is told of a settling behind three more calls than are settled. None where the first two are not settled.
+fn settles_three<B: Settle>(book: &mut B) -> Option<Told> {
+    if !keeps_three(book) {
+        return None;
+    }
+    let before = settled_keys(book);
+    let answer = book.settle();
+    Some((before, answer, settled_keys(book), book.len()))
+}
+
+/// The same of a ledger in memory.
+fn told_in_memory<R: Abort + AllocGlobal>(rt: &R) -> Option<Told> {
+    let mut book = ledger(rt, settings(rt, 100));
+    let told = settles_three(&mut book);
+    let _conn = book.close();
+    told
+}
+
+#[test]
+fn a_call_is_settled_behind_its_settling(rt: HostRuntime) {
+    assert!(rt; told_in_memory(&rt) == Some(SETTLED));
+}
+
+/// The same of a new ledger in this connection, which is handed back. None where it is not made.
+fn settles_three_in<S: Alter>(
+    alloc: Global,
+    settings: Settings,
+    conn: Connection<S>,
+) -> (Option<Told>, Connection<S>) {
+    if !conn.is_autocommit() {
+        return (None, conn);
+    }
+    match SqlBook::create(alloc, conn, settings, &mut Unwatched) {
+        Ok(mut book) => (settles_three(&mut book), book.close()),
+        Err(
+            Refused {
+                fault: _,
+                connection,
+            },
+        ) => (None, connection),
+    }
+}
+
+/// The same of a new ledger in these files, which are handed back.
+fn settles_three_over<D: Disk + Drop>(
+    alloc: Global,
+    settings: Settings,
+    files: Files<D>,
+) -> (Option<Told>, Files<D>) {
+    if !files.log.may_be_used() || !files.db.may_be_used() {
+        return (None, files);
+    }
+    match Connection::open_files(alloc, files, Options::new(7)) {
+        Ok(conn) => {
+            let (told, conn) = settles_three_in(alloc, settings, conn);
+            (told, files_of(conn))
+        }
+        Err((_, left)) => (None, left.into_files()),
+    }
+}
+
+/// What is told over empty files where the log stops at one of its calls, and what is found then over whole files with what was
+/// synced alone.
+fn stopped(alloc: Global, settings: Settings, at: u64) -> Result<(Option<Told>, Ended), Fail> {
+    let log = Fuse::new(Memory::new(alloc), at);
+    let db = Fuse::new(Memory::new(alloc), u64::MAX);
+    let (told, mut files) = settles_three_over(alloc, settings, Files { log, db });
+    files.log.crash();
+    files.db.crash();
+    Ok((told, opened_again(alloc, &files)?))
+}
+
+/// At how many calls of the log the settling fails, before it passes. None where a settled call is lost, or a call that was not is
+/// told as settled or is found without the others.
+fn failed_settlings(alloc: Global, settings: Settings) -> Result<Option<u32>, Fail> {
+    let mut count: u32 = 0;
+    for at in 0..1000u64 {
+        match stopped(alloc, settings, at)? {
+            (None, _) => {}
+            (Some(told), Ended::Found(5)) if told == SETTLED => return Ok(Some(count)),
+            (Some(told), Ended::Found(2 | 5)) if told == UNSETTLED => {
+                count = count.saturating_add(1);
+            }
+            (Some(_), _) => return Ok(None),
+        }
+    }
+    Ok(None)
+}
+
+#[test]
+fn a_settling_that_fails_settles_no_call_of_its_own(rt: HostRuntime) -> Result<(), Fail> {
+    let failed = failed_settlings(rt.alloc(), settings(&rt, 100))?;
+    assert!(rt; failed.is_some_and(|count| 0 < count), "{failed:?}");
+    Ok(())
+}

@@ -1,0 +1,228 @@
+//! A ledger of the build that had no table of closed ranges, opened over files that stop at one of their calls.
+
+use crate::expect::same;
+use crate::ledger::tables::{OLD_LEDGER, run_batches};
+use s10_book::Book;
+use s10_ledger::{OpenFault, Refused, SqlBook, Unwatched};
+use sqlite::{Alter, Connection, FileStore, Files, Options};
+use sqlite_disk::{Crash, Disk, Fuse, Memory};
+use std::alloc::Global;
+use std::process::Abort;
+use std::test::Fail;
+
+/// How an opening ended.
+#[derive(Clone, Copy, Debug, PartialEq, Eq)]
+pub(crate) enum Ended {
+    /// The files are no database.
+    Unconnected,
+    Refused(OpenFault),
+    /// With so many calls, and a table of closed ranges.
+    Found(u32),
+    Incomplete,
+}
+
+/// How a connection keeps its pages, and how many calls each file answers before it stops.
+#[derive(Clone, Copy)]
+struct Stops {
+    options: Options,
+    log: u64,
+    db: u64,
+}
+
+/// The number of no call.
+const NEVER: u64 = u64::MAX;
+
+/// Few pages are kept in memory, and the log is copied into the database file at once, so that both files are called until the end.
+const TIGHT: Options = Options {
+    cache_pages: 2,
+    spill_pages: 2,
+    checkpoint_frames: 1,
+    seed: 7,
+};
+
+/// What is done in a connection.
+#[derive(Clone, Copy)]
+enum Act {
+    Nothing,
+    /// The statements of the ledger of the nine calls are run.
+    Fill,
+    /// Its ledger is opened.
+    Open(Global),
+}
+
+/// A file of these bytes, all of them synced, that stops at one of its calls.
+fn file_of(alloc: Global, bytes: &[u8], stop: u64) -> Option<Fuse<Memory>> {
+    let mut file = Memory::new(alloc);
+    if file.write_at(0, bytes).is_ok() && file.sync().is_ok() {
+        Some(Fuse::new(file, stop))
+    } else {
+        None
+    }
+}
+
+/// Whole files with the same bytes, which stop so.
+fn copied(alloc: Global, files: &Files<Fuse<Memory>>, stops: Stops) -> Option<Files<Fuse<Memory>>> {
+    let log = file_of(alloc, files.log.inner().bytes(), stops.log)?;
+    let db = file_of(alloc, files.db.inner().bytes(), stops.db)?;
+    Some(Files { log, db })
+}
+
+/// What is found of a connection whose ledger has so many calls.
+fn ending_of<S: Alter>(conn: &Connection<S>, calls: u32) -> Ended {
+    if conn.schema().table_named(b"closed").is_some() {
+        Ended::Found(calls)
+    } else {
+        Ended::Incomplete
+    }
+}
+
+/// How the ledger in a connection opens, and its connection.
+fn ledger_in<S: Alter + Drop>(alloc: Global, conn: Connection<S>) -> (Ended, Connection<S>) {
+    if !conn.is_autocommit() {
+        return (Ended::Unconnected, conn);
+    }
+    match SqlBook::open(alloc, conn, &mut Unwatched) {
+        Ok(book) => {
+            let calls = book.len();
+            let conn = book.close();
+            (ending_of(&conn, calls), conn)
+        }
+        Err(Refused { fault, connection }) => (Ended::Refused(fault), connection),
+    }
+}
+
+/// What is found of a connection in which this is done, and its store.
+fn done<S: Alter + Drop>(mut conn: Connection<S>, act: Act) -> (Ended, S) {
+    match act {
+        Act::Nothing => (Ended::Unconnected, conn.into_store()),
+        Act::Fill => {
+            let is_filled = run_batches(&mut conn, &OLD_LEDGER).is_ok();
+            let ended = if is_filled {
+                ending_of(&conn, 0)
+            } else {
+                Ended::Unconnected
+            };
+            (ended, conn.into_store())
+        }
+        Act::Open(alloc) => {
+            let (ended, conn) = ledger_in(alloc, conn);
+            (ended, conn.into_store())
+        }
+    }
+}
+
+/// The same of a connection over files.
+fn done_over<D: Disk + Drop>(conn: Connection<FileStore<D>>, act: Act) -> (Ended, FileStore<D>) {
+    done(conn, act)
+}
+
+/// These files with the ledger of the nine calls, copied into the database file.
+fn filled<D: Disk + Drop>(alloc: Global, files: Files<D>) -> Option<Files<D>> {
+    if !files.may_be_used() {
+        return None;
+    }
+    let Ok(conn) = Connection::open_files(alloc, files, Options::new(7)) else {
+        return None;
+    };
+    let (ended, mut store) = done_over(conn, Act::Fill);
+    let is_written = ended == Ended::Incomplete && store.checkpoint().is_ok();
+    let files = store.close();
+    if is_written { Some(files) } else { None }
+}
+
+/// The files of the ledger of the nine calls.
+fn old_ledger(alloc: Global) -> Option<Files<Fuse<Memory>>> {
+    let log = Fuse::new(Memory::new(alloc), NEVER);
+    let db = Fuse::new(Memory::new(alloc), NEVER);
+    filled(alloc, Files { log, db })
+}
+
+/// The files of a connection, as they are.
+pub(crate) fn files_of<D: Disk + Drop>(conn: Connection<FileStore<D>>) -> Files<D> {
+    let (_, store) = done_over(conn, Act::Nothing);
+    store.close()
+}
+
+/// How the ledger in files opens, and the files.
+fn opened<D: Disk + Drop>(alloc: Global, files: Files<D>, options: Options) -> (Ended, Files<D>) {
+    if !files.may_be_used() {
+        return (Ended::Unconnected, files);
+    }
+    match Connection::open_files(alloc, files, options) {
+        Ok(conn) => {
+            let (ended, store) = done_over(conn, Act::Open(alloc));
+            (ended, store.close())
+        }
+        Err((_, left)) => (Ended::Unconnected, left.into_files()),
+    }
+}
+
+/// How it opens over whole files with the same bytes that do not stop. None where these are not made.
+fn again(alloc: Global, files: &Files<Fuse<Memory>>) -> Option<Ended> {
+    let stops = Stops {
+        options: Options::new(7),
+        log: NEVER,
+        db: NEVER,
+    };
+    let (ended, _files) = opened(alloc, copied(alloc, files, stops)?, stops.options);
+    Some(ended)
+}
+
+/// The same.
+pub(crate) fn opened_again(alloc: Global, files: &Files<Fuse<Memory>>) -> Result<Ended, Fail> {
+    Ok(again(alloc, files).ok_or("files")?)
+}
+
+/// How the ledger opens where its files stop so; and whether it is found whole then over whole files, with all that was written, and
+/// with what was synced alone.
+fn stopped(alloc: Global, old: &Files<Fuse<Memory>>, stops: Stops) -> Option<(Ended, bool)> {
+    let (ended, mut files) = opened(alloc, copied(alloc, old, stops)?, stops.options);
+    let written = again(alloc, &files);
+    files.log.crash();
+    files.db.crash();
+    let synced = again(alloc, &files);
+    let whole = Some(Ended::Found(9));
+    Some((ended, written == whole && synced == whole))
+}
+
+/// At how many calls of one file the ledger is refused for want of its store, before it opens with no stop met. None where it is
+/// refused for another reason, or is not found whole behind a stop.
+fn refused(
+    alloc: Global,
+    old: &Files<Fuse<Memory>>,
+    options: Options,
+    in_log: bool,
+) -> Option<u32> {
+    let mut count: u32 = 0;
+    for at in 0..1000u64 {
+        let (log, db) = if in_log { (at, NEVER) } else { (NEVER, at) };
+        match stopped(alloc, old, Stops { options, log, db })? {
+            (Ended::Found(9), true) => return Some(count),
+            (Ended::Refused(OpenFault::Store), true) => count = count.saturating_add(1),
+            (Ended::Unconnected, true) => {}
+            _ => return None,
+        }
+    }
+    None
+}
+
+#[test]
+fn a_ledger_whose_completion_stopped_is_whole(rt: HostRuntime) {
+    let Some(old) = old_ledger(rt.alloc()) else {
+        panic!(rt; "old ledger");
+    };
+    let plain = Options::new(7);
+    let counts = [
+        refused(rt.alloc(), &old, plain, true),
+        refused(rt.alloc(), &old, TIGHT, true),
+        refused(rt.alloc(), &old, TIGHT, false),
+        refused(rt.alloc(), &old, plain, false),
+    ];
+    let are_met = [
+        0 < counts[0].unwrap_or(0),
+        0 < counts[1].unwrap_or(0),
+        0 < counts[2].unwrap_or(0),
+        counts[3].is_some(),
+    ];
+    same(&rt, &counts, &are_met, &[true; 4]);
+}

@@ -1,0 +1,187 @@
+//! A ledger in tables, in a world of its clients and the network between them.
+
+ghost use Rattle.std.specs.Prelude.{◌≡◌, IfOk, All, length};
+ghost use Rattle.s10_ends.specs.Client.{IsNew};
+
+use crate::expect::same;
+use crate::ledger::calls::{closed, ledger, settings};
+use s10_book::Book;
+use s10_ends::{Client, Server};
+use s10_history::Entry;
+use s10_wire::{Frame, Reply, decode_reply};
+use s10_world::{Event, World};
+use std::alloc::{AllocError, Global};
+use std::process::Abort;
+
+const EVENTS: usize = 18;
+
+// the replies of the story
+const GRANTED: &[u8] = b"S1\x01\x81\0\0\0\0\0\0\0\x01\0\0\0\x07RAGB\0\0\0\0\0\0\0\x02\0\0\0\0\x01";
+
+const DRAWN_1: &[u8] = b"S1\x01\x82\0\0\0\x07\0\0\0\x01RAGB\0\0\0\x4e\x20RA000000014GB";
+
+const DRAWN_10: &[u8] = b"S1\x01\x82\0\0\0\x07\0\0\0\x0aRAGB\0\0\0\x4e\x20RA000000005GB";
+
+// The server's replies in their order.
+const REPLIED: &[&[u8]] = &[GRANTED, DRAWN_10, DRAWN_1, DRAWN_10, DRAWN_1];
+
+// The replies to the Grant, and to the Draws of both clients, each of which repeats its request.
+fn replies(rt: &impl Abort) -> [Reply; 3] {
+    match (
+        decode_reply(GRANTED),
+        decode_reply(DRAWN_1),
+        decode_reply(DRAWN_10),
+    ) {
+        (Ok(granted), Ok(first), Ok(second)) => [granted, first, second],
+        _ => panic!(rt),
+    }
+}
+
+/// What happens in the world. A client submits the request of the reply at a place.
+#[derive(Clone, Copy)]
+enum Happens {
+    Submit(u32, usize),
+    Resend(u32),
+    GiveUp(u32),
+    ToServer(usize, u32),
+    ToClient(u32, usize),
+}
+
+/// The post grants three serials. Two clients of customer 7 draw: the second's request comes first,
+/// both come twice, and the second client gives up before its reply comes.
+const STORY: &[Happens] = &[
+    Happens::Submit(0, 0),
+    Happens::Resend(0),
+    Happens::ToServer(0, 20_000),
+    Happens::ToClient(0, 0),
+    Happens::Submit(1, 1),
+    Happens::Resend(1),
+    Happens::Submit(2, 2),
+    Happens::Resend(2),
+    Happens::ToServer(2, 20_000),
+    Happens::ToServer(1, 20_000),
+    Happens::ToServer(2, 20_001),
+    Happens::ToServer(1, 20_001),
+    Happens::ToClient(1, 1),
+    Happens::GiveUp(2),
+    Happens::ToClient(2, 1),
+    Happens::ToClient(1, 2),
+    Happens::ToClient(1, 4),
+    Happens::ToServer(9, 20_000),
+];
+
+fn event(happens: Happens, replies: &[Reply; 3]) -> Event {
+    match happens {
+        Happens::Submit(client, place) => Event::Submit {
+            client,
+            body: replies[place.min(2)].request().body,
+        },
+        Happens::Resend(client) => Event::Resend { client },
+        Happens::GiveUp(client) => Event::GiveUp { client },
+        Happens::ToServer(index, day) => Event::ToServer { index, day },
+        Happens::ToClient(client, index) => Event::ToClient { client, index },
+    }
+}
+
+/// The events of the story.
+fn story(replies: &[Reply; 3]) -> [Event; EVENTS] {
+    let mut events = [Event::Resend { client: 0 }; EVENTS];
+    for at in 0..STORY.len().min(EVENTS) {
+        events[at] = event(STORY[at], replies);
+    }
+    events
+}
+
+fn three_clients(alloc: Global) -> Result<Vec<Client>, AllocError>
+    ensures new { IfOk result (λ clients. All IsNew clients.items) }
+    ensures three { IfOk result (λ clients. length clients.items ≡ 3) }
+{
+    let (Ok(post), Ok(first), Ok(second)) = (
+        Client::new(0, 1, 9),
+        Client::new(7, 1, 9),
+        Client::new(7, 10, 19),
+    ) else {
+        unreachable!();
+    };
+    let mut clients = Vec::new(alloc);
+    clients.push(post)?;
+    clients.push(first)?;
+    clients.push(second)?;
+    Ok(clients)
+}
+
+// Whether the server replied so.
+fn server_replied(frames: &[Frame]) -> bool {
+    for (frame, bytes) in frames.iter().zip(REPLIED) {
+        if frame.bytes() != *bytes {
+            return false;
+        }
+    }
+    frames.len() == REPLIED.len()
+}
+
+// Whether each client's request was handed in, whether the replies to the post and to the first client were accepted, and whether
+// the server replied so.
+fn seen<B: Book>(world: &World<B>, replies: &[Reply; 3]) -> [bool; 3] {
+    let [granted, first, second] = replies;
+    let submitted = [
+        (0, granted.request()),
+        (1, first.request()),
+        (2, second.request()),
+    ];
+    [
+        world.submitted() == submitted.as_slice(),
+        world.accepted() == [(0, *granted), (1, *first)].as_slice(),
+        server_replied(world.replied()),
+    ]
+}
+
+fn kept(reply: &Reply) -> Option<Entry> {
+    Some(Entry {
+        request: reply.request(),
+        day: 20_000,
+        outcome: reply.outcome(),
+    })
+}
+
+// Whether a book keeps each call once, in order of arrival.
+fn are_kept_once<B: Book>(book: &mut B, replies: &[Reply; 3]) -> bool {
+    let [granted, first, second] = replies;
+    let calls = [book.entry(1), book.entry(2), book.entry(3), book.entry(4)];
+    calls
+        == [
+            Ok(kept(granted)),
+            Ok(kept(second)),
+            Ok(kept(first)),
+            Ok(None),
+        ]
+}
+
+// What is seen of the story over a book, which is handed back. None where there is no memory for it.
+fn run_story<B: Book>(alloc: Global, book: B, replies: &[Reply; 3]) -> (B, Option<[bool; 3]>) {
+    let Ok(clients) = three_clients(alloc) else {
+        return (book, None);
+    };
+    let mut world = World::new(alloc, Server::new(book), clients);
+    let seen = match world.run(&story(replies)) {
+        Ok(()) => Some(seen(&world, replies)),
+        Err(_) => None,
+    };
+    (world.into_server().into_book(), seen)
+}
+
+// Each request is executed once, and answered to its own client.
+#[test]
+fn a_ledger_in_tables_executes_each_call_of_a_world_once(rt: HostRuntime) {
+    let replies = replies(&rt);
+    let ledger = ledger(&rt, settings(&rt, 100));
+    let (mut ledger, seen) = run_story(rt.alloc(), ledger, &replies);
+    let are_kept = are_kept_once(&mut ledger, &replies);
+    let _ = closed(ledger);
+    same(
+        &rt,
+        &"submitted, accepted, replied, and kept",
+        &(seen, are_kept),
+        &(Some([true; 3]), true),
+    );
+}

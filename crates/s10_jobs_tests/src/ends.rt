@@ -1,0 +1,23 @@
+//! Tests of the server, the client and the links between them, and of both ends in one world.
+
+mod calls;
+mod clients;
+mod days;
+mod failures;
+mod fixtures;
+mod memory;
+mod near_links;
+mod odd_datagrams;
+mod odd_worlds;
+mod ranges;
+mod refusals;
+mod refused_worlds;
+mod repeats;
+mod rounds;
+mod scripts;
+mod story;
+mod told;
+mod turns;
+mod udp_links;
+mod withdrawals;
+mod worlds;

@@ -1,0 +1,58 @@
+//! A book that fails at one of its calls.
+
+use crate::ends::fixtures::empty_book;
+use crate::ends::scripts::Want::Faulted;
+use crate::ends::scripts::{DRAW, GRANT, Step, is_as_wanted};
+use s10_book::{Book, BookFault, TripBook};
+use s10_ends::Server;
+use std::alloc::Global;
+
+/// Whether a step is answered as wanted, handed in again where the store failed, and whether it failed.
+fn is_answered_at_last<B: Book>(server: &mut Server<B>, step: &Step) -> (bool, bool) {
+    let (day, datagram, want) = *step;
+    let answer = server.handle(datagram, day);
+    if is_as_wanted(&answer, &Faulted(BookFault::Store)) {
+        (is_as_wanted(&server.handle(datagram, day), &want), true)
+    } else {
+        (is_as_wanted(&answer, &want), false)
+    }
+}
+
+/// How often a server faults a Grant and a Draw, which are handed in again; none where an answer is wrong.
+fn faults_of<B: Book>(server: &mut Server<B>) -> Option<u32> {
+    let (is_granted, grant_faulted) = is_answered_at_last(server, &GRANT);
+    let (is_drawn, draw_faulted) = is_answered_at_last(server, &DRAW);
+    if is_granted && is_drawn {
+        Some(grant_faulted as u32 + draw_faulted as u32)
+    } else {
+        None
+    }
+}
+
+/// How often a server faults them; none where an answer or the ledger is wrong.
+fn faults_made_good<B: Book + Drop>(mut server: Server<B>) -> Option<u32> {
+    let faults = faults_of(&mut server);
+    if server.book().len() == 2 {
+        faults
+    } else {
+        None
+    }
+}
+
+/// Whether each call of the book that fails in turn faults one request, until a run meets no fault.
+fn each_is_made_good(alloc: Global) -> bool {
+    for at in 0..100u64 {
+        let book = TripBook::new(empty_book(alloc, 100), at);
+        match faults_made_good(Server::new(book)) {
+            Some(0) => return at > 0,
+            Some(1) => {}
+            _ => return false,
+        }
+    }
+    false
+}
+
+#[test]
+fn faulted_request_is_handed_in_again(rt: HostRuntime) {
+    assert!(rt; each_is_made_good(rt.alloc()));
+}

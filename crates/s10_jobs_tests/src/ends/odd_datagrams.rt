@@ -1,0 +1,114 @@
+//! Datagrams that come twice, and one that no link of ours sends.
+
+use crate::ends::fixtures::{bound, draw, is_answered, new_server, request};
+use crate::expect::holds_at;
+use s10_book::{Book, PlainBook};
+use s10_ends::{Client, Server, ServerTurn, UdpLink, serve_one};
+use s10_link::{Link, Packet, Peer};
+use s10_wire::{WireFault, decode_reply, encode_reply, encode_request};
+use std::net::{Ipv4Addr, Net, SocketAddr, SocketAddrV4, UdpSocket};
+use std::process::Abort;
+use std::time::Duration;
+
+/// Whether a reply that is sent twice to the client is that to its next Draw.
+fn is_answered_twice<L: Link>(
+    client: &mut Client,
+    near: (&mut L, Peer),
+    far: (&mut L, Peer),
+    datagram: &[u8],
+) -> bool {
+    let Ok(reply) = decode_reply(datagram) else {
+        return false;
+    };
+    let frame = encode_reply(&reply);
+    far.0.send(near.1, &frame) == Ok(())
+        && far.0.send(near.1, &frame) == Ok(())
+        && is_answered(client, near.0, far.1, draw(), 2, datagram)
+}
+
+/// Whether customer 7's Draw with this number comes.
+fn has_come<L: Link>(link: &mut L, from: Peer, number: u32) -> bool {
+    let packet = Packet::new(encode_request(&request(number)).bytes());
+    link.receive() == Ok(Some((from, packet)))
+}
+
+/// Customer 7's Draws with the numbers 1 to 3 come, and nothing behind them.
+fn three_draws_come<L: Link>(rt: &impl Abort, link: &mut L, from: Peer) {
+    for number in 1..4u32 {
+        holds_at(rt, number as usize, has_come(link, from, number));
+    }
+    assert!(rt; link.receive() == Ok(None));
+}
+
+/// The replies to customer 7's first three Draws.
+const THREE_REPLIES: &'static [&'static [u8]] = &[
+    b"S1\x01\x82\0\0\0\x07\0\0\0\x01RAGB\0\0\0\x4e\x20RA000000005GB",
+    b"S1\x01\x82\0\0\0\x07\0\0\0\x02RAGB\0\0\0\x4e\x20RA000000014GB",
+    b"S1\x01\x82\0\0\0\x07\0\0\0\x03RAGB\x05",
+];
+
+#[test]
+fn a_client_that_gets_each_datagram_twice_sends_each_frame_once(rt: HostRuntime) {
+    let mut near = bound(&rt, 1_000);
+    let mut far = bound(&rt, 100);
+    let (here, there) = (near.local(), far.local());
+    let mut client = Client::new(7, 1, 3).unwrap();
+    for (at, reply) in THREE_REPLIES.iter().enumerate() {
+        let is_answered = is_answered_twice(
+            &mut client,
+            (&mut near, here),
+            (&mut far, there),
+            reply,
+        );
+        holds_at(&rt, at, is_answered);
+    }
+    three_draws_come(&rt, &mut far, here);
+}
+
+/// A socket of this machine that waits so many milliseconds in a receive.
+fn raw_socket<R: Abort + Net>(rt: &R, wait_ms: u64) -> UdpSocket {
+    let any = SocketAddr::V4(SocketAddrV4::new(Ipv4Addr::LOCALHOST, 0));
+    let socket = UdpSocket::bind(rt, any).expect(rt, "a socket");
+    let wait = Some(Duration::from_millis(wait_ms));
+    assert!(rt; socket.set_read_timeout(wait).is_ok());
+    socket
+}
+
+/// Where a socket is bound.
+fn peer_of(socket: &UdpSocket) -> Option<Peer> {
+    match socket.local_addr() {
+        Ok(SocketAddr::V4(at)) => Some(Peer {
+            ip: at.ip().octets(),
+            port: at.port(),
+        }),
+        _ => None,
+    }
+}
+
+/// The first Grant with a byte behind it.
+const LONGER_GRANT: [u8; 29] = *b"S1\x01\x01\0\0\0\0\0\0\0\x01\0\0\0\x07RAGB\0\0\0\0\0\0\0\x02\0";
+
+/// Whether all bytes are sent to a port of this machine.
+fn sends_raw(socket: &UdpSocket, port: u16, bytes: &[u8]) -> bool {
+    let to = SocketAddr::V4(SocketAddrV4::new(Ipv4Addr::LOCALHOST, port));
+    socket.send_to(bytes, to).ok() == Some(bytes.len())
+}
+
+/// Whether one turn of the server drops the longer Grant of a socket for its length, and sends it nothing.
+fn is_dropped(server: &mut Server<PlainBook>, link: &mut UdpLink, socket: &UdpSocket) -> bool {
+    let Some(from) = peer_of(socket) else {
+        return false;
+    };
+    sends_raw(socket, link.local().port, &LONGER_GRANT)
+        && serve_one(server, link, 20_000) == Ok(ServerTurn::Dropped(from, WireFault::Length))
+        && server.book().len() == 0
+        && socket.recv_from(&mut [0u8; 512]).is_err()
+}
+
+#[test]
+fn a_grant_of_29_bytes_is_dropped_unanswered(rt: HostRuntime) {
+    let mut far = bound(&rt, 1_000);
+    let socket = raw_socket(&rt, 100);
+    let mut server = new_server(rt.alloc(), 100);
+    assert!(rt; is_dropped(&mut server, &mut far, &socket));
+}

@@ -1,0 +1,114 @@
+//! Worlds of strange bytes and of a full book.
+
+use crate::ends::fixtures::{DRAW, DRAWN, GRANTED, empty_book};
+use crate::ends::story::{Asked, Happens, STORY, world_after};
+use s10_book::Book;
+use s10_wire::{Frame, Reply};
+use s10_world::World;
+use std::alloc::Global;
+
+/// Bytes that ask nothing, and a Draw of customer 7 that nobody submitted, before the client's own with that number.
+const STRANGE_BYTES: &'static [Happens] = &[
+    Happens::Strange(b"S1", 20_000),
+    Happens::Submit(0, Asked::Grant),
+    Happens::Resend(0),
+    Happens::ToServer(0, 20_000),
+    Happens::ToClient(0, 0),
+    Happens::Strange(DRAW, 20_000),
+    Happens::Submit(1, Asked::Draw),
+    Happens::Resend(1),
+    Happens::ToServer(1, 20_001),
+    Happens::ToClient(1, 2),
+];
+
+/// What events come to.
+#[derive(Clone, Copy)]
+pub struct Expected<'a> {
+    pub replied: &'a [&'a [u8]],
+    pub submitted: usize,
+    pub accepted: usize,
+    /// How many calls the book has then.
+    pub calls: u32,
+}
+
+/// Whether these are the frames, in turn.
+pub(crate) fn are_frames(frames: &[Frame], datagrams: &[&[u8]]) -> bool {
+    if frames.len() != datagrams.len() {
+        return false;
+    }
+    for at in 0..frames.len() {
+        if frames[at].bytes() != datagrams[at] {
+            return false;
+        }
+    }
+    true
+}
+
+/// Whether a client accepted a reply with this number.
+fn has_accepted(accepted: &[(u32, Reply)], client: u32, number: u32) -> bool {
+    for (by, reply) in accepted {
+        if *by == client && reply.request().number == number {
+            return true;
+        }
+    }
+    false
+}
+
+/// Whether no client accepted two replies with one number.
+fn are_accepted_once(accepted: &[(u32, Reply)]) -> bool {
+    for at in 0..accepted.len() {
+        let (client, reply) = &accepted[at];
+        if has_accepted(&accepted[..at], *client, reply.request().number) {
+            return false;
+        }
+    }
+    true
+}
+
+/// Whether a world is what was expected of it.
+fn is_as_expected<B: Book>(world: &World<B>, expected: &Expected<'_>) -> bool {
+    are_frames(world.replied(), expected.replied)
+        && are_accepted_once(world.accepted())
+        && world.submitted().len() == expected.submitted
+        && world.accepted().len() == expected.accepted
+        && world.server().book().len() == expected.calls
+}
+
+/// Whether what happens over a book with room for so many calls comes to this.
+pub(crate) fn comes_to(
+    alloc: Global,
+    limit: u32,
+    story: &[Happens],
+    expected: &Expected<'_>,
+) -> bool {
+    match &world_after(alloc, empty_book(alloc, limit), story) {
+        Some(world) => is_as_expected(world, expected),
+        None => false,
+    }
+}
+
+/// Where bytes that ask for a call are executed once.
+const ASKED_ONCE: Expected<'static> = Expected {
+    replied: &[GRANTED, DRAWN, DRAWN],
+    submitted: 2,
+    accepted: 2,
+    calls: 2,
+};
+
+#[test]
+fn strange_bytes_are_executed_once_where_they_ask(rt: HostRuntime) {
+    assert!(rt; comes_to(rt.alloc(), 100, STRANGE_BYTES, &ASKED_ONCE));
+}
+
+/// Where a book has room for one call.
+const FULL: Expected<'static> = Expected {
+    replied: &[GRANTED],
+    submitted: 3,
+    accepted: 1,
+    calls: 1,
+};
+
+#[test]
+fn a_full_book_takes_no_new_call(rt: HostRuntime) {
+    assert!(rt; comes_to(rt.alloc(), 1, STORY, &FULL));
+}

@@ -1,0 +1,88 @@
+//! A world for which memory is refused.
+
+use crate::ends::fixtures::{empty_book, have_one_history};
+use crate::ends::story::{EVENTS, STORY, events_of, new_world};
+use s10_book::{Book, PlainBook};
+use s10_world::{Event, World, WorldFault};
+use std::alloc::{AllocError, Global};
+
+// Whether the lists of two worlds are alike.
+fn are_alike<B: Book>(one: &World<B>, other: &World<B>) -> bool {
+    one.submitted() == other.submitted()
+        && one.accepted() == other.accepted()
+        && one.replied() == other.replied()
+}
+
+// A world after these events, without the one at a place where one is named.
+fn world_without(
+    alloc: Global,
+    events: &[Event],
+    left_out: Option<usize>,
+) -> Result<World<PlainBook>, AllocError> {
+    let mut world = new_world(alloc, empty_book(alloc, 100))?;
+    for (place, event) in events.iter().enumerate() {
+        if left_out != Some(place) {
+            let Ok(()) = world.run(&[*event]) else {
+                return Err(AllocError);
+            };
+        }
+    }
+    Ok(world)
+}
+
+// The world after these events that is alike, or after these without one of their deliveries.
+fn alike_world(
+    alloc: Global,
+    world: &World<PlainBook>,
+    events: &[Event],
+) -> Result<Option<World<PlainBook>>, AllocError> {
+    let whole = world_without(alloc, events, None)?;
+    if are_alike(world, &whole) {
+        return Ok(Some(whole));
+    }
+    for (place, event) in events.iter().enumerate() {
+        if matches!(event, Event::ToServer { .. }) {
+            let other = world_without(alloc, events, Some(place))?;
+            if are_alike(world, &other) {
+                return Ok(Some(other));
+            }
+        }
+    }
+    Ok(None)
+}
+
+fn end_alike<B: Book + Drop>(one: World<B>, other: World<B>) -> bool {
+    let mut book = one.into_server().into_book();
+    let mut same = other.into_server().into_book();
+    have_one_history(&mut book, &mut same)
+}
+
+// Whether a world has the history of the one that is alike; none where there is none.
+fn has_its_history(alloc: Global, world: World<PlainBook>, events: &[Event]) -> Option<bool> {
+    match alike_world(alloc, &world, events) {
+        Ok(Some(other)) => Some(end_alike(world, other)),
+        Ok(None) => None,
+        Err(_) => Some(true),
+    }
+}
+
+// checks/refused_memory.sh refuses each request for memory in turn; without it none is refused. What
+// was refused is as if it had not come: the event that wanted memory and those behind it, or else
+// the delivery that the book had no memory for.
+#[test]
+fn a_refused_request_for_memory_leaves_a_run_of_the_other_events(rt: HostRuntime) {
+    let events = events_of(STORY);
+    let Ok(mut world) = new_world(rt.alloc(), empty_book(rt.alloc(), 100)) else {
+        return;
+    };
+    let done = match world.run(&events[..EVENTS]) {
+        Ok(()) => EVENTS,
+        Err(WorldFault::Memory(place)) => place,
+    };
+    let has_history = has_its_history(rt.alloc(), world, &events[..done]);
+    assert!(rt;
+        has_history.is_some(),
+        "no list of deliveries gives this world"
+    );
+    assert!(rt; has_history == Some(true));
+}

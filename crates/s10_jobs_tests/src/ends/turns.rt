@@ -1,0 +1,202 @@
+//! Turns of a server over links that follow a script.
+
+use crate::ends::fixtures::{
+    DRAW, DRAWN, GRANT, GRANTED, Meets, SECOND_DRAW, SECOND_DRAWN, Sent, granted_server, has_sent,
+    link_of, link_with_failure, new_server,
+};
+use crate::ends::told::{Ends, is_as_told};
+use crate::expect::holds_at;
+use s10_book::{Book, BookFault, Settle};
+use s10_ends::{Server, serve_one};
+use s10_link::{Link, LinkFault, Peer, ScriptLink};
+use s10_wire::WireFault;
+use std::alloc::Global;
+use std::process::Abort;
+
+const PEER: Peer = Peer {
+    ip: [10, 0, 0, 7],
+    port: 4711,
+};
+
+const OTHER: Peer = Peer {
+    ip: [10, 0, 0, 8],
+    port: 4712,
+};
+
+/// Whether the next turn of a server ends so.
+fn serves<B: Settle, L: Link>(server: &mut Server<B>, link: &mut L, ends: &Ends) -> bool {
+    is_as_told(&serve_one(server, link, 20_000), ends)
+}
+
+/// What the receives and the sends of a link meet, what the turns over it end in, and what it sends.
+#[derive(Clone, Copy)]
+struct Script {
+    receipts: &'static [Meets],
+    sends: &'static [bool],
+    turns: &'static [Ends],
+    sent: &'static [Sent],
+    /// How many calls the book has then.
+    calls: u32,
+}
+
+/// The turns of a server over a script go as told.
+fn go_as_told<B: Settle + Drop>(
+    rt: &impl Abort,
+    alloc: Global,
+    mut server: Server<B>,
+    script: &Script,
+) {
+    let Ok(mut link) = link_of(alloc, script.receipts, script.sends) else {
+        panic!(rt; "no link");
+    };
+    for (at, ends) in script.turns.iter().enumerate() {
+        holds_at(rt, at, serves(&mut server, &mut link, ends));
+    }
+    assert!(rt; has_sent(&link, script.sent));
+    assert!(rt; server.book().len() == script.calls);
+}
+
+/// A Draw that comes again, as its reply could not be sent.
+const UNSENT: Script = Script {
+    receipts: &[Meets::Bytes(PEER, DRAW), Meets::Bytes(PEER, DRAW)],
+    sends: &[false, true],
+    turns: &[Ends::Failed(LinkFault::Send), Ends::Replied(PEER, DRAWN)],
+    sent: &[(PEER, DRAWN)],
+    calls: 2,
+};
+
+#[test]
+fn reply_that_was_not_sent_is_kept(rt: HostRuntime) {
+    let server = granted_server(rt.alloc(), 100);
+    go_as_told(&rt, rt.alloc(), server, &UNSENT);
+}
+
+/// Nothing, two datagrams that ask nothing, a new Draw where the book is full, and the first Grant again.
+const UNANSWERED: Script = Script {
+    receipts: &[
+        Meets::Nothing,
+        Meets::Bytes(PEER, b"S1"),
+        Meets::Bytes(OTHER, DRAWN),
+        Meets::Bytes(PEER, DRAW),
+        Meets::Bytes(OTHER, GRANT),
+    ],
+    sends: &[],
+    turns: &[
+        Ends::Quiet,
+        Ends::Dropped(PEER, WireFault::Short),
+        Ends::Dropped(OTHER, WireFault::Kind),
+        Ends::Faulted(PEER, BookFault::Full),
+        Ends::Failed(LinkFault::Spent),
+        Ends::Quiet,
+    ],
+    sent: &[],
+    calls: 1,
+};
+
+#[test]
+fn turns_without_a_reply(rt: HostRuntime) {
+    let server = granted_server(rt.alloc(), 1);
+    go_as_told(&rt, rt.alloc(), server, &UNANSWERED);
+}
+
+/// Customer 7's next Draws, with their replies on day 20000.
+const THIRD_DRAW: &[u8] = b"S1\x01\x02\0\0\0\x07\0\0\0\x03RAGB";
+
+const THIRD_DRAWN: &[u8] = b"S1\x01\x82\0\0\0\x07\0\0\0\x03RAGB\0\0\0\x4e\x20RA000000028GB";
+
+const FOURTH_DRAW: &[u8] = b"S1\x01\x02\0\0\0\x07\0\0\0\x04RAGB";
+
+const FOURTH_DRAWN: &[u8] = b"S1\x01\x82\0\0\0\x07\0\0\0\x04RAGB\x05";
+
+/// A Grant of three serials and four Draws, each twice in a row.
+const TEN_RECEIPTS: &'static [Meets] = &[
+    Meets::Bytes(PEER, GRANT),
+    Meets::Bytes(PEER, GRANT),
+    Meets::Bytes(PEER, DRAW),
+    Meets::Bytes(PEER, DRAW),
+    Meets::Bytes(PEER, SECOND_DRAW),
+    Meets::Bytes(PEER, SECOND_DRAW),
+    Meets::Bytes(PEER, THIRD_DRAW),
+    Meets::Bytes(PEER, THIRD_DRAW),
+    Meets::Bytes(PEER, FOURTH_DRAW),
+    Meets::Bytes(PEER, FOURTH_DRAW),
+];
+
+/// Their replies.
+const TEN_TURNS: &'static [Ends] = &[
+    Ends::Replied(PEER, GRANTED),
+    Ends::Replied(PEER, GRANTED),
+    Ends::Replied(PEER, DRAWN),
+    Ends::Replied(PEER, DRAWN),
+    Ends::Replied(PEER, SECOND_DRAWN),
+    Ends::Replied(PEER, SECOND_DRAWN),
+    Ends::Replied(PEER, THIRD_DRAWN),
+    Ends::Replied(PEER, THIRD_DRAWN),
+    Ends::Replied(PEER, FOURTH_DRAWN),
+    Ends::Replied(PEER, FOURTH_DRAWN),
+];
+
+/// Whether the ten turns send each reply, and one of them fails so: instead of its reply where that is not sent, and else before
+/// it.
+fn is_survived<B: Settle, L: Link>(
+    server: &mut Server<B>,
+    link: &mut L,
+    failing: usize,
+    fault: LinkFault,
+) -> bool {
+    for (at, ends) in TEN_TURNS.iter().enumerate() {
+        let fails = at == failing;
+        if fails && !serves(server, link, &Ends::Failed(fault)) {
+            return false;
+        }
+        let is_sent = !fails || fault == LinkFault::Receive;
+        if is_sent && !serves(server, link, ends) {
+            return false;
+        }
+    }
+    true
+}
+
+/// Whether a server over an empty book survives that this turn fails, and then has all five calls.
+fn survives(alloc: Global, link: &mut ScriptLink, failing: usize, fault: LinkFault) -> bool {
+    let mut server = new_server(alloc, 100);
+    is_survived(&mut server, link, failing, fault) && server.book().len() == 5
+}
+
+/// Whether a server survives that this reply is lost.
+fn survives_a_lost_reply(alloc: Global, failing: usize) -> bool {
+    let mut sends = [true; 10];
+    if let Some(send) = sends.get_mut(failing) {
+        *send = false;
+    }
+    match link_of(alloc, TEN_RECEIPTS, &sends) {
+        Ok(mut link) => {
+            survives(alloc, &mut link, failing, LinkFault::Send) && link.log().len() == 9
+        }
+        Err(_) => false,
+    }
+}
+
+#[test]
+fn any_one_reply_may_be_lost(rt: HostRuntime) {
+    for failing in 0..10usize {
+        holds_at(&rt, failing, survives_a_lost_reply(rt.alloc(), failing));
+    }
+}
+
+/// Whether a server survives that this receive fails.
+fn survives_a_failed_receive(alloc: Global, failing: usize) -> bool {
+    match link_with_failure(alloc, TEN_RECEIPTS, failing, &[true; 10]) {
+        Ok(mut link) => {
+            survives(alloc, &mut link, failing, LinkFault::Receive) && link.log().len() == 10
+        }
+        Err(_) => false,
+    }
+}
+
+#[test]
+fn any_one_receive_may_fail(rt: HostRuntime) {
+    for failing in 0..10usize {
+        holds_at(&rt, failing, survives_a_failed_receive(rt.alloc(), failing));
+    }
+}

@@ -1,0 +1,164 @@
+//! Worlds in which the story happens.
+
+use crate::ends::fixtures::{DRAW, GRANT, GRANTED, empty_book};
+use crate::ends::odd_worlds::are_frames;
+use crate::ends::story::{STORY, world_after};
+use s10_book::{Book, TripBook};
+use s10_wire::{Reply, Request, encode_reply, encode_request};
+use s10_world::World;
+use std::alloc::{AllocError, Global};
+use std::process::Abort;
+
+/// The draws of customer 7's second client and of its first one, with their replies.
+const DRAW_10: &[u8] = b"S1\x01\x02\0\0\0\x07\0\0\0\x0aRAGB";
+
+const DRAWN_10: &[u8] = b"S1\x01\x82\0\0\0\x07\0\0\0\x0aRAGB\0\0\0\x4e\x20RA000000005GB";
+
+const DRAWN_1: &[u8] = b"S1\x01\x82\0\0\0\x07\0\0\0\x01RAGB\0\0\0\x4e\x20RA000000014GB";
+
+/// The clients that submitted, with the datagrams of their requests.
+const SUBMITTED: &'static [(u32, &'static [u8])] = &[(0, GRANT), (1, DRAW), (2, DRAW_10)];
+
+/// The clients that accepted, with the datagrams of their replies.
+const ACCEPTED: &'static [(u32, &'static [u8])] = &[(0, GRANTED), (1, DRAWN_1)];
+
+const ASKED: &'static [&'static [u8]] = &[GRANT, DRAW, DRAW_10];
+
+const REPLIED: &'static [&'static [u8]] = &[GRANTED, DRAWN_10, DRAWN_1, DRAWN_10, DRAWN_1];
+
+/// Whether these clients submitted the requests of these datagrams, in turn, and no others.
+fn are_submitted(submitted: &[(u32, Request)], told: &[(u32, &[u8])]) -> bool {
+    if submitted.len() != told.len() {
+        return false;
+    }
+    for at in 0..submitted.len() {
+        let (client, request) = &submitted[at];
+        if *client != told[at].0 || encode_request(request).bytes() != told[at].1 {
+            return false;
+        }
+    }
+    true
+}
+
+/// Whether these clients accepted the replies of these datagrams, in turn, and no others.
+fn are_accepted(accepted: &[(u32, Reply)], told: &[(u32, &[u8])]) -> bool {
+    if accepted.len() != told.len() {
+        return false;
+    }
+    for at in 0..accepted.len() {
+        let (client, reply) = &accepted[at];
+        if *client != told[at].0 || encode_reply(reply).bytes() != told[at].1 {
+            return false;
+        }
+    }
+    true
+}
+
+/// Whether the call at a place of a book is of day 20000, with the request and the reply of these datagrams.
+fn holds<B: Book>(book: &mut B, at: u32, request: &[u8], reply: &[u8]) -> bool {
+    let Ok(Some(entry)) = book.entry(at) else {
+        return false;
+    };
+    match &Reply::new(entry.request, entry.outcome) {
+        Some(kept) => {
+            entry.day == 20_000
+                && encode_request(&entry.request).bytes() == request
+                && encode_reply(kept).bytes() == reply
+        }
+        None => false,
+    }
+}
+
+/// The lists of a world are those of the story.
+fn are_told<B: Book>(rt: &impl Abort, world: &World<B>) {
+    assert!(rt; are_submitted(world.submitted(), SUBMITTED));
+    assert!(rt; are_accepted(world.accepted(), ACCEPTED));
+    assert!(rt; are_frames(world.asked(), ASKED));
+    assert!(rt; are_frames(world.replied(), REPLIED));
+}
+
+/// A book holds the three calls of the story.
+fn are_held<B: Book>(rt: &impl Abort, book: &mut B) {
+    assert!(rt; book.len() == 3);
+    assert!(rt; holds(book, 1, GRANT, GRANTED));
+    assert!(rt; holds(book, 2, DRAW_10, DRAWN_10));
+    assert!(rt; holds(book, 3, DRAW, DRAWN_1));
+}
+
+#[test]
+fn each_call_is_executed_once_and_answered_to_its_own_client(rt: HostRuntime) {
+    let Some(world) = world_after(rt.alloc(), empty_book(rt.alloc(), 100), STORY) else {
+        panic!(rt; "the story");
+    };
+    are_told(&rt, &world);
+    are_held(&rt, &mut world.into_server().into_book());
+}
+
+/// Whether the request of an accepted reply is among those submitted, by its client.
+fn is_asked_for(submitted: &[(u32, Request)], client: u32, request: &Request) -> bool {
+    for sent in submitted {
+        if sent.0 == client && sent.1 == *request {
+            return true;
+        }
+    }
+    false
+}
+
+/// Whether the book keeps a reply's request with its outcome.
+fn keeps<B: Book>(book: &mut B, reply: &Reply) -> bool {
+    let request = reply.request();
+    match book.find(request.customer, request.number) {
+        Ok(Some(entry)) => entry.request == request && entry.outcome == reply.outcome(),
+        _ => false,
+    }
+}
+
+/// Whether what was accepted was asked for, and the book keeps it.
+fn agree<B: Book>(book: &mut B, submitted: &[(u32, Request)], accepted: &[(u32, Reply)]) -> bool {
+    for (client, reply) in accepted {
+        if !is_asked_for(submitted, *client, &reply.request()) || !keeps(book, reply) {
+            return false;
+        }
+    }
+    true
+}
+
+/// Whether what a world's clients accepted was asked for, and agrees with its history.
+fn accepted_agree<B: Book + Drop>(alloc: Global, world: World<B>) -> Result<bool, AllocError> {
+    let submitted = world.submitted().to_vec(alloc)?;
+    let accepted = world.accepted().to_vec(alloc)?;
+    let mut book = world.into_server().into_book();
+    Ok(agree(&mut book, &submitted, &accepted))
+}
+
+/// How many replies a world of this book sends; none where one is missing and what its clients accepted does not agree with its
+/// history.
+fn replies_that_agree<B: Book + Drop>(alloc: Global, book: B) -> Option<usize> {
+    let world = world_after(alloc, book, STORY)?;
+    let replied = world.replied().len();
+    if replied != 4 || accepted_agree(alloc, world) == Ok(true) {
+        Some(replied)
+    } else {
+        None
+    }
+}
+
+/// The first call of a book that the run does not make, or at which it does not go on.
+fn first_passed_over(alloc: Global) -> (u64, Option<usize>) {
+    for at in 0..100u64 {
+        let book = TripBook::new(empty_book(alloc, 100), at);
+        let replied = replies_that_agree(alloc, book);
+        if replied != Some(4) {
+            return (at, replied);
+        }
+    }
+    (100, None)
+}
+
+// A book fails at one of its calls, each in turn, and the run goes on.
+#[test]
+fn accepted_replies_agree_with_a_book_that_failed(rt: HostRuntime) {
+    let (at, replied) = first_passed_over(rt.alloc());
+    assert!(rt; replied == Some(5), "at {at}");
+    assert!(rt; 4 < at);
+}

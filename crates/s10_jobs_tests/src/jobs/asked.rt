@@ -1,0 +1,192 @@
+//! Calls over links, and what is printed of them.
+
+use crate::expect::holds;
+use crate::jobs::links::{Meets, link_of};
+use crate::jobs::refusing::Refusing;
+use s10_core::{Country, Service};
+use s10_ends::Client;
+use s10_jobs::{JobStatus, ask};
+use s10_lines::WriteFault;
+use s10_link::{Link, Peer, ScriptLink};
+use s10_wire::Body;
+use std::alloc::Global;
+
+const SERVER: Peer = Peer {
+    ip: [10, 0, 0, 1],
+    port: 4711,
+};
+
+// RA000000005GB issued on day 20000 to customer 7's Draw of RA GB with number 1
+const DRAWN: &[u8] = b"S1\x01\x82\0\0\0\x07\0\0\0\x01RAGB\0\0\0\x4e\x20RA000000005GB";
+
+// NoneFree, in reply to the same Draw
+const NONE_FREE: &[u8] = b"S1\x01\x82\0\0\0\x07\0\0\0\x01RAGB\x05";
+
+fn draw() -> Body {
+    Body::Draw {
+        service: Service::new(*b"RA").unwrap(),
+        country: Country::new(*b"GB").unwrap(),
+    }
+}
+
+/// Whether a call in so many tries has this status and prints this line.
+fn is_told<L: Link>(
+    alloc: Global,
+    client: &mut Client,
+    link: &mut L,
+    body: Body,
+    tries: u32,
+    status: JobStatus,
+    line: &str,
+) -> bool {
+    let mut out = Vec::new(alloc);
+    let tries = tries.max(1).min(100);
+    ask(client, link, SERVER, body, tries, &mut out) == Ok(status)
+        && out.as_slice() == line.as_bytes()
+}
+
+/// Whether customer 7's first call over this script, in two tries, has this status and prints this line, and the
+/// next asks nothing: the number is spent, whatever came of it.
+fn is_asked_once(
+    alloc: Global,
+    receipts: &[Meets],
+    sends: &[bool],
+    status: JobStatus,
+    line: &str,
+) -> bool {
+    let Ok(mut link) = link_of(alloc, receipts, sends) else {
+        return false;
+    };
+    let mut client = Client::new(7, 1, 1).unwrap();
+    let then = JobStatus::CommandLine;
+    is_told(alloc, &mut client, &mut link, draw(), 2, status, line)
+        && is_told(alloc, &mut client, &mut link, draw(), 2, then, "")
+}
+
+/// Which sends succeed, and what is printed.
+const UNANSWERED: &[(&[bool], &str)] = &[
+    (&[true, true], "gave-up\n"),
+    (&[false], "link send\n"),
+    (&[true], "link spent\n"),
+];
+
+#[test]
+fn what_came_of_a_call_without_a_reply_is_printed(rt: HostRuntime) {
+    for (sends, line) in UNANSWERED {
+        let is_asked = is_asked_once(rt.alloc(), &[], sends, JobStatus::Failed, line);
+        holds(&rt, line, is_asked);
+    }
+}
+
+#[test]
+fn a_receive_that_fails_is_printed(rt: HostRuntime) {
+    let (receipts, line) = (&[Meets::Fault], "link receive\n");
+    assert!(rt; is_asked_once(rt.alloc(), receipts, &[true], JobStatus::Failed, line));
+}
+
+/// What a call meets that gets a reply at once, and one that gets it in the second try; and what is printed of it.
+type Answered = (&'static [Meets], &'static [Meets], JobStatus, &'static str);
+
+const ANSWERS: &[Answered] = &[
+    (
+        &[Meets::Bytes(SERVER, DRAWN)],
+        &[Meets::Nothing, Meets::Bytes(SERVER, DRAWN)],
+        JobStatus::Done,
+        "reply draw customer 7 number 1 RA GB done day 20000 RA000000005GB\n",
+    ),
+    (
+        &[Meets::Bytes(SERVER, NONE_FREE)],
+        &[Meets::Nothing, Meets::Bytes(SERVER, NONE_FREE)],
+        JobStatus::Refused,
+        "reply draw customer 7 number 1 RA GB none-free\n",
+    ),
+];
+
+#[test]
+fn what_came_of_a_call_is_printed(rt: HostRuntime) {
+    for (at_once, late, status, line) in ANSWERS {
+        let is_first = is_asked_once(rt.alloc(), at_once, &[true], *status, line);
+        let is_second = is_asked_once(rt.alloc(), late, &[true, true], *status, line);
+        holds(&rt, line, is_first && is_second);
+    }
+}
+
+/// The post's Withdraw of range 1 with number 2.
+const WITHDRAW: &[u8] = b"S1\x02\x06\0\0\0\0\0\0\0\x02\0\0\0\x01";
+
+/// Whether the link sent these bytes alone, to the server.
+fn has_sent(link: &ScriptLink, bytes: &[u8]) -> bool {
+    match link.log() {
+        [(to, frame)] => *to == SERVER && frame.bytes() == bytes,
+        _ => false,
+    }
+}
+
+/// Whether a withdrawal that gets this reply sends its datagram once, has this status and prints
+/// this line.
+fn is_withdrawn(alloc: Global, reply: &'static [u8], status: JobStatus, line: &str) -> bool {
+    let Ok(mut link) = link_of(alloc, &[Meets::Bytes(SERVER, reply)], &[true]) else {
+        return false;
+    };
+    let mut client = Client::new(0, 2, 2).unwrap();
+    let body = Body::Withdraw { range: 1 };
+    is_told(alloc, &mut client, &mut link, body, 1, status, line) && has_sent(&link, WITHDRAW)
+}
+
+/// Replies to it, and what is printed of them.
+const WITHDRAWALS: &[(&[u8], JobStatus, &str)] = &[
+    (
+        b"S1\x02\x86\0\0\0\0\0\0\0\x02\0\0\0\x01\0",
+        JobStatus::Done,
+        "reply withdraw customer 0 number 2 1 done\n",
+    ),
+    (
+        b"S1\x02\x86\0\0\0\0\0\0\0\x02\0\0\0\x01\x01",
+        JobStatus::Refused,
+        "reply withdraw customer 0 number 2 1 not-the-post\n",
+    ),
+    (
+        b"S1\x02\x86\0\0\0\0\0\0\0\x02\0\0\0\x01\x09",
+        JobStatus::Refused,
+        "reply withdraw customer 0 number 2 1 number-reused\n",
+    ),
+    (
+        b"S1\x02\x86\0\0\0\0\0\0\0\x02\0\0\0\x01\x0a",
+        JobStatus::Refused,
+        "reply withdraw customer 0 number 2 1 no-such-range\n",
+    ),
+    (
+        b"S1\x02\x86\0\0\0\0\0\0\0\x02\0\0\0\x01\x0b",
+        JobStatus::Refused,
+        "reply withdraw customer 0 number 2 1 closed\n",
+    ),
+    // An overlap is nothing that a withdrawal comes to.
+    (
+        b"S1\x02\x86\0\0\0\0\0\0\0\x02\0\0\0\x01\x03",
+        JobStatus::Failed,
+        "gave-up\n",
+    ),
+];
+
+#[test]
+fn what_came_of_a_withdrawal_is_printed(rt: HostRuntime) {
+    for (reply, status, line) in WITHDRAWALS {
+        holds(&rt, line, is_withdrawn(rt.alloc(), reply, *status, line));
+    }
+}
+
+/// Whether a call whose line cannot be written was made.
+fn is_made_unwritten(alloc: Global) -> bool {
+    let Ok(mut link) = link_of(alloc, &[Meets::Bytes(SERVER, DRAWN)], &[true]) else {
+        return false;
+    };
+    let mut client = Client::new(7, 1, 1).unwrap();
+    ask(&mut client, &mut link, SERVER, draw(), 1, &mut Refusing) == Err(WriteFault)
+        && link.log().len() == 1
+        && client.pending().is_none()
+}
+
+#[test]
+fn line_that_cannot_be_written_is_told_after_the_call(rt: HostRuntime) {
+    assert!(rt; is_made_unwritten(rt.alloc()));
+}

@@ -1,0 +1,141 @@
+//! Reports, and the lines of those that end early.
+
+use crate::expect::holds;
+use crate::jobs::hiccup::Hiccup;
+use crate::jobs::refusing::Refusing;
+use s10_book::{Book, PlainBook, TripBook};
+use s10_ends::Server;
+use s10_history::Settings;
+use s10_jobs::{JobStatus, Report, write_report};
+use s10_lines::WriteFault;
+use std::alloc::Global;
+use std::io::Write;
+use std::time::Clock;
+
+const RANGES: &str = "range customer service country first last used voided free
+1 7 RA GB 00000000 00000002 1 0 2
+";
+
+const RANGES_WITHDRAWN: &str = "range customer service country first last used voided free
+1 7 RA GB 00000000 00000002 1 0 2 closed
+";
+
+const ISSUES: &str = "arrival day customer number identifier state
+2 20000 7 1 RA000000005GB issued
+";
+
+/// The book of a grant of three serials and a draw.
+fn one_issue(alloc: Global) -> PlainBook {
+    let settings = Settings::new(30, 100).unwrap();
+    let mut server = Server::new(PlainBook::new(alloc, settings));
+    let grant = b"S1\x01\x01\0\0\0\0\0\0\0\x01\0\0\0\x07RAGB\0\0\0\0\0\0\0\x02";
+    let draw = b"S1\x01\x02\0\0\0\x07\0\0\0\x01RAGB";
+    let _ = server.handle(grant, 20_000);
+    let _ = server.handle(draw, 20_000);
+    server.into_book()
+}
+
+/// Whether a report of the book has this status and prints this text.
+fn prints<B: Book + Drop>(
+    alloc: Global,
+    mut book: B,
+    report: Report,
+    status: JobStatus,
+    text: &str,
+) -> bool {
+    let mut out = Vec::new(alloc);
+    write_report(&mut book, report, &mut out) == Ok(status) && out.as_slice() == text.as_bytes()
+}
+
+/// Whether a report is of issues, and its text.
+const REPORTS: &[(bool, &str)] = &[(false, RANGES), (true, ISSUES)];
+
+#[test]
+fn reports_are_written_whole(rt: HostRuntime) {
+    for (is_of_issues, text) in REPORTS {
+        let report = Report::new(&rt, *is_of_issues, Some(20_000)).expect(&rt, "a day");
+        let book = one_issue(rt.alloc());
+        let prints = prints(rt.alloc(), book, report, JobStatus::Done, text);
+        holds(&rt, text, prints);
+    }
+}
+
+/// The book of a grant, a draw and the withdrawal of the range.
+fn one_withdrawn(alloc: Global) -> PlainBook {
+    let mut server = Server::new(one_issue(alloc));
+    let withdraw = b"S1\x02\x06\0\0\0\0\0\0\0\x02\0\0\0\x01";
+    let _ = server.handle(withdraw, 20_000);
+    server.into_book()
+}
+
+/// Reports of a range that was withdrawn, and their texts.
+const WITHDRAWN: &[(Report, &str)] = &[
+    (Report::Ranges { day: 20_000 }, RANGES_WITHDRAWN),
+    (Report::Issues, ISSUES),
+];
+
+#[test]
+fn a_withdrawn_range_is_reported_as_closed(rt: HostRuntime) {
+    for (report, text) in WITHDRAWN {
+        let book = one_withdrawn(rt.alloc());
+        let prints = prints(rt.alloc(), book, *report, JobStatus::Done, text);
+        holds(&rt, text, prints);
+    }
+}
+
+/// Whether a report of ranges has the day that is given, or one of its own.
+fn has_its_day<R: Clock>(rt: &R) -> bool {
+    Report::new(rt, false, Some(7)) == Some(Report::Ranges { day: 7 })
+        && Report::new(rt, false, None).is_some()
+}
+
+/// Whether a report of issues has no day.
+fn has_no_day<R: Clock>(rt: &R) -> bool {
+    Report::new(rt, true, Some(7)) == Some(Report::Issues)
+        && Report::new(rt, true, None) == Some(Report::Issues)
+}
+
+#[test]
+fn a_report_has_the_day_that_is_given(rt: HostRuntime) {
+    assert!(rt; has_its_day(&rt));
+    assert!(rt; has_no_day(&rt));
+}
+
+/// Reports of a book that fails, and their texts.
+const FAULTED: &[(Report, &str)] = &[
+    (
+        Report::Ranges { day: 20_000 },
+        "range customer service country first last used voided free\nfaulted store\n",
+    ),
+    (
+        Report::Issues,
+        "arrival day customer number identifier state\nfaulted store\n",
+    ),
+];
+
+#[test]
+fn a_fault_of_the_book_ends_a_report(rt: HostRuntime) {
+    for (report, text) in FAULTED {
+        let book = TripBook::new(one_issue(rt.alloc()), 0);
+        let prints = prints(rt.alloc(), book, *report, JobStatus::Failed, text);
+        holds(&rt, text, prints);
+    }
+}
+
+/// What comes of a report of issues to this writer.
+fn written<W: Write>(alloc: Global, out: &mut W) -> Result<JobStatus, WriteFault> {
+    write_report(&mut one_issue(alloc), Report::Issues, out)
+}
+
+/// Whether a report whose first bytes are refused ends with a line that says so.
+fn is_told_to_have_ended(alloc: Global) -> bool {
+    let mut out = Hiccup::new(alloc, 0);
+    written(alloc, &mut out) == Ok(JobStatus::Failed)
+        && out.bytes.as_slice() == "output\n".as_bytes()
+}
+
+#[test]
+fn a_writer_that_fails_ends_a_report(rt: HostRuntime) {
+    assert!(rt; is_told_to_have_ended(rt.alloc()));
+    assert!(rt; written(rt.alloc(), &mut Refusing) == Err(WriteFault));
+}

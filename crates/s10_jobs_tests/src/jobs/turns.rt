@@ -1,0 +1,395 @@
+//! The turns of a server.
+
+use crate::expect::holds;
+use crate::jobs::hiccup::Hiccup;
+use crate::jobs::links::{Meets, link_of};
+use s10_book::{Book, PlainBook, Settle};
+use s10_ends::Server;
+use s10_history::Settings;
+use s10_jobs::{JobStatus, day_or_today, serve_turns, today};
+use s10_lines::WriteFault;
+use s10_link::{Link, Peer};
+use std::alloc::Global;
+use std::cell::RefCell;
+use std::fmt::Display;
+use std::io;
+use std::io::Write;
+use std::time::{Clock, Duration};
+
+const PEER: Peer = Peer {
+    ip: [10, 0, 0, 7],
+    port: 4711,
+};
+
+const GRANT: &[u8] = b"S1\x01\x01\0\0\0\0\0\0\0\x01\0\0\0\x07RAGB\0\0\0\0\0\0\0\x02";
+
+const DRAW: &[u8] = b"S1\x01\x02\0\0\0\x07\0\0\0\x01RAGB";
+
+const ONE_MORE: &[u8] = b"S1\x01\x02\0\0\0\x07\0\0\0\x02RAGB";
+
+/// A clock that stands still, or none. Standard error is closed.
+#[derive(Drop)]
+struct Standing(Option<Duration>);
+
+impl Clock for Standing {
+    fn monotonic(&self) -> io::Result<Duration> {
+        self.since_1970()
+    }
+
+    fn since_1970(&self) -> io::Result<Duration> {
+        self.0.ok_or(io::Error::from(io::ErrorKind::Other))
+    }
+}
+
+impl Eprint for Standing {
+    fn eprint<D: Display + Drop>(&self, _value: D) -> io::Result<()> {
+        Err(io::Error::from(io::ErrorKind::Other))
+    }
+
+    fn eprintln<D: Display + Drop>(&self, value: D) -> io::Result<()> {
+        self.eprint(value)
+    }
+}
+
+/// A standard error that keeps what it is told. There is no clock.
+#[derive(Drop)]
+struct Listening {
+    told: RefCell<Vec<u8>>,
+}
+
+impl Clock for Listening {
+    fn monotonic(&self) -> io::Result<Duration> {
+        self.since_1970()
+    }
+
+    fn since_1970(&self) -> io::Result<Duration> {
+        Err(io::Error::from(io::ErrorKind::Other))
+    }
+}
+
+impl Eprint for Listening {
+    fn eprint<D: Display + Drop>(&self, value: D) -> io::Result<()> {
+        match self.told.try_borrow_mut() {
+            Ok(mut told) => write!(told, "{value}"),
+            Err(_) => Err(io::Error::from(io::ErrorKind::Other)),
+        }
+    }
+
+    fn eprintln<D: Display + Drop>(&self, value: D) -> io::Result<()> {
+        match self.told.try_borrow_mut() {
+            Ok(mut told) => told.writeln(value),
+            Err(_) => Err(io::Error::from(io::ErrorKind::Other)),
+        }
+    }
+}
+
+fn new_server(alloc: Global) -> Server<PlainBook> {
+    Server::new(PlainBook::new(alloc, Settings::new(30, 2).unwrap()))
+}
+
+/// What came: a request and nothing with it, nothing, a failure, and together bytes that ask nothing, a draw, its repeat and
+/// one too many.
+const SEVEN: &[Meets] = &[
+    Meets::Bytes(PEER, GRANT),
+    Meets::Nothing,
+    Meets::Nothing,
+    Meets::Fault,
+    Meets::Bytes(PEER, b"S1"),
+    Meets::Bytes(PEER, DRAW),
+    Meets::Bytes(PEER, DRAW),
+    Meets::Bytes(PEER, ONE_MORE),
+];
+
+/// Which of their replies are sent.
+const THREE_SENDS: &[bool] = &[true, false, true];
+
+const SEVEN_LINES: &[u8] =
+    b"replied 533101810000000000000001000000075241474200000000000000020000000001
+quiet
+link receive
+dropped short
+link send
+replied 533101820000000700000001524147420000004e2052413030303030303030354742
+faulted full
+";
+
+/// The first so many lines of a text.
+fn first_lines(text: &[u8], count: u32) -> &[u8] {
+    let mut left = count;
+    for (at, byte) in text.iter().enumerate() {
+        if left == 0 {
+            return &text[..at];
+        }
+        if *byte == b'\n' {
+            left -= 1;
+        }
+    }
+    text
+}
+
+/// A writer that counts how often it was flushed after a whole line.
+#[derive(Drop)]
+struct Flushed {
+    bytes: Vec<u8>,
+    lines: u32,
+}
+
+impl Write for Flushed {
+    fn write(&mut self, buf: &[u8]) -> io::Result<usize> {
+        self.bytes.write(buf)
+    }
+
+    fn flush(&mut self) -> io::Result<()> {
+        if self.bytes.as_slice().last() == Some(&b'\n') {
+            self.lines = self.lines.saturating_add(1);
+        }
+        Ok(())
+    }
+}
+
+/// Turns on a link of these receipts and sends, and what they come to.
+#[derive(Clone, Copy)]
+struct Turns<'a> {
+    receipts: &'a [Meets],
+    sends: &'a [bool],
+    count: u32,
+    day: Option<u32>,
+    status: JobStatus,
+    lines: &'a [u8],
+    /// How often whole lines are flushed.
+    flushed: u32,
+    /// How many calls the book has then.
+    calls: u32,
+}
+
+/// Whether the turns of a server on the link have their status, and write and flush their lines.
+fn come_to<R: Clock + Eprint, B: Settle, L: Link>(
+    rt: &R,
+    alloc: Global,
+    server: &mut Server<B>,
+    link: &mut L,
+    turns: &Turns<'_>,
+) -> bool {
+    let mut out = Flushed {
+        bytes: Vec::new(alloc),
+        lines: 0,
+    };
+    let served = serve_turns(rt, alloc, server, link, turns.count, turns.day, &mut out);
+    served == Ok(turns.status) && out.bytes.as_slice() == turns.lines && out.lines == turns.flushed
+}
+
+/// Whether the turns of a new server come to what they shall.
+fn are_served<R: Clock + Eprint>(rt: &R, alloc: Global, turns: &Turns<'_>) -> bool {
+    let Ok(mut link) = link_of(alloc, turns.receipts, turns.sends) else {
+        return false;
+    };
+    let mut server = new_server(alloc);
+    come_to(rt, alloc, &mut server, &mut link, turns) && server.book().len() == turns.calls
+}
+
+/// So many turns on the link of the seven, which have the first of the lines, and leave so many calls.
+fn first_turns(count: u32, rounds: u32, calls: u32) -> Turns<'static> {
+    Turns {
+        receipts: SEVEN,
+        sends: THREE_SENDS,
+        count,
+        day: Some(20_000),
+        status: JobStatus::Done,
+        lines: first_lines(SEVEN_LINES, count),
+        flushed: rounds,
+        calls,
+    }
+}
+
+/// Turns, the rounds that they are, and the calls of the book then. A grant is the first turn, and a draw whose reply
+/// is not sent the fifth. The last four come together.
+const TURNS: &[(u32, u32, u32)] = &[
+    (0, 0, 0),
+    (1, 1, 1),
+    (2, 2, 1),
+    (3, 3, 1),
+    (4, 4, 1),
+    (5, 4, 2),
+    (6, 4, 2),
+    (7, 4, 2),
+];
+
+#[test]
+fn each_turn_has_its_line(rt: HostRuntime) {
+    for (count, rounds, calls) in TURNS {
+        let turns = first_turns(*count, *rounds, *calls);
+        holds(&rt, count, are_served(&rt, rt.alloc(), &turns));
+    }
+}
+
+/// A grant and a draw in one round, on a day that a clock gives.
+const TWO_TURNS: Turns<'static> = Turns {
+    receipts: &[Meets::Bytes(PEER, GRANT), Meets::Bytes(PEER, DRAW)],
+    sends: &[true, true],
+    count: 2,
+    day: None,
+    status: JobStatus::Done,
+    lines: b"replied 533101810000000000000001000000075241474200000000000000020000000001
+replied 533101820000000700000001524147420000004e2052413030303030303030354742
+",
+    flushed: 1,
+    calls: 2,
+};
+
+#[test]
+fn the_clock_gives_the_day_where_none_is_given(rt: HostRuntime) {
+    // The last second of day 20000.
+    let clock = Standing(Some(Duration::from_secs(20_001 * 86_400 - 1)));
+    assert!(rt; are_served(&clock, rt.alloc(), &TWO_TURNS));
+}
+
+/// Who sent what asks nothing.
+const OTHER: Peer = Peer {
+    ip: [10, 0, 0, 8],
+    port: 40_123,
+};
+
+/// What two ends sent: each what asks nothing, one twice, and between these nothing came and a grant was asked for.
+const THREE_DROPPED: &[Meets] = &[
+    Meets::Nothing,
+    Meets::Bytes(OTHER, b"S1"),
+    Meets::Bytes(PEER, GRANT),
+    Meets::Bytes(PEER, b""),
+    Meets::Fault,
+    Meets::Bytes(OTHER, b"S1"),
+];
+
+const SIX_LINES: &[u8] = b"quiet
+dropped short
+replied 533101810000000000000001000000075241474200000000000000020000000001
+dropped short
+link receive
+dropped short
+";
+
+/// Whether so many turns on the link of the two ends have the first of the lines, and standard error is told this.
+fn are_told(alloc: Global, count: u32, rounds: u32, told: &str) -> bool {
+    let rt = Listening {
+        told: RefCell::new(Vec::new(alloc)),
+    };
+    let turns = Turns {
+        receipts: THREE_DROPPED,
+        sends: &[true],
+        count,
+        day: Some(20_000),
+        status: JobStatus::Done,
+        lines: first_lines(SIX_LINES, count),
+        flushed: rounds,
+        calls: if count < 3 { 0 } else { 1 },
+    };
+    are_served(&rt, alloc, &turns) && rt.told.into_inner().as_slice() == told.as_bytes()
+}
+
+/// Turns, the rounds that they are, and what standard error is told.
+const TOLD: &[(u32, u32, &str)] = &[
+    (1, 1, ""),
+    (2, 2, "dropped from 10.0.0.8:40123\n"),
+    (3, 2, "dropped from 10.0.0.8:40123\n"),
+    (
+        4,
+        2,
+        "dropped from 10.0.0.8:40123\ndropped from 10.0.0.7:4711\n",
+    ),
+    (
+        6,
+        3,
+        "dropped from 10.0.0.8:40123\ndropped from 10.0.0.7:4711\ndropped from 10.0.0.8:40123\n",
+    ),
+];
+
+#[test]
+fn standard_error_is_told_who_sent_what_is_dropped(rt: HostRuntime) {
+    for (count, rounds, told) in TOLD {
+        holds(&rt, count, are_told(rt.alloc(), *count, *rounds, told));
+    }
+}
+
+#[test]
+fn a_closed_standard_error_ends_no_turn(rt: HostRuntime) {
+    assert!(rt; are_served(&Standing(None), rt.alloc(), &first_turns(7, 4, 2)));
+}
+
+/// Turns on a day that no clock gives.
+const DAYLESS: Turns<'static> = Turns {
+    receipts: SEVEN,
+    sends: &[],
+    count: 3,
+    day: None,
+    status: JobStatus::Failed,
+    lines: b"clock\n",
+    flushed: 0,
+    calls: 0,
+};
+
+#[test]
+fn a_clock_that_gives_no_day_ends_the_turns(rt: HostRuntime) {
+    assert!(rt; are_served(&Standing(None), rt.alloc(), &DAYLESS));
+}
+
+/// Whether this is the day of a clock that has stood still for so many seconds since 1970, where
+/// none is given.
+fn is_day_after(seconds: u64, day: Option<u32>) -> bool {
+    let clock = Standing(Some(Duration::from_secs(seconds)));
+    today(&clock) == day
+        && day_or_today(&clock, None) == day
+        && day_or_today(&clock, Some(7)) == Some(7)
+}
+
+/// Seconds since 1970, and the day.
+const DAYS: &[(u64, Option<u32>)] = &[
+    (0, Some(0)),
+    (86_399, Some(0)),
+    (86_400, Some(1)),
+    (1_728_000_000, Some(20_000)),
+    (4_294_967_296 * 86_400 - 1, Some(u32::MAX)),
+    (4_294_967_296 * 86_400, None),
+];
+
+#[test]
+fn days_are_whole_days_since_1970(rt: HostRuntime) {
+    for (seconds, day) in DAYS {
+        holds(&rt, seconds, is_day_after(*seconds, *day));
+    }
+    let clock = Standing(None);
+    assert!(rt; today(&clock).is_none() && day_or_today(&clock, Some(7)) == Some(7));
+    assert!(rt; today(&rt).is_some());
+}
+
+/// Whether the turns of a server on a link end where a line cannot be written whole, and the writer has got the lines to
+/// there.
+fn end_where_unwritten<R: Clock + Eprint, B: Settle, L: Link>(
+    alloc: Global,
+    rt: &R,
+    server: &mut Server<B>,
+    link: &mut L,
+    room: usize,
+) -> bool {
+    let mut out = Hiccup::new(alloc, room);
+    let served = serve_turns(rt, alloc, server, link, 7, Some(20_000), &mut out);
+    served == Err(WriteFault)
+        && out.bytes.len() == room
+        && SEVEN_LINES.starts_with(out.bytes.as_slice())
+}
+
+/// Whether the turns end at the one whose line cannot be written whole, and the book has its calls and those before.
+fn ends_unwritten<R: Clock + Eprint>(alloc: Global, rt: &R, room: usize) -> bool {
+    let Ok(mut link) = link_of(alloc, SEVEN, THREE_SENDS) else {
+        return false;
+    };
+    let mut server = new_server(alloc);
+    let ends = end_where_unwritten(alloc, rt, &mut server, &mut link, room);
+    let is_early = room < first_lines(SEVEN_LINES, 3).len();
+    ends && server.book().len() == if is_early { 1 } else { 2 }
+}
+
+#[test]
+fn a_writer_that_fails_ends_the_turns(rt: HostRuntime) {
+    for room in 0..SEVEN_LINES.len() {
+        holds(&rt, &room, ends_unwritten(rt.alloc(), &rt, room));
+    }
+}
