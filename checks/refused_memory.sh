@@ -2,7 +2,7 @@
 # Refuses the first request for memory of a test, then the second, and so on, until the test beside it, which
 # asks for the same memory and wants all of it, meets no refusal. After each refusal the server's run, or the
 # world, has to be that of the other deliveries or events, and the refused call of a book is made good by a
-# repeat. Some minutes.
+# repeat. Up to an hour.
 # Run it as: sh checks/refused_memory.sh
 set -eu
 cd "$(dirname "$0")/../crates"
