@@ -3,7 +3,7 @@ use Rattle.std.proofs.Common.{◌≡◌, ℕ, zero, suc, ◌+◌, ◌-◌, ◌<�
 use Rattle.std.specs.Prelude.{find, All, AllPairs, IfOk, Contains, count_by}
 use Rattle.std.specs.List.{range_with_len}
 use Rattle.std.specs.Option.{option_map}
-use Rattle.std.proofs.lemmas.Bool.{both_ways, cases_Bool, cases_eq, leb-true}
+use Rattle.std.proofs.lemmas.Bool.{both_ways, cases_Bool, cases_eq, leb-true, le-leb}
 use Rattle.std.proofs.lemmas.Option.{none-some}
 use Rattle.std.proofs.lemmas.List.Elements.{All-head, All-tail, All-push, All-weaker}
 use Rattle.std.proofs.lemmas.List.Quantifiers.{all_pairs_push}
@@ -30,7 +30,7 @@ use Rattle.s10_book.proofs.Marks.{one_range, all_at_pick}
 use Rattle.s10_book.proofs.Carried.{Contains-filter}
 use Rattle.s10_book.proofs.Taking.{drawn_on, row_of, last_here}
 use Rattle.std.proofs.lemmas.List.Kept.{AllPairs-filter}
-use Rattle.s10_book.proofs.Rows.{Ready, ready_next, last_other, last_outside}
+use Rattle.s10_book.proofs.Rows.{Ready, ready_next, last_other, last_outside, picks_here}
 
 split_count : (p : ℕ → Bool) (low n : ℕ) → count_by p (range_with_len low (suc n)) ≡ cond (p low) 1 0 + count_by p (range_with_len (low + 1) n)
 split_count p low n = sum_by-cons (λ s. cond (p s) 1 0) low (range_with_len (low + 1) n)
@@ -153,6 +153,10 @@ total_none (r ∷ rs) is day n days none =
       | inr f ↦ let here : free_in is day n r ≡ 0 = none_free_in is day n r days f in omega (arith, here, total_none rs is day n days (rw f at none))
     ]
 
+rest_none : (x : Id) (row : Option (List Id)) → option_map (λ xs. x ∷ xs) row ≡ None → row ≡ None
+rest_none x None is = refl
+rest_none x (Some xs) is = absurd (none-some _ (sym is))
+
 -- so many picks in a row fail only where fewer serials than that are free
 pub fewer_free : (made : Id → Issuance) (day n : ℕ) (rs : List Range) → ((x : Id) → (made x).id ≡ x) → ((x : Id) → (made x).day ≡ day) → 1 ≤ n → AllPairs Apart rs
     → (k : ℕ) (is : List Issuance) → Ready rs is → InDays is → All (λ i. i.day ≤ day) is → picks made day n rs is k ≡ None → free_serials is day n rs < k
@@ -171,7 +175,7 @@ fewer_free made day n rs same on pos pairs (suc k) is ready days upto e = at (fi
         next (is ++ made (id_at r (pick_of is r)) ∷ []) (ready_next rs is r (made (id_at r (pick_of is r))) pairs ready there id)
         (all_pairs_push (λ i j. i.day ≤ j.day) is (made (id_at r (pick_of is r))) days (λ q d lt. omega (arith, upto q d lt, today)))
         (All-push (λ i. i.day ≤ day) is (made (id_at r (pick_of is r))) upto (omega (arith, today)))
-        (rest_none (picks made day n rs (is ++ made (id_at r (pick_of is r)) ∷ []) k) e') in
+        (rest_none (id_at r (pick_of is r)) (picks made day n rs (is ++ made (id_at r (pick_of is r)) ∷ []) k) e') in
         let one : free_serials is day n rs ≤ free_serials (is ++ made (id_at r (pick_of is r)) ∷ []) day n rs + 1 =
         total_one rs is (made (id_at r (pick_of is r))) day n pairs ready today pos
         (λ s in_s lies.
@@ -180,10 +184,6 @@ fewer_free made day n rs same on pos pairs (suc k) is ready days upto e = at (fi
         subst P same_range (id, free)) in
         omega (arith, rest, one)
       where
-        rest_none : (u : Option (List Id)) → option_map (λ xs. id_at r (pick_of is r) ∷ xs) u ≡ None → u ≡ None
-        rest_none None is' = refl
-        rest_none (Some xs) is' = absurd (none-some _ (sym is'))
-
         lies_mine : (u : Range) → (made (id_at r (pick_of is r))).id ≡ id_at u (pick_of is u) → Contains rs u → lies_in u (made (id_at r (pick_of is r))).id ≡ true
         lies_mine u id' in_u = let P : Id → Type 0 = λ x. lies_in u x ≡ true in subst P (sym id') (lies_at u (pick_of is u) (record { low = (ready u in_u).low; high = (ready u in_u).high }))
 
@@ -202,10 +202,27 @@ few_free h t legal pos customer s c count day le is =
     (All-weaker (λ i. i.day ≤ day_of h) (λ i. i.day ≤ day) (λ i up. omega arith) (issues_of h) known.upto)
     (sym (row_of h customer s c day t.interval count) ∙ none)
 
+-- where the interval is none each pick is free
+free_at_once : (day : ℕ) (last : Option ℕ) → is_free_since day 0 last ≡ true
+free_at_once day None = refl
+free_at_once day (Some d) = le-leb 0 (day - d) (omega arith)
+
+all_given : (made : Id → Issuance) (day : ℕ) (r : Range) (rs : List Range) (is : List Issuance) (k : ℕ) → ¬ (picks made day 0 (r ∷ rs) is k ≡ None)
+all_given made day r rs is zero none = none-some [] (sym none)
+all_given made day r rs is (suc k) none =
+    all_given made day r rs (is ++ made (id_at r (pick_of is r)) ∷ []) k
+    (rest_none (id_at r (pick_of is r)) (picks made day 0 (r ∷ rs) (is ++ made (id_at r (pick_of is r)) ∷ []) k)
+    (sym (picks_here made day 0 r rs is k (free_at_once day (option_map (λ (i : Issuance). i.day) (last_issuance_of is (id_at r (pick_of is r)))))) ∙ none))
+
+some_interval : (made : Id → Issuance) (day n : ℕ) (rs : List Range) (is : List Issuance) (k : ℕ) → outcome_of_row day rs (picks made day n rs is k) ≡ NoneFree → 1 ≤ n
+some_interval made day n [] is k told = absurd cc
+some_interval made day zero (r ∷ rs) is k told = absurd (all_given made day r rs is k (no_row day (r ∷ rs) (picks made day 0 (r ∷ rs) is k) told))
+some_interval made day (suc n) (r ∷ rs) is k told = omega arith
+
 -- the same of what a call of a book answers
-pub few_told : (h : List Entry) (t : Terms) → IsLegal h t → 1 ≤ t.interval → (customer : ℕ) (service country : ℕ × ℕ) (count day : ℕ) → day_of h ≤ day → (result : Result Outcome BookFault) (s c : ℕ × ℕ) (k : ℕ)
+pub few_told : (h : List Entry) (t : Terms) → IsLegal h t → (customer : ℕ) (service country : ℕ × ℕ) (count day : ℕ) → day_of h ≤ day → (result : Result Outcome BookFault) (s c : ℕ × ℕ) (k : ℕ)
     → IfOk result (λ o. o ≡ draw_many_answer h customer service country count day t.interval) → DrawMany service country count ≡ DrawMany s c k → result ≡ Ok NoneFree → FewFree h customer s c k day t.interval
-few_told h t legal pos customer service country count day le result s c k answer same is =
+few_told h t legal customer service country count day le result s c k answer same is =
     let told : NoneFree ≡ draw_many_answer h customer service country count day t.interval =
     let P : Result Outcome BookFault → Type 0 = λ y. IfOk y (λ o. o ≡ draw_many_answer h customer service country count day t.interval) in subst P is answer in
     let es : service ≡ s = cc in
@@ -214,4 +231,6 @@ few_told h t legal pos customer service country count day le result s c k answer
     let f : ℕ × ℕ → Outcome = λ p. draw_many_answer h customer p country count day t.interval in
     let g : ℕ × ℕ → Outcome = λ p. draw_many_answer h customer s p count day t.interval in
     let m : ℕ → Outcome = λ n. draw_many_answer h customer s c n day t.interval in
-    few_free h t legal pos customer s c k day le (sym (told ∙ ap f es ∙ ap g ec ∙ ap m ek))
+    let none : draw_many_answer h customer s c k day t.interval ≡ NoneFree = sym (told ∙ ap f es ∙ ap g ec ∙ ap m ek) in
+    let row = ap (outcome_of_row day (ranges_open h customer s c)) (sym (row_of h customer s c day t.interval k)) ∙ none in
+    few_free h t legal (some_interval (drawn_on day) day t.interval (ranges_open h customer s c) (issues_of h) k row) customer s c k day le none

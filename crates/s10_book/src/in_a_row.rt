@@ -11,7 +11,7 @@ use crate::book::Book;
 use crate::book_fault::BookFault;
 use crate::picks::Picks;
 use s10_core::{Country, Id, Service};
-use s10_history::{Holding, Range, is_free};
+use s10_history::{Holding, Range, id_with, is_free};
 use s10_wire::{Count, Ids};
 
 // The identifier that the range gives behind so many picks of its own: none where each of its serials is among them, or
@@ -43,8 +43,8 @@ fn free_pick<B: Book>(
 }
 
 /// The identifiers that so many single Draws of the customer in a row on that day would give, in their order, or `None`
-/// where one of them would give none. Nothing is kept. Refused with Memory or Store where a call of the book was, with the
-/// same of the two.
+/// where one of them would give none. They are all that were asked for, whatever is under the book. Nothing is kept.
+/// Refused with Memory or Store where a call of the book was, with the same of the two.
 pub fn draws_in_a_row<B: Book>(
     book: &mut B,
     customer: u32,
@@ -56,8 +56,6 @@ pub fn draws_in_a_row<B: Book>(
     ensures faults { Counts result (B.faults book.old) (B.faults book.new) }
     ensures keeps { Keeps B.history B.terms B.honest book.old book.new }
     ensures answer { B.honest book.new → IfOk result (λ ids. ids ≡ picks_in_a_row (B.history book.old) customer service country day (B.terms book.old).interval count) }
-
-    // All that were asked for, whatever is under the book.
     ensures all { IfOk result (λ found. IfSome found (λ ids. length ids ≡ count)) }
 {
     let interval = book.settings().interval();
@@ -67,16 +65,11 @@ pub fn draws_in_a_row<B: Book>(
         service,
         country,
     };
-    let Some(first) = book.next_range(&held, 0)? else {
+    let Some(mut range) = book.next_range(&held, 0)? else {
         return Ok(None);
     };
-    let mut range = first;
     let mut issued = 0;
-    let mut picks = Picks::new(Id {
-        service,
-        serial: first.first,
-        country,
-    });
+    let mut picks = Picks::new(id_with(&range, range.first.value()));
     while picks.len() < wanted {
         if let Some(id) = free_pick(book, &range, issued, day, interval)? {
             picks.push(id);

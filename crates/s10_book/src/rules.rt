@@ -275,11 +275,7 @@ pub fn decide<B: Book>(book: &mut B, request: &Request, day: u32) -> Result<Outc
             service,
             country,
             count,
-        } => {
-            // At least 1, so an identifier is free once in a reply.
-            let _interval = book.settings().interval();
-            decide_draw_many(book, request.customer, service, country, count, day)
-        }
+        } => decide_draw_many(book, request.customer, service, country, count, day),
         Body::Void { id } => decide_void(book, request.customer, &id),
         Body::Query { id } => decide_query(book, request.customer, &id),
         Body::Withdraw { range } => decide_withdraw(book, request.customer, range),

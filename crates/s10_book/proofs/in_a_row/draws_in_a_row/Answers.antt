@@ -13,7 +13,7 @@ use Rattle.s10_book.proofs.in_a_row.draws_in_a_row.Goals as goal
 pub returns-in_default-clause-answer : goal.returns-in_default-clause-answer
 returns-in_default-clause-answer g c = λ h.
     let first = g.B.Book.history c.args.book.now in
-    let e : c.in_ok-first.field-0 ≡ find (above (is_open first c.args.customer c.args.service c.args.country) 0) (ranges_of first) = c.in_ok-first.ensures.answer h in
+    let e : c.in_ok-range.field-0 ≡ find (above (is_open first c.args.customer c.args.service c.args.country) 0) (ranges_of first) = c.in_ok-range.ensures.answer h in
     walked_nowhere first c.args.customer c.args.service c.args.country c.args.day _ c.args.count (omega (arith, c.value-wanted.ensures.value, c.value-wanted.ensures.in_range.0)) (sym e ∙ c.in_default.is)
 
 pub loop-held-init : goal.loop-held-init
@@ -21,17 +21,17 @@ loop-held-init g c =
     let first = g.B.Book.history c.args.book.now in
     let p = is_open first c.args.customer c.args.service c.args.country in
     record {
-      faults = c.in_ok-first.ensures.faults;
+      faults = c.in_ok-range.ensures.faults;
       keeps = c.next_range.ensures.keeps;
       interval = λ h. c.interval-interval.ensures.value ∙ ap (λ (t : Terms). t.interval) (c.settings.ensures (c.next_range.ensures.keeps.was_honest h));
       few = omega (arith, ap length c.new-picks.ensures);
       fewer = omega arith;
       walk = λ h.
           let h0 = c.next_range.ensures.keeps.was_honest h in
-          let e : c.in_ok-first.field-0 ≡ find (above (is_open first c.args.customer c.args.service c.args.country) 0) (ranges_of first) = c.in_ok-first.ensures.answer h in
-          let P : List Id → Type 0 = λ l. IsAt (ranges_of first) p (drawn_on c.args.day) c.args.day c.interval-interval.result (issues_of first) c.value-wanted.result c.in-Some.first 0 l in
+          let e : c.in_ok-range.field-0 ≡ find (above (is_open first c.args.customer c.args.service c.args.country) 0) (ranges_of first) = c.in_ok-range.ensures.answer h in
+          let P : List Id → Type 0 = λ l. IsAt (ranges_of first) p (drawn_on c.args.day) c.args.day c.interval-interval.result (issues_of first) c.value-wanted.result c.in-Some.range 0 l in
           subst P (sym c.new-picks.ensures)
-          (at_first (ranges_of first) p (drawn_on c.args.day) c.args.day c.interval-interval.result (issues_of first) c.value-wanted.result c.in-Some.first
+          (at_first (ranges_of first) p (drawn_on c.args.day) c.args.day c.interval-interval.result (issues_of first) c.value-wanted.result c.in-Some.range
           (given_legal first (g.B.Book.terms c.args.book.now) c.args.day c.interval-interval.result (g.met.B.Book.legal c.args.book.now h0) c.interval-interval.ensures.range.0)
           (sym e ∙ c.in-Some.is));
     }

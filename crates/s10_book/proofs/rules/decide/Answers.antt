@@ -1,5 +1,4 @@
-use Rattle.std.proofs.Common.{rules, ◌∙◌, ap, sym, arith}
-use Rattle.s10_history.specs.Settings.{Terms}
+use Rattle.std.proofs.Common.{rules, ◌∙◌, sym}
 use Rattle.s10_book.proofs.Fewer.{few_told}
 use Rattle.s10_book.proofs.Free.{nothing_free}
 use Rattle.s10_book.proofs.rules.decide.Goals as goal
@@ -13,9 +12,7 @@ returns-in-Draw-clause-none_free g c = λ h service country asked is.
 pub returns-in-DrawMany-clause-few_free : goal.returns-in-DrawMany-clause-few_free
 returns-in-DrawMany-clause-few_free g c = λ h service country count asked is.
     let first = c.decide_draw_many.ensures.keeps.was_honest h in
-    let t = g.B.Book.terms c.args.book.now in
-    let same = c.interval-interval.ensures.value ∙ ap (λ (u : Terms). u.interval) (c.settings.ensures first) in
-    few_told (g.B.Book.history c.args.book.now) t (g.met.B.Book.legal c.args.book.now first) (omega (arith, same, c.interval-interval.ensures.range.0)) c.args.request.now.customer c.in-DrawMany.service c.in-DrawMany.country c.in-DrawMany.count c.args.day (c.requires first)
+    few_told (g.B.Book.history c.args.book.now) (g.B.Book.terms c.args.book.now) (g.met.B.Book.legal c.args.book.now first) c.args.request.now.customer c.in-DrawMany.service c.in-DrawMany.country c.in-DrawMany.count c.args.day (c.requires first)
     c.decide_draw_many.result service country count (c.decide_draw_many.ensures.answer h) (sym c.in-DrawMany.is ∙ asked) is
 
 pub returns-in-Query-clause-faults : goal.returns-in-Query-clause-faults
