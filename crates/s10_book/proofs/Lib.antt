@@ -1,5 +1,6 @@
 pub mod Drawing
 pub mod Calls
+pub mod Failing
 pub mod Push
 pub mod Closing
 pub mod Fitting

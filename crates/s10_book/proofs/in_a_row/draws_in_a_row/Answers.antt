@@ -8,6 +8,7 @@ use Rattle.s10_history.specs.Settings.{Terms}
 use Rattle.s10_book.proofs.Calls.{Keeps-trans}
 use Rattle.s10_history.proofs.Numbering.{above}
 use Rattle.s10_book.proofs.Taking.{IsAt, drawn_on, given_legal, at_first, at_given, at_next, at_none_given, walked, walked_out, walked_nowhere}
+use Rattle.s10_book.proofs.Failing.{untold}
 use Rattle.s10_book.proofs.in_a_row.draws_in_a_row.Goals as goal
 
 pub returns-in_default-clause-answer : goal.returns-in_default-clause-answer
@@ -127,3 +128,54 @@ returns-clause-answer g c = λ h.
     (omega (arith, c.len.ensures, c.loop-held-test.false)) (c.loop-held.invariant.walk h)
     ∙ ap (λ k. draws_in_a_row first c.args.customer c.args.service c.args.country c.args.day c.interval-interval.result k) c.value-wanted.ensures.value
     ∙ ap (λ k. draws_in_a_row first c.args.customer c.args.service c.args.country c.args.day k c.args.count) (c.loop-held.invariant.interval h)
+
+pub returns-in_err-range-clause-keeps : goal.returns-in_err-range-clause-keeps
+returns-in_err-range-clause-keeps g c = c.next_range.ensures.keeps
+
+pub returns-in_err-range-clause-answer : goal.returns-in_err-range-clause-answer
+returns-in_err-range-clause-answer g c = λ h. untold _ _ c.from_residual.result c.from_residual.ensures.1
+
+pub returns-in_err-range-clause-all : goal.returns-in_err-range-clause-all
+returns-in_err-range-clause-all g c = untold _ _ c.from_residual.result c.from_residual.ensures.1
+
+pub returns-in_default-clause-faults : goal.returns-in_default-clause-faults
+returns-in_default-clause-faults g c = c.in_ok-range.ensures.faults
+
+pub returns-in_default-clause-keeps : goal.returns-in_default-clause-keeps
+returns-in_default-clause-keeps g c = c.next_range.ensures.keeps
+
+pub returns-in_default-clause-all : goal.returns-in_default-clause-all
+returns-in_default-clause-all g c = tt
+
+pub free_pick-requires : goal.free_pick-requires
+free_pick-requires g c = λ h. rw (c.loop-held.invariant.keeps.same_history h) ((c.loop-held.invariant.walk h).there)
+
+pub returns-in_err-id-clause-keeps : goal.returns-in_err-id-clause-keeps
+returns-in_err-id-clause-keeps g c = Keeps-trans c.loop-held.invariant.keeps c.free_pick.ensures.keeps
+
+pub returns-in_err-id-clause-answer : goal.returns-in_err-id-clause-answer
+returns-in_err-id-clause-answer g c = λ h. untold _ _ c.from_residual-in_err-id.result c.from_residual-in_err-id.ensures.1
+
+pub returns-in_err-id-clause-all : goal.returns-in_err-id-clause-all
+returns-in_err-id-clause-all g c = untold _ _ c.from_residual-in_err-id.result c.from_residual-in_err-id.ensures.1
+
+pub returns-in_err-next-clause-keeps : goal.returns-in_err-next-clause-keeps
+returns-in_err-next-clause-keeps g c = Keeps-trans c.loop-held.invariant.keeps (Keeps-trans c.free_pick.ensures.keeps c.next_range-in-loop-held.ensures.keeps)
+
+pub returns-in_err-next-clause-answer : goal.returns-in_err-next-clause-answer
+returns-in_err-next-clause-answer g c = λ h. untold _ _ c.from_residual-in_err-next.result c.from_residual-in_err-next.ensures.1
+
+pub returns-in_err-next-clause-all : goal.returns-in_err-next-clause-all
+returns-in_err-next-clause-all g c = untold _ _ c.from_residual-in_err-next.result c.from_residual-in_err-next.ensures.1
+
+pub returns-in_default-3-clause-faults : goal.returns-in_default-3-clause-faults
+returns-in_default-3-clause-faults g c = c.in_ok-next.ensures.faults ∙ c.in_ok-id.ensures.faults ∙ c.loop-held.invariant.faults
+
+pub returns-in_default-3-clause-keeps : goal.returns-in_default-3-clause-keeps
+returns-in_default-3-clause-keeps g c = Keeps-trans c.loop-held.invariant.keeps (Keeps-trans c.free_pick.ensures.keeps c.next_range-in-loop-held.ensures.keeps)
+
+pub returns-clause-faults : goal.returns-clause-faults
+returns-clause-faults g c = c.loop-held.invariant.faults
+
+pub returns-clause-keeps : goal.returns-clause-keeps
+returns-clause-keeps g c = c.loop-held.invariant.keeps

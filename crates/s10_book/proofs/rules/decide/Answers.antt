@@ -1,4 +1,4 @@
-use Rattle.std.proofs.Common.{rules, ◌∙◌, sym}
+use Rattle.std.proofs.Common.{◌∙◌, sym}
 use Rattle.s10_book.proofs.Fewer.{few_told}
 use Rattle.s10_book.proofs.Free.{nothing_free}
 use Rattle.s10_book.proofs.rules.decide.Goals as goal
@@ -16,4 +16,73 @@ returns-in-DrawMany-clause-few_free g c = λ h service country count asked is.
     c.decide_draw_many.result service country count (c.decide_draw_many.ensures.answer h) (sym c.in-DrawMany.is ∙ asked) is
 
 pub returns-in-Query-clause-faults : goal.returns-in-Query-clause-faults
-returns-in-Query-clause-faults c = search rules
+returns-in-Query-clause-faults g c = c.decide_query.ensures.faults
+
+pub returns-in-Grant-clause-faults : goal.returns-in-Grant-clause-faults
+returns-in-Grant-clause-faults g c = c.decide_grant.ensures.faults
+
+pub returns-in-Grant-clause-keeps : goal.returns-in-Grant-clause-keeps
+returns-in-Grant-clause-keeps g c = c.decide_grant.ensures.keeps
+
+pub returns-in-Grant-clause-answer : goal.returns-in-Grant-clause-answer
+returns-in-Grant-clause-answer g c = rw c.in-Grant.is c.decide_grant.ensures.answer
+
+pub returns-in-Grant-clause-fits : goal.returns-in-Grant-clause-fits
+returns-in-Grant-clause-fits g c = rw c.in-Grant.is c.decide_grant.ensures.fits
+
+pub returns-in-Draw-clause-faults : goal.returns-in-Draw-clause-faults
+returns-in-Draw-clause-faults g c = c.decide_draw.ensures.faults
+
+pub returns-in-Draw-clause-keeps : goal.returns-in-Draw-clause-keeps
+returns-in-Draw-clause-keeps g c = c.decide_draw.ensures.keeps
+
+pub returns-in-Draw-clause-answer : goal.returns-in-Draw-clause-answer
+returns-in-Draw-clause-answer g c = rw c.in-Draw.is c.decide_draw.ensures.answer
+
+pub returns-in-Draw-clause-fits : goal.returns-in-Draw-clause-fits
+returns-in-Draw-clause-fits g c = rw c.in-Draw.is c.decide_draw.ensures.fits
+
+pub returns-in-DrawMany-clause-faults : goal.returns-in-DrawMany-clause-faults
+returns-in-DrawMany-clause-faults g c = c.decide_draw_many.ensures.faults
+
+pub returns-in-DrawMany-clause-keeps : goal.returns-in-DrawMany-clause-keeps
+returns-in-DrawMany-clause-keeps g c = c.decide_draw_many.ensures.keeps
+
+pub returns-in-DrawMany-clause-answer : goal.returns-in-DrawMany-clause-answer
+returns-in-DrawMany-clause-answer g c = rw c.in-DrawMany.is c.decide_draw_many.ensures.answer
+
+pub returns-in-DrawMany-clause-fits : goal.returns-in-DrawMany-clause-fits
+returns-in-DrawMany-clause-fits g c = rw c.in-DrawMany.is c.decide_draw_many.ensures.fits
+
+pub returns-in-Void-clause-faults : goal.returns-in-Void-clause-faults
+returns-in-Void-clause-faults g c = c.decide_void.ensures.faults
+
+pub returns-in-Void-clause-keeps : goal.returns-in-Void-clause-keeps
+returns-in-Void-clause-keeps g c = c.decide_void.ensures.keeps
+
+pub returns-in-Void-clause-answer : goal.returns-in-Void-clause-answer
+returns-in-Void-clause-answer g c = rw c.in-Void.is c.decide_void.ensures.answer
+
+pub returns-in-Void-clause-fits : goal.returns-in-Void-clause-fits
+returns-in-Void-clause-fits g c = rw c.in-Void.is c.decide_void.ensures.fits
+
+pub returns-in-Query-clause-keeps : goal.returns-in-Query-clause-keeps
+returns-in-Query-clause-keeps g c = c.decide_query.ensures.keeps
+
+pub returns-in-Query-clause-answer : goal.returns-in-Query-clause-answer
+returns-in-Query-clause-answer g c = rw c.in-Query.is c.decide_query.ensures.answer
+
+pub returns-in-Query-clause-fits : goal.returns-in-Query-clause-fits
+returns-in-Query-clause-fits g c = rw c.in-Query.is c.decide_query.ensures.fits
+
+pub returns-in-Withdraw-clause-faults : goal.returns-in-Withdraw-clause-faults
+returns-in-Withdraw-clause-faults g c = c.decide_withdraw.ensures.faults
+
+pub returns-in-Withdraw-clause-keeps : goal.returns-in-Withdraw-clause-keeps
+returns-in-Withdraw-clause-keeps g c = c.decide_withdraw.ensures.keeps
+
+pub returns-in-Withdraw-clause-answer : goal.returns-in-Withdraw-clause-answer
+returns-in-Withdraw-clause-answer g c = rw c.in-Withdraw.is c.decide_withdraw.ensures.answer
+
+pub returns-in-Withdraw-clause-fits : goal.returns-in-Withdraw-clause-fits
+returns-in-Withdraw-clause-fits g c = rw c.in-Withdraw.is c.decide_withdraw.ensures.fits
