@@ -83,3 +83,6 @@ returns-clause-ok c = λ tables theirs it.
 
 pub returns-clause-indexed : goal.returns-clause-indexed
 returns-clause-indexed c = λ tables it. subst (λ (l : List Entry). Indexes c.into_index.result l) it.kept c.into_index.ensures.indexed
+
+pub returns-clause-err : goal.returns-clause-err
+returns-clause-err c = λ tables theirs it. tt
