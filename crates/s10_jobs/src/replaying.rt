@@ -56,11 +56,8 @@ pub fn replay_on<B: Book, R: Read, W: Write>(
                 };
                 count += 1;
             }
-            None => {
-                if !without_return(line).is_empty() {
-                    return Err(ReplayFault::Line(done + 1));
-                }
-            }
+            None if without_return(line).is_empty() => {}
+            None => return Err(ReplayFault::Line(done + 1)),
         }
     }
     match next_byte(input) {

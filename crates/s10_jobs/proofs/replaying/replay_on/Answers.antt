@@ -8,7 +8,7 @@ use Rattle.s10_jobs.specs.declared.line_reader.TheConstants.{LINE_ROOM}
 use Rattle.s10_jobs.specs.declared.line_reader.NextLine.TheVariants.{End, Whole, Long}
 use Rattle.s10_jobs.proofs.ReplayedLines.{at_start, one_more, one_empty, ends_at_end, ends_too_long, ends_refused, ends_stopped, ends_unread, ends_last, ends_one_too_many, not_empty, is_nothing}
 use Rattle.s10_jobs.proofs.replaying.replay_on.Goals as goal
-use Rattle.s10_jobs.proofs.replaying.replay_on.Goals.{in-Some+in-Ok-write_answer, in-None+else-not-is_empty}
+use Rattle.s10_jobs.proofs.replaying.replay_on.Goals.{in-Some+in-Ok-write_answer, in-None}
 
 pub loop-done-init : goal.loop-done-init
 loop-done-init g c = record {
@@ -38,14 +38,14 @@ returns-in-Long-clause-replayed g c = λ h.
     (g.R.Read.remaining c.args.input.now) (g.R.Read.remaining c.loop-done.input) (g.R.Read.remaining c.read_line.new.input) (g.W.Write.contents c.args.output.now) (g.W.Write.contents c.loop-done.output)
     c.read_line.new.buffer c.loop-done.done c.loop-done.count (c.loop-done.invariant.replayed h) read
 
-pub returns-then-not-is_empty-clause-replayed : goal.returns-then-not-is_empty-clause-replayed
-returns-then-not-is_empty-clause-replayed g c = λ h.
+pub returns-in-None-2-clause-replayed : goal.returns-in-None-2-clause-replayed
+returns-in-None-2-clause-replayed g c = λ h.
     let read : ReadsLine (g.R.Read.remaining c.loop-done.input) (g.R.Read.remaining c.read_line.new.input) c.read_line.new.buffer (Whole c.in-Whole.len) = rw c.in-Whole.is at c.in-Ok.ensures.line in
     let full : without_return (take c.in-Whole.len c.read_line.new.buffer) ≢ [] =
-    not_empty c.without_return.result.now (without_return (take c.in-Whole.len c.read_line.new.buffer)) c.is_empty.result c.without_return.ensures c.is_empty.ensures c.if-not-is_empty.true in
+    not_empty c.without_return.result.now (without_return (take c.in-Whole.len c.read_line.new.buffer)) c.is_empty.result c.without_return.ensures c.is_empty.ensures c.if-is_empty.false in
     ends_refused (g.B.Book.history c.args.server.now.book) (g.B.Book.history c.loop-done.server.book) (g.B.Book.terms c.args.server.now.book)
     (g.R.Read.remaining c.args.input.now) (g.R.Read.remaining c.loop-done.input) (g.R.Read.remaining c.read_line.new.input) (g.W.Write.contents c.args.output.now) (g.W.Write.contents c.loop-done.output)
-    c.read_line.new.buffer c.in-Whole.len c.loop-done.done c.loop-done.count (c.loop-done.invariant.replayed h) read (sym c.in-None.ensures) full
+    c.read_line.new.buffer c.in-Whole.len c.loop-done.done c.loop-done.count (c.loop-done.invariant.replayed h) read (sym c.in-None-2.ensures) full
 
 pub returns-in-Ok-None-clause-replayed : goal.returns-in-Ok-None-clause-replayed
 returns-in-Ok-None-clause-replayed g c = λ h.
@@ -87,13 +87,13 @@ loop-done-preserved g c =
             c.read_line.new.buffer c.in-Whole.len c.loop-done.done c.loop-done.count (dated w.in-Some.delivery) w.handle-answer.result
             (before.replayed h0) read c.read_line.ensures.taken short (omega arith) (sym w.in-Some.ensures) (subst Q w.bytes.ensures.bytes (subst P (before.same_terms h0) served)) w.in-Ok-write_answer.ensures;
       })
-      | in-None+else-not-is_empty w ↦ rw (w.server-is, w.output-is, w.count-is) (record {
+      | in-None w ↦ rw (w.server-is, w.output-is, w.count-is) (record {
         few = omega (arith, before.few);
         was_honest = before.was_honest;
         same_terms = before.same_terms;
         replayed = λ h.
             let nothing : without_return (take c.in-Whole.len c.read_line.new.buffer) ≡ [] =
-            is_nothing w.without_return.result.now (without_return (take c.in-Whole.len c.read_line.new.buffer)) w.is_empty.result w.without_return.ensures w.is_empty.ensures w.if-not-is_empty.false in
+            is_nothing w.without_return.result.now (without_return (take c.in-Whole.len c.read_line.new.buffer)) w.is_empty.result w.without_return.ensures w.is_empty.ensures w.if-is_empty.true in
             one_empty (g.B.Book.history c.args.server.now.book) (g.B.Book.history c.loop-done.server.book) (g.B.Book.terms c.args.server.now.book)
             (g.R.Read.remaining c.args.input.now) (g.R.Read.remaining c.loop-done.input) (g.R.Read.remaining c.read_line.new.input) (g.W.Write.contents c.args.output.now) (g.W.Write.contents c.loop-done.output)
             c.read_line.new.buffer c.in-Whole.len c.loop-done.done c.loop-done.count (before.replayed h) read c.read_line.ensures.taken short (omega arith) (sym w.in-None.ensures) nothing;
@@ -109,8 +109,8 @@ returns-in-End-clause-was_honest g c = c.loop-done.invariant.was_honest
 pub returns-in-Long-clause-was_honest : goal.returns-in-Long-clause-was_honest
 returns-in-Long-clause-was_honest g c = c.loop-done.invariant.was_honest
 
-pub returns-then-not-is_empty-clause-was_honest : goal.returns-then-not-is_empty-clause-was_honest
-returns-then-not-is_empty-clause-was_honest g c = c.loop-done.invariant.was_honest
+pub returns-in-None-2-clause-was_honest : goal.returns-in-None-2-clause-was_honest
+returns-in-None-2-clause-was_honest g c = c.loop-done.invariant.was_honest
 
 pub returns-in-Ok-None-clause-was_honest : goal.returns-in-Ok-None-clause-was_honest
 returns-in-Ok-None-clause-was_honest g c = c.loop-done.invariant.was_honest
