@@ -98,15 +98,8 @@ impl<S: Alter> SqlBook<S> {
             let fault = opening_fault(error);
             return Err(Refused { fault, connection });
         }
-        Ok(SqlBook {
-            alloc,
-            conn: connection,
-            settings,
-            faults: Faults::none(),
-            index: CallIndex::new(alloc),
-            pending: Vec::new(alloc),
-            answered: true,
-        })
+        let index = CallIndex::new(alloc);
+        Ok(SqlBook::over(alloc, connection, settings, index))
     }
 
     // The book over a connection whose tables stand for the calls of the index.

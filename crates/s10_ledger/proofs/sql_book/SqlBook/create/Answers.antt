@@ -1,40 +1,46 @@
-use Rattle.std.proofs.Common.{◌≡◌, ◌⊎◌, inl, inr, List, true, length, arith, refl, ap, sym, subst}
+use Rattle.std.proofs.Common.{◌≡◌, ◌⊎◌, inl, inr, List, length, arith, refl, ap, sym, subst}
+use Rattle.std.proofs.lemmas.List.{append-nil}
 use Rattle.sqlite_schema.specs.declared.schema.Schema.{Schema}
 use Rattle.sqlite.specs.Held.{state}
 use Rattle.s10_history.specs.declared.entry.Entry.{Entry}
 use Rattle.s10_history.specs.History.{day_of}
+use Rattle.s10_book.specs.Rules.{IsLegal}
 use Rattle.s10_index.specs.CallIndex.{Indexes}
 use Rattle.s10_rows.specs.declared.open_fault.OpenFault.{OpenFault}
 use Rattle.s10_rows.specs.declared.open_fault.OpenFault.TheVariants.{Memory, Store}
 use Rattle.s10_statements.specs.Making.{HasOneOfTheNames, IsMakingRefusal}
-use Rattle.s10_ledger.specs.Ledger.{IsLedger}
-use Rattle.s10_ledger.specs.Pending.{calls_of}
+use Rattle.s10_ledger.specs.Ledger.{IsLedger, history_in}
 use Rattle.s10_ledger.proofs.NewLedger.{no_history, new_ledger}
-use Rattle.s10_ledger.proofs.PendingLemmas.{sound_at_first, sound_is_honest}
 use Rattle.s10_ledger.proofs.sql_book.SqlBook.create.Goals as goal
 
 not_made : (s : Schema) (f : OpenFault) → ¬ HasOneOfTheNames s → (f ≡ Memory) ⊎ (f ≡ Store) → IsMakingRefusal s f
 not_made s f fresh (inl is) = subst (λ (x : OpenFault). IsMakingRefusal s x) (sym is) tt
 not_made s f fresh (inr is) = subst (λ (x : OpenFault). IsMakingRefusal s x) (sym is) fresh
 
-pub invariant_of-result : goal.invariant_of-result
-invariant_of-result g c =
+pub over-requires : goal.over-requires
+over-requires g c =
     let db = (state g.S.Store c.make_ledger.new.conn).now in
-    sound_at_first g.S.Store c.make_ledger.new.conn c.args.settings c.new.result c.new-2.result.items true c.new-2.ensures.items (omega (arith, ap length c.new.ensures.calls)) c.in_default-make_ledger.ensures.settled
-    c.in_default-make_ledger.ensures.opened
-    (λ clean opened. subst (λ (l : List Entry). IsLedger db c.args.settings (length l) (day_of l)) (sym c.new.ensures.calls)
-    (new_ledger db c.args.settings (c.in_default-make_ledger.ensures.all clean (c.refusal_of.ensures.none c.in_default.is))))
-    (λ clean opened. subst (Indexes c.new.result) (sym (no_history db c.args.settings (c.in_default-make_ledger.ensures.all clean (c.refusal_of.ensures.none c.in_default.is)))) c.new.ensures)
+    record {
+      few = omega (arith, ap length c.new-index.ensures.calls);
+      settled = c.in_default-make_ledger.ensures.settled;
+      ledger = λ clean opened. subst (λ (l : List Entry). IsLedger db c.args.settings (length l) (day_of l)) (sym c.new-index.ensures.calls)
+          (new_ledger db c.args.settings (c.in_default-make_ledger.ensures.all clean (c.refusal_of.ensures.none c.in_default.is)));
+      indexed = λ clean opened. subst (Indexes c.new-index.result) (sym (no_history db c.args.settings (c.in_default-make_ledger.ensures.all clean (c.refusal_of.ensures.none c.in_default.is)))) c.new-index.ensures;
+      opened = λ clean. c.in_default-make_ledger.ensures.opened clean;
+    }
 
 pub returns-clause-empty : goal.returns-clause-empty
-returns-clause-empty g c honest = no_history (state g.S.Store c.make_ledger.new.conn).now c.args.settings (c.in_default-make_ledger.ensures.all honest.clean (c.refusal_of.ensures.none c.in_default.is))
+returns-clause-empty g c = rw c.over.ensures (λ honest. no_history (state g.S.Store c.make_ledger.new.conn).now c.args.settings (c.in_default-make_ledger.ensures.all honest.clean (c.refusal_of.ensures.none c.in_default.is)))
 
 pub returns-clause-honest : goal.returns-clause-honest
-returns-clause-honest g c clean opened =
-    sound_is_honest g.S.Store c.make_ledger.new.conn c.args.settings c.new.result c.new-2.result.items true c.none.result (invariant_of-result g c) clean opened
+returns-clause-honest g c = rw c.over.ensures (λ clean opened.
+    let db = (state g.S.Store c.make_ledger.new.conn).now in
+    let it = subst (λ (l : List Entry). IsLedger db c.args.settings (length l) (day_of l)) (sym c.new-index.ensures.calls)
+    (new_ledger db c.args.settings (c.in_default-make_ledger.ensures.all clean (c.refusal_of.ensures.none c.in_default.is))) in
+    record { clean = clean; is_open = opened; ledger = it; legal = subst (λ (h : List Entry). IsLegal h c.args.settings) (sym (append-nil (history_in db))) it.legal })
 
 pub returns-clause-alone : goal.returns-clause-alone
-returns-clause-alone g c honest = c.in_default-make_ledger.ensures.alone honest.clean (c.refusal_of.ensures.none c.in_default.is)
+returns-clause-alone g c = rw c.over.ensures (λ honest. c.in_default-make_ledger.ensures.alone honest.clean (c.refusal_of.ensures.none c.in_default.is))
 
 pub returns-in-Err-clause-left_idle : goal.returns-in-Err-clause-left_idle
 returns-in-Err-clause-left_idle g c = c.make_ledger.ensures.settled.idle
@@ -49,16 +55,16 @@ pub returns-clause-fresh : goal.returns-clause-fresh
 returns-clause-fresh g c = c.refusal_of.ensures.fresh c.in_default.is
 
 pub returns-clause-idle : goal.returns-clause-idle
-returns-clause-idle g c = c.make_ledger.ensures.settled.idle
+returns-clause-idle g c = rw c.over.ensures c.make_ledger.ensures.settled.idle
 
 pub returns-clause-opened : goal.returns-clause-opened
-returns-clause-opened g c = λ clean. c.in_default-make_ledger.ensures.opened clean
+returns-clause-opened g c = rw c.over.ensures (λ clean. c.in_default-make_ledger.ensures.opened clean)
 
 pub returns-clause-was : goal.returns-clause-was
-returns-clause-was g c = c.make_ledger.ensures.was
+returns-clause-was g c = rw c.over.ensures c.make_ledger.ensures.was
 
 pub returns-clause-committed : goal.returns-clause-committed
-returns-clause-committed g c = λ honest. c.make_ledger.ensures.settled.committed honest.clean honest.is_open
+returns-clause-committed g c = rw c.over.ensures (λ honest. c.make_ledger.ensures.settled.committed honest.clean honest.is_open)
 
 pub returns-in-Some-clause-new : goal.returns-in-Some-clause-new
 returns-in-Some-clause-new g c = tt
@@ -133,10 +139,10 @@ pub returns-in-Some-clause-kept : goal.returns-in-Some-clause-kept
 returns-in-Some-clause-kept g c = λ clean opened. refl
 
 pub returns-clause-new : goal.returns-clause-new
-returns-clause-new g c = (refl, λ i. record { memory = c.none.ensures.memory i; store = c.none.ensures.store i })
+returns-clause-new g c = rw c.over.ensures (refl, refl)
 
 pub returns-clause-none_pending : goal.returns-clause-none_pending
-returns-clause-none_pending g c = ap calls_of c.new-2.ensures.items
+returns-clause-none_pending g c = rw c.over.ensures refl
 
 pub returns-clause-left_idle : goal.returns-clause-left_idle
 returns-clause-left_idle g c = tt
