@@ -6,6 +6,7 @@ pub mod AnswerLemmas
 pub mod ArrivalLemmas
 pub mod RowLemmas
 pub mod FoundLemmas
+pub mod ClosedReads
 pub mod PutLemmas
 pub mod WriteTexts
 pub mod KeepLemmas

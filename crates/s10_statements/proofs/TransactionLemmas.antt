@@ -18,6 +18,11 @@ end_was_open (Ok x) a b ok err opened = ok.1.was_open
 end_was_open (Err e) a b ok (inl failed) opened = failed.3.was_open opened
 end_was_open (Err e) a b ok (inr refused) opened = refused.2.0.was_open
 
+end_settled : {T : Type 0} (r : Result T Error) (a b : State) → IsTrue a.in_transaction → OnOk r (Ends a b) → IfErr r (FailsToCommit a b) → IsTrue b.is_open → b.committed ≡ b.now
+end_settled (Ok x) a b inside ok err opened = ok.1.committed_is ∙ sym ok.1.now_is
+end_settled (Err e) a b inside ok (inl failed) opened = let back = failed.3.undone opened in back.1 ∙ sym back.0
+end_settled (Err e) a b inside ok (inr refused) opened = absurd cc
+
 end_undone : {T : Type 0} (r : Result T Error) (a b : State) → IsTrue a.in_transaction → IfErr r (FailsToCommit a b) → IsTrue b.is_open → OnErr r (b.now ≡ a.committed)
 end_undone (Ok x) a b inside err opened = tt
 end_undone (Err e) a b inside (inl failed) opened = (failed.3.undone opened).0
@@ -58,3 +63,6 @@ module _ {S : Type 0} (g : Ghosts S) (old begun mid end : Held S) (is : begun �
     ended_now inside settled c opened = on_err_weaker r
         (λ back. back ∙ was_committed c (end_was_open r (state g mid) (state g end) (ok c) (err c) opened) ∙ settled (omega (arith, all_clean, c)) (ended_open c opened))
         (end_undone r (state g mid) (state g end) (inside (before c) begun_inside) (err c) opened)
+
+    pub ended_settled : end.in_transaction ≡ false → (IsClean g mid → IsTrue (state g begun).in_transaction → IsTrue (state g mid).in_transaction) → IsSettled g end
+    ended_settled idle inside = record { idle = idle; committed = λ c opened. end_settled r (state g mid) (state g end) (inside (before c) begun_inside) (ok c) (err c) opened }

@@ -1,4 +1,4 @@
-use Rattle.std.proofs.Common.{rules, ◌≡◌, arith, sym, subst, refl, ◌∙◌, [], IsTrue}
+use Rattle.std.proofs.Common.{◌≡◌, arith, sym, subst, refl, ◌∙◌, [], IsTrue}
 use Rattle.std.proofs.lemmas.Result.{IfOk-weaker}
 use Rattle.sqlite.specs.Effect.{Database}
 use Rattle.sqlite.specs.State.{HasCleanDisk}
@@ -6,8 +6,8 @@ use Rattle.sqlite.specs.Held.{state}
 use Rattle.s10_rows.specs.Tables.{no_rows}
 use Rattle.s10_schema.specs.Schema.{ledger_schema}
 use Rattle.s10_statements.specs.Shown.{StandsFor}
-use Rattle.s10_statements.proofs.StepLemmas.{Passed, clean_then, kept_then}
-use Rattle.s10_statements.proofs.TransactionLemmas.{all_clean, ended_open}
+use Rattle.s10_statements.proofs.StepLemmas.{Passed, clean_then, inside_then, kept_then}
+use Rattle.s10_statements.proofs.TransactionLemmas.{all_clean, ended_open, ended_settled}
 use Rattle.s10_statements.proofs.making.make_ledger.Goals as goal
 
 pub returns-clause-all : goal.returns-clause-all
@@ -42,7 +42,13 @@ returns-clause-alone g c clean none =
     rw same out
 
 pub returns-clause-settled : goal.returns-clause-settled
-returns-clause-settled g c = search rules
+returns-clause-settled g c =
+    let same = c.conn-2-1.given.1 (sym (c.put_head.ensures.same_reference ∙ c.make_tables.ensures.same_reference ∙ c.transaction-tx.ensures.same_reference)) in
+    let made : Passed (state g.S.Store c.transaction-tx.result.conn.now) (state g.S.Store c.make_tables.new.tx.conn.now) = record { clean = c.make_tables.ensures.clean; inside = c.in_ok-make_tables.ensures.inside; kept = c.make_tables.ensures.kept } in
+    let stays = clean_then (state g.S.Store c.put_head.new.tx.conn.now) made c.put_head.ensures.clean in
+    let kept = kept_then (state g.S.Store c.put_head.new.tx.conn.now) made c.put_head.ensures.clean c.put_head.ensures.kept in
+    rw same (ended_settled g.S.Store c.args.conn.now c.transaction-tx.result.conn.now c.put_head.new.tx.conn.now c.commit.new.self.0 c.transaction-tx.ensures.begun stays kept c.commit.ensures.survives.clean c.commit.result c.commit.ensures.ok c.commit.ensures.err c.commit.ensures.ended
+    (λ clean inside. c.in_ok-put_head.ensures.inside clean (inside_then (state g.S.Store c.put_head.new.tx.conn.now) made c.put_head.ensures.clean clean inside)))
 
 pub returns-clause-opened : goal.returns-clause-opened
 returns-clause-opened g c =

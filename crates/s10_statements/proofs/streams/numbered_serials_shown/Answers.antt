@@ -1,4 +1,4 @@
-use Rattle.std.proofs.Common.{rules, ◌≡◌, inl, [], List, Option, Some, None, map, refl, sym, ap, subst, ◌∙◌, All, IsTrue, arith}
+use Rattle.std.proofs.Common.{◌≡◌, inl, [], List, Option, Some, None, map, refl, sym, ap, subst, ◌∙◌, All, IsTrue, arith}
 use Rattle.std.proofs.lemmas.Result.{err_from_is_err_and}
 use Rattle.std.proofs.lemmas.List.Elements.{All-push}
 use Rattle.sqlite_trees.specs.View.{is_int}
@@ -33,7 +33,7 @@ returns-in_default-clause-rows g c = λ clean has.
     let none : row_if c.advance.new.self.has_row now ≡ None = sym (rw c.in_default.is at c.get.ensures) in
     let it = ended g.S.Store c.args.sql.now [] c.requires.plain (λ (rows : List Row). (map shown_serial c.rows.serials.items ≡ map serial_front rows) × All (λ row. IsTrue (is_int (column row 7))) rows) c.args.conn.now c.rows.shown.conn.now now c.rows.invariant.so_far moved.mode moved.survives
     (λ sure. subst (λ (r : Option Row). Advances g.S.Store c.rows.shown.conn.now now r) none (moved.ok sure)) late has in
-    search rules
+    rw same (it.0, it.1, it.2.0, it.2.1)
 
 pub rows-preserved : goal.rows-preserved
 rows-preserved g c =
