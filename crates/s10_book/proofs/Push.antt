@@ -1,5 +1,5 @@
 -- One more call at the end of a legal history.
-use Rattle.std.proofs.Common.{◌≡◌, ℕ, zero, suc, ◌+◌, ◌≤◌, Bool, true, false, cond, eqb, List, [], ◌∷◌, ◌++◌, Some, None, refl, sym, ap, ◌⊎◌, inl, inr, arith, get_or, take, length-append}
+use Rattle.std.proofs.Common.{◌≡◌, ℕ, zero, suc, ◌≤◌, Bool, true, false, cond, eqb, List, [], ◌∷◌, ◌++◌, Some, None, refl, sym, ap, ◌⊎◌, inl, inr, arith, get_or, take, length-append}
 use Rattle.std.specs.Prelude.{find, fold, All, AllPairs, IsTrue, slice_get}
 use Rattle.std.proofs.lemmas.Bool.{both_ways, eqb-true, and_parts, eq-eqb, and_from}
 use Rattle.std.proofs.lemmas.Option.{none-some, same_Some}
