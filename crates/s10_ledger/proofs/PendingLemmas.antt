@@ -19,6 +19,7 @@ use Rattle.s10_history.specs.Settings.{Terms}
 use Rattle.s10_history.specs.History.{day_of}
 use Rattle.s10_book.specs.Rules.{IsLegal, MayFollow}
 use Rattle.s10_book.specs.declared.faults.Faults.{Faults}
+use Rattle.s10_book.specs.BookFault.{no_faults}
 use Rattle.s10_book.proofs.Push.{IsLegal-push}
 use Rattle.s10_index.specs.declared.call_index.CallIndex.{CallIndex}
 use Rattle.s10_index.specs.CallIndex.{Indexes}
@@ -119,6 +120,15 @@ sound_at_first g conn t index ws answered none few settled opened ledger indexed
   ledger = λ clean is_open. subst (λ (es : List Entry). IsLedger (state g conn).now t (length es) (day_of es)) (sym (all_settled index.entries.items)) (ledger clean is_open);
   followed = λ clean is_open. nothing_pending (state g conn).now t index (indexed clean is_open) (ledger clean is_open).legal;
 })
+
+-- what a new book is
+pub ledger_at_first : {S : Type 0} (conn : Held S) (t : Terms) (index : CallIndex) (ws : List CallWrite) (faults : Faults) → ws ≡ [] → faults.memory ≡ 0 → faults.store ≡ 0
+    → ledger_of conn t index ws faults ≡ record { conn = conn; terms = t; len = length index.entries.items; day = day_of index.entries.items; faults = no_faults; pending = [] }
+ledger_at_first conn t index ws faults nothing memory store =
+    let counted : (m s : ℕ) → m ≡ 0 → s ≡ 0 → ledger_of conn t index [] (record { memory = m; store = s }) ≡ ledger_of conn t index [] no_faults = λ m s p q. rw (p, q) refl in
+    subst (λ (v : List CallWrite). ledger_of conn t index v faults ≡ record { conn = conn; terms = t; len = length index.entries.items; day = day_of index.entries.items; faults = no_faults; pending = [] }) (sym nothing)
+    (counted faults.memory faults.store memory store
+    ∙ ap (λ (es : List Entry). record { conn = conn; terms = t; len = length es; day = day_of es; faults = no_faults; pending = [] }) (all_settled index.entries.items))
 
 -- after a read
 pub sound_after_read : {S : Type 0} (g : Ghosts S) (old new : Held S) (t : Terms) (index : CallIndex) (ws : List CallWrite) (before after : Bool) → IsSound g old t index ws before → Leaves g old new

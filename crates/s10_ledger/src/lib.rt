@@ -8,7 +8,6 @@ mod keeping;
 mod lookups;
 mod opening;
 mod refused;
-mod settling;
 mod sql_book;
 
 pub use refused::Refused;

@@ -10,7 +10,7 @@ use crate::faults::opening_fault;
 use crate::keeping::{hold_call, is_pending, write_calls};
 use crate::lookups::{ask, usage_in};
 use crate::refused::Refused;
-use s10_book::{Book, BookFault, Faults};
+use s10_book::{Book, BookFault, Faults, Settle};
 use s10_core::Id;
 use s10_history::{Block, Candidate, Entry, Holding, Issue, Range, Settings, Usage};
 use s10_index::CallIndex;
@@ -251,30 +251,6 @@ impl<S: Alter> SqlBook<S> {
         counted(&mut self.faults, written)
     }
 
-    // Settles all calls.
-    pub(crate) fn settle_all(&mut self) -> Result<(), BookFault>
-        ensures faults { Counts result self.old.faults self.new.faults }
-        ensures keeps { Keeps (history_of S.Store) (λ b. b.terms) (IsHonest S.Store) self.old self.new }
-        ensures opened { HasCleanDisk (state S.Store self.new.conn) → OnOk result (IsTrue (state S.Store self.new.conn).is_open) }
-        ensures done { IsHonest S.Store self.new → OnOk result (settled_of S.Store self.new ≡ history_of S.Store self.new) }
-        ensures left { IsHonest S.Store self.new → OnErr result (settled_of S.Store self.new ≡ settled_of S.Store self.old) }
-        ensures none_pending { OnOk result (self.new.pending ≡ []) }
-        ensures crash { IsHonest S.Store self.old → HasCleanDisk (state S.Store self.new.conn) → (db : Trees) → (state S.Store self.new.conn).may_leave db
-            → (db ≡ (state S.Store self.old.conn).now.trees) ⊎ IsSettledIn S.Store self.old db }
-    {
-        if self.pending.is_empty() {
-            return self.ask_again();
-        }
-        self.write_pending()
-    }
-
-    // Whether a call of that key is pending.
-    pub(crate) fn has_pending(&self, customer: u32, number: u32) -> bool
-        ensures { result ≡ list_any (has_key customer number) self.now.pending }
-    {
-        is_pending(&self.pending, customer, number)
-    }
-
     // Settles where no more calls may be pending, and else asks the connection as the reads do.
     fn make_room(&mut self) -> Result<(), BookFault>
         ensures faults { Counts result self.old.faults self.new.faults }
@@ -286,7 +262,7 @@ impl<S: Alter> SqlBook<S> {
             → (db ≡ (state S.Store self.old.conn).now.trees) ⊎ IsSettledIn S.Store self.old db }
     {
         if self.pending.len() >= MOST_PENDING {
-            return self.settle_all();
+            return self.settle();
         }
         self.ask_again()
     }
@@ -322,6 +298,38 @@ impl<S: Alter> SqlBook<S> {
         let answered = found.is_ok();
         self.answered = answered;
         counted(&mut self.faults, found)
+    }
+}
+
+impl<S: Alter> Settle for SqlBook<S> {
+    ghost use Rattle.std.specs.Prelude.{◌⊎◌, IsTrue, OnErr, OnOk, refl};
+    ghost use Rattle.sqlite_trees.specs.Tree.{Trees};
+    ghost use Rattle.sqlite.specs.State.{HasCleanDisk};
+    ghost use Rattle.s10_book.specs.Book.{Keeps};
+    ghost use Rattle.s10_ledger.specs.Ledger.{IsSettledIn, history_of, settled_of};
+
+    ghost settled = { settled_of S.Store };
+
+    ghost first = { λ book honest. (book.pending, refl) };
+
+    fn settle(&mut self) -> Result<(), BookFault>
+        ensures faults { Counts result self.old.faults self.new.faults }
+        ensures keeps { Keeps (history_of S.Store) (λ b. b.terms) (IsHonest S.Store) self.old self.new }
+        ensures opened { HasCleanDisk (state S.Store self.new.conn) → OnOk result (IsTrue (state S.Store self.new.conn).is_open) }
+        ensures done { IsHonest S.Store self.new → OnOk result (settled_of S.Store self.new ≡ history_of S.Store self.new) }
+        ensures left { IsHonest S.Store self.new → OnErr result (settled_of S.Store self.new ≡ settled_of S.Store self.old) }
+        ensures none_pending { OnOk result (self.new.pending ≡ []) }
+        ensures crash { IsHonest S.Store self.old → HasCleanDisk (state S.Store self.new.conn) → (db : Trees) → (state S.Store self.new.conn).may_leave db
+            → (db ≡ (state S.Store self.old.conn).now.trees) ⊎ IsSettledIn S.Store self.old db }
+    {
+        if self.pending.is_empty() {
+            return self.ask_again();
+        }
+        self.write_pending()
+    }
+
+    fn is_settled(&self, customer: u32, number: u32) -> bool {
+        !is_pending(&self.pending, customer, number)
     }
 }
 
@@ -487,7 +495,7 @@ impl<S: Alter> Book for SqlBook<S> {
         ensures opened { HasCleanDisk (state S.Store self.new.conn) → OnOk result (IsTrue (state S.Store self.new.conn).is_open) }
         ensures answer { IsHonest S.Store self.new → IfOk result (λ u. u ≡ usage_of (history_of S.Store self.old) range.now day self.old.terms.interval) }
     {
-        if let Err(fault) = self.settle_all() {
+        if let Err(fault) = self.settle() {
             return Err(fault);
         }
         self.usage_settled(range, day)

@@ -28,7 +28,7 @@ pub returns-clause-few : goal.returns-clause-few
 returns-clause-few c = λ few. omega (arith, ap length (returns-clause-calls c), length-append c.args.index.now.entries.items (c.args.entry.now ∷ []), ap length c.calls.ensures)
 
 pub returns-clause-followed : goal.returns-clause-followed
-returns-clause-followed c = search rules
+returns-clause-followed c = λ h t legal follows indexed. c.follow.ensures.followed h t legal follows (c.reserve.ensures.same h indexed)
 
 pub returns-then-held-limit-clause-few : goal.returns-then-held-limit-clause-few
 returns-then-held-limit-clause-few c = λ few. few

@@ -6,16 +6,16 @@ pub returns-clause-room : goal.returns-clause-room
 returns-clause-room c = grind (arith, common_steps)
 
 pub returns-then-len-ge-MOST_PENDING-clause-faults : goal.returns-then-len-ge-MOST_PENDING-clause-faults
-returns-then-len-ge-MOST_PENDING-clause-faults g c = c.settle_all.ensures.faults
+returns-then-len-ge-MOST_PENDING-clause-faults g c = c.settle.ensures.faults
 
 pub returns-then-len-ge-MOST_PENDING-clause-keeps : goal.returns-then-len-ge-MOST_PENDING-clause-keeps
-returns-then-len-ge-MOST_PENDING-clause-keeps g c = c.settle_all.ensures.keeps
+returns-then-len-ge-MOST_PENDING-clause-keeps g c = c.settle.ensures.keeps
 
 pub returns-then-len-ge-MOST_PENDING-clause-opened : goal.returns-then-len-ge-MOST_PENDING-clause-opened
-returns-then-len-ge-MOST_PENDING-clause-opened g c = c.settle_all.ensures.opened
+returns-then-len-ge-MOST_PENDING-clause-opened g c = c.settle.ensures.opened
 
 pub returns-then-len-ge-MOST_PENDING-clause-crash : goal.returns-then-len-ge-MOST_PENDING-clause-crash
-returns-then-len-ge-MOST_PENDING-clause-crash g c = c.settle_all.ensures.crash
+returns-then-len-ge-MOST_PENDING-clause-crash g c = c.settle.ensures.crash
 
 pub returns-clause-faults : goal.returns-clause-faults
 returns-clause-faults g c = c.ask_again.ensures.faults

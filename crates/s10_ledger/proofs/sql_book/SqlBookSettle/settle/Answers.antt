@@ -6,7 +6,7 @@ use Rattle.sqlite_trees.specs.declared.store.Store.{Ghosts}
 use Rattle.s10_rows.specs.declared.call_write.CallWrite.{CallWrite}
 use Rattle.s10_ledger.specs.Ledger.{Ledger, history_in, history_of, settled_of}
 use Rattle.s10_ledger.specs.Pending.{calls_of}
-use Rattle.s10_ledger.proofs.sql_book.SqlBook.settle_all.Goals as goal
+use Rattle.s10_ledger.proofs.sql_book.SqlBookSettle.settle.Goals as goal
 
 given : {T E : Type 0} (r : Result T E) (P : Type 0) → P → OnOk r P
 given (Ok x) P p = p
