@@ -1,11 +1,12 @@
 //! The rows of a ledger are compared with those that its calls make.
 
-ghost use Rattle.std.specs.Prelude.{◌≡◌, ◌≤◌, ◌↔◌, length, All, IfOk, IfErr, IsTrue};
+ghost use Rattle.std.specs.Prelude.{◌≡◌, ◌≤◌, ◌↔◌, pos, length, All, IfOk, IfErr, OnOk, IsTrue};
 ghost use Rattle.s10_history.specs.declared.settings.TheConstants.{GREATEST_LIMIT};
+ghost use Rattle.s10_history.specs.Settings.{Terms};
 ghost use Rattle.s10_index.specs.CallIndex.{Indexes};
 ghost use Rattle.s10_rows.specs.Tables.{Tables, HaveSameRows, range_rows, serial_rows, closed_rows};
-ghost use Rattle.s10_replay.specs.RightRows.{kept_of};
-ghost use Rattle.s10_replay.specs.Verdict.{IsWhole, IsRefusal};
+ghost use Rattle.s10_replay.specs.RightRows.{AreRight, kept_of};
+ghost use Rattle.s10_replay.specs.Verdict.{AreMade, IsHead, IsWhole, IsRefusal};
 ghost use Rattle.s10_rows.specs.Selected.{IsCall};
 ghost use Rattle.s10_index.specs.Remade.{IsRemade, AreTheirs};
 
@@ -50,6 +51,22 @@ fn has_closed(alloc: Global, book: &IndexedBook, rows: Vec<ClosedRow>) -> Result
     Ok(same_closed(&made, rows))
 }
 
+// Compares the rows with those that the calls of the book make. Refused with Damaged(0) where they differ, and with Memory.
+fn compare_rows(alloc: Global, book: &IndexedBook, rows: MadeRows) -> Result<(), OpenFault>
+    ensures ok { (tables : Tables) (t : Terms) → AreTheirs tables rows → AreRight t tables.calls → book.now.index.entries.items ≡ kept_of tables.calls → OnOk result (AreMade tables) }
+    ensures err { (tables : Tables) (t : Terms) → AreTheirs tables rows → IsHead tables.heads (pos 1) t → AreRight t tables.calls → book.now.index.entries.items ≡ kept_of tables.calls
+        → IfErr result (IsRefusal tables) }
+{
+    let ranges = has_ranges(alloc, book, rows.ranges)?;
+    let serials = has_serials(alloc, book, rows.serials)?;
+    let closed = has_closed(alloc, book, rows.closed)?;
+    if ranges && serials && closed {
+        Ok(())
+    } else {
+        Err(OpenFault::Damaged(0))
+    }
+}
+
 /// What is found of a ledger whose calls were done again, by the rows of the tables that they make, and the index of its
 /// calls. Refused with Damaged(0) where another row is there, and with Memory.
 pub fn verdict(
@@ -63,19 +80,6 @@ pub fn verdict(
     ensures err { (tables : Tables) → AreTheirs tables rows → IsRemade tables.heads tables.calls made → IfErr result (IsRefusal tables) }
 {
     let Remade { book, opened } = made;
-    let MadeRows {
-        ranges,
-        serials,
-        closed,
-    } = rows;
-    if !has_ranges(alloc, &book, ranges)? {
-        return Err(OpenFault::Damaged(0));
-    }
-    if !has_serials(alloc, &book, serials)? {
-        return Err(OpenFault::Damaged(0));
-    }
-    if !has_closed(alloc, &book, closed)? {
-        return Err(OpenFault::Damaged(0));
-    }
+    compare_rows(alloc, &book, rows)?;
     Ok((opened, book.into_index()))
 }
