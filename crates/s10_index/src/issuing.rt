@@ -1,12 +1,12 @@
 //! The rows that the issues of a call make.
 
-ghost use Rattle.std.specs.Prelude.{◌≡◌, ◌≢◌, ℕ, ◌+◌, ◌++◌, ◌∷◌, [], false, List, length, take, slice_get, All, Err, Some, IfOk, IfErr, IsOk};
+ghost use Rattle.std.specs.Prelude.{◌≡◌, ◌≢◌, ℕ, ◌+◌, ◌<◌, ◌++◌, ◌∷◌, [], false, List, length, take, slice_get, All, Err, Some, IfOk, IfErr, IsOk, OnOk};
 ghost use Rattle.s10_wire.specs.declared.outcome.Outcome.TheVariants.{Granted, Voided};
 ghost use Rattle.s10_history.specs.declared.entry.Entry.{Entry};
 ghost use Rattle.s10_book.specs.declared.book_fault.BookFault.TheVariants.{Full};
 ghost use Rattle.s10_history.specs.Settings.{Terms};
 ghost use Rattle.s10_book.specs.Rules.{IsLegal, MayFollow};
-ghost use Rattle.s10_history.specs.Issues.{id_at, is_issued, issues_at};
+ghost use Rattle.s10_history.specs.Issues.{carried_by, id_at, is_issued, issues_at};
 ghost use Rattle.s10_ranges.specs.Mirror.{Mirrors};
 ghost use Rattle.s10_rows.specs.declared.range_write.RangeWrite.{RangeWrite};
 ghost use Rattle.s10_rows.specs.declared.serial_write.SerialWrite.{SerialWrite};
@@ -78,6 +78,28 @@ fn issue_made(
     Ok(issue_rows(&range, issued, issuance))
 }
 
+// Adds what the issue at a place makes. Refused by want of memory, and with a fault of the store where the call has no issue
+// there or no range has its identifier.
+fn add_issue(
+    made: &mut Made,
+    ranges: &Ranges,
+    arrival: u32,
+    entry: &Entry,
+    place: usize,
+) -> Result<(), BookFault>
+    ensures fault { result ≢ Err Full }
+    ensures done { (h : List Entry) (t : Terms) → IsLegal h t → MayFollow h t entry.now → Mirrors ranges.now h → place < length (carried_by entry.now.outcome) → IfErr result (λ f. f ≡ BookFault.Memory) }
+    ensures answer { (h : List Entry) (t : Terms) → IsLegal h t → MayFollow h t entry.now → All IsCall h → IsCall entry.now → Mirrors ranges.now h → arrival ≡ length h + 1
+        → IssuesMake h entry.now place made.old.ranges.items made.old.serials.items → OnOk result (IssuesMake h entry.now (place + 1) made.new.ranges.items made.new.serials.items) }
+{
+    let Some(issuance) = entry.issue(arrival, place) else {
+        return Err(BookFault::Store);
+    };
+    let (mark, row) = issue_made(ranges, arrival, entry, place, &issuance)?;
+    made.add_range(mark)?;
+    made.add_serial(row)
+}
+
 // What the issues of a call that was no Done Grant and no Done Void make, one behind another. Refused by want of memory, and
 // with a fault of the store where no range has the identifier of one.
 pub(crate) fn issues_made(
@@ -93,12 +115,7 @@ pub(crate) fn issues_made(
 {
     let mut made = Made::new(alloc);
     for place in 0..entry.issued() {
-        let Some(issuance) = entry.issue(arrival, place) else {
-            return Err(BookFault::Store);
-        };
-        let (mark, row) = issue_made(ranges, arrival, entry, place, &issuance)?;
-        made.add_range(mark)?;
-        made.add_serial(row)?;
+        add_issue(&mut made, ranges, arrival, entry, place)?;
     }
     Ok(made)
 }

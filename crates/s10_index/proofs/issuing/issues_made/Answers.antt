@@ -1,10 +1,9 @@
-use Rattle.std.proofs.Common.{◌≡◌, ◌+◌, ◌++◌, ◌∷◌, [], ◌∙◌, List, length, sym, ap, arith, rules, None}
+use Rattle.std.proofs.Common.{◌≡◌, ◌+◌, length, arith, rules, None}
 use Rattle.std.specs.Prelude.{slice_get}
 use Rattle.std.proofs.lemmas.List.{length-map}
 use Rattle.std.proofs.lemmas.Option.{slice_get_past}
 use Rattle.s10_history.specs.Issues.{carried_by, issues_at}
 use Rattle.s10_book.proofs.Carried.{made_by}
-use Rattle.s10_rows.specs.declared.serial_write.SerialWrite.{SerialWrite}
 use Rattle.s10_replay.proofs.IssueRows.{all_make}
 use Rattle.s10_index.proofs.issuing.issues_made.Goals as goal
 
@@ -12,10 +11,7 @@ pub loop-place-init : goal.loop-place-init
 loop-place-init c = search rules
 
 pub loop-place-preserved : goal.loop-place-preserved
-loop-place-preserved c h t legal follows calls call m arrival =
-    let made = c.loop-place.made in
-    let more = c.in_ok-mark.ensures.answer h t made.ranges.items made.serials.items legal follows calls call m arrival (sym c.issue.ensures ∙ c.in-Some.is) (c.loop-place.invariant h t legal follows calls call m arrival) in
-    rw (c.add_serial.ensures.ranges ∙ c.in_ok-add_range.ensures.ranges, c.in_ok-add_serial.ensures.serials ∙ ap (λ (l : List SerialWrite). l ++ c.in_ok-mark.row ∷ []) c.add_range.ensures.serials) more
+loop-place-preserved c h t legal follows calls call m arrival = c.in_ok-add_issue.ensures.answer h t legal follows calls call m arrival (c.loop-place.invariant h t legal follows calls call m arrival)
 
 pub returns-clause-answer : goal.returns-clause-answer
 returns-clause-answer c h t legal follows calls call m arrival not_granted not_voided =
