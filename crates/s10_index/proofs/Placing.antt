@@ -1,14 +1,14 @@
 -- The place of the first call that passes.
-use Rattle.std.proofs.Common.{◌≡◌, ◌∙◌, ℕ, suc, ◌+◌, ◌-◌, ◌≤◌, Bool, true, false, cond, eqb, List, [], ◌∷◌, ◌++◌, Option, Some, None, length, refl, sym, ap, ap₂, subst, arith}
-use Rattle.std.specs.Prelude.{find, slice_get, All}
+use Rattle.std.proofs.Common.{◌≡◌, ◌∙◌, ℕ, suc, ◌+◌, ◌-◌, ◌≤◌, Bool, true, false, cond, eqb, List, [], ◌∷◌, ◌++◌, Option, Some, None, length, refl, sym, ap, ap₂, subst, inl, inr, arith}
+use Rattle.std.specs.Prelude.{find, slice_get, All, Contains, IfSome}
 use Rattle.std.specs.List.{position_from}
 use Rattle.std.specs.Option.{option_map}
 use Rattle.std.proofs.lemmas.Bool.{eqb-true, eq-eqb, and_parts, and_from}
-use Rattle.std.proofs.lemmas.Option.{none-some, same_Some}
+use Rattle.std.proofs.lemmas.Option.{none-some, same_Some, slice_get_cases}
 use Rattle.s10_core.specs.declared.id.Id.{Id}
 use Rattle.s10_history.specs.declared.entry.Entry.{Entry}
 use Rattle.s10_history.specs.declared.issue.Issue.{Issue}
-use Rattle.std.proofs.lemmas.List.Elements.{All-nil, All-push, All-weaker}
+use Rattle.std.proofs.lemmas.List.Elements.{All-nil, All-push, All-weaker, Contains-get_or}
 use Rattle.s10_history.specs.declared.issuance.Issuance.{Issuance}
 use Rattle.s10_history.specs.Settings.{Terms}
 use Rattle.s10_history.specs.History.{has_key, entry_with_key}
@@ -125,3 +125,11 @@ last_placed h t x known found legal is at = by (last_issuance_of (issues_of h) x
         let same : i ≡ record { id = x; day = i.day; customer = i.customer; number = i.number; arrival = it.0.0 + 1 } = ap₂ (λ (y : Id) (n : ℕ). record i { id = y; arrival = n }) it.1 it.0.2 in
         let here : Known (told h x i) = λ stands. (it.0.0, stands ∙ it.0.1, omega (arith, made.0.1, it.0.2), last ∙ ap Some same) in
         subst Known (same_Some (told h x i) known e) here at
+
+-- what stands at a place is among all
+pub placed_among : (xs : List Entry) (k : ℕ) → IfSome (slice_get xs k) (Contains xs)
+placed_among xs k =
+    elim (slice_get_cases xs k).1 [
+      | inl here ↦ rw here.2 (subst (Contains xs) here.3 (Contains-get_or xs k here.0 here.1))
+      | inr past ↦ rw past.1 tt
+    ]

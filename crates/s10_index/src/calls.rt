@@ -53,8 +53,10 @@ impl Calls {
     pub fn get(&self, place: usize) -> Option<Entry>
         ensures { result ≡ slice_get self.now.items place }
     {
-        let row = self.rows.get(place).copied()?;
-        Some(row.in_full(&self.sheets))
+        if place >= self.len() {
+            return None;
+        }
+        Some(self.at(place))
     }
 
     /// The last call, if there is one.

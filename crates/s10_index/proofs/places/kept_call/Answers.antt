@@ -1,7 +1,7 @@
 use Rattle.std.proofs.Common.{◌≡◌, ◌∙◌, Some, None, sym}
 use Rattle.std.specs.List.{position_from}
 use Rattle.s10_history.specs.History.{has_key}
-use Rattle.s10_index.proofs.Placing.{none_placed, placed_call}
+use Rattle.s10_index.proofs.Placing.{none_placed, placed_call, placed_among}
 use Rattle.s10_index.proofs.places.kept_call.Goals as goal
 
 pub returns-in_err-place-clause-answer : goal.returns-in_err-place-clause-answer
@@ -15,3 +15,9 @@ returns-clause-answer c has =
     let found : position_from (has_key c.args.customer c.args.number) 0 c.args.calls.now.items ≡ Some c.in_ok-place.place =
     sym (has c.args.customer c.args.number) ∙ sym c.kept_place.ensures ∙ c.in_ok-place.was in
     c.get.ensures ∙ placed_call (has_key c.args.customer c.args.number) c.args.calls.now.items c.in_ok-place.place found
+
+pub returns-in_err-place-clause-among : goal.returns-in_err-place-clause-among
+returns-in_err-place-clause-among c = rw c.from_residual.ensures tt
+
+pub returns-clause-among : goal.returns-clause-among
+returns-clause-among c = rw c.get.ensures (placed_among c.args.calls.now.items c.in_ok-place.place)
