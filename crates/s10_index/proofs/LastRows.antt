@@ -3,23 +3,30 @@ use Rattle.std.proofs.Common.{◌≡◌, ◌∙◌, ℕ, zero, suc, ◌+◌, ◌
 use Rattle.std.specs.Prelude.{filter, All, AllPairs, slice_get, option_to_list}
 use Rattle.std.specs.List.{last_or}
 use Rattle.std.specs.Option.{option_map, unwrap_or}
-use Rattle.std.proofs.lemmas.Option.{none-some, same_Some, slice_get_within, get_or_from_slice_get}
+use Rattle.std.proofs.lemmas.Option.{none-some, same_Some, slice_get-map, slice_get_within, get_or_from_slice_get}
 use Rattle.std.proofs.lemmas.List.{drop_all, take-append-drop}
 use Rattle.s10_core.specs.declared.id.Id.{Id}
 use Rattle.s10_history.specs.declared.entry.Entry.{Entry}
+use Rattle.s10_history.specs.declared.range.Range.{Range}
 use Rattle.s10_history.specs.declared.issue.Issue.{Issue}
 use Rattle.s10_history.specs.declared.issuance.Issuance.{Issuance}
 use Rattle.s10_history.specs.Settings.{Terms}
 use Rattle.s10_book.specs.Rules.{IsLegal}
-use Rattle.s10_history.specs.Issues.{issues_at, issues_from, issues_of, is_of, is_issued, voided_after, last_issues, last_issuance_of, last_issue_of}
+use Rattle.s10_history.specs.History.{ranges_of}
+use Rattle.s10_history.specs.Issues.{pick_of, issues_at, issues_from, issues_of, is_of, is_issued, voided_after, last_issues, last_issuance_of, last_issue_of}
 use Rattle.s10_book.proofs.Free.{issued_latest}
 use Rattle.s10_book.proofs.Spaced.{id_same, sound}
+use Rattle.s10_ranges.specs.declared.mark.Mark.{Mark}
+use Rattle.s10_ranges.specs.declared.ranges.Ranges.{Ranges}
+use Rattle.s10_ranges.specs.Mirror.{Mirrors}
+use Rattle.s10_ranges.specs.Turns.{mark_of}
+use Rattle.s10_rows.specs.declared.range_row.RangeRow.{RangeRow}
 use Rattle.s10_rows.specs.declared.serial_row.SerialRow.{SerialRow}
-use Rattle.s10_rows.specs.Tables.{serial_row}
+use Rattle.s10_rows.specs.Tables.{range_row, serial_row}
 use Rattle.s10_replay.proofs.LastIssues.{none_filter}
 use Rattle.s10_replay.proofs.SerialRows.{last_passes}
 use Rattle.s10_index.specs.LastIssues.{told}
-use Rattle.s10_index.specs.RowsBehind.{last_rows, rows_behind}
+use Rattle.s10_index.specs.RowsBehind.{range_rows_behind, last_rows, rows_behind}
 
 -- ---- the issues of a history, parted at a call and at an issue of it
 
@@ -169,3 +176,15 @@ no_more (Some x) none = absurd (none x refl)
 -- the rows so far are all where no others stand behind
 pub whole : {A : Type 0} (rows rest all : List A) → rest ≡ [] → rows ++ rest ≡ all → rows ≡ all
 whole rows rest all none before = sym (append-nil rows) ∙ ap (λ l. rows ++ l) (sym none) ∙ before
+
+-- the row of a range stands before those of the ranges behind it
+pub range_row_next : (r : Ranges) (h : List Entry) (place : ℕ) (range : Range) (mark : Mark) (row : RangeRow) → Mirrors r h → slice_get r.ranges.items place ≡ Some range → slice_get r.marks.items place ≡ Some mark
+    → row ≡ range_row mark.serial range → range_rows_behind h place ≡ row ∷ range_rows_behind h (place + 1)
+range_row_next r h place range mark row m at marked is =
+    let here : slice_get (ranges_of h) place ≡ Some range = ap (λ (l : List Range). slice_get l place) (sym m.ranges) ∙ at in
+    let own : Some mark ≡ Some (mark_of (issues_of h) range) =
+    sym marked ∙ ap (λ (l : List Mark). slice_get l place) m.marks ∙ slice_get-map (mark_of (issues_of h)) (ranges_of h) place ∙ ap (option_map (mark_of (issues_of h))) here in
+    let row_of : Range → RangeRow = λ s. range_row (pick_of (issues_of h) s) s in
+    ap (map row_of) (from_place (ranges_of h) place range here)
+    ∙ ap (λ (k : Mark). range_row k.serial range ∷ range_rows_behind h (place + 1)) (sym (same_Some mark (mark_of (issues_of h) range) own))
+    ∙ ap (λ (s : RangeRow). s ∷ range_rows_behind h (place + 1)) (sym is)

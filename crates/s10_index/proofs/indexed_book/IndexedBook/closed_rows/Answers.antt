@@ -1,8 +1,10 @@
-use Rattle.std.proofs.Common.{◌≡◌, ◌∙◌, ◌+◌, ◌++◌, List, Option, Vec, Global, drop, sym, ap, append-nil}
+use Rattle.std.proofs.Common.{◌≡◌, ◌∙◌, ◌≤◌, ◌+◌, ◌++◌, List, Option, Vec, Global, length, drop, sym, ap, arith, append-nil}
 use Rattle.std.specs.Prelude.{option_to_list}
+use Rattle.std.proofs.lemmas.List.{drop_all}
+use Rattle.std.proofs.lemmas.Result.{err_from_is_err_and}
 use Rattle.s10_rows.specs.declared.closed_row.ClosedRow.{ClosedRow}
 use Rattle.s10_rows.specs.Tables.{closed_rows, closed_rows_from}
-use Rattle.s10_index.proofs.LastRows.{from_place, grown}
+use Rattle.s10_index.proofs.LastRows.{from_place, grown, whole}
 use Rattle.s10_index.proofs.indexed_book.IndexedBook.closed_rows.Goals as goal
 use Rattle.s10_index.proofs.indexed_book.IndexedBook.closed_rows.Goals.{in-Some+in_ok-push, in_default}
 
@@ -25,3 +27,18 @@ loop-place-preserved c =
           ap (λ (v : Vec ClosedRow Global). v.items) w.rows-is ∙ sym (append-nil rows) ∙ ap (λ (l : List ClosedRow). rows ++ l) (sym (ap option_to_list w.in_default.is)) in
           grown rows c.match-made_by.rows.items made later (closed_rows_from (k + 1) (drop k h)) (closed_rows h) step c.loop-place.invariant new
     ]
+
+pub loop-place-init : goal.loop-place-init
+loop-place-init c = ap (λ (l : List ClosedRow). l ++ closed_rows c.args.self.now.index.entries.items) c.new-rows.ensures.items
+
+pub returns-in_err-push : goal.returns-in_err-push
+returns-in_err-push c =
+    let p = err_from_is_err_and c.from_residual.result c.from_residual.ensures.1 in
+    rw p.1 tt
+
+pub returns : goal.returns
+returns c =
+    let h = c.args.self.now.index.entries.items in
+    let k = c.loop-place.place in
+    let past : length h ≤ k = omega (arith, c.loop-place-test.false, c.len-len.ensures.answer tt) in
+    whole c.loop-place.rows.items (closed_rows_from (k + 1) (drop k h)) (closed_rows h) (ap (closed_rows_from (k + 1)) (drop_all k h past)) c.loop-place.invariant
