@@ -1,5 +1,5 @@
 -- What one more call leaves of the calls before it.
-use Rattle.std.proofs.Common.{◌≡◌, ◌∙◌, ℕ, ◌≤◌, List, [], ◌∷◌, ◌++◌, map, length, refl, sym, subst, ap, ap₂, arith}
+use Rattle.std.proofs.Common.{◌≡◌, ◌∙◌, ℕ, ◌≤◌, List, [], ◌∷◌, ◌++◌, map, length, refl, sym, subst, ap, ap₂, arith, append-nil}
 use Rattle.std.proofs.Math.ListN.{get_or-append}
 use Rattle.std.specs.Prelude.{All}
 use Rattle.std.proofs.lemmas.List.{map_push}
@@ -50,3 +50,7 @@ named-push count more rows all row le longer there named =
 pub one_sheet : (o : Outcome) → length (sheet_of o) ≤ 1
 one_sheet (outcomes.DrawnMany day ids) = omega arith
 one_sheet o = omega arith
+
+-- an outcome with no sheet leaves the sheets as they were
+pub no_sheet : (sheets : List (List Id)) (o known : Outcome) → o ≡ known → sheet_of known ≡ [] → sheets ≡ sheets ++ sheet_of o
+no_sheet sheets o known is none = sym (append-nil sheets) ∙ ap (λ (more : List (List Id)). sheets ++ more) (sym (ap sheet_of is ∙ none))
