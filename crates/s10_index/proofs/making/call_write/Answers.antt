@@ -1,4 +1,5 @@
 use Rattle.std.proofs.Common.{rules, ◌≡◌, IsSome, IsTrue, false, true}
+use Rattle.std.proofs.lemmas.Result.{err_from_is_err_and}
 use Rattle.s10_wire.specs.Kind.{fits}
 use Rattle.s10_book.proofs.Fitting.{answer_fits}
 use Rattle.s10_wire.specs.Datagrams.{Replies}
@@ -14,6 +15,11 @@ returns-in_default-clause-done c h t legal follows few indexes =
     let some : IsSome c.new.result = c.new.ensures.fits.1 fitting in
     let wrong : false ≡ true = rw c.in_default.is at some in
     absurd (let e = wrong in cc)
+
+pub returns-in_err-made-clause-done : goal.returns-in_err-made-clause-done
+returns-in_err-made-clause-done c h t legal follows few indexes =
+    let p = err_from_is_err_and c.from_residual.result c.from_residual.ensures.1 in
+    rw (p.1, p.2) (c.in_err-made.ensures.done h t legal follows few indexes)
 
 pub returns-clause-answer : goal.returns-clause-answer
 returns-clause-answer c h t legal follows calls indexes arrival =

@@ -1,4 +1,5 @@
 use Rattle.std.proofs.Common.{◌++◌, ◌∷◌, [], ◌∙◌, List, sym, ap}
+use Rattle.std.proofs.lemmas.Result.{err_from_is_err_and}
 use Rattle.s10_rows.specs.declared.serial_write.SerialWrite.{SerialWrite}
 use Rattle.s10_wire.specs.declared.body.Body.{Body}
 use Rattle.s10_book.specs.Rules.{body_answer}
@@ -11,6 +12,16 @@ returns-in_default-last_issuance-clause-done c h t legal follows few indexes is 
     let none = sym (c.last_issuance.ensures h t legal few indexes) ∙ c.in_default-last_issuance.is in
     let answer = sym (follows.right ∙ ap (λ (b : Body). body_answer h e.request.customer b e.day t.interval) c.in-Void.is) ∙ is in
     absurd (never_voided h e.request.customer c.in-Void.id none answer)
+
+pub returns-in_err-add_serial-clause-done : goal.returns-in_err-add_serial-clause-done
+returns-in_err-add_serial-clause-done c h t legal follows few indexes is =
+    let p = err_from_is_err_and c.from_residual.result c.from_residual.ensures.1 in
+    rw (p.1, p.2) c.in_err-add_serial.ensures.memory
+
+pub returns-in_err-add_serial-clause-answer : goal.returns-in_err-add_serial-clause-answer
+returns-in_err-add_serial-clause-answer c h t legal follows calls call few indexes is =
+    let p = err_from_is_err_and c.from_residual.result c.from_residual.ensures.1 in
+    rw p.1 tt
 
 pub returns-clause-answer : goal.returns-clause-answer
 returns-clause-answer c h t legal follows calls call few indexes is =

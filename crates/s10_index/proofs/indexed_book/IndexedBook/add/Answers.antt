@@ -5,6 +5,15 @@ use Rattle.s10_book.proofs.Fitting.{answer_fits}
 use Rattle.s10_index.specs.CallIndex.{Indexes}
 use Rattle.s10_index.proofs.indexed_book.IndexedBook.add.Goals as goal
 
+pub invariant_of-self : goal.invariant_of-self
+invariant_of-self c =
+    let h = c.args.self.now.index.entries.items in
+    let same = c.reserve.ensures.calls in
+    record {
+      indexed = subst (Indexes c.reserve.new.self) (sym same) (c.reserve.ensures.same h c.args.self.now.indexed);
+      legal = rw same c.args.self.now.legal;
+    }
+
 pub invariant_of-self-2 : goal.invariant_of-self-2
 invariant_of-self-2 c =
     let h = c.args.self.now.index.entries.items in
