@@ -34,7 +34,7 @@ returns c =
       used = Counted-all (λ serial. is_issued (issues_of h) (id_at range serial)) range value _ past all.used;
       voided = Counted-all (λ serial. is_voided h (id_at range serial)) range value _ past all.voided;
       free = Counted-all (λ serial. is_free (issues_of h) (id_at range serial) c.args.day c.interval-interval.result) range value _ past all.free
-      ∙ ap (λ n. count_by (λ serial. is_free (issues_of h) (id_at range serial) c.args.day n) (serials range)) c.interval-interval.ensures.value;
+          ∙ ap (λ n. count_by (λ serial. is_free (issues_of h) (id_at range serial) c.args.day n) (serials range)) c.interval-interval.ensures.value;
     }
 
 pub returns-2-clause-used : goal.returns-2-clause-used
