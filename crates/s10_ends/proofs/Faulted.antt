@@ -1,6 +1,7 @@
 -- A fault of the book, which the server tells under the same name.
 use Rattle.std.proofs.Common.{◌≡◌, Result, Ok, Err, subst}
 use Rattle.std.specs.Prelude.{IsErrAnd}
+use Rattle.s10_wire.specs.declared.outcome.Outcome.{Outcome}
 use Rattle.s10_book.specs.declared.book_fault.BookFault.{BookFault}
 use Rattle.s10_book.specs.declared.book_fault.BookFault.TheVariants.{Memory, Store, Full}
 use Rattle.s10_book.specs.declared.faults.Faults.{Faults}
@@ -18,3 +19,6 @@ never_full (Err e) fault before after passed counts full =
     let is : e ≡ fault = passed in
     let same : fault ≡ Full = cc in
     subst (λ (f : BookFault). FaultCounts f before after) same counts
+
+pub ok_not_full : (o : Outcome) → ¬ (◌≡◌ {A = Result Outcome BookFault} (Ok o) (Err Full))
+ok_not_full o is = cc

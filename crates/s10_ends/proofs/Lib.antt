@@ -7,7 +7,9 @@ pub mod Equal
 pub mod Carried
 pub mod Pending
 pub mod Turns
+pub mod Filling
 pub mod Rounds
+pub mod Receiving
 pub mod Listening
 pub mod Trying
 pub mod Near

@@ -1,5 +1,5 @@
 -- The receives of one try of a call.
-use Rattle.std.proofs.Common.{◌≡◌, ◌≢◌, ℕ, false, true, ◌+◌, ◌<◌, ◌≤◌, List, Option, Some, None, Ok, Err, refl, sym, ap, ◌∙◌, subst, inl, inr, arith}
+use Rattle.std.proofs.Common.{◌≡◌, ◌≢◌, ℕ, false, true, ◌+◌, ◌<◌, ◌≤◌, List, Option, Some, Err, refl, sym, ap, ◌∙◌, subst, inl, inr, arith}
 use Rattle.std.specs.Prelude.{IsSome}
 use Rattle.std.proofs.lemmas.Option.{same_Some}
 use Rattle.std.proofs.lemmas.Bool.{false≢true}
@@ -154,10 +154,6 @@ unaccepted_packet c c0 b packet client is none =
     let P : List ℕ → Type 0 = λ x. (q : Request) → c0.pending ≡ Some q → (o : Outcome) → ¬ (Replies x q o) in
     let Q : ClientState → Type 0 = λ s. (q : Request) → s.pending ≡ Some q → (o : Outcome) → ¬ (Replies b q o) in
     subst P is (subst Q client none)
-
--- a receive in which nothing came
-pub quiet_is : (old new : Trace) (o : Option (Peer × Packet)) → Receives old new (Ok o) → o ≡ None → new ≡ after_call old
-quiet_is old new o received is = let P : Option (Peer × Packet) → Type 0 = λ x. Receives old new (Ok x) in subst P is received
 
 -- a datagram that was accepted is the reply to what was pending
 pub accepted_reply : (c0 c c' : ClientState) (b : List ℕ) (t : Trace) (from : Peer) (packet : Packet) (reply : Reply) → c ≡ c0 → b ≡ packet → ClientReceives c b (Accepted reply) c'

@@ -1,6 +1,6 @@
 -- One delivery.
-use Rattle.std.proofs.Common.{◌≡◌, ℕ, zero, suc, List, [], ◌∷◌, take, subst, Some, refl}
-use Rattle.std.specs.Prelude.{slice_get}
+use Rattle.std.proofs.Common.{◌≡◌, ◌∙◌, ℕ, zero, suc, List, [], ◌∷◌, take, subst, Some, refl, sym, ap}
+use Rattle.std.specs.Prelude.{◌↔◌, slice_get}
 use Rattle.std.proofs.lemmas.Option.{none-some, same_Some}
 use Rattle.s10_wire.specs.declared.request.Request.{Request}
 use Rattle.s10_wire.specs.declared.outcome.Outcome.{Outcome}
@@ -19,6 +19,22 @@ use Rattle.s10_ends.specs.declared.answer.Answer.TheVariants.{Reply, Dropped, Fa
 use Rattle.s10_ends.specs.Served.{Dated, AskNothing, Gives, IsFullFor, not_faulted, Served}
 use Rattle.s10_ends.specs.Served.AreAsked.{none, nothing, request}
 use Rattle.s10_ends.proofs.Whole.{FullBefore}
+
+-- bytes that ask nothing are dropped with their first refusal, and with no other
+pub only_first : (b : List ℕ) (fault told : WireFault) → AskNothing b → IsFirstRefusalOfRequest b fault → (Dropped fault ≡ Dropped told) ↔ (AskNothing b × IsFirstRefusalOfRequest b told)
+only_first b fault told asks refused =
+    let P : WireFault → Type 0 = λ f. IsFirstRefusalOfRequest b f in
+    (λ same. let is : fault ≡ told = cc in (asks, subst P is refused), λ other. ap (λ (f : WireFault). Dropped f) (same_Some fault told (sym refused ∙ other.1)))
+
+-- and bytes that ask something are not dropped
+pub not_dropped : (b : List ℕ) (q : Request) (a : Answer) (told : WireFault) → Asks b q → ¬ (a ≡ Dropped told) → (a ≡ Dropped told) ↔ (AskNothing b × IsFirstRefusalOfRequest b told)
+not_dropped b q a told asks other = (λ same. absurd (other same), λ nothing. absurd (nothing.0 q asks))
+
+pub reply_not_dropped : (frame : Frame) (told : WireFault) → ¬ (Reply frame ≡ Dropped told)
+reply_not_dropped frame told same = cc
+
+pub faulted_not_dropped : (fault : BookFault) (told : WireFault) → ¬ (Faulted fault ≡ Dropped told)
+faulted_not_dropped fault told same = cc
 
 -- an answer other than Full
 not_full : (a : Answer) (k : ℕ) → (a ≡ Faulted Full → ⊥) → slice_get (a ∷ []) k ≡ Some (Faulted Full) → ⊥

@@ -1,5 +1,5 @@
 -- The parts of a round.
-use Rattle.std.proofs.Common.{◌≡◌, ℕ, ◌<◌, List, [], ◌∷◌, ◌++◌, length, Option, Some, None, Result, Ok, Err, refl, sym, ap, subst, inl, inr, arith}
+use Rattle.std.proofs.Common.{◌≡◌, ℕ, ◌<◌, ◌≤◌, List, [], ◌∷◌, ◌++◌, length, length-append, Option, Some, None, Result, Ok, Err, refl, sym, ap, subst, inl, inr, arith}
 use Rattle.std.specs.Prelude.{IsErrAnd}
 use Rattle.s10_link.specs.declared.trace.Trace.{Trace}
 use Rattle.s10_link.specs.declared.link_fault.LinkFault.{LinkFault}
@@ -11,7 +11,7 @@ use Rattle.s10_ends.specs.declared.answer.Answer.{Answer}
 use Rattle.s10_ends.specs.declared.taken.Taken.{Taken}
 use Rattle.s10_ends.specs.declared.server_turn.ServerTurn.TheVariants as turns
 use Rattle.s10_ends.specs.Turn.{Turn, Handles, Settles, Takes, AsksSettled, Answers}
-use Rattle.s10_ends.specs.Round.{TakesAll, TakesRound, ServesRound, turns_of}
+use Rattle.s10_ends.specs.Round.{TakesAll, EndsTaking, TakesRound, ServesRound, turns_of}
 use Rattle.s10_ends.specs.Round.TakesAll.{none as taken_none, more as taken_more}
 use Rattle.s10_ends.specs.Round.AnswersAll.{none as answered_none, more as answered_more}
 use Rattle.s10_ends.proofs.Turns.{same_error}
@@ -43,6 +43,25 @@ module _ {B : Type 0} (Handled : B → B → List ℕ → Answer → Type 0) (mo
         let P : Result (Unit {0}) LinkFault → Type 0 = λ r. TakesRound Handled most old new taken r in
         let here : TakesRound Handled most old new taken (Err fault) = record { handled = between; takes = takes; ends = (few, took.0); same = took.1 } in
         subst P (sym (same_error ended fault passed)) here
+
+-- a round has a turn
+pub turns_some : (ended : Result (Unit {0}) LinkFault) (answered : List Turn) → 1 ≤ length (turns_of ended answered)
+turns_some (Err fault) answered = omega (arith, length-append answered (Err fault ∷ []))
+turns_some (Ok _) [] = omega arith
+turns_some (Ok _) (turn ∷ answered) = omega arith
+
+turns_at_most : (most : ℕ) (taken : List Taken) (old new : Trace) (ended : Result (Unit {0}) LinkFault) (answered : List Turn)
+    → EndsTaking most taken old new ended → 1 ≤ most → length taken ≤ most → length answered ≡ length taken → length (turns_of ended answered) ≤ most
+turns_at_most most taken old new (Err fault) answered ends some few many =
+    let less : length taken < most = ends.0 in
+    omega (arith, length-append answered (Err fault ∷ []))
+turns_at_most most taken old new (Ok _) [] ends some few many = some
+turns_at_most most taken old new (Ok _) (turn ∷ answered) ends some few many = omega arith
+
+-- and so many at most as it may take
+pub turns_few : {B : Type 0} (Handled : B → B → List ℕ → Answer → Type 0) (most : ℕ) (old new : Trace × B) (taken : List Taken) (ended : Result (Unit {0}) LinkFault) (answered : List Turn)
+    → TakesRound Handled most old new taken ended → 1 ≤ most → length taken ≤ most → length answered ≡ length taken → length (turns_of ended answered) ≤ most
+turns_few Handled most old new taken ended answered round some few many = turns_at_most most taken round.handled.0 new.0 ended answered round.ends some few many
 
 -- rounds of one datagram at most
 module _ {B : Type 0} (faults : B → Faults) (honest : B → Type 0) (terms : B → Terms) (history settled : B → List Entry) (day : ℕ) (old between : Trace × B) where

@@ -1,11 +1,13 @@
 -- The replies of a round stand in the settled calls.
-use Rattle.std.proofs.Common.{◌≡◌, ◌≢◌, ◌∙◌, refl, sym, ap, subst, ℕ, List, [], ◌∷◌, ◌++◌, map, Option, Result, Ok, Err, inl, inr}
-use Rattle.std.specs.Prelude.{All, OnOk}
+use Rattle.std.proofs.Common.{◌≡◌, ◌≢◌, ◌∙◌, refl, sym, ap, subst, ℕ, Bool, false, List, [], ◌∷◌, ◌++◌, map, Option, Result, Ok, Err, inl, inr}
+use Rattle.std.specs.Prelude.{◌↔◌, IsTrue, All, OnOk}
 use Rattle.std.specs.List.{AllZip}
+use Rattle.std.proofs.lemmas.Bool.{false≢true}
 use Rattle.std.proofs.lemmas.List.{map-append}
 use Rattle.std.proofs.lemmas.List.Elements.{All-nil, All-cons, All-head, All-tail, All-push}
 use Rattle.s10_wire.specs.declared.frame.Frame.{Frame}
 use Rattle.s10_wire.specs.declared.request.Request.{Request}
+use Rattle.s10_wire.specs.Datagrams.{Asks}
 use Rattle.s10_wire.proofs.Asked.{one_request}
 use Rattle.s10_link.specs.declared.trace.Trace.{Trace}
 use Rattle.s10_link.specs.declared.peer.Peer.{Peer}
@@ -15,18 +17,28 @@ use Rattle.s10_history.specs.declared.entry.Entry.{Entry}
 use Rattle.s10_history.specs.Settings.{Terms}
 use Rattle.s10_history.specs.History.{entry_with_key}
 use Rattle.s10_book.specs.declared.book_fault.BookFault.{BookFault}
+use Rattle.s10_book.specs.Settle.{IsSettledCall}
 use Rattle.s10_book.specs.declared.faults.Faults.{Faults}
 use Rattle.s10_ends.specs.declared.answer.Answer.{Answer}
 use Rattle.s10_ends.specs.declared.answer.Answer.TheVariants.{Reply, Dropped, Faulted}
 use Rattle.s10_ends.specs.declared.taken.Taken.{Taken}
 use Rattle.s10_ends.specs.declared.server_turn.ServerTurn.TheVariants as turns
-use Rattle.s10_ends.specs.Served.{Dated, Gives, IsOwed, StandsIn, IsAnswered, Served}
+use Rattle.s10_ends.specs.Served.{Dated, AskNothing, Gives, IsOwed, StandsIn, IsAnswered, Served}
 use Rattle.s10_ends.specs.Turn.{Turn, Handles, Settles, AsksSettled, SendsReply, HoldsBack, Answers, sent_turn}
 use Rattle.s10_ends.specs.Round.{TakesAll, AnswersAll, ServesRound, IsSentSettled, turns_of}
 use Rattle.s10_ends.specs.Round.TakesAll.{none as taken_none, more as taken_more}
 use Rattle.s10_ends.specs.Round.AnswersAll.{none as answered_none, more as answered_more}
 use Rattle.s10_ends.proofs.Whole.{Served-nil, Served-push}
 use Rattle.s10_ends.proofs.Rounds.{no_push}
+
+-- what bytes ask is settled where the call of their request is
+pub own_settled : (settled h : List Entry) (b : List ℕ) (q : Request) (answer : Bool) → Asks b q → (IsTrue answer ↔ IsSettledCall settled h q.customer q.number) → IsTrue answer ↔ AsksSettled settled h b
+own_settled settled h b q answer asks decides =
+    let P : Request → Type 0 = λ r. IsSettledCall settled h r.customer r.number in
+    (λ is. (q, asks, decides.0 is), λ own. decides.1 (subst P (one_request b own.0 q own.1 asks) own.2))
+
+pub nothing_settled : (settled h : List Entry) (b : List ℕ) → AskNothing b → IsTrue false ↔ AsksSettled settled h b
+nothing_settled settled h b nothing = (λ is. absurd (false≢true is), λ own. absurd (nothing own.0 own.1))
 
 -- a datagram that was answered as the calls owe it
 abbrev IsTakenAnswered : List Entry → Taken → Type 0

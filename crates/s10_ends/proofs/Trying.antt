@@ -1,5 +1,6 @@
 -- The tries of a call.
-use Rattle.std.proofs.Common.{◌≡◌, ◌≢◌, ℕ, zero, suc, ◌+◌, ◌<◌, ◌≤◌, Option, Some, None, Ok, Err, refl, sym, ap, ◌∙◌, subst, inl, inr, arith}
+use Rattle.std.proofs.Common.{◌≡◌, ◌≢◌, ℕ, zero, suc, ◌+◌, ◌<◌, ◌≤◌, Option, Some, None, Result, Ok, Err, refl, sym, ap, ◌∙◌, subst, inl, inr, arith}
+use Rattle.std.specs.Prelude.{IsErrAnd}
 use Rattle.s10_link.specs.declared.trace.Trace.{Trace}
 use Rattle.s10_link.specs.declared.peer.Peer.{Peer}
 use Rattle.s10_wire.specs.declared.frame.Frame.{Frame}
@@ -15,7 +16,19 @@ use Rattle.s10_wire.specs.Datagrams.{Asks}
 use Rattle.s10_wire.specs.Reply.{request_of}
 use Rattle.s10_ends.specs.declared.call_fault.CallFault.TheVariants.{GaveUp, Link}
 use Rattle.s10_ends.specs.Client.{ClientState, next_request, after_submit, submit_fault, settled}
-use Rattle.s10_ends.specs.Calls.{SentOnly, Tried, TookAllBut, Ended, EndsTry, IsCut, Stopped, Heard, IsUnanswered, IsNoReply, Attempts, Calls, failures_of}
+use Rattle.s10_ends.specs.Calls.{SentOnly, Tried, TookAllBut, Ended, EndsTry, IsCut, Stopped, Heard, Listens, IsUnanswered, IsNoReply, Attempts, Calls, failures_of}
+use Rattle.s10_ends.proofs.Turns.{same_error}
+
+-- the frame was not sent, or it was and its reply was listened for
+pub unsent : (c : ClientState) (t t' : Trace) (p : Peer × Frame) (fault : LinkFault) (r : Result (Option Reply) LinkFault) → Sends t t' p (Err fault) → IsErrAnd r (λ e. e ≡ fault) → Attempts c c t t' p r
+unsent c t t' p fault r sends passed =
+    let P : Result (Option Reply) LinkFault → Type 0 = λ x. Attempts c c t t' p x in
+    let here : Attempts c c t t' p (Err fault) = inl (sends, refl) in
+    subst P (sym (same_error r fault passed)) here
+
+pub listened : (c c' : ClientState) (t between t' : Trace) (p : Peer × Frame) (r : Result (Option Reply) LinkFault) → IsAfterFrame t between p → Listens c c' between t' r → Attempts c c' t t' p r
+listened c c' t between t' p (Ok found) sent listens = (between, sent, listens)
+listened c c' t between t' p (Err fault) sent listens = inr (between, sent, listens)
 
 pub tried_none : (t : Trace) (p : Peer × Frame) → Tried t t p 0 0
 tried_none t p = record {

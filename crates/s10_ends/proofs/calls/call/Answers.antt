@@ -1,4 +1,4 @@
-use Rattle.std.proofs.Common.{◌≡◌, Some, refl, ap, ◌∙◌, inl, arith}
+use Rattle.std.proofs.Common.{◌≡◌, Some, refl, sym, ap, ◌∙◌, inl, arith}
 use Rattle.s10_link.specs.Link.LeadsTo.{none}
 use Rattle.s10_link.proofs.Led.{led_on}
 use Rattle.s10_ends.specs.Client.{ClientState, next_request}
@@ -54,3 +54,9 @@ returns-in-Err-attempt-clause-led g c = led_on c.loop-done.invariant.led c.attem
 
 pub returns-in-Err-clause-led : goal.returns-in-Err-clause-led
 returns-in-Err-clause-led g c = none
+
+pub returns-in-Err-clause-calls : goal.returns-in-Err-clause-calls
+returns-in-Err-clause-calls g c = (sym c.in-Err.ensures.refused, c.in-Err.ensures.err, refl)
+
+pub returns-clause-led : goal.returns-clause-led
+returns-clause-led g c = c.loop-done.invariant.led

@@ -5,8 +5,8 @@ use Rattle.s10_link.specs.declared.trace.Trace.{Trace}
 use Rattle.s10_wire.specs.declared.request.Request.{Request}
 use Rattle.s10_wire.specs.declared.outcome.Outcome.{Outcome}
 use Rattle.s10_wire.specs.Datagrams.{Replies}
-use Rattle.s10_ends.proofs.Turns.{same_error, taken_is}
-use Rattle.s10_ends.proofs.Listening.{unaccepted_packet, hearing_none, hearing_datagram, heard, heard_quiet, heard_refused, took_all, took_all_refused, unanswered_call, unanswered_datagram, unaccepted, quiet_is, accepted_reply, receive_not_bind, receive_not_send}
+use Rattle.s10_ends.proofs.Turns.{same_error, taken_is, quiet_is}
+use Rattle.s10_ends.proofs.Listening.{unaccepted_packet, hearing_none, hearing_datagram, heard, heard_quiet, heard_refused, took_all, took_all_refused, unanswered_call, unanswered_datagram, unaccepted, accepted_reply, receive_not_bind, receive_not_send}
 use Rattle.s10_ends.proofs.calls.first_accepted.Goals as goal
 
 pub loop-read-init : goal.loop-read-init

@@ -1,7 +1,47 @@
-use Rattle.std.proofs.Common.{refl}
+use Rattle.std.proofs.Common.{◌≡◌, ℕ, ◌+◌, ◌≤◌, List, length, refl, ap, ◌∙◌, arith, Fits, w32, w64}
 use Rattle.std.proofs.lemmas.Result.{err_from_is_err_and}
+use Rattle.s10_ends.specs.declared.taken.Taken.{Taken}
+use Rattle.s10_ends.proofs.Rounds.{turns_some, turns_few}
 use Rattle.s10_ends.proofs.Standing.{round_stands}
 use Rattle.s10_ends.proofs.round.serve_round.Goals as goal
+
+one_more_fits : (most : ℕ) → Fits w32 most → Fits w64 (most + 1)
+one_more_fits most fits = omega arith
+
+-- the turns of what was taken have their room
+room_for : (most capacity : ℕ) (taken now : List Taken) → now ≡ taken → length taken ≤ most → most + 1 ≤ capacity → length now ≤ capacity
+room_for most capacity taken now same few room = omega (arith, ap length same)
+
+-- and one more has it behind them
+room_behind : (most before capacity turns : ℕ) (taken now : List Taken) → now ≡ taken → length taken ≤ most → most + 1 ≤ before → turns ≡ length now → capacity ≡ before → turns + 1 ≤ capacity
+room_behind most before capacity turns taken now same few room many kept = omega (arith, ap length same)
+
+pub overflow_add-most : goal.overflow_add-most
+overflow_add-most g c = one_more_fits c.args.most c.ranges.most
+
+pub take_all-ended-requires-clause-some : goal.take_all-ended-requires-clause-some
+take_all-ended-requires-clause-some g c = c.requires
+
+pub take_all-ended-requires-clause-none : goal.take_all-ended-requires-clause-none
+take_all-ended-requires-clause-none g c = c.in_ok-taken.ensures.items
+
+pub take_all-ended-requires-clause-room : goal.take_all-ended-requires-clause-room
+take_all-ended-requires-clause-room g c = c.in_ok-taken.ensures.capacity
+
+pub settle_and_answer-requires-clause-none : goal.settle_and_answer-requires-clause-none
+settle_and_answer-requires-clause-none g c = c.in_ok-turns.ensures.items
+
+pub settle_and_answer-requires-clause-room : goal.settle_and_answer-requires-clause-room
+settle_and_answer-requires-clause-room g c = room_for c.args.most _ _ _ c.deref.ensures.value c.take_all-ended.ensures.few c.in_ok-turns.ensures.capacity
+
+pub tell_end-requires : goal.tell_end-requires
+tell_end-requires g c = room_behind c.args.most _ _ _ _ _ c.deref.ensures.value c.take_all-ended.ensures.few c.in_ok-turns.ensures.capacity c.settle_and_answer.ensures.many c.settle_and_answer.ensures.capacity
+
+pub returns-clause-some : goal.returns-clause-some
+returns-clause-some g c = rw c.tell_end.ensures (turns_some c.take_all-ended.result c.settle_and_answer.new.turns.items)
+
+pub returns-clause-few : goal.returns-clause-few
+returns-clause-few g c = rw c.tell_end.ensures (turns_few _ c.args.most _ _ _ _ c.settle_and_answer.new.turns.items c.take_all-ended.ensures.taken c.requires c.take_all-ended.ensures.few (c.settle_and_answer.ensures.many ∙ ap length c.deref.ensures.value))
 
 pub returns-clause-served : goal.returns-clause-served
 returns-clause-served g c = record {

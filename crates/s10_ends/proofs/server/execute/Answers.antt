@@ -1,11 +1,21 @@
-use Rattle.std.proofs.Common.{◌≡◌, ◌∙◌, refl, ap, Some, ◌++◌, ◌∷◌, [], max, arith}
+use Rattle.std.proofs.Common.{◌≡◌, ◌∙◌, ℕ, ◌<◌, ◌≤◌, refl, ap, Some, ◌++◌, ◌∷◌, [], max, arith}
 use Rattle.std.proofs.lemmas.Result.{err_from_is_err_and}
 use Rattle.s10_history.specs.declared.entry.Entry.{Entry}
 use Rattle.s10_history.specs.History.{entry_with_key, day_of}
 use Rattle.s10_history.specs.Settings.{Terms}
-use Rattle.s10_ends.proofs.Faulted.{told_counts, never_full}
+use Rattle.s10_ends.proofs.Faulted.{told_counts, never_full, ok_not_full}
 use Rattle.s10_ends.proofs.Applied.{once_new, kept_new}
 use Rattle.s10_ends.proofs.server.execute.Goals as goal
+
+-- as many calls are kept as may be, or fewer
+at_limit : (calls limit len most : ℕ) → len ≡ calls → most ≡ limit → most ≤ len → calls ≤ limit → calls ≡ limit
+at_limit calls limit len most held bound full few = omega arith
+
+below_limit : (calls limit len most : ℕ) → len ≡ calls → most ≡ limit → len < most → calls < limit
+below_limit calls limit len most held bound few = omega arith
+
+not_before : (last newest day today : ℕ) → newest ≡ last → today ≡ max newest day → last ≤ today
+not_before last newest day today same is = omega arith
 
 pub returns-then-limit-len-clause-faults : goal.returns-then-limit-len-clause-faults
 returns-then-limit-len-clause-faults g c = refl
@@ -30,10 +40,13 @@ returns-then-limit-len-clause-full g c = λ h full.
     let len = c.len.ensures.answer h in
     let limit = c.limit.ensures.value ∙ ap (λ (t : Terms). t.limit) (c.settings.ensures h) in
     let legal = g.met.B.Book.legal c.args.book.now h in
-    (omega (arith, len, limit, c.if-limit-len.true, legal.few), c.requires h)
+    (at_limit _ _ _ _ len limit c.if-limit-len.true legal.few, c.requires h)
 
 pub returns-then-limit-len-clause-fits : goal.returns-then-limit-len-clause-fits
 returns-then-limit-len-clause-fits g c = tt
+
+pub decide-requires : goal.decide-requires
+decide-requires g c = λ h. not_before _ _ c.args.day _ (c.day.ensures h) c.max-day.ensures
 
 pub keep-requires : goal.keep-requires
 keep-requires g c = λ h.
@@ -41,8 +54,8 @@ keep-requires g c = λ h.
     let limit = c.limit.ensures.value ∙ ap (λ (t : Terms). t.limit) (c.settings.ensures h1) in
     rw (c.decide.ensures.keeps.same_history h, c.decide.ensures.keeps.same_terms h) record {
       new_key = c.requires h1;
-      in_order = omega (arith, c.day.ensures h1, c.max-day.ensures);
-      room = omega (arith, c.len.ensures.answer h1, limit, c.if-limit-len.false);
+      in_order = not_before _ _ c.args.day _ (c.day.ensures h1) c.max-day.ensures;
+      room = below_limit _ _ _ _ (c.len.ensures.answer h1) limit c.if-limit-len.false;
       right = c.in_ok-decide.ensures.answer h;
     }
 
@@ -129,7 +142,7 @@ pub returns-clause-err : goal.returns-clause-err
 returns-clause-err g c = λ h. tt
 
 pub returns-clause-full : goal.returns-clause-full
-returns-clause-full g c = λ h is. absurd cc
+returns-clause-full g c = λ h is. absurd (ok_not_full _ is)
 
 pub returns-clause-fits : goal.returns-clause-fits
 returns-clause-fits g c = c.in_ok-decide.ensures.fits

@@ -1,10 +1,11 @@
-use Rattle.std.proofs.Common.{◌≡◌, ◌<◌, ◌∷◌, ◌++◌, [], ℕ, ◌+◌, List, sym, ap, ◌∙◌, refl, subst, arith, length, take}
+use Rattle.std.proofs.Common.{◌≡◌, ◌∷◌, ◌++◌, [], ℕ, ◌+◌, List, sym, ap, ◌∙◌, refl, subst, take, take_all}
 use Rattle.std.proofs.lemmas.Result.{err_from_is_err_and}
 use Rattle.std.proofs.lemmas.List.{take_more}
 use Rattle.s10_ends.specs.declared.delivery.Delivery.{Delivery}
 use Rattle.s10_ends.specs.declared.answer.Answer.{Answer}
 use Rattle.s10_ends.specs.Served.{Served}
 use Rattle.s10_ends.specs.Runs.{CountsAll}
+use Rattle.s10_ends.proofs.Filling.{room_for_next, room_kept, one_longer}
 use Rattle.s10_ends.proofs.Whole.{Served-nil}
 use Rattle.s10_ends.proofs.Runs.{CountsAll-nil, CountsAll-push, Served-map_push, IsKept-legal}
 use Rattle.s10_ends.proofs.Carried.{Served-issued}
@@ -21,7 +22,7 @@ loop-delivery-init g c =
     let P : List Answer → Type 0 = λ l. CountsAll l (g.B.Book.faults book) (g.B.Book.faults book) in
     let Q : List Answer → Type 0 = λ l. Served (g.B.Book.history book) (g.B.Book.terms book) [] l (g.B.Book.history book) in
     record {
-      room = omega (arith, c.in_ok-answers.ensures.capacity);
+      room = c.in_ok-answers.ensures.capacity;
       many = c.in_ok-answers.ensures.len;
       faults = subst P (sym c.in_ok-answers.ensures.items) (CountsAll-nil (g.B.Book.faults book));
       was_honest = λ h. h;
@@ -33,23 +34,28 @@ pub loop-delivery-preserved : goal.loop-delivery-preserved
 loop-delivery-preserved g c =
     let before = c.loop-delivery.invariant in
     record {
-      room = omega (arith, before.room, c.push_reserved.ensures.capacity);
-      many = omega (arith, before.many, c.push_reserved.ensures.len);
+      room = room_kept _ _ _ before.room c.push_reserved.ensures.capacity;
+      many = one_longer _ _ c.loop-delivery.delivery-index before.many c.push_reserved.ensures.len;
       faults = rw c.push_reserved.ensures.items (CountsAll-push _ _ _ _ _ before.faults c.handle-answer.ensures.faults);
       was_honest = λ h. before.was_honest (c.handle-answer.ensures.was_honest h);
       same_terms = λ h. c.handle-answer.ensures.same_terms h ∙ before.same_terms (c.handle-answer.ensures.was_honest h);
       served = λ h.
           let h0 = c.handle-answer.ensures.was_honest h in
           let one = c.handle-answer.ensures.served h in
-          let lt : c.loop-delivery.delivery-index < length c.args.deliveries.now = omega (arith, c.loop-delivery-test.true) in
           let all : take (c.loop-delivery.delivery-index + 1) c.args.deliveries.now ≡ take c.loop-delivery.delivery-index c.args.deliveries.now ++ c.delivery-item.result ∷ [] =
-          take_more c.args.deliveries.now c.loop-delivery.delivery-index c.delivery-item.result lt ∙ ap (λ (d : Delivery). take c.loop-delivery.delivery-index c.args.deliveries.now ++ d ∷ []) (sym c.delivery-item.is) in
+          take_more c.args.deliveries.now c.loop-delivery.delivery-index c.delivery-item.result c.loop-delivery-test.true ∙ ap (λ (d : Delivery). take c.loop-delivery.delivery-index c.args.deliveries.now ++ d ∷ []) (sym c.delivery-item.is) in
           let P : List ℕ → Type 0 = λ b. Served (g.B.Book.history c.loop-delivery.self.book) (g.B.Book.terms c.loop-delivery.self.book) ((b, c.delivery-item.result.day) ∷ []) (c.handle-answer.result ∷ []) (g.B.Book.history c.handle-answer.new.self.book) in
           rw (all, c.push_reserved.ensures.items)
           (Served-map_push (g.B.Book.history c.args.self.now.book) (g.B.Book.history c.loop-delivery.self.book) (g.B.Book.history c.handle-answer.new.self.book) (g.B.Book.terms c.args.self.now.book) (g.B.Book.terms c.loop-delivery.self.book)
           (take c.loop-delivery.delivery-index c.args.deliveries.now) c.loop-delivery.answers.items c.delivery-item.result c.handle-answer.result
           (before.served h0) (before.same_terms h0) (subst P c.bytes.ensures.bytes one));
     }
+
+pub push_reserved-requires : goal.push_reserved-requires
+push_reserved-requires g c = room_for_next _ _ c.loop-delivery.delivery-index _ c.loop-delivery.invariant.many c.loop-delivery-test.true c.loop-delivery.invariant.room
+
+pub returns-clause-served : goal.returns-clause-served
+returns-clause-served g c = λ h. rw (take_all c.loop-delivery.delivery-index c.args.deliveries.now c.loop-delivery-test.false) at (c.loop-delivery.invariant.served h)
 
 pub returns-clause-kept : goal.returns-clause-kept
 returns-clause-kept g c = λ h.

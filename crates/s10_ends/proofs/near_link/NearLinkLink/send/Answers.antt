@@ -1,0 +1,11 @@
+use Rattle.std.proofs.Common.{refl, inr}
+use Rattle.s10_ends.proofs.near_link.NearLinkLink.send.Goals as goal
+
+pub returns-clause-trace : goal.returns-clause-trace
+returns-clause-trace g c = c.send.ensures.trace
+
+pub returns-clause-same : goal.returns-clause-same
+returns-clause-same g c = refl
+
+pub returns-clause-step : goal.returns-clause-step
+returns-clause-step g c = record { day = refl; call = inr ((c.args.to, c.args.frame.now), c.send.result, c.send.ensures.trace, refl, refl) }
