@@ -6,4 +6,6 @@ mod book;
 #[cfg(test)]
 mod expect;
 #[cfg(test)]
+mod hiccup;
+#[cfg(test)]
 mod wire;

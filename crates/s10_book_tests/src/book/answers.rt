@@ -7,7 +7,7 @@ use crate::book::books::Answered::{
 use crate::book::books::Asked::{
     Draw, DrawMany, DrawOfRb, Grant, GrantOfRb, Query, QueryOfUs, Void,
 };
-use crate::book::books::{OPENING, Step, are_answered};
+use crate::book::books::{OPENING, Step, all_are_answered, are_answered};
 use s10_wire::Status;
 
 /// The interval ends on its thirtieth day; a repeat is not executed and moves no day.
@@ -51,26 +51,21 @@ const FULL_LEDGER: &'static [Step] = &[
     (7, 1, Query(0), 20000, NumberReused),
 ];
 
+const DRAWS_AND_VOIDS: &'static [(&'static str, &'static [Step])] = &[
+    (
+        "the interval ends on its thirtieth day; a repeat is not executed and moves no day",
+        INTERVAL,
+    ),
+    ("a day that falls counts as the last one", FALLING_DAY),
+    (
+        "the last serials, and a void that frees nothing",
+        LAST_SERIALS,
+    ),
+];
+
 #[test]
 fn draws_and_voids_are_answered_as_worked_by_hand(rt: HostRuntime) {
-    are_answered(
-        &rt,
-        "the interval ends on its thirtieth day; a repeat is not executed and moves no day",
-        100,
-        INTERVAL,
-    );
-    are_answered(
-        &rt,
-        "a day that falls counts as the last one",
-        100,
-        FALLING_DAY,
-    );
-    are_answered(
-        &rt,
-        "the last serials, and a void that frees nothing",
-        100,
-        LAST_SERIALS,
-    );
+    all_are_answered(&rt, DRAWS_AND_VOIDS);
     are_answered(&rt, "a full ledger answers what it kept", 3, FULL_LEDGER);
 }
 
@@ -128,21 +123,18 @@ const WHO_MAY: &'static [Step] = &[
     (0, 6, Query(0), 20001, Told(Status::Voided { day: 20000 })),
 ];
 
+const GRANTS_AND_REFUSALS: &'static [(&'static str, &'static [Step])] = &[
+    (
+        "no two ranges have a serial in common, and a draw stays in its own",
+        RANGES_APART,
+    ),
+    ("grants are refused in their order", REFUSED_GRANTS),
+    ("who may draw, void and query what", WHO_MAY),
+];
+
 #[test]
 fn grants_and_refusals_are_answered_as_worked_by_hand(rt: HostRuntime) {
-    are_answered(
-        &rt,
-        "no two ranges have a serial in common, and a draw stays in its own",
-        100,
-        RANGES_APART,
-    );
-    are_answered(
-        &rt,
-        "grants are refused in their order",
-        100,
-        REFUSED_GRANTS,
-    );
-    are_answered(&rt, "who may draw, void and query what", 100, WHO_MAY);
+    all_are_answered(&rt, GRANTS_AND_REFUSALS);
 }
 
 /// All that are asked for or none, and nothing is issued for none.
@@ -181,24 +173,22 @@ const SHEET_OF_SIXTEEN: &'static [Step] = &[
     (7, 3, DrawMany(16), 20030, DrawnMany(20030, (1, 16), (0, 1))),
 ];
 
+const LARGER_DRAWS: &'static [(&'static str, &'static [Step])] = &[
+    (
+        "all that are asked for or none, and nothing is issued for none",
+        ALL_OR_NONE,
+    ),
+    (
+        "one range after the other, and no more than they have",
+        RANGE_AFTER_RANGE,
+    ),
+    (
+        "a sheet of sixteen, and one that goes round",
+        SHEET_OF_SIXTEEN,
+    ),
+];
+
 #[test]
 fn larger_draws_are_answered_as_worked_by_hand(rt: HostRuntime) {
-    are_answered(
-        &rt,
-        "all that are asked for or none, and nothing is issued for none",
-        100,
-        ALL_OR_NONE,
-    );
-    are_answered(
-        &rt,
-        "one range after the other, and no more than they have",
-        100,
-        RANGE_AFTER_RANGE,
-    );
-    are_answered(
-        &rt,
-        "a sheet of sixteen, and one that goes round",
-        100,
-        SHEET_OF_SIXTEEN,
-    );
+    all_are_answered(&rt, LARGER_DRAWS);
 }

@@ -300,18 +300,32 @@ pub(crate) fn go_on(rt: &impl Abort, name: &str, book: &mut PlainBook, steps: &[
     same(rt, &name, &first_unlike(book, steps), &None);
 }
 
-/// An empty book whose interval is 30 days answers these steps as their rows say.
-pub(crate) fn are_answered<R: Abort + AllocGlobal>(rt: &R, name: &str, limit: u32, steps: &[Step])
+/// A book whose interval is 30 days, after these steps.
+fn book_of<R: Abort + AllocGlobal>(rt: &R, name: &str, limit: u32, steps: &[Step]) -> PlainBook
     requires least { 1 ≤ limit }
     requires most { limit ≤ 100 }
 {
     let mut book = empty_book(rt.alloc(), limit);
     go_on(rt, name, &mut book, steps);
+    book
+}
+
+/// An empty book whose interval is 30 days answers these steps as their rows say.
+pub(crate) fn are_answered<R: Abort + AllocGlobal>(rt: &R, name: &str, limit: u32, steps: &[Step])
+    requires least { 1 ≤ limit }
+    requires most { limit ≤ 100 }
+{
+    drop(book_of(rt, name, limit, steps));
+}
+
+/// An empty book whose interval is 30 days and whose limit is 100 answers each row's steps as they say.
+pub(crate) fn all_are_answered<R: Abort + AllocGlobal>(rt: &R, rows: &[(&str, &[Step])]) {
+    for (name, steps) in rows {
+        are_answered(rt, name, 100, steps);
+    }
 }
 
 /// A book whose interval is 30 days and whose limit is 100, after these steps.
 pub(crate) fn book_after<R: Abort + AllocGlobal>(rt: &R, name: &str, steps: &[Step]) -> PlainBook {
-    let mut book = empty_book(rt.alloc(), 100);
-    go_on(rt, name, &mut book, steps);
-    book
+    book_of(rt, name, 100, steps)
 }

@@ -1,10 +1,12 @@
 //! The book with an index beside the one without, and what is alike in them.
 
+use crate::expect::same;
 use s10_book::{Book, PlainBook};
 use s10_history::Settings;
 use s10_index::IndexedBook;
 use s10_reports::{ReportFault, write_issues, write_ranges};
 use std::alloc::Global;
+use std::process::Abort;
 
 /// An interval of 30 days, and room for more calls than any test has.
 fn settings() -> Settings {
@@ -59,13 +61,25 @@ fn first_call_unlike<A: Book, B: Book>(one: &mut A, other: &mut B, last: u32) ->
 }
 
 /// The first call up to that number which two books have not alike, and the first of the days on which they do not report alike.
-pub(crate) fn unlike<A: Book, B: Book>(
+fn unlike<A: Book + Drop, B: Book + Drop>(
     alloc: Global,
-    one: &mut A,
-    other: &mut B,
+    mut one: A,
+    mut other: B,
     last: u32,
     days: &[u32],
 ) -> (Option<u32>, Result<Option<u32>, ReportFault>) {
-    let call = first_call_unlike(one, other, last);
-    (call, first_day_unlike(alloc, one, other, days))
+    let call = first_call_unlike(&mut one, &mut other, last);
+    (call, first_day_unlike(alloc, &mut one, &mut other, days))
+}
+
+/// Two books have their calls up to that number alike, and report alike on these days.
+pub(crate) fn are_alike<R: Abort + AllocGlobal, A: Book + Drop, B: Book + Drop>(
+    rt: &R,
+    one: A,
+    other: B,
+    last: u32,
+    days: &[u32],
+) {
+    let found = unlike(rt.alloc(), one, other, last, days);
+    same(rt, &"books", &found, &(None, Ok(None)));
 }

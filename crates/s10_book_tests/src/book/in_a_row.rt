@@ -2,28 +2,17 @@
 
 use crate::book::books::Answered::{Drawn, Granted, Withdrawn};
 use crate::book::books::Asked::{Draw, Grant, Withdraw};
-use crate::book::books::{
-    OPENING, Step, answer, empty_book, first_unlike, gb, id, ra, request, sheet,
-};
+use crate::book::books::{OPENING, Step, answer, book_after, gb, id, ra, request, sheet};
 use crate::expect::same;
-use s10_book::{PlainBook, draws_in_a_row};
+use s10_book::{Book, draws_in_a_row};
 use s10_wire::{Ids, Outcome};
-use std::alloc::Global;
+use std::process::Abort;
 
 /// Who asks, for how many and on which day, and the serials of RA GB that are given.
 type Row = (u32, u8, u32, Option<&'static [u32]>);
 
-/// A book after these steps.
-fn book_of(alloc: Global, steps: &[Step]) -> Option<PlainBook> {
-    let mut book = empty_book(alloc, 100);
-    match first_unlike(&mut book, steps) {
-        Some(_) => None,
-        None => Some(book),
-    }
-}
-
 /// Whether these identifiers are what so many single Draws give, kept one after another.
-fn are_single_draws(book: &mut PlainBook, row: &Row, ids: &Option<Ids>) -> bool {
+fn are_single_draws<B: Book>(book: &mut B, row: &Row, ids: &Option<Ids>) -> bool {
     let (customer, count, day, _) = *row;
     for place in 0..count {
         let request = request(customer, 1000 + u32::from(place), Draw);
@@ -55,26 +44,22 @@ fn are_serials(ids: &Option<Ids>, serials: Option<&[u32]>) -> bool {
     ids.len() == serials.len()
 }
 
-/// Whether a row is as it says after these steps, and like single Draws.
-fn is_right(alloc: Global, steps: &[Step], row: &Row) -> bool {
+/// Whether a row is as it says of a book, and like single Draws of another one.
+fn is_right<B: Book + Drop>(mut book: B, mut other: B, row: &Row) -> bool {
     let (customer, count, day, serials) = *row;
-    let (Some(mut book), Some(mut other)) = (book_of(alloc, steps), book_of(alloc, steps)) else {
-        return false;
-    };
     match draws_in_a_row(&mut book, customer, ra(), gb(), sheet(count), day) {
         Ok(ids) => are_serials(&ids, serials) && are_single_draws(&mut other, row, &ids),
         Err(_) => false,
     }
 }
 
-/// The first row that is not right, if any.
-fn first_wrong(alloc: Global, steps: &[Step], rows: &[Row]) -> Option<usize> {
+/// Each row is right after these steps.
+fn are_right<R: Abort + AllocGlobal>(rt: &R, steps: &[Step], rows: &[Row]) {
     for (place, row) in rows.iter().enumerate() {
-        if !is_right(alloc, steps, row) {
-            return Some(place);
-        }
+        let book = book_after(rt, "for a sheet", steps);
+        let other = book_after(rt, "for single Draws", steps);
+        same(rt, &place, &is_right(book, other, row), &true);
     }
-    None
 }
 
 /// Sheets of customer 7 from the last serial of its range, and of one who has none.
@@ -98,8 +83,7 @@ const TWO_OF_THREE_DRAWN: &'static [Step] = &[
 
 #[test]
 fn a_sheet_from_one_range_has_its_serials_in_turn(rt: HostRuntime) {
-    let wrong = first_wrong(rt.alloc(), TWO_OF_THREE_DRAWN, SHEETS_OF_ONE_RANGE);
-    same(&rt, &"row", &wrong, &None);
+    are_right(&rt, TWO_OF_THREE_DRAWN, SHEETS_OF_ONE_RANGE);
 }
 
 /// Sheets of one range, and of more.
@@ -124,8 +108,7 @@ const THREE_GRANTS: &'static [Step] = &[
 
 #[test]
 fn a_sheet_goes_on_in_the_next_range(rt: HostRuntime) {
-    let wrong = first_wrong(rt.alloc(), THREE_GRANTS, SHEETS_OF_TWO_RANGES);
-    same(&rt, &"row", &wrong, &None);
+    are_right(&rt, THREE_GRANTS, SHEETS_OF_TWO_RANGES);
 }
 
 /// Sheets that go on behind a closed range.
@@ -145,10 +128,5 @@ const SECOND_OF_THREE_CLOSED: &'static [Step] = &[
 
 #[test]
 fn a_sheet_passes_over_a_closed_range(rt: HostRuntime) {
-    let wrong = first_wrong(
-        rt.alloc(),
-        SECOND_OF_THREE_CLOSED,
-        SHEETS_OVER_A_CLOSED_RANGE,
-    );
-    same(&rt, &"row", &wrong, &None);
+    are_right(&rt, SECOND_OF_THREE_CLOSED, SHEETS_OVER_A_CLOSED_RANGE);
 }

@@ -116,11 +116,13 @@ fn is_of_nine_calls(book: &PlainBook) -> bool {
     book.len() == 9 && book.day() == 20030 && settings.interval() == 30 && settings.limit() == 100
 }
 
+/// Days on which 3 serials of the first range are used and none is voided, and how many are free.
+const FREE: &[(u32, u32)] = &[(0, 1), (20030, 1), (20059, 1), (20060, 3)];
+
 fn usages_are_read(rt: &impl Abort, book: &mut PlainBook) {
-    assert!(rt; is_used(book, 0, 3, 0, 1));
-    assert!(rt; is_used(book, 20030, 3, 0, 1));
-    assert!(rt; is_used(book, 20059, 3, 0, 1));
-    assert!(rt; is_used(book, 20060, 3, 0, 3));
+    for (day, free) in FREE {
+        assert!(rt; is_used(book, *day, 3, 0, *free));
+    }
 }
 
 fn calls_are_read(rt: &impl Abort, book: &mut PlainBook) {
@@ -141,16 +143,24 @@ fn ranges_are_read(rt: &impl Abort, book: &mut PlainBook) {
     assert!(rt; gives_next(book, 2, issue(20000, false, 5)));
 }
 
+fn six_calls_are_read(rt: &impl Abort, book: &mut PlainBook) {
+    assert!(rt; was_last_issued(book, issue(20000, true, 2)));
+    assert!(rt; is_used(book, 20000, 3, 1, 0));
+}
+
+fn nine_calls_are_read(rt: &impl Abort, mut book: PlainBook) {
+    assert!(rt; is_of_nine_calls(&book));
+    usages_are_read(rt, &mut book);
+    calls_are_read(rt, &mut book);
+    ranges_are_read(rt, &mut book);
+}
+
 #[test]
 fn reads_answer_from_the_kept_calls(rt: HostRuntime) {
     let mut book = book_after(&rt, "six calls", SIX_CALLS);
-    assert!(rt; was_last_issued(&mut book, issue(20000, true, 2)));
-    assert!(rt; is_used(&mut book, 20000, 3, 1, 0));
+    six_calls_are_read(&rt, &mut book);
     go_on(&rt, "three more", &mut book, THREE_MORE);
-    assert!(rt; is_of_nine_calls(&book));
-    usages_are_read(&rt, &mut book);
-    calls_are_read(&rt, &mut book);
-    ranges_are_read(&rt, &mut book);
+    nine_calls_are_read(&rt, book);
 }
 
 /// The one issue of the sixth call.

@@ -4,10 +4,10 @@ use crate::book::books::Answered::{Drawn, DrawnMany, Granted, Voided, Withdrawn}
 use crate::book::books::Asked::{Draw, DrawMany, Grant, Void, Withdraw};
 use crate::book::books::{NINE_CALLS, OPENING, SIX_CALLS, Step, book_after};
 use crate::expect::same;
-use s10_book::{Book, BookFault, PlainBook, TripBook};
+use crate::hiccup::Hiccup;
+use s10_book::{Book, BookFault, TripBook};
 use s10_reports::{ReportFault, write_issues, write_ranges};
 use std::alloc::Global;
-use std::io;
 use std::io::Write;
 use std::process::Abort;
 
@@ -59,23 +59,41 @@ fn write_report<B: Book, W: Write>(
 }
 
 /// Whether this is that report.
-fn reports(alloc: Global, book: &mut PlainBook, day: Option<u32>, report: &[u8]) -> bool {
+fn reports<B: Book>(alloc: Global, book: &mut B, day: Option<u32>, report: &[u8]) -> bool {
     let mut out = Vec::new(alloc);
     write_report(book, day, &mut out) == Ok(()) && out.as_slice() == report
 }
 
+/// A report: of the ranges on a day, or of the issues where no day is named.
+type Report = (Option<u32>, &'static [u8]);
+
+/// The book's reports are these, one after another.
+fn writes<R: Abort + AllocGlobal, B: Book + Drop>(rt: &R, mut book: B, wanted: &[Report]) {
+    for (day, report) in wanted {
+        assert!(rt; reports(rt.alloc(), &mut book, *day, report));
+    }
+}
+
+/// After these steps a book's reports are these.
+fn are_reported<R: Abort + AllocGlobal>(rt: &R, name: &str, steps: &[Step], wanted: &[Report]) {
+    writes(rt, book_after(rt, name, steps), wanted);
+}
+
+const NINE_CALLS_REPORTS: &'static [Report] = &[(Some(20030), RANGES), (None, ISSUES)];
+
 #[test]
 fn reports_are_as_worked_by_hand(rt: HostRuntime) {
-    let mut book = book_after(&rt, "nine calls", NINE_CALLS);
-    assert!(rt; reports(rt.alloc(), &mut book, Some(20030), RANGES));
-    assert!(rt; reports(rt.alloc(), &mut book, None, ISSUES));
+    are_reported(&rt, "nine calls", NINE_CALLS, NINE_CALLS_REPORTS);
 }
+
+const SIX_CALLS_REPORTS: &'static [Report] = &[
+    (Some(20000), SIX_CALLS_RANGES),
+    (None, SIX_CALLS_ISSUES),
+];
 
 #[test]
 fn a_voided_identifier_is_counted_and_named(rt: HostRuntime) {
-    let mut book = book_after(&rt, "six calls", SIX_CALLS);
-    assert!(rt; reports(rt.alloc(), &mut book, Some(20000), SIX_CALLS_RANGES));
-    assert!(rt; reports(rt.alloc(), &mut book, None, SIX_CALLS_ISSUES));
+    are_reported(&rt, "six calls", SIX_CALLS, SIX_CALLS_REPORTS);
 }
 
 /// Two sheets, and a Void of what is on both.
@@ -86,11 +104,11 @@ const TWO_SHEETS: &'static [Step] = &[
     (7, 3, Void(0), 20030, Voided),
 ];
 
+const SHEETS_REPORTS: &'static [Report] = &[(Some(20030), SHEETS_RANGES), (None, SHEETS_ISSUES)];
+
 #[test]
 fn a_sheet_has_a_line_for_each_identifier(rt: HostRuntime) {
-    let mut book = book_after(&rt, "two sheets", TWO_SHEETS);
-    assert!(rt; reports(rt.alloc(), &mut book, Some(20030), SHEETS_RANGES));
-    assert!(rt; reports(rt.alloc(), &mut book, None, SHEETS_ISSUES));
+    are_reported(&rt, "two sheets", TWO_SHEETS, SHEETS_REPORTS);
 }
 
 /// A range is closed, and another granted behind it.
@@ -104,16 +122,14 @@ const CLOSED_RANGE: &'static [Step] = &[
 
 #[test]
 fn the_line_of_a_closed_range_says_so(rt: HostRuntime) {
-    let mut book = book_after(&rt, "a closed range", CLOSED_RANGE);
-    assert!(rt; reports(rt.alloc(), &mut book, Some(20000), CLOSED_RANGES));
+    let wanted = &[(Some(20000), CLOSED_RANGES)];
+    are_reported(&rt, "a closed range", CLOSED_RANGE, wanted);
 }
 
 #[test]
 fn an_empty_ledger_has_headers_alone(rt: HostRuntime) {
-    let mut book = book_after(&rt, "empty", &[]);
-    assert!(rt; reports(rt.alloc(), &mut book, Some(20000), NO_RANGES));
-    let mut book = book_after(&rt, "one grant", &[OPENING]);
-    assert!(rt; reports(rt.alloc(), &mut book, None, NO_ISSUES));
+    are_reported(&rt, "empty", &[], &[(Some(20000), NO_RANGES)]);
+    are_reported(&rt, "one grant", &[OPENING], &[(None, NO_ISSUES)]);
 }
 
 /// Whether a text ends where a line of the whole ends.
@@ -121,9 +137,8 @@ fn is_of_whole_lines(text: &[u8], whole: &[u8]) -> bool {
     whole.starts_with(text) && (text.is_empty() || text.ends_with(b"\n"))
 }
 
-/// Whether a report stops at this call of the book, after whole lines.
-fn stops(alloc: Global, book: PlainBook, at: u64, day: Option<u32>, whole: &[u8]) -> bool {
-    let mut book = TripBook::new(book, at);
+/// Whether the report of a book that fails stops after whole lines.
+fn stops<B: Book + Drop>(alloc: Global, mut book: B, day: Option<u32>, whole: &[u8]) -> bool {
     let mut out = Vec::new(alloc);
     write_report(&mut book, day, &mut out) == Err(ReportFault::Book(BookFault::Store))
         && is_of_whole_lines(out.as_slice(), whole)
@@ -132,8 +147,8 @@ fn stops(alloc: Global, book: PlainBook, at: u64, day: Option<u32>, whole: &[u8]
 /// The first call of the book, of the nine calls, at which a report does not stop: it makes no more.
 fn first_passed_over<R: Abort + AllocGlobal>(rt: &R, day: Option<u32>, whole: &[u8]) -> u64 {
     for at in 0..100u64 {
-        let book = book_after(rt, "nine calls", NINE_CALLS);
-        if !stops(rt.alloc(), book, at, day, whole) {
+        let book = TripBook::new(book_after(rt, "nine calls", NINE_CALLS), at);
+        if !stops(rt.alloc(), book, day, whole) {
             return at;
         }
     }
@@ -152,47 +167,10 @@ fn a_book_that_fails_leaves_whole_lines(rt: HostRuntime) {
     );
 }
 
-/// A writer that takes so many bytes, then fails once, and from then on takes all.
-#[derive(Drop)]
-struct Hiccup {
-    bytes: Vec<u8>,
-    room: usize,
-    failed: bool,
-}
-
-impl Write for Hiccup {
-    fn write(&mut self, text: &[u8]) -> io::Result<usize> {
-        if self.failed {
-            return self.bytes.write(text);
-        }
-        let taken = self.room.min(text.len());
-        if taken == 0 && !text.is_empty() {
-            self.failed = true;
-            return Err(io::Error::from(io::ErrorKind::Other));
-        }
-        self.room -= taken;
-        self.bytes.write(&text[..taken])
-    }
-
-    fn flush(&mut self) -> io::Result<()> {
-        Ok(())
-    }
-}
-
-impl Hiccup {
-    fn new(alloc: Global, room: usize) -> Hiccup {
-        Hiccup {
-            bytes: Vec::new(alloc),
-            room,
-            failed: false,
-        }
-    }
-}
-
 /// Whether a report on a writer that cannot take it whole is its beginning up to where the writer failed.
-fn is_cut(
+fn is_cut<B: Book>(
     alloc: Global,
-    book: &mut PlainBook,
+    book: &mut B,
     room: usize,
     day: Option<u32>,
     whole: &[u8],
@@ -205,7 +183,7 @@ fn is_cut(
 }
 
 /// How many bytes a writer has room for at least that takes a report whole.
-fn first_uncut(alloc: Global, book: &mut PlainBook, day: Option<u32>, whole: &[u8]) -> usize {
+fn first_uncut<B: Book>(alloc: Global, book: &mut B, day: Option<u32>, whole: &[u8]) -> usize {
     for room in 0..whole.len() {
         if !is_cut(alloc, book, room, day, whole) {
             return room;
@@ -214,8 +192,21 @@ fn first_uncut(alloc: Global, book: &mut PlainBook, day: Option<u32>, whole: &[u
     whole.len()
 }
 
+/// Each of the book's reports is cut where the writer has no room for it whole.
+fn are_cut<R: Abort + AllocGlobal, B: Book + Drop>(rt: &R, mut book: B, reports: &[Report]) {
+    for (day, whole) in reports {
+        let uncut = first_uncut(rt.alloc(), &mut book, *day, whole);
+        same(rt, day, &uncut, &whole.len());
+    }
+}
+
+const TEXTS: &[(ReportFault, &str)] = &[
+    (ReportFault::Book(BookFault::Memory), "book: memory"),
+    (ReportFault::Write, "the report could not be written"),
+];
+
 /// Whether a fault is written as this text.
-fn has_text(alloc: Global, fault: ReportFault, text: &str) -> bool {
+fn has_text(alloc: Global, fault: &ReportFault, text: &str) -> bool {
     match fault.to_string(alloc) {
         Ok(found) => found.as_str() == text,
         Err(_) => false,
@@ -224,18 +215,9 @@ fn has_text(alloc: Global, fault: ReportFault, text: &str) -> bool {
 
 #[test]
 fn a_writer_that_fails_once_has_got_the_beginning_of_the_report(rt: HostRuntime) {
-    let mut book = book_after(&rt, "nine calls", NINE_CALLS);
-    let uncut = first_uncut(rt.alloc(), &mut book, None, ISSUES);
-    same(&rt, &"issues", &uncut, &ISSUES.len());
-    let uncut = first_uncut(rt.alloc(), &mut book, Some(20030), RANGES);
-    same(&rt, &"ranges", &uncut, &RANGES.len());
-    let memory = ReportFault::Book(BookFault::Memory);
-    assert!(rt; has_text(rt.alloc(), memory, "book: memory"));
-    assert!(rt;
-        has_text(
-            rt.alloc(),
-            ReportFault::Write,
-            "the report could not be written"
-        )
-    );
+    let book = book_after(&rt, "nine calls", NINE_CALLS);
+    are_cut(&rt, book, &[(None, ISSUES), (Some(20030), RANGES)]);
+    for (fault, text) in TEXTS {
+        assert!(rt; has_text(rt.alloc(), fault, text));
+    }
 }

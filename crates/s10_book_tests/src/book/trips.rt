@@ -1,6 +1,6 @@
 //! Which call of a book that fails once is the one that fails.
 
-use crate::book::books::{OPENING, answer, empty_book, first_unlike, id, sheet};
+use crate::book::books::{OPENING, answer, book_after, id, sheet};
 use crate::expect::same;
 use s10_book::{Book, BookFault, Settle, TripBook, decide, draws_in_a_row};
 use s10_core::Id;
@@ -8,10 +8,11 @@ use s10_history::{Block, Holding};
 use s10_reports::{ReportFault, write_ranges};
 use s10_wire::{Body, Request};
 use std::alloc::Global;
+use std::process::Abort;
 
-/// What a book is asked.
+/// A read of a book.
 #[derive(Clone, Copy)]
-enum Question {
+enum Read {
     Find,
     Entry,
     Range,
@@ -19,6 +20,12 @@ enum Question {
     NextRange,
     Covering,
     LastIssue,
+}
+
+/// What a book is asked.
+#[derive(Clone, Copy)]
+enum Question {
+    Read(Read),
     Settle,
     /// What a Draw would be given: the customer's range is looked for, and its candidate.
     Candidate,
@@ -35,13 +42,13 @@ enum Question {
 
 /// Each question by its name, and how many calls of the book it takes.
 const QUESTIONS: &[(&str, Question, u64)] = &[
-    ("find", Question::Find, 1),
-    ("entry", Question::Entry, 1),
-    ("range", Question::Range, 1),
-    ("closed", Question::Closed, 1),
-    ("next range", Question::NextRange, 1),
-    ("covering", Question::Covering, 1),
-    ("last issue", Question::LastIssue, 1),
+    ("find", Question::Read(Read::Find), 1),
+    ("entry", Question::Read(Read::Entry), 1),
+    ("range", Question::Read(Read::Range), 1),
+    ("closed", Question::Read(Read::Closed), 1),
+    ("next range", Question::Read(Read::NextRange), 1),
+    ("covering", Question::Read(Read::Covering), 1),
+    ("last issue", Question::Read(Read::LastIssue), 1),
     ("settle", Question::Settle, 1),
     ("candidate", Question::Candidate, 2),
     ("sheet", Question::Sheet, 2),
@@ -108,6 +115,23 @@ fn sheet_of_one<B: Book>(book: &mut B, id: &Id) -> Result<(), BookFault> {
     told(draws_in_a_row(book, 7, id.service, id.country, one, 20_000))
 }
 
+fn look_up<B: Book>(book: &mut B, read: Read, id: &Id) -> Result<(), BookFault> {
+    match read {
+        Read::Find => told(book.find(0, 1)),
+        Read::Entry => told(book.entry(1)),
+        Read::Range => told(book.range(1)),
+        Read::Closed => told(book.closed(1)),
+        Read::NextRange => next_range(book, id),
+        Read::Covering => covering(book, id),
+        Read::LastIssue => told(book.last_issue(id)),
+    }
+}
+
+fn keep<B: Book>(book: &mut B, id: &Id, number: u32) -> Result<(), BookFault> {
+    let query = asked(0, number, Body::Query { id: *id });
+    told(answer(book, &query, 20_000))
+}
+
 fn ask<B: Settle>(
     alloc: Global,
     book: &mut B,
@@ -116,19 +140,13 @@ fn ask<B: Settle>(
     number: u32,
 ) -> Result<(), BookFault> {
     match question {
-        Question::Find => told(book.find(0, 1)),
-        Question::Entry => told(book.entry(1)),
-        Question::Range => told(book.range(1)),
-        Question::Closed => told(book.closed(1)),
-        Question::NextRange => next_range(book, id),
-        Question::Covering => covering(book, id),
-        Question::LastIssue => told(book.last_issue(id)),
+        Question::Read(read) => look_up(book, read, id),
         Question::Settle => book.settle(),
         Question::Candidate => decided(book, &asked(7, number, draw_of(id))),
         Question::Sheet => sheet_of_one(book, id),
         Question::Usage => report(alloc, book),
         Question::Withdraw => decided(book, &asked(0, number, Body::Withdraw { range: 1 })),
-        Question::Keep => told(answer(book, &asked(0, number, Body::Query { id: *id }), 20_000)),
+        Question::Keep => keep(book, id, number),
     }
 }
 
@@ -147,31 +165,32 @@ fn is_refused<B: Settle>(
     }
 }
 
-/// Which of two questions of a kind, and of a third one of a single call, a book refuses that fails at one of its calls,
-/// counted from 0.
-fn refused(alloc: Global, question: Question, at: u64) -> Option<[bool; 3]> {
-    let mut inner = empty_book(alloc, 100);
-    if first_unlike(&mut inner, &[OPENING]).is_some() {
-        return None;
-    }
-    let mut book = TripBook::new(inner, at);
+/// Which of two questions of a kind, and of a third one of a single call, a book refuses.
+fn refused<B: Settle + Drop>(alloc: Global, mut book: B, question: Question) -> Option<[bool; 3]> {
     let id = id(0);
-    let first = is_refused(alloc, &mut book, question, &id, 2);
-    let second = is_refused(alloc, &mut book, question, &id, 3);
-    let third = is_refused(alloc, &mut book, Question::Entry, &id, 4);
-    match (first, second, third) {
-        (Some(first), Some(second), Some(third)) => Some([first, second, third]),
-        _ => None,
-    }
+    let first = is_refused(alloc, &mut book, question, &id, 2)?;
+    let second = is_refused(alloc, &mut book, question, &id, 3)?;
+    let third = is_refused(alloc, &mut book, Question::Read(Read::Entry), &id, 4)?;
+    Some([first, second, third])
+}
+
+/// Which of three questions a book refuses that fails at one of its calls, counted from 0.
+fn refused_at<R: Abort + AllocGlobal>(rt: &R, question: Question, at: u64) -> Option<[bool; 3]> {
+    let inner = book_after(rt, "opening", &[OPENING]);
+    refused(rt.alloc(), TripBook::new(inner, at), question)
 }
 
 /// The first call, counted from 0, that is not refused in turn, if any, where a question of the kind makes so many: a book that
 /// fails at one of its calls refuses that one of the questions that makes it.
-fn first_passed_over(alloc: Global, question: Question, calls: u64) -> Option<u64> {
+fn first_passed_over<R: Abort + AllocGlobal>(
+    rt: &R,
+    question: Question,
+    calls: u64,
+) -> Option<u64> {
     let both = calls.saturating_mul(2);
     for at in 0..both.saturating_add(2) {
         let expected = [at < calls, calls <= at && at < both, at == both];
-        if refused(alloc, question, at) != Some(expected) {
+        if refused_at(rt, question, at) != Some(expected) {
             return Some(at);
         }
     }
@@ -181,7 +200,7 @@ fn first_passed_over(alloc: Global, question: Question, calls: u64) -> Option<u6
 #[test]
 fn each_call_of_the_book_is_counted_and_fails_in_its_turn(rt: HostRuntime) {
     for (name, question, calls) in QUESTIONS {
-        let passed_over = first_passed_over(rt.alloc(), *question, *calls);
+        let passed_over = first_passed_over(&rt, *question, *calls);
         same(&rt, name, &passed_over, &None);
     }
 }

@@ -7,8 +7,8 @@ use crate::book::books::Answered::{
 use crate::book::books::Asked::{
     Draw, DrawMany, DrawOfRb, Grant, GrantOfRb, Query, Void, Withdraw,
 };
-use crate::book::books::{OPENING, Step, are_answered, book_after, gb, id, ra};
-use s10_book::{Book, BookFault, PlainBook};
+use crate::book::books::{OPENING, Step, all_are_answered, are_answered, book_after, gb, id, ra};
+use s10_book::{Book, BookFault};
 use s10_history::{Block, Holding, Range};
 use s10_wire::Status;
 use std::process::Abort;
@@ -51,20 +51,20 @@ const CLOSED_RANGE: &'static [Step] = &[
 /// A full ledger withdraws nothing.
 const FULL_LEDGER: &'static [Step] = &[OPENING, (0, 2, Withdraw(1), 20000, Full)];
 
+const WITHDRAWALS: &'static [(&'static str, &'static [Step])] = &[
+    (
+        "who asks comes first, then whether there is such a range, then whether it is closed",
+        ORDER_OF_THE_RULE,
+    ),
+    (
+        "a closed range keeps its serials and its number",
+        CLOSED_RANGE,
+    ),
+];
+
 #[test]
 fn withdrawals_are_answered_in_the_order_of_the_rule(rt: HostRuntime) {
-    are_answered(
-        &rt,
-        "who asks comes first, then whether there is such a range, then whether it is closed",
-        100,
-        ORDER_OF_THE_RULE,
-    );
-    are_answered(
-        &rt,
-        "a closed range keeps its serials and its number",
-        100,
-        CLOSED_RANGE,
-    );
+    all_are_answered(&rt, WITHDRAWALS);
     are_answered(&rt, "a full ledger withdraws nothing", 1, FULL_LEDGER);
 }
 
@@ -99,20 +99,20 @@ const OTHER_RANGES: &'static [Step] = &[
     (8, 2, DrawMany(2), 20000, DrawnMany(20000, (5, 7), (0, 0))),
 ];
 
+const BEHIND_A_WITHDRAWAL: &'static [(&'static str, &'static [Step])] = &[
+    (
+        "what it gave is voided and told of as before",
+        VOIDED_AS_BEFORE,
+    ),
+    (
+        "ranges of others, and of another service, are as open as before",
+        OTHER_RANGES,
+    ),
+];
+
 #[test]
 fn a_closed_range_gives_no_more_identifiers(rt: HostRuntime) {
-    are_answered(
-        &rt,
-        "what it gave is voided and told of as before",
-        100,
-        VOIDED_AS_BEFORE,
-    );
-    are_answered(
-        &rt,
-        "ranges of others, and of another service, are as open as before",
-        100,
-        OTHER_RANGES,
-    );
+    all_are_answered(&rt, BEHIND_A_WITHDRAWAL);
 }
 
 /// None is free where an open range has none, and there is no range where all are closed.
@@ -151,26 +151,24 @@ const SHEET_OVER_A_CLOSED_RANGE: &'static [Step] = &[
     (7, 3, Draw, 20000, Drawn(20000, 9)),
 ];
 
+const DRAWS: &'static [(&'static str, &'static [Step])] = &[
+    (
+        "none is free where an open range has none, and there is no range where all are closed",
+        OPEN_RANGES,
+    ),
+    (
+        "a sheet of three is of the open range alone, and not before the day of the withdrawal",
+        SHEET_OF_AN_OPEN_RANGE,
+    ),
+    (
+        "a sheet passes over a closed range between two others",
+        SHEET_OVER_A_CLOSED_RANGE,
+    ),
+];
+
 #[test]
 fn draws_go_on_in_the_ranges_that_are_open(rt: HostRuntime) {
-    are_answered(
-        &rt,
-        "none is free where an open range has none, and there is no range where all are closed",
-        100,
-        OPEN_RANGES,
-    );
-    are_answered(
-        &rt,
-        "a sheet of three is of the open range alone, and not before the day of the withdrawal",
-        100,
-        SHEET_OF_AN_OPEN_RANGE,
-    );
-    are_answered(
-        &rt,
-        "a sheet passes over a closed range between two others",
-        100,
-        SHEET_OVER_A_CLOSED_RANGE,
-    );
+    all_are_answered(&rt, DRAWS);
 }
 
 /// Whether a range of this number was found; where none is named, whether there was none.
@@ -183,12 +181,12 @@ fn has_number(found: Result<Option<Range>, BookFault>, num: Option<u32>) -> bool
 }
 
 /// Whether the range of that number is closed, or is not.
-fn has_closed(book: &mut PlainBook, num: u32, closed: bool) -> bool {
+fn has_closed<B: Book>(book: &mut B, num: u32, closed: bool) -> bool {
     book.closed(num) == Ok(closed)
 }
 
 /// Whether the next open range of customer 7 behind that one has this number.
-fn has_open(book: &mut PlainBook, after: u32, num: Option<u32>) -> bool {
+fn has_open<B: Book>(book: &mut B, after: u32, num: Option<u32>) -> bool {
     let held = Holding {
         holder: 7,
         service: ra(),
@@ -198,30 +196,42 @@ fn has_open(book: &mut PlainBook, after: u32, num: Option<u32>) -> bool {
 }
 
 /// Whether the range that has a serial has this number.
-fn has_over(book: &mut PlainBook, value: u32, num: Option<u32>) -> bool {
+fn has_over<B: Book>(book: &mut B, value: u32, num: Option<u32>) -> bool {
     has_number(book.covering(&Block::of(&id(value))), num)
 }
 
-fn are_closed_as_told(rt: &impl Abort, book: &mut PlainBook) {
-    assert!(rt; has_closed(book, 0, false));
-    assert!(rt; has_closed(book, 1, false));
-    assert!(rt; has_closed(book, 2, true));
-    assert!(rt; has_closed(book, 3, false));
-    assert!(rt; has_closed(book, 4, false));
+/// Numbers of ranges, and whether they are closed.
+const CLOSED: &[(u32, bool)] = &[(0, false), (1, false), (2, true), (3, false), (4, false)];
+
+fn are_closed_as_told<B: Book>(rt: &impl Abort, book: &mut B) {
+    for (num, closed) in CLOSED {
+        assert!(rt; has_closed(book, *num, *closed));
+    }
 }
 
-fn open_ranges_are_next(rt: &impl Abort, book: &mut PlainBook) {
-    assert!(rt; has_open(book, 0, Some(1)));
-    assert!(rt; has_open(book, 1, Some(3)));
-    assert!(rt; has_open(book, 2, Some(3)));
-    assert!(rt; has_open(book, 3, None));
+/// Numbers of ranges, and that of the next open one behind each.
+const NEXT: &[(u32, Option<u32>)] = &[(0, Some(1)), (1, Some(3)), (2, Some(3)), (3, None)];
+
+fn open_ranges_are_next<B: Book>(rt: &impl Abort, book: &mut B) {
+    for (after, num) in NEXT {
+        assert!(rt; has_open(book, *after, *num));
+    }
 }
 
-fn all_ranges_are_over_their_serials(rt: &impl Abort, book: &mut PlainBook) {
-    assert!(rt; has_over(book, 2, Some(1)));
-    assert!(rt; has_over(book, 4, Some(2)));
-    assert!(rt; has_over(book, 8, Some(3)));
-    assert!(rt; has_over(book, 7, None));
+/// Serials, and the number of the range of each.
+const OVER: &[(u32, Option<u32>)] = &[(2, Some(1)), (4, Some(2)), (8, Some(3)), (7, None)];
+
+fn all_ranges_are_over_their_serials<B: Book>(rt: &impl Abort, book: &mut B) {
+    for (value, num) in OVER {
+        assert!(rt; has_over(book, *value, *num));
+    }
+}
+
+/// The second of the book's three ranges is closed: a Draw alone passes over it.
+fn second_is_closed<B: Book + Drop>(rt: &impl Abort, mut book: B) {
+    are_closed_as_told(rt, &mut book);
+    open_ranges_are_next(rt, &mut book);
+    all_ranges_are_over_their_serials(rt, &mut book);
 }
 
 /// The second of three ranges is closed.
@@ -236,12 +246,10 @@ const SECOND_OF_THREE_CLOSED: &'static [Step] = &[
 
 #[test]
 fn a_draw_alone_passes_over_a_closed_range(rt: HostRuntime) {
-    let mut book = book_after(
+    let book = book_after(
         &rt,
         "the second of three ranges is closed",
         SECOND_OF_THREE_CLOSED,
     );
-    are_closed_as_told(&rt, &mut book);
-    open_ranges_are_next(&rt, &mut book);
-    all_ranges_are_over_their_serials(&rt, &mut book);
+    second_is_closed(&rt, book);
 }

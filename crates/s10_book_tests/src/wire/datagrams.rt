@@ -1,7 +1,7 @@
 //! The datagrams: read, written, cut short and changed.
 
 use crate::expect::same;
-use crate::wire::vectors::{Asked, Call, Came, REPLIES, REQUESTS, outcome, reply, request};
+use crate::wire::vectors::{Asked, Call, Came, outcome, replies, reply, request, requests};
 use s10_wire::{
     Frame, Reply, Request, WireFault, decode_reply, decode_request, encode_reply, encode_request,
 };
@@ -15,7 +15,7 @@ fn stand_for(rt: &impl Abort, bytes: &[u8], request: &Request) {
 
 #[test]
 fn requests_are_read_and_written_as_they_stand(rt: HostRuntime) {
-    for (bytes, call) in REQUESTS {
+    for (bytes, call) in requests() {
         stand_for(&rt, bytes, &request(&rt, call));
     }
 }
@@ -28,7 +28,7 @@ fn stand_for_reply(rt: &impl Abort, bytes: &[u8], reply: &Reply) {
 
 #[test]
 fn replies_are_read_and_written_as_they_stand(rt: HostRuntime) {
-    for (bytes, call, came) in REPLIES {
+    for (bytes, call, came) in replies() {
         let reply = reply(&rt, bytes, call, came);
         stand_for_reply(&rt, bytes, &reply);
         same(&rt, bytes, &reply.request(), &request(&rt, call));
@@ -62,10 +62,10 @@ fn are_no_reply_where_cut(rt: &impl Abort, bytes: &[u8]) {
 
 #[test]
 fn a_datagram_cut_short_is_refused(rt: HostRuntime) {
-    for (bytes, _) in REQUESTS {
+    for (bytes, _) in requests() {
         are_refused_where_cut(&rt, bytes);
     }
-    for (bytes, _, _) in REPLIES {
+    for (bytes, _, _) in replies() {
         are_no_reply_where_cut(&rt, bytes);
     }
 }

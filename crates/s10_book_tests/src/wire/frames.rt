@@ -1,13 +1,13 @@
 //! Frames, which are their bytes alone.
 
 use crate::expect::same;
-use crate::wire::vectors::{REPLIES, REQUESTS, reply, request};
+use crate::wire::vectors::{replies, reply, request, requests};
 use s10_wire::{Frame, encode_reply, encode_request};
 use std::process::Abort;
 
 /// The frame is that of each request with these bytes, and of no other.
 fn is_told_by_its_bytes(rt: &impl Abort, frame: &Frame, bytes: &[u8]) {
-    for (other, call) in REQUESTS {
+    for (other, call) in requests() {
         let is_frame = *frame == encode_request(&request(rt, call));
         same(rt, &bytes, &is_frame, &(bytes == *other));
     }
@@ -15,14 +15,14 @@ fn is_told_by_its_bytes(rt: &impl Abort, frame: &Frame, bytes: &[u8]) {
 
 #[test]
 fn requests_have_equal_frames_where_their_bytes_are_equal(rt: HostRuntime) {
-    for (bytes, call) in REQUESTS {
+    for (bytes, call) in requests() {
         is_told_by_its_bytes(&rt, &encode_request(&request(&rt, call)), bytes);
     }
 }
 
 #[test]
 fn no_reply_has_the_frame_of_a_request(rt: HostRuntime) {
-    for (bytes, call, came) in REPLIES {
+    for (bytes, call, came) in replies() {
         let frame = encode_reply(&reply(&rt, bytes, call, came));
         is_told_by_its_bytes(&rt, &frame, bytes);
     }

@@ -1,12 +1,11 @@
 //! Requests and replies as lines.
 
 use crate::expect::same;
+use crate::hiccup::Hiccup;
 use crate::wire::vectors::{Asked, Call, Came, reply, request};
 use s10_lines::{WriteFault, write_reply_line, write_request_line};
 use s10_wire::{Reply, Request, Status};
 use std::alloc::Global;
-use std::io;
-use std::io::Write;
 use std::process::Abort;
 
 /// Requests and their lines.
@@ -38,7 +37,7 @@ const REQUEST_LINES: &[(Call, &[u8])] = &[
 ];
 
 /// Requests, what they came to, and the lines of the replies.
-const REPLY_LINES: &[(Call, Came, &[u8])] = &[
+const REPLY_LINES: &'static [(Call, Came, &'static [u8])] = &[
     (
         (0, 1, Asked::Grant(7, 0, 2)),
         Came::Granted(1),
@@ -186,6 +185,11 @@ const REPLY_LINES: &[(Call, Came, &[u8])] = &[
     ),
 ];
 
+// A table is proved anew wherever it is named, so this one is named once.
+fn reply_lines() -> &'static [(Call, Came, &'static [u8])] {
+    REPLY_LINES
+}
+
 /// The line was written whole.
 fn is_written(rt: &impl Abort, answer: Result<(), WriteFault>, out: &[u8], line: &[u8]) {
     same(rt, &line, &answer, &Ok(()));
@@ -203,47 +207,10 @@ fn each_kind_of_request_has_its_line(rt: HostRuntime) {
 
 #[test]
 fn each_outcome_of_each_kind_has_its_line(rt: HostRuntime) {
-    for (call, came, line) in REPLY_LINES {
+    for (call, came, line) in reply_lines() {
         let mut out = Vec::new(rt.alloc());
         let answer = write_reply_line(&reply(&rt, line, call, came), &mut out);
         is_written(&rt, answer, &out, line);
-    }
-}
-
-/// A writer that takes so many bytes, then fails once, and from then on takes all.
-#[derive(Drop)]
-struct Hiccup {
-    bytes: Vec<u8>,
-    room: usize,
-    failed: bool,
-}
-
-impl Write for Hiccup {
-    fn write(&mut self, text: &[u8]) -> io::Result<usize> {
-        if self.failed {
-            return self.bytes.write(text);
-        }
-        let taken = self.room.min(text.len());
-        if taken == 0 && !text.is_empty() {
-            self.failed = true;
-            return Err(io::Error::from(io::ErrorKind::Other));
-        }
-        self.room -= taken;
-        self.bytes.write(&text[..taken])
-    }
-
-    fn flush(&mut self) -> io::Result<()> {
-        Ok(())
-    }
-}
-
-impl Hiccup {
-    fn new(alloc: Global, room: usize) -> Hiccup {
-        Hiccup {
-            bytes: Vec::new(alloc),
-            room,
-            failed: false,
-        }
     }
 }
 
@@ -283,7 +250,7 @@ fn a_writer_that_fails_once_has_got_the_beginning_of_the_line(rt: HostRuntime) {
     for (call, line) in REQUEST_LINES {
         is_cut_everywhere(&rt, rt.alloc(), &request(&rt, call), line);
     }
-    for (call, came, line) in REPLY_LINES {
+    for (call, came, line) in reply_lines() {
         is_reply_cut_everywhere(&rt, rt.alloc(), &reply(&rt, line, call, came), line);
     }
 }

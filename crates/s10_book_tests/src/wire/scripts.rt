@@ -5,6 +5,7 @@ use s10_core::{Country, Service};
 use s10_link::{Link, LinkFault, Packet, Peer, Receipt, ScriptLink, Trace};
 use s10_wire::{Body, Frame, Request, encode_request};
 use std::alloc::{AllocError, Global};
+use std::process::Abort;
 use std::test::Fail;
 
 const NEAR: Peer = Peer {
@@ -40,9 +41,19 @@ fn new_script(alloc: Global, packet: Packet) -> Result<ScriptLink, AllocError> {
     ScriptLink::new(alloc, receipts, sends)
 }
 
+/// That link, for which there is memory.
+fn new_link<R: Abort + AllocGlobal>(rt: &R, packet: Packet) -> ScriptLink {
+    new_script(rt.alloc(), packet).expect(rt, "a link")
+}
+
 /// Whether the link's trace and log are these.
 fn has_met(link: &ScriptLink, trace: Trace, log: &[(Peer, Frame)]) -> bool {
     link.trace() == trace && link.log() == log
+}
+
+/// A link's trace and log are these in the end.
+fn ends_with(rt: &impl Abort, link: ScriptLink, trace: Trace, log: &[(Peer, Frame)]) {
+    assert!(rt; has_met(&link, trace, log));
 }
 
 /// Whether four receives give the packet, nothing, a failure, and nothing.
@@ -60,15 +71,20 @@ const SENDS: &[(u32, Result<(), LinkFault>)] = &[
     (2, Err(LinkFault::Spent)),
 ];
 
+/// The sends end as they are to.
+fn sends_end(rt: &impl Abort, link: &mut ScriptLink) {
+    for (number, end) in SENDS {
+        same(rt, number, &link.send(FAR, &draw(*number)), end);
+    }
+}
+
 #[test]
 fn calls_follow_the_script(rt: HostRuntime) {
     let packet = Packet::new(b"a datagram");
-    let mut link = new_script(rt.alloc(), packet).expect(&rt, "a link");
+    let mut link = new_link(&rt, packet);
     let is_new = has_met(&link, Trace::new(), &[]);
     assert!(rt; is_new && receives_in_turn(&mut link, packet));
-    for (number, end) in SENDS {
-        same(&rt, number, &link.send(FAR, &draw(*number)), end);
-    }
+    sends_end(&rt, &mut link);
     let first = draw(1);
     let trace = Trace {
         calls: 6,
@@ -79,7 +95,7 @@ fn calls_follow_the_script(rt: HostRuntime) {
         taken: Some((FAR, packet)),
         given: Some((FAR, first)),
     };
-    assert!(rt; has_met(&link, trace, &[(FAR, first)]));
+    ends_with(&rt, link, trace, &[(FAR, first)]);
 }
 
 /// Whether receives give the packet, nothing, a failure, and nothing, whether they wait or not.
@@ -93,8 +109,8 @@ fn receives_at_once(link: &mut ScriptLink, packet: Packet) -> bool {
 #[test]
 fn receive_now_takes_the_next_receipt(rt: HostRuntime) {
     let packet = Packet::new(b"a datagram");
-    let mut link = new_script(rt.alloc(), packet).expect(&rt, "a link");
-    let is_received = receives_at_once(&mut link, packet);
+    let mut link = new_link(&rt, packet);
+    assert!(rt; receives_at_once(&mut link, packet));
     let trace = Trace {
         calls: 4,
         failures: 1,
@@ -102,7 +118,7 @@ fn receive_now_takes_the_next_receipt(rt: HostRuntime) {
         taken: Some((FAR, packet)),
         ..Trace::new()
     };
-    assert!(rt; is_received && has_met(&link, trace, &[]));
+    ends_with(&rt, link, trace, &[]);
 }
 
 /// A link that sends six times.

@@ -45,8 +45,10 @@ pub(crate) enum Came {
 /// A request of a table: the customer, the number, and what is asked.
 pub(crate) type Call = (u32, u32, Asked);
 
-/// Requests: the bytes, and what they say.
-pub(crate) const REQUESTS: &[(&[u8], Call)] = &[
+/// The bytes of a request, and what they say.
+pub(crate) type Vector = (&'static [u8], Call);
+
+const REQUESTS: &'static [Vector] = &[
     (
         b"S1\x01\x01\x00\x00\x00\x00\x00\x00\x00\x01\x00\x00\x00\x07RAGB\x00\x00\x00\x00\x00\x00\x00\x02",
         (0, 1, Asked::Grant(7, 0, 2)),
@@ -89,8 +91,15 @@ pub(crate) const REQUESTS: &[(&[u8], Call)] = &[
     ),
 ];
 
-/// Replies: the bytes, the request, and what it came to.
-pub(crate) const REPLIES: &[(&[u8], Call, Came)] = &[
+// A table is proved anew wherever it is named, so each of the two is named once.
+pub(crate) fn requests() -> &'static [Vector] {
+    REQUESTS
+}
+
+/// The bytes of a reply, its request, and what that came to.
+pub(crate) type ReplyVector = (&'static [u8], Call, Came);
+
+const REPLIES: &'static [ReplyVector] = &[
     (
         b"S1\x01\x81\x00\x00\x00\x00\x00\x00\x00\x01\x00\x00\x00\x07RAGB\x00\x00\x00\x00\x00\x00\x00\x02\x00\x00\x00\x00\x01",
         (0, 1, Asked::Grant(7, 0, 2)),
@@ -195,6 +204,10 @@ pub(crate) const REPLIES: &[(&[u8], Call, Came)] = &[
         Came::NumberReused,
     ),
 ];
+
+pub(crate) fn replies() -> &'static [ReplyVector] {
+    REPLIES
+}
 
 pub(crate) fn request(rt: &impl Abort, call: &Call) -> Request {
     let (customer, number, asked) = *call;

@@ -1,0 +1,42 @@
+//! A writer that fails once.
+
+use std::alloc::Global;
+use std::io;
+use std::io::Write;
+
+/// A writer that takes so many bytes, then fails once, and from then on takes all.
+#[derive(Drop)]
+pub struct Hiccup {
+    pub bytes: Vec<u8>,
+    room: usize,
+    failed: bool,
+}
+
+impl Write for Hiccup {
+    fn write(&mut self, text: &[u8]) -> io::Result<usize> {
+        if self.failed {
+            return self.bytes.write(text);
+        }
+        let taken = self.room.min(text.len());
+        if taken == 0 && !text.is_empty() {
+            self.failed = true;
+            return Err(io::Error::from(io::ErrorKind::Other));
+        }
+        self.room -= taken;
+        self.bytes.write(&text[..taken])
+    }
+
+    fn flush(&mut self) -> io::Result<()> {
+        Ok(())
+    }
+}
+
+impl Hiccup {
+    pub fn new(alloc: Global, room: usize) -> Hiccup {
+        Hiccup {
+            bytes: Vec::new(alloc),
+            room,
+            failed: false,
+        }
+    }
+}
