@@ -2,7 +2,6 @@
 
 mod asked;
 mod hiccup;
-mod links;
 mod many_lines;
 mod refusing;
 mod replays;

@@ -7,3 +7,5 @@ mod ends;
 mod expect;
 #[cfg(test)]
 mod jobs;
+#[cfg(test)]
+mod links;

@@ -1,9 +1,8 @@
 //! Calls of a client over links that follow a script.
 
-use crate::ends::fixtures::{
-    DRAW, DRAWN, Meets, Sent, draw, has_sent, is_answered, link_of, request,
-};
+use crate::ends::fixtures::{DRAW, DRAWN, Sent, draw, has_sent, is_answered, request};
 use crate::expect::holds_at;
+use crate::links::{Meets, link_of};
 use s10_ends::{CallFault, Client, SubmitFault, call};
 use s10_link::{Link, LinkFault, Peer, ScriptLink};
 use std::alloc::Global;

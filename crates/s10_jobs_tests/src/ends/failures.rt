@@ -7,14 +7,20 @@ use s10_book::{Book, BookFault, TripBook};
 use s10_ends::Server;
 use std::alloc::Global;
 
+/// Whether a step is answered as wanted.
+fn is_answered<B: Book>(server: &mut Server<B>, step: &Step) -> bool {
+    let (day, datagram, want) = step;
+    is_as_wanted(&server.handle(datagram, *day), want)
+}
+
 /// Whether a step is answered as wanted, handed in again where the store failed, and whether it failed.
 fn is_answered_at_last<B: Book>(server: &mut Server<B>, step: &Step) -> (bool, bool) {
-    let (day, datagram, want) = *step;
-    let answer = server.handle(datagram, day);
+    let (day, datagram, want) = step;
+    let answer = server.handle(datagram, *day);
     if is_as_wanted(&answer, &Faulted(BookFault::Store)) {
-        (is_as_wanted(&server.handle(datagram, day), &want), true)
+        (is_answered(server, step), true)
     } else {
-        (is_as_wanted(&answer, &want), false)
+        (is_as_wanted(&answer, want), false)
     }
 }
 
@@ -29,8 +35,9 @@ fn faults_of<B: Book>(server: &mut Server<B>) -> Option<u32> {
     }
 }
 
-/// How often a server faults them; none where an answer or the ledger is wrong.
-fn faults_made_good<B: Book + Drop>(mut server: Server<B>) -> Option<u32> {
+/// How often a server over this book faults them; none where an answer or the ledger is wrong.
+fn faults_made_good<B: Book + Drop>(book: B) -> Option<u32> {
+    let mut server = Server::new(book);
     let faults = faults_of(&mut server);
     if server.book().len() == 2 {
         faults
@@ -42,8 +49,7 @@ fn faults_made_good<B: Book + Drop>(mut server: Server<B>) -> Option<u32> {
 /// Whether each call of the book that fails in turn faults one request, until a run meets no fault.
 fn each_is_made_good(alloc: Global) -> bool {
     for at in 0..100u64 {
-        let book = TripBook::new(empty_book(alloc, 100), at);
-        match faults_made_good(Server::new(book)) {
+        match faults_made_good(TripBook::new(empty_book(alloc, 100), at)) {
             Some(0) => return at > 0,
             Some(1) => {}
             _ => return false,

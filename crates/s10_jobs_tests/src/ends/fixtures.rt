@@ -4,9 +4,9 @@ use s10_book::{Book, PlainBook};
 use s10_core::{Country, Serial, Service};
 use s10_ends::{Client, Server, UdpLink, call};
 use s10_history::Settings;
-use s10_link::{Link, Packet, Peer, Receipt, ScriptLink};
+use s10_link::{Link, Peer, ScriptLink};
 use s10_wire::{Body, Request, encode_reply};
-use std::alloc::{AllocError, Global};
+use std::alloc::Global;
 use std::net::Net;
 use std::process::Abort;
 
@@ -93,52 +93,6 @@ pub(crate) fn have_one_history<B: Book>(one: &mut B, other: &mut B) -> bool {
         }
     }
     one.len() == other.len()
-}
-
-/// What a receive of a scripted link meets.
-#[derive(Clone, Copy)]
-pub enum Meets {
-    Bytes(Peer, &'static [u8]),
-    Nothing,
-    Fault,
-}
-
-fn receipt(meets: Meets) -> Receipt {
-    match meets {
-        Meets::Bytes(from, bytes) => Receipt::Deliver(from, Packet::new(bytes)),
-        Meets::Nothing => Receipt::Nothing,
-        Meets::Fault => Receipt::Fail,
-    }
-}
-
-/// A link whose receives and sends meet these.
-pub(crate) fn link_of(
-    alloc: Global,
-    receipts: &[Meets],
-    sends: &[bool],
-) -> Result<ScriptLink, AllocError> {
-    let mut list = Vec::new(alloc);
-    for meets in receipts {
-        list.push(receipt(*meets))?;
-    }
-    ScriptLink::new(alloc, list, sends.to_vec(alloc)?)
-}
-
-/// The same link, with a receive that fails before the one of the receipt with this number.
-pub(crate) fn link_with_failure(
-    alloc: Global,
-    receipts: &[Meets],
-    failing: usize,
-    sends: &[bool],
-) -> Result<ScriptLink, AllocError> {
-    let mut list = Vec::new(alloc);
-    for (at, meets) in receipts.iter().enumerate() {
-        if at == failing {
-            list.push(Receipt::Fail)?;
-        }
-        list.push(receipt(*meets))?;
-    }
-    ScriptLink::new(alloc, list, sends.to_vec(alloc)?)
 }
 
 /// A datagram, and where it is sent.

@@ -10,6 +10,15 @@ use std::net::{Ipv4Addr, Net, SocketAddr, SocketAddrV4, UdpSocket};
 use std::process::Abort;
 use std::time::Duration;
 
+/// Whether a reply is sent twice.
+fn is_sent_twice<L: Link>(link: &mut L, to: Peer, datagram: &[u8]) -> bool {
+    let Ok(reply) = decode_reply(datagram) else {
+        return false;
+    };
+    let frame = encode_reply(&reply);
+    link.send(to, &frame) == Ok(()) && link.send(to, &frame) == Ok(())
+}
+
 /// Whether a reply that is sent twice to the client is that to its next Draw.
 fn is_answered_twice<L: Link>(
     client: &mut Client,
@@ -17,12 +26,7 @@ fn is_answered_twice<L: Link>(
     far: (&mut L, Peer),
     datagram: &[u8],
 ) -> bool {
-    let Ok(reply) = decode_reply(datagram) else {
-        return false;
-    };
-    let frame = encode_reply(&reply);
-    far.0.send(near.1, &frame) == Ok(())
-        && far.0.send(near.1, &frame) == Ok(())
+    is_sent_twice(far.0, near.1, datagram)
         && is_answered(client, near.0, far.1, draw(), 2, datagram)
 }
 
@@ -32,12 +36,16 @@ fn has_come<L: Link>(link: &mut L, from: Peer, number: u32) -> bool {
     link.receive() == Ok(Some((from, packet)))
 }
 
+fn nothing_comes<L: Link>(link: &mut L) -> bool {
+    link.receive() == Ok(None)
+}
+
 /// Customer 7's Draws with the numbers 1 to 3 come, and nothing behind them.
 fn three_draws_come<L: Link>(rt: &impl Abort, link: &mut L, from: Peer) {
     for number in 1..4u32 {
         holds_at(rt, number as usize, has_come(link, from, number));
     }
-    assert!(rt; link.receive() == Ok(None));
+    assert!(rt; nothing_comes(link));
 }
 
 /// The replies to customer 7's first three Draws.
@@ -65,12 +73,17 @@ fn a_client_that_gets_each_datagram_twice_sends_each_frame_once(rt: HostRuntime)
     three_draws_come(&rt, &mut far, here);
 }
 
+/// Whether a socket is set to wait so many milliseconds in a receive.
+fn waits(socket: &UdpSocket, wait_ms: u64) -> bool {
+    let wait = Some(Duration::from_millis(wait_ms));
+    socket.set_read_timeout(wait).is_ok()
+}
+
 /// A socket of this machine that waits so many milliseconds in a receive.
 fn raw_socket<R: Abort + Net>(rt: &R, wait_ms: u64) -> UdpSocket {
     let any = SocketAddr::V4(SocketAddrV4::new(Ipv4Addr::LOCALHOST, 0));
     let socket = UdpSocket::bind(rt, any).expect(rt, "a socket");
-    let wait = Some(Duration::from_millis(wait_ms));
-    assert!(rt; socket.set_read_timeout(wait).is_ok());
+    assert!(rt; waits(&socket, wait_ms));
     socket
 }
 
@@ -94,15 +107,22 @@ fn sends_raw(socket: &UdpSocket, port: u16, bytes: &[u8]) -> bool {
     socket.send_to(bytes, to).ok() == Some(bytes.len())
 }
 
+/// Whether one turn of the server drops what came from there for its length.
+fn drops(server: &mut Server<PlainBook>, link: &mut UdpLink, from: Peer) -> bool {
+    serve_one(server, link, 20_000) == Ok(ServerTurn::Dropped(from, WireFault::Length))
+        && server.book().len() == 0
+}
+
 /// Whether one turn of the server drops the longer Grant of a socket for its length, and sends it nothing.
 fn is_dropped(server: &mut Server<PlainBook>, link: &mut UdpLink, socket: &UdpSocket) -> bool {
-    let Some(from) = peer_of(socket) else {
-        return false;
-    };
-    sends_raw(socket, link.local().port, &LONGER_GRANT)
-        && serve_one(server, link, 20_000) == Ok(ServerTurn::Dropped(from, WireFault::Length))
-        && server.book().len() == 0
-        && socket.recv_from(&mut [0u8; 512]).is_err()
+    match peer_of(socket) {
+        Some(from) => {
+            sends_raw(socket, link.local().port, &LONGER_GRANT)
+                && drops(server, link, from)
+                && socket.recv_from(&mut [0u8; 512]).is_err()
+        }
+        None => false,
+    }
 }
 
 #[test]

@@ -1,11 +1,12 @@
 //! Rounds of a server over links that follow a script.
 
 use crate::ends::fixtures::{
-    DRAW, DRAWN, GRANT, GRANTED, Meets, SECOND_DRAW, SECOND_DRAWN, Sent, granted_server, has_sent,
-    link_of, new_server,
+    DRAW, DRAWN, GRANT, GRANTED, SECOND_DRAW, SECOND_DRAWN, Sent, granted_server, has_sent,
+    new_server,
 };
 use crate::ends::told::{Ends, is_as_told};
 use crate::expect::holds_at;
+use crate::links::{Meets, link_of};
 use s10_book::{Book, BookFault, Settle, TripBook};
 use s10_ends::{Server, Turn, serve_round};
 use s10_link::{Link, LinkFault, Peer, ScriptLink};
@@ -255,10 +256,8 @@ const TWO_DRAWS: Script = Script {
 };
 
 /// Whether a round over two Draws sends both replies, and how a settling behind it fails.
-fn sent_then_settled<B: Settle + Drop>(
-    alloc: Global,
-    mut server: Server<B>,
-) -> (bool, Option<BookFault>) {
+fn sent_then_settled<B: Settle + Drop>(alloc: Global, book: B) -> (bool, Option<BookFault>) {
+    let mut server = Server::new(book);
     let is_sent = goes_through(alloc, &mut server, &TWO_DRAWS);
     (is_sent, server.settle().err())
 }
@@ -266,7 +265,7 @@ fn sent_then_settled<B: Settle + Drop>(
 /// The same where a book that has the first Grant fails at one of its calls from then on.
 fn served_then_settled(alloc: Global, at: u64) -> (bool, Option<BookFault>) {
     let book = granted_server(alloc, 100).into_book();
-    sent_then_settled(alloc, Server::new(TripBook::new(book, at)))
+    sent_then_settled(alloc, TripBook::new(book, at))
 }
 
 /// How many rounds do not send both replies, where a call of the book fails, each in turn.

@@ -15,19 +15,27 @@ pub enum Ends {
     Failed(LinkFault),
 }
 
+/// Whether a turn that went through ends so.
+fn has_ended(turn: &ServerTurn, ends: &Ends) -> bool {
+    match (turn, ends) {
+        (ServerTurn::Replied(to, frame), Ends::Replied(peer, reply)) => {
+            to == peer && frame.bytes() == *reply
+        }
+        (ServerTurn::Dropped(from, fault), Ends::Dropped(peer, refusal)) => {
+            from == peer && fault == refusal
+        }
+        (ServerTurn::Faulted(from, fault), Ends::Faulted(peer, failure)) => {
+            from == peer && fault == failure
+        }
+        (ServerTurn::Quiet, Ends::Quiet) => true,
+        _ => false,
+    }
+}
+
 /// Whether a turn ends so.
 pub(crate) fn is_as_told(turn: &Turn, ends: &Ends) -> bool {
     match (turn, ends) {
-        (Ok(ServerTurn::Replied(to, frame)), Ends::Replied(peer, reply)) => {
-            to == peer && frame.bytes() == *reply
-        }
-        (Ok(ServerTurn::Dropped(from, fault)), Ends::Dropped(peer, refusal)) => {
-            from == peer && fault == refusal
-        }
-        (Ok(ServerTurn::Faulted(from, fault)), Ends::Faulted(peer, failure)) => {
-            from == peer && fault == failure
-        }
-        (Ok(ServerTurn::Quiet), Ends::Quiet) => true,
+        (Ok(turn), _) => has_ended(turn, ends),
         (Err(fault), Ends::Failed(failure)) => fault == failure,
         _ => false,
     }

@@ -1,11 +1,12 @@
 //! Turns of a server over links that follow a script.
 
 use crate::ends::fixtures::{
-    DRAW, DRAWN, GRANT, GRANTED, Meets, SECOND_DRAW, SECOND_DRAWN, Sent, granted_server, has_sent,
-    link_of, link_with_failure, new_server,
+    DRAW, DRAWN, GRANT, GRANTED, SECOND_DRAW, SECOND_DRAWN, Sent, granted_server, has_sent,
+    new_server,
 };
 use crate::ends::told::{Ends, is_as_told};
 use crate::expect::holds_at;
+use crate::links::{Meets, link_of, link_with_failure};
 use s10_book::{Book, BookFault, Settle};
 use s10_ends::{Server, serve_one};
 use s10_link::{Link, LinkFault, Peer, ScriptLink};

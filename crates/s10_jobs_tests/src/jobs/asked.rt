@@ -1,8 +1,10 @@
 //! Calls over links, and what is printed of them.
 
-use crate::expect::holds;
-use crate::jobs::links::{Meets, link_of};
+ghost use Rattle.std.specs.Prelude.{◌≤◌};
+
+use crate::expect::{holds, is_text};
 use crate::jobs::refusing::Refusing;
+use crate::links::{Meets, link_of};
 use s10_core::{Country, Service};
 use s10_ends::Client;
 use s10_jobs::{JobStatus, ask};
@@ -38,11 +40,13 @@ fn is_told<L: Link>(
     tries: u32,
     status: JobStatus,
     line: &str,
-) -> bool {
+) -> bool
+    requires least { 1 ≤ tries }
+    requires most { tries ≤ 100 }
+{
     let mut out = Vec::new(alloc);
-    let tries = tries.max(1).min(100);
-    ask(client, link, SERVER, body, tries, &mut out) == Ok(status)
-        && out.as_slice() == line.as_bytes()
+    let asked = ask(client, link, SERVER, body, tries, &mut out);
+    is_text(out, line.as_bytes()) && asked == Ok(status)
 }
 
 /// Whether customer 7's first call over this script, in two tries, has this status and prints this line, and the

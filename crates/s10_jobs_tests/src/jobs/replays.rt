@@ -1,6 +1,6 @@
 //! Replays of inputs over a new ledger.
 
-use crate::expect::holds;
+use crate::expect::{holds, is_text};
 use s10_history::Settings;
 use s10_jobs::{JobStatus, ReplayFault, replay, run_replay};
 use std::alloc::Global;
@@ -21,7 +21,7 @@ fn gives<R: Read>(
 ) -> bool {
     let mut output = Vec::new(alloc);
     let answer = replay(alloc, settings, input, &mut output);
-    answer == want && output.as_slice() == text.as_bytes()
+    is_text(output, text.as_bytes()) && answer == want
 }
 
 /// Whether a replay of these bytes has this answer and writes this text.
@@ -370,7 +370,7 @@ fn is_run_until(alloc: Global, bytes: &[u8], want: JobStatus, text: &str) -> boo
     };
     let mut output = Vec::new(alloc);
     let status = run_replay(alloc, settings(), &mut input, &mut output);
-    status == Ok(want) && output.as_slice() == text.as_bytes()
+    is_text(output, text.as_bytes()) && status == Ok(want)
 }
 
 /// Bytes of an input that fails behind them, and the status and the text of its replay.

@@ -1,6 +1,6 @@
 //! Reports, and the lines of those that end early.
 
-use crate::expect::holds;
+use crate::expect::{holds, is_text};
 use crate::jobs::hiccup::Hiccup;
 use crate::jobs::refusing::Refusing;
 use s10_book::{Book, PlainBook, TripBook};
@@ -10,6 +10,7 @@ use s10_jobs::{JobStatus, Report, write_report};
 use s10_lines::WriteFault;
 use std::alloc::Global;
 use std::io::Write;
+use std::process::Abort;
 use std::time::Clock;
 
 const RANGES: &str = "range customer service country first last used voided free
@@ -44,7 +45,17 @@ fn prints<B: Book + Drop>(
     text: &str,
 ) -> bool {
     let mut out = Vec::new(alloc);
-    write_report(&mut book, report, &mut out) == Ok(status) && out.as_slice() == text.as_bytes()
+    let written = write_report(&mut book, report, &mut out);
+    is_text(out, text.as_bytes()) && written == Ok(status)
+}
+
+/// A report of this book is done, and prints this text.
+fn is_done<R: Abort + AllocGlobal>(rt: &R, book: PlainBook, report: Report, text: &str) {
+    holds(
+        rt,
+        &text,
+        prints(rt.alloc(), book, report, JobStatus::Done, text),
+    );
 }
 
 /// Whether a report is of issues, and its text.
@@ -54,9 +65,7 @@ const REPORTS: &[(bool, &str)] = &[(false, RANGES), (true, ISSUES)];
 fn reports_are_written_whole(rt: HostRuntime) {
     for (is_of_issues, text) in REPORTS {
         let report = Report::new(&rt, *is_of_issues, Some(20_000)).expect(&rt, "a day");
-        let book = one_issue(rt.alloc());
-        let prints = prints(rt.alloc(), book, report, JobStatus::Done, text);
-        holds(&rt, text, prints);
+        is_done(&rt, one_issue(rt.alloc()), report, text);
     }
 }
 
@@ -77,9 +86,7 @@ const WITHDRAWN: &[(Report, &str)] = &[
 #[test]
 fn a_withdrawn_range_is_reported_as_closed(rt: HostRuntime) {
     for (report, text) in WITHDRAWN {
-        let book = one_withdrawn(rt.alloc());
-        let prints = prints(rt.alloc(), book, *report, JobStatus::Done, text);
-        holds(&rt, text, prints);
+        is_done(&rt, one_withdrawn(rt.alloc()), *report, text);
     }
 }
 
@@ -113,12 +120,16 @@ const FAULTED: &[(Report, &str)] = &[
     ),
 ];
 
+/// Whether a report of a book that fails at its first call prints this text.
+fn prints_fault(alloc: Global, report: Report, text: &str) -> bool {
+    let book = TripBook::new(one_issue(alloc), 0);
+    prints(alloc, book, report, JobStatus::Failed, text)
+}
+
 #[test]
 fn a_fault_of_the_book_ends_a_report(rt: HostRuntime) {
     for (report, text) in FAULTED {
-        let book = TripBook::new(one_issue(rt.alloc()), 0);
-        let prints = prints(rt.alloc(), book, *report, JobStatus::Failed, text);
-        holds(&rt, text, prints);
+        holds(&rt, text, prints_fault(rt.alloc(), *report, text));
     }
 }
 
@@ -130,8 +141,8 @@ fn written<W: Write>(alloc: Global, out: &mut W) -> Result<JobStatus, WriteFault
 /// Whether a report whose first bytes are refused ends with a line that says so.
 fn is_told_to_have_ended(alloc: Global) -> bool {
     let mut out = Hiccup::new(alloc, 0);
-    written(alloc, &mut out) == Ok(JobStatus::Failed)
-        && out.bytes.as_slice() == "output\n".as_bytes()
+    let told = written(alloc, &mut out);
+    is_text(out.bytes, b"output\n") && told == Ok(JobStatus::Failed)
 }
 
 #[test]

@@ -1,6 +1,6 @@
 //! The lines of a server's turns, and of ledgers and links that failed.
 
-use crate::expect::holds;
+use crate::expect::{holds, is_text};
 use crate::jobs::hiccup::Hiccup;
 use crate::jobs::refusing::Refusing;
 use s10_book::BookFault;
@@ -66,20 +66,23 @@ fn is_line_of_turn(alloc: Global, turn: &Turn, line: &[u8]) -> bool {
         }
     }
     let mut out = Vec::new(alloc);
-    write_turn(turn, &mut out) == Ok(()) && out.as_slice() == line
+    let written = write_turn(turn, &mut out);
+    is_text(out, line) && written == Ok(())
 }
 
 fn is_line_of_ledger_fault(alloc: Global, fault: OpenFault, line: &str) -> bool {
     let mut out = Vec::new(alloc);
-    write_ledger_fault(fault, &mut out) == Ok(())
-        && out.as_slice() == line.as_bytes()
+    let written = write_ledger_fault(fault, &mut out);
+    is_text(out, line.as_bytes())
+        && written == Ok(())
         && write_ledger_fault(fault, &mut Refusing) == Err(WriteFault)
 }
 
 fn is_line_of_link_fault(alloc: Global, fault: LinkFault, line: &str) -> bool {
     let mut out = Vec::new(alloc);
-    write_link_fault(fault, &mut out) == Ok(())
-        && out.as_slice() == line.as_bytes()
+    let written = write_link_fault(fault, &mut out);
+    is_text(out, line.as_bytes())
+        && written == Ok(())
         && write_link_fault(fault, &mut Refusing) == Err(WriteFault)
 }
 

@@ -2,7 +2,7 @@
 
 use crate::expect::holds;
 use crate::jobs::hiccup::Hiccup;
-use crate::jobs::links::{Meets, link_of};
+use crate::links::{Meets, link_of};
 use s10_book::{Book, PlainBook, Settle};
 use s10_ends::Server;
 use s10_history::Settings;
@@ -67,10 +67,15 @@ impl Clock for Listening {
     }
 }
 
+/// Writes a value behind what was told.
+fn tell<D: Display + Drop>(told: &mut Vec<u8>, value: D) -> io::Result<()> {
+    write!(told, "{value}")
+}
+
 impl Eprint for Listening {
     fn eprint<D: Display + Drop>(&self, value: D) -> io::Result<()> {
         match self.told.try_borrow_mut() {
-            Ok(mut told) => write!(told, "{value}"),
+            Ok(mut told) => tell(&mut told, value),
             Err(_) => Err(io::Error::from(io::ErrorKind::Other)),
         }
     }
@@ -140,7 +145,7 @@ impl Write for Flushed {
     }
 
     fn flush(&mut self) -> io::Result<()> {
-        if self.bytes.as_slice().last() == Some(&b'\n') {
+        if self.bytes.ends_with(b"\n") {
             self.lines = self.lines.saturating_add(1);
         }
         Ok(())
@@ -162,6 +167,11 @@ struct Turns<'a> {
     calls: u32,
 }
 
+/// Whether the writer has got and flushed the lines of the turns.
+fn has_lines(out: Flushed, turns: &Turns<'_>) -> bool {
+    out.bytes.as_slice() == turns.lines && out.lines == turns.flushed
+}
+
 /// Whether the turns of a server on the link have their status, and write and flush their lines.
 fn come_to<R: Clock + Eprint, B: Settle, L: Link>(
     rt: &R,
@@ -175,7 +185,7 @@ fn come_to<R: Clock + Eprint, B: Settle, L: Link>(
         lines: 0,
     };
     let served = serve_turns(rt, alloc, server, link, turns.count, turns.day, &mut out);
-    served == Ok(turns.status) && out.bytes.as_slice() == turns.lines && out.lines == turns.flushed
+    has_lines(out, turns) && served == Ok(turns.status)
 }
 
 /// Whether the turns of a new server come to what they shall.
@@ -360,6 +370,11 @@ fn days_are_whole_days_since_1970(rt: HostRuntime) {
     assert!(rt; today(&rt).is_some());
 }
 
+/// Whether the writer has got the lines up to where it failed.
+fn has_beginning(out: Hiccup, room: usize) -> bool {
+    out.bytes.len() == room && SEVEN_LINES.starts_with(out.bytes.as_slice())
+}
+
 /// Whether the turns of a server on a link end where a line cannot be written whole, and the writer has got the lines to
 /// there.
 fn end_where_unwritten<R: Clock + Eprint, B: Settle, L: Link>(
@@ -371,9 +386,7 @@ fn end_where_unwritten<R: Clock + Eprint, B: Settle, L: Link>(
 ) -> bool {
     let mut out = Hiccup::new(alloc, room);
     let served = serve_turns(rt, alloc, server, link, 7, Some(20_000), &mut out);
-    served == Err(WriteFault)
-        && out.bytes.len() == room
-        && SEVEN_LINES.starts_with(out.bytes.as_slice())
+    has_beginning(out, room) && served == Err(WriteFault)
 }
 
 /// Whether the turns end at the one whose line cannot be written whole, and the book has its calls and those before.

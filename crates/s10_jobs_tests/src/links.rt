@@ -31,3 +31,20 @@ pub(crate) fn link_of(
     }
     ScriptLink::new(alloc, list, sends.to_vec(alloc)?)
 }
+
+/// The same link, with a receive that fails before the one of the receipt with this number.
+pub(crate) fn link_with_failure(
+    alloc: Global,
+    receipts: &[Meets],
+    failing: usize,
+    sends: &[bool],
+) -> Result<ScriptLink, AllocError> {
+    let mut list = Vec::new(alloc);
+    for (at, meets) in receipts.iter().enumerate() {
+        if at == failing {
+            list.push(Receipt::Fail)?;
+        }
+        list.push(receipt(*meets))?;
+    }
+    ScriptLink::new(alloc, list, sends.to_vec(alloc)?)
+}
