@@ -29,14 +29,25 @@ use Rattle.s10_jobs.specs.declared.reporting.Report.{Report}
 use Rattle.s10_jobs.specs.declared.reporting.Report.TheVariants.{Ranges, Issues}
 use Rattle.s10_host.specs.declared.looped.Looped.{Looped}
 use Rattle.s10_sockets.specs.Unbound.{IsUnbound}
-use Rattle.s10_host.specs.Files.{FileConnection, FileLedger, ClosedFiles, Copies, PutsAway, IsFoundIn, IsFileFault, IsAbsenceOr, IsNotMade, IsNotOpened}
+use Rattle.s10_host.specs.Files.{FileConnection, FileLedger, ClosedFiles, Copies, PutsAway, IsFoundIn, IsFileFault, IsAbsenceOr, IsNotMade, IsNotOpened, LeavesClean}
+use Rattle.s10_host.specs.Audited.{HasFound, audit_line, audit_status}
 use Rattle.s10_host.specs.Closing.{IsClosedAs, Turns}
-use Rattle.s10_host.specs.Jobs.{ledger_line, FailsByLedger, FailsByClosing, IsAskedFor, HasCreated, IsServed, IsUnlinked, Writes, IsReported, HasServed, HasReported, HasEnded}
+use Rattle.s10_host.specs.Jobs.{ledger_line, FailsByLedger, FailsByClosing, IsAskedFor, HasCreated, IsServed, IsUnlinked, Writes, IsReported, HasServed, HasReported, HasAudited, HasEnded}
 use Rattle.s10_host.specs.declared.work.Work.TheVariants.{Create, Serve, Report as ReportOn}
 use Rattle.s10_host.specs.declared.work.Work.{Work}
+use Rattle.s10_host.specs.declared.task.Task.{Task}
+use Rattle.s10_host.specs.declared.task.Task.TheVariants.{Work as AsksFor, Audit}
 use Rattle.s10_host.specs.Work.{IsWorkRefusal, EndsOver, EndsIn}
 use Rattle.s10_host.proofs.Opening.{empty_book, found_book, put_away}
 use Rattle.s10_host.proofs.Backwards.{before_rounds}
+
+-- a task is one work
+pub asked_alike : (task : Task) (work same : Work) → task ≡ AsksFor work → task ≡ AsksFor same → work ≡ same
+asked_alike task work same is so = cc
+
+-- and then it is no audit
+pub no_audit : {A : Type 0} (task : Task) (work : Work) → task ≡ AsksFor work → task ≡ Audit → A
+no_audit task work is so = absurd cc
 
 -- of a fault that was written
 pub fails_by : (IsFault : OpenFault → Type 0) (fault : OpenFault) (old new : Option (List ℕ)) (r : Result JobStatus WriteFault) → IsFault fault
@@ -296,6 +307,23 @@ module _ (S : RattleType) (first : Ghosts S.Denot) where
   reported_in is_of_issues day report old new result None link asked (inr (told, no_files, no_link)) =
       record { reported = tt; unreported = λ _. inl (inr (absent_or_refused old new result told)) }
   reported_in is_of_issues day report old new result (Some f) link asked (inr (told, no_files, no_link)) = absurd (let none = no_files in cc)
+
+  -- an audit that left these files
+  pub audited_in : (was left : FileConnection S first) (finding : Result ℕ OpenFault) (old new : Option (List ℕ)) (result : Result JobStatus WriteFault) (files : Option (ClosedFiles S first)) (f : ClosedFiles S first)
+      → files ≡ Some f → IsFoundIn (image_at first) was → HasFound over_files was left finding
+      → IfOk result (λ status. (status ≡ audit_status finding) × Appends old new (audit_line finding)) → LeavesClean left f → HasAudited S first old new result files
+  audited_in was left finding old new result files f is found counted written leaves = subst (HasAudited S first old new result) (sym is) (record {
+    audited = record { opened = was; found = found; left = left; finding = finding; counted = counted; written = written; leaves = leaves };
+    refused = λ none. absurd cc;
+  })
+
+  -- and one of a file that could not be opened
+  pub not_audited : (fault : OpenFault) (old new : Option (List ℕ)) (told result : Result JobStatus WriteFault) (files : Option (ClosedFiles S first))
+      → IsAbsenceOr IsFileFault fault → IfOk told (λ status. (status ≡ Failed) × Appends old new (ledger_line fault)) → result ≡ told → files ≡ None → HasAudited S first old new result files
+  not_audited fault old new told result files is says same none = subst (HasAudited S first old new result) (sym none) (record {
+    audited = tt;
+    refused = λ _. fails_as (IsAbsenceOr IsFileFault) fault old new told result is says same;
+  })
 
   -- the same of what was handed on
   pub ended_as : (job same : Job) (old new : Option (List ℕ)) (result handed : Result JobStatus WriteFault) (files given : Option (ClosedFiles S first)) (link over : Option BoundLink) (looped left : Option Looped)

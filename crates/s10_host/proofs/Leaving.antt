@@ -54,18 +54,17 @@ whole_over day begun ended fresh led honest faultless =
     (λ h none. of_none (settled_of over_memory first) first.pending fresh.empty) in
     all_of (settled_of over_memory last) last.pending (whole honest faultless)
 
-asked_over : (to : Peer) (u v : Option (List ℕ)) (r : Result JobStatus WriteFault) (begun ended : Trace) (first last : Trace) → begun ≡ first → ended ≡ last
-    → IfOk r (λ status. Prints u v (AreMadeInTurn to loop_calls begun ended status))
-    → IfOk r (λ status. (to : Peer) × Prints u v (AreMadeInTurn to loop_calls first last status))
-asked_over to u v (Ok status) begun ended first last fresh same asked =
-    (to, subst (λ (t : Trace). Prints u v (AreMadeInTurn to loop_calls t last status)) fresh (subst (λ (t : Trace). Prints u v (AreMadeInTurn to loop_calls begun t status)) same asked))
-asked_over to u v (Err fault) begun ended first last fresh same asked = tt
+asked_over : (to : Peer) (last : Trace) (u v : Option (List ℕ)) (r : Result JobStatus WriteFault) (first : Trace) → first ≡ new_trace
+    → IfOk r (λ status. Prints u v (AreMadeInTurn to loop_calls first last status))
+    → IfOk r (λ status. (to : Peer) × Prints u v (AreMadeInTurn to loop_calls new_trace last status))
+asked_over to last u v (Ok status) first none asked = (to, subst (λ (t : Trace). Prints u v (AreMadeInTurn to loop_calls t last status)) none asked)
+asked_over to last u v (Err fault) first none asked = tt
 
 -- of calls over a link that was new
-pub looped_over : (to : Peer) (day : ℕ) (begun ended : LoopLink) (looped : Looped) (u v : Option (List ℕ)) (r : Result JobStatus WriteFault)
-    → IsNewLoop day begun → LeadsTo IsLoopStep begun ended → IsLeftOfLoop ended looped
-    → IfOk r (λ status. Prints u v (AreMadeInTurn to loop_calls begun.near.trace ended.near.trace status)) → IsLooped day u v r looped
-looped_over to day begun ended looped u v r fresh led left asked = record {
+pub looped_over : (to : Peer) (day : ℕ) (begun ended : LoopLink) (looped : Looped) (u v : Option (List ℕ)) (r : Result JobStatus WriteFault) (first : Trace)
+    → IsNewLoop day begun → LeadsTo IsLoopStep begun ended → IsLeftOfLoop ended looped → first ≡ new_trace
+    → IfOk r (λ status. Prints u v (AreMadeInTurn to loop_calls first looped.near.trace status)) → IsLooped day u v r looped
+looped_over to day begun ended looped u v r first fresh led left none asked = record {
   begun = begun;
   fresh = fresh;
   ended = ended;
@@ -74,5 +73,5 @@ looped_over to day begun ended looped u v r fresh led left asked = record {
   unsettled = (book_of ended.server).pending;
   served = subst (λ (c : Held MemStore). ServedOn day [] loop_terms (history_in (state over_memory c).now ++ (book_of ended.server).pending)) (sym left.closed) (served_over day begun ended fresh led left.honest);
   whole = whole_over day begun ended fresh led left.honest;
-  asked = asked_over to u v r begun.near.trace ended.near.trace new_trace looped.near.trace fresh.near (ap (λ (l : BoundLink). l.trace) (sym left.near)) asked;
+  asked = asked_over to looped.near.trace u v r first none asked;
 }

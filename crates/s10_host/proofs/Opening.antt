@@ -1,6 +1,6 @@
 -- What a book says of the connection that it was made in or opened from, and of the files that it is put away in.
-use Rattle.std.proofs.Common.{◌≡◌, ◌≤◌, ◌∙◌, ap, sym, subst, arith, List, ◌++◌, append-nil, ℕ, Option, Result}
-use Rattle.std.specs.Prelude.{IsTrue, []}
+use Rattle.std.proofs.Common.{◌≡◌, ◌≢◌, ◌≤◌, ◌∙◌, ap, refl, sym, subst, arith, List, ◌++◌, append-nil, ℕ, Option, None, Result, Ok, Err}
+use Rattle.std.specs.Prelude.{IsTrue, [], IfOk, IfErr, IfSome}
 use Rattle.sqlite_disk.specs.declared.Disk.{Ghosts}
 use Rattle.sqlite_disk.specs.declared.Files.{Files}
 use Rattle.sqlite_wal.specs.Recovery.{Image}
@@ -17,24 +17,79 @@ use Rattle.sqlite.specs.Files.{file_state, over_files, AreFoundIn}
 use Rattle.sqlite.specs.Closing.{IsCopied}
 use Rattle.s10_history.specs.declared.entry.Entry.{Entry}
 use Rattle.s10_history.specs.Settings.{Terms}
-use Rattle.s10_ledger.specs.Ledger.{Ledger, IsHonest, history_in, history_of}
+use Rattle.s10_ledger.specs.Ledger.{Ledger, IsAnyLedger, IsHonest, history_in, history_of}
 use Rattle.s10_host.specs.Files.{IsFoundIn, WhereClean, IsEmptyBook, IsFoundBook, Copies, PutsAway, LeavesClean}
-use Rattle.s10_host.specs.Closing.{IsClosedAs}
+use Rattle.s10_host.specs.Closing.{IsClosedAs, Turns}
 use Rattle.s10_lines.specs.declared.write_fault.WriteFault.{WriteFault}
 use Rattle.s10_ends.specs.UdpLink.{BoundLink}
 use Rattle.s10_jobs.specs.declared.job_status.JobStatus.{JobStatus}
+use Rattle.s10_jobs.specs.declared.job_status.JobStatus.TheVariants.{Done}
+use Rattle.s10_jobs.specs.declared.reporting.Report.{Report}
+use Rattle.s10_jobs.specs.Reporting.{report_lines, PrintsReport}
+use Rattle.s10_book.specs.Book.{Keeps}
+use Rattle.s10_book.specs.BookFault.{no_faults}
+use Rattle.s10_rows.specs.declared.open_fault.OpenFault.{OpenFault}
+use Rattle.s10_schema.specs.Schema.{IsClosedSchema}
+use Rattle.s10_statements.specs.Settled.{IsClean, IsOpen, WasSound}
+use Rattle.s10_link.specs.declared.peer.Peer.{Peer}
+use Rattle.s10_sockets.specs.Unbound.{IsUnbound}
 use Rattle.s10_host.specs.declared.work.Work.{Work}
-use Rattle.s10_host.specs.Work.{IsMadeWith, IsOpenedFrom, HasWorked}
+use Rattle.s10_host.specs.declared.work.Work.TheVariants.{Create, Serve, Report as ReportOn}
+use Rattle.s10_host.specs.Work.{IsMadeWith, IsOpenedFrom, HasWorked, IsRefusedLeft, IsWorkRefusal}
 
 -- a book of which no call is pending has the history that its tables hold
 pub none_pending : {S : Type 0} (g : store.Ghosts S) (book : Ledger S) (h : List Entry)
     → book.pending ≡ [] → (IsHonest g book → history_in (state g book.conn).now ≡ h) → IsHonest g book → history_of g book ≡ h
 none_pending g book h none is honest = ap (λ (p : List Entry). history_in (state g book.conn).now ++ p) none ∙ append-nil _ ∙ is honest
 
--- what is said of a work is said of the same one
-pub worked_as : {S : Type 0} (g : store.Ghosts S) (work same : Work) (was : Held S) (old new : Option (List ℕ)) (done : Result JobStatus WriteFault) (link : Option BoundLink) (closed : Held S)
-    → work ≡ same → HasWorked g same was old new done link closed → HasWorked g work was old new done link closed
-worked_as g work same was old new done link closed is worked = subst (λ w. HasWorked g w was old new done link closed) (sym is) worked
+-- the ledger that a work asks for, as it was made
+pub made_for : {S E : Type 0} (g : store.Ghosts S) (terms made : Terms) (r : Result (Ledger S) E) → made ≡ terms
+    → IfOk r (λ b. (b.terms ≡ made) × (b.faults ≡ no_faults)) → IfOk r (λ b. IsClean g b.conn → IsOpen g b.conn) → IfOk r (λ b. IsClean g b.conn → IsOpen g b.conn → IsHonest g b)
+    → IfOk r (λ b. IsHonest g b → history_in (state g b.conn).now ≡ []) → IfOk r (λ b. b.pending ≡ []) → IfOk r (IsMadeWith g terms)
+made_for g terms made (Ok book) is new opened honest empty none =
+    record { settings = new.0 ∙ is; honest = λ clean. honest clean (opened clean); empty = none_pending g book [] none empty }
+made_for g terms made (Err e) is new opened honest empty none = tt
+
+-- or as it was opened
+pub opened_for : {S E : Type 0} (g : store.Ghosts S) (was : Held S) (r : Result (Ledger S) E)
+    → IfOk r (λ b. IsClean g b.conn → IsOpen g b.conn) → IfOk r (λ b. IsClean g b.conn → IsOpen g b.conn → IsHonest g b)
+    → IfOk r (λ b. IsHonest g b → IsAnyLedger (state g was).now b.terms b.len b.day)
+    → IfOk r (λ b. IsHonest g b → IsClosedSchema (state g was).now.schema → (state g b.conn).now ≡ (state g was).now)
+    → IfOk r (λ b. IsHonest g b → history_in (state g b.conn).now ≡ history_in (state g was).now) → IfOk r (λ b. b.pending ≡ []) → IfOk r (λ b. WasSound g was b.conn)
+    → IfOk r (IsOpenedFrom g was)
+opened_for g was (Ok book) opened honest found same history none sound =
+    record { honest = λ clean. honest clean (opened clean); found = found; same = same; history = none_pending g book _ none history; sound = sound }
+opened_for g was (Err e) opened honest found same history none sound = tt
+
+-- what refuses an opening refuses a work with the ledger that is there
+refused_left : {S : Type 0} (g : store.Ghosts S) (work : Work) (was left : Held S) (fault : OpenFault) → ((terms : Terms) → work ≢ Create terms)
+    → IsRefusedLeft g was left fault → IsWorkRefusal g work was left fault
+refused_left g (Create terms) was left fault none refusal = absurd (none terms refl)
+refused_left g (Serve at count day) was left fault none refusal = refusal
+refused_left g (ReportOn report) was left fault none refusal = refusal
+
+pub refused_for : {S B R : Type 0} (g : store.Ghosts S) (work : Work) (was : Held S) (r : Result B R) (left : R → Held S) (fault : R → OpenFault) → ((terms : Terms) → work ≢ Create terms)
+    → IfErr r (λ e. IsRefusedLeft g was (left e) (fault e)) → IfErr r (λ e. IsWorkRefusal g work was (left e) (fault e))
+refused_for g work was (Ok book) left fault none refusal = tt
+refused_for g work was (Err e) left fault none refusal = refused_left g work was (left e) (fault e) none refusal
+
+-- what was done of a work, by its ledger before and after and by how that was closed
+pub worked_with : {S : Type 0} (g : store.Ghosts S) (work : Work) (was : Held S) (old new : Option (List ℕ)) (done : Result JobStatus WriteFault) (link : Option BoundLink) (book after : Ledger S) (closed : Held S)
+    → ((terms : Terms) → work ≡ Create terms → IsMadeWith g terms book) → (((terms : Terms) → work ≢ Create terms) → IsOpenedFrom g was book)
+    → ((terms : Terms) → work ≡ Create terms → (done ≡ Ok Done) × (link ≡ None) × (after ≡ book) × (new ≡ old))
+    → ((at : Peer) (count : ℕ) (day : Option ℕ) → work ≡ Serve at count day → (link ≡ None → IsUnbound book after old new done) × IfSome link (Turns g day count book after old new done))
+    → ((report : Report) → work ≡ ReportOn report → (link ≡ None) × Keeps (λ (b : Ledger S). history_of g b) (λ (b : Ledger S). b.terms) (IsHonest g) book after
+    × (IsHonest g after → IfOk done (PrintsReport book.faults after.faults old new (report_lines report (history_of g book) book.terms))))
+    → IsClosedAs g after closed → HasWorked g work was old new done link closed
+worked_with g (Create terms) was old new done link book after closed made opened left served reported closes =
+    let (is, none, same, still) = left terms refl in
+    (after, subst (IsMadeWith g terms) (sym same) (made terms refl), closes, is, still, none)
+worked_with g (Serve at count day) was old new done link book after closed made opened left served reported closes =
+    let (unbound, turns) = served at count day refl in
+    (book, opened (λ terms is. absurd cc), after, closes, unbound, turns)
+worked_with g (ReportOn report) was old new done link book after closed made opened left served reported closes =
+    let (none, keeps, written) = reported report refl in
+    (book, opened (λ terms is. absurd cc), after, closes, keeps, written, none)
 
 module _ {D : Type 0} {g : Ghosts D} where
   pub empty_book : (terms : Terms) (book : Ledger (FileStore D g)) → IsMadeWith over_files terms book → WhereClean IsEmptyBook book

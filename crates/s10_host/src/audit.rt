@@ -1,8 +1,7 @@
 //! An audit of a ledger.
 
-ghost use Rattle.std.specs.Prelude.{◌≡◌, ◌≤◌, ◌∷◌, [], ℕ, false, codes, decimal, Result, OnOk, IfOk};
+ghost use Rattle.std.specs.Prelude.{◌≡◌, ◌∷◌, [], ℕ, false, codes, decimal, Result, OnOk, IfOk};
 ghost use Rattle.std.specs.Io.KnownBytes.{Appends};
-ghost use Rattle.sqlite_trees.specs.View.{doubt};
 ghost use Rattle.s10_lines.specs.Lines.{line_of};
 ghost use Rattle.s10_rows.specs.declared.open_fault.OpenFault.{OpenFault};
 ghost use Rattle.s10_host.specs.Audited.{HasFound, audit_line, audit_status};
@@ -29,21 +28,6 @@ pub fn run_audit<S: Alter, K: Watch, W: Write>(
 {
     let (found, left) = count_calls(alloc, connection, watch);
     (write_found(found, output), left)
-}
-
-// The same, and the store of the connection that is left.
-pub(crate) fn audit_to_store<S: Alter + Drop, K: Watch, W: Write>(
-    alloc: Global,
-    connection: Connection<S>,
-    watch: &mut K,
-    output: &mut W,
-) -> (Result<JobStatus, WriteFault>, S)
-    requires idle { connection.in_transaction ≡ false }
-    ensures { (left : _) × (found : Result ℕ OpenFault) × HasFound S.Store connection left found × IfOk result.0 (λ status. (status ≡ audit_status found)
-        × Appends (W.contents output.old) (W.contents output.new) (audit_line found)) × (doubt (S.Store.view left.store).is_clean ≤ doubt (S.Store.view result.1).is_clean) }
-{
-    let (done, left) = run_audit(alloc, connection, watch, output);
-    (done, left.into_store())
 }
 
 // How many calls the ledger keeps, or why it is none; and the connection.

@@ -1,6 +1,6 @@
 //! The subcommands over files, sockets and the clock. `S` stands for what the files held.
 
-ghost use Rattle.std.specs.Prelude.{◌≡◌, ℕ, codes, false, None, Result, Ok, Err, IsOk, IfOk, IfSome};
+ghost use Rattle.std.specs.Prelude.{◌≡◌, ℕ, codes, false, Some, None, Result, Ok, Err, IsOk, IfOk, IfSome};
 ghost use Rattle.std.specs.Io.KnownBytes.{Appends};
 ghost use Rattle.sqlite.specs.Files.{over_files};
 ghost use Rattle.s10_rows.specs.declared.open_fault.OpenFault.{OpenFault};
@@ -8,8 +8,8 @@ ghost use Rattle.s10_host.specs.Audited.{HasFound, audit_line, audit_status};
 ghost use Rattle.s10_host.specs.Files.{LeavesClean};
 ghost use Rattle.s10_host.specs.Jobs.{ledger_line, HasCreated, HasServed, HasReported, HasAudited, IsRunOn, HasEnded};
 ghost use Rattle.s10_host.specs.Work.{EndsOver, EndsIn};
+ghost use Rattle.s10_host.specs.declared.work.Work.{Work};
 
-use crate::audit::audit_to_store;
 use crate::files::{
     ClosedFiles, close_copied, connect_to_ledger, connect_to_place, fault_of_refusal,
 };
@@ -18,7 +18,8 @@ use crate::left::Left;
 use crate::loopback::run_loop;
 use crate::looped::Looped;
 use crate::onlooker::Onlooker;
-use crate::work::{Work, work_on};
+use crate::task::{Finished, Task, task_on};
+use crate::work::Work;
 use s10_ends::UdpLink;
 use s10_history::Settings;
 use s10_jobs::{Job, JobStatus, Report, day_or_today, fail_by_clock, fail_by_ledger, refuse};
@@ -33,11 +34,8 @@ use std::io::Write;
 /// What came of a job, and what it leaves behind it.
 type Ended<S> = (Result<JobStatus, WriteFault>, Left<S>);
 
-/// What came of a job over the ledger of a file alone, and its files, where they were closed.
-type Closed<S> = (Result<JobStatus, WriteFault>, Option<ClosedFiles<S>>);
-
-/// What came of a work over the files of a ledger, the link that it was served on, and the files, where they were closed.
-type WorkedOver<D> = (
+/// What came of a task over the files of a ledger, the link that it was served on, and the files, where they were closed.
+type Over<D> = (
     Result<JobStatus, WriteFault>,
     Option<UdpLink>,
     Option<Files<D>>,
@@ -66,23 +64,9 @@ pub fn run_job<S: Start, W: Write>(
             is_of_issues,
             day,
         } => run_report(rt, *ledger, *is_of_issues, *day, start, out),
-        Job::Audit { ledger } => with_files(audit_file(rt, *ledger, start, out)),
+        Job::Audit { ledger } => task_in(rt, *ledger, Task::Audit, start, out),
         Job::Loop { day } => with_looped(run_loop_on(rt, *day, out)),
     }
-}
-
-fn with_files<S: Start>(closed: Closed<S>) -> Ended<S>
-    ensures same { (result.0 ≡ closed.0) × (result.1.files ≡ closed.1) }
-{
-    let (done, files) = closed;
-    (
-        done,
-        Left {
-            files,
-            link: None,
-            looped: None,
-        },
-    )
 }
 
 fn with_link<S: Start>(asked: (Result<JobStatus, WriteFault>, Option<UdpLink>)) -> Ended<S>
@@ -99,7 +83,7 @@ fn with_link<S: Start>(asked: (Result<JobStatus, WriteFault>, Option<UdpLink>)) 
     )
 }
 
-fn left_of_work<S: Start>(link: Option<UdpLink>, files: Option<ClosedFiles<S>>) -> Left<S>
+fn left_of_task<S: Start>(link: Option<UdpLink>, files: Option<ClosedFiles<S>>) -> Left<S>
     ensures files { result.files ≡ files }
     ensures link { result.link ≡ link }
 {
@@ -137,11 +121,11 @@ fn run_create<S: Start, W: Write>(
     let missing = missing_log(rt, ledger);
     match connect_to_place(rt, ledger, start) {
         Ok(connection) => {
-            let work = Work::Create(settings);
-            let (made, link, files) = work_over(rt, ledger, connection, missing, work, out);
+            let create = Task::Work(Work::Create(settings));
+            let (made, link, files) = task_over(rt, ledger, connection, missing, create, out);
             match files {
-                Some(files) => (write_created(out), left_of_work(link, Some(files))),
-                None => (made, left_of_work(link, None)),
+                Some(files) => (write_created(out), left_of_task(link, Some(files))),
+                None => (made, left_of_task(link, None)),
             }
         }
         Err(fault) => with_link((fail_by_ledger(fault, out), None)),
@@ -170,7 +154,8 @@ fn run_serve<S: Start, W: Write>(
         return with_link((refuse(b"peer", out), None));
     };
     tell_opening(rt, ledger);
-    work_in(rt, ledger, Work::Serve { at, count, day }, start, out)
+    let serve = Work::Serve { at, count, day };
+    task_in(rt, ledger, Task::Work(serve), start, out)
 }
 
 // A large ledger takes a while; the turns go on where standard error is closed.
@@ -192,54 +177,61 @@ fn run_report<S: Start, W: Write>(
     let Some(report) = Report::new(rt, is_of_issues, day) else {
         return with_link((fail_by_clock(out), None));
     };
-    work_in(rt, ledger, Work::Report(report), start, out)
+    task_in(rt, ledger, Task::Work(Work::Report(report)), start, out)
 }
 
-// Does the work over the ledger of a file that is there.
-fn work_in<S: Start, W: Write>(
+// Does the task over the ledger of a file that is there.
+fn task_in<S: Start, W: Write>(
     rt: &HostRuntime,
     ledger: &str,
-    work: Work,
+    task: Task,
     start: S,
     out: &mut W,
 ) -> Ended<S>
-    ensures { EndsIn S.row S.Start work (W.contents out.old) (W.contents out.new) result.0 result.1.files result.1.link }
+    ensures worked { (work : Work) → task ≡ Task.Work work → EndsIn S.row S.Start work (W.contents out.old) (W.contents out.new) result.0 result.1.files result.1.link }
+    ensures audited { task ≡ Task.Audit → HasAudited S.row S.Start (W.contents out.old) (W.contents out.new) result.0 result.1.files }
 {
     let missing = missing_log(rt, ledger);
     match connect_to_ledger(rt, ledger, start) {
         Ok(connection) => {
-            let (done, link, files) = work_over(rt, ledger, connection, missing, work, out);
-            (done, left_of_work(link, files))
+            let (done, link, files) = task_over(rt, ledger, connection, missing, task, out);
+            (done, left_of_task(link, files))
         }
         Err(fault) => with_link((fail_by_ledger(fault, out), None)),
     }
 }
 
-// The ledger is put away whatever came of the work. A file that is refused is closed without the log that was made.
-fn work_over<D: Disk + Drop, W: Write>(
+// A ledger that was worked with is put away whatever came of that. A file that is refused is closed without the log that was made.
+// An audit leaves its files as they are: their last commits may stand in the log alone.
+fn task_over<D: Disk + Drop, W: Write>(
     rt: &HostRuntime,
     ledger: &str,
     connection: Connection<FileStore<D>>,
     missing: Option<String>,
-    work: Work,
+    task: Task,
     out: &mut W,
-) -> WorkedOver<D>
+) -> Over<D>
     requires idle { connection.in_transaction ≡ false }
-    ensures { EndsOver work connection (W.contents out.old) (W.contents out.new) result.0 result.2 result.1 }
+    ensures worked { (work : Work) → task ≡ Task.Work work → EndsOver work connection (W.contents out.old) (W.contents out.new) result.0 result.2 result.1 }
+    ensures audited { task ≡ Task.Audit → (result.1 ≡ None) × (files : _) × (result.2 ≡ Some files) × (left : _) × (found : Result ℕ OpenFault)
+        × HasFound over_files connection left found × IfOk result.0 (λ status. (status ≡ audit_status found)
+        × Appends (W.contents out.old) (W.contents out.new) (audit_line found)) × LeavesClean left files }
 {
     let mut onlooker = Onlooker::new(rt, ledger);
-    match work_on(rt, connection, work, &mut onlooker, out) {
-        Ok((worked, link, connection)) => {
+    match task_on(rt, connection, task, &mut onlooker, out) {
+        Finished::Worked((worked, link, connection)) => {
             let closed = close_copied(rt, ledger, connection);
             let (done, files) = ended(worked, closed, out);
             (done, link, files)
         }
-        Err(refusal) => {
-            if let Work::Create(_) = &work {
-                onlooker.tell_place(refusal.fault);
-            }
+        Finished::Refused(refusal) => {
+            onlooker.tell_place(&task, refusal.fault);
             remove_log(rt, missing);
             (fail_by_ledger(fault_of_refusal(refusal), out), None, None)
+        }
+        Finished::Audited(audited, store) => {
+            forget_log(rt, missing, &audited);
+            (audited, None, Some(store.close()))
         }
     }
 }
@@ -272,44 +264,7 @@ fn fail_by_closing<W: Write>(
     fail_by_ledger(fault, out)
 }
 
-fn audit_file<S: Start, W: Write>(
-    rt: &HostRuntime,
-    ledger: &str,
-    start: S,
-    out: &mut W,
-) -> Closed<S>
-    ensures { HasAudited S.row S.Start (W.contents out.old) (W.contents out.new) result.0 result.1 }
-{
-    let missing = missing_log(rt, ledger);
-    match connect_to_ledger(rt, ledger, start) {
-        Ok(connection) => {
-            let (audited, files) = audit_over(rt, ledger, connection, missing, out);
-            (audited, Some(files))
-        }
-        Err(fault) => (fail_by_ledger(fault, out), None),
-    }
-}
-
-// The files are closed as the audit leaves them: their last commits may stand in the log alone. Where it refuses them, the log
-// that was made is taken away before.
-fn audit_over<D: Disk + Drop, W: Write>(
-    rt: &HostRuntime,
-    ledger: &str,
-    connection: Connection<FileStore<D>>,
-    missing: Option<String>,
-    out: &mut W,
-) -> (Result<JobStatus, WriteFault>, Files<D>)
-    requires idle { connection.in_transaction ≡ false }
-    ensures { (left : _) × (found : Result ℕ OpenFault) × HasFound over_files connection left found × IfOk result.0 (λ status. (status ≡ audit_status found)
-        × Appends (W.contents out.old) (W.contents out.new) (audit_line found)) × LeavesClean left result.1 }
-{
-    let mut onlooker = Onlooker::new(rt, ledger);
-    let (audited, store) = audit_to_store(rt.alloc(), connection, &mut onlooker, out);
-    forget_log(rt, missing, &audited);
-    (audited, store.close())
-}
-
-// Takes away the log of a file that is refused.
+// Takes away the log of a file that an audit refuses, which is locked still.
 fn forget_log(rt: &HostRuntime, missing: Option<String>, audited: &Result<JobStatus, WriteFault>) {
     if let Ok(JobStatus::Failed) = audited {
         remove_log(rt, missing);

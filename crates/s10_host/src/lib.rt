@@ -2,7 +2,6 @@
 #![tactic(auto)]
 
 mod audit;
-mod closing;
 mod files;
 mod front;
 mod jobs;
@@ -10,6 +9,7 @@ mod left;
 mod loopback;
 mod looped;
 mod onlooker;
+mod task;
 mod work;
 
 pub use audit::run_audit;

@@ -1,11 +1,19 @@
 //! A run of calls between two sockets of this machine.
 
 ghost use Rattle.std.specs.Prelude.{◌≡◌, None, IfOk, IfErr, IfSome};
+ghost use Rattle.s10_ends.specs.declared.near_link.NearLink.{NearLink};
+ghost use Rattle.s10_ends.specs.NearLink.{IsNearStep};
+ghost use Rattle.s10_ends.specs.Server.{book_of};
+ghost use Rattle.s10_ends.specs.UdpLink.{BoundLink};
+ghost use Rattle.s10_link.specs.declared.peer.Peer.{Peer};
+ghost use Rattle.s10_link.specs.Link.{LeadsTo};
 ghost use Rattle.s10_link.specs.Trace.{new_trace};
 ghost use Rattle.s10_jobs.specs.Shown.{Prints};
-ghost use Rattle.s10_host.specs.Looped.{IsLeftOfLoop, IsLooped, IsNoLoop};
+ghost use Rattle.s10_sockets.specs.LoopCalls.{loop_calls, AreMadeInTurn};
+ghost use Rattle.s10_host.specs.Looped.{IsLooped, IsNoLoop};
 
 use crate::looped::Looped;
+use s10_book::Settle;
 use s10_ends::{NearLink, Server, UdpLink};
 use s10_history::Settings;
 use s10_jobs::{JobStatus, fail_by_ledger, fail_by_link};
@@ -13,7 +21,6 @@ use s10_ledger::SqlBook;
 use s10_lines::WriteFault;
 use s10_link::{LinkFault, Peer};
 use s10_sockets::{bind_link, make_calls};
-use sqlite::MemStore;
 use std::io::Write;
 use std::net::Net;
 
@@ -47,6 +54,29 @@ pub fn run_loop<R: Net + Eprint + AllocGlobal, W: Write>(
         Err(fault) => return (fail_by_ledger(fault, out), None),
     };
     let to = far.local();
+    let (asked, book, far, near) = loop_over(book, far, near, day, out);
+    let looped = Looped {
+        connection: book.close(),
+        far,
+        near,
+    };
+    (asked, Some(looped))
+}
+
+// Serves a book over the far link on this day, and makes the calls to it over the near one. Answers the book and the links too.
+fn loop_over<B: Settle, W: Write>(
+    book: B,
+    far: UdpLink,
+    near: UdpLink,
+    day: u32,
+    out: &mut W,
+) -> (Result<JobStatus, WriteFault>, B, UdpLink, UdpLink)
+    ensures { (begun : NearLink B BoundLink BoundLink) × (begun ≡ record { server = begun.server; far = far; near = near; day = day }) × (book_of begun.server ≡ book)
+        × (ended : NearLink B BoundLink BoundLink) × (result.1 ≡ book_of ended.server) × (result.2 ≡ ended.far) × (result.3 ≡ ended.near)
+        × LeadsTo (IsNearStep B.faults B.honest B.terms B.history B.settled (λ (l : BoundLink). l.trace) (λ (l : BoundLink). l.trace)) begun ended
+        × (to : Peer) × IfOk result.0 (λ status. Prints (W.contents out.old) (W.contents out.new) (AreMadeInTurn to loop_calls near.trace result.3.trace status)) }
+{
+    let to = far.local();
     let mut link = NearLink {
         server: Server::new(book),
         far,
@@ -54,24 +84,13 @@ pub fn run_loop<R: Net + Eprint + AllocGlobal, W: Write>(
         day,
     };
     let asked = make_calls(&mut link, to, out);
-    (asked, Some(closed_loop(link)))
-}
-
-// What is left of a link, its ledger closed.
-fn closed_loop(link: NearLink<SqlBook<MemStore>, UdpLink, UdpLink>) -> Looped
-    ensures { IsLeftOfLoop link result }
-{
     let NearLink {
         server,
         far,
         near,
         day: _,
     } = link;
-    Looped {
-        connection: server.into_book().close(),
-        far,
-        near,
-    }
+    (asked, server.into_book(), far, near)
 }
 
 // The far and the near end.

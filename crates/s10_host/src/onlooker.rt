@@ -1,5 +1,7 @@
 //! What standard error is told while the ledger of a file is made or opened.
 
+use crate::task::Task;
+use crate::work::Work;
 use s10_ledger::{OpenFault, Watch};
 use sqlite::Error;
 use std::time::{Duration, Instant};
@@ -28,9 +30,12 @@ impl<'a> Onlooker<'a> {
         }
     }
 
-    // Why no ledger was made, where no statement failed.
-    pub(crate) fn tell_place(&self, fault: OpenFault) {
-        if fault == OpenFault::Store && !self.failed {
+    // Why no ledger was made, where one was asked for and no statement failed.
+    pub(crate) fn tell_place(&self, task: &Task, fault: OpenFault) {
+        if let Task::Work(Work::Create(_)) = task
+            && fault == OpenFault::Store
+            && !self.failed
+        {
             let _ = eprintln!(self.rt;
                 "cannot make a ledger in {}: it has tables of its own",
                 self.path

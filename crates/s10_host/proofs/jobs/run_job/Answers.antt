@@ -13,5 +13,4 @@ returns-in-Report g c = ended_as _ g.S.Start c.args.job.now _ _ _ _ _ _ _ c.run_
 
 pub returns-in-Audit : goal.returns-in-Audit
 returns-in-Audit g c =
-    let same = c.with_files.ensures.same in
-    ended_as _ g.S.Start c.args.job.now _ _ _ _ _ _ _ c.with_files.result.1.link _ c.with_files.result.1.looped _ c.in-Audit.is same.0 same.1 refl refl c.audit_file.ensures
+    ended_as _ g.S.Start c.args.job.now _ _ _ _ _ _ _ c.task_in.result.1.link _ c.task_in.result.1.looped _ c.in-Audit.is refl refl refl refl (c.task_in.ensures.audited refl)

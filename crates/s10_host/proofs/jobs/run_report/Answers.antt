@@ -1,3 +1,4 @@
+use Rattle.std.proofs.Common.{refl}
 use Rattle.s10_host.proofs.Ending.{asked_for, no_report, no_day, reported_in}
 use Rattle.s10_host.proofs.jobs.run_report.Goals as goal
 
@@ -10,5 +11,5 @@ returns-in_default g c =
 pub returns : goal.returns
 returns g c =
     let asked = asked_for c.args.is_of_issues c.args.day c.new.result c.in-Some.report c.in-Some.is c.new.ensures.issues c.new.ensures.ranges c.new.ensures.of_a_day in
-    reported_in _ g.S.Start c.args.is_of_issues c.args.day c.in-Some.report (g.W.Write.contents c.args.out.now) (g.W.Write.contents c.work_in.new.out)
-    c.work_in.result.0 c.work_in.result.1.files c.work_in.result.1.link asked c.work_in.ensures
+    reported_in _ g.S.Start c.args.is_of_issues c.args.day c.in-Some.report (g.W.Write.contents c.args.out.now) (g.W.Write.contents c.task_in.new.out)
+    c.task_in.result.0 c.task_in.result.1.files c.task_in.result.1.link asked (c.task_in.ensures.worked _ refl)

@@ -1,10 +1,10 @@
-use Rattle.std.proofs.Common.{subst}
+use Rattle.std.proofs.Common.{refl, subst}
 use Rattle.s10_link.specs.Peer.{SpellsPeer}
 use Rattle.s10_host.proofs.Ending.{served_in}
 use Rattle.s10_host.proofs.jobs.run_serve.Goals as goal
 
 pub returns : goal.returns
 returns g c =
-    served_in _ g.S.Start c.args.bind.now c.in-Some.at c.args.day c.args.count (g.W.Write.contents c.args.out.now) (g.W.Write.contents c.work_in.new.out)
-    c.work_in.result.0 c.work_in.result.1.files c.work_in.result.1.link
-    (c.in-Some.at, subst (λ text. SpellsPeer text c.in-Some.at) c.as_bytes.ensures.value c.in-Some.ensures.spelled) c.work_in.ensures
+    served_in _ g.S.Start c.args.bind.now c.in-Some.at c.args.day c.args.count (g.W.Write.contents c.args.out.now) (g.W.Write.contents c.task_in.new.out)
+    c.task_in.result.0 c.task_in.result.1.files c.task_in.result.1.link
+    (c.in-Some.at, subst (λ text. SpellsPeer text c.in-Some.at) c.as_bytes.ensures.value c.in-Some.ensures.spelled) (c.task_in.ensures.worked _ refl)
