@@ -1,7 +1,7 @@
 //! Tests of ledgers in tables, and of their rows.
 
 mod books;
-mod calls;
+pub(crate) mod calls;
 mod closed_tables;
 mod creating;
 mod made_rows;

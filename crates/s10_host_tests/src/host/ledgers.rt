@@ -2,12 +2,13 @@
 
 use crate::expect::holds;
 use crate::host::refusing::Refusing;
+use crate::ledger::calls::{closed, ledger};
 use s10_book::{Book, PlainBook, Settle};
 use s10_ends::{Answer, Delivery, Server};
 use s10_history::Settings;
 use s10_host::run_audit;
 use s10_jobs::{JobStatus, write_answer};
-use s10_ledger::{SqlBook, Unwatched};
+use s10_ledger::Unwatched;
 use s10_lines::WriteFault;
 use s10_link::Packet;
 use s10_reports::{write_issues, write_ranges};
@@ -129,54 +130,31 @@ fn reported<B: Settle>(alloc: Global, book: B, said: &mut (bool, bool)) -> B {
     book
 }
 
-/// A new ledger in tables. None where it is not made.
-fn new_book(alloc: Global) -> Option<SqlBook<MemStore>> {
-    SqlBook::in_memory(alloc, settings()).ok()
-}
-
-/// Whether a ledger in tables gave the replies, and whether its reports are as worked by hand. Neither where there is none.
-fn said_of<S: Alter + Drop>(alloc: Global, book: Option<SqlBook<S>>) -> (bool, bool) {
+/// The tables of a new ledger behind the nine calls, and whether it gave the replies and its reports are as worked by hand.
+fn worked<R: Abort + AllocGlobal>(rt: &R) -> (Connection<MemStore>, (bool, bool)) {
     let mut said = (false, false);
-    if let Some(book) = book {
-        let _ = reported(alloc, book, &mut said).close();
-    }
-    said
+    let book = reported(rt.alloc(), ledger(rt, settings()), &mut said);
+    (book.close(), said)
 }
 
 #[test]
 fn both_books_give_the_same_replies(rt: HostRuntime) {
     let book = PlainBook::new(rt.alloc(), settings());
     assert!(rt; gives_nine_replies(rt.alloc(), book));
-    assert!(rt; said_of(rt.alloc(), new_book(rt.alloc())).0);
+    let (_tables, said) = worked(&rt);
+    assert!(rt; said.0);
 }
 
 #[test]
 fn reports_of_tables_are_as_worked_by_hand(rt: HostRuntime) {
-    assert!(rt; said_of(rt.alloc(), new_book(rt.alloc())).1);
-}
-
-/// The tables of a ledger.
-fn tables_of<S: Alter + Drop>(book: Option<SqlBook<S>>) -> Option<Connection<S>> {
-    Some(book?.close())
-}
-
-/// The book behind the nine calls.
-fn worked<B: Settle>(alloc: Global, book: B) -> B {
-    let (_, book) = hand_in(alloc, book);
-    book
-}
-
-/// The tables of a ledger behind them.
-fn worked_tables_of<S: Alter + Drop>(
-    alloc: Global,
-    book: Option<SqlBook<S>>,
-) -> Option<Connection<S>> {
-    Some(worked(alloc, book?).close())
+    let (_tables, said) = worked(&rt);
+    assert!(rt; said.1);
 }
 
 /// The tables of the nine calls.
-fn worked_ledger(alloc: Global) -> Option<Connection<MemStore>> {
-    worked_tables_of(alloc, new_book(alloc))
+fn worked_ledger<R: Abort + AllocGlobal>(rt: &R) -> Option<Connection<MemStore>> {
+    let (tables, _) = worked(rt);
+    Some(tables)
 }
 
 /// Tables behind one change.
@@ -211,17 +189,17 @@ fn is_audited<R: Abort + AllocGlobal, S: Alter + Drop>(
 
 #[test]
 fn ledger_as_it_was_kept_is_sound(rt: HostRuntime) {
-    let worked = worked_ledger(rt.alloc());
+    let worked = worked_ledger(&rt);
     assert!(rt; is_audited(&rt, worked, JobStatus::Done, "ledger ok 9\n"));
-    let empty = tables_of(new_book(rt.alloc()));
+    let empty = Some(closed(ledger(&rt, settings())));
     assert!(rt; is_audited(&rt, empty, JobStatus::Done, "ledger ok 0\n"));
-    let worked = worked_ledger(rt.alloc());
+    let worked = worked_ledger(&rt);
     assert!(rt; audited(&rt, worked, &mut Refusing) == Some(Err(WriteFault)));
 }
 
 #[test]
 fn ledger_without_the_table_of_closed_ranges_is_of_an_earlier_build(rt: HostRuntime) {
-    let earlier = changed(worked_ledger(rt.alloc()), "DROP TABLE closed");
+    let earlier = changed(worked_ledger(&rt), "DROP TABLE closed");
     assert!(rt; is_audited(&rt, earlier, JobStatus::Done, "ledger ok 9\n"));
 }
 
@@ -289,7 +267,7 @@ const CHANGES: &[(&str, &str)] = &[
 
 /// Whether an audit behind the change fails with this line.
 fn is_found<R: Abort + AllocGlobal>(rt: &R, change: &str, line: &str) -> bool {
-    let ledger = changed(worked_ledger(rt.alloc()), change);
+    let ledger = changed(worked_ledger(rt), change);
     is_audited(rt, ledger, JobStatus::Failed, line)
 }
 

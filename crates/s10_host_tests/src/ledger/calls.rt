@@ -6,7 +6,7 @@ use s10_history::{Entry, Settings};
 use s10_ledger::SqlBook;
 use s10_rows::Opened;
 use s10_wire::{Body, Outcome, Request, Status};
-use sqlite::{Alter, Connection, MemStore};
+use sqlite::{Connection, MemStore};
 use std::process::Abort;
 
 /// What a request asks, of RA GB where no other letters are named.
@@ -189,7 +189,7 @@ pub(crate) fn ledger<R: Abort + AllocGlobal>(rt: &R, settings: Settings) -> SqlB
 }
 
 /// The connection of a ledger, once its calls are settled.
-pub(crate) fn closed<S: Alter>(mut book: SqlBook<S>) -> Connection<S> {
+pub(crate) fn closed(mut book: SqlBook<MemStore>) -> Connection<MemStore> {
     let _ = book.settle();
     book.close()
 }
@@ -252,4 +252,20 @@ pub(crate) fn first_unlike<B: Book>(book: &mut B, steps: &[Step]) -> Option<usiz
         }
     }
     None
+}
+
+/// The same of a ledger.
+pub(crate) fn first_unlike_in(book: &mut SqlBook<MemStore>, steps: &[Step]) -> Option<usize> {
+    first_unlike(book, steps)
+}
+
+/// The same of a new ledger with this limit, and its connection.
+pub(crate) fn first_unlike_of<R: Abort + AllocGlobal>(
+    rt: &R,
+    limit: u32,
+    steps: &[Step],
+) -> (Option<usize>, Connection<MemStore>) {
+    let mut book = ledger(rt, settings(rt, limit));
+    let unlike = first_unlike_in(&mut book, steps);
+    (unlike, closed(book))
 }

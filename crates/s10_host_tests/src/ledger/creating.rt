@@ -1,7 +1,7 @@
 //! A ledger is made in an empty database, and in no other.
 
 use crate::expect::same;
-use crate::ledger::calls::{NINE_CALLS, closed, first_unlike, ledger, settings};
+use crate::ledger::calls::{NINE_CALLS, closed, first_unlike_of, ledger, settings};
 use crate::ledger::rows::{Shown, first_unshown};
 use s10_book::Book;
 use s10_history::Settings;
@@ -75,9 +75,7 @@ fn refusal<R: Abort + AllocGlobal>(
 
 /// A ledger of nine calls.
 pub(crate) fn nine_kept<R: Abort + AllocGlobal>(rt: &R) -> Connection<MemStore> {
-    let mut book = ledger(rt, settings(rt, 100));
-    let unlike = first_unlike(&mut book, NINE_CALLS);
-    let conn = closed(book);
+    let (unlike, conn) = first_unlike_of(rt, 100, NINE_CALLS);
     same(rt, &"nine calls", &unlike, &None);
     conn
 }

@@ -2,7 +2,8 @@
 
 use crate::expect::same;
 use crate::ledger::calls::{
-    Answered, Asked, Step, answer, closed, first_unlike, id, ledger, request, said, settings,
+    Answered, Asked, Step, answer, closed, first_unlike, first_unlike_of, id, ledger, request,
+    said, settings,
 };
 use crate::ledger::rows::{Shown, first_unshown};
 use s10_book::{Book, BookFault};
@@ -31,9 +32,7 @@ const DRAWN: &'static [Shown] = &[
 
 #[test]
 fn a_grant_writes_no_row_of_a_serial(rt: HostRuntime) {
-    let mut book = ledger(&rt, settings(&rt, 20_000));
-    let unlike = first_unlike(&mut book, GRANT);
-    let mut conn = closed(book);
+    let (unlike, mut conn) = first_unlike_of(&rt, 20_000, GRANT);
     let unshown = first_unshown(rt.alloc(), &mut conn, GRANTED);
     same(&rt, &"the Grant", &(unlike, unshown), &(None, Ok(None)));
 }

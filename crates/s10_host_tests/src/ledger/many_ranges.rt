@@ -107,46 +107,69 @@ fn new_books<R: Abort + AllocGlobal>(rt: &R) -> (PlainBook, SqlBook<MemStore>) {
     (PlainBook::new(rt.alloc(), settings), ledger(rt, settings))
 }
 
-// Whether the books answer all Grants, all that overlap them, and Draws alike.
-fn calls_are_alike<A: Book, B: Book>(one: &mut A, other: &mut B) -> bool {
-    grants_are_alike(one, other, RANGES)
-        && overlaps_are_alike(one, other, RANGES)
-        && draws_are_alike(one, other, 1_000)
+// What both books are asked.
+#[derive(Clone, Copy)]
+enum Part {
+    Grants,
+    // Grants that overlap them.
+    Overlaps,
+    Draws(u32),
+    Ranges,
+    Length,
 }
 
-// Whether they do, and whether they find the same ranges then, and keep as many calls.
-fn found_alike<A: Book, B: Book>(one: &mut A, other: &mut B) -> (bool, bool) {
-    let calls = calls_are_alike(one, other);
-    let ranges = ranges_are_alike(one, other, RANGES + 10);
-    (calls, ranges && one.len() == other.len())
+// Whether they answer it alike.
+fn is_alike<A: Book, B: Book>(one: &mut A, other: &mut B, part: Part) -> bool {
+    match part {
+        Part::Grants => grants_are_alike(one, other, RANGES),
+        Part::Overlaps => overlaps_are_alike(one, other, RANGES),
+        Part::Draws(draws) => draws_are_alike(one, other, draws),
+        Part::Ranges => ranges_are_alike(one, other, RANGES + 10),
+        Part::Length => one.len() == other.len(),
+    }
 }
+
+fn are_alike<A: Book, B: Book>(one: &mut A, other: &mut B, parts: &[Part]) -> bool {
+    for part in parts {
+        if !is_alike(one, other, *part) {
+            return false;
+        }
+    }
+    true
+}
+
+// Whether a book in memory and a ledger answer each part alike.
+fn both_alike(plain: &mut PlainBook, tables: &mut SqlBook<MemStore>, parts: &[Part]) -> bool {
+    are_alike(plain, tables, parts)
+}
+
+// All Grants, all that overlap them, and Draws.
+const CALLS: &[Part] = &[Part::Grants, Part::Overlaps, Part::Draws(1_000)];
+
+// The ranges that are found then, and how many calls are kept.
+const FOUND: &[Part] = &[Part::Ranges, Part::Length];
 
 #[test]
 fn ranges_of_many_holders_are_answered_alike(rt: HostRuntime) {
     let (mut plain, mut tables) = new_books(&rt);
-    let found = found_alike(&mut plain, &mut tables);
+    let calls = both_alike(&mut plain, &mut tables, CALLS);
+    let found = both_alike(&mut plain, &mut tables, FOUND);
     let _ = closed(tables);
-    same(&rt, &"calls, books", &found, &(true, true));
+    same(&rt, &"calls, books", &(calls, found), &(true, true));
 }
 
-// Whether the books answer all Grants and Draws alike.
-fn grants_and_draws_are_alike<A: Book, B: Book>(one: &mut A, other: &mut B) -> bool {
-    grants_are_alike(one, other, RANGES) && draws_are_alike(one, other, 500)
-}
+// All Grants and Draws.
+const BEFORE: &[Part] = &[Part::Grants, Part::Draws(500)];
 
-// Whether they find the same ranges, and answer Grants that overlap them alike.
-fn overlaps_are_found_alike<A: Book, B: Book>(one: &mut A, other: &mut B) -> bool {
-    ranges_are_alike(one, other, RANGES + 10)
-        && overlaps_are_alike(one, other, RANGES)
-        && one.len() == other.len()
-}
+// The same ranges, and Grants that overlap them.
+const BEHIND: &[Part] = &[Part::Ranges, Part::Overlaps, Part::Length];
 
 #[test]
 fn ranges_are_found_as_before_once_the_ledger_is_opened_again(rt: HostRuntime) {
     let (mut plain, mut tables) = new_books(&rt);
-    let before = grants_and_draws_are_alike(&mut plain, &mut tables);
+    let before = both_alike(&mut plain, &mut tables, BEFORE);
     let mut opened = opened_again(&rt, tables);
-    let behind = overlaps_are_found_alike(&mut plain, &mut opened);
+    let behind = both_alike(&mut plain, &mut opened, BEHIND);
     let _ = closed(opened);
     same(&rt, &"before, behind", &(before, behind), &(true, true));
 }

@@ -3,7 +3,7 @@
 use crate::expect::same;
 use crate::ledger::calls::Answered::{Drawn, NoRange, Withdrawn};
 use crate::ledger::calls::Asked::{Draw, Withdraw};
-use crate::ledger::calls::{NINE_CALLS, Step, closed, first_unlike, whole};
+use crate::ledger::calls::{NINE_CALLS, Step, closed, first_unlike_in, whole};
 use crate::ledger::creating::nine_kept;
 use crate::ledger::rows::{
     CLOSED, COMPLETE, INCOMPLETE, Left, NONE_CLOSED, Shown, left, left_behind,
@@ -78,7 +78,7 @@ fn served<R: Abort + AllocGlobal>(
     }
     match SqlBook::open(rt.alloc(), conn, &mut Unwatched) {
         Ok(mut book) => {
-            let unlike = first_unlike(&mut book, steps);
+            let unlike = first_unlike_in(&mut book, steps);
             let conn = closed(book);
             same(rt, &"served on", &unlike, &None);
             Some(conn)

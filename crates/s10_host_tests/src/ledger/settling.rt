@@ -2,14 +2,14 @@
 
 use crate::expect::same;
 use crate::ledger::calls::{
-    Answered, Asked, Step, answer, first_unlike, ledger, request, settings,
+    Answered, Asked, Step, answer, first_unlike, first_unlike_in, ledger, request, settings,
 };
-use crate::ledger::stops::{Ended, files_of, opened_again};
+use crate::ledger::stops::{Act, Ended, done_over, opened_again};
 use crate::ledger::tables::found;
 use s10_book::{Book, BookFault, Settle};
 use s10_history::Settings;
 use s10_ledger::{Refused, SqlBook, Unwatched};
-use sqlite::{Alter, Connection, FileStore, Files, MemStore, Options};
+use sqlite::{Alter, Connection, Files, MemStore, Options};
 use sqlite_disk::{Crash, Disk, Fuse, Memory};
 use std::alloc::Global;
 use std::ops::Range;
@@ -88,7 +88,7 @@ const REPEATED: &'static [Step] = &[(7, 1, Asked::Draw, 20001, Answered::Drawn(2
 /// leaves.
 fn repeated<R: Abort + AllocGlobal>(rt: &R) -> (bool, u32, Option<u32>) {
     let (mut book, is_kept) = kept(rt, 3);
-    let is_repeated = first_unlike(&mut book, REPEATED).is_none();
+    let is_repeated = first_unlike_in(&mut book, REPEATED).is_none();
     let calls = book.len();
     (is_kept && is_repeated, calls, calls_found(rt.alloc(), book))
 }
@@ -100,7 +100,7 @@ fn a_pending_call_is_found(rt: HostRuntime) {
 
 /// What is told of a settling: which of four calls are settled before it, what it answers, which are settled behind it, and how many
 /// calls the book has then.
-type Told = ([bool; 4], Result<(), BookFault>, [bool; 4], u32);
+pub(crate) type Told = ([bool; 4], Result<(), BookFault>, [bool; 4], u32);
 
 /// The third call is settled by the settling alone.
 const SETTLED: Told = ([true, true, false, true], Ok(()), [true; 4], 5);
@@ -143,21 +143,8 @@ fn settles_three<B: Settle>(book: &mut B) -> Option<Told> {
     Some((before, answer, settled_keys(book), book.len()))
 }
 
-/// The same of a ledger in memory.
-fn told_in_memory<R: Abort + AllocGlobal>(rt: &R) -> Option<Told> {
-    let mut book = ledger(rt, settings(rt, 100));
-    let told = settles_three(&mut book);
-    let _conn = book.close();
-    told
-}
-
-#[test]
-fn a_call_is_settled_behind_its_settling(rt: HostRuntime) {
-    assert!(rt; told_in_memory(&rt) == Some(SETTLED));
-}
-
 /// The same of a new ledger in this connection, which is handed back. None where it is not made.
-fn settles_three_in<S: Alter>(
+pub(crate) fn settles_three_in<S: Alter>(
     alloc: Global,
     settings: Settings,
     conn: Connection<S>,
@@ -176,6 +163,18 @@ fn settles_three_in<S: Alter>(
     }
 }
 
+/// The same of a ledger in memory.
+fn told_in_memory(alloc: Global, settings: Settings) -> Option<Told> {
+    let conn = Connection::open_in_memory(alloc).ok()?;
+    let (told, _conn) = settles_three_in(alloc, settings, conn);
+    told
+}
+
+#[test]
+fn a_call_is_settled_behind_its_settling(rt: HostRuntime) {
+    assert!(rt; told_in_memory(rt.alloc(), settings(&rt, 100)) == Some(SETTLED));
+}
+
 /// The same of a new ledger in these files, which are handed back.
 fn settles_three_over<D: Disk + Drop>(
     alloc: Global,
@@ -187,8 +186,8 @@ fn settles_three_over<D: Disk + Drop>(
     }
     match Connection::open_files(alloc, files, Options::new(7)) {
         Ok(conn) => {
-            let (told, conn) = settles_three_in(alloc, settings, conn);
-            (told, files_of(conn))
+            let (_, told, store) = done_over(conn, Act::Settle(alloc, settings));
+            (told, store.close())
         }
         Err((_, left)) => (None, left.into_files()),
     }

@@ -1,8 +1,10 @@
 //! A ledger of the build that had no table of closed ranges, opened over files that stop at one of their calls.
 
 use crate::expect::same;
+use crate::ledger::settling::{Told, settles_three_in};
 use crate::ledger::tables::{OLD_LEDGER, run_batches};
 use s10_book::Book;
+use s10_history::Settings;
 use s10_ledger::{OpenFault, Refused, SqlBook, Unwatched};
 use sqlite::{Alter, Connection, FileStore, Files, Options};
 use sqlite_disk::{Crash, Disk, Fuse, Memory};
@@ -42,12 +44,13 @@ const TIGHT: Options = Options {
 
 /// What is done in a connection.
 #[derive(Clone, Copy)]
-enum Act {
-    Nothing,
+pub(crate) enum Act {
     /// The statements of the ledger of the nine calls are run.
     Fill,
     /// Its ledger is opened.
     Open(Global),
+    /// A new ledger with these settings settles three calls.
+    Settle(Global, Settings),
 }
 
 /// A file of these bytes, all of them synced, that stops at one of its calls.
@@ -91,28 +94,39 @@ fn ledger_in<S: Alter + Drop>(alloc: Global, conn: Connection<S>) -> (Ended, Con
     }
 }
 
-/// What is found of a connection in which this is done, and its store.
-fn done<S: Alter + Drop>(mut conn: Connection<S>, act: Act) -> (Ended, S) {
+/// How a connection ends that is filled, and the connection.
+fn ledger_filled<S: Alter + Drop>(mut conn: Connection<S>) -> (Ended, Connection<S>) {
+    let ended = if run_batches(&mut conn, &OLD_LEDGER).is_ok() {
+        ending_of(&conn, 0)
+    } else {
+        Ended::Unconnected
+    };
+    (ended, conn)
+}
+
+/// What is found of a connection in which this is done, what is told of a settling in it, and its store.
+fn done<S: Alter + Drop>(conn: Connection<S>, act: Act) -> (Ended, Option<Told>, S) {
     match act {
-        Act::Nothing => (Ended::Unconnected, conn.into_store()),
         Act::Fill => {
-            let is_filled = run_batches(&mut conn, &OLD_LEDGER).is_ok();
-            let ended = if is_filled {
-                ending_of(&conn, 0)
-            } else {
-                Ended::Unconnected
-            };
-            (ended, conn.into_store())
+            let (ended, conn) = ledger_filled(conn);
+            (ended, None, conn.into_store())
         }
         Act::Open(alloc) => {
             let (ended, conn) = ledger_in(alloc, conn);
-            (ended, conn.into_store())
+            (ended, None, conn.into_store())
+        }
+        Act::Settle(alloc, settings) => {
+            let (told, conn) = settles_three_in(alloc, settings, conn);
+            (Ended::Unconnected, told, conn.into_store())
         }
     }
 }
 
 /// The same of a connection over files.
-fn done_over<D: Disk + Drop>(conn: Connection<FileStore<D>>, act: Act) -> (Ended, FileStore<D>) {
+pub(crate) fn done_over<D: Disk + Drop>(
+    conn: Connection<FileStore<D>>,
+    act: Act,
+) -> (Ended, Option<Told>, FileStore<D>) {
     done(conn, act)
 }
 
@@ -124,7 +138,7 @@ fn filled<D: Disk + Drop>(alloc: Global, files: Files<D>) -> Option<Files<D>> {
     let Ok(conn) = Connection::open_files(alloc, files, Options::new(7)) else {
         return None;
     };
-    let (ended, mut store) = done_over(conn, Act::Fill);
+    let (ended, _, mut store) = done_over(conn, Act::Fill);
     let is_written = ended == Ended::Incomplete && store.checkpoint().is_ok();
     let files = store.close();
     if is_written { Some(files) } else { None }
@@ -137,12 +151,6 @@ fn old_ledger(alloc: Global) -> Option<Files<Fuse<Memory>>> {
     filled(alloc, Files { log, db })
 }
 
-/// The files of a connection, as they are.
-pub(crate) fn files_of<D: Disk + Drop>(conn: Connection<FileStore<D>>) -> Files<D> {
-    let (_, store) = done_over(conn, Act::Nothing);
-    store.close()
-}
-
 /// How the ledger in files opens, and the files.
 fn opened<D: Disk + Drop>(alloc: Global, files: Files<D>, options: Options) -> (Ended, Files<D>) {
     if !files.may_be_used() {
@@ -150,7 +158,7 @@ fn opened<D: Disk + Drop>(alloc: Global, files: Files<D>, options: Options) -> (
     }
     match Connection::open_files(alloc, files, options) {
         Ok(conn) => {
-            let (ended, store) = done_over(conn, Act::Open(alloc));
+            let (ended, _, store) = done_over(conn, Act::Open(alloc));
             (ended, store.close())
         }
         Err((_, left)) => (Ended::Unconnected, left.into_files()),

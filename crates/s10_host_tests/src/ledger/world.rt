@@ -170,18 +170,28 @@ fn run_story<B: Book>(alloc: Global, book: B, replies: &[Reply; 3]) -> (B, Optio
     (world.into_server().into_book(), seen)
 }
 
+// The same, and whether the book keeps each call once then.
+fn run_and_kept<B: Book>(
+    alloc: Global,
+    book: B,
+    replies: &[Reply; 3],
+) -> (B, (Option<[bool; 3]>, bool)) {
+    let (mut book, seen) = run_story(alloc, book, replies);
+    let are_kept = are_kept_once(&mut book, replies);
+    (book, (seen, are_kept))
+}
+
 // Each request is executed once, and answered to its own client.
 #[test]
 fn a_ledger_in_tables_executes_each_call_of_a_world_once(rt: HostRuntime) {
     let replies = replies(&rt);
     let ledger = ledger(&rt, settings(&rt, 100));
-    let (mut ledger, seen) = run_story(rt.alloc(), ledger, &replies);
-    let are_kept = are_kept_once(&mut ledger, &replies);
+    let (ledger, found) = run_and_kept(rt.alloc(), ledger, &replies);
     let _ = closed(ledger);
     same(
         &rt,
         &"submitted, accepted, replied, and kept",
-        &(seen, are_kept),
+        &found,
         &(Some([true; 3]), true),
     );
 }
