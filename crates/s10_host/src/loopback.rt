@@ -53,7 +53,6 @@ pub fn run_loop<R: Net + Eprint + AllocGlobal, W: Write>(
         Ok(book) => book,
         Err(fault) => return (fail_by_ledger(fault, out), None),
     };
-    let to = far.local();
     let (asked, book, far, near) = loop_over(book, far, near, day, out);
     let looped = Looped {
         connection: book.close(),

@@ -97,7 +97,7 @@ fn work_and_close<A: Alter, W: Write>(
     (done, link, book.close())
 }
 
-// Does the work with its ledger, which is only made where it is a new one. Answers the link too: None where there was none to
+// Does the work with its ledger. One that was made for it is left as it is. Answers the link too: None where there was none to
 // serve on.
 fn work_with<B: Settle, W: Write>(
     rt: &HostRuntime,
