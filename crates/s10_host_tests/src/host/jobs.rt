@@ -4,20 +4,13 @@ use crate::expect::holds;
 use s10_cli::parse_job;
 use s10_host::run_job;
 use s10_jobs::{Job, JobStatus};
-use s10_lines::WriteFault;
 use sqlite::Unknown;
-use std::io::Write;
-
-/// What came of a job.
-fn ended<W: Write>(rt: &HostRuntime, job: &Job<'_>, out: &mut W) -> Result<JobStatus, WriteFault> {
-    let (ended, _left) = run_job(rt, job, Unknown, out);
-    ended
-}
 
 /// Whether a job has this status and prints this line.
 fn is_ended(rt: &HostRuntime, job: &Job<'_>, status: JobStatus, line: &str) -> bool {
     let mut output = Vec::new(rt.alloc());
-    ended(rt, job, &mut output) == Ok(status) && output.as_slice() == line.as_bytes()
+    let (ended, _left) = run_job(rt, job, Unknown, &mut output);
+    ended == Ok(status) && output.as_slice() == line.as_bytes()
 }
 
 /// The same of the job of a command line.

@@ -12,13 +12,14 @@ use crate::ledger::calls::{
 };
 use s10_book::{Book, BookFault, PlainBook};
 use s10_history::{Block, Candidate, Entry, Holding, Issue, Range, Settings, Usage};
+use s10_ledger::SqlBook;
 use s10_wire::{Outcome, Status};
 use sqlite::{Connection, MemStore};
 use std::process::Abort;
 
 /// What is read of a book, and what is found.
 #[derive(Clone, Copy)]
-enum Read {
+pub(crate) enum Read {
     /// How many calls there are, and the day of the last.
     Calls(u32, u32),
     /// The call of this customer and number: the sixth, or none.
@@ -44,7 +45,7 @@ const UNREAD: &'static [Read] = &[];
 
 /// What is found of a book behind steps: the places of the first step that was not answered as its row says, and of the first that
 /// is not read so; how many calls there are, the day of the last, and the settings.
-type Found = (Option<usize>, Option<usize>, u32, u32, Settings);
+pub(crate) type Found = (Option<usize>, Option<usize>, u32, u32, Settings);
 
 fn found<B: Book>(book: &mut B, steps: &[Step], reads: &[Read]) -> Found {
     let step = first_unlike(book, steps);
@@ -62,6 +63,28 @@ fn found_in_memory<R: AllocGlobal>(
     found(&mut book, steps, reads)
 }
 
+/// The same of a ledger.
+pub(crate) fn found_in(book: &mut SqlBook<MemStore>, steps: &[Step], reads: &[Read]) -> Found {
+    found(book, steps, reads)
+}
+
+/// Whether a ledger answers each step as its row says; otherwise the place of the first that it doesn't.
+pub(crate) fn first_unlike_in(book: &mut SqlBook<MemStore>, steps: &[Step]) -> Option<usize> {
+    let (step, _, _, _, _) = found_in(book, steps, UNREAD);
+    step
+}
+
+/// The same of a new ledger with this limit, and its connection.
+pub(crate) fn first_unlike_of<R: Abort + AllocGlobal>(
+    rt: &R,
+    limit: u32,
+    steps: &[Step],
+) -> (Option<usize>, Connection<MemStore>) {
+    let mut book = ledger(rt, settings(rt, limit));
+    let unlike = first_unlike_in(&mut book, steps);
+    (unlike, closed(book))
+}
+
 /// The connection of a ledger behind these steps, which it and a book in memory answer, and are read then, as the rows say.
 fn both_after<R: Abort + AllocGlobal>(
     rt: &R,
@@ -73,7 +96,7 @@ fn both_after<R: Abort + AllocGlobal>(
     let settings = settings(rt, limit);
     let plain = found_in_memory(rt, settings, steps, reads);
     let mut tables = ledger(rt, settings);
-    let found = found(&mut tables, steps, reads);
+    let found = found_in(&mut tables, steps, reads);
     same(rt, &name, &(plain.0, plain.1, found), &(None, None, plain));
     closed(tables)
 }
@@ -271,6 +294,16 @@ fn candidate_of_first<B: Book>(book: &mut B) -> Result<Option<Candidate>, BookFa
     Ok(Some(candidate))
 }
 
+/// Whether this call is the sixth, or none.
+fn is_sixth(found: &Result<Option<Entry>, BookFault>, is_there: bool) -> bool {
+    *found == Ok(sixth(is_there))
+}
+
+/// Whether this range is the first, or none.
+fn is_first(found: &Result<Option<Range>, BookFault>, is_there: bool) -> bool {
+    *found == Ok(first_range(is_there))
+}
+
 /// Whether the range that a holder has behind that number is the first, or none.
 fn has_behind<B: Book>(book: &mut B, holder: u32, after: u32, is_there: bool) -> bool {
     let held = Holding {
@@ -278,7 +311,7 @@ fn has_behind<B: Book>(book: &mut B, holder: u32, after: u32, is_there: bool) ->
         service: ra(),
         country: gb(),
     };
-    book.next_range(&held, after) == Ok(first_range(is_there))
+    is_first(&book.next_range(&held, after), is_there)
 }
 
 /// Whether the range over these serials is the first, or none.
@@ -289,7 +322,7 @@ fn has_over<B: Book>(book: &mut B, first: u32, last: u32, is_there: bool) -> boo
         first: serial(first),
         last: serial(last),
     };
-    book.covering(&block) == Ok(first_range(is_there))
+    is_first(&book.covering(&block), is_there)
 }
 
 /// Whether the first range gives this serial next, which was issued last so.
@@ -305,11 +338,9 @@ fn gives_next<B: Book>(book: &mut B, value: u32, issue: Issue) -> bool {
 fn is_as_read<B: Book>(book: &mut B, read: Read) -> bool {
     match read {
         Read::Calls(calls, day) => book.len() == calls && book.day() == day,
-        Read::Find(customer, number, is_there) => {
-            book.find(customer, number) == Ok(sixth(is_there))
-        }
-        Read::Entry(at, is_there) => book.entry(at) == Ok(sixth(is_there)),
-        Read::Range(number, is_there) => book.range(number) == Ok(first_range(is_there)),
+        Read::Find(customer, number, is_there) => is_sixth(&book.find(customer, number), is_there),
+        Read::Entry(at, is_there) => is_sixth(&book.entry(at), is_there),
+        Read::Range(number, is_there) => is_first(&book.range(number), is_there),
         Read::NextRange(holder, after, is_there) => has_behind(book, holder, after, is_there),
         Read::Covering(first, last, is_there) => has_over(book, first, last, is_there),
         Read::LastIssue(value, issue) => book.last_issue(&id(value)) == Ok(issue),

@@ -253,19 +253,3 @@ pub(crate) fn first_unlike<B: Book>(book: &mut B, steps: &[Step]) -> Option<usiz
     }
     None
 }
-
-/// The same of a ledger.
-pub(crate) fn first_unlike_in(book: &mut SqlBook<MemStore>, steps: &[Step]) -> Option<usize> {
-    first_unlike(book, steps)
-}
-
-/// The same of a new ledger with this limit, and its connection.
-pub(crate) fn first_unlike_of<R: Abort + AllocGlobal>(
-    rt: &R,
-    limit: u32,
-    steps: &[Step],
-) -> (Option<usize>, Connection<MemStore>) {
-    let mut book = ledger(rt, settings(rt, limit));
-    let unlike = first_unlike_in(&mut book, steps);
-    (unlike, closed(book))
-}

@@ -1,9 +1,9 @@
 //! A ledger is made in an empty database, and in no other.
 
 use crate::expect::same;
-use crate::ledger::calls::{NINE_CALLS, closed, first_unlike_of, ledger, settings};
+use crate::ledger::books::{Read, first_unlike_of, found_in};
+use crate::ledger::calls::{NINE_CALLS, closed, ledger, settings};
 use crate::ledger::rows::{Shown, first_unshown};
-use s10_book::Book;
 use s10_history::Settings;
 use s10_ledger::{OpenFault, Refused, SqlBook, Unwatched};
 use sqlite::{Connection, MemStore};
@@ -37,20 +37,14 @@ const NINE_KEPT: &'static [Shown] = &[
     ("SELECT num FROM closed", 1, &[]),
 ];
 
-/// Whether the book has these settings, and no call and no range.
-fn is_new<B: Book>(book: &mut B, settings: Settings) -> bool {
-    book.len() == 0
-        && book.day() == 0
-        && book.settings() == settings
-        && book.entry(1) == Ok(None)
-        && book.range(1) == Ok(None)
-}
+/// No call and no range.
+const NONE: &'static [Read] = &[Read::Entry(1, false), Read::Range(1, false)];
 
 #[test]
 fn a_new_ledger_has_its_settings_and_no_call(rt: HostRuntime) {
     let settings = settings(&rt, 100);
     let mut book = ledger(&rt, settings);
-    let is_new = is_new(&mut book, settings);
+    let is_new = found_in(&mut book, &[], NONE) == (None, None, 0, 0, settings);
     let is_idle = book.connection().is_autocommit();
     let mut conn = closed(book);
     let unshown = first_unshown(rt.alloc(), &mut conn, NEW);

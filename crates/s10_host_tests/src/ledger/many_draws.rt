@@ -1,9 +1,9 @@
 //! A range of all serials, and ten thousand draws from it.
 
 use crate::expect::same;
+use crate::ledger::books::first_unlike_of;
 use crate::ledger::calls::{
-    Answered, Asked, Step, answer, closed, first_unlike, first_unlike_of, id, ledger, request,
-    said, settings,
+    Answered, Asked, Step, answer, closed, first_unlike, id, ledger, request, said, settings,
 };
 use crate::ledger::rows::{Shown, first_unshown};
 use s10_book::{Book, BookFault};

@@ -1,9 +1,10 @@
 //! Ledgers of the build that had no table of closed ranges, with other tables beside them and without.
 
 use crate::expect::same;
+use crate::ledger::books::first_unlike_in;
 use crate::ledger::calls::Answered::{Drawn, NoRange, Withdrawn};
 use crate::ledger::calls::Asked::{Draw, Withdraw};
-use crate::ledger::calls::{NINE_CALLS, Step, closed, first_unlike_in, whole};
+use crate::ledger::calls::{NINE_CALLS, Step, closed, whole};
 use crate::ledger::creating::nine_kept;
 use crate::ledger::rows::{
     CLOSED, COMPLETE, INCOMPLETE, Left, NONE_CLOSED, Shown, left, left_behind,

@@ -1,16 +1,17 @@
 //! Calls that are pending, and their settling.
 
 use crate::expect::same;
+use crate::ledger::books::first_unlike_in;
 use crate::ledger::calls::{
-    Answered, Asked, Step, answer, first_unlike, first_unlike_in, ledger, request, settings,
+    Answered, Asked, Step, answer, first_unlike, ledger, request, settings,
 };
-use crate::ledger::stops::{Act, Ended, done_over, opened_again};
+use crate::ledger::stops::{Act, Ended, done_in, opened_again};
 use crate::ledger::tables::found;
 use s10_book::{Book, BookFault, Settle};
 use s10_history::Settings;
 use s10_ledger::{Refused, SqlBook, Unwatched};
 use sqlite::{Alter, Connection, Files, MemStore, Options};
-use sqlite_disk::{Crash, Disk, Fuse, Memory};
+use sqlite_disk::{Crash, Fuse, Memory};
 use std::alloc::Global;
 use std::ops::Range;
 use std::process::Abort;
@@ -175,30 +176,13 @@ fn a_call_is_settled_behind_its_settling(rt: HostRuntime) {
     assert!(rt; told_in_memory(rt.alloc(), settings(&rt, 100)) == Some(SETTLED));
 }
 
-/// The same of a new ledger in these files, which are handed back.
-fn settles_three_over<D: Disk + Drop>(
-    alloc: Global,
-    settings: Settings,
-    files: Files<D>,
-) -> (Option<Told>, Files<D>) {
-    if !files.log.may_be_used() || !files.db.may_be_used() {
-        return (None, files);
-    }
-    match Connection::open_files(alloc, files, Options::new(7)) {
-        Ok(conn) => {
-            let (_, told, store) = done_over(conn, Act::Settle(alloc, settings));
-            (told, store.close())
-        }
-        Err((_, left)) => (None, left.into_files()),
-    }
-}
-
 /// What is told over empty files where the log stops at one of its calls, and what is found then over whole files with what was
 /// synced alone.
 fn stopped(alloc: Global, settings: Settings, at: u64) -> Result<(Option<Told>, Ended), Fail> {
     let log = Fuse::new(Memory::new(alloc), at);
     let db = Fuse::new(Memory::new(alloc), u64::MAX);
-    let (told, mut files) = settles_three_over(alloc, settings, Files { log, db });
+    let settle = Act::Settle(alloc, settings);
+    let (_, told, mut files) = done_in(alloc, Files { log, db }, Options::new(7), settle);
     files.log.crash();
     files.db.crash();
     Ok((told, opened_again(alloc, &files)?))

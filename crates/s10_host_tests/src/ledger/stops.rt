@@ -123,7 +123,7 @@ fn done<S: Alter + Drop>(conn: Connection<S>, act: Act) -> (Ended, Option<Told>,
 }
 
 /// The same of a connection over files.
-pub(crate) fn done_over<D: Disk + Drop>(
+fn done_over<D: Disk + Drop>(
     conn: Connection<FileStore<D>>,
     act: Act,
 ) -> (Ended, Option<Told>, FileStore<D>) {
@@ -151,18 +151,29 @@ fn old_ledger(alloc: Global) -> Option<Files<Fuse<Memory>>> {
     filled(alloc, Files { log, db })
 }
 
-/// How the ledger in files opens, and the files.
-fn opened<D: Disk + Drop>(alloc: Global, files: Files<D>, options: Options) -> (Ended, Files<D>) {
+/// The same of a connection over these files, and the files.
+pub(crate) fn done_in<D: Disk + Drop>(
+    alloc: Global,
+    files: Files<D>,
+    options: Options,
+    act: Act,
+) -> (Ended, Option<Told>, Files<D>) {
     if !files.may_be_used() {
-        return (Ended::Unconnected, files);
+        return (Ended::Unconnected, None, files);
     }
     match Connection::open_files(alloc, files, options) {
         Ok(conn) => {
-            let (ended, _, store) = done_over(conn, Act::Open(alloc));
-            (ended, store.close())
+            let (ended, told, store) = done_over(conn, act);
+            (ended, told, store.close())
         }
-        Err((_, left)) => (Ended::Unconnected, left.into_files()),
+        Err((_, left)) => (Ended::Unconnected, None, left.into_files()),
     }
+}
+
+/// How the ledger in files opens, and the files.
+fn opened<D: Disk + Drop>(alloc: Global, files: Files<D>, options: Options) -> (Ended, Files<D>) {
+    let (ended, _, files) = done_in(alloc, files, options, Act::Open(alloc));
+    (ended, files)
 }
 
 /// How it opens over whole files with the same bytes that do not stop. None where these are not made.
