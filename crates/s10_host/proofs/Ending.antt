@@ -22,9 +22,11 @@ use Rattle.s10_ledger.specs.Ledger.{IsHonest, history_of, settled_of}
 use Rattle.s10_rows.specs.declared.open_fault.OpenFault.{OpenFault}
 use Rattle.s10_rows.specs.declared.open_fault.OpenFault.TheVariants.{Store}
 use Rattle.s10_jobs.specs.declared.job_status.JobStatus.{JobStatus}
-use Rattle.s10_jobs.specs.declared.job_status.JobStatus.TheVariants.{Done, Failed}
+use Rattle.s10_jobs.specs.declared.job_status.JobStatus.TheVariants.{Done, Refused, Failed}
 use Rattle.s10_jobs.specs.declared.job.Job.{Job}
 use Rattle.s10_jobs.specs.Questions.{IsPeerText}
+use Rattle.s10_jobs.specs.Lines.{refused_line}
+use Rattle.s10_link.specs.Peer.{SpellsPeer}
 use Rattle.s10_jobs.specs.declared.reporting.Report.{Report}
 use Rattle.s10_jobs.specs.declared.reporting.Report.TheVariants.{Ranges, Issues}
 use Rattle.s10_host.specs.declared.looped.Looped.{Looped}
@@ -243,6 +245,18 @@ module _ (S : RattleType) (first : Ghosts S.Denot) where
         );
         unlinked = λ none. absurd cc;
       }
+
+  -- an address that does not read
+  pub no_peer : (bind text : List ℕ) (day : Option ℕ) (count : ℕ) (old new : Option (List ℕ)) (told result : Result JobStatus WriteFault) (files : Option (ClosedFiles S first)) (link : Option BoundLink) (made : Option Peer)
+      → made ≡ None → ((p : Peer) → SpellsPeer text p → made ≡ Some p) → text ≡ bind → IfOk told (λ status. (status ≡ Refused) × Appends old new (refused_line (codes "peer" ∷ [])))
+      → result ≡ told → link ≡ None → HasServed S first bind day count old new result files link
+  no_peer bind text day count old new told result files link made none read same says is gone = subst (HasServed S first bind day count old new result files) (sym gone) (record {
+    served = tt;
+    unlinked = λ _. inl (
+      λ peer. absurd (let some = read peer.0 (subst (λ t. SpellsPeer t peer.0) (sym same) peer.1) in cc),
+      subst (λ r. IfOk r (λ status. (status ≡ Refused) × Appends old new (refused_line (codes "peer" ∷ [])))) (sym is) says,
+    );
+  })
 
   pub served_in : (bind : List ℕ) (at : Peer) (day : Option ℕ) (count : ℕ) (old new : Option (List ℕ)) (result : Result JobStatus WriteFault) (files : Option (ClosedFiles S first)) (link : Option BoundLink)
       → IsPeerText bind → EndsIn S first (Serve at count day) old new result files link → HasServed S first bind day count old new result files link
