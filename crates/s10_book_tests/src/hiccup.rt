@@ -32,7 +32,7 @@ impl Write for Hiccup {
 }
 
 impl Hiccup {
-    pub fn new(alloc: Global, room: usize) -> Hiccup {
+    pub(crate) fn new(alloc: Global, room: usize) -> Hiccup {
         Hiccup {
             bytes: Vec::new(alloc),
             room,
