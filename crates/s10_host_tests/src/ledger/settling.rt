@@ -5,17 +5,14 @@ use crate::ledger::books::first_unlike_in;
 use crate::ledger::calls::{
     Answered, Asked, Step, answer, first_unlike, ledger, request, settings,
 };
-use crate::ledger::stops::{Act, Ended, done_in, opened_again};
 use crate::ledger::tables::found;
 use s10_book::{Book, BookFault, Settle};
 use s10_history::Settings;
 use s10_ledger::{Refused, SqlBook, Unwatched};
-use sqlite::{Alter, Connection, Files, MemStore, Options};
-use sqlite_disk::{Crash, Fuse, Memory};
+use sqlite::{Alter, Connection, MemStore};
 use std::alloc::Global;
 use std::ops::Range;
 use std::process::Abort;
-use std::test::Fail;
 
 const GRANT: &'static [Step] = &[(0, 1, Asked::Grant(7, 0, 999), 20000, Answered::Granted(1))];
 
@@ -104,10 +101,10 @@ fn a_pending_call_is_found(rt: HostRuntime) {
 pub(crate) type Told = ([bool; 4], Result<(), BookFault>, [bool; 4], u32);
 
 /// The third call is settled by the settling alone.
-const SETTLED: Told = ([true, true, false, true], Ok(()), [true; 4], 5);
+pub(crate) const SETTLED: Told = ([true, true, false, true], Ok(()), [true; 4], 5);
 
 /// The settling fails, and what was pending stays so.
-const UNSETTLED: Told = (
+pub(crate) const UNSETTLED: Told = (
     [true, true, false, true],
     Err(BookFault::Store),
     [true, true, false, true],
@@ -174,40 +171,4 @@ fn told_in_memory(alloc: Global, settings: Settings) -> Option<Told> {
 #[test]
 fn a_call_is_settled_behind_its_settling(rt: HostRuntime) {
     assert!(rt; told_in_memory(rt.alloc(), settings(&rt, 100)) == Some(SETTLED));
-}
-
-/// What is told over empty files where the log stops at one of its calls, and what is found then over whole files with what was
-/// synced alone.
-fn stopped(alloc: Global, settings: Settings, at: u64) -> Result<(Option<Told>, Ended), Fail> {
-    let log = Fuse::new(Memory::new(alloc), at);
-    let db = Fuse::new(Memory::new(alloc), u64::MAX);
-    let settle = Act::Settle(alloc, settings);
-    let (_, told, mut files) = done_in(alloc, Files { log, db }, Options::new(7), settle);
-    files.log.crash();
-    files.db.crash();
-    Ok((told, opened_again(alloc, &files)?))
-}
-
-/// At how many calls of the log the settling fails, before it passes. None where a settled call is lost, or a call that was not is
-/// told as settled or is found without the others.
-fn failed_settlings(alloc: Global, settings: Settings) -> Result<Option<u32>, Fail> {
-    let mut count: u32 = 0;
-    for at in 0..1000u64 {
-        match stopped(alloc, settings, at)? {
-            (None, _) => {}
-            (Some(told), Ended::Found(5)) if told == SETTLED => return Ok(Some(count)),
-            (Some(told), Ended::Found(2 | 5)) if told == UNSETTLED => {
-                count = count.saturating_add(1);
-            }
-            (Some(_), _) => return Ok(None),
-        }
-    }
-    Ok(None)
-}
-
-#[test]
-fn a_settling_that_fails_settles_no_call_of_its_own(rt: HostRuntime) -> Result<(), Fail> {
-    let failed = failed_settlings(rt.alloc(), settings(&rt, 100))?;
-    assert!(rt; failed.is_some_and(|count| 0 < count), "{failed:?}");
-    Ok(())
 }

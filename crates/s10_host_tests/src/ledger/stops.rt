@@ -1,7 +1,9 @@
-//! A ledger of the build that had no table of closed ranges, opened over files that stop at one of their calls.
+//! Ledgers over files that stop at one of their calls: one of the build that had no table of closed ranges is opened, and a new
+//! one settles its calls.
 
 use crate::expect::same;
-use crate::ledger::settling::{Told, settles_three_in};
+use crate::ledger::calls::settings;
+use crate::ledger::settling::{SETTLED, Told, UNSETTLED, settles_three_in};
 use crate::ledger::tables::{OLD_LEDGER, run_batches};
 use s10_book::Book;
 use s10_history::Settings;
@@ -10,11 +12,10 @@ use sqlite::{Alter, Connection, FileStore, Files, Options};
 use sqlite_disk::{Crash, Disk, Fuse, Memory};
 use std::alloc::Global;
 use std::process::Abort;
-use std::test::Fail;
 
 /// How an opening ended.
 #[derive(Clone, Copy, Debug, PartialEq, Eq)]
-pub(crate) enum Ended {
+enum Ended {
     /// The files are no database.
     Unconnected,
     Refused(OpenFault),
@@ -44,7 +45,7 @@ const TIGHT: Options = Options {
 
 /// What is done in a connection.
 #[derive(Clone, Copy)]
-pub(crate) enum Act {
+enum Act {
     /// The statements of the ledger of the nine calls are run.
     Fill,
     /// Its ledger is opened.
@@ -152,7 +153,7 @@ fn old_ledger(alloc: Global) -> Option<Files<Fuse<Memory>>> {
 }
 
 /// The same of a connection over these files, and the files.
-pub(crate) fn done_in<D: Disk + Drop>(
+fn done_in<D: Disk + Drop>(
     alloc: Global,
     files: Files<D>,
     options: Options,
@@ -185,11 +186,6 @@ fn again(alloc: Global, files: &Files<Fuse<Memory>>) -> Option<Ended> {
     };
     let (ended, _files) = opened(alloc, copied(alloc, files, stops)?, stops.options);
     Some(ended)
-}
-
-/// The same.
-pub(crate) fn opened_again(alloc: Global, files: &Files<Fuse<Memory>>) -> Result<Ended, Fail> {
-    Ok(again(alloc, files).ok_or("files")?)
 }
 
 /// How the ledger opens where its files stop so; and whether it is found whole then over whole files, with all that was written, and
@@ -244,4 +240,39 @@ fn a_ledger_whose_completion_stopped_is_whole(rt: HostRuntime) {
         counts[3].is_some(),
     ];
     same(&rt, &counts, &are_met, &[true; 4]);
+}
+
+/// What is told over empty files where the log stops at one of its calls, and what is found then over whole files with what was
+/// synced alone.
+fn settled_until(alloc: Global, settings: Settings, at: u64) -> Option<(Option<Told>, Ended)> {
+    let log = Fuse::new(Memory::new(alloc), at);
+    let db = Fuse::new(Memory::new(alloc), NEVER);
+    let settle = Act::Settle(alloc, settings);
+    let (_, told, mut files) = done_in(alloc, Files { log, db }, Options::new(7), settle);
+    files.log.crash();
+    files.db.crash();
+    Some((told, again(alloc, &files)?))
+}
+
+/// At how many calls of the log the settling fails, before it passes. None where a settled call is lost, or a call that was not is
+/// told as settled or is found without the others.
+fn failed_settlings(alloc: Global, settings: Settings) -> Option<u32> {
+    let mut count: u32 = 0;
+    for at in 0..1000u64 {
+        match settled_until(alloc, settings, at)? {
+            (None, _) => {}
+            (Some(told), Ended::Found(5)) if told == SETTLED => return Some(count),
+            (Some(told), Ended::Found(2 | 5)) if told == UNSETTLED => {
+                count = count.saturating_add(1);
+            }
+            (Some(_), _) => return None,
+        }
+    }
+    None
+}
+
+#[test]
+fn a_settling_that_fails_settles_no_call_of_its_own(rt: HostRuntime) {
+    let failed = failed_settlings(rt.alloc(), settings(&rt, 100));
+    assert!(rt; failed.is_some_and(|count| 0 < count), "{failed:?}");
 }
