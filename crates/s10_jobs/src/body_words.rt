@@ -3,7 +3,8 @@
 ghost use Rattle.std.specs.Prelude.{◌≡◌, IfOk, IfErr};
 ghost use Rattle.s10_core.specs.Letters.{letters_of};
 ghost use Rattle.s10_core.specs.Id.{SpellsLoosely};
-ghost use Rattle.s10_jobs.specs.Questions.{IsPairRefusal, IsIdRefusal};
+ghost use Rattle.s10_jobs.specs.Questions.{WordsAsk, IsPairRefusal, IsIdRefusal, IsBodyRefusal};
+ghost use Rattle.s10_jobs.specs.declared.body_words.BodyWords.TheVariants.{Draw};
 
 use crate::parts::{read_country, read_service};
 use crate::refusal::Refusal;
@@ -67,10 +68,7 @@ impl BodyWords<'_> {
                     last,
                 })
             }
-            BodyWords::Draw { service, country } => {
-                let (service, country) = read_pair(service, country)?;
-                Ok(Body::Draw { service, country })
-            }
+            BodyWords::Draw { service, country } => read_draw(service, country),
             BodyWords::DrawMany {
                 service,
                 country,
@@ -101,6 +99,14 @@ fn read_pair(service: &str, country: &str) -> Result<(Service, Country), Refusal
         return Err(Refusal::Country);
     };
     Ok((service, country))
+}
+
+fn read_draw(service: &str, country: &str) -> Result<Body, Refusal>
+    ensures ok { IfOk result (WordsAsk (Draw service.entry country.entry)) }
+    ensures refused { IfErr result (IsBodyRefusal (Draw service.entry country.entry)) }
+{
+    let (service, country) = read_pair(service, country)?;
+    Ok(Body::Draw { service, country })
 }
 
 fn read_id(text: &str) -> Result<Id, Refusal>
