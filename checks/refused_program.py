@@ -102,7 +102,7 @@ def served(ledger, day, datagrams, refusals=None):
                     found[next(it for it in datagrams if it[8:24] == reply[8:24])] = reply
         lines = server.stdout.read().splitlines()
         server.wait()
-        return found, [it for it in lines if it.startswith(("replied ", "faulted ", "unsettled "))]
+        return found, [it for it in lines if it.startswith(("replied ", "faulted ", "uncommitted "))]
 
 
 def make(folder, calls):

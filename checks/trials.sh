@@ -241,7 +241,7 @@ number=2
 while draw "$number" >>../answers; do
     number=$((number + 1))
 done
-[ "$(grep -c '^unsettled store$' ../turns)" = 1 ] || fail 'a full disk is no fault of one turn'
+[ "$(grep -c '^uncommitted store$' ../turns)" = 1 ] || fail 'a full disk is no fault of one turn'
 [ "$(draw 1)" = "$(sed -n 2p ../answers)" ] || fail 'a repeat on a full disk'
 if draw "$number" >../again; then fail 'a reply while its call cannot be written'; fi
 rm filler

@@ -13,8 +13,8 @@ ghost use Rattle.s10_host.specs.Jobs.{HasEnded};
 ghost use Rattle.s10_cli.specs.Jobs.{AsksInWords};
 ghost use Rattle.s10_cli.specs.CommandLine.{exit_status};
 
-use s10_cli::{parse_job, run_buffered, written_out};
-use s10_host::{Left, run_job};
+use s10_cli::{flush_buffer, parse_job, run_buffered};
+use s10_host::{JobResources, run_job};
 use s10_jobs::JobStatus;
 use s10_lines::WriteFault;
 use sqlite::{Start, Unknown};
@@ -49,7 +49,7 @@ fn run_words<S: Start, W: AsStr, O: Write + Drop>(
     words: &[W],
     start: S,
     output: O,
-) -> io::Result<(u8, O, Left<S>)>
+) -> io::Result<(u8, O, JobResources<S>)>
     ensures { IfOk result (λ ended. (job : Job) × (done : Result JobStatus WriteFault) × (printed : Option (List ℕ))
         × AsksInWords (map W.text words.now) job
         × HasEnded S.row S.Start job (O.contents output) printed done ended.2.files ended.2.link ended.2.looped
@@ -60,7 +60,7 @@ fn run_words<S: Start, W: AsStr, O: Write + Drop>(
     };
     let mut output = BufWriter::new(rt.alloc(), output)?;
     let (done, left) = run_job(rt, &job, start, &mut output);
-    let output = written_out(output)?;
+    let output = flush_buffer(output)?;
     match done {
         Ok(status) => Ok((status as u8, output, left)),
         Err(WriteFault) => Err(io::Error::from(ErrorKind::WriteZero)),

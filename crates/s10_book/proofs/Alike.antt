@@ -10,7 +10,7 @@ use Rattle.s10_history.specs.declared.range.Range.{Range}
 use Rattle.s10_history.specs.declared.issuance.Issuance.{Issuance}
 use Rattle.s10_history.specs.History.{ranges_open, lies_in}
 use Rattle.s10_history.specs.Issues.{issues_of, is_of, last_issuance_of, is_issued, is_free_since, serial_issued_earliest, serials, pick_of, id_at}
-use Rattle.s10_book.specs.Rules.{has_free_pick, outcome_of_pick, draw_done, then_drawn, draws_in_a_row}
+use Rattle.s10_book.specs.Rules.{has_free_pick, outcome_of_pick, draw_done, then_drawn, successive_draws}
 use Rattle.s10_history.proofs.Earliest.{earliest_cons}
 use Rattle.s10_history.proofs.Push.{issues_from-push}
 use Rattle.s10_book.proofs.Closing.{draw_open}
@@ -88,16 +88,16 @@ drawn_then is day (x ∷ rs) (Some r) next = refl
 
 -- Draws in a row give the picks in a row
 pub row_is : (made : Id → Issuance) (customer : ℕ) (s c : ℕ × ℕ) (day n : ℕ) → ((x : Id) → (made x).id ≡ x) → ((x : Id) → (made x).day ≡ day) → (count : ℕ) (h : List Entry) (is : List Issuance) → Alike (issues_of h) is
-    → draws_in_a_row h customer s c day n count ≡ picks made day n (ranges_open h customer s c) is count
+    → successive_draws h customer s c day n count ≡ picks made day n (ranges_open h customer s c) is count
 row_is made customer s c day n same on zero h is alike = refl
 row_is made customer s c day n same on (suc k) h is alike =
     let rs : List Range = ranges_open h customer s c in
-    drawn_then (issues_of h) day (ranges_open h customer s c) (find (has_free_pick (issues_of h) day n) (ranges_open h customer s c)) (λ x. draws_in_a_row (h ++ draw_done customer s c day x ∷ []) customer s c day n k)
-    ∙ ap (λ o. then_found o (λ r. option_map (λ xs. id_at r (pick_of (issues_of h) r) ∷ xs) (draws_in_a_row (h ++ draw_done customer s c day (id_at r (pick_of (issues_of h) r)) ∷ []) customer s c day n k)))
+    drawn_then (issues_of h) day (ranges_open h customer s c) (find (has_free_pick (issues_of h) day n) (ranges_open h customer s c)) (λ x. successive_draws (h ++ draw_done customer s c day x ∷ []) customer s c day n k)
+    ∙ ap (λ o. then_found o (λ r. option_map (λ xs. id_at r (pick_of (issues_of h) r) ∷ xs) (successive_draws (h ++ draw_done customer s c day (id_at r (pick_of (issues_of h) r)) ∷ []) customer s c day n k)))
     (find_same (has_free_pick (issues_of h) day n) (has_free_pick is day n) (ranges_open h customer s c) (λ r. free_alike (issues_of h) is day n r alike))
     ∙ then_same (find (has_free_pick is day n) (ranges_open h customer s c)) _ _ (λ r _. each r (row_is made customer s c day n same on k))
   where
-    each : (r : Range) → ((g : List Entry) (js : List Issuance) → Alike (issues_of g) js → draws_in_a_row g customer s c day n k ≡ picks made day n (ranges_open g customer s c) js k) → option_map (λ xs. id_at r (pick_of (issues_of h) r) ∷ xs) (draws_in_a_row (h ++ draw_done customer s c day (id_at r (pick_of (issues_of h) r)) ∷ []) customer s c day n k)
+    each : (r : Range) → ((g : List Entry) (js : List Issuance) → Alike (issues_of g) js → successive_draws g customer s c day n k ≡ picks made day n (ranges_open g customer s c) js k) → option_map (λ xs. id_at r (pick_of (issues_of h) r) ∷ xs) (successive_draws (h ++ draw_done customer s c day (id_at r (pick_of (issues_of h) r)) ∷ []) customer s c day n k)
         ≡ option_map (λ xs. id_at r (pick_of is r) ∷ xs) (picks made day n (ranges_open h customer s c) (is ++ made (id_at r (pick_of is r)) ∷ []) k)
     each r behind =
         let x : Id = id_at r (pick_of is r) in
@@ -108,7 +108,7 @@ row_is made customer s c day n same on (suc k) h is alike =
         let A : List Issuance → Type 0 = λ l. Alike l (is ++ made (id_at r (pick_of is r)) ∷ []) in
         let next : Alike (issues_of (h ++ draw_done customer s c day (id_at r (pick_of is r)) ∷ [])) (is ++ made (id_at r (pick_of is r)) ∷ []) =
         subst A (sym grown) (alike_push (issues_of h) is _ (made (id_at r (pick_of is r))) alike (sym (same (id_at r (pick_of is r)))) (sym (on (id_at r (pick_of is r))))) in
-        ap (λ v. option_map (λ xs. id_at r v ∷ xs) (draws_in_a_row (h ++ draw_done customer s c day (id_at r v) ∷ []) customer s c day n k)) (pick_alike r (issues_of h) is alike)
+        ap (λ v. option_map (λ xs. id_at r v ∷ xs) (successive_draws (h ++ draw_done customer s c day (id_at r v) ∷ []) customer s c day n k)) (pick_alike r (issues_of h) is alike)
         ∙ ap (option_map (λ xs. id_at r (pick_of is r) ∷ xs))
         (behind (h ++ draw_done customer s c day (id_at r (pick_of is r)) ∷ []) (is ++ made (id_at r (pick_of is r)) ∷ []) next
         ∙ ap (λ l. picks made day n l (is ++ made (id_at r (pick_of is r)) ∷ []) k) same_open)

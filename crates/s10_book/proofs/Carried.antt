@@ -17,7 +17,7 @@ use Rattle.s10_history.specs.declared.issuance.Issuance.{Issuance}
 use Rattle.s10_history.specs.Settings.{Terms}
 use Rattle.s10_history.specs.History.{ranges_of, is_open, ranges_open}
 use Rattle.s10_history.specs.Issues.{issues_of, carried_by, is_free, id_at, pick_of}
-use Rattle.s10_book.specs.Rules.{MayFollow, body_answer, outcome_of_pick, outcome_of_row, draws_in_a_row, has_free_pick}
+use Rattle.s10_book.specs.Rules.{MayFollow, body_answer, outcome_of_pick, outcome_of_draws, successive_draws, has_free_pick}
 use Rattle.s10_history.proofs.Numbering.{Contains-find, found_passes}
 use Rattle.s10_history.proofs.Push.{issues_from-push}
 use Rattle.s10_book.proofs.Fitting.{answer_fits}
@@ -98,7 +98,7 @@ row_carried P day n among made holds (suc k) is ids e = found_at (find (has_free
             subst T (same_Some (id_at r (pick_of is r) ∷ xs) ids is') (holds is r found, next (is ++ made (day, id_at r (pick_of is r)) ∷ []) xs rest)
 
 row_at : (P : List Issuance → ℕ × Id → Type 0) (held : List Range) (day : ℕ) (made : ℕ × Id → Issuance) (is : List Issuance) (row : Option (List Id))
-    → ((ids : List Id) → row ≡ Some ids → InTurn P made is (map (λ x. (day, x)) ids)) → InTurn P made is (carried_by (outcome_of_row day held row))
+    → ((ids : List Id) → row ≡ Some ids → InTurn P made is (map (λ x. (day, x)) ids)) → InTurn P made is (carried_by (outcome_of_draws day held row))
 row_at P [] day made is row turn = tt
 row_at P (x ∷ xs) day made is None turn = tt
 row_at P (x ∷ xs) day made is (Some ids) turn = turn ids refl
@@ -123,7 +123,7 @@ carried P g customer day n (Void x) made same on holds = in_turn_none _ made (is
 carried P g customer day n (Query x) made same on holds = in_turn_none _ made (issues_of g) _ (none_carried (Query x) _ (λ d y. refl) (λ d ids. refl) (answer_fits g customer (Query x) day n))
 carried P g customer day n (Withdraw range) made same on holds = in_turn_none _ made (issues_of g) _ (none_carried (Withdraw range) _ (λ d y. refl) (λ d ids. refl) (answer_fits g customer (Withdraw range) day n))
 carried P g customer day n (DrawMany s c count) made same on holds =
-    row_at P (ranges_open g customer s c) day made (issues_of g) (draws_in_a_row g customer s c day n count)
+    row_at P (ranges_open g customer s c) day made (issues_of g) (successive_draws g customer s c day n count)
     (λ ids e. row_carried P day n (ranges_open g customer s c) made (holds s c) count (issues_of g) ids
     (sym (row_is (λ x. made (day, x)) customer s c day n (λ x. same (day, x)) (λ x. on (day, x)) count g (issues_of g) (alike_itself (issues_of g))) ∙ e))
 

@@ -18,7 +18,7 @@ use Rattle.s10_history.specs.declared.entry.Entry.{Entry}
 use Rattle.s10_history.specs.Settings.{Terms}
 use Rattle.s10_history.specs.History.{day_of, ranges_of, is_open, ranges_open, lies_in}
 use Rattle.s10_history.specs.Issues.{issues_of, last_issuance_of, is_free, is_free_since, serials, pick_of, id_at}
-use Rattle.s10_book.specs.Rules.{IsLegal, has_free_pick, free_serials, draws_in_a_row, outcome_of_row, draw_many_answer, FewFree}
+use Rattle.s10_book.specs.Rules.{IsLegal, has_free_pick, free_serials, successive_draws, outcome_of_draws, draw_many_answer, FewFree}
 use Rattle.s10_book.proofs.Apart.{Apart, apart}
 use Rattle.s10_book.proofs.Own.{lies_at}
 use Rattle.s10_book.proofs.Free.{pick_free}
@@ -187,7 +187,7 @@ fewer_free made day n rs same on pos pairs (suc k) is ready days upto e = at (fi
         lies_mine : (u : Range) → (made (id_at r (pick_of is r))).id ≡ id_at u (pick_of is u) → Contains rs u → lies_in u (made (id_at r (pick_of is r))).id ≡ true
         lies_mine u id' in_u = let P : Id → Type 0 = λ x. lies_in u x ≡ true in subst P (sym id') (lies_at u (pick_of is u) (record { low = (ready u in_u).low; high = (ready u in_u).high }))
 
-no_row : (day : ℕ) (rs : List Range) (row : Option (List Id)) → outcome_of_row day rs row ≡ NoneFree → row ≡ None
+no_row : (day : ℕ) (rs : List Range) (row : Option (List Id)) → outcome_of_draws day rs row ≡ NoneFree → row ≡ None
 no_row day [] row is = cc
 no_row day (r ∷ rs) None is = refl
 no_row day (r ∷ rs) (Some ids) is = cc
@@ -195,7 +195,7 @@ no_row day (r ∷ rs) (Some ids) is = cc
 -- NoneFree is answered only where fewer serials than that are free
 pub few_free : (h : List Entry) (t : Terms) → IsLegal h t → 1 ≤ t.interval → (customer : ℕ) (s c : ℕ × ℕ) (count day : ℕ) → day_of h ≤ day → draw_many_answer h customer s c count day t.interval ≡ NoneFree → FewFree h customer s c count day t.interval
 few_free h t legal pos customer s c count day le is =
-    let none : draws_in_a_row h customer s c day t.interval count ≡ None = no_row day (ranges_open h customer s c) (draws_in_a_row h customer s c day t.interval count) is in
+    let none : successive_draws h customer s c day t.interval count ≡ None = no_row day (ranges_open h customer s c) (successive_draws h customer s c day t.interval count) is in
     let known = sound h t legal in
     fewer_free (drawn_on day) day t.interval (ranges_open h customer s c) (λ x. refl) (λ x. refl) pos (AllPairs-filter Apart (is_open h customer s c) (ranges_of h) (apart h t legal)) count (issues_of h)
     (λ r in_r. all_at_pick h t legal r (Contains-filter (is_open h customer s c) (ranges_of h) r in_r)) known.days
@@ -214,7 +214,7 @@ all_given made day r rs is (suc k) none =
     (rest_none (id_at r (pick_of is r)) (picks made day 0 (r ∷ rs) (is ++ made (id_at r (pick_of is r)) ∷ []) k)
     (sym (picks_here made day 0 r rs is k (free_at_once day (option_map (λ (i : Issuance). i.day) (last_issuance_of is (id_at r (pick_of is r)))))) ∙ none))
 
-some_interval : (made : Id → Issuance) (day n : ℕ) (rs : List Range) (is : List Issuance) (k : ℕ) → outcome_of_row day rs (picks made day n rs is k) ≡ NoneFree → 1 ≤ n
+some_interval : (made : Id → Issuance) (day n : ℕ) (rs : List Range) (is : List Issuance) (k : ℕ) → outcome_of_draws day rs (picks made day n rs is k) ≡ NoneFree → 1 ≤ n
 some_interval made day n [] is k told = absurd cc
 some_interval made day zero (r ∷ rs) is k told = absurd (all_given made day r rs is k (no_row day (r ∷ rs) (picks made day 0 (r ∷ rs) is k) told))
 some_interval made day (suc n) (r ∷ rs) is k told = omega arith
@@ -232,5 +232,5 @@ few_told h t legal customer service country count day le result s c k answer sam
     let g : ℕ × ℕ → Outcome = λ p. draw_many_answer h customer s p count day t.interval in
     let m : ℕ → Outcome = λ n. draw_many_answer h customer s c n day t.interval in
     let none : draw_many_answer h customer s c k day t.interval ≡ NoneFree = sym (told ∙ ap f es ∙ ap g ec ∙ ap m ek) in
-    let row = ap (outcome_of_row day (ranges_open h customer s c)) (sym (row_of h customer s c day t.interval k)) ∙ none in
+    let row = ap (outcome_of_draws day (ranges_open h customer s c)) (sym (row_of h customer s c day t.interval k)) ∙ none in
     few_free h t legal (some_interval (drawn_on day) day t.interval (ranges_open h customer s c) (issues_of h) k row) customer s c k day le none

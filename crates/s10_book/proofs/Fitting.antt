@@ -14,9 +14,9 @@ use Rattle.s10_history.specs.declared.range.Range.{Range}
 use Rattle.s10_history.specs.declared.issue.Issue.{Issue}
 use Rattle.s10_history.specs.declared.issuance.Issuance.{Issuance}
 use Rattle.s10_history.specs.Settings.{Terms}
-use Rattle.s10_history.specs.History.{has_key, entry_with_key, ranges_of, ranges_open, is_own, overlaps, is_closed}
+use Rattle.s10_history.specs.History.{has_key, find_entry, ranges_of, ranges_open, is_own, overlaps, is_closed}
 use Rattle.s10_history.specs.Issues.{issues_of, last_issue_of}
-use Rattle.s10_book.specs.Rules.{IsLegal, body_answer, outcome_of_pick, outcome_of_row, then_drawn, draw_answer, draw_done, draws_in_a_row, void_issue, status_of}
+use Rattle.s10_book.specs.Rules.{IsLegal, body_answer, outcome_of_pick, outcome_of_draws, then_drawn, draw_answer, draw_done, successive_draws, void_issue, status_of}
 use Rattle.s10_history.proofs.Numbering.{find_cases}
 use Rattle.std.proofs.lemmas.Option.{none-some, same_Some}
 use Rattle.std.proofs.lemmas.Bool.{eq-eqb}
@@ -44,12 +44,12 @@ row_step (Drawn day x) next n ids rest is = mapped (next x) refl is
 row_step o next n ids rest is = absurd (none-some ids is)
 
 -- so many Draws in a row give so many identifiers
-pub row_length : (h : List Entry) (customer : ℕ) (s c : ℕ × ℕ) (day n count : ℕ) (ids : List Id) → draws_in_a_row h customer s c day n count ≡ Some ids → length ids ≡ count
+pub row_length : (h : List Entry) (customer : ℕ) (s c : ℕ × ℕ) (day n count : ℕ) (ids : List Id) → successive_draws h customer s c day n count ≡ Some ids → length ids ≡ count
 row_length h customer s c day n zero ids is = sym (ap length (same_Some [] ids is))
 row_length h customer s c day n (suc k) ids is =
     row_step (draw_answer h customer s c day n) _ k ids (λ x xs. row_length (h ++ draw_done customer s c day x ∷ []) customer s c day n k xs) is
 
-row_fits : (s c : ℕ × ℕ) (count day : ℕ) (rs : List Range) (row : Option (List Id)) → ((ids : List Id) → row ≡ Some ids → length ids ≡ count) → IsTrue (fits (DrawMany s c count) (outcome_of_row day rs row))
+row_fits : (s c : ℕ × ℕ) (count day : ℕ) (rs : List Range) (row : Option (List Id)) → ((ids : List Id) → row ≡ Some ids → length ids ≡ count) → IsTrue (fits (DrawMany s c count) (outcome_of_draws day rs row))
 row_fits s c count day [] row long = refl
 row_fits s c count day (x ∷ xs) None long = refl
 row_fits s c count day (x ∷ xs) (Some ids) long = eq-eqb (length ids) count (long ids refl)
@@ -71,7 +71,7 @@ answer_fits h customer (Withdraw range) day interval =
     let there = cond (is_none (find (λ r. r.num == range) (ranges_of h))) NoSuchRange once in
     either body (not (eqb customer 0)) NotThePost there refl
     (either body (is_none (find (λ r. r.num == range) (ranges_of h))) NoSuchRange once refl (either body (is_closed h range) Closed Withdrawn refl refl))
-answer_fits h customer (DrawMany s c count) day interval = row_fits s c count day (ranges_open h customer s c) (draws_in_a_row h customer s c day interval count) (row_length h customer s c day interval count)
+answer_fits h customer (DrawMany s c count) day interval = row_fits s c count day (ranges_open h customer s c) (successive_draws h customer s c day interval count) (row_length h customer s c day interval count)
 
 found_place : {A : Type 0} (p : A → Bool) (xs : List A) (x : A) → find p xs ≡ Some x → (k : ℕ) × (slice_get xs k ≡ Some x)
 found_place p [] x found = absurd (none-some x found)
@@ -82,7 +82,7 @@ found_place p (y ∷ ys) x found =
     ]
 
 -- the outcome of a call that is found fits it
-pub found_fits : (h : List Entry) (t : Terms) (customer number : ℕ) (o : Option Entry) → IsLegal h t → o ≡ entry_with_key h customer number → IfSome o (λ e. IsTrue (fits e.request.body e.outcome))
+pub found_fits : (h : List Entry) (t : Terms) (customer number : ℕ) (o : Option Entry) → IsLegal h t → o ≡ find_entry h customer number → IfSome o (λ e. IsTrue (fits e.request.body e.outcome))
 found_fits h t customer number None legal e = tt
 found_fits h t customer number (Some e) legal is =
     let there = found_place (has_key customer number) h e (sym is) in

@@ -18,7 +18,7 @@ use Rattle.s10_history.specs.declared.range.Range.{Range}
 use Rattle.s10_history.specs.declared.issuance.Issuance.{Issuance}
 use Rattle.s10_history.specs.Settings.{Terms}
 use Rattle.s10_history.specs.History.{ranges_of, range_of_grant, lies_in}
-use Rattle.s10_history.specs.Issues.{issues_of, carried_by, is_of, is_issued, serial_issued_earliest, serials, pick_of, id_at, serial_behind, pick_behind}
+use Rattle.s10_history.specs.Issues.{issues_of, carried_by, is_of, is_issued, serial_issued_earliest, serials, pick_of, id_at, serial_after, pick_after}
 use Rattle.s10_book.specs.Rules.{IsLegal, MayFollow}
 use Rattle.s10_history.proofs.Push.{ranges_from-push, issues_from-push}
 use Rattle.s10_book.proofs.Legal.{legal_induction}
@@ -316,7 +316,7 @@ before_last r m l (inr is) =
     inr (is ∙ ap (λ (k : ℕ). range_with_len (m + 1) k ++ range_with_len r.first (m + 1 - r.first)) n)
 
 -- an issue of the serial at the mark
-pub turns_inside : (r : Range) (is : List Issuance) (y : Issuance) (m : ℕ) → lies_in r y.id ≡ true → y.id.serial ≡ m → Turns r is m → Turns r (is ++ y ∷ []) (serial_behind r m)
+pub turns_inside : (r : Range) (is : List Issuance) (y : Issuance) (m : ℕ) → lies_in r y.id ≡ true → y.id.serial ≡ m → Turns r is m → Turns r (is ++ y ∷ []) (serial_after r m)
 turns_inside r is y m ly e turns =
     let l : List ℕ = lasts r (is ++ y ∷ []) in
     let f : ℕ → List ℕ = λ k. without k (lasts r is) ++ k ∷ [] in
@@ -413,13 +413,13 @@ picked_mark g t customer day n is c r legal from there lies =
 
 -- the mark of a range behind what is carried
 abbrev pub marks : Range → ℕ → List (ℕ × Id) → ℕ
-marks r m cs = fold (λ pick c. pick_behind r pick c.1) m cs
+marks r m cs = fold (λ pick c. pick_after r pick c.1) m cs
 
-pub mark_step : (r : Range) (is : List Issuance) (y : Issuance) (m : ℕ) → (lies_in r y.id ≡ true → y.id.serial ≡ m) → Turns r is m → Turns r (is ++ y ∷ []) (pick_behind r m y.id)
+pub mark_step : (r : Range) (is : List Issuance) (y : Issuance) (m : ℕ) → (lies_in r y.id ≡ true → y.id.serial ≡ m) → Turns r is m → Turns r (is ++ y ∷ []) (pick_after r m y.id)
 mark_step r is y m at turns =
     elim (cases_Bool (lies_in r y.id)) [
       | inl in' ↦
-          let P : ℕ → Type 0 = λ k. Turns r (is ++ y ∷ []) (serial_behind r k) in
+          let P : ℕ → Type 0 = λ k. Turns r (is ++ y ∷ []) (serial_after r k) in
           rw in' (subst P (sym (at in')) (turns_inside r is y m in' (at in') turns))
       | inr out ↦ rw out (turns_outside r is y m out turns)
     ]
@@ -430,10 +430,10 @@ turns_carried : (g : List Entry) (t : Terms) (customer day n : ℕ) (made : ℕ 
 turns_carried g t customer day n made r legal there same is m [] turn turns = rw append-nil turns
 turns_carried g t customer day n made r legal there same is m (c ∷ cs) turn turns =
     let at : lies_in r c.1 ≡ true → c.1.serial ≡ m = λ lies. picked_mark g t customer day n is c r legal turn.0 there lies ∙ pick_turns r is m turns in
-    let next : Turns r (is ++ made c ∷ []) (pick_behind r m c.1) =
-    (let P : Id → Type 0 = λ x. (lies_in r x ≡ true → x.serial ≡ m) → Turns r (is ++ made c ∷ []) (pick_behind r m x) in subst P (same c) (λ e. mark_step r is (made c) m e turns)) at in
-    let Q : List Issuance → Type 0 = λ l. Turns r l (marks r (pick_behind r m c.1) cs) in
-    subst Q (append_assoc is (made c ∷ []) (map made cs)) (turns_carried g t customer day n made r legal there same (is ++ made c ∷ []) (pick_behind r m c.1) cs turn.1 next)
+    let next : Turns r (is ++ made c ∷ []) (pick_after r m c.1) =
+    (let P : Id → Type 0 = λ x. (lies_in r x ≡ true → x.serial ≡ m) → Turns r (is ++ made c ∷ []) (pick_after r m x) in subst P (same c) (λ e. mark_step r is (made c) m e turns)) at in
+    let Q : List Issuance → Type 0 = λ l. Turns r l (marks r (pick_after r m c.1) cs) in
+    subst Q (append_assoc is (made c ∷ []) (map made cs)) (turns_carried g t customer day n made r legal there same (is ++ made c ∷ []) (pick_after r m c.1) cs turn.1 next)
 
 -- the mark of each range is its pick
 pub turns_pick : (r : Range) (is : List Issuance) → (m : ℕ) × Turns r is m → Turns r is (pick_of is r)
@@ -481,17 +481,17 @@ pick_new h t e legal may r made = pick_turns r _ r.first (turns_made h t e r (le
 
 -- a call moves the pick of a range by each identifier that it carries
 pub pick_turned : (h : List Entry) (t : Terms) (e : Entry) → IsLegal h t → MayFollow h t e → (r : Range) → Contains (ranges_of h) r
-    → pick_of (issues_of (h ++ e ∷ [])) r ≡ fold (λ pick c. pick_behind r pick c.1) (pick_of (issues_of h) r) (carried_by e.outcome)
+    → pick_of (issues_of (h ++ e ∷ [])) r ≡ fold (λ pick c. pick_after r pick c.1) (pick_of (issues_of h) r) (carried_by e.outcome)
 pick_turned h t e legal may r there =
     let m : ℕ = pick_of (issues_of h) r in
     pick_turns r (issues_of (h ++ e ∷ [])) (marks r (pick_of (issues_of h) r) (carried_by e.outcome)) (turns_call h t e r (pick_of (issues_of h) r) legal may there (all_at_pick h t legal r there))
 
 -- after a Draw that is Done it is the next serial, or the first one behind the last
 pub pick_drawn : (h : List Entry) (t : Terms) (e : Entry) → IsLegal h t → MayFollow h t e → (r : Range) → Contains (ranges_of h) r → (day : ℕ) (x : Id) → e.outcome ≡ Drawn day x → IsTrue (lies_in r x)
-    → pick_of (issues_of (h ++ e ∷ [])) r ≡ serial_behind r x.serial
+    → pick_of (issues_of (h ++ e ∷ [])) r ≡ serial_after r x.serial
 pick_drawn h t e legal may r there day x is lies =
     pick_turned h t e legal may r there ∙ ap (λ (o : Outcome). marks r (pick_of (issues_of h) r) (carried_by o)) is
-    ∙ ap (λ (b : Bool). cond b (serial_behind r x.serial) (pick_of (issues_of h) r)) lies
+    ∙ ap (λ (b : Bool). cond b (serial_after r x.serial) (pick_of (issues_of h) r)) lies
 
 left_at : (r : Range) (m : ℕ) (cs : List (ℕ × Id)) → All (λ c. ¬ (IsTrue (lies_in r c.1))) cs → marks r m cs ≡ m
 left_at r m [] other = refl

@@ -10,7 +10,7 @@ use Rattle.s10_history.specs.declared.issuance.Issuance.{Issuance}
 use Rattle.s10_history.specs.declared.candidate.Candidate.{Candidate}
 use Rattle.s10_history.specs.Settings.{Terms}
 use Rattle.s10_history.specs.History.{ranges_of, lies_in}
-use Rattle.s10_history.specs.Issues.{issues_of, is_of, last_issuance_of, is_free_since, pick_of, id_at, serial_behind, serials_behind, pick_behind, issue_of, with_picks, candidate_after_of, last_issue_of}
+use Rattle.s10_history.specs.Issues.{issues_of, is_of, last_issuance_of, is_free_since, pick_of, id_at, serial_after, serial_after_steps, pick_after, issue_of, with_picks, candidate_after_of, last_issue_of}
 use Rattle.s10_book.specs.Rules.{IsLegal, has_free_pick}
 use Rattle.s10_book.proofs.Picking.{then_same, picks}
 use Rattle.s10_book.proofs.Apart.{Apart}
@@ -20,31 +20,31 @@ use Rattle.s10_history.proofs.Issued.{last_issuance_of-push}
 use Rattle.s10_history.proofs.Numbering.{Contains-find}
 use Rattle.s10_book.proofs.Marks.{Turns, pick_turns, turns_outside, turns_inside, mark_step, one_range, turns_pick, all_at_pick}
 
-steps_from : (r : Range) (m k : ℕ) → serials_behind r (serial_behind r m) k ≡ serials_behind r m (suc k)
+steps_from : (r : Range) (m k : ℕ) → serial_after_steps r (serial_after r m) k ≡ serial_after_steps r m (suc k)
 steps_from r m zero = refl
-steps_from r m (suc k) = ap (serial_behind r) (steps_from r m k)
+steps_from r m (suc k) = ap (serial_after r) (steps_from r m k)
 
 lies_mark : (r : Range) (is : List Issuance) (m : ℕ) → Turns r is m → lies_in r (id_at r m) ≡ true
 lies_mark r is m turns = lies_at r m (record { low = turns.low; high = turns.high })
 
 -- the mark behind so many of the range's own picks
-pub turns_with : (r : Range) (is : List Issuance) (m k : ℕ) → Turns r is m → Turns r (with_picks r is k) (serials_behind r m k)
+pub turns_with : (r : Range) (is : List Issuance) (m k : ℕ) → Turns r is m → Turns r (with_picks r is k) (serial_after_steps r m k)
 turns_with r is m zero turns = turns
 turns_with r is m (suc k) turns =
     let y : Issuance = issue_of (id_at r (pick_of is r)) in
     let at : pick_of is r ≡ m = pick_turns r is m turns in
     let lies : lies_in r (id_at r (pick_of is r)) ≡ true = (let P : ℕ → Type 0 = λ s. lies_in r (id_at r s) ≡ true in subst P (sym at) (lies_mark r is m turns)) in
-    let next : Turns r (is ++ issue_of (id_at r (pick_of is r)) ∷ []) (serial_behind r m) = turns_inside r is (issue_of (id_at r (pick_of is r))) m lies at turns in
+    let next : Turns r (is ++ issue_of (id_at r (pick_of is r)) ∷ []) (serial_after r m) = turns_inside r is (issue_of (id_at r (pick_of is r))) m lies at turns in
     let P : ℕ → Type 0 = Turns r (with_picks r (is ++ issue_of (id_at r (pick_of is r)) ∷ []) k) in
-    subst P (steps_from r m k) (turns_with r (is ++ issue_of (id_at r (pick_of is r)) ∷ []) (serial_behind r m) k next)
+    subst P (steps_from r m k) (turns_with r (is ++ issue_of (id_at r (pick_of is r)) ∷ []) (serial_after r m) k next)
 
 -- the candidate behind so many is the serial so many behind the pick
 pub candidate_after_is : (h : List Entry) (t : Terms) (r : Range) (k : ℕ) → IsLegal h t → Contains (ranges_of h) r
-    → candidate_after_of h r k ≡ record { serial = serials_behind r (pick_of (issues_of h) r) k; issue = last_issue_of h (id_at r (serials_behind r (pick_of (issues_of h) r) k)) }
+    → candidate_after_of h r k ≡ record { serial = serial_after_steps r (pick_of (issues_of h) r) k; issue = last_issue_of h (id_at r (serial_after_steps r (pick_of (issues_of h) r) k)) }
 candidate_after_is h t r k legal there =
     let m : ℕ = pick_of (issues_of h) r in
     let f : ℕ → Candidate = λ s. record { serial = s; issue = last_issue_of h (id_at r s) } in
-    ap f (pick_turns r (with_picks r (issues_of h) k) (serials_behind r (pick_of (issues_of h) r) k) (turns_with r (issues_of h) (pick_of (issues_of h) r) k (all_at_pick h t legal r there)))
+    ap f (pick_turns r (with_picks r (issues_of h) k) (serial_after_steps r (pick_of (issues_of h) r) k) (turns_with r (issues_of h) (pick_of (issues_of h) r) k (all_at_pick h t legal r there)))
 
 -- the ranges of a legal history over the issues so far: each has its pick as its mark
 abbrev pub Ready : List Range → List Issuance → Type 0
@@ -67,7 +67,7 @@ ready_next rs is s y pairs ready in_s e r in_r =
     let at : lies_in r y.id ≡ true → y.id.serial ≡ pick_of is r = λ lies.
     let same : s ≡ r = one_range rs s r y.id pairs in_s in_r (lies_pick rs is s y.id ready in_s e) lies in
     ap (λ (x : Id). x.serial) e ∙ ap (pick_of is) same in
-    turns_pick r (is ++ y ∷ []) (pick_behind r (pick_of is r) y.id, mark_step r is y (pick_of is r) at (ready r in_r))
+    turns_pick r (is ++ y ∷ []) (pick_after r (pick_of is r) y.id, mark_step r is y (pick_of is r) at (ready r in_r))
 
 -- an issue outside a range leaves its pick
 pub pick_outside : (r : Range) (is : List Issuance) (y : Issuance) → Turns r is (pick_of is r) → lies_in r y.id ≡ false → pick_of (is ++ y ∷ []) r ≡ pick_of is r

@@ -12,7 +12,7 @@ use Rattle.s10_history.specs.declared.issuance.Issuance.{Issuance}
 use Rattle.s10_history.specs.Settings.{Terms}
 use Rattle.s10_history.specs.History.{ranges_open}
 use Rattle.s10_history.specs.Issues.{issues_of, issues_at, carried_by, pick_of, id_at}
-use Rattle.s10_book.specs.Rules.{IsLegal, answer_of, body_answer, draw_answer, draw_done, draw_many_answer, draws_in_a_row, then_drawn, has_free_pick, outcome_of_pick, outcome_of_row}
+use Rattle.s10_book.specs.Rules.{IsLegal, answer_of, body_answer, draw_answer, draw_done, draw_many_answer, successive_draws, then_drawn, has_free_pick, outcome_of_pick, outcome_of_draws}
 use Rattle.s10_book.specs.Promises.{without_number}
 use Rattle.s10_history.proofs.Push.{issues_from-push}
 use Rattle.s10_book.proofs.Closing.{draw_open}
@@ -83,7 +83,7 @@ draw_told g e es t customer s c day x legal is =
     ∙ ap (λ (f : Entry). body_answer g f.request.customer f.request.body f.day t.interval) is
 
 singles_row : (t : Terms) (customer : ℕ) (s c : ℕ × ℕ) (day : ℕ) (es : List Entry) (ids : List Id) (g m : List Entry) → IsLegal (g ++ es) t → ranges_open g customer s c ≡ ranges_open m customer s c → Alike (issues_of g) (issues_of m) → map without_number es ≡ map (draw_done customer s c day) ids
-    → draws_in_a_row m customer s c day t.interval (length es) ≡ Some ids
+    → successive_draws m customer s c day t.interval (length es) ≡ Some ids
 singles_row t customer s c day [] [] g m legal same_open alike same = refl
 singles_row t customer s c day [] (x ∷ xs) g m legal same_open alike same = absurd (omega (arith, ap length same))
 singles_row t customer s c day (e ∷ es) [] g m legal same_open alike same = absurd (omega (arith, ap length same))
@@ -102,18 +102,18 @@ singles_row t customer s c day (e ∷ es) (x ∷ xs) g m legal same_open alike s
     subst A (sym (draw_issues g e customer s c day x first))
     (subst B (sym (draw_issues m (draw_done customer s c day x) customer s c day x refl))
     (alike_push (issues_of g) (issues_of m) (made_by e (1 + length g) (day, x)) (made_by (draw_done customer s c day x) (1 + length m) (day, x)) alike refl refl)) in
-    ap (λ (o : Outcome). then_drawn o (λ y. draws_in_a_row (m ++ draw_done customer s c day y ∷ []) customer s c day t.interval (length es))) told
+    ap (λ (o : Outcome). then_drawn o (λ y. successive_draws (m ++ draw_done customer s c day y ∷ []) customer s c day t.interval (length es))) told
     ∙ ap (option_map (λ ys. x ∷ ys)) (singles_row t customer s c day es xs (g ++ e ∷ []) (m ++ draw_done customer s c day x ∷ []) grown one next rest)
 
-row_given : (day n count : ℕ) (is : List Issuance) (rs : List Range) (row : Option (List Id)) (ids : List Id) → 1 ≤ count → row ≡ picks (drawn_on day) day n rs is count → row ≡ Some ids → outcome_of_row day rs row ≡ DrawnMany day ids
+row_given : (day n count : ℕ) (is : List Issuance) (rs : List Range) (row : Option (List Id)) (ids : List Id) → 1 ≤ count → row ≡ picks (drawn_on day) day n rs is count → row ≡ Some ids → outcome_of_draws day rs row ≡ DrawnMany day ids
 row_given day n count is [] row ids some e found = absurd (none-some ids (sym (e ∙ no_picks day n count is some) ∙ found))
-row_given day n count is (r ∷ rs) row ids some e found = ap (outcome_of_row day (r ∷ rs)) found
+row_given day n count is (r ∷ rs) row ids some e found = ap (outcome_of_draws day (r ∷ rs)) found
 
 -- what single Draws of a legal history gave, a larger draw in their place gives
 pub singles_many : (h es : List Entry) (t : Terms) (customer : ℕ) (s c : ℕ × ℕ) (day : ℕ) (ids : List Id) → IsLegal (h ++ es) t → 1 ≤ length es → map without_number es ≡ map (draw_done customer s c day) ids
     → draw_many_answer h customer s c (length es) day t.interval ≡ DrawnMany day ids
 singles_many h es t customer s c day ids legal some same =
-    row_given day t.interval (length es) (issues_of h) (ranges_open h customer s c) (draws_in_a_row h customer s c day t.interval (length es)) ids some (row_of h customer s c day t.interval (length es))
+    row_given day t.interval (length es) (issues_of h) (ranges_open h customer s c) (successive_draws h customer s c day t.interval (length es)) ids some (row_of h customer s c day t.interval (length es))
     (singles_row t customer s c day es ids h h legal refl (alike_itself (issues_of h)) same)
 
 on_day : (is : List Issuance) (day : ℕ) (rs : List Range) (o : Option Range) (d : ℕ) (x : Id) → outcome_of_pick is day rs o ≡ Drawn d x → d ≡ day
@@ -132,18 +132,18 @@ given_at h customer s c day n d y xs first rest (suc j) x at =
     ap (λ (l : List Entry). draw_answer l customer s c day n) (sym (append_assoc h (draw_done customer s c day y ∷ []) (map (draw_done customer s c day) (take j xs)))) ∙ rest j x at
 
 -- each identifier of a row is what a single Draw gives behind those before it
-row_singles : (h : List Entry) (customer : ℕ) (s c : ℕ × ℕ) (day n count : ℕ) (ids : List Id) → draws_in_a_row h customer s c day n count ≡ Some ids
+row_singles : (h : List Entry) (customer : ℕ) (s c : ℕ × ℕ) (day n count : ℕ) (ids : List Id) → successive_draws h customer s c day n count ≡ Some ids
     → (k : ℕ) (x : Id) → slice_get ids k ≡ Some x → draw_answer (h ++ map (draw_done customer s c day) (take k ids)) customer s c day n ≡ Drawn day x
 row_singles h customer s c day n zero ids is = λ k x at. let P : List Id → Type 0 = λ l. slice_get l k ≡ Some x in absurd (none-some x (subst P (sym (same_Some [] ids is)) at))
 row_singles h customer s c day n (suc m) ids is = from (draw_answer h customer s c day n) refl is (λ y. row_singles (h ++ draw_done customer s c day y ∷ []) customer s c day n m)
   where
-    from : (o : Outcome) → draw_answer h customer s c day n ≡ o → then_drawn o (λ y. draws_in_a_row (h ++ draw_done customer s c day y ∷ []) customer s c day n m) ≡ Some ids
-        → ((y : Id) (xs : List Id) → draws_in_a_row (h ++ draw_done customer s c day y ∷ []) customer s c day n m ≡ Some xs
+    from : (o : Outcome) → draw_answer h customer s c day n ≡ o → then_drawn o (λ y. successive_draws (h ++ draw_done customer s c day y ∷ []) customer s c day n m) ≡ Some ids
+        → ((y : Id) (xs : List Id) → successive_draws (h ++ draw_done customer s c day y ∷ []) customer s c day n m ≡ Some xs
         → (j : ℕ) (x : Id) → slice_get xs j ≡ Some x → draw_answer ((h ++ draw_done customer s c day y ∷ []) ++ map (draw_done customer s c day) (take j xs)) customer s c day n ≡ Drawn day x)
         → (k : ℕ) (x : Id) → slice_get ids k ≡ Some x → draw_answer (h ++ map (draw_done customer s c day) (take k ids)) customer s c day n ≡ Drawn day x
-    from (Drawn d y) first is' next = mapped (draws_in_a_row (h ++ draw_done customer s c day y ∷ []) customer s c day n m) refl is'
+    from (Drawn d y) first is' next = mapped (successive_draws (h ++ draw_done customer s c day y ∷ []) customer s c day n m) refl is'
       where
-        mapped : (u : Option (List Id)) → draws_in_a_row (h ++ draw_done customer s c day y ∷ []) customer s c day n m ≡ u → option_map (λ xs. y ∷ xs) u ≡ Some ids
+        mapped : (u : Option (List Id)) → successive_draws (h ++ draw_done customer s c day y ∷ []) customer s c day n m ≡ u → option_map (λ xs. y ∷ xs) u ≡ Some ids
             → (k : ℕ) (x : Id) → slice_get ids k ≡ Some x → draw_answer (h ++ map (draw_done customer s c day) (take k ids)) customer s c day n ≡ Drawn day x
         mapped None rest is'' = absurd (none-some ids is'')
         mapped (Some xs) rest is'' =
@@ -151,7 +151,7 @@ row_singles h customer s c day n (suc m) ids is = from (draw_answer h customer s
             subst P (same_Some (y ∷ xs) ids is'') (given_at h customer s c day n d y xs first (next y xs rest))
     from o first is' next = absurd (none-some ids is')
 
-row_done : (day : ℕ) (rs : List Range) (row : Option (List Id)) (ids : List Id) → outcome_of_row day rs row ≡ DrawnMany day ids → row ≡ Some ids
+row_done : (day : ℕ) (rs : List Range) (row : Option (List Id)) (ids : List Id) → outcome_of_draws day rs row ≡ DrawnMany day ids → row ≡ Some ids
 row_done day [] row ids is = absurd cc
 row_done day (r ∷ rs) None ids is = absurd cc
 row_done day (r ∷ rs) (Some xs) ids is = let same : xs ≡ ids = cc in ap Some same
@@ -160,4 +160,4 @@ row_done day (r ∷ rs) (Some xs) ids is = let same : xs ≡ ids = cc in ap Some
 pub many_singles : (h : List Entry) (customer : ℕ) (s c : ℕ × ℕ) (count day n : ℕ) (ids : List Id) → draw_many_answer h customer s c count day n ≡ DrawnMany day ids
     → (k : ℕ) (x : Id) → slice_get ids k ≡ Some x → draw_answer (h ++ map (draw_done customer s c day) (take k ids)) customer s c day n ≡ Drawn day x
 many_singles h customer s c count day n ids is =
-    row_singles h customer s c day n count ids (row_done day (ranges_open h customer s c) (draws_in_a_row h customer s c day n count) ids is)
+    row_singles h customer s c day n count ids (row_done day (ranges_open h customer s c) (successive_draws h customer s c day n count) ids is)

@@ -13,8 +13,8 @@ use Rattle.s10_history.specs.declared.issue.Issue.{Issue}
 use Rattle.s10_history.specs.declared.candidate.Candidate.{Candidate}
 use Rattle.s10_history.specs.Settings.{Terms}
 use Rattle.s10_history.specs.History.{ranges_of, is_open, ranges_open, lies_in}
-use Rattle.s10_history.specs.Issues.{issues_of, last_issuance_of, is_free_since, pick_of, id_at, serial_behind, serials_behind, size_of, candidate_after_of, free_pick_of}
-use Rattle.s10_book.specs.Rules.{IsLegal, has_free_pick, draws_in_a_row}
+use Rattle.s10_history.specs.Issues.{issues_of, last_issuance_of, is_free_since, pick_of, id_at, serial_after, serial_after_steps, size_of, candidate_after_of, free_pick_of}
+use Rattle.s10_book.specs.Rules.{IsLegal, has_free_pick, successive_draws}
 use Rattle.std.proofs.lemmas.Option.{none-some, same_Some}
 use Rattle.s10_history.proofs.Numbering.{above, Numbered, numbered, filter_above, next_above, filter_none, Contains-find, found_passes}
 use Rattle.s10_book.proofs.Apart.{Apart, apart}
@@ -25,7 +25,7 @@ use Rattle.s10_book.proofs.Spaced.{id_itself}
 use Rattle.s10_history.proofs.Issued.{free_last}
 use Rattle.s10_book.proofs.Marks.{Turns, pick_turns, turns_inside, all_at_pick}
 use Rattle.s10_book.proofs.Alike.{alike_itself, row_is}
-use Rattle.s10_history.proofs.Behind.{IsBehind, behind, behind_within, behind_apart, behind_round}
+use Rattle.s10_history.proofs.After.{IsBehind, behind, behind_within, behind_apart, behind_round}
 use Rattle.s10_book.proofs.Rows.{candidate_after_is, Ready, outside_other, ready_next, pick_outside, last_other, last_outside, picks_here, picks_past}
 use Rattle.s10_book.proofs.Picking.{picks}
 
@@ -37,8 +37,8 @@ pub record Untouched (s : Range) (old is : List Issuance) : Type 0 where
 -- a range from which so many picks were taken on the day
 pub record Taken (r : Range) (day : ℕ) (old is : List Issuance) (k : ℕ) : Type 0 where
   pub few : k ≤ size_of r
-  pub pick : pick_of is r ≡ serials_behind r (pick_of old r) k
-  pub left : (j : ℕ) → k ≤ j → j < size_of r → last_issuance_of is (id_at r (serials_behind r (pick_of old r) j)) ≡ last_issuance_of old (id_at r (serials_behind r (pick_of old r) j))
+  pub pick : pick_of is r ≡ serial_after_steps r (pick_of old r) k
+  pub left : (j : ℕ) → k ≤ j → j < size_of r → last_issuance_of is (id_at r (serial_after_steps r (pick_of old r) j)) ≡ last_issuance_of old (id_at r (serial_after_steps r (pick_of old r) j))
   pub first : 0 < k → (i : Issuance) × (last_issuance_of is (id_at r (pick_of old r)) ≡ Some i) × (i.day ≡ day)
 
 -- how far the walk is: the picks so far, and those that are still to come from this range and those above it
@@ -65,9 +65,9 @@ taken_none : (r : Range) (day : ℕ) (old is : List Issuance) → (r.first ≤ p
 taken_none r day old is in' un = record {
   few = omega arith;
   pick = un.pick;
-  left = λ j le lt. un.last (id_at r (serials_behind r (pick_of old r) j))
-      (let w = behind_within r (pick_of old r) j (serials_behind r (pick_of old r) j) in'.0 in'.1 (omega arith) (behind r (pick_of old r) j in'.0 in'.1 (omega arith)) in
-      lies_at r (serials_behind r (pick_of old r) j) (record { low = w.0; high = w.1 }));
+  left = λ j le lt. un.last (id_at r (serial_after_steps r (pick_of old r) j))
+      (let w = behind_within r (pick_of old r) j (serial_after_steps r (pick_of old r) j) in'.0 in'.1 (omega arith) (behind r (pick_of old r) j in'.0 in'.1 (omega arith)) in
+      lies_at r (serial_after_steps r (pick_of old r) j) (record { low = w.0; high = w.1 }));
   first = λ lt. absurd (omega (arith, lt));
 }
 
@@ -116,14 +116,14 @@ last_here is y x e =
 taken_more : (r : Range) (day : ℕ) (old is : List Issuance) (k : ℕ) (y : Issuance) → Turns r old (pick_of old r) → Turns r is (pick_of is r) → k < size_of r → y.id ≡ id_at r (pick_of is r) → y.day ≡ day → Taken r day old is k → Taken r day old (is ++ y ∷ []) (suc k)
 taken_more r day old is k y before now lt e on own =
     let m : ℕ = pick_of old r in
-    let at : (j : ℕ) → j ≤ size_of r → IsBehind r (pick_of old r) j (serials_behind r (pick_of old r) j) = λ j le. behind r (pick_of old r) j before.low before.high le in
-    let serial : y.id.serial ≡ serials_behind r (pick_of old r) k = ap (λ (x : Id). x.serial) e ∙ own.pick in
+    let at : (j : ℕ) → j ≤ size_of r → IsBehind r (pick_of old r) j (serial_after_steps r (pick_of old r) j) = λ j le. behind r (pick_of old r) j before.low before.high le in
+    let serial : y.id.serial ≡ serial_after_steps r (pick_of old r) k = ap (λ (x : Id). x.serial) e ∙ own.pick in
     let lies : lies_in r y.id ≡ true = (let P : Id → Type 0 = λ x. lies_in r x ≡ true in subst P (sym e) (lies_at r (pick_of is r) (record { low = now.low; high = now.high }))) in
     record {
       few = omega (arith, lt);
-      pick = pick_turns r (is ++ y ∷ []) (serial_behind r (pick_of is r)) (turns_inside r is y (pick_of is r) lies (ap (λ (x : Id). x.serial) e) now) ∙ ap (serial_behind r) own.pick;
+      pick = pick_turns r (is ++ y ∷ []) (serial_after r (pick_of is r)) (turns_inside r is y (pick_of is r) lies (ap (λ (x : Id). x.serial) e) now) ∙ ap (serial_after r) own.pick;
       left = λ j le few.
-          last_other is y (id_at r (serials_behind r (pick_of old r) j))
+          last_other is y (id_at r (serial_after_steps r (pick_of old r) j))
           (λ same. behind_apart r (pick_of old r) k j _ _ before.low before.high (omega (arith, le)) few (at k (omega (arith, lt))) (at j (omega (arith, few))) (sym serial ∙ ap (λ (x : Id). x.serial) same))
           ∙ own.left j (omega (arith, le)) few;
       first = λ _. elim (cases_lt 0 k) [
@@ -137,7 +137,7 @@ taken_more r day old is k y before now lt e on own =
             )
         | inr none ↦
             let z : k ≡ 0 = omega (arith, none) in
-            let same : y.id ≡ id_at r (pick_of old r) = e ∙ ap (id_at r) (own.pick ∙ ap (serials_behind r (pick_of old r)) z) in
+            let same : y.id ≡ id_at r (pick_of old r) = e ∙ ap (id_at r) (own.pick ∙ ap (serial_after_steps r (pick_of old r)) z) in
             (y, last_here is y (id_at r (pick_of old r)) same, on)
       ];
     }
@@ -234,13 +234,13 @@ pub at_candidate : (h : List Entry) (t : Terms) (p : Range → Bool) (made : Id 
     → (has_free_pick (issues_of h ++ map made taken) day n r ≡ b) × (found.serial ≡ pick_of (issues_of h ++ map made taken) r)
 at_candidate h t p made day n count r k taken found b legal lt e test at =
     let old : List Issuance = issues_of h in
-    let s : ℕ = serials_behind r (pick_of (issues_of h) r) k in
+    let s : ℕ = serial_after_steps r (pick_of (issues_of h) r) k in
     let is = e ∙ candidate_after_is h t r k legal at.there in
     let last : Issuance → Issue = λ i. record { day = i.day; voided = false; customer = i.customer; number = i.number } in (
       ap (λ v. is_free_since day n (option_map (λ (i : Issuance). i.day) (last_issuance_of (issues_of h ++ map made taken) (id_at r v)))) at.own.pick
           ∙ ap (λ o. is_free_since day n (option_map (λ (i : Issuance). i.day) o)) (at.own.left k (omega arith) lt)
           ∙ sym (test ∙ ap (λ (c : Candidate). is_free_since day n (option_map (λ (i : Issue). i.day) c.issue)) is
-          ∙ free_last day n (last_issuance_of (issues_of h) (id_at r (serials_behind r (pick_of (issues_of h) r) k))) _ (λ _. refl)),
+          ∙ free_last day n (last_issuance_of (issues_of h) (id_at r (serial_after_steps r (pick_of (issues_of h) r) k))) _ (λ _. refl)),
       ap (λ (c : Candidate). c.serial) is ∙ sym at.own.pick,
     )
 
@@ -251,7 +251,7 @@ at_round rs p made day n old count r k taken given all at =
     let turns = given.ready r at.there in
     let whole : k ≡ size_of r = omega (arith, all, at.own.few) in
     let first = at.own.first (omega (arith, all, turns.low, turns.high)) in
-    let round : serials_behind r (pick_of old r) k ≡ pick_of old r = behind_round r (pick_of old r) k _ turns.low turns.high whole (behind r (pick_of old r) k turns.low turns.high at.own.few) in
+    let round : serial_after_steps r (pick_of old r) k ≡ pick_of old r = behind_round r (pick_of old r) k _ turns.low turns.high whole (behind r (pick_of old r) k turns.low turns.high at.own.few) in
     ap (λ v. is_free_since day n (option_map (λ (i : Issuance). i.day) (last_issuance_of (old ++ map made taken) (id_at r v)))) (at.own.pick ∙ round)
     ∙ ap (λ o. is_free_since day n (option_map (λ (i : Issuance). i.day) o)) first.1
     ∙ not_free first.0.day first.2
@@ -306,19 +306,19 @@ pub at_none_given : (h : List Entry) (t : Terms) (p : Range → Bool) (day n cou
     → IsAt (ranges_of h) p (drawn_on day) day n (issues_of h) count r k taken → has_free_pick (issues_of h ++ map (drawn_on day) taken) day n r ≡ false
 at_none_given h t p day n count r k taken o legal pos e is at = untaken h t p day n count r k taken _ _ legal pos refl refl (sym e ∙ is) at
 
-pub row_of : (h : List Entry) (customer : ℕ) (s c : ℕ × ℕ) (day n count : ℕ) → draws_in_a_row h customer s c day n count ≡ picks (drawn_on day) day n (ranges_open h customer s c) (issues_of h) count
+pub row_of : (h : List Entry) (customer : ℕ) (s c : ℕ × ℕ) (day n count : ℕ) → successive_draws h customer s c day n count ≡ picks (drawn_on day) day n (ranges_open h customer s c) (issues_of h) count
 row_of h customer s c day n count = row_is (drawn_on day) customer s c day n (λ x. refl) (λ x. refl) count h (issues_of h) (alike_itself (issues_of h))
 
 -- the walk has enough
 pub walked : (h : List Entry) (customer : ℕ) (s c : ℕ × ℕ) (day n count : ℕ) (r : Range) (k : ℕ) (taken : List Id) → count ≤ length taken
-    → IsAt (ranges_of h) (is_open h customer s c) (drawn_on day) day n (issues_of h) count r k taken → Some taken ≡ draws_in_a_row h customer s c day n count
+    → IsAt (ranges_of h) (is_open h customer s c) (drawn_on day) day n (issues_of h) count r k taken → Some taken ≡ successive_draws h customer s c day n count
 walked h customer s c day n count r k taken enough at =
     sym (row_of h customer s c day n count ∙ at_end (ranges_of h) (is_open h customer s c) (drawn_on day) day n (issues_of h) count r k taken enough at)
 
 -- no range is left before there are enough
 pub walked_out : (h : List Entry) (t : Terms) (customer : ℕ) (s c : ℕ × ℕ) (day n count : ℕ) (r : Range) (k : ℕ) (taken : List Id) → IsLegal h t → 1 ≤ n → length taken < count
     → has_free_pick (issues_of h ++ map (drawn_on day) taken) day n r ≡ false → find (above (is_open h customer s c) r.num) (ranges_of h) ≡ None
-    → IsAt (ranges_of h) (is_open h customer s c) (drawn_on day) day n (issues_of h) count r k taken → None ≡ draws_in_a_row h customer s c day n count
+    → IsAt (ranges_of h) (is_open h customer s c) (drawn_on day) day n (issues_of h) count r k taken → None ≡ successive_draws h customer s c day n count
 walked_out h t customer s c day n count r k taken legal pos few spent none at =
     sym (row_of h customer s c day n count
     ∙ at_last (ranges_of h) (is_open h customer s c) (drawn_on day) day n (issues_of h) count r k taken (given_legal h t day n legal pos) spent none few at)
@@ -328,7 +328,7 @@ no_picks day n zero is some = absurd (omega (arith, some))
 no_picks day n (suc k) is some = refl
 
 -- there was no range at all
-pub walked_nowhere : (h : List Entry) (customer : ℕ) (s c : ℕ × ℕ) (day n count : ℕ) → 1 ≤ count → find (above (is_open h customer s c) 0) (ranges_of h) ≡ None → None ≡ draws_in_a_row h customer s c day n count
+pub walked_nowhere : (h : List Entry) (customer : ℕ) (s c : ℕ × ℕ) (day n count : ℕ) → 1 ≤ count → find (above (is_open h customer s c) 0) (ranges_of h) ≡ None → None ≡ successive_draws h customer s c day n count
 walked_nowhere h customer s c day n count some none =
     let empty : ranges_open h customer s c ≡ [] = sym (filter_above (is_open h customer s c) 0 1 (ranges_of h) (omega arith) (numbered 1 h)) ∙ filter_none (above (is_open h customer s c) 0) (ranges_of h) none in
     sym (row_of h customer s c day n count ∙ ap (λ l. picks (drawn_on day) day n l (issues_of h) count) empty ∙ no_picks day n count (issues_of h) some)

@@ -3,4 +3,4 @@ pub mod BookFault
 pub mod Book
 pub mod Promises
 pub mod Once
-pub mod Settle
+pub mod GroupCommit

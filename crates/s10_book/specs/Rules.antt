@@ -15,7 +15,7 @@ use Rattle.s10_history.specs.declared.range.Range.{Range}
 use Rattle.s10_history.specs.declared.issue.Issue.{Issue}
 use Rattle.s10_history.specs.declared.issuance.Issuance.{Issuance}
 use Rattle.s10_history.specs.Settings.{Terms}
-use Rattle.s10_history.specs.History.{has_key, entry_with_key, day_of, ranges_of, lies_in, is_own, overlaps, is_closed, ranges_open}
+use Rattle.s10_history.specs.History.{has_key, find_entry, day_of, ranges_of, lies_in, is_own, overlaps, is_closed, ranges_open}
 use Rattle.s10_history.specs.Issues.{issues_of, last_issue_of, pick_of, id_at, serials, is_free}
 
 -- the outcome of a Grant: the post alone makes ranges, and no two of them have a serial in common
@@ -52,22 +52,22 @@ then_drawn (Drawn day x) next = option_map (λ xs. x ∷ xs) (next x)
 then_drawn outcome next = None
 
 -- the identifiers of so many single Draws in a row, each behind those before it; None where one of them is not Done
-abbrev pub draws_in_a_row : List Entry → ℕ → ℕ × ℕ → ℕ × ℕ → ℕ → ℕ → ℕ → Option (List Id)
-draws_in_a_row h customer service country day interval zero = Some []
-draws_in_a_row h customer service country day interval (suc count) =
+abbrev pub successive_draws : List Entry → ℕ → ℕ × ℕ → ℕ × ℕ → ℕ → ℕ → ℕ → Option (List Id)
+successive_draws h customer service country day interval zero = Some []
+successive_draws h customer service country day interval (suc count) =
     then_drawn (draw_answer h customer service country day interval)
-    (λ x. draws_in_a_row (h ++ draw_done customer service country day x ∷ []) customer service country day interval count)
+    (λ x. successive_draws (h ++ draw_done customer service country day x ∷ []) customer service country day interval count)
 
 -- what comes of so many Draws in a row from the ranges: all their identifiers, or none
-abbrev pub outcome_of_row : ℕ → List Range → Option (List Id) → Outcome
-outcome_of_row day [] row = NoRange
-outcome_of_row day (r ∷ rs) None = NoneFree
-outcome_of_row day (r ∷ rs) (Some ids) = DrawnMany day ids
+abbrev pub outcome_of_draws : ℕ → List Range → Option (List Id) → Outcome
+outcome_of_draws day [] row = NoRange
+outcome_of_draws day (r ∷ rs) None = NoneFree
+outcome_of_draws day (r ∷ rs) (Some ids) = DrawnMany day ids
 
 -- the outcome of a DrawMany: that of so many single Draws in a row
 abbrev pub draw_many_answer : List Entry → ℕ → ℕ × ℕ → ℕ × ℕ → ℕ → ℕ → ℕ → Outcome
 draw_many_answer h customer service country count day interval =
-    outcome_of_row day (ranges_open h customer service country) (draws_in_a_row h customer service country day interval count)
+    outcome_of_draws day (ranges_open h customer service country) (successive_draws h customer service country day interval count)
 
 -- how many serials of the ranges are free on the day
 abbrev pub free_serials : List Issuance → ℕ → ℕ → List Range → ℕ
@@ -131,7 +131,7 @@ answer_of h q day interval = body_answer h q.customer q.body day interval
 -- a call may follow the history: its key is new, its day isn't before the last, there is room for it,
 -- and its outcome is the answer of the rules
 pub record MayFollow (h : List Entry) (t : Terms) (e : Entry) : Type 0 where
-  pub new_key : entry_with_key h e.request.customer e.request.number ≡ None
+  pub new_key : find_entry h e.request.customer e.request.number ≡ None
   pub in_order : day_of h ≤ e.day
   pub room : length h < t.limit
   pub right : e.outcome ≡ answer_of h e.request e.day t.interval

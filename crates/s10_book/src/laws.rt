@@ -7,7 +7,7 @@ ghost use Rattle.s10_core.specs.declared.id.Id.{Id};
 ghost use Rattle.s10_history.specs.declared.range.Range.{Range};
 ghost use Rattle.s10_history.specs.declared.candidate.Candidate.{Candidate};
 ghost use Rattle.s10_history.specs.History.{day_of, lies_in, ranges_of, range_of_grant, is_closed, overlaps};
-ghost use Rattle.s10_history.specs.Issues.{issues_of, carried_by, is_free, pick_of, serial_behind, serials_behind, pick_behind, id_at, last_issue_of, candidate_after_of};
+ghost use Rattle.s10_history.specs.Issues.{issues_of, carried_by, is_free, pick_of, serial_after, serial_after_steps, pick_after, id_at, last_issue_of, candidate_after_of};
 ghost use Rattle.s10_book.specs.Rules.{IsLegal, MayFollow, has_free_pick, grant_answer, draw_answer, draw_done, draw_many_answer, void_answer, query_answer, NothingFree, FewFree};
 ghost use Rattle.s10_book.specs.Promises.{IsSpaced, IsOwn, IsApart, IsInCommon, request_on_day, without_number};
 
@@ -50,7 +50,7 @@ pub fn few_free()
 /// A larger draw gives what so many single Draws in a row on its day would give. Where a customer's Draws stand in a legal
 /// history one behind the other, of one day and all of them Done, a DrawMany of so many in their place would have had their
 /// identifiers. And each identifier of a DrawMany is what a single Draw would give behind the Draws of those before it.
-pub fn larger_draws_are_draws_in_a_row()
+pub fn sheets_are_successive_draws()
     ensures drawn { (h es : List Entry) (t : Terms) (customer : ℕ) (service country : ℕ × ℕ) (day : ℕ) (ids : List Id) → IsLegal (h ++ es) t → 1 ≤ length es
         → map without_number es ≡ map (draw_done customer service country day) ids
         → draw_many_answer h customer service country (length es) day t.interval ≡ Outcome.DrawnMany day ids }
@@ -83,14 +83,14 @@ pub fn withdrawn_ranges()
 /// The pick of a range in a legal history: its first serial as the range is made, after a Done Draw from it the next
 /// serial, or its first one behind its last. After a Done DrawMany it is what the single Draws of it, one by one, would
 /// leave. A call that issues no identifier of the range leaves it.
-pub fn picks_in_turn()
+pub fn successive_picks()
     ensures made { (h : List Entry) (t : Terms) (e : Entry) → IsLegal h t → MayFollow h t e → (r : Range)
         → range_of_grant (length (ranges_of h) + 1) e.request.body e.outcome ≡ Some r → pick_of (issues_of (h ++ e ∷ [])) r ≡ r.first }
     ensures turned { (h : List Entry) (t : Terms) (e : Entry) → IsLegal h t → MayFollow h t e → (r : Range) → Contains (ranges_of h) r
-        → pick_of (issues_of (h ++ e ∷ [])) r ≡ fold (λ pick c. pick_behind r pick c.1) (pick_of (issues_of h) r) (carried_by e.outcome) }
+        → pick_of (issues_of (h ++ e ∷ [])) r ≡ fold (λ pick c. pick_after r pick c.1) (pick_of (issues_of h) r) (carried_by e.outcome) }
     ensures drawn { (h : List Entry) (t : Terms) (e : Entry) → IsLegal h t → MayFollow h t e → (r : Range) → Contains (ranges_of h) r
         → (day : ℕ) (x : Id) → e.outcome ≡ Outcome.Drawn day x → IsTrue (lies_in r x)
-        → pick_of (issues_of (h ++ e ∷ [])) r ≡ serial_behind r x.serial }
+        → pick_of (issues_of (h ++ e ∷ [])) r ≡ serial_after r x.serial }
     ensures drawn_many { (h : List Entry) (e : Entry) (customer : ℕ) (service country : ℕ × ℕ) (day : ℕ) (ids : List Id) → e.outcome ≡ Outcome.DrawnMany day ids
         → (r : Range) → pick_of (issues_of (h ++ e ∷ [])) r ≡ pick_of (issues_of (h ++ map (draw_done customer service country day) ids)) r }
     ensures left { (h : List Entry) (t : Terms) (e : Entry) → IsLegal h t → MayFollow h t e → (r : Range) → Contains (ranges_of h) r
@@ -99,7 +99,7 @@ pub fn picks_in_turn()
 {}
 
 /// In a legal history the candidate of a range behind so many of its own picks is the serial so many behind its pick.
-pub fn candidates_in_turn()
+pub fn successive_candidates()
     ensures { (h : List Entry) (t : Terms) (r : Range) (issued : ℕ) → IsLegal h t → Contains (ranges_of h) r
-        → let serial = serials_behind r (pick_of (issues_of h) r) issued in let behind : Candidate = record { serial = serial; issue = last_issue_of h (id_at r serial) } in candidate_after_of h r issued ≡ behind }
+        → let serial = serial_after_steps r (pick_of (issues_of h) r) issued in let behind : Candidate = record { serial = serial; issue = last_issue_of h (id_at r serial) } in candidate_after_of h r issued ≡ behind }
 {}

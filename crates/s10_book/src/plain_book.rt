@@ -3,21 +3,20 @@
 ghost use Rattle.std.specs.Prelude.{◌≡◌, ◌∷◌, ◌++◌, [], ⊤, OnOk, OnErr, IfOk, IfErr, IfSome, IsTrue, Contains, find, ◌==◌, ◌<◌, ◌≤◌, ◌+◌, ◌-◌, ◌^◌, vec_len, vec_capacity, length, option_to_list};
 ghost use Rattle.s10_wire.specs.Kind.{fits};
 ghost use Rattle.s10_history.specs.Settings.{Terms};
-ghost use Rattle.s10_history.specs.History.{ranges_of, range_of_grant, entry_with_key, entry_at, is_closed, is_open_above, overlaps};
+ghost use Rattle.s10_history.specs.History.{ranges_of, range_of_grant, find_entry, entry_at, is_closed, is_open_after, overlaps};
 ghost use Rattle.s10_history.specs.Issues.{issues_of, issues_at, last_issue_of, candidate_of, candidate_after_of, size_of};
 ghost use Rattle.s10_history.specs.Usage.{usage_of};
 ghost use Rattle.s10_book.specs.Rules.{IsLegal, MayFollow};
-ghost use Rattle.s10_book.specs.BookFault.{Counts, no_faults};
+ghost use Rattle.s10_book.specs.BookFault.{CountsResult, no_faults};
 
 use crate::book::Book;
 use crate::book_fault::BookFault;
 use crate::faults::Faults;
-use crate::settle::Settle;
+use crate::group_commit::GroupCommit;
 use s10_core::Id;
 use s10_history::{
-    Block, Candidate, Entry, Holding, Issuance, Issue, Range, Settings, Usage, call_at,
-    is_closed_in, kept_call, last_state, next_serial, range_after, range_numbered, range_over,
-    usage_in,
+    Candidate, Entry, HolderKey, Issuance, Issue, Range, SerialSpan, Settings, Usage, candidate_in,
+    closed_in, covering_in, entry_in, find_in, last_issue_in, next_range_in, range_in, usage_in,
 };
 use std::alloc::{AllocError, Global};
 
@@ -103,15 +102,20 @@ fn range_made(count: usize, entry: &Entry) -> Option<Range>
 }
 
 // The pick behind so many of the range's own, with its last issue.
-fn serial_after(entries: &[Entry], issues: &[Issuance], range: &Range, issued: u8) -> Candidate
+fn candidate_after_in(
+    entries: &[Entry],
+    issues: &[Issuance],
+    range: &Range,
+    issued: u8,
+) -> Candidate
     requires issued { issues.now ≡ issues_of entries.now }
     requires legal { (t : Terms) × IsLegal entries.now t }
     requires there { Contains (ranges_of entries.now) range.now }
     requires fewer { issued < size_of range.now }
     ensures { result ≡ candidate_after_of entries.now range.now issued }
 {
-    let pick = next_serial(entries, issues, range);
-    let serial = range.serial_behind(pick.serial, issued);
+    let pick = candidate_in(entries, issues, range);
+    let serial = range.serial_after(pick.serial, issued);
     let id = Id {
         service: range.service,
         serial,
@@ -119,7 +123,7 @@ fn serial_after(entries: &[Entry], issues: &[Issuance], range: &Range, issued: u
     };
     Candidate {
         serial,
-        issue: last_state(entries, issues, &id),
+        issue: last_issue_in(entries, issues, &id),
     }
 }
 
@@ -153,53 +157,53 @@ impl Book for PlainBook {
 
     fn find(&mut self, customer: u32, number: u32) -> Result<Option<Entry>, BookFault>
         ensures same { self.new ≡ self.old }
-        ensures answer { result ≡ Ok (entry_with_key (⟦<PlainBook as Book>⟧.history self.old) customer number) }
+        ensures answer { result ≡ Ok (find_entry (⟦<PlainBook as Book>⟧.history self.old) customer number) }
         ensures fits { IfOk result (λ found. IfSome found (λ e. IsTrue (fits e.request.body e.outcome))) }
     {
-        Ok(kept_call(&self.entries, customer, number))
+        Ok(find_in(&self.entries, customer, number))
     }
 
     fn entry(&mut self, at: u32) -> Result<Option<Entry>, BookFault>
         ensures same { self.new ≡ self.old }
         ensures answer { result ≡ Ok (entry_at (⟦<PlainBook as Book>⟧.history self.old) at) }
     {
-        Ok(call_at(&self.entries, at))
+        Ok(entry_in(&self.entries, at))
     }
 
     fn range(&mut self, num: u32) -> Result<Option<Range>, BookFault>
         ensures same { self.new ≡ self.old }
         ensures answer { result ≡ Ok (find (λ r. r.num == num) (ranges_of (⟦<PlainBook as Book>⟧.history self.old))) }
     {
-        Ok(range_numbered(&self.ranges, num))
+        Ok(range_in(&self.ranges, num))
     }
 
     fn closed(&mut self, num: u32) -> Result<bool, BookFault>
         ensures same { self.new ≡ self.old }
         ensures answer { result ≡ Ok (is_closed (⟦<PlainBook as Book>⟧.history self.old) num) }
     {
-        Ok(is_closed_in(&self.entries, num))
+        Ok(closed_in(&self.entries, num))
     }
 
-    fn next_range(&mut self, held: &Holding, after: u32) -> Result<Option<Range>, BookFault>
+    fn next_range(&mut self, held: &HolderKey, after: u32) -> Result<Option<Range>, BookFault>
         ensures same { self.new ≡ self.old }
-        ensures answer { result ≡ Ok (find (is_open_above (⟦<PlainBook as Book>⟧.history self.old) after held.now.holder held.now.service held.now.country) (ranges_of (⟦<PlainBook as Book>⟧.history self.old))) }
+        ensures answer { result ≡ Ok (find (is_open_after (⟦<PlainBook as Book>⟧.history self.old) after held.now.holder held.now.service held.now.country) (ranges_of (⟦<PlainBook as Book>⟧.history self.old))) }
         ensures above { IfOk result (λ found. IfSome found (λ r. after < r.num)) }
     {
-        Ok(range_after(&self.entries, &self.ranges, held, after))
+        Ok(next_range_in(&self.entries, &self.ranges, held, after))
     }
 
-    fn covering(&mut self, block: &Block) -> Result<Option<Range>, BookFault>
+    fn covering(&mut self, block: &SerialSpan) -> Result<Option<Range>, BookFault>
         ensures same { self.new ≡ self.old }
         ensures answer { result ≡ Ok (find (overlaps block.now.service block.now.country block.now.first block.now.last) (ranges_of (⟦<PlainBook as Book>⟧.history self.old))) }
     {
-        Ok(range_over(&self.ranges, block))
+        Ok(covering_in(&self.ranges, block))
     }
 
     fn last_issue(&mut self, id: &Id) -> Result<Option<Issue>, BookFault>
         ensures same { self.new ≡ self.old }
         ensures answer { result ≡ Ok (last_issue_of (⟦<PlainBook as Book>⟧.history self.old) id.now) }
     {
-        Ok(last_state(&self.entries, &self.issues, id))
+        Ok(last_issue_in(&self.entries, &self.issues, id))
     }
 
     fn candidate(&mut self, range: &Range) -> Result<Candidate, BookFault>
@@ -207,7 +211,7 @@ impl Book for PlainBook {
         ensures same { self.new ≡ self.old }
         ensures answer { result ≡ Ok (candidate_of (⟦<PlainBook as Book>⟧.history self.old) range.now) }
     {
-        Ok(next_serial(&self.entries, &self.issues, range))
+        Ok(candidate_in(&self.entries, &self.issues, range))
     }
 
     fn candidate_after(&mut self, range: &Range, issued: u8) -> Result<Candidate, BookFault>
@@ -216,7 +220,7 @@ impl Book for PlainBook {
         ensures same { self.new ≡ self.old }
         ensures answer { result ≡ Ok (candidate_after_of (⟦<PlainBook as Book>⟧.history self.old) range.now issued) }
     {
-        Ok(serial_after(&self.entries, &self.issues, range, issued))
+        Ok(candidate_after_in(&self.entries, &self.issues, range, issued))
     }
 
     fn usage(&mut self, range: &Range, day: u32) -> Result<Usage, BookFault>
@@ -231,7 +235,7 @@ impl Book for PlainBook {
 
     fn keep(&mut self, entry: Entry) -> Result<(), BookFault>
         requires { MayFollow (⟦<PlainBook as Book>⟧.history self.old) (⟦<PlainBook as Book>⟧.terms self.old) entry }
-        ensures faults { Counts result (⟦<PlainBook as Book>⟧.faults self.old) (⟦<PlainBook as Book>⟧.faults self.new) }
+        ensures faults { CountsResult result (⟦<PlainBook as Book>⟧.faults self.old) (⟦<PlainBook as Book>⟧.faults self.new) }
         ensures memory { IfErr result (λ fault. fault ≡ BookFault.Memory) }
         ensures same_terms { ⟦<PlainBook as Book>⟧.terms self.new ≡ ⟦<PlainBook as Book>⟧.terms self.old }
         ensures ok { OnOk result (⟦<PlainBook as Book>⟧.history self.new ≡ ⟦<PlainBook as Book>⟧.history self.old ++ entry ∷ []) }
@@ -248,18 +252,18 @@ impl Book for PlainBook {
 }
 
 // What a book in memory keeps is settled as far as it can be.
-impl Settle for PlainBook {
+impl GroupCommit for PlainBook {
     ghost use Rattle.std.proofs.Common.{sym, append-nil};
 
-    ghost settled = { λ b. b.entries.items };
+    ghost committed = { λ b. b.entries.items };
 
     ghost first = { λ b h. ([], sym (append-nil b.entries.items)) };
 
-    fn settle(&mut self) -> Result<(), BookFault> {
+    fn commit(&mut self) -> Result<(), BookFault> {
         Ok(())
     }
 
-    fn is_settled(&self, _customer: u32, _number: u32) -> bool {
+    fn is_committed(&self, _customer: u32, _number: u32) -> bool {
         true
     }
 }

@@ -6,14 +6,14 @@ ghost use Rattle.s10_history.specs.History.{day_of, ranges_of, is_own};
 ghost use Rattle.s10_book.specs.Rules.{grant_answer, draw_answer, draw_many_answer, void_answer, withdraw_answer, status_of, status_of_issue, query_answer, answer_of, NothingFree, FewFree};
 ghost use Rattle.s10_wire.specs.Kind.{fits};
 ghost use Rattle.s10_history.specs.Issues.{last_issue_of};
-ghost use Rattle.s10_book.specs.BookFault.{Counts};
-ghost use Rattle.s10_book.specs.Book.{Keeps};
+ghost use Rattle.s10_book.specs.BookFault.{CountsResult};
+ghost use Rattle.s10_book.specs.Book.{Unchanged};
 
 use crate::book::Book;
 use crate::book_fault::BookFault;
-use crate::in_a_row::draws_in_a_row;
+use crate::draws::successive_draws;
 use s10_core::{Country, Id, Serial, Service};
-use s10_history::{Block, Holding, Issue, is_free};
+use s10_history::{HolderKey, Issue, SerialSpan, is_free};
 use s10_wire::{Body, Count, Outcome, Request, Status};
 
 // The outcome of a Draw: the pick of the lowest-numbered open range of the sender whose pick is free.
@@ -24,13 +24,13 @@ fn decide_draw<B: Book>(
     country: Country,
     day: u32,
 ) -> Result<Outcome, BookFault>
-    ensures faults { Counts result (B.faults book.old) (B.faults book.new) }
-    ensures keeps { Keeps B.history B.terms B.honest book.old book.new }
+    ensures faults { CountsResult result (B.faults book.old) (B.faults book.new) }
+    ensures unchanged { Unchanged B.history B.terms B.honest book.old book.new }
     ensures answer { B.honest book.new → IfOk result (λ o. o ≡ draw_answer (B.history book.old) customer service country day (B.terms book.old).interval) }
     ensures fits { IfOk result (λ o. IsTrue (fits (Body.Draw service country) o)) }
 {
     let interval = book.settings().interval();
-    let held = Holding {
+    let held = HolderKey {
         holder: customer,
         service,
         country,
@@ -64,12 +64,12 @@ fn decide_draw_many<B: Book>(
     count: Count,
     day: u32,
 ) -> Result<Outcome, BookFault>
-    ensures faults { Counts result (B.faults book.old) (B.faults book.new) }
-    ensures keeps { Keeps B.history B.terms B.honest book.old book.new }
+    ensures faults { CountsResult result (B.faults book.old) (B.faults book.new) }
+    ensures unchanged { Unchanged B.history B.terms B.honest book.old book.new }
     ensures answer { B.honest book.new → IfOk result (λ o. o ≡ draw_many_answer (B.history book.old) customer service country count day (B.terms book.old).interval) }
     ensures fits { IfOk result (λ o. IsTrue (fits (Body.DrawMany service country count) o)) }
 {
-    let held = Holding {
+    let held = HolderKey {
         holder: customer,
         service,
         country,
@@ -77,7 +77,7 @@ fn decide_draw_many<B: Book>(
     if book.next_range(&held, 0)?.is_none() {
         return Ok(Outcome::NoRange);
     }
-    let drawn = draws_in_a_row(book, customer, service, country, count, day)?;
+    let drawn = successive_draws(book, customer, service, country, count, day)?;
     match drawn {
         None => Ok(Outcome::NoneFree),
         Some(ids) => Ok(Outcome::DrawnMany { day, ids }),
@@ -86,11 +86,11 @@ fn decide_draw_many<B: Book>(
 
 // Whether the identifier lies in one of the customer's ranges.
 fn owns<B: Book>(book: &mut B, customer: u32, id: &Id) -> Result<bool, BookFault>
-    ensures faults { Counts result (B.faults book.old) (B.faults book.new) }
-    ensures keeps { Keeps B.history B.terms B.honest book.old book.new }
+    ensures faults { CountsResult result (B.faults book.old) (B.faults book.new) }
+    ensures unchanged { Unchanged B.history B.terms B.honest book.old book.new }
     ensures answer { B.honest book.new → IfOk result (λ b. b ≡ list_any (is_own customer id.now) (ranges_of (B.history book.old))) }
 {
-    let block = Block::of(id);
+    let block = SerialSpan::of(id);
     match book.covering(&block)? {
         None => Ok(false),
         Some(range) => Ok(range.holder == customer),
@@ -99,8 +99,8 @@ fn owns<B: Book>(book: &mut B, customer: u32, id: &Id) -> Result<bool, BookFault
 
 // The outcome of a Void.
 fn decide_void<B: Book>(book: &mut B, customer: u32, id: &Id) -> Result<Outcome, BookFault>
-    ensures faults { Counts result (B.faults book.old) (B.faults book.new) }
-    ensures keeps { Keeps B.history B.terms B.honest book.old book.new }
+    ensures faults { CountsResult result (B.faults book.old) (B.faults book.new) }
+    ensures unchanged { Unchanged B.history B.terms B.honest book.old book.new }
     ensures answer { B.honest book.new → IfOk result (λ o. o ≡ void_answer (B.history book.old) customer id.now) }
     ensures fits { IfOk result (λ o. IsTrue (fits (Body.Void id.now) o)) }
 {
@@ -121,8 +121,8 @@ fn decide_void<B: Book>(book: &mut B, customer: u32, id: &Id) -> Result<Outcome,
 
 // What is known of an identifier that lies in a range.
 fn issue_status<B: Book>(book: &mut B, id: &Id) -> Result<Status, BookFault>
-    ensures faults { Counts result (B.faults book.old) (B.faults book.new) }
-    ensures keeps { Keeps B.history B.terms B.honest book.old book.new }
+    ensures faults { CountsResult result (B.faults book.old) (B.faults book.new) }
+    ensures unchanged { Unchanged B.history B.terms B.honest book.old book.new }
     ensures answer { B.honest book.new → IfOk result (λ s. s ≡ status_of_issue (last_issue_of (B.history book.old) id.now)) }
 {
     match book.last_issue(id)? {
@@ -139,8 +139,8 @@ fn issue_status<B: Book>(book: &mut B, id: &Id) -> Result<Status, BookFault>
 
 // The number of the next range. Range numbers have no gap, and are at most the number of calls.
 fn next_number<B: Book>(book: &mut B) -> Result<u32, BookFault>
-    ensures faults { Counts result (B.faults book.old) (B.faults book.new) }
-    ensures keeps { Keeps B.history B.terms B.honest book.old book.new }
+    ensures faults { CountsResult result (B.faults book.old) (B.faults book.new) }
+    ensures unchanged { Unchanged B.history B.terms B.honest book.old book.new }
     ensures answer { B.honest book.new → IfOk result (λ n. n ≡ length (ranges_of (B.history book.old)) + 1) }
 {
     let mut low = 0;
@@ -166,8 +166,8 @@ fn decide_grant<B: Book>(
     first: Serial,
     last: Serial,
 ) -> Result<Outcome, BookFault>
-    ensures faults { Counts result (B.faults book.old) (B.faults book.new) }
-    ensures keeps { Keeps B.history B.terms B.honest book.old book.new }
+    ensures faults { CountsResult result (B.faults book.old) (B.faults book.new) }
+    ensures unchanged { Unchanged B.history B.terms B.honest book.old book.new }
     ensures answer { B.honest book.new → IfOk result (λ o. o ≡ grant_answer (B.history book.old) customer holder service country first last) }
     ensures fits { IfOk result (λ o. IsTrue (fits (Body.Grant holder service country first last) o)) }
 {
@@ -177,7 +177,7 @@ fn decide_grant<B: Book>(
     if holder == 0 || last.value() < first.value() {
         return Ok(Outcome::BadGrant);
     }
-    let asked = Block {
+    let asked = SerialSpan {
         service,
         country,
         first,
@@ -192,11 +192,11 @@ fn decide_grant<B: Book>(
 
 // What the post is told of an identifier.
 fn known_status<B: Book>(book: &mut B, id: &Id) -> Result<Status, BookFault>
-    ensures faults { Counts result (B.faults book.old) (B.faults book.new) }
-    ensures keeps { Keeps B.history B.terms B.honest book.old book.new }
+    ensures faults { CountsResult result (B.faults book.old) (B.faults book.new) }
+    ensures unchanged { Unchanged B.history B.terms B.honest book.old book.new }
     ensures answer { B.honest book.new → IfOk result (λ s. s ≡ status_of (B.history book.old) id.now) }
 {
-    let block = Block::of(id);
+    let block = SerialSpan::of(id);
     let found = book.covering(&block)?;
     if found.is_none() {
         return Ok(Status::Unknown);
@@ -206,8 +206,8 @@ fn known_status<B: Book>(book: &mut B, id: &Id) -> Result<Status, BookFault>
 
 // The outcome of a Query.
 fn decide_query<B: Book>(book: &mut B, customer: u32, id: &Id) -> Result<Outcome, BookFault>
-    ensures faults { Counts result (B.faults book.old) (B.faults book.new) }
-    ensures keeps { Keeps B.history B.terms B.honest book.old book.new }
+    ensures faults { CountsResult result (B.faults book.old) (B.faults book.new) }
+    ensures unchanged { Unchanged B.history B.terms B.honest book.old book.new }
     ensures answer { B.honest book.new → IfOk result (λ o. o ≡ query_answer (B.history book.old) customer id.now) }
     ensures fits { IfOk result (λ o. IsTrue (fits (Body.Query id.now) o)) }
 {
@@ -224,8 +224,8 @@ fn decide_query<B: Book>(book: &mut B, customer: u32, id: &Id) -> Result<Outcome
 
 // The outcome of a Withdraw.
 fn decide_withdraw<B: Book>(book: &mut B, sender: u32, num: u32) -> Result<Outcome, BookFault>
-    ensures faults { Counts result (B.faults book.old) (B.faults book.new) }
-    ensures keeps { Keeps B.history B.terms B.honest book.old book.new }
+    ensures faults { CountsResult result (B.faults book.old) (B.faults book.new) }
+    ensures unchanged { Unchanged B.history B.terms B.honest book.old book.new }
     ensures answer { B.honest book.new → IfOk result (λ o. o ≡ withdraw_answer (B.history book.old) sender num) }
     ensures fits { IfOk result (λ o. IsTrue (fits (Body.Withdraw num) o)) }
 {
@@ -245,8 +245,8 @@ fn decide_withdraw<B: Book>(book: &mut B, sender: u32, num: u32) -> Result<Outco
 /// or Store where a call of the book was, with the same of the two.
 pub fn decide<B: Book>(book: &mut B, request: &Request, day: u32) -> Result<Outcome, BookFault>
     requires { B.honest book.old → day_of (B.history book.old) ≤ day }
-    ensures faults { Counts result (B.faults book.old) (B.faults book.new) }
-    ensures keeps { Keeps B.history B.terms B.honest book.old book.new }
+    ensures faults { CountsResult result (B.faults book.old) (B.faults book.new) }
+    ensures unchanged { Unchanged B.history B.terms B.honest book.old book.new }
     ensures answer { B.honest book.new → IfOk result (λ o. o ≡ answer_of (B.history book.old) request.now day (B.terms book.old).interval) }
     ensures fits { IfOk result (λ o. IsTrue (fits request.now.body o)) }
     ensures none_free { B.honest book.new → (service country : ℕ × ℕ) → request.now.body ≡ Body.Draw service country → result ≡ Ok Outcome.NoneFree → NothingFree (B.history book.old) request.now.customer service country day (B.terms book.old).interval }

@@ -6,9 +6,9 @@ ghost use Rattle.s10_book.specs.BookFault.{with_trip};
 
 use crate::book::Book;
 use crate::book_fault::BookFault;
-use crate::settle::Settle;
+use crate::group_commit::GroupCommit;
 use s10_core::Id;
-use s10_history::{Block, Candidate, Entry, Holding, Issue, Range, Settings, Usage};
+use s10_history::{Candidate, Entry, HolderKey, Issue, Range, SerialSpan, Settings, Usage};
 
 /// A book over a book, to show what a failure does. Of its calls that answer a Result, counted from 0, the one with the
 /// number that it was made with answers Store without asking the inner book, and counts as one fault more. All other
@@ -115,14 +115,14 @@ impl<B: Book> Book for TripBook<B> {
         self.inner.closed(num)
     }
 
-    fn next_range(&mut self, held: &Holding, after: u32) -> Result<Option<Range>, BookFault> {
+    fn next_range(&mut self, held: &HolderKey, after: u32) -> Result<Option<Range>, BookFault> {
         if self.trips() {
             return Err(BookFault::Store);
         }
         self.inner.next_range(held, after)
     }
 
-    fn covering(&mut self, block: &Block) -> Result<Option<Range>, BookFault> {
+    fn covering(&mut self, block: &SerialSpan) -> Result<Option<Range>, BookFault> {
         if self.trips() {
             return Err(BookFault::Store);
         }
@@ -165,19 +165,19 @@ impl<B: Book> Book for TripBook<B> {
     }
 }
 
-impl<B: Settle> Settle for TripBook<B> {
-    ghost settled = { λ b. B.settled b.inner };
+impl<B: GroupCommit> GroupCommit for TripBook<B> {
+    ghost committed = { λ b. B.committed b.inner };
 
     ghost first = { λ b h. B.first b.inner h };
 
-    fn settle(&mut self) -> Result<(), BookFault> {
+    fn commit(&mut self) -> Result<(), BookFault> {
         if self.trips() {
             return Err(BookFault::Store);
         }
-        self.inner.settle()
+        self.inner.commit()
     }
 
-    fn is_settled(&self, customer: u32, number: u32) -> bool {
-        self.inner.is_settled(customer, number)
+    fn is_committed(&self, customer: u32, number: u32) -> bool {
+        self.inner.is_committed(customer, number)
     }
 }

@@ -3,9 +3,9 @@ use Rattle.std.proofs.Common.{◌≡◌, List, Bool, true, false, refl, subst, n
 use Rattle.clap.specs.Words.{Row, Text}
 use Rattle.s10_jobs.specs.declared.job.Job.{Job}
 use Rattle.s10_jobs.specs.declared.job.Job.TheVariants.{Create, Serve, Ask, Report, Audit, Loop}
-use Rattle.s10_cli.specs.Options.{IsHeading}
+use Rattle.s10_cli.specs.Options.{AreCallOptions}
 use Rattle.s10_cli.specs.Jobs.{AsksFor}
-use Rattle.s10_cli.specs.declared.heading.Heading.{Heading}
+use Rattle.s10_cli.specs.declared.call_options.CallOptions.{CallOptions}
 
 -- the first letter is one of a subcommand that asks a server
 abbrev pub asks_server : Text → Bool
@@ -16,7 +16,7 @@ other : (name name' : Text) → name ≡ name' → asks_server name ≡ true →
 other name name' same is is_not = let is' = subst (λ (n : Text). asks_server n ≡ true) same is in cc
 
 -- where no heading is given no question is asked
-pub headless : (rows : List Row) → ((heading : Heading) → ¬ IsHeading rows heading) → (name : Text) → asks_server name ≡ true
+pub headless : (rows : List Row) → ((heading : CallOptions) → ¬ AreCallOptions rows heading) → (name : Text) → asks_server name ≡ true
     → (job : Job) → ¬ AsksFor name rows job
 headless rows none name is (Ask question) asks =
     none (record { to = question.to; number = question.number; tries = question.tries }) (asks.0, asks.1, asks.2)

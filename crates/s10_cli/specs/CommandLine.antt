@@ -47,7 +47,7 @@ module _ (input rest old new : Option (List ℕ)) (answer : Option (Result JobSt
   IsSubcommandDone (Some named) = IsDone named.0 named.1
 
 -- help and the version were printed, or a fault told
-pub record IsTold (kind : ErrorKind) (old new : Option (List ℕ)) (done : Result JobStatus WriteFault) : Type 0 where
+pub record IsFaultPrinted (kind : ErrorKind) (old new : Option (List ℕ)) (done : Result JobStatus WriteFault) : Type 0 where
   pub memory : kind ≡ OutOfMemory → EndsWithLine old new done Failed (codes "memory\n")
   pub help : (kind ≡ DisplayHelp) ⊎ (kind ≡ DisplayVersion) → IfOk done (λ ended. ended ≡ Done)
   pub fault : kind ≢ OutOfMemory → kind ≢ DisplayHelp → kind ≢ DisplayVersion → IfOk done (λ ended. ended ≡ CommandLine) × (new ≡ old)
@@ -56,7 +56,7 @@ pub record IsTold (kind : ErrorKind) (old new : Option (List ℕ)) (done : Resul
 abbrev pub IsRun : Result ArgMatches Error → Option (List ℕ) → Option (List ℕ) → Option (List ℕ) → Option (List ℕ) → Option ℕ → Type 0
 IsRun (Ok matches) input rest old new status = (answer : Option (Result JobStatus WriteFault))
     × IsSubcommandDone input rest old new answer (subcommand_rows_of matches) × (status ≡ option_map exit_status answer)
-IsRun (Err error) input rest old new status = (done : Result JobStatus WriteFault) × IsTold (kind_of error) old new done × (status ≡ Some (exit_status done))
+IsRun (Err error) input rest old new status = (done : Result JobStatus WriteFault) × IsFaultPrinted (kind_of error) old new done × (status ≡ Some (exit_status done))
 
 -- what was done for these words
 pub record RunsLine (words : List Text) (input rest old new : Option (List ℕ)) (status : Option ℕ) : Type 0 where

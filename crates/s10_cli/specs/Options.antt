@@ -6,7 +6,7 @@ use Rattle.clap.specs.declared.parser.matches.ArgMatches.{ArgMatches}
 use Rattle.s10_core.specs.Serial.{IsSerial}
 use Rattle.s10_wire.specs.Ids.{IsCount}
 use Rattle.s10_history.specs.Settings.{Terms, AreTerms}
-use Rattle.s10_cli.specs.declared.heading.Heading.{Heading}
+use Rattle.s10_cli.specs.declared.call_options.CallOptions.{CallOptions}
 
 -- the rows that were found
 abbrev pub rows_in : ArgMatches → List Row
@@ -50,5 +50,5 @@ abbrev pub HasSerial : List Row → List ℕ → ℕ → Type 0
 HasSerial rows name serial = HasNumber rows name serial × IsSerial serial
 
 -- which server is asked, under which number, and how often at most
-abbrev pub IsHeading : List Row → Heading → Type 0
-IsHeading rows heading = HasText rows (codes "to") heading.to.now × HasNumber rows (codes "number") heading.number × HasTries rows heading.tries
+abbrev pub AreCallOptions : List Row → CallOptions → Type 0
+AreCallOptions rows heading = HasText rows (codes "to") heading.to.now × HasNumber rows (codes "number") heading.number × HasTries rows heading.tries

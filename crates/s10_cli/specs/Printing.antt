@@ -14,7 +14,7 @@ use Rattle.s10_jobs.specs.declared.job_status.JobStatus.{JobStatus}
 use Rattle.s10_jobs.specs.declared.job_status.JobStatus.TheVariants.{Done, Refused}
 use Rattle.s10_jobs.specs.InputLines.{bytes_in}
 use Rattle.s10_jobs.specs.Lines.{AreTwoCapitals, made_line, refused_line, text_read, valid_line}
-use Rattle.s10_jobs.specs.Replay.{Replayed, TellsReplay}
+use Rattle.s10_jobs.specs.Replay.{Replayed, ReportsReplay}
 use Rattle.s10_jobs.specs.Shown.{IsShown, Prints}
 use Rattle.s10_jobs.specs.Words.{text_fault_words}
 
@@ -45,4 +45,4 @@ module _ (old new : Option (List ℕ)) (done : Result JobStatus WriteFault) wher
   abbrev pub Replays : Terms → Option (List ℕ) → Option (List ℕ) → Type 0
   Replays terms input rest = IfSome input (λ bytes. IfSome old (λ held.
       (after : List Entry) × (replayed : Result ℕ ReplayFault) × (between : Option (List ℕ))
-      × Replayed [] terms bytes rest held between replayed after × TellsReplay replayed between new done))
+      × Replayed [] terms bytes rest held between replayed after × ReportsReplay replayed between new done))

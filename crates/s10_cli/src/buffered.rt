@@ -7,7 +7,7 @@ use std::io;
 use std::io::{BufWriter, Write};
 
 /// Writes out what is left in the buffer, flushes the writer behind it, and hands that back.
-pub fn written_out<W: Write + Drop>(mut output: BufWriter<W>) -> io::Result<W>
+pub fn flush_buffer<W: Write + Drop>(mut output: BufWriter<W>) -> io::Result<W>
     ensures { IfOk result (λ left. Keeps (writer_contents W.contents output) (W.contents left)) }
 {
     output.flush()?;

@@ -3,10 +3,10 @@ ghost use Rattle.std.specs.Prelude.{◌≡◌, ℕ, List, Option, map, IfOk};
 ghost use Rattle.std.specs.Io.KnownBytes.{Keeps};
 ghost use Rattle.clap.specs.Words.{kind_of, subcommand_rows_of};
 ghost use Rattle.s10_cli.specs.Options.{rows_in};
-ghost use Rattle.s10_cli.specs.CommandLine.{IsDone, IsSubcommandDone, IsTold, RunsLine, exit_status, word};
+ghost use Rattle.s10_cli.specs.CommandLine.{IsDone, IsSubcommandDone, IsFaultPrinted, RunsLine, exit_status, word};
 
-use crate::buffered::written_out;
-use crate::found::{flag_of, settings_of, text_of};
+use crate::buffered::flush_buffer;
+use crate::option_values::{flag_of, settings_of, text_of};
 use clap::error::ErrorKind;
 use clap::{ArgMatches, Error};
 use s10_grammar::parse;
@@ -69,7 +69,7 @@ where
     let mut input = BufReader::new(rt.alloc(), input)?;
     let mut output = BufWriter::new(rt.alloc(), output)?;
     let status = run_line(rt, words, &mut input, &mut output);
-    Ok((status, written_out(output)?))
+    Ok((status, flush_buffer(output)?))
 }
 
 fn run_subcommand<I: Read, O: Write>(
@@ -130,7 +130,7 @@ fn value_of<'a>(found: &ArgMatches<'a>, id: &str) -> &'a str
 
 // Prints help, the version or a fault of the command line.
 fn tell<R: Eprint, O: Write>(rt: &R, error: &Error, output: &mut O) -> Result<JobStatus, WriteFault>
-    ensures { IsTold (kind_of error.now) (O.contents output.old) (O.contents output.new) result }
+    ensures { IsFaultPrinted (kind_of error.now) (O.contents output.old) (O.contents output.new) result }
 {
     if matches!(error.kind(), ErrorKind::OutOfMemory) {
         write_text(b"memory\n", output)?;

@@ -3,7 +3,7 @@ ghost use Rattle.std.specs.Prelude.{codes};
 ghost use Rattle.s10_cli.specs.Options.{rows_in, Finds};
 ghost use Rattle.s10_cli.specs.Jobs.{AsksFor};
 
-use crate::found::{settings_of, text_of};
+use crate::option_values::{settings_of, text_of};
 use clap::ArgMatches;
 use s10_jobs::Job;
 

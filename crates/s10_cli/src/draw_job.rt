@@ -3,8 +3,8 @@ ghost use Rattle.std.specs.Prelude.{codes};
 ghost use Rattle.s10_cli.specs.Options.{rows_in, Finds};
 ghost use Rattle.s10_cli.specs.Jobs.{AsksFor};
 
-use crate::found::{count_of, number_of, text_of};
-use crate::heading::heading_of;
+use crate::call_options::call_options_of;
+use crate::option_values::{count_of, number_of, text_of};
 use clap::ArgMatches;
 use s10_jobs::{BodyWords, Job, Question};
 
@@ -23,7 +23,7 @@ pub fn draw_job<'a>(found: &ArgMatches<'a>) -> Option<Job<'a>>
             count,
         },
     };
-    let Some(heading) = heading_of(found) else {
+    let Some(heading) = call_options_of(found) else {
         return None;
     };
     Some(Job::Ask(Question {

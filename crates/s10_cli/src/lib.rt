@@ -3,20 +3,20 @@
 
 mod audit_job;
 mod buffered;
+mod call_options;
 mod command_line;
 mod create_job;
 mod draw_job;
-mod found;
 mod grant_job;
-mod heading;
 mod job_words;
 mod loop_job;
+mod option_values;
 mod query_job;
 mod report_job;
 mod serve_job;
 mod void_job;
 mod withdraw_job;
 
-pub use buffered::written_out;
+pub use buffered::flush_buffer;
 pub use command_line::{run_buffered, run_line};
 pub use job_words::parse_job;

@@ -3,7 +3,7 @@ ghost use Rattle.std.specs.Prelude.{codes};
 ghost use Rattle.s10_cli.specs.Options.{rows_in};
 ghost use Rattle.s10_cli.specs.Jobs.{AsksFor};
 
-use crate::found::number_of;
+use crate::option_values::number_of;
 use clap::ArgMatches;
 use s10_jobs::Job;
 

@@ -3,8 +3,8 @@ ghost use Rattle.std.specs.Prelude.{codes};
 ghost use Rattle.s10_cli.specs.Options.{rows_in, Finds};
 ghost use Rattle.s10_cli.specs.Jobs.{AsksFor};
 
-use crate::found::{number_of, text_of};
-use crate::heading::heading_of;
+use crate::call_options::call_options_of;
+use crate::option_values::{number_of, text_of};
 use clap::ArgMatches;
 use s10_jobs::{BodyWords, Job, Question};
 
@@ -16,7 +16,7 @@ pub fn query_job<'a>(found: &ArgMatches<'a>) -> Option<Job<'a>>
     let body = BodyWords::Query {
         id: text_of(found, "id")?,
     };
-    let Some(heading) = heading_of(found) else {
+    let Some(heading) = call_options_of(found) else {
         return None;
     };
     Some(Job::Ask(Question {

@@ -23,12 +23,12 @@ pub record Spells (text : List ℕ) (id : Id) : Type 0 where
   pub spelled : text ≡ spelling_of id
 
 -- a text without its spaces, with a to z raised to capitals
-abbrev pub tidied : List ℕ → List ℕ
-tidied text = map to_ascii_uppercase (filter (λ character. not (character == 32)) text)
+abbrev pub normalized : List ℕ → List ℕ
+normalized text = map to_ascii_uppercase (filter (λ character. not (character == 32)) text)
 
 -- the text is the spelling of the identifier, but for spaces and small letters
 abbrev pub SpellsLoosely : List ℕ → Id → Type 0
-SpellsLoosely text id = Spells (tidied text) id
+SpellsLoosely text id = Spells (normalized text) id
 
 -- whether two identifiers are the same
 abbrev pub same_id : Id → Id → Bool

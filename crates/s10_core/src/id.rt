@@ -1,6 +1,6 @@
 use crate::country::Country;
 use crate::digits::{check_digit, serial_digits};
-use crate::label::tidy;
+use crate::label::normalize_label;
 use crate::places::check_places;
 use crate::serial::Serial;
 use crate::service::Service;
@@ -21,7 +21,7 @@ pub struct Id {
 
 impl Id {
     ghost use Rattle.std.specs.Prelude.{◌≡◌, IfOk, IfErr, Ok};
-    ghost use Rattle.s10_core.specs.Id.{Spells, SpellsLoosely, tidied};
+    ghost use Rattle.s10_core.specs.Id.{Spells, SpellsLoosely, normalized};
     ghost use Rattle.s10_core.specs.TextFault.{IsFirstRefusal};
     ghost use Rattle.s10_core.specs.declared.id.Id.{Id};
 
@@ -55,9 +55,9 @@ impl Id {
     pub fn read_label(text: &[u8]) -> Result<Id, TextFault>
         ensures ok { IfOk result (SpellsLoosely text.now) }
         ensures spelled { (id : Id) → SpellsLoosely text.now id → result ≡ Ok id }
-        ensures refused { IfErr result (IsFirstRefusal (tidied text.now)) }
+        ensures refused { IfErr result (IsFirstRefusal (normalized text.now)) }
     {
-        Id::read(&tidy(text)?)
+        Id::read(&normalize_label(text)?)
     }
 
     /// The 13 characters in ASCII, as `read` takes them: no spaces, and capitals alone.

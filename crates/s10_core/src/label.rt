@@ -1,14 +1,14 @@
 //! Texts as they stand on labels.
 ghost use Rattle.std.specs.Prelude.{◌≡◌, ◌≢◌, IfOk, OnErr, IfErr, length};
-ghost use Rattle.s10_core.specs.Id.{tidied};
+ghost use Rattle.s10_core.specs.Id.{normalized};
 
 use crate::text_fault::TextFault;
 
 /// The 13 characters of a label text, without its spaces and in capitals.
-pub fn tidy(text: &[u8]) -> Result<[u8; 13], TextFault>
-    ensures ok { IfOk result (λ strict. strict ≡ tidied text.now) }
+pub fn normalize_label(text: &[u8]) -> Result<[u8; 13], TextFault>
+    ensures ok { IfOk result (λ strict. strict ≡ normalized text.now) }
     ensures refused { IfErr result (λ fault. fault ≡ TextFault.Length) }
-    ensures length { OnErr result (length (tidied text.now) ≢ 13) }
+    ensures length { OnErr result (length (normalized text.now) ≢ 13) }
 {
     let mut strict = [0u8; 13];
     let mut count: usize = 0;

@@ -19,13 +19,13 @@ use Rattle.s10_wire.specs.Datagrams.{datagram, outcome_bytes, IsOutcome, Replies
 use Rattle.s10_wire.proofs.Replied.{one_reply}
 use Rattle.s10_history.specs.declared.entry.Entry.{Entry}
 use Rattle.s10_history.specs.Settings.{Terms}
-use Rattle.s10_history.specs.History.{has_key, entry_with_key}
+use Rattle.s10_history.specs.History.{has_key, find_entry}
 use Rattle.s10_history.specs.Issues.{issues_from, issues_of, issues_at, carried_by}
 use Rattle.s10_book.proofs.Carried.{made_by}
 use Rattle.s10_history.proofs.Numbering.{find_cases}
 use Rattle.s10_ends.specs.declared.answer.Answer.{Answer}
 use Rattle.s10_ends.specs.declared.answer.Answer.TheVariants.{Reply, Dropped, Faulted}
-use Rattle.s10_ends.specs.Served.{Dated, Gives, IsOwed, IsAnswered, Served}
+use Rattle.s10_ends.specs.Served.{Dated, GivesOutcome, IsOwed, IsAnswered, Served}
 use Rattle.s10_ends.specs.Runs.{text_at, HasIssue, IsIssued}
 use Rattle.s10_ends.proofs.Equal.{same_request_or_not}
 
@@ -51,7 +51,7 @@ pub record IsCarrying (h : List Entry) (q : Request) (c : ℕ × Id) : Type 0 wh
   pub own : entry.request ≡ q
   pub carries : Contains (carried_by entry.outcome) c
 
-kept_own : (kept : Option Entry) (q : Request) (o : Outcome) (c : ℕ × Id) → Gives kept q o → Contains (carried_by o) c
+kept_own : (kept : Option Entry) (q : Request) (o : Outcome) (c : ℕ × Id) → GivesOutcome kept q o → Contains (carried_by o) c
     → (e : Entry) × (kept ≡ Some e) × (e.request ≡ q) × Contains (carried_by e.outcome) c
 kept_own None q o c gives carries = absurd gives
 kept_own (Some e) q o c gives carries =
@@ -62,9 +62,9 @@ kept_own (Some e) q o c gives carries =
     ]
 
 -- where the outcome that the history gives a request carries an identifier, that request is a call of it
-pub carrying : (h : List Entry) (q : Request) (o : Outcome) (c : ℕ × Id) → Gives (entry_with_key h q.customer q.number) q o → Contains (carried_by o) c → IsCarrying h q c
+pub carrying : (h : List Entry) (q : Request) (o : Outcome) (c : ℕ × Id) → GivesOutcome (find_entry h q.customer q.number) q o → Contains (carried_by o) c → IsCarrying h q c
 carrying h q o c gives carries =
-    let call = kept_own (entry_with_key h q.customer q.number) q o c gives carries in
+    let call = kept_own (find_entry h q.customer q.number) q o c gives carries in
     let at = found_place (has_key q.customer q.number) h call.0 call.1 in
     record { place = at.0; entry = call.0; there = at.1; own = call.2; carries = call.3 }
 

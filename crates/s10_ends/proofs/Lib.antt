@@ -8,8 +8,8 @@ pub mod Carried
 pub mod Pending
 pub mod Turns
 pub mod Filling
-pub mod Rounds
-pub mod Receiving
+pub mod Batches
+pub mod ClientReceiving
 pub mod Listening
 pub mod Trying
 pub mod Near

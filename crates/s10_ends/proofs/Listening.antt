@@ -18,8 +18,8 @@ use Rattle.s10_wire.proofs.Replied.{one_reply}
 use Rattle.s10_ends.specs.declared.received.Received.{Received}
 use Rattle.s10_ends.specs.declared.received.Received.TheVariants.{Malformed, Idle, NotMine, Accepted}
 use Rattle.s10_wire.specs.Reply.{request_of, outcome_of}
-use Rattle.s10_ends.specs.Client.{ClientState, ClientReceives, settled}
-use Rattle.s10_ends.specs.Calls.{Heard, TookAllBut, IsUnanswered, IsTakenReply, failures_of}
+use Rattle.s10_ends.specs.Client.{ClientState, ClientReceives, without_pending}
+use Rattle.s10_ends.specs.Calls.{Heard, TookAllBut, IsUnanswered, IsLastReply, failures_of}
 
 -- k receives, each of which took a datagram
 pub record Hearing (old new : Trace) (k : ℕ) : Type 0 where
@@ -157,7 +157,7 @@ unaccepted_packet c c0 b packet client is none =
 
 -- a datagram that was accepted is the reply to what was pending
 pub accepted_reply : (c0 c c' : ClientState) (b : List ℕ) (t : Trace) (from : Peer) (packet : Packet) (reply : Reply) → c ≡ c0 → b ≡ packet → ClientReceives c b (Accepted reply) c'
-    → t.taken ≡ Some (from, packet) → (c0.pending ≡ Some (request_of reply)) × (c' ≡ settled c0) × IsTakenReply t reply
+    → t.taken ≡ Some (from, packet) → (c0.pending ≡ Some (request_of reply)) × (c' ≡ without_pending c0) × IsLastReply t reply
 accepted_reply c0 c c' b t from packet reply client is accepted taken =
     let P : List ℕ → Type 0 = λ x. Replies x (request_of reply) (outcome_of reply) in
-    (ap (λ (x : ClientState). x.pending) (sym client) ∙ accepted.0.0, accepted.1 ∙ ap settled client, (from, packet, taken, subst P is accepted.0.1))
+    (ap (λ (x : ClientState). x.pending) (sym client) ∙ accepted.0.0, accepted.1 ∙ ap without_pending client, (from, packet, taken, subst P is accepted.0.1))

@@ -8,26 +8,26 @@ use Rattle.s10_history.specs.declared.entry.Entry.{Entry}
 use Rattle.s10_book.specs.declared.book_fault.BookFault.{BookFault}
 use Rattle.s10_book.specs.declared.book_fault.BookFault.TheVariants.{Memory, Store, Full}
 use Rattle.s10_book.specs.declared.faults.Faults.{Faults}
-use Rattle.s10_book.specs.BookFault.{Rises, FaultCounts, no_faults}
+use Rattle.s10_book.specs.BookFault.{RisesByOne, CountsBookFault, no_faults}
 use Rattle.s10_history.specs.Settings.{Terms}
 use Rattle.s10_ends.specs.declared.answer.Answer.{Answer}
-use Rattle.s10_ends.specs.declared.taken.Taken.{Taken}
+use Rattle.s10_ends.specs.declared.exchange.Exchange.{Exchange}
 use Rattle.s10_ends.specs.declared.near_link.NearLink.{NearLink}
 use Rattle.s10_ends.specs.declared.server.Server.{Server}
 use Rattle.s10_ends.specs.Served.{Dated, Served}
 use Rattle.s10_ends.specs.Server.{book_of}
-use Rattle.s10_ends.specs.Turn.{Turn, Handles, Settles}
-use Rattle.s10_ends.specs.Round.{TakesAll, ServesRound}
-use Rattle.s10_ends.specs.Round.TakesAll.{none as taken_none, more as taken_more}
+use Rattle.s10_ends.specs.Turn.{Turn, Handles, Commits}
+use Rattle.s10_ends.specs.Batch.{ReceivesAll, ServesBatch}
+use Rattle.s10_ends.specs.Batch.ReceivesAll.{none as taken_none, more as taken_more}
 use Rattle.s10_ends.specs.NearLink.{IsNearStep, ServedOn}
 use Rattle.s10_ends.proofs.Whole.{Served-nil, Served-push}
-use Rattle.s10_ends.proofs.Rounds.{no_push}
+use Rattle.s10_ends.proofs.Batches.{no_push}
 
-no_rise : (before after : ℕ) → Rises before after → ¬ (after ≡ 0)
+no_rise : (before after : ℕ) → RisesByOne before after → ¬ (after ≡ 0)
 no_rise before after rises at = absurd (omega (arith, rises.never_falls, rises.unless_greatest (omega (arith, rises.never_falls, at)), at))
 
 -- a fault was counted
-counted : (fault : BookFault) (before after : Faults) → FaultCounts fault before after → ¬ (after ≡ no_faults)
+counted : (fault : BookFault) (before after : Faults) → CountsBookFault fault before after → ¬ (after ≡ no_faults)
 counted Memory before after (rises, same) at = no_rise before.memory after.memory rises (ap (λ (f : Faults). f.memory) at)
 counted Store before after (rises, same) at = no_rise before.store after.store rises (ap (λ (f : Faults). f.store) at)
 counted Full before after never at = absurd never
@@ -43,7 +43,7 @@ one_more_on day h h1 h2 t t1 b answer before same one = record {
   served = Served-push h h1 h2 t before.deliveries before.answers (b, day) answer before.served (subst (λ (u : Terms). Served h1 u ((b, day) ∷ []) (answer ∷ []) h2) same one);
 }
 
-module _ {B F N : Type 0} (faults : B → Faults) (honest : B → Type 0) (terms : B → Terms) (history settled : B → List Entry) (far : F → Trace) (near : N → Trace) where
+module _ {B F N : Type 0} (faults : B → Faults) (honest : B → Type 0) (terms : B → Terms) (history committed : B → List Entry) (far : F → Trace) (near : N → Trace) where
   -- a book, as it was and after datagrams of that day
   pub record LedOn (day : ℕ) (old new : B) : Type 0 where
     pub was_honest : honest new → honest old
@@ -66,53 +66,53 @@ module _ {B F N : Type 0} (faults : B → Faults) (honest : B → Type 0) (terms
   }
 
   -- what was taken was handled on the day
-  taken : (day : ℕ) (book : B) (old new : Trace × B) (ts : List Taken) → LedOn day book old.1
-      → TakesAll (λ before after b answer. Handles faults honest terms history before after day b answer) old ts new → LedOn day book new.1
+  taken : (day : ℕ) (book : B) (old new : Trace × B) (ts : List Exchange) → LedOn day book old.1
+      → ReceivesAll (λ before after b answer. Handles faults honest terms history before after day b answer) old ts new → LedOn day book new.1
   taken day book old _ _ led taken_none = led
-  taken day book old new _ led (taken_more {between = between} {next = next} takes took) = handled day book between.1 new.1 next.packet next.answer (taken day book old between _ led takes) took.1
+  taken day book old new _ led (taken_more {between = between} {next = next} takes count_receive) = handled day book between.1 new.1 next.packet next.answer (taken day book old between _ led takes) count_receive.1
 
-  settled_on : (day : ℕ) (old between new : B) (settling : Result (Unit {0}) BookFault) → LedOn day old between → Settles faults honest terms history settled between new settling → LedOn day old new
-  settled_on day old between new settling led settles = record {
-    was_honest = λ h. led.was_honest (settles.keeps.was_honest h);
-    same_terms = λ h. settles.keeps.same_terms h ∙ led.same_terms (settles.keeps.was_honest h);
-    served = λ h. subst (λ (l : List Entry). ServedOn day (history old) (terms old) l) (sym (settles.keeps.same_history h)) (led.served (settles.keeps.was_honest h));
+  settled_on : (day : ℕ) (old between new : B) (commit_result : Result (Unit {0}) BookFault) → LedOn day old between → Commits faults honest terms history committed between new commit_result → LedOn day old new
+  settled_on day old between new commit_result led settles = record {
+    was_honest = λ h. led.was_honest (settles.unchanged.was_honest h);
+    same_terms = λ h. settles.unchanged.same_terms h ∙ led.same_terms (settles.unchanged.was_honest h);
+    served = λ h. subst (λ (l : List Entry). ServedOn day (history old) (terms old) l) (sym (settles.unchanged.same_history h)) (led.served (settles.unchanged.was_honest h));
   }
 
-  answered : (day : ℕ) (old between new : B) (ts : List Taken) (settling : Result (Unit {0}) BookFault) → LedOn day old between
-      → (ts ≢ [] → Settles faults honest terms history settled between new settling) → (ts ≡ [] → new ≡ between) → LedOn day old new
-  answered day old between new [] settling led settles unasked = still day old between new led (unasked refl)
-  answered day old between new (t ∷ ts) settling led settles unasked = settled_on day old between new settling led (settles (λ e. absurd cc))
+  answered : (day : ℕ) (old between new : B) (ts : List Exchange) (commit_result : Result (Unit {0}) BookFault) → LedOn day old between
+      → (ts ≢ [] → Commits faults honest terms history committed between new commit_result) → (ts ≡ [] → new ≡ between) → LedOn day old new
+  answered day old between new [] commit_result led settles unasked = still day old between new led (unasked refl)
+  answered day old between new (t ∷ ts) commit_result led settles unasked = settled_on day old between new commit_result led (settles (λ e. absurd cc))
 
-  served : (day most : ℕ) (book : B) (old new : Trace × B) (turns : List Turn) → LedOn day book old.1 → ServesRound faults honest terms history settled day most old new turns → LedOn day book new.1
-  served day most book old new turns led round =
-      let taken_led = taken day book old round.takes.handled round.taken led round.takes.takes in
-      let received = still day book round.takes.handled.1 round.between.1 taken_led round.takes.same in
-      answered day book round.between.1 new.1 round.taken round.answers.settling received round.answers.settles round.answers.unasked
+  served : (day most : ℕ) (book : B) (old new : Trace × B) (turns : List Turn) → LedOn day book old.1 → ServesBatch faults honest terms history committed day most old new turns → LedOn day book new.1
+  served day most book old new turns led batch =
+      let taken_led = taken day book old batch.takes.handled batch.taken led batch.takes.takes in
+      let received = still day book batch.takes.handled.1 batch.between.1 taken_led batch.takes.same in
+      answered day book batch.between.1 new.1 batch.taken batch.answers.commit_result received batch.answers.settles batch.answers.unasked
 
   -- with no fault all calls are settled
   abbrev pub Whole : B → Type 0
-  Whole book = honest book → faults book ≡ no_faults → settled book ≡ history book
+  Whole book = honest book → faults book ≡ no_faults → committed book ≡ history book
 
-  none_taken : (Handled : B → B → List ℕ → Answer → Type 0) (old new : Trace × B) (ts : List Taken) → TakesAll Handled old ts new → ts ≡ [] → new ≡ old
+  none_taken : (Handled : B → B → List ℕ → Answer → Type 0) (old new : Trace × B) (ts : List Exchange) → ReceivesAll Handled old ts new → ts ≡ [] → new ≡ old
   none_taken Handled old _ _ taken_none is = refl
-  none_taken Handled old new _ (taken_more {taken = ts} {next = next} takes took) is = absurd (no_push ts next is)
+  none_taken Handled old new _ (taken_more {taken = ts} {next = next} takes count_receive) is = absurd (no_push ts next is)
 
-  settled_whole : (between new : B) (settling : Result (Unit {0}) BookFault) → Settles faults honest terms history settled between new settling → Whole new
+  settled_whole : (between new : B) (commit_result : Result (Unit {0}) BookFault) → Commits faults honest terms history committed between new commit_result → Whole new
   settled_whole between new (Ok _) settles = λ h at. settles.done h
   settled_whole between new (Err fault) settles = λ h at. absurd (counted fault (faults between) (faults new) settles.counts at)
 
-  answered_whole : (old between new : B) (ts : List Taken) (settling : Result (Unit {0}) BookFault) → (ts ≡ [] → between ≡ old) → Whole old
-      → (ts ≢ [] → Settles faults honest terms history settled between new settling) → (ts ≡ [] → new ≡ between) → Whole new
-  answered_whole old between new [] settling same whole settles unasked = subst Whole (sym (unasked refl ∙ same refl)) whole
-  answered_whole old between new (t ∷ ts) settling same whole settles unasked = settled_whole between new settling (settles (λ e. absurd cc))
+  answered_whole : (old between new : B) (ts : List Exchange) (commit_result : Result (Unit {0}) BookFault) → (ts ≡ [] → between ≡ old) → Whole old
+      → (ts ≢ [] → Commits faults honest terms history committed between new commit_result) → (ts ≡ [] → new ≡ between) → Whole new
+  answered_whole old between new [] commit_result same whole settles unasked = subst Whole (sym (unasked refl ∙ same refl)) whole
+  answered_whole old between new (t ∷ ts) commit_result same whole settles unasked = settled_whole between new commit_result (settles (λ e. absurd cc))
 
-  round_whole : (day most : ℕ) (old new : Trace × B) (turns : List Turn) → ServesRound faults honest terms history settled day most old new turns → Whole old.1 → Whole new.1
-  round_whole day most old new turns round whole =
-      answered_whole old.1 round.between.1 new.1 round.taken round.answers.settling
-      (λ is. round.takes.same ∙ ap (λ (s : Trace × B). s.1) (none_taken _ old round.takes.handled round.taken round.takes.takes is)) whole round.answers.settles round.answers.unasked
+  round_whole : (day most : ℕ) (old new : Trace × B) (turns : List Turn) → ServesBatch faults honest terms history committed day most old new turns → Whole old.1 → Whole new.1
+  round_whole day most old new turns batch whole =
+      answered_whole old.1 batch.between.1 new.1 batch.taken batch.answers.commit_result
+      (λ is. batch.takes.same ∙ ap (λ (s : Trace × B). s.1) (none_taken _ old batch.takes.handled batch.taken batch.takes.takes is)) whole batch.answers.settles batch.answers.unasked
 
   abbrev Step : NearLink B F N → NearLink B F N → Type 0
-  Step = IsNearStep faults honest terms history settled far near
+  Step = IsNearStep faults honest terms history committed far near
 
   pub day_stays : (old new : NearLink B F N) → LeadsTo Step old new → new.day ≡ old.day
   day_stays old _ none = refl
@@ -121,7 +121,7 @@ module _ {B F N : Type 0} (faults : B → Faults) (honest : B → Type 0) (terms
   stepped : (day : ℕ) (book : B) (old new : NearLink B F N) → old.day ≡ day → LedOn day book (book_of old.server) → Step old new → LedOn day book (book_of new.server)
   stepped day book old new is led step = elim step.call [
     | inl w ↦ served day 1 book (far old.far, book_of old.server) (far new.far, book_of new.server) (w.0 ∷ []) led
-        (subst (λ (d : ℕ). ServesRound faults honest terms history settled d 1 (far old.far, book_of old.server) (far new.far, book_of new.server) (w.0 ∷ [])) is w.2)
+        (subst (λ (d : ℕ). ServesBatch faults honest terms history committed d 1 (far old.far, book_of old.server) (far new.far, book_of new.server) (w.0 ∷ [])) is w.2)
     | inr w ↦ still day book (book_of old.server) (book_of new.server) led (ap (λ (s : Server B). book_of s) w.3)
   ]
 

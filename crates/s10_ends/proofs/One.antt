@@ -12,11 +12,11 @@ use Rattle.s10_history.specs.declared.entry.Entry.{Entry}
 use Rattle.s10_book.specs.declared.book_fault.BookFault.{BookFault}
 use Rattle.s10_book.specs.declared.book_fault.BookFault.TheVariants.{Full}
 use Rattle.s10_history.specs.Settings.{Terms}
-use Rattle.s10_history.specs.History.{entry_with_key}
+use Rattle.s10_history.specs.History.{find_entry}
 use Rattle.s10_book.specs.Once.{applied_once}
 use Rattle.s10_ends.specs.declared.answer.Answer.{Answer}
 use Rattle.s10_ends.specs.declared.answer.Answer.TheVariants.{Reply, Dropped, Faulted}
-use Rattle.s10_ends.specs.Served.{Dated, AskNothing, Gives, IsFullFor, not_faulted, Served}
+use Rattle.s10_ends.specs.Served.{Dated, AskNothing, GivesOutcome, IsFullFor, not_faulted, Served}
 use Rattle.s10_ends.specs.Served.AreAsked.{none, nothing, request}
 use Rattle.s10_ends.proofs.Whole.{FullBefore}
 
@@ -46,7 +46,7 @@ Served-dropped h t b day fault asks refused =
     record { once_each = ([], nothing asks none, refl); answered = ((asks, refused), tt); full = λ k d is at. absurd (not_full (Dropped fault) k (λ e. cc) at) }
 
 pub Served-reply : (h h' : List Entry) (t : Terms) (b : List ℕ) (day : ℕ) (q : Request) (o : Outcome) (frame : Frame) → Asks b q → h' ≡ applied_once h ((q, day) ∷ []) t.interval
-    → Gives (entry_with_key h' q.customer q.number) q o → Replies frame q o → Served h t ((b, day) ∷ []) (Reply frame ∷ []) h'
+    → GivesOutcome (find_entry h' q.customer q.number) q o → Replies frame q o → Served h t ((b, day) ∷ []) (Reply frame ∷ []) h'
 Served-reply h h' t b day q o frame asks applied gives replies =
     record { once_each = ((q, day) ∷ [], request asks none, applied); answered = ((q, o, asks, gives, replies), tt); full = λ k d is at. absurd (not_full (Reply frame) k (λ e. cc) at) }
 

@@ -9,7 +9,7 @@ use Rattle.s10_book.specs.declared.book_fault.BookFault.TheVariants.{Memory, Sto
 use Rattle.s10_book.specs.declared.faults.Faults.{Faults}
 use Rattle.s10_history.specs.Settings.{Terms}
 use Rattle.s10_book.specs.Rules.{IsLegal}
-use Rattle.s10_book.specs.BookFault.{Rises}
+use Rattle.s10_book.specs.BookFault.{RisesByOne}
 use Rattle.s10_book.proofs.Spaced.{spaced}
 use Rattle.s10_book.proofs.Own.{own}
 use Rattle.s10_book.proofs.Apart.{apart}
@@ -17,7 +17,7 @@ use Rattle.s10_ends.specs.declared.answer.Answer.{Answer}
 use Rattle.s10_ends.specs.declared.answer.Answer.TheVariants.{Reply, Dropped, Faulted}
 use Rattle.s10_ends.specs.declared.delivery.Delivery.{Delivery}
 use Rattle.s10_ends.specs.Served.{Dated, Served, CountsAnswer}
-use Rattle.s10_ends.specs.Runs.{dated, is_memory, is_store, CountsEach, CountsAll, IsKept}
+use Rattle.s10_ends.specs.Runs.{dated, is_memory, is_store, CountsEach, CountsAll, KeepsPromises}
 use Rattle.s10_ends.proofs.Whole.{Served-push}
 
 none_counted : (kind : Answer → Bool) (n : ℕ) → CountsEach kind [] n n
@@ -31,7 +31,7 @@ more_same kind ans a x y z counts no' same =
     let e : count_by kind (ans ++ a ∷ []) ≡ count_by kind ans + 0 = sum_by_push _ ans a ∙ ap (λ (b : Bool). count_by kind ans + cond b 1 0) no' in
     record { at_most = omega (arith, e, counts.at_most); never_falls = omega (arith, counts.never_falls); each = λ lt. omega (arith, e, same, counts.each (omega arith)) }
 
-more_risen : (kind : Answer → Bool) (ans : List Answer) (a : Answer) (x y z : ℕ) → CountsEach kind ans x y → kind a ≡ true → Rises y z → CountsEach kind (ans ++ a ∷ []) x z
+more_risen : (kind : Answer → Bool) (ans : List Answer) (a : Answer) (x y z : ℕ) → CountsEach kind ans x y → kind a ≡ true → RisesByOne y z → CountsEach kind (ans ++ a ∷ []) x z
 more_risen kind ans a x y z counts yes' rises =
     let e : count_by kind (ans ++ a ∷ []) ≡ count_by kind ans + 1 = sum_by_push _ ans a ∙ ap (λ (b : Bool). count_by kind ans + cond b 1 0) yes' in
     record {
@@ -76,5 +76,5 @@ Served-map_push h h1 h2 t t1 ds ans d a before same one =
     let Q : List Dated → Type 0 = λ l. Served h t l (ans ++ a ∷ []) h2 in
     subst Q (sym (map-append dated ds (d ∷ []))) (Served-push h h1 h2 t (map dated ds) ans (dated d) a before (subst P same one))
 
-pub IsKept-legal : (h : List Entry) (t : Terms) → IsLegal h t → IsKept h t
-IsKept-legal h t legal = record { legal = legal; spaced = spaced h t legal; own = own h t legal; apart = apart h t legal }
+pub KeepsPromises-legal : (h : List Entry) (t : Terms) → IsLegal h t → KeepsPromises h t
+KeepsPromises-legal h t legal = record { legal = legal; spaced = spaced h t legal; own = own h t legal; apart = apart h t legal }

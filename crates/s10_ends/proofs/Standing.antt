@@ -15,36 +15,36 @@ use Rattle.s10_link.specs.declared.link_fault.LinkFault.{LinkFault}
 use Rattle.s10_link.specs.Link.{SendResult}
 use Rattle.s10_history.specs.declared.entry.Entry.{Entry}
 use Rattle.s10_history.specs.Settings.{Terms}
-use Rattle.s10_history.specs.History.{entry_with_key}
+use Rattle.s10_history.specs.History.{find_entry}
 use Rattle.s10_book.specs.declared.book_fault.BookFault.{BookFault}
-use Rattle.s10_book.specs.Settle.{IsSettledCall}
+use Rattle.s10_book.specs.GroupCommit.{IsCommittedCall}
 use Rattle.s10_book.specs.declared.faults.Faults.{Faults}
 use Rattle.s10_ends.specs.declared.answer.Answer.{Answer}
 use Rattle.s10_ends.specs.declared.answer.Answer.TheVariants.{Reply, Dropped, Faulted}
-use Rattle.s10_ends.specs.declared.taken.Taken.{Taken}
+use Rattle.s10_ends.specs.declared.exchange.Exchange.{Exchange}
 use Rattle.s10_ends.specs.declared.server_turn.ServerTurn.TheVariants as turns
-use Rattle.s10_ends.specs.Served.{Dated, AskNothing, Gives, IsOwed, StandsIn, IsAnswered, Served}
-use Rattle.s10_ends.specs.Turn.{Turn, Handles, Settles, AsksSettled, SendsReply, HoldsBack, Answers, sent_turn}
-use Rattle.s10_ends.specs.Round.{TakesAll, AnswersAll, ServesRound, IsSentSettled, turns_of}
-use Rattle.s10_ends.specs.Round.TakesAll.{none as taken_none, more as taken_more}
-use Rattle.s10_ends.specs.Round.AnswersAll.{none as answered_none, more as answered_more}
+use Rattle.s10_ends.specs.Served.{Dated, AskNothing, GivesOutcome, IsOwed, IsReplyIn, IsAnswered, Served}
+use Rattle.s10_ends.specs.Turn.{Turn, Handles, Commits, AsksCommitted, SendsReply, WithholdsReply, Answers, sent_turn}
+use Rattle.s10_ends.specs.Batch.{ReceivesAll, AnswersAll, ServesBatch, IsSentCommitted, turns_of_batch}
+use Rattle.s10_ends.specs.Batch.ReceivesAll.{none as taken_none, more as taken_more}
+use Rattle.s10_ends.specs.Batch.AnswersAll.{none as answered_none, more as answered_more}
 use Rattle.s10_ends.proofs.Whole.{Served-nil, Served-push}
-use Rattle.s10_ends.proofs.Rounds.{no_push}
+use Rattle.s10_ends.proofs.Batches.{no_push}
 
 -- what bytes ask is settled where the call of their request is
-pub own_settled : (settled h : List Entry) (b : List ℕ) (q : Request) (answer : Bool) → Asks b q → (IsTrue answer ↔ IsSettledCall settled h q.customer q.number) → IsTrue answer ↔ AsksSettled settled h b
-own_settled settled h b q answer asks decides =
-    let P : Request → Type 0 = λ r. IsSettledCall settled h r.customer r.number in
+pub own_settled : (committed h : List Entry) (b : List ℕ) (q : Request) (answer : Bool) → Asks b q → (IsTrue answer ↔ IsCommittedCall committed h q.customer q.number) → IsTrue answer ↔ AsksCommitted committed h b
+own_settled committed h b q answer asks decides =
+    let P : Request → Type 0 = λ r. IsCommittedCall committed h r.customer r.number in
     (λ is. (q, asks, decides.0 is), λ own. decides.1 (subst P (one_request b own.0 q own.1 asks) own.2))
 
-pub nothing_settled : (settled h : List Entry) (b : List ℕ) → AskNothing b → IsTrue false ↔ AsksSettled settled h b
-nothing_settled settled h b nothing = (λ is. absurd (false≢true is), λ own. absurd (nothing own.0 own.1))
+pub nothing_settled : (committed h : List Entry) (b : List ℕ) → AskNothing b → IsTrue false ↔ AsksCommitted committed h b
+nothing_settled committed h b nothing = (λ is. absurd (false≢true is), λ own. absurd (nothing own.0 own.1))
 
 -- a datagram that was answered as the calls owe it
-abbrev IsTakenAnswered : List Entry → Taken → Type 0
+abbrev IsTakenAnswered : List Entry → Exchange → Type 0
 IsTakenAnswered h t = IsAnswered h t.packet t.answer
 
-taken_answered : (h : List Entry) (day : ℕ) (ts : List Taken) → AllZip (λ (d : Dated) (a : Answer). IsAnswered h d.0 a) (map (λ (t : Taken). (t.packet, day)) ts) (map (λ (t : Taken). t.answer) ts) → All (IsTakenAnswered h) ts
+taken_answered : (h : List Entry) (day : ℕ) (ts : List Exchange) → AllZip (λ (d : Dated) (a : Answer). IsAnswered h d.0 a) (map (λ (t : Exchange). (t.packet, day)) ts) (map (λ (t : Exchange). t.answer) ts) → All (IsTakenAnswered h) ts
 taken_answered h day [] all = All-nil (IsTakenAnswered h)
 taken_answered h day (t ∷ ts) all = All-cons (IsTakenAnswered h) t ts all.0 (taken_answered h day ts all.1)
 
@@ -58,104 +58,104 @@ last_of P [] x all = All-head P x [] all
 last_of P (y ∷ ys) x all = last_of P ys x (All-tail P y (ys ++ x ∷ []) all)
 
 -- one turn
-module _ (Honest : Type 0) (settled h : List Entry) (at : Honest) where
+module _ (Honest : Type 0) (committed h : List Entry) (at : Honest) where
   abbrev Own : List ℕ → Type 0
-  Own = AsksSettled settled h
+  Own = AsksCommitted committed h
 
-  stands : (b : List ℕ) (frame : Frame) → IsOwed h b frame → Own b → StandsIn settled frame
+  stands : (b : List ℕ) (frame : Frame) → IsOwed h b frame → Own b → IsReplyIn committed frame
   stands b frame owed own =
       let same : owed.0 ≡ own.0 = one_request b owed.0 own.0 owed.2 own.1 in
-      let P : Request → Type 0 = λ q. entry_with_key settled q.customer q.number ≡ entry_with_key h q.customer q.number in
-      let Q : Option Entry → Type 0 = λ kept. Gives kept owed.0 owed.1 in
+      let P : Request → Type 0 = λ q. find_entry committed q.customer q.number ≡ find_entry h q.customer q.number in
+      let Q : Option Entry → Type 0 = λ kept. GivesOutcome kept owed.0 owed.1 in
       (owed.0, owed.1, subst Q (sym (subst P (sym same) own.2)) owed.3, owed.4)
 
-  owed_stands : (b : List ℕ) (frame : Frame) → settled ≡ h → IsOwed h b frame → StandsIn settled frame
-  owed_stands b frame same owed = let P : List Entry → Type 0 = λ l. StandsIn l frame in subst P (sym same) (owed.0, owed.1, owed.3, owed.4)
+  owed_stands : (b : List ℕ) (frame : Frame) → committed ≡ h → IsOwed h b frame → IsReplyIn committed frame
+  owed_stands b frame same owed = let P : List Entry → Type 0 = λ l. IsReplyIn l frame in subst P (sym same) (owed.0, owed.1, owed.3, owed.4)
 
-  by_result : (to : Peer) (frame : Frame) (r : SendResult) → StandsIn settled frame → IsSentSettled settled (sent_turn to frame r)
+  by_result : (to : Peer) (frame : Frame) (r : SendResult) → IsReplyIn committed frame → IsSentCommitted committed (sent_turn to frame r)
   by_result to frame (Ok _) is = is
   by_result to frame (Err fault) is = tt
 
-  sent : (old new : Trace) (to : Peer) (frame : Frame) (turn : Turn) → SendsReply old new to frame turn → StandsIn settled frame → IsSentSettled settled turn
-  sent old new to frame turn sends is = subst (IsSentSettled settled) (sym sends.2) (by_result to frame sends.0 is)
+  sent : (old new : Trace) (to : Peer) (frame : Frame) (turn : Turn) → SendsReply old new to frame turn → IsReplyIn committed frame → IsSentCommitted committed turn
+  sent old new to frame turn sends is = subst (IsSentCommitted committed) (sym sends.2) (by_result to frame sends.0 is)
 
-  held : (old new : Trace) (fault : BookFault) (to : Peer) (turn : Turn) → HoldsBack old new to fault turn → IsSentSettled settled turn
-  held old new fault to turn holds = subst (IsSentSettled settled) (sym holds.1) tt
+  held : (old new : Trace) (fault : BookFault) (to : Peer) (turn : Turn) → WithholdsReply old new to fault turn → IsSentCommitted committed turn
+  held old new fault to turn holds = subst (IsSentCommitted committed) (sym holds.1) tt
 
-  unasked : (old new : Trace) (told turn : Turn) → (new ≡ old) × (turn ≡ told) → IsSentSettled settled told → IsSentSettled settled turn
-  unasked old new told turn is told_is = subst (IsSentSettled settled) (sym is.1) told_is
+  unasked : (old new : Trace) (told turn : Turn) → (new ≡ old) × (turn ≡ told) → IsSentCommitted committed told → IsSentCommitted committed turn
+  unasked old new told turn is told_is = subst (IsSentCommitted committed) (sym is.1) told_is
 
-  turn_stands : (old new : Trace) (settling : Result (Unit {0}) BookFault) (to : Peer) (b : List ℕ) (answer : Answer) (turn : Turn) → OnOk settling (settled ≡ h)
-      → IsAnswered h b answer → Answers Honest Own old new settling to b answer turn → IsSentSettled settled turn
+  turn_stands : (old new : Trace) (commit_result : Result (Unit {0}) BookFault) (to : Peer) (b : List ℕ) (answer : Answer) (turn : Turn) → OnOk commit_result (committed ≡ h)
+      → IsAnswered h b answer → Answers Honest Own old new commit_result to b answer turn → IsSentCommitted committed turn
   turn_stands old new (Ok _) to b (Reply frame) turn done owed answers = sent old new to frame turn answers (owed_stands b frame done owed)
   turn_stands old new (Err fault) to b (Reply frame) turn done owed answers = elim answers [
     | inl w ↦ sent old new to frame turn w.1 (stands b frame owed (w.0 at))
     | inr w ↦ held old new fault to turn w.1
   ]
-  turn_stands old new settling to b (Dropped fault) turn done is answers = unasked old new (Ok (turns.Dropped to fault)) turn answers tt
-  turn_stands old new settling to b (Faulted fault) turn done is answers = unasked old new (Ok (turns.Faulted to fault)) turn answers tt
+  turn_stands old new commit_result to b (Dropped fault) turn done is answers = unasked old new (Ok (turns.Dropped to fault)) turn answers tt
+  turn_stands old new commit_result to b (Faulted fault) turn done is answers = unasked old new (Ok (turns.Faulted to fault)) turn answers tt
 
-  all_stand : (settling : Result (Unit {0}) BookFault) (old new : Trace) (ts : List Taken) (answered : List Turn) → (ts ≢ [] → OnOk settling (settled ≡ h)) → All (IsTakenAnswered h) ts
-      → AnswersAll Honest Own settling old ts answered new → All (IsSentSettled settled) answered
-  all_stand settling old _ _ _ done owed answered_none = All-nil (IsSentSettled settled)
-  all_stand settling old new _ _ done owed (answered_more {between = between} {taken = ts} {answered = answered} next turn before answers) =
+  all_stand : (commit_result : Result (Unit {0}) BookFault) (old new : Trace) (ts : List Exchange) (answered : List Turn) → (ts ≢ [] → OnOk commit_result (committed ≡ h)) → All (IsTakenAnswered h) ts
+      → AnswersAll Honest Own commit_result old ts answered new → All (IsSentCommitted committed) answered
+  all_stand commit_result old _ _ _ done owed answered_none = All-nil (IsSentCommitted committed)
+  all_stand commit_result old new _ _ done owed (answered_more {between = between} {taken = ts} {answered = answered} next turn before answers) =
       let some : ts ++ next ∷ [] ≢ [] = no_push ts next in
-      All-push (IsSentSettled settled) answered turn
-      (all_stand settling old between ts answered (λ it. done some) (first_of (IsTakenAnswered h) ts next owed) before)
-      (turn_stands between new settling next.from next.packet next.answer turn (done some) (last_of (IsTakenAnswered h) ts next owed) answers)
+      All-push (IsSentCommitted committed) answered turn
+      (all_stand commit_result old between ts answered (λ it. done some) (first_of (IsTakenAnswered h) ts next owed) before)
+      (turn_stands between new commit_result next.from next.packet next.answer turn (done some) (last_of (IsTakenAnswered h) ts next owed) answers)
 
 -- the turns of a round are those of its datagrams, and one in which none came
-told : (settled : List Entry) (ended : Result (Unit {0}) LinkFault) (answered : List Turn) → All (IsSentSettled settled) answered → All (IsSentSettled settled) (turns_of ended answered)
-told settled (Err fault) answered all = All-push (IsSentSettled settled) answered (Err fault) all tt
-told settled (Ok _) [] all = All-cons (IsSentSettled settled) (Ok turns.Quiet) [] tt all
-told settled (Ok _) (turn ∷ answered) all = all
+told : (committed : List Entry) (ended : Result (Unit {0}) LinkFault) (answered : List Turn) → All (IsSentCommitted committed) answered → All (IsSentCommitted committed) (turns_of_batch ended answered)
+told committed (Err fault) answered all = All-push (IsSentCommitted committed) answered (Err fault) all tt
+told committed (Ok _) [] all = All-cons (IsSentCommitted committed) (Ok turns.Quiet) [] tt all
+told committed (Ok _) (turn ∷ answered) all = all
 
-module _ {B : Type 0} (faults : B → Faults) (honest : B → Type 0) (terms : B → Terms) (history settled : B → List Entry) (day : ℕ) where
+module _ {B : Type 0} (faults : B → Faults) (honest : B → Type 0) (terms : B → Terms) (history committed : B → List Entry) (day : ℕ) where
   abbrev Handled : B → B → List ℕ → Answer → Type 0
   Handled before after b answer = Handles faults honest terms history before after day b answer
 
-  abbrev packets : List Taken → List Dated
-  packets ts = map (λ (t : Taken). (t.packet, day)) ts
+  abbrev packets : List Exchange → List Dated
+  packets ts = map (λ (t : Exchange). (t.packet, day)) ts
 
-  abbrev answers_of : List Taken → List Answer
-  answers_of ts = map (λ (t : Taken). t.answer) ts
+  abbrev answers_of : List Exchange → List Answer
+  answers_of ts = map (λ (t : Exchange). t.answer) ts
 
   -- what was taken was served, one datagram after another
-  pub record ServesTaken (old new : B) (ts : List Taken) : Type 0 where
+  pub record ServesTaken (old new : B) (ts : List Exchange) : Type 0 where
     pub same_terms : terms new ≡ terms old
     pub served : Served (history old) (terms old) (packets ts) (answers_of ts) (history new)
 
-  serves_taken : (old new : Trace × B) (ts : List Taken) → TakesAll Handled old ts new → honest new.1 → ServesTaken old.1 new.1 ts
+  serves_taken : (old new : Trace × B) (ts : List Exchange) → ReceivesAll Handled old ts new → honest new.1 → ServesTaken old.1 new.1 ts
   serves_taken old _ _ taken_none h = record { same_terms = refl; served = Served-nil (history old.1) (terms old.1) }
-  serves_taken old new _ (taken_more {between = between} {taken = ts} {next = next} takes took) h =
-      let one = took.1 in
+  serves_taken old new _ (taken_more {between = between} {taken = ts} {next = next} takes count_receive) h =
+      let one = count_receive.1 in
       let before = serves_taken old between ts takes (one.was_honest h) in
       let P : Terms → Type 0 = λ t. Served (history between.1) t ((next.packet, day) ∷ []) (next.answer ∷ []) (history new.1) in
       let Q : List Dated → Type 0 = λ ds. Served (history old.1) (terms old.1) ds (answers_of (ts ++ next ∷ [])) (history new.1) in
       let R : List Answer → Type 0 = λ answers. Served (history old.1) (terms old.1) (packets ts ++ (next.packet, day) ∷ []) answers (history new.1) in
       record {
         same_terms = one.same_terms h ∙ before.same_terms;
-        served = subst Q (sym (map-append (λ (t : Taken). (t.packet, day)) ts (next ∷ []))) (subst R (sym (map-append (λ (t : Taken). t.answer) ts (next ∷ [])))
+        served = subst Q (sym (map-append (λ (t : Exchange). (t.packet, day)) ts (next ∷ []))) (subst R (sym (map-append (λ (t : Exchange). t.answer) ts (next ∷ [])))
             (Served-push (history old.1) (history between.1) (history new.1) (terms old.1) (packets ts) (answers_of ts) (next.packet, day) next.answer before.served (subst P before.same_terms (one.served h))));
       }
 
   -- where nothing was taken, or the calls were settled
-  honest_before : (old new : B) (ts : List Taken) (settling : Result (Unit {0}) BookFault) → (ts ≢ [] → Settles faults honest terms history settled old new settling) → (ts ≡ [] → new ≡ old)
+  honest_before : (old new : B) (ts : List Exchange) (commit_result : Result (Unit {0}) BookFault) → (ts ≢ [] → Commits faults honest terms history committed old new commit_result) → (ts ≡ [] → new ≡ old)
       → honest new → honest old × (history new ≡ history old)
-  honest_before old new [] settling settles same h = (subst honest (same refl) h, ap history (same refl))
-  honest_before old new (t ∷ ts) settling settles same h = let kept = (settles (λ e. absurd cc)).keeps in (kept.was_honest h, kept.same_history h)
+  honest_before old new [] commit_result settles same h = (subst honest (same refl) h, ap history (same refl))
+  honest_before old new (t ∷ ts) commit_result settles same h = let kept = (settles (λ e. absurd cc)).unchanged in (kept.was_honest h, kept.same_history h)
 
   -- each reply that a round sent stands in the calls that it left settled
-  pub round_stands : (most : ℕ) (old new : Trace × B) (turns : List Turn) → ServesRound faults honest terms history settled day most old new turns → honest new.1 → All (IsSentSettled (settled new.1)) turns
-  round_stands most old new turns round h =
-      let before = honest_before round.between.1 new.1 round.taken round.answers.settling round.answers.settles round.answers.unasked h in
-      let same = ap history round.takes.same in
-      let served = (serves_taken old round.takes.handled round.taken round.takes.takes (subst honest round.takes.same before.0)).served in
-      let P : List Entry → Type 0 = λ l. All (IsTakenAnswered l) round.taken in
-      let owed = subst P (sym (before.1 ∙ same)) (taken_answered (history round.takes.handled.1) day round.taken served.answered) in
-      let all = all_stand (honest new.1) (settled new.1) (history new.1) h round.answers.settling round.between.0 new.0 round.taken round.answered (λ some. (round.answers.settles some).done h) owed round.answers.answers in
-      subst (λ (l : List Turn). All (IsSentSettled (settled new.1)) l) (sym round.are) (told (settled new.1) round.ended round.answered all)
+  pub round_stands : (most : ℕ) (old new : Trace × B) (turns : List Turn) → ServesBatch faults honest terms history committed day most old new turns → honest new.1 → All (IsSentCommitted (committed new.1)) turns
+  round_stands most old new turns batch h =
+      let before = honest_before batch.between.1 new.1 batch.taken batch.answers.commit_result batch.answers.settles batch.answers.unasked h in
+      let same = ap history batch.takes.same in
+      let served = (serves_taken old batch.takes.handled batch.taken batch.takes.takes (subst honest batch.takes.same before.0)).served in
+      let P : List Entry → Type 0 = λ l. All (IsTakenAnswered l) batch.taken in
+      let owed = subst P (sym (before.1 ∙ same)) (taken_answered (history batch.takes.handled.1) day batch.taken served.answered) in
+      let all = all_stand (honest new.1) (committed new.1) (history new.1) h batch.answers.commit_result batch.between.0 new.0 batch.taken batch.answered (λ some. (batch.answers.settles some).done h) owed batch.answers.answers in
+      subst (λ (l : List Turn). All (IsSentCommitted (committed new.1)) l) (sym batch.are) (told (committed new.1) batch.ended batch.answered all)
 
   -- and so does the one of a round of one turn
-  pub turn_of_round : (old new : Trace × B) (turn : Turn) → ServesRound faults honest terms history settled day 1 old new (turn ∷ []) → honest new.1 → IsSentSettled (settled new.1) turn
-  turn_of_round old new turn round h = All-head (IsSentSettled (settled new.1)) turn [] (round_stands 1 old new (turn ∷ []) round h)
+  pub turn_of_round : (old new : Trace × B) (turn : Turn) → ServesBatch faults honest terms history committed day 1 old new (turn ∷ []) → honest new.1 → IsSentCommitted (committed new.1) turn
+  turn_of_round old new turn batch h = All-head (IsSentCommitted (committed new.1)) turn [] (round_stands 1 old new (turn ∷ []) batch h)

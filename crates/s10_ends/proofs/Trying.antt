@@ -15,7 +15,7 @@ use Rattle.s10_wire.specs.declared.reply.Reply.{Reply}
 use Rattle.s10_wire.specs.Datagrams.{Asks}
 use Rattle.s10_wire.specs.Reply.{request_of}
 use Rattle.s10_ends.specs.declared.call_fault.CallFault.TheVariants.{GaveUp, Link}
-use Rattle.s10_ends.specs.Client.{ClientState, next_request, after_submit, submit_fault, settled}
+use Rattle.s10_ends.specs.Client.{ClientState, next_request, after_submit, submit_fault, without_pending}
 use Rattle.s10_ends.specs.Calls.{SentOnly, Tried, TookAllBut, Ended, EndsTry, IsCut, Stopped, Heard, Listens, IsUnanswered, IsNoReply, Attempts, Calls, failures_of}
 use Rattle.s10_ends.proofs.Turns.{same_error}
 
@@ -32,7 +32,7 @@ listened c c' t between t' p (Err fault) sent listens = inr (between, sent, list
 
 pub tried_none : (t : Trace) (p : Peer × Frame) → Tried t t p 0 0
 tried_none t p = record {
-  ended = record { quiet = 0; full = 0; all = refl; took = omega arith; eight = omega arith };
+  ended = record { quiet = 0; full = 0; all = refl; count_receive = omega arith; eight = omega arith };
   sent = record { sends = omega arith; given = λ wrong. absurd (omega arith); alike = λ wrong. absurd (omega arith) };
   least = omega arith;
   most = omega arith;
@@ -63,14 +63,14 @@ sent_heard t s t' p k failed sent h = record {
 
 -- one more try, which was not cut short
 ended_again : (t m s t' : Trace) (p : Peer × Frame) (k : ℕ) → Ended t m k 0 0 → IsAfterFrame m s p → s.received ≤ t'.received → EndsTry s t' → Ended t t' (k + 1) 0 0
-ended_again t m s t' p k e g more (inl took) =
+ended_again t m s t' p k e g more (inl count_receive) =
     let calls : s.calls ≡ m.calls + 1 = ap (λ (x : Trace). x.calls) g.after in
     let received : s.received ≡ m.received = ap (λ (x : Trace). x.received) g.after in
     record {
       quiet = e.quiet + 1;
       full = e.full;
       all = omega (arith, e.all);
-      took = omega (arith, e.took, calls, received, took);
+      count_receive = omega (arith, e.count_receive, calls, received, count_receive);
       eight = omega (arith, e.eight, received, more);
     }
 ended_again t m s t' p k e g more (inr whole) =
@@ -80,21 +80,21 @@ ended_again t m s t' p k e g more (inr whole) =
       quiet = e.quiet;
       full = e.full + 1;
       all = omega (arith, e.all);
-      took = omega (arith, e.took, calls, received, whole.0);
+      count_receive = omega (arith, e.count_receive, calls, received, whole.0);
       eight = omega (arith, e.eight, received, whole.1);
     }
 
 -- one more try, which was cut short
 ended_cut : (t m s t' : Trace) (p : Peer × Frame) (k failed : ℕ) → Ended t m k 0 0 → IsAfterFrame m s p → s.received ≤ t'.received → TookAllBut s t' failed
     → Ended t t' (k + 1) 1 failed
-ended_cut t m s t' p k failed e g more took =
+ended_cut t m s t' p k failed e g more count_receive =
     let calls : s.calls ≡ m.calls + 1 = ap (λ (x : Trace). x.calls) g.after in
     let received : s.received ≡ m.received = ap (λ (x : Trace). x.received) g.after in
     record {
       quiet = e.quiet;
       full = e.full;
       all = omega (arith, e.all);
-      took = omega (arith, e.took, calls, received, took);
+      count_receive = omega (arith, e.count_receive, calls, received, count_receive);
       eight = omega (arith, e.eight, received, more);
     }
 
@@ -135,7 +135,7 @@ stopped_unsent t m t' p k tries Send tried few refused =
           quiet = ended.quiet;
           full = ended.full;
           all = ended.all;
-          took = omega (arith, ended.took, calls, received);
+          count_receive = omega (arith, ended.count_receive, calls, received);
           eight = omega (arith, ended.eight, received);
         },
       );
@@ -158,7 +158,7 @@ is_cut Bind other another = absurd (other refl)
 -- a try in which a receive was refused
 stopped_sent : (t m s t' : Trace) (p : Peer × Frame) (k tries : ℕ) (fault : LinkFault) → Tried t m p k 0 → k < tries → IsAfterFrame m s p → Heard s t' (failures_of fault) → fault ≢ Bind → fault ≢ Send
     → TookAllBut s t' (failures_of fault) → Stopped t t' p tries fault
-stopped_sent t m s t' p k tries fault tried few g h other another took =
+stopped_sent t m s t' p k tries fault tried few g h other another count_receive =
     let calls : s.calls ≡ m.calls + 1 = ap (λ (x : Trace). x.calls) g.after in
     let failures : s.failures ≡ m.failures = ap (λ (x : Trace). x.failures) g.after in
     record {
@@ -168,7 +168,7 @@ stopped_sent t m s t' p k tries fault tried few g h other another took =
         omega arith,
         is_cut fault other another,
         sent_heard t s t' p (k + 1) (failures_of fault) (sent_again t m s p k tried.sent g) h,
-        ended_cut t m s t' p k (failures_of fault) tried.ended g h.received took,
+        ended_cut t m s t' p k (failures_of fault) tried.ended g h.received count_receive,
       );
       most = omega (arith, tried.most, calls, h.most);
       failures = omega (arith, h.failures, failures, tried.failures);
@@ -201,7 +201,7 @@ accepted_call c c1 c' t m t' to body tries k frame q reply free own asks client 
     let heard : Heard found.0 t' 0 = found.2.0 in
     let pends : Some (next_request c body) ≡ Some (request_of reply) = sym (ap (λ (x : ClientState). x.pending) client) ∙ found.2.2 in
     let P : Request → Type 0 = λ x. Asks frame x in (
-      record { submitted = sym free; client = found.2.3 ∙ ap settled client },
+      record { submitted = sym free; client = found.2.3 ∙ ap without_pending client },
       sym (same_Some _ _ pends),
       found.2.4,
       frame,
@@ -227,16 +227,16 @@ still_unanswered c1 c' t m t' p q pends before found =
 -- the link refused a call
 pub stopped_call : (c c1 c2 c' : ClientState) (t m t' : Trace) (to : Peer) (body : Body) (tries k : ℕ) (frame : Frame) (q : Request) (fault : LinkFault)
     → None ≡ submit_fault c → q ≡ next_request c body → Asks frame q → c1 ≡ after_submit c body → Tried t m (to, frame) k 0 → k < tries
-    → Attempts c1 c2 m t' (to, frame) (Err fault) → c' ≡ settled c2 → Calls c c' t t' to body tries (Err (Link q fault))
+    → Attempts c1 c2 m t' (to, frame) (Err fault) → c' ≡ without_pending c2 → Calls c c' t t' to body tries (Err (Link q fault))
 stopped_call c c1 c2 c' t m t' to body tries k frame q fault free own asks client tried few (inl unsent) given_up = (
-  record { submitted = sym free; client = given_up ∙ ap settled (unsent.1 ∙ client) },
+  record { submitted = sym free; client = given_up ∙ ap without_pending (unsent.1 ∙ client) },
   own,
   frame,
   asks,
   stopped_unsent t m t' (to, frame) k tries fault tried few unsent.0,
 )
 stopped_call c c1 c2 c' t m t' to body tries k frame q fault free own asks client tried few (inr sent) given_up = (
-  record { submitted = sym free; client = given_up ∙ ap settled (sent.2.1 ∙ client) },
+  record { submitted = sym free; client = given_up ∙ ap without_pending (sent.2.1 ∙ client) },
   own,
   frame,
   asks,
@@ -246,10 +246,10 @@ stopped_call c c1 c2 c' t m t' to body tries k frame q fault free own asks clien
 -- no try found a reply
 pub gave_up_call : (c c1 c' : ClientState) (t t' : Trace) (to : Peer) (body : Body) (tries k : ℕ) (frame : Frame) (q : Request)
     → None ≡ submit_fault c → q ≡ next_request c body → Asks frame q → c1 ≡ after_submit c body → Tried t t' (to, frame) k 0 → k ≡ tries
-    → IsUnanswered t t' (Some (next_request c body)) → c' ≡ settled c1 → Calls c c' t t' to body tries (Err (GaveUp q))
+    → IsUnanswered t t' (Some (next_request c body)) → c' ≡ without_pending c1 → Calls c c' t t' to body tries (Err (GaveUp q))
 gave_up_call c c1 c' t t' to body tries k frame q free own asks client tried all unanswered given_up =
     let P : ℕ → Type 0 = λ n. Tried t t' (to, frame) n 0 in (
-      record { submitted = sym free; client = given_up ∙ ap settled client },
+      record { submitted = sym free; client = given_up ∙ ap without_pending client },
       own,
       last_is unanswered,
       frame,

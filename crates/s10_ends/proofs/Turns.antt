@@ -8,7 +8,7 @@ use Rattle.s10_link.specs.declared.link_fault.LinkFault.{LinkFault}
 use Rattle.s10_link.specs.Trace.{after_call, after_datagram}
 use Rattle.s10_link.specs.Link.{Receives}
 use Rattle.s10_ends.specs.declared.answer.Answer.{Answer}
-use Rattle.s10_ends.specs.declared.taken.Taken.{Taken}
+use Rattle.s10_ends.specs.declared.exchange.Exchange.{Exchange}
 use Rattle.s10_ends.specs.Turn.{Takes}
 
 -- an error that is passed on
@@ -28,9 +28,9 @@ pub quiet_is : (old new : Trace) (o : Option (Peer × Packet)) → Receives old 
 quiet_is old new o received is = let P : Option (Peer × Packet) → Type 0 = λ x. Receives old new (Ok x) in subst P is received
 
 -- and one that failed
-pub failed_take : {B : Type 0} (Handled : B → B → List ℕ → Answer → Type 0) (old new : Trace) (book : B) (fault : LinkFault) (r : Result (Option Taken) LinkFault)
+pub failed_take : {B : Type 0} (Handled : B → B → List ℕ → Answer → Type 0) (old new : Trace) (book : B) (fault : LinkFault) (r : Result (Option Exchange) LinkFault)
     → Receives old new (Err fault) → IsErrAnd r (λ e. e ≡ fault) → Takes Handled (old, book) (new, book) r
 failed_take {B} Handled old new book fault r received passed =
-    let P : Result (Option Taken) LinkFault → Type 0 = λ x. Takes Handled (old, book) (new, book) x in
+    let P : Result (Option Exchange) LinkFault → Type 0 = λ x. Takes Handled (old, book) (new, book) x in
     let here : Takes Handled (old, book) (new, book) (Err fault) = (received, refl) in
     subst P (sym (same_error r fault passed)) here

@@ -13,11 +13,11 @@ use Rattle.s10_wire.specs.declared.outcome.Outcome.{Outcome}
 use Rattle.s10_history.specs.declared.entry.Entry.{Entry}
 use Rattle.s10_book.specs.declared.book_fault.BookFault.TheVariants.{Full}
 use Rattle.s10_history.specs.Settings.{Terms}
-use Rattle.s10_history.specs.History.{has_key, entry_with_key}
+use Rattle.s10_history.specs.History.{has_key, find_entry}
 use Rattle.s10_book.specs.Once.{same_key, first_arrivals, applied, applied_once}
 use Rattle.s10_ends.specs.declared.answer.Answer.{Answer}
 use Rattle.s10_ends.specs.declared.answer.Answer.TheVariants.{Reply, Dropped, Faulted}
-use Rattle.s10_ends.specs.Served.{Dated, AreAsked, IsOnce, Gives, IsOwed, IsAnswered, IsFullFor, is_faulted, not_faulted, Served}
+use Rattle.s10_ends.specs.Served.{Dated, AreAsked, IsOnce, GivesOutcome, IsOwed, IsAnswered, IsFullFor, is_faulted, not_faulted, Served}
 use Rattle.s10_ends.specs.Served.AreAsked.{none, nothing, request}
 
 requests : List Entry → List Request
@@ -69,7 +69,7 @@ grows : (n : ℕ) (h : List Entry) (ps : List (Request × ℕ)) → (more : List
 grows n h [] = ([], sym (append-nil h))
 grows n h (p ∷ ps) = let rest = grows n (applied n h p) ps in (_, rest.1 ∙ append_assoc h _ rest.0)
 
-kept_at : (k : Option Entry) (more : List Entry) (q : Request) (o : Outcome) → Gives k q o → Gives (option_or k (find (has_key q.customer q.number) more)) q o
+kept_at : (k : Option Entry) (more : List Entry) (q : Request) (o : Outcome) → GivesOutcome k q o → GivesOutcome (option_or k (find (has_key q.customer q.number) more)) q o
 kept_at None more q o a = absurd a
 kept_at (Some e) more q o a = a
 
@@ -77,7 +77,7 @@ kept_at (Some e) more q o a = a
 pub IsOwed-more : (h more : List Entry) (b f : List ℕ) → IsOwed h b f → IsOwed (h ++ more) b f
 IsOwed-more h more b f owed =
     let q = owed.0 in
-    (q, owed.1, owed.2, rw (find-append (has_key q.customer q.number) h more) (kept_at (entry_with_key h q.customer q.number) more q owed.1 owed.3), owed.4)
+    (q, owed.1, owed.2, rw (find-append (has_key q.customer q.number) h more) (kept_at (find_entry h q.customer q.number) more q owed.1 owed.3), owed.4)
 
 pub IsAnswered-more : (h more : List Entry) (b : List ℕ) (a : Answer) → IsAnswered h b a → IsAnswered (h ++ more) b a
 IsAnswered-more h more b (Reply frame) is = IsOwed-more h more b _ is

@@ -16,11 +16,11 @@ use Rattle.s10_link.specs.Trace.{IsAfterFrame}
 use Rattle.s10_link.specs.Link.{Sends}
 use Rattle.s10_ends.specs.declared.call_fault.CallFault.{CallFault}
 use Rattle.s10_ends.specs.declared.call_fault.CallFault.TheVariants.{Submit, GaveUp, Link}
-use Rattle.s10_ends.specs.Client.{ClientState, next_request, after_submit, submit_fault, settled}
+use Rattle.s10_ends.specs.Client.{ClientState, next_request, after_submit, submit_fault, without_pending}
 
 -- the datagram taken last is the reply
-abbrev pub IsTakenReply : Trace → Reply → Type 0
-IsTakenReply t reply =
+abbrev pub IsLastReply : Trace → Reply → Type 0
+IsLastReply t reply =
     (from : Peer) × (packet : Packet) × (t.taken ≡ Some (from, packet)) × Replies packet (request_of reply) (outcome_of reply)
 
 -- the datagram taken last is no reply to the request
@@ -44,7 +44,7 @@ pub record Ended (old new : Trace) (sends cut failed : ℕ) : Type 0 where
   pub quiet : ℕ
   pub full : ℕ
   pub all : quiet + full + cut ≡ sends
-  pub took : TookAllBut old new (sends + quiet + failed)
+  pub count_receive : TookAllBut old new (sends + quiet + failed)
   pub eight : old.received + 8 * full ≤ new.received
 
 -- how many tries whose frame was sent the fault of a link cuts short
@@ -77,12 +77,12 @@ pub record Stopped (old new : Trace) (p : Peer × Frame) (tries : ℕ) (fault : 
 -- the request was submitted and is not pending any more; its number stays spent
 pub record IsOver (c c' : ClientState) (body : Body) : Type 0 where
   pub submitted : submit_fault c ≡ None
-  pub client : c' ≡ settled (after_submit c body)
+  pub client : c' ≡ without_pending (after_submit c body)
 
 -- what a call does to the client and to the link's trace, by its result
 abbrev pub Calls : ClientState → ClientState → Trace → Trace → Peer → Body → ℕ → Result Reply CallFault → Type 0
 Calls c c' t t' to body tries (Ok reply) =
-    IsOver c c' body × (request_of reply ≡ next_request c body) × IsTakenReply t' reply
+    IsOver c c' body × (request_of reply ≡ next_request c body) × IsLastReply t' reply
     × (frame : Frame) × Asks frame (next_request c body)
     × (n : ℕ) × (1 ≤ n) × (n ≤ tries) × Tried t t' (to, frame) n 1
 Calls c c' t t' to body tries (Err (Submit fault)) = (submit_fault c ≡ Some fault) × (c' ≡ c) × (t' ≡ t)
@@ -115,7 +115,7 @@ IsUnanswered old new pending =
 -- what the receives of one try do
 abbrev pub Listens : ClientState → ClientState → Trace → Trace → Result (Option Reply) LinkFault → Type 0
 Listens c c' t t' (Ok (Some reply)) =
-    Heard t t' 0 × (t.calls < t'.calls) × (c.pending ≡ Some (request_of reply)) × (c' ≡ settled c) × IsTakenReply t' reply × TookAllBut t t' 0
+    Heard t t' 0 × (t.calls < t'.calls) × (c.pending ≡ Some (request_of reply)) × (c' ≡ without_pending c) × IsLastReply t' reply × TookAllBut t t' 0
 Listens c c' t t' (Ok None) = Heard t t' 0 × (t.calls < t'.calls) × (c' ≡ c) × IsUnanswered t t' c.pending × EndsTry t t'
 Listens c c' t t' (Err fault) = Heard t t' (failures_of fault) × (c' ≡ c) × (fault ≢ Bind) × (fault ≢ Send) × TookAllBut t t' (failures_of fault)
 

@@ -46,8 +46,8 @@ abbrev pub submit_fault : ClientState → Option SubmitFault
 submit_fault c = if is_some c.pending then Some Busy else if nat_lt c.last (next_number c) then Some NumbersSpent else None
 
 -- nothing is pending any more; the numbers stay taken
-abbrev pub settled : ClientState → ClientState
-settled c = record { customer = c.customer; first = c.first; last = c.last; taken = c.taken; pending = None }
+abbrev pub without_pending : ClientState → ClientState
+without_pending c = record { customer = c.customer; first = c.first; last = c.last; taken = c.taken; pending = None }
 
 -- what is pending is the customer's, with the number taken last
 abbrev pub IsLatest : ClientState → Request → Type 0
@@ -79,4 +79,4 @@ abbrev pub ClientReceives : ClientState → List ℕ → Received → ClientStat
 ClientReceives c b (Malformed fault) c' = ¬ (IsReply b) × IsFirstRefusalOfReply b fault × (c' ≡ c)
 ClientReceives c b Idle c' = IsReply b × (c.pending ≡ None) × (c' ≡ c)
 ClientReceives c b NotMine c' = (q p : Request) × (o : Outcome) × Replies b q o × (c.pending ≡ Some p) × (p ≢ q) × (c' ≡ c)
-ClientReceives c b (Accepted reply) c' = IsOwnReply c b (request_of reply) (outcome_of reply) × (c' ≡ settled c)
+ClientReceives c b (Accepted reply) c' = IsOwnReply c b (request_of reply) (outcome_of reply) × (c' ≡ without_pending c)

@@ -4,7 +4,7 @@ pub mod Served
 pub mod Respond
 pub mod Runs
 pub mod Turn
-pub mod Round
+pub mod Batch
 pub mod NearLink
 pub mod Calls
 pub mod UdpLink

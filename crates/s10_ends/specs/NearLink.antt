@@ -12,7 +12,7 @@ use Rattle.s10_ends.specs.declared.near_link.NearLink.{NearLink}
 use Rattle.s10_ends.specs.Served.{Dated, Served}
 use Rattle.s10_ends.specs.Server.{book_of}
 use Rattle.s10_ends.specs.Turn.{Turn}
-use Rattle.s10_ends.specs.Round.{ServesRound}
+use Rattle.s10_ends.specs.Batch.{ServesBatch}
 
 -- datagrams that came on the day were served, from the history h to the history h'
 pub record ServedOn (day : ℕ) (h : List Entry) (t : Terms) (h' : List Entry) : Type 0 where
@@ -21,12 +21,12 @@ pub record ServedOn (day : ℕ) (h : List Entry) (t : Terms) (h' : List Entry) :
   pub days : All (λ d. d.1 ≡ day) deliveries
   pub served : Served h t deliveries answers h'
 
-module _ {B F N : Type 0} (faults : B → Faults) (honest : B → Type 0) (terms : B → Terms) (history settled : B → List Entry) (far : F → Trace) (near : N → Trace) where
+module _ {B F N : Type 0} (faults : B → Faults) (honest : B → Type 0) (terms : B → Terms) (history committed : B → List Entry) (far : F → Trace) (near : N → Trace) where
   -- before the receive the server had a turn on the far end, on the day
   abbrev pub IsNearReceive : NearLink B F N → NearLink B F N → Type 0
   IsNearReceive old new =
       (turn : Turn) × (came : ReceiveResult)
-      × ServesRound faults honest terms history settled old.day 1 (far old.far, book_of old.server) (far new.far, book_of new.server) (turn ∷ [])
+      × ServesBatch faults honest terms history committed old.day 1 (far old.far, book_of old.server) (far new.far, book_of new.server) (turn ∷ [])
       × Receives (near old.near) (near new.near) came
 
   -- the server was left alone

@@ -47,7 +47,7 @@ pub record CountsAll (answered : List Answer) (before after : Faults) : Type 0 w
 
 -- what a history keeps for good: it is legal, no identifier is issued twice within the interval, each is its customer's own,
 -- and none lies in two ranges
-pub record IsKept (h : List Entry) (t : Terms) : Type 0 where
+pub record KeepsPromises (h : List Entry) (t : Terms) : Type 0 where
   pub legal : IsLegal h t
   pub spaced : IsSpaced h t.interval
   pub own : IsOwn h

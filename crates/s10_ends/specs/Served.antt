@@ -9,7 +9,7 @@ use Rattle.s10_wire.specs.WireFault.{IsFirstRefusalOfRequest}
 use Rattle.s10_history.specs.declared.entry.Entry.{Entry}
 use Rattle.s10_book.specs.declared.book_fault.BookFault.TheVariants.{Full}
 use Rattle.s10_history.specs.Settings.{Terms}
-use Rattle.s10_history.specs.History.{entry_with_key}
+use Rattle.s10_history.specs.History.{find_entry}
 use Rattle.s10_book.specs.Once.{applied_once}
 use Rattle.s10_book.specs.declared.faults.Faults.{Faults}
 use Rattle.s10_book.specs.BookFault.{CountsFault}
@@ -37,17 +37,17 @@ abbrev pub IsOnce : List Entry → List Dated → ℕ → List Entry → Type 0
 IsOnce h ds interval h' = (asked : List (Request × ℕ)) × AreAsked ds asked × (h' ≡ applied_once h asked interval)
 
 -- the outcome that the call kept under its key gives the request: its own, or NumberReused where that was another request
-abbrev pub Gives : Option Entry → Request → Outcome → Type 0
-Gives None q o = ⊥
-Gives (Some e) q o = (e.request ≡ q → o ≡ e.outcome) × (e.request ≢ q → o ≡ NumberReused)
+abbrev pub GivesOutcome : Option Entry → Request → Outcome → Type 0
+GivesOutcome None q o = ⊥
+GivesOutcome (Some e) q o = (e.request ≡ q → o ≡ e.outcome) × (e.request ≢ q → o ≡ NumberReused)
 
 -- the bytes f are the reply that the history owes to the bytes b
 abbrev pub IsOwed : List Entry → List ℕ → List ℕ → Type 0
-IsOwed h b f = (q : Request) × (o : Outcome) × Asks b q × Gives (entry_with_key h q.customer q.number) q o × Replies f q o
+IsOwed h b f = (q : Request) × (o : Outcome) × Asks b q × GivesOutcome (find_entry h q.customer q.number) q o × Replies f q o
 
 -- the bytes f are the reply to a request, with the outcome that the calls give it
-abbrev pub StandsIn : List Entry → List ℕ → Type 0
-StandsIn h f = (q : Request) × (o : Outcome) × Gives (entry_with_key h q.customer q.number) q o × Replies f q o
+abbrev pub IsReplyIn : List Entry → List ℕ → Type 0
+IsReplyIn h f = (q : Request) × (o : Outcome) × GivesOutcome (find_entry h q.customer q.number) q o × Replies f q o
 
 -- the answer to bytes, by the history in the end: bytes that ask nothing are dropped with their first refusal,
 -- and bytes that ask something get the reply that is owed, unless the book failed or was full
@@ -58,7 +58,7 @@ IsAnswered h b (Faulted fault) = AskSomething b
 
 -- there are as many calls as the limit allows, and none with the key of what the bytes ask
 abbrev pub IsFullFor : List Entry → Terms → Request → Type 0
-IsFullFor h t q = (length h ≡ t.limit) × (entry_with_key h q.customer q.number ≡ None)
+IsFullFor h t q = (length h ≡ t.limit) × (find_entry h q.customer q.number ≡ None)
 
 abbrev pub is_faulted : Answer → Bool
 is_faulted (Faulted fault) = true

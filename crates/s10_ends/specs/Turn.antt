@@ -13,13 +13,13 @@ use Rattle.s10_wire.specs.WireFault.{IsFirstRefusalOfRequest}
 use Rattle.s10_history.specs.declared.entry.Entry.{Entry}
 use Rattle.s10_book.specs.declared.book_fault.BookFault.{BookFault}
 use Rattle.s10_book.specs.declared.faults.Faults.{Faults}
-use Rattle.s10_book.specs.BookFault.{Counts}
-use Rattle.s10_book.specs.Book.{Keeps}
-use Rattle.s10_book.specs.Settle.{IsSettledCall}
+use Rattle.s10_book.specs.BookFault.{CountsResult}
+use Rattle.s10_book.specs.Book.{Unchanged}
+use Rattle.s10_book.specs.GroupCommit.{IsCommittedCall}
 use Rattle.s10_history.specs.Settings.{Terms}
 use Rattle.s10_ends.specs.declared.answer.Answer.{Answer}
 use Rattle.s10_ends.specs.declared.answer.Answer.TheVariants.{Reply, Dropped, Faulted}
-use Rattle.s10_ends.specs.declared.taken.Taken.{Taken}
+use Rattle.s10_ends.specs.declared.exchange.Exchange.{Exchange}
 use Rattle.s10_ends.specs.declared.server_turn.ServerTurn.{ServerTurn}
 use Rattle.s10_ends.specs.declared.server_turn.ServerTurn.TheVariants as turns
 use Rattle.s10_ends.specs.Served.{AskNothing, CountsAnswer, UnlessReply, Served}
@@ -39,14 +39,14 @@ pub record Handles {B : Type 0} (faults : B → Faults) (honest : B → Type 0) 
   pub unchanged : honest new → UnlessReply answer (history new ≡ history old)
 
 -- what settling its calls makes of the server's book
-pub record Settles {B : Type 0} (faults : B → Faults) (honest : B → Type 0) (terms : B → Terms) (history settled : B → List Entry) (old new : B) (result : Result (Unit {0}) BookFault) : Type 0 where
-  pub counts : Counts result (faults old) (faults new)
-  pub keeps : Keeps history terms honest old new
-  pub done : honest new → OnOk result (settled new ≡ history new)
-  pub left : honest new → OnErr result (settled new ≡ settled old)
+pub record Commits {B : Type 0} (faults : B → Faults) (honest : B → Type 0) (terms : B → Terms) (history committed : B → List Entry) (old new : B) (result : Result (Unit {0}) BookFault) : Type 0 where
+  pub counts : CountsResult result (faults old) (faults new)
+  pub unchanged : Unchanged history terms honest old new
+  pub done : honest new → OnOk result (committed new ≡ history new)
+  pub left : honest new → OnErr result (committed new ≡ committed old)
 
 -- a receive, and what the server made of the datagram that came: from a link's trace and the server's book to those behind it
-abbrev pub Takes : {B : Type 0} → (B → B → List ℕ → Answer → Type 0) → Trace × B → Trace × B → Result (Option Taken) LinkFault → Type 0
+abbrev pub Takes : {B : Type 0} → (B → B → List ℕ → Answer → Type 0) → Trace × B → Trace × B → Result (Option Exchange) LinkFault → Type 0
 Takes Handled old new (Ok None) = (new.0 ≡ after_call old.0) × (new.1 ≡ old.1)
 Takes Handled old new (Ok (Some taken)) = (new.0 ≡ after_datagram old.0 (taken.from, taken.packet)) × Handled old.1 new.1 taken.packet taken.answer
 Takes Handled old new (Err fault) = Receives old.0 new.0 (Err fault) × (new.1 ≡ old.1)
@@ -61,21 +61,21 @@ abbrev pub SendsReply : Trace → Trace → Peer → Frame → Turn → Type 0
 SendsReply old new to frame turn = (sent : SendResult) × Sends old new (to, frame) sent × (turn ≡ sent_turn to frame sent)
 
 -- a reply is held back from the peer
-abbrev pub HoldsBack : Trace → Trace → Peer → BookFault → Turn → Type 0
-HoldsBack old new to fault turn = (new ≡ old) × (turn ≡ Ok (turns.Unsettled to fault))
+abbrev pub WithholdsReply : Trace → Trace → Peer → BookFault → Turn → Type 0
+WithholdsReply old new to fault turn = (new ≡ old) × (turn ≡ Ok (turns.Uncommitted to fault))
 
 -- the settled calls have what the history has under the key of what the bytes ask
-abbrev pub AsksSettled : List Entry → List Entry → List ℕ → Type 0
-AsksSettled settled h b = (q : Request) × Asks b q × IsSettledCall settled h q.customer q.number
+abbrev pub AsksCommitted : List Entry → List Entry → List ℕ → Type 0
+AsksCommitted committed h b = (q : Request) × Asks b q × IsCommittedCall committed h q.customer q.number
 
-module _ (Honest : Type 0) (IsSettled : List ℕ → Type 0) where
+module _ (Honest : Type 0) (IsCommitted : List ℕ → Type 0) where
   -- a reply to bytes is sent once the calls are settled; where that failed it is sent if its own call is settled, and else held back
-  abbrev pub SendsSettled : Trace → Trace → Result (Unit {0}) BookFault → Peer → List ℕ → Frame → Turn → Type 0
-  SendsSettled old new (Ok _) to b frame turn = SendsReply old new to frame turn
-  SendsSettled old new (Err fault) to b frame turn = ((Honest → IsSettled b) × SendsReply old new to frame turn) ⊎ ((Honest → ¬ (IsSettled b)) × HoldsBack old new to fault turn)
+  abbrev pub SendsCommitted : Trace → Trace → Result (Unit {0}) BookFault → Peer → List ℕ → Frame → Turn → Type 0
+  SendsCommitted old new (Ok _) to b frame turn = SendsReply old new to frame turn
+  SendsCommitted old new (Err fault) to b frame turn = ((Honest → IsCommitted b) × SendsReply old new to frame turn) ⊎ ((Honest → ¬ (IsCommitted b)) × WithholdsReply old new to fault turn)
 
   -- what the peer of bytes gets, by what became of them, and of the settling
   abbrev pub Answers : Trace → Trace → Result (Unit {0}) BookFault → Peer → List ℕ → Answer → Turn → Type 0
-  Answers old new settling to b (Reply frame) turn = SendsSettled old new settling to b frame turn
-  Answers old new settling to b (Dropped fault) turn = (new ≡ old) × (turn ≡ Ok (turns.Dropped to fault))
-  Answers old new settling to b (Faulted fault) turn = (new ≡ old) × (turn ≡ Ok (turns.Faulted to fault))
+  Answers old new commit_result to b (Reply frame) turn = SendsCommitted old new commit_result to b frame turn
+  Answers old new commit_result to b (Dropped fault) turn = (new ≡ old) × (turn ≡ Ok (turns.Dropped to fault))
+  Answers old new commit_result to b (Faulted fault) turn = (new ≡ old) × (turn ≡ Ok (turns.Faulted to fault))

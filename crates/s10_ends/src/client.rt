@@ -2,7 +2,7 @@
 
 ghost use Rattle.std.specs.Prelude.{◌≡◌, ◌≤◌, ◌↔◌, IsTrue, IfOk, IfSome, OnErr};
 ghost use Rattle.std.specs.Result.{OkIff, result_err};
-ghost use Rattle.s10_ends.specs.Client.{ClientState, IsNew, IsClient, IsLatest, new_client, next_request, after_submit, submit_fault, settled, AsksPending, ClientReceives};
+ghost use Rattle.s10_ends.specs.Client.{ClientState, IsNew, IsClient, IsLatest, new_client, next_request, after_submit, submit_fault, without_pending, AsksPending, ClientReceives};
 
 use crate::bad_numbers::BadNumbers;
 use crate::received::Received;
@@ -131,7 +131,7 @@ impl Client {
     /// stays spent.
     pub fn give_up(&mut self) -> Option<Request>
         ensures pending { result ≡ self.old.pending }
-        ensures settled { self.new ≡ settled self.old }
+        ensures without_pending { self.new ≡ without_pending self.old }
     {
         self.pending.take()
     }

@@ -2,35 +2,35 @@
 #![tactic(auto)]
 
 mod answer;
-mod answering;
 mod bad_numbers;
+mod batch;
 mod call_fault;
 mod calls;
 mod client;
 mod delivery;
+mod exchange;
 mod near_link;
 mod received;
-mod round;
+mod receiving;
+mod replying;
 mod server;
 mod server_turn;
 mod submit_fault;
-mod taken;
-mod taking;
 mod turn;
 mod udp_link;
 
 pub use answer::Answer;
 pub use bad_numbers::BadNumbers;
+pub use batch::serve_batch;
 pub use call_fault::CallFault;
 pub use calls::call;
 pub use client::Client;
 pub use delivery::Delivery;
+pub use exchange::Exchange;
 pub use near_link::NearLink;
 pub use received::Received;
-pub use round::serve_round;
 pub use server::Server;
 pub use server_turn::{ServerTurn, Turn};
 pub use submit_fault::SubmitFault;
-pub use taken::Taken;
 pub use turn::serve_one;
 pub use udp_link::UdpLink;

@@ -4,7 +4,7 @@ ghost use Rattle.std.specs.Prelude.{◌≡◌, ◌∷◌, []};
 
 use crate::server::Server;
 use crate::turn::serve_one;
-use s10_book::Settle;
+use s10_book::GroupCommit;
 use s10_link::{Link, LinkFault, Packet, Peer, Trace};
 use s10_wire::Frame;
 
@@ -18,14 +18,14 @@ pub struct NearLink<B, F, N> {
     pub day: u32,
 }
 
-impl<B: Settle, F: Link, N: Link> NearLink<B, F, N> {
+impl<B: GroupCommit, F: Link, N: Link> NearLink<B, F, N> {
     ghost use Rattle.s10_ends.specs.Server.{book_of};
     ghost use Rattle.s10_ends.specs.Turn.{Turn};
-    ghost use Rattle.s10_ends.specs.Round.{ServesRound};
+    ghost use Rattle.s10_ends.specs.Batch.{ServesBatch};
 
     // The server's turn on the far end.
     fn serve(&mut self)
-        ensures turn { (turn : Turn) × ServesRound B.faults B.honest B.terms B.history B.settled self.old.day 1
+        ensures turn { (turn : Turn) × ServesBatch B.faults B.honest B.terms B.history B.committed self.old.day 1
             (F.trace_of self.old.far, book_of self.old.server) (F.trace_of self.new.far, book_of self.new.server) (turn ∷ []) }
         ensures day { self.new.day ≡ self.old.day }
         ensures near { self.new.near ≡ self.old.near }
@@ -34,47 +34,47 @@ impl<B: Settle, F: Link, N: Link> NearLink<B, F, N> {
     }
 }
 
-impl<B: Settle, F: Link, N: Link> Link for NearLink<B, F, N> {
+impl<B: GroupCommit, F: Link, N: Link> Link for NearLink<B, F, N> {
     ghost use Rattle.s10_link.specs.Link.{Receives, Sends};
     ghost use Rattle.s10_ends.specs.Server.{book_of};
     ghost use Rattle.s10_ends.specs.Turn.{Turn};
-    ghost use Rattle.s10_ends.specs.Round.{ServesRound};
+    ghost use Rattle.s10_ends.specs.Batch.{ServesBatch};
     ghost use Rattle.s10_ends.specs.NearLink.{IsNearStep};
 
     ghost trace_of = { λ link. N.trace_of link.near };
 
-    ghost step = { IsNearStep B.faults B.honest B.terms B.history B.settled F.trace_of N.trace_of };
+    ghost step = { IsNearStep B.faults B.honest B.terms B.history B.committed F.trace_of N.trace_of };
 
     fn receive(&mut self) -> Result<Option<(Peer, Packet)>, LinkFault>
         ensures trace { Receives (N.trace_of self.old.near) (N.trace_of self.new.near) result }
 
         // The server has one turn on the far end.
-        ensures turn { (turn : Turn) × ServesRound B.faults B.honest B.terms B.history B.settled self.old.day 1
+        ensures turn { (turn : Turn) × ServesBatch B.faults B.honest B.terms B.history B.committed self.old.day 1
             (F.trace_of self.old.far, book_of self.old.server) (F.trace_of self.new.far, book_of self.new.server) (turn ∷ []) }
         ensures day { self.new.day ≡ self.old.day }
-        ensures step { IsNearStep B.faults B.honest B.terms B.history B.settled F.trace_of N.trace_of self.old self.new }
+        ensures step { IsNearStep B.faults B.honest B.terms B.history B.committed F.trace_of N.trace_of self.old self.new }
     {
         self.serve();
         self.near.receive()
     }
 
-    fn receive_now(&mut self) -> Result<Option<(Peer, Packet)>, LinkFault>
+    fn try_receive(&mut self) -> Result<Option<(Peer, Packet)>, LinkFault>
         ensures trace { Receives (N.trace_of self.old.near) (N.trace_of self.new.near) result }
 
         // The server has one turn on the far end.
-        ensures turn { (turn : Turn) × ServesRound B.faults B.honest B.terms B.history B.settled self.old.day 1
+        ensures turn { (turn : Turn) × ServesBatch B.faults B.honest B.terms B.history B.committed self.old.day 1
             (F.trace_of self.old.far, book_of self.old.server) (F.trace_of self.new.far, book_of self.new.server) (turn ∷ []) }
         ensures day { self.new.day ≡ self.old.day }
-        ensures step { IsNearStep B.faults B.honest B.terms B.history B.settled F.trace_of N.trace_of self.old self.new }
+        ensures step { IsNearStep B.faults B.honest B.terms B.history B.committed F.trace_of N.trace_of self.old self.new }
     {
         self.serve();
-        self.near.receive_now()
+        self.near.try_receive()
     }
 
     fn send(&mut self, to: Peer, frame: &Frame) -> Result<(), LinkFault>
         ensures trace { Sends (N.trace_of self.old.near) (N.trace_of self.new.near) (to, frame.now) result }
         ensures same { self.new ≡ record self.old { near = self.new.near } }
-        ensures step { IsNearStep B.faults B.honest B.terms B.history B.settled F.trace_of N.trace_of self.old self.new }
+        ensures step { IsNearStep B.faults B.honest B.terms B.history B.committed F.trace_of N.trace_of self.old self.new }
     {
         self.near.send(to, frame)
     }

@@ -2,14 +2,14 @@
 
 ghost use Rattle.std.specs.Prelude.{◌≡◌, ◌∷◌, [], IfOk, OnErr, IsTrue, Ok, Err, None};
 ghost use Rattle.s10_wire.specs.Kind.{fits};
-ghost use Rattle.s10_history.specs.History.{entry_with_key};
+ghost use Rattle.s10_history.specs.History.{find_entry};
 ghost use Rattle.s10_book.specs.Once.{applied_once};
-ghost use Rattle.s10_ends.specs.Served.{Gives, IsFullFor};
+ghost use Rattle.s10_ends.specs.Served.{GivesOutcome, IsFullFor};
 ghost use Rattle.s10_ends.specs.Respond.{CountsFull};
 
 use crate::answer::Answer;
 use crate::delivery::Delivery;
-use s10_book::{Book, BookFault, Settle, decide};
+use s10_book::{Book, BookFault, GroupCommit, decide};
 use s10_history::Entry;
 use s10_wire::{Outcome, Reply, Request, decode_request, encode_reply, same_request};
 use std::alloc::{AllocError, Global};
@@ -20,7 +20,7 @@ fn respond<B: Book>(book: &mut B, request: &Request, day: u32) -> Result<Outcome
     ensures was_honest { B.honest book.new → B.honest book.old }
     ensures same_terms { B.honest book.new → B.terms book.new ≡ B.terms book.old }
     ensures applied { B.honest book.new → IfOk result (λ o. B.history book.new ≡ applied_once (B.history book.old) ((request.now, day) ∷ []) (B.terms book.old).interval) }
-    ensures owed { B.honest book.new → IfOk result (Gives (entry_with_key (B.history book.new) request.now.customer request.now.number) request.now) }
+    ensures owed { B.honest book.new → IfOk result (GivesOutcome (find_entry (B.history book.new) request.now.customer request.now.number) request.now) }
     ensures err { B.honest book.new → OnErr result (B.history book.new ≡ B.history book.old) }
     ensures full { B.honest book.new → result ≡ Err BookFault.Full → IsFullFor (B.history book.old) (B.terms book.old) request.now }
     ensures fits { IfOk result (λ o. IsTrue (fits request.now.body o)) }
@@ -37,12 +37,12 @@ fn respond<B: Book>(book: &mut B, request: &Request, day: u32) -> Result<Outcome
 
 // Executes a request whose key is new, and keeps it with its outcome.
 fn execute<B: Book>(book: &mut B, request: &Request, day: u32) -> Result<Outcome, BookFault>
-    requires { B.honest book.old → entry_with_key (B.history book.old) request.now.customer request.now.number ≡ None }
+    requires { B.honest book.old → find_entry (B.history book.old) request.now.customer request.now.number ≡ None }
     ensures faults { CountsFull result (B.faults book.old) (B.faults book.new) }
     ensures was_honest { B.honest book.new → B.honest book.old }
     ensures same_terms { B.honest book.new → B.terms book.new ≡ B.terms book.old }
     ensures applied { B.honest book.new → IfOk result (λ o. B.history book.new ≡ applied_once (B.history book.old) ((request.now, day) ∷ []) (B.terms book.old).interval) }
-    ensures owed { B.honest book.new → IfOk result (Gives (entry_with_key (B.history book.new) request.now.customer request.now.number) request.now) }
+    ensures owed { B.honest book.new → IfOk result (GivesOutcome (find_entry (B.history book.new) request.now.customer request.now.number) request.now) }
     ensures err { B.honest book.new → OnErr result (B.history book.new ≡ B.history book.old) }
     ensures full { B.honest book.new → result ≡ Err BookFault.Full → IsFullFor (B.history book.old) (B.terms book.old) request.now }
     ensures fits { IfOk result (λ o. IsTrue (fits request.now.body o)) }
@@ -72,7 +72,7 @@ impl<B: Book> Server<B> {
     ghost use Rattle.s10_wire.specs.WireFault.{IsFirstRefusalOfRequest};
     ghost use Rattle.s10_ends.specs.Server.{book_of};
     ghost use Rattle.s10_ends.specs.Served.{AskNothing, Served, UnlessReply, CountsAnswer};
-    ghost use Rattle.s10_ends.specs.Runs.{dated, CountsAll, IsKept, IsIssued};
+    ghost use Rattle.s10_ends.specs.Runs.{dated, CountsAll, KeepsPromises, IsIssued};
 
     /// A server that goes on with the history of a book.
     pub fn new(book: B) -> Server<B>
@@ -139,7 +139,7 @@ impl<B: Book> Server<B> {
         ensures served { B.honest (book_of self.new) → IfOk result (λ answers. Served (B.history (book_of self.old)) (B.terms (book_of self.old)) (map dated deliveries.now) answers.items (B.history (book_of self.new))) }
 
         // The history is legal, no identifier goes to two requests within the interval, each is its customer's own.
-        ensures kept { B.honest (book_of self.new) → IsKept (B.history (book_of self.new)) (B.terms (book_of self.new)) }
+        ensures kept { B.honest (book_of self.new) → KeepsPromises (B.history (book_of self.new)) (B.terms (book_of self.new)) }
 
         // Every identifier in a reply is spelled right, and was issued on the day in the reply to the request in it.
         ensures issued { B.honest (book_of self.new) → IfOk result (λ answers. All (IsIssued (B.history (book_of self.new))) answers.items) }
@@ -156,25 +156,25 @@ impl<B: Book> Server<B> {
     }
 }
 
-impl<B: Settle> Server<B> {
+impl<B: GroupCommit> Server<B> {
     ghost use Rattle.std.specs.Prelude.{◌↔◌, IsTrue};
     ghost use Rattle.s10_ends.specs.Server.{book_of};
-    ghost use Rattle.s10_ends.specs.Turn.{AsksSettled, Settles};
+    ghost use Rattle.s10_ends.specs.Turn.{AsksCommitted, Commits};
 
     /// Settles the calls of the book, so that their replies may be sent. A fault leaves the history as it was, and the next
     /// settling takes those calls too.
-    pub fn settle(&mut self) -> Result<(), BookFault>
-        ensures { Settles B.faults B.honest B.terms B.history B.settled (book_of self.old) (book_of self.new) result }
+    pub fn commit(&mut self) -> Result<(), BookFault>
+        ensures { Commits B.faults B.honest B.terms B.history B.committed (book_of self.old) (book_of self.new) result }
     {
-        self.book.settle()
+        self.book.commit()
     }
 
     /// Whether the bytes ask for a call that is settled, so that its reply may be sent though others could not be.
-    pub fn is_settled(&self, bytes: &[u8]) -> bool
-        ensures { B.honest (book_of self.now) → (IsTrue result ↔ AsksSettled (B.settled (book_of self.now)) (B.history (book_of self.now)) bytes.now) }
+    pub fn is_committed(&self, bytes: &[u8]) -> bool
+        ensures { B.honest (book_of self.now) → (IsTrue result ↔ AsksCommitted (B.committed (book_of self.now)) (B.history (book_of self.now)) bytes.now) }
     {
         match decode_request(bytes) {
-            Ok(request) => self.book.is_settled(request.customer, request.number),
+            Ok(request) => self.book.is_committed(request.customer, request.number),
             Err(_) => false,
         }
     }

@@ -13,7 +13,7 @@ pub enum ServerTurn {
     Faulted(Peer, BookFault),
     /// The call could not be settled, so its reply was not sent. The request may be handed in again, and gets its reply once
     /// the call is settled.
-    Unsettled(Peer, BookFault),
+    Uncommitted(Peer, BookFault),
     /// This frame was sent back to the peer.
     Replied(Peer, Frame),
 }

@@ -69,7 +69,7 @@ impl UdpLink {
     }
 
     // Counts what a receive came to.
-    fn took(
+    fn count_receive(
         &mut self,
         came: io::Result<Option<(Peer, Packet)>>,
     ) -> Result<Option<(Peer, Packet)>, LinkFault>
@@ -125,10 +125,10 @@ impl Link for UdpLink {
             return Err(LinkFault::Spent);
         }
         let came = self.next_datagram();
-        self.took(came)
+        self.count_receive(came)
     }
 
-    fn receive_now(&mut self) -> Result<Option<(Peer, Packet)>, LinkFault>
+    fn try_receive(&mut self) -> Result<Option<(Peer, Packet)>, LinkFault>
         ensures trace { Receives self.old.trace self.new.trace result }
         ensures step { self.new.at ≡ self.old.at }
     {
@@ -136,7 +136,7 @@ impl Link for UdpLink {
             return Err(LinkFault::Spent);
         }
         let came = self.waiting_datagram();
-        self.took(came)
+        self.count_receive(came)
     }
 
     fn send(&mut self, to: Peer, frame: &Frame) -> Result<(), LinkFault>

@@ -11,7 +11,7 @@ use Rattle.clap.specs.declared.builder.command.Command.TheViews.{out-Command as 
 use Rattle.clap.specs.declared.builder.value_parser.ValueParser.TheVariants.{Signed}
 use Rattle.clap.specs.declared.error.Error.{Error}
 use Rattle.clap.specs.declared.parser.matches.ArgMatches.{ArgMatches}
-use Rattle.s10_history.specs.declared.settings.TheConstants.{LONGEST_INTERVAL, GREATEST_LIMIT}
+use Rattle.s10_history.specs.declared.settings.TheConstants.{MAX_INTERVAL, MAX_LIMIT}
 
 -- a word in its place
 abbrev pub a_word : Text → Rule
@@ -48,10 +48,10 @@ abbrev pub a_number : Text → Rule
 a_number name = whole (a_text name)
 
 abbrev pub interval : Rule
-interval = between 1 LONGEST_INTERVAL (an_option (codes "interval"))
+interval = between 1 MAX_INTERVAL (an_option (codes "interval"))
 
 abbrev pub limit : Rule
-limit = between 1 GREATEST_LIMIT (an_option (codes "limit"))
+limit = between 1 MAX_LIMIT (an_option (codes "limit"))
 
 abbrev pub day : Rule
 day = whole (an_option (codes "day"))

@@ -53,18 +53,20 @@ fn program<'a>(alloc: Global) -> Command<'a>
     ensures { Reads result (record { top = top_shape; subs = [] }) }
 {
     let about = "Issue S10 identifiers of postal items, as RA473124829US, and check them";
-    explaining(demanding(named(alloc, "s10", about, STATUSES))).version(VERSION)
+    with_help_by_default(with_required_subcommand(named(alloc, "s10", about, STATUSES))).version(
+        VERSION,
+    )
 }
 
 // A command that asks for a subcommand.
-fn demanding<'a>(command: Command<'a>) -> Command<'a>
+fn with_required_subcommand<'a>(command: Command<'a>) -> Command<'a>
     ensures { fields_of result ≡ record (fields_of command.entry) { subcommand_required = true } }
 {
     command.subcommand_required(true)
 }
 
 // A command that explains itself where nothing is said.
-fn explaining<'a>(command: Command<'a>) -> Command<'a>
+fn with_help_by_default<'a>(command: Command<'a>) -> Command<'a>
     ensures { fields_of result ≡ record (fields_of command.entry) { arg_required_else_help = true } }
 {
     command.arg_required_else_help(true)

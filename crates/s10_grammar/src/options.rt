@@ -4,7 +4,7 @@ ghost use Rattle.s10_grammar.specs.Grammar.{Follows, a_number, a_text, an_option
 
 use crate::builders::{number_option, option, text_option};
 use clap::{Arg, value_parser};
-use s10_history::{GREATEST_LIMIT, LONGEST_INTERVAL};
+use s10_history::{MAX_INTERVAL, MAX_LIMIT};
 use std::alloc::Global;
 
 /// The file of a ledger.
@@ -29,7 +29,7 @@ pub fn interval_option<'a>(alloc: Global) -> Arg<'a>
         "DAYS",
         "The reuse interval: days before a serial number is issued again, 1 to 3650",
     )
-    .value_parser(value_parser!(u32).range(1..=LONGEST_INTERVAL as i64))
+    .value_parser(value_parser!(u32).range(1..=MAX_INTERVAL as i64))
 }
 
 /// The limit of a ledger.
@@ -42,7 +42,7 @@ pub fn limit_option<'a>(alloc: Global) -> Arg<'a>
         "N",
         "How many requests the ledger keeps at most, 1 to 1000000000",
     )
-    .value_parser(value_parser!(u32).range(1..=GREATEST_LIMIT as i64))
+    .value_parser(value_parser!(u32).range(1..=MAX_LIMIT as i64))
 }
 
 /// The address of the server that is asked.

@@ -14,13 +14,13 @@ pub last_or-push : {A : Type 0} (o : Option A) (xs : List A) (y : A) → last_or
 last_or-push o [] y = refl
 last_or-push o (x ∷ xs) y = last_or-push (Some x) xs y
 
-last-entry_with_key : {A : Type 0} (b : Bool) (xs : List A) (y : A) → last_or None (xs ++ cond b (y ∷ []) []) ≡ cond b (Some y) (last_or None xs)
-last-entry_with_key true xs y = last_or-push None xs y
-last-entry_with_key false xs y = ap (last_or None) (append-nil xs)
+last-find_entry : {A : Type 0} (b : Bool) (xs : List A) (y : A) → last_or None (xs ++ cond b (y ∷ []) []) ≡ cond b (Some y) (last_or None xs)
+last-find_entry true xs y = last_or-push None xs y
+last-find_entry false xs y = ap (last_or None) (append-nil xs)
 
 -- one more issue at the end
 pub last_issuance_of-push : (xs : List Issuance) (y : Issuance) (x : Id) → last_issuance_of (xs ++ y ∷ []) x ≡ cond (is_of x y) (Some y) (last_issuance_of xs x)
-last_issuance_of-push xs y x = ap (last_or None) (filter-append (is_of x) xs (y ∷ [])) ∙ last-entry_with_key (is_of x y) (filter (is_of x) xs) y
+last_issuance_of-push xs y x = ap (last_or None) (filter-append (is_of x) xs (y ∷ [])) ∙ last-find_entry (is_of x y) (filter (is_of x) xs) y
 
 pub last_issuance_of-more : (xs : List Issuance) (i : ℕ) (d : Issuance) (x : Id) → i < length xs → last_issuance_of (take (i + 1) xs) x ≡ cond (is_of x (get_or xs i d)) (Some (get_or xs i d)) (last_issuance_of (take i xs) x)
 last_issuance_of-more xs i d x h = ap (λ l. last_issuance_of l x) (take_more xs i d h) ∙ last_issuance_of-push (take i xs) (get_or xs i d) x

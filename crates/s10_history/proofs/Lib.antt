@@ -3,5 +3,5 @@ pub mod Issued
 pub mod Earliest
 pub mod Push
 pub mod Walking
-pub mod Behind
+pub mod After
 pub mod Counting

@@ -89,9 +89,9 @@ pub filter_none : {A : Type 0} (p : A → Bool) (xs : List A) → find p xs ≡ 
 filter_none p [] h = refl
 filter_none p (x ∷ xs) h = none_at (p x) x (find p xs) (filter p xs) h (filter_none p xs)
   where
-    none_at : {A : Type 0} (b : Bool) (x : A) (o : Option A) (entry_with_key : List A) → cond b (Some x) o ≡ None → (o ≡ None → entry_with_key ≡ []) → cond b (x ∷ entry_with_key) entry_with_key ≡ []
-    none_at true x o entry_with_key same rest = absurd (none-some x (sym same))
-    none_at false x o entry_with_key same rest = rest same
+    none_at : {A : Type 0} (b : Bool) (x : A) (o : Option A) (find_entry : List A) → cond b (Some x) o ≡ None → (o ≡ None → find_entry ≡ []) → cond b (x ∷ find_entry) find_entry ≡ []
+    none_at true x o find_entry same rest = absurd (none-some x (sym same))
+    none_at false x o find_entry same rest = rest same
 
 -- what is found passes
 pub found_passes : {A : Type 0} (p : A → Bool) (xs : List A) (x : A) → find p xs ≡ Some x → p x ≡ true

@@ -15,8 +15,8 @@ abbrev pub has_key : ℕ → ℕ → Entry → Bool
 has_key customer number e = (e.request.customer == customer) && (e.request.number == number)
 
 -- the kept call with that key
-abbrev pub entry_with_key : List Entry → ℕ → ℕ → Option Entry
-entry_with_key h customer number = find (has_key customer number) h
+abbrev pub find_entry : List Entry → ℕ → ℕ → Option Entry
+find_entry h customer number = find (has_key customer number) h
 
 -- kept call number at, counted from 1
 abbrev pub entry_at : List Entry → ℕ → Option Entry
@@ -59,8 +59,8 @@ is_held customer service country r =
     (r.holder == customer) && same_letters r.service service && same_letters r.country country
 
 -- whether the range is such a one, with a number above another
-abbrev pub is_held_above : ℕ → ℕ → ℕ × ℕ → ℕ × ℕ → Range → Bool
-is_held_above after customer service country r = nat_lt after r.num && is_held customer service country r
+abbrev pub is_held_after : ℕ → ℕ → ℕ × ℕ → ℕ × ℕ → Range → Bool
+is_held_after after customer service country r = nat_lt after r.num && is_held customer service country r
 
 -- whether a call with this body and this outcome is a Done Withdraw of the range of that number
 abbrev pub withdraws : ℕ → Body → Outcome → Bool
@@ -76,8 +76,8 @@ abbrev pub is_open : List Entry → ℕ → ℕ × ℕ → ℕ × ℕ → Range 
 is_open h customer service country r = is_held customer service country r && not (is_closed h r.num)
 
 -- whether the range is such a one, with a number above another
-abbrev pub is_open_above : List Entry → ℕ → ℕ → ℕ × ℕ → ℕ × ℕ → Range → Bool
-is_open_above h after customer service country r = nat_lt after r.num && is_open h customer service country r
+abbrev pub is_open_after : List Entry → ℕ → ℕ → ℕ × ℕ → ℕ × ℕ → Range → Bool
+is_open_after h after customer service country r = nat_lt after r.num && is_open h customer service country r
 
 -- whether the range has a serial in common with first to last of that service and country: neither ends before the
 -- other begins, and first to last is not empty (a range that a Grant made never is)

@@ -96,12 +96,12 @@ abbrev pub pick_of : List Issuance → Range → ℕ
 pick_of is r = unwrap_or (option_or (least_serial_unissued r is) (serial_issued_earliest r is)) r.first
 
 -- the serial that the range gives behind that one: the next, or its first behind its last
-abbrev pub serial_behind : Range → ℕ → ℕ
-serial_behind r serial = if serial == r.last then r.first else serial + 1
+abbrev pub serial_after : Range → ℕ → ℕ
+serial_after r serial = if serial == r.last then r.first else serial + 1
 
 -- the pick of a range behind an issue of the identifier: where it lies in the range, the serial behind its own
-abbrev pub pick_behind : Range → ℕ → Id → ℕ
-pick_behind r pick x = if lies_in r x then serial_behind r x.serial else pick
+abbrev pub pick_after : Range → ℕ → Id → ℕ
+pick_after r pick x = if lies_in r x then serial_after r x.serial else pick
 
 -- whether an identifier that was issued last on that day, or never, may be issued on the day
 abbrev pub is_free_since : ℕ → ℕ → Option ℕ → Bool
@@ -127,9 +127,9 @@ candidate_after_of h r issued =
     let serial = pick_of (with_picks r (issues_of h) issued) r in record { serial = serial; issue = last_issue_of h (id_at r serial) }
 
 -- the serial so many behind that one
-abbrev pub serials_behind : Range → ℕ → ℕ → ℕ
-serials_behind r serial zero = serial
-serials_behind r serial (suc count) = serial_behind r (serials_behind r serial count)
+abbrev pub serial_after_steps : Range → ℕ → ℕ → ℕ
+serial_after_steps r serial zero = serial
+serial_after_steps r serial (suc count) = serial_after r (serial_after_steps r serial count)
 
 -- how many serials the range has
 abbrev pub size_of : Range → ℕ

@@ -1,7 +1,7 @@
 //! Look-ups in the calls of a history.
 
 ghost use Rattle.std.specs.Prelude.{◌≡◌};
-ghost use Rattle.s10_history.specs.History.{entry_with_key, entry_at, withdraws as withdraws_of, is_closed};
+ghost use Rattle.s10_history.specs.History.{find_entry, entry_at, withdraws as withdraws_of, is_closed};
 ghost use Rattle.s10_history.specs.Issues.{voids, voided_after};
 
 use crate::entry::Entry;
@@ -9,8 +9,8 @@ use s10_core::Id;
 use s10_wire::{Body, Outcome};
 
 /// The call with that key, if there is one.
-pub fn kept_call(entries: &[Entry], customer: u32, number: u32) -> Option<Entry>
-    ensures { result ≡ entry_with_key entries.now customer number }
+pub fn find_in(entries: &[Entry], customer: u32, number: u32) -> Option<Entry>
+    ensures { result ≡ find_entry entries.now customer number }
 {
     entries
         .iter()
@@ -19,7 +19,7 @@ pub fn kept_call(entries: &[Entry], customer: u32, number: u32) -> Option<Entry>
 }
 
 /// Call number `at`, counted from 1, if there are so many.
-pub fn call_at(entries: &[Entry], at: u32) -> Option<Entry>
+pub fn entry_in(entries: &[Entry], at: u32) -> Option<Entry>
     ensures { result ≡ entry_at entries.now at }
 {
     if at == 0 {
@@ -38,7 +38,7 @@ fn withdraws(entry: &Entry, num: u32) -> bool
 }
 
 /// Whether the range of that number is closed: a Withdraw of it was done.
-pub fn is_closed_in(entries: &[Entry], num: u32) -> bool
+pub fn closed_in(entries: &[Entry], num: u32) -> bool
     ensures { result ≡ is_closed entries.now num }
 {
     entries.iter().any(|e| withdraws(e, num))

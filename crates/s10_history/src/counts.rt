@@ -5,9 +5,9 @@ ghost use Rattle.s10_history.specs.Issues.{issues_of, is_issued, id_at, serials,
 
 use crate::entry::Entry;
 use crate::issuance::Issuance;
-use crate::issues::{is_free, is_voided, last_state};
+use crate::issues::{is_free, is_voided, last_issue_in};
 use crate::range::Range;
-use crate::ranges::id_with;
+use crate::ranges::id_in_range;
 use crate::usage::Usage;
 
 /// The count of serials, and one more where the test passed.
@@ -37,8 +37,8 @@ pub fn usage_in(
         free: 0,
     };
     for value in range.first.value()..=range.last.value() {
-        let id = id_with(range, value);
-        let last = last_state(entries, issues, &id);
+        let id = id_in_range(range, value);
+        let last = last_issue_in(entries, issues, &id);
         usage.used = count_if(usage.used, last.is_some());
         usage.voided = count_if(usage.voided, is_voided(&last));
         usage.free = count_if(usage.free, is_free(&last, day, interval));

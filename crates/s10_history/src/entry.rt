@@ -35,7 +35,7 @@ impl Entry {
     pub fn issue(&self, arrival: u32, place: usize) -> Option<Issuance>
         ensures { result ≡ slice_get (issues_at arrival self.now) place }
     {
-        match self.carried(place) {
+        match self.issued_at(place) {
             None => None,
             Some((day, id)) => Some(Issuance {
                 id,
@@ -74,7 +74,7 @@ impl Entry {
     }
 
     // The day and the identifier of the issue at a place.
-    fn carried(&self, place: usize) -> Option<(u32, Id)>
+    fn issued_at(&self, place: usize) -> Option<(u32, Id)>
         ensures { result ≡ slice_get (carried_by self.now.outcome) place }
     {
         match self.outcome {

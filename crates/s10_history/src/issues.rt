@@ -16,7 +16,7 @@ fn is_issue_of(issue: &Issuance, id: &Id) -> bool
     issue.id == *id
 }
 
-fn latest_issue(issues: &[Issuance], id: &Id) -> Option<Issuance>
+fn last_issuance_in(issues: &[Issuance], id: &Id) -> Option<Issuance>
     ensures { result ≡ last_issuance_of issues.now id.now }
 {
     let mut found = None;
@@ -35,11 +35,11 @@ pub(crate) fn was_issued(issues: &[Issuance], id: &Id) -> bool
 }
 
 /// The last issue of an identifier, if it was ever issued: `issues` are those that the calls made.
-pub fn last_state(entries: &[Entry], issues: &[Issuance], id: &Id) -> Option<Issue>
+pub fn last_issue_in(entries: &[Entry], issues: &[Issuance], id: &Id) -> Option<Issue>
     requires { issues.now ≡ issues_of entries.now }
     ensures { result ≡ last_issue_of entries.now id.now }
 {
-    match latest_issue(issues, id) {
+    match last_issuance_in(issues, id) {
         None => None,
         Some(issue) => Some(Issue {
             day: issue.day,

@@ -1,32 +1,32 @@
 //! What a ledger holds: its settings and the history of its calls, with the ranges and the issues that these make.
 #![tactic(auto)]
 
-mod block;
 mod calls;
 mod candidate;
 mod counts;
 mod entry;
-mod holding;
+mod holder_key;
 mod issuance;
 mod issue;
 mod issues;
 mod range;
 mod ranges;
+mod serial_span;
 mod serials;
 mod settings;
 mod usage;
 
-pub use block::Block;
-pub use calls::{call_at, is_closed_in, kept_call};
+pub use calls::{closed_in, entry_in, find_in};
 pub use candidate::Candidate;
 pub use counts::{count_if, usage_in};
 pub use entry::Entry;
-pub use holding::Holding;
+pub use holder_key::HolderKey;
 pub use issuance::Issuance;
 pub use issue::Issue;
-pub use issues::{is_free, is_voided, last_state};
+pub use issues::{is_free, is_voided, last_issue_in};
 pub use range::Range;
-pub use ranges::{id_with, range_after, range_numbered, range_over};
-pub use serials::next_serial;
-pub use settings::{GREATEST_LIMIT, LONGEST_INTERVAL, Settings};
+pub use ranges::{covering_in, id_in_range, next_range_in, range_in};
+pub use serial_span::SerialSpan;
+pub use serials::candidate_in;
+pub use settings::{MAX_INTERVAL, MAX_LIMIT, Settings};
 pub use usage::Usage;

@@ -19,7 +19,7 @@ pub struct Range {
 
 impl Range {
     ghost use Rattle.std.specs.Prelude.{◌≡◌, ◌≤◌, ◌<◌};
-    ghost use Rattle.s10_history.specs.Issues.{size_of, serials_behind};
+    ghost use Rattle.s10_history.specs.Issues.{size_of, serial_after_steps};
     ghost use Rattle.s10_history.specs.History.{is_held, overlaps};
 
     /// How many serials it has.
@@ -31,8 +31,8 @@ impl Range {
 
     /// The serial that it gives so many behind one of its own, fewer than it has, going round: behind its last serial comes
     /// its first again.
-    pub fn serial_behind(&self, serial: Serial, count: u8) -> Serial
-        ensures { self.now.first ≤ serial → serial ≤ self.now.last → count < size_of self.now → result ≡ serials_behind self.now serial count }
+    pub fn serial_after(&self, serial: Serial, count: u8) -> Serial
+        ensures { self.now.first ≤ serial → serial ≤ self.now.last → count < size_of self.now → result ≡ serial_after_steps self.now serial count }
     {
         let next = serial.value() + u32::from(count);
         if next <= self.last.value() {

@@ -6,9 +6,9 @@ ghost use Rattle.s10_history.specs.Issues.{issues_of, candidate_of, serial_issue
 use crate::candidate::Candidate;
 use crate::entry::Entry;
 use crate::issuance::Issuance;
-use crate::issues::{last_state, was_issued};
+use crate::issues::{last_issue_in, was_issued};
 use crate::range::Range;
-use crate::ranges::{id_with, lies_within};
+use crate::ranges::{id_in_range, lies_within};
 use s10_core::Serial;
 
 // The least serial of the range that was never issued.
@@ -16,7 +16,7 @@ fn least_unissued(issues: &[Issuance], range: &Range) -> Option<Serial>
     ensures { result ≡ least_serial_unissued range.now issues.now }
 {
     for value in range.first.value()..=range.last.value() {
-        let id = id_with(range, value);
+        let id = id_in_range(range, value);
         if !was_issued(issues, &id) {
             return Some(id.serial);
         }
@@ -37,7 +37,7 @@ fn issued_earliest(issues: &[Issuance], range: &Range) -> Option<Serial>
 }
 
 /// The pick of a range with its last issue: the serial that the range gives next. `issues` are those that the calls made.
-pub fn next_serial(entries: &[Entry], issues: &[Issuance], range: &Range) -> Candidate
+pub fn candidate_in(entries: &[Entry], issues: &[Issuance], range: &Range) -> Candidate
     requires { issues.now ≡ issues_of entries.now }
     ensures { result ≡ candidate_of entries.now range.now }
 {
@@ -48,9 +48,9 @@ pub fn next_serial(entries: &[Entry], issues: &[Issuance], range: &Range) -> Can
             None => range.first,
         },
     };
-    let id = id_with(range, serial.value());
+    let id = id_in_range(range, serial.value());
     Candidate {
         serial,
-        issue: last_state(entries, issues, &id),
+        issue: last_issue_in(entries, issues, &id),
     }
 }

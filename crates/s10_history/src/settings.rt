@@ -1,14 +1,14 @@
 ghost use Rattle.std.specs.Prelude.{◌≡◌, ◌≤◌, SomeIff};
 ghost use Rattle.s10_history.specs.Settings.{Terms, AreTerms};
-ghost use Rattle.s10_history.specs.declared.settings.TheConstants.{LONGEST_INTERVAL, GREATEST_LIMIT};
+ghost use Rattle.s10_history.specs.declared.settings.TheConstants.{MAX_INTERVAL, MAX_LIMIT};
 
 use std::marker::Model;
 
 /// The longest reuse interval, in days.
-pub const LONGEST_INTERVAL: u32 = 3_650;
+pub const MAX_INTERVAL: u32 = 3_650;
 
 /// The greatest limit of a ledger, in calls.
-pub const GREATEST_LIMIT: u32 = 1_000_000_000;
+pub const MAX_LIMIT: u32 = 1_000_000_000;
 
 /// What a ledger is made with and keeps: the reuse interval in days, and how many calls it holds at most. The bounds of
 /// both are this project's choice.
@@ -31,11 +31,11 @@ impl Model for Settings {
 }
 
 impl Settings {
-    /// An interval of 1 to [`LONGEST_INTERVAL`] days and a limit of 1 to [`GREATEST_LIMIT`] calls; None for any other numbers.
+    /// An interval of 1 to [`MAX_INTERVAL`] days and a limit of 1 to [`MAX_LIMIT`] calls; None for any other numbers.
     pub fn new(interval: u32, limit: u32) -> Option<Settings>
         ensures { let terms : Terms = record { interval = interval; limit = limit } in SomeIff result (AreTerms terms) terms }
     {
-        if 1 <= interval && interval <= LONGEST_INTERVAL && 1 <= limit && limit <= GREATEST_LIMIT {
+        if 1 <= interval && interval <= MAX_INTERVAL && 1 <= limit && limit <= MAX_LIMIT {
             Some(Settings { interval, limit })
         } else {
             None
@@ -45,7 +45,7 @@ impl Settings {
     /// The reuse interval in days.
     pub fn interval(&self) -> u32
         ensures value { result ≡ self.now.interval }
-        ensures range { (1 ≤ result) × (result ≤ LONGEST_INTERVAL) }
+        ensures range { (1 ≤ result) × (result ≤ MAX_INTERVAL) }
     {
         self.interval
     }
@@ -53,7 +53,7 @@ impl Settings {
     /// How many calls the ledger keeps at most.
     pub fn limit(&self) -> u32
         ensures value { result ≡ self.now.limit }
-        ensures range { (1 ≤ result) × (result ≤ GREATEST_LIMIT) }
+        ensures range { (1 ≤ result) × (result ≤ MAX_LIMIT) }
     {
         self.limit
     }

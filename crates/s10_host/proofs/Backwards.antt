@@ -5,28 +5,28 @@ use Rattle.s10_history.specs.declared.entry.Entry.{Entry}
 use Rattle.s10_book.specs.declared.book_fault.BookFault.{BookFault}
 use Rattle.s10_book.specs.declared.faults.Faults.{Faults}
 use Rattle.s10_history.specs.Settings.{Terms}
-use Rattle.s10_ends.specs.declared.taken.Taken.{Taken}
-use Rattle.s10_ends.specs.Turn.{Turn, Handles, Settles}
-use Rattle.s10_ends.specs.Round.{TakesAll}
-use Rattle.s10_ends.specs.Round.TakesAll.{none, more}
-use Rattle.s10_jobs.specs.Serving.{IsRound, Lead}
+use Rattle.s10_ends.specs.declared.exchange.Exchange.{Exchange}
+use Rattle.s10_ends.specs.Turn.{Turn, Handles, Commits}
+use Rattle.s10_ends.specs.Batch.{ReceivesAll}
+use Rattle.s10_ends.specs.Batch.ReceivesAll.{none, more}
+use Rattle.s10_jobs.specs.Serving.{IsBatch, BatchesLead}
 
-module _ {B : Type 0} (faults : B → Faults) (honest : B → Type 0) (terms : B → Terms) (history settled : B → List Entry) (given : Option ℕ) where
-  before_taking : (day : ℕ) (old new : Trace × B) (taken : List Taken) → TakesAll (λ before after b answer. Handles faults honest terms history before after day b answer) old taken new → honest new.1 → honest old.1
+module _ {B : Type 0} (faults : B → Faults) (honest : B → Type 0) (terms : B → Terms) (history committed : B → List Entry) (given : Option ℕ) where
+  before_taking : (day : ℕ) (old new : Trace × B) (taken : List Exchange) → ReceivesAll (λ before after b answer. Handles faults honest terms history before after day b answer) old taken new → honest new.1 → honest old.1
   before_taking day old _ _ none kept = kept
   before_taking day old new _ (more {between = between} takes took) kept = before_taking day old between _ takes (took.1.was_honest kept)
 
-  before_settling : (between new : B) (taken : List Taken) (settling : Result (Unit {0}) BookFault)
-      → (taken ≢ [] → Settles faults honest terms history settled between new settling) → (taken ≡ [] → new ≡ between) → honest new → honest between
-  before_settling between new [] settling settles unasked kept = subst honest (unasked refl) kept
-  before_settling between new (first ∷ taken) settling settles unasked kept = (settles (λ wrong. absurd cc)).keeps.was_honest kept
+  before_settling : (between new : B) (taken : List Exchange) (commit_result : Result (Unit {0}) BookFault)
+      → (taken ≢ [] → Commits faults honest terms history committed between new commit_result) → (taken ≡ [] → new ≡ between) → honest new → honest between
+  before_settling between new [] commit_result settles unasked kept = subst honest (unasked refl) kept
+  before_settling between new (first ∷ taken) commit_result settles unasked kept = (settles (λ wrong. absurd cc)).unchanged.was_honest kept
 
-  before_round : (old new : Trace × B) (round : List Turn) → IsRound faults honest terms history settled given old round new → honest new.1 → honest old.1
-  before_round old new round (day, is, most, it) kept =
-      let between = before_settling it.between.1 new.1 it.taken it.answers.settling it.answers.settles it.answers.unasked kept in
+  before_round : (old new : Trace × B) (batch : List Turn) → IsBatch faults honest terms history committed given old batch new → honest new.1 → honest old.1
+  before_round old new batch (day, is, most, it) kept =
+      let between = before_settling it.between.1 new.1 it.taken it.answers.commit_result it.answers.settles it.answers.unasked kept in
       before_taking day old it.takes.handled it.taken it.takes.takes (subst honest it.takes.same between)
 
-  pub before_rounds : (old new : Trace × B) (rounds : List (List Turn)) → Lead (IsRound faults honest terms history settled given) old rounds new → honest new.1 → honest old.1
-  unfolding Lead
+  pub before_rounds : (old new : Trace × B) (batches : List (List Turn)) → BatchesLead (IsBatch faults honest terms history committed given) old batches new → honest new.1 → honest old.1
+  unfolding BatchesLead
   before_rounds old new [] same kept = subst (λ (s : Trace × B). honest s.1) same kept
-  before_rounds old new (round ∷ rounds) (next, step, rest) kept = before_round old next round step (before_rounds next new rounds rest kept)
+  before_rounds old new (batch ∷ batches) (next, step, rest) kept = before_round old next batch step (before_rounds next new batches rest kept)

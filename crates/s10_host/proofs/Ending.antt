@@ -17,8 +17,8 @@ use Rattle.s10_link.specs.declared.peer.Peer.{Peer}
 use Rattle.s10_link.specs.Trace.{new_trace}
 use Rattle.s10_ends.specs.UdpLink.{BoundLink}
 use Rattle.s10_history.specs.Settings.{Terms}
-use Rattle.s10_book.specs.Book.{Keeps}
-use Rattle.s10_ledger.specs.Ledger.{IsHonest, history_of, settled_of}
+use Rattle.s10_book.specs.Book.{Unchanged}
+use Rattle.s10_ledger.specs.Ledger.{IsHonest, history_of, committed_of}
 use Rattle.s10_rows.specs.declared.open_fault.OpenFault.{OpenFault}
 use Rattle.s10_rows.specs.declared.open_fault.OpenFault.TheVariants.{Store}
 use Rattle.s10_jobs.specs.declared.job_status.JobStatus.{JobStatus}
@@ -29,26 +29,26 @@ use Rattle.s10_jobs.specs.Lines.{refused_line}
 use Rattle.s10_link.specs.Peer.{SpellsPeer}
 use Rattle.s10_jobs.specs.declared.reporting.Report.{Report}
 use Rattle.s10_jobs.specs.declared.reporting.Report.TheVariants.{Ranges, Issues}
-use Rattle.s10_host.specs.declared.looped.Looped.{Looped}
+use Rattle.s10_host.specs.declared.loop_resources.LoopResources.{LoopResources}
 use Rattle.s10_sockets.specs.Unbound.{IsUnbound}
 use Rattle.s10_host.specs.Files.{FileConnection, FileLedger, ClosedFiles, Copies, PutsAway, IsFoundIn, IsFileFault, IsAbsenceOr, IsNotMade, IsNotOpened, LeavesClean}
 use Rattle.s10_host.specs.Audited.{HasFound, audit_line, audit_status}
 use Rattle.s10_host.specs.Closing.{IsClosedAs, Turns}
 use Rattle.s10_host.specs.Jobs.{ledger_line, FailsByLedger, FailsByClosing, IsAskedFor, HasCreated, IsServed, IsUnlinked, Writes, IsReported, HasServed, HasReported, HasAudited, HasEnded}
-use Rattle.s10_host.specs.declared.work.Work.TheVariants.{Create, Serve, Report as ReportOn}
-use Rattle.s10_host.specs.declared.work.Work.{Work}
-use Rattle.s10_host.specs.declared.task.Task.{Task}
-use Rattle.s10_host.specs.declared.task.Task.TheVariants.{Work as AsksFor, Audit}
-use Rattle.s10_host.specs.Work.{IsWorkRefusal, EndsOver, EndsIn}
+use Rattle.s10_host.specs.declared.book_job.BookJob.TheVariants.{Create, Serve, Report as ReportOn}
+use Rattle.s10_host.specs.declared.book_job.BookJob.{BookJob}
+use Rattle.s10_host.specs.declared.ledger_job.LedgerJob.{LedgerJob}
+use Rattle.s10_host.specs.declared.ledger_job.LedgerJob.TheVariants.{BookJob as AsksFor, Audit}
+use Rattle.s10_host.specs.BookJobs.{IsBookJobRefusal, EndsOver, EndsIn}
 use Rattle.s10_host.proofs.Opening.{empty_book, found_book, put_away}
 use Rattle.s10_host.proofs.Backwards.{before_rounds}
 
 -- a task is one work
-pub asked_alike : (task : Task) (work same : Work) → task ≡ AsksFor work → task ≡ AsksFor same → work ≡ same
+pub asked_alike : (task : LedgerJob) (work same : BookJob) → task ≡ AsksFor work → task ≡ AsksFor same → work ≡ same
 asked_alike task work same is so = cc
 
 -- and then it is no audit
-pub no_audit : {A : Type 0} (task : Task) (work : Work) → task ≡ AsksFor work → task ≡ Audit → A
+pub no_audit : {A : Type 0} (task : LedgerJob) (work : BookJob) → task ≡ AsksFor work → task ≡ Audit → A
 no_audit task work is so = absurd cc
 
 -- of a fault that was written
@@ -99,8 +99,8 @@ module _ {D : Type 0} {g : disk.Ghosts D} where
   kept_copied closed put None done result new last copied kept = tt
   kept_copied closed put (Some f) done result new last copied (is, same, still) = (subst (λ r. IfOk r (Copies closed)) is copied, same, still)
 
-  pub refused_over : (work : Work) (was left : Held (FileStore D g)) (old between new : Option (List ℕ)) (fault named : OpenFault) (told result : Result JobStatus WriteFault) (files : Option (Files D)) (link : Option BoundLink)
-      → IsWorkRefusal over_files work was left fault → named ≡ fault → between ≡ old → IfOk told (λ status. (status ≡ Failed) × Appends between new (ledger_line named))
+  pub refused_over : (work : BookJob) (was left : Held (FileStore D g)) (old between new : Option (List ℕ)) (fault named : OpenFault) (told result : Result JobStatus WriteFault) (files : Option (Files D)) (link : Option BoundLink)
+      → IsBookJobRefusal over_files work was left fault → named ≡ fault → between ≡ old → IfOk told (λ status. (status ≡ Failed) × Appends between new (ledger_line named))
       → result ≡ told → files ≡ None → link ≡ None → EndsOver work was old new result files link
   refused_over work was left old between new fault named told result files link refusal is still says same no_files no_link =
       let Told : Option (List ℕ) → OpenFault → Result JobStatus WriteFault → Type 0 = λ text f r. IfOk r (λ status. (status ≡ Failed) × Appends text new (ledger_line f)) in
@@ -166,8 +166,8 @@ module _ (S : RattleType) (first : Ghosts S.Denot) where
   was_honest : (day : Option ℕ) (count : ℕ) (old new : Option (List ℕ)) (opened after : FileLedger S first) (result : Result JobStatus WriteFault) (link : BoundLink)
       → Turns over_files day count opened after old new result link → IsHonest over_files after → IsHonest over_files opened
   was_honest day count old new opened after result link turns =
-      before_rounds (λ (b : FileLedger S first). b.faults) (IsHonest over_files) (λ b. b.terms) (history_of over_files) (settled_of over_files) day
-      (new_trace, opened) (link.trace, after) turns.rounds turns.lead
+      before_rounds (λ (b : FileLedger S first). b.faults) (IsHonest over_files) (λ b. b.terms) (history_of over_files) (committed_of over_files) day
+      (new_trace, opened) (link.trace, after) turns.batches turns.lead
 
   served_away : (day : Option ℕ) (count : ℕ) (old new last : Option (List ℕ)) (opened served : FileLedger S first) (closed : FileConnection S first) (done result : Result JobStatus WriteFault)
       (files : Option (ClosedFiles S first)) (link : BoundLink) → Turns over_files day count opened served old new done link → IsClosedAs over_files served closed
@@ -273,13 +273,13 @@ module _ (S : RattleType) (first : Ghosts S.Denot) where
       record { reported = tt; unreported = λ _. inl (inl (none.0, none.1, subst (λ r. IfOk r (λ status. (status ≡ Failed) × Appends old new (codes "clock\n"))) (sym same) says)) }
 
   reported_away : (old new last : Option (List ℕ)) (report : Report) (opened after : FileLedger S first) (closed : FileConnection S first) (done result : Result JobStatus WriteFault) (files : Option (ClosedFiles S first))
-      → Keeps (λ (b : FileLedger S first). history_of over_files b) (λ b. b.terms) (IsHonest over_files) opened after → Writes S first report opened after old new done → IsClosedAs over_files after closed
+      → Unchanged (λ (b : FileLedger S first). history_of over_files b) (λ b. b.terms) (IsHonest over_files) opened after → Writes S first report opened after old new done → IsClosedAs over_files after closed
       → IfSome files (λ f. Copies closed f × (result ≡ done) × (last ≡ new)) → IfSome files (IsReported S first opened report old last result)
-  reported_away old new last report opened after closed done result None keeps written put kept = tt
-  reported_away old new last report opened after closed done result (Some f) keeps written put (copies, same, still) = record {
+  reported_away old new last report opened after closed done result None unchanged written put kept = tt
+  reported_away old new last report opened after closed done result (Some f) unchanged written put (copies, same, still) = record {
     reported = after;
     written = subst (λ text. Writes S first report opened after old text result) (sym still) (subst (λ r. Writes S first report opened after old new r) (sym same) written);
-    keeps = keeps;
+    unchanged = unchanged;
     away = put_away after closed f put copies;
   }
 
@@ -291,7 +291,7 @@ module _ (S : RattleType) (first : Ghosts S.Denot) where
   }
   reported_over is_of_issues day report was old new result (Some f) link asked found (inr refused) = absurd (let none = refused.no_files in cc)
   reported_over is_of_issues day report was old new result None link asked found (inl over) =
-      let (opened, opening, reported, put, keeps, written, none) = over.worked in
+      let (opened, opening, reported, put, unchanged, written, none) = over.worked in
       record {
         reported = tt;
         unreported = λ gone. inr (
@@ -303,14 +303,14 @@ module _ (S : RattleType) (first : Ghosts S.Denot) where
         );
       }
   reported_over is_of_issues day report was old new result (Some f) link asked found (inl over) =
-      let (opened, opening, reported, put, keeps, written, none) = over.worked in
+      let (opened, opening, reported, put, unchanged, written, none) = over.worked in
       record {
         reported = (
           report,
           asked,
           opened,
           found_book (image_at first) was opened found opening,
-          reported_away old over.between new report opened reported over.closed over.done result (Some f) keeps written put over.kept,
+          reported_away old over.between new report opened reported over.closed over.done result (Some f) unchanged written put over.kept,
         );
         unreported = λ gone. absurd cc;
       }
@@ -340,7 +340,7 @@ module _ (S : RattleType) (first : Ghosts S.Denot) where
   })
 
   -- the same of what was handed on
-  pub ended_as : (job same : Job) (old new : Option (List ℕ)) (result handed : Result JobStatus WriteFault) (files given : Option (ClosedFiles S first)) (link over : Option BoundLink) (looped left : Option Looped)
+  pub ended_as : (job same : Job) (old new : Option (List ℕ)) (result handed : Result JobStatus WriteFault) (files given : Option (ClosedFiles S first)) (link over : Option BoundLink) (looped left : Option LoopResources)
       → job ≡ same → handed ≡ result → given ≡ files → over ≡ link → left ≡ looped → HasEnded S first same old new result files link looped → HasEnded S first job old new handed given over left
   ended_as job same old new result handed files given link over looped left is so put on lasts ended =
       subst (λ l. HasEnded S first job old new handed given over l) (sym lasts)

@@ -5,7 +5,7 @@ use Rattle.sqlite.proofs.Callers.{memory_is_clean}
 use Rattle.sqlite.specs.Held.{Held}
 use Rattle.sqlite.specs.Steps.{over_memory}
 use Rattle.s10_ledger.specs.Ledger.{Ledger, IsHonest}
-use Rattle.s10_statements.specs.Settled.{IsClean, IsOpen}
+use Rattle.s10_statements.specs.ConnectionState.{IsClean, IsOpen}
 
 -- by what its connection shows as it is closed
 pub is_honest : (l : Ledger MemStore) (closed : Held MemStore) → (IsClean over_memory closed → IsOpen over_memory closed → IsHonest over_memory l) → IsHonest over_memory l

@@ -26,16 +26,16 @@ use Rattle.s10_jobs.specs.declared.job_status.JobStatus.{JobStatus}
 use Rattle.s10_jobs.specs.declared.job_status.JobStatus.TheVariants.{Done}
 use Rattle.s10_jobs.specs.declared.reporting.Report.{Report}
 use Rattle.s10_jobs.specs.Reporting.{report_lines, PrintsReport}
-use Rattle.s10_book.specs.Book.{Keeps}
+use Rattle.s10_book.specs.Book.{Unchanged}
 use Rattle.s10_book.specs.BookFault.{no_faults}
 use Rattle.s10_rows.specs.declared.open_fault.OpenFault.{OpenFault}
 use Rattle.s10_schema.specs.Schema.{IsClosedSchema}
-use Rattle.s10_statements.specs.Settled.{IsClean, IsOpen, WasSound}
+use Rattle.s10_statements.specs.ConnectionState.{IsClean, IsOpen, WasSound}
 use Rattle.s10_link.specs.declared.peer.Peer.{Peer}
 use Rattle.s10_sockets.specs.Unbound.{IsUnbound}
-use Rattle.s10_host.specs.declared.work.Work.{Work}
-use Rattle.s10_host.specs.declared.work.Work.TheVariants.{Create, Serve, Report as ReportOn}
-use Rattle.s10_host.specs.Work.{IsMadeWith, IsOpenedFrom, HasWorked, IsRefusedLeft, IsWorkRefusal}
+use Rattle.s10_host.specs.declared.book_job.BookJob.{BookJob}
+use Rattle.s10_host.specs.declared.book_job.BookJob.TheVariants.{Create, Serve, Report as ReportOn}
+use Rattle.s10_host.specs.BookJobs.{IsMadeWith, IsOpenedFrom, HasRunBookJob, IsRefusedLeft, IsBookJobRefusal}
 
 -- a book of which no call is pending has the history that its tables hold
 pub none_pending : {S : Type 0} (g : store.Ghosts S) (book : Ledger S) (h : List Entry)
@@ -62,25 +62,25 @@ opened_for g was (Ok book) opened honest found same history none sound =
 opened_for g was (Err e) opened honest found same history none sound = tt
 
 -- what refuses an opening refuses a work with the ledger that is there
-refused_left : {S : Type 0} (g : store.Ghosts S) (work : Work) (was left : Held S) (fault : OpenFault) → ((terms : Terms) → work ≢ Create terms)
-    → IsRefusedLeft g was left fault → IsWorkRefusal g work was left fault
+refused_left : {S : Type 0} (g : store.Ghosts S) (work : BookJob) (was left : Held S) (fault : OpenFault) → ((terms : Terms) → work ≢ Create terms)
+    → IsRefusedLeft g was left fault → IsBookJobRefusal g work was left fault
 refused_left g (Create terms) was left fault none refusal = absurd (none terms refl)
 refused_left g (Serve at count day) was left fault none refusal = refusal
 refused_left g (ReportOn report) was left fault none refusal = refusal
 
-pub refused_for : {S B R : Type 0} (g : store.Ghosts S) (work : Work) (was : Held S) (r : Result B R) (left : R → Held S) (fault : R → OpenFault) → ((terms : Terms) → work ≢ Create terms)
-    → IfErr r (λ e. IsRefusedLeft g was (left e) (fault e)) → IfErr r (λ e. IsWorkRefusal g work was (left e) (fault e))
+pub refused_for : {S B R : Type 0} (g : store.Ghosts S) (work : BookJob) (was : Held S) (r : Result B R) (left : R → Held S) (fault : R → OpenFault) → ((terms : Terms) → work ≢ Create terms)
+    → IfErr r (λ e. IsRefusedLeft g was (left e) (fault e)) → IfErr r (λ e. IsBookJobRefusal g work was (left e) (fault e))
 refused_for g work was (Ok book) left fault none refusal = tt
 refused_for g work was (Err e) left fault none refusal = refused_left g work was (left e) (fault e) none refusal
 
 -- what was done of a work, by its ledger before and after and by how that was closed
-pub worked_with : {S : Type 0} (g : store.Ghosts S) (work : Work) (was : Held S) (old new : Option (List ℕ)) (done : Result JobStatus WriteFault) (link : Option BoundLink) (book after : Ledger S) (closed : Held S)
+pub worked_with : {S : Type 0} (g : store.Ghosts S) (work : BookJob) (was : Held S) (old new : Option (List ℕ)) (done : Result JobStatus WriteFault) (link : Option BoundLink) (book after : Ledger S) (closed : Held S)
     → ((terms : Terms) → work ≡ Create terms → IsMadeWith g terms book) → (((terms : Terms) → work ≢ Create terms) → IsOpenedFrom g was book)
     → ((terms : Terms) → work ≡ Create terms → (done ≡ Ok Done) × (link ≡ None) × (after ≡ book) × (new ≡ old))
     → ((at : Peer) (count : ℕ) (day : Option ℕ) → work ≡ Serve at count day → (link ≡ None → IsUnbound book after old new done) × IfSome link (Turns g day count book after old new done))
-    → ((report : Report) → work ≡ ReportOn report → (link ≡ None) × Keeps (λ (b : Ledger S). history_of g b) (λ (b : Ledger S). b.terms) (IsHonest g) book after
+    → ((report : Report) → work ≡ ReportOn report → (link ≡ None) × Unchanged (λ (b : Ledger S). history_of g b) (λ (b : Ledger S). b.terms) (IsHonest g) book after
     × (IsHonest g after → IfOk done (PrintsReport book.faults after.faults old new (report_lines report (history_of g book) book.terms))))
-    → IsClosedAs g after closed → HasWorked g work was old new done link closed
+    → IsClosedAs g after closed → HasRunBookJob g work was old new done link closed
 worked_with g (Create terms) was old new done link book after closed made opened left served reported closes =
     let (is, none, same, still) = left terms refl in
     (after, subst (IsMadeWith g terms) (sym same) (made terms refl), closes, is, still, none)
@@ -88,8 +88,8 @@ worked_with g (Serve at count day) was old new done link book after closed made 
     let (unbound, turns) = served at count day refl in
     (book, opened (λ terms is. absurd cc), after, closes, unbound, turns)
 worked_with g (ReportOn report) was old new done link book after closed made opened left served reported closes =
-    let (none, keeps, written) = reported report refl in
-    (book, opened (λ terms is. absurd cc), after, closes, keeps, written, none)
+    let (none, unchanged, written) = reported report refl in
+    (book, opened (λ terms is. absurd cc), after, closes, unchanged, written, none)
 
 module _ {D : Type 0} {g : Ghosts D} where
   pub empty_book : (terms : Terms) (book : Ledger (FileStore D g)) → IsMadeWith over_files terms book → WhereClean IsEmptyBook book

@@ -5,10 +5,10 @@ use Rattle.sqlite.specs.Held.{Held, state}
 use Rattle.s10_lines.specs.declared.write_fault.WriteFault.{WriteFault}
 use Rattle.s10_link.specs.Trace.{new_trace}
 use Rattle.s10_ends.specs.UdpLink.{BoundLink}
-use Rattle.s10_ledger.specs.Ledger.{Ledger, IsHonest, history_of, settled_of}
-use Rattle.s10_statements.specs.Settled.{IsClean, IsOpen}
+use Rattle.s10_ledger.specs.Ledger.{Ledger, IsHonest, history_of, committed_of}
+use Rattle.s10_statements.specs.ConnectionState.{IsClean, IsOpen}
 use Rattle.s10_jobs.specs.declared.job_status.JobStatus.{JobStatus}
-use Rattle.s10_jobs.specs.Serving.{IsRound, Serves}
+use Rattle.s10_jobs.specs.Serving.{IsBatch, Serves}
 
 module _ {S : Type 0} (g : Ghosts S) where
   -- the connection of a ledger as it was closed: what it shows is committed, and it shows an honest ledger, where its disk kept
@@ -21,5 +21,5 @@ module _ {S : Type 0} (g : Ghosts S) where
   -- the turns on a new link, and their lines
   abbrev pub Turns : Option ℕ → ℕ → Ledger S → Ledger S → Option (List ℕ) → Option (List ℕ) → Result JobStatus WriteFault → BoundLink → Type 0
   Turns day count opened served old new result link =
-      Serves (IsRound (λ (b : Ledger S). b.faults) (IsHonest g) (λ b. b.terms) (history_of g) (settled_of g) day)
+      Serves (IsBatch (λ (b : Ledger S). b.faults) (IsHonest g) (λ b. b.terms) (history_of g) (committed_of g) day)
       (new_trace, opened) (link.trace, served) old new count result

@@ -24,8 +24,8 @@ use Rattle.s10_ledger.specs.Ledger.{Ledger, IsAnyLedger, IsHonest, history_in, h
 use Rattle.s10_rows.specs.declared.open_fault.OpenFault.{OpenFault}
 use Rattle.s10_rows.specs.declared.open_fault.OpenFault.TheVariants.{NotALedger, Memory, Store}
 use Rattle.s10_ledger.specs.Refusals.{IsOpeningRefusal}
-use Rattle.s10_statements.specs.Making.{IsMakingRefusal}
-use Rattle.s10_statements.specs.Settled.{IsClean, IsOpen}
+use Rattle.s10_statements.specs.Creating.{IsCreateRefusal}
+use Rattle.s10_statements.specs.ConnectionState.{IsClean, IsOpen}
 
 module _ {D : Type 0} {g : Ghosts D} where
   -- the connection is open, and shows what the files held, where the disk has returned what was written
@@ -107,7 +107,7 @@ module _ (S : RattleType) (first : start.Ghosts S.Denot) where
   pub record IsRefusedPlace (fault : OpenFault) : Type 0 where
     pub was : FileConnection S first
     pub found : IsFoundIn (image_at first) was
-    pub refusal : IsMakingRefusal (file_state was).now.schema fault
+    pub refusal : IsCreateRefusal (file_state was).now.schema fault
 
   abbrev pub IsNotMade : OpenFault → Type 0
   IsNotMade fault = IsFileFault fault ⊎ IsRefusedPlace fault

@@ -9,7 +9,7 @@ use Rattle.s10_ends.specs.UdpLink.{BoundLink}
 use Rattle.s10_lines.specs.declared.write_fault.WriteFault.{WriteFault}
 use Rattle.s10_lines.specs.Lines.{line_of}
 use Rattle.s10_history.specs.Settings.{Terms}
-use Rattle.s10_book.specs.Book.{Keeps}
+use Rattle.s10_book.specs.Book.{Unchanged}
 use Rattle.s10_ledger.specs.Ledger.{IsHonest, history_of}
 use Rattle.s10_rows.specs.declared.open_fault.OpenFault.{OpenFault}
 use Rattle.s10_rows.specs.declared.open_fault.OpenFault.TheVariants.{Store}
@@ -27,9 +27,9 @@ use Rattle.s10_host.specs.Audited.{HasFound, audit_line, audit_status}
 use Rattle.s10_jobs.specs.Reporting.{report_lines, PrintsReport}
 use Rattle.s10_jobs.specs.Serving.{IsDay}
 use Rattle.s10_sockets.specs.Questioning.{IsAsked, IsUnasked}
-use Rattle.s10_host.specs.declared.looped.Looped.{Looped}
+use Rattle.s10_host.specs.declared.loop_resources.LoopResources.{LoopResources}
 use Rattle.s10_host.specs.Closing.{Turns}
-use Rattle.s10_host.specs.Looped.{HasLooped}
+use Rattle.s10_host.specs.LoopRun.{HasRunLoop}
 use Rattle.s10_host.specs.Files.{FileConnection, FileLedger, ClosedFiles, WhereClean, IsFoundIn, IsEmptyBook, IsFoundBook, PutsAway, LeavesClean, IsFileFault, IsAbsenceOr, IsNotMade, IsNotOpened}
 
 -- the line of a fault of the ledger
@@ -55,9 +55,9 @@ pub record HasAsked (question : Question) (old new : Option (List ℕ)) (result 
   pub unasked : link ≡ None → IfOk result (λ status. (line : List ℕ) × IsUnasked question status line × Appends old new line)
 
 -- the calls of a loop were made on the day that was given, or on one of the clock; or that gives none, and nothing is bound
-abbrev pub IsRunOn : Option ℕ → Option (List ℕ) → Option (List ℕ) → Result JobStatus WriteFault → Option Looped → Type 0
+abbrev pub IsRunOn : Option ℕ → Option (List ℕ) → Option (List ℕ) → Result JobStatus WriteFault → Option LoopResources → Type 0
 IsRunOn day old new result looped =
-    ((d : ℕ) × IsDay day d × HasLooped d old new result looped)
+    ((d : ℕ) × IsDay day d × HasRunLoop d old new result looped)
     ⊎ ((day ≡ None) × (looped ≡ None) × IfOk result (λ status. (status ≡ Failed) × Appends old new (codes "clock\n")))
 
 module _ (S : RattleType) (first : Ghosts S.Denot) where
@@ -119,7 +119,7 @@ module _ (S : RattleType) (first : Ghosts S.Denot) where
   pub record IsReported (opened : FileLedger S first) (report : Report) (old new : Option (List ℕ)) (result : Result JobStatus WriteFault) (files : ClosedFiles S first) : Type 0 where
     pub reported : FileLedger S first
     pub written : Writes report opened reported old new result
-    pub keeps : Keeps (λ (b : FileLedger S first). history_of over_files b) (λ b. b.terms) (IsHonest over_files) opened reported
+    pub unchanged : Unchanged (λ (b : FileLedger S first). history_of over_files b) (λ b. b.terms) (IsHonest over_files) opened reported
     pub away : PutsAway reported files
 
   -- or it could not be put away
@@ -160,7 +160,7 @@ module _ (S : RattleType) (first : Ghosts S.Denot) where
     pub refused : files ≡ None → IfOk result (FailsByLedger (IsAbsenceOr IsFileFault) old new)
 
   -- what a job has done as it ends, by its result and by the files, the link or what is left of a loop, which it hands back
-  abbrev pub HasEnded : Job → Option (List ℕ) → Option (List ℕ) → Result JobStatus WriteFault → Option (ClosedFiles S first) → Option BoundLink → Option Looped → Type 0
+  abbrev pub HasEnded : Job → Option (List ℕ) → Option (List ℕ) → Result JobStatus WriteFault → Option (ClosedFiles S first) → Option BoundLink → Option LoopResources → Type 0
   HasEnded (job.Create ledger settings) old new result files link looped = HasCreated settings old new result files
   HasEnded (job.Serve ledger bind count day) old new result files link looped = HasServed bind.now day count old new result files link
   HasEnded (job.Ask question) old new result files link looped = HasAsked question old new result link

@@ -1,6 +1,6 @@
 pub mod Audited
 pub mod Closing
 pub mod Files
-pub mod Looped
+pub mod LoopRun
 pub mod Jobs
-pub mod Work
+pub mod BookJobs

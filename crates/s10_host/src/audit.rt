@@ -8,7 +8,7 @@ ghost use Rattle.s10_host.specs.Audited.{HasFound, audit_line, audit_status};
 
 use s10_book::Book;
 use s10_jobs::{JobStatus, write_ledger_fault};
-use s10_ledger::{OpenFault, Refused, SqlBook, Watch};
+use s10_ledger::{Observer, OpenFault, Refused, SqlBook};
 use s10_lines::{WriteFault, write_decimal, write_text, write_word};
 use sqlite::{Alter, Connection};
 use std::alloc::Global;
@@ -16,7 +16,7 @@ use std::io::Write;
 
 /// Opens the ledger of a connection, which does all its calls again, and writes `ledger ok N` with the number of its
 /// calls, or `ledger` and why it is none, which is a failure. Answers the connection too.
-pub fn run_audit<S: Alter, K: Watch, W: Write>(
+pub fn run_audit<S: Alter, K: Observer, W: Write>(
     alloc: Global,
     connection: Connection<S>,
     watch: &mut K,
@@ -26,12 +26,12 @@ pub fn run_audit<S: Alter, K: Watch, W: Write>(
     ensures { (found : Result ℕ OpenFault) × HasFound S.Store connection result.1 found × IfOk result.0 (λ status. (status ≡ audit_status found)
         × Appends (W.contents output.old) (W.contents output.new) (audit_line found)) }
 {
-    let (found, left) = count_calls(alloc, connection, watch);
-    (write_found(found, output), left)
+    let (found, left) = audit_ledger(alloc, connection, watch);
+    (write_audit(found, output), left)
 }
 
 // How many calls the ledger keeps, or why it is none; and the connection.
-fn count_calls<S: Alter, K: Watch>(
+fn audit_ledger<S: Alter, K: Observer>(
     alloc: Global,
     connection: Connection<S>,
     watch: &mut K,
@@ -48,7 +48,7 @@ fn count_calls<S: Alter, K: Watch>(
     }
 }
 
-fn write_found<W: Write>(
+fn write_audit<W: Write>(
     found: Result<u32, OpenFault>,
     out: &mut W,
 ) -> Result<JobStatus, WriteFault>

@@ -4,7 +4,7 @@ ghost use Rattle.std.specs.Prelude.{◌≡◌, false, IfOk, IfErr};
 ghost use Rattle.sqlite_wal.specs.Files.{image_at};
 ghost use Rattle.s10_host.specs.Files.{IsFoundIn, IsPlain, Copies, IsFileFault, IsAbsenceOr};
 
-use crate::front::{fault_of_front, fault_of_place, missing_log, remove_log};
+use crate::file_kind::{fault_of_existing, fault_of_new, missing_log, remove_log};
 use s10_ledger::{OpenFault, Refused};
 use sqlite::{Connection, Error, ErrorCode, FileFrom, FileStore, Files, Start};
 use sqlite_disk::Disk;
@@ -13,10 +13,10 @@ use std::io::ErrorKind;
 use std::{fs, io};
 
 /// How many megabytes a file has at least whose opening begins with its size.
-const LARGE: u64 = 10;
+const LARGE_FILE_MB: u64 = 10;
 
 /// The system's number for a file or a folder that is not there.
-const NOT_THERE: i32 = 2;
+const ENOENT: i32 = 2;
 
 /// A connection over a file.
 pub type FileConnection<S> = Connection<FileStore<FileFrom<S>>>;
@@ -25,7 +25,7 @@ pub type FileConnection<S> = Connection<FileStore<FileFrom<S>>>;
 pub type ClosedFiles<S> = Files<FileFrom<S>>;
 
 /// The files of a connection, with its last commit in the database file itself.
-pub fn close_copied<D: Disk + Drop>(
+pub fn checkpoint_and_close<D: Disk + Drop>(
     rt: &HostRuntime,
     path: &str,
     connection: Connection<FileStore<D>>,
@@ -66,11 +66,11 @@ pub fn connect_to_ledger<S: Start>(
     ensures refused { IfErr result (IsAbsenceOr IsFileFault) }
 {
     match fs::exists(rt, path) {
-        Ok(true) => match fault_of_front(rt, path) {
+        Ok(true) => match fault_of_existing(rt, path) {
             None => connect(rt, path, start),
             Some(fault) => Err(fault),
         },
-        Ok(false) => Err(absence(rt, path)),
+        Ok(false) => Err(fault_of_missing(rt, path)),
         Err(cause) => Err(fault_of_look(rt, path, &cause)),
     }
 }
@@ -84,7 +84,7 @@ fn fault_of_look(rt: &HostRuntime, path: &str, cause: &io::Error) -> OpenFault
 }
 
 /// Opens the file of a new ledger as a database, or makes it. One that holds something else than a database is not opened.
-pub fn connect_to_place<S: Start>(
+pub fn connect_to_new<S: Start>(
     rt: &HostRuntime,
     path: &str,
     start: S,
@@ -94,21 +94,21 @@ pub fn connect_to_place<S: Start>(
     ensures plain { IfOk result (IsPlain (image_at S.Start)) }
     ensures refused { IfErr result IsFileFault }
 {
-    match fault_of_place(rt, path) {
+    match fault_of_new(rt, path) {
         None => connect(rt, path, start),
         Some(fault) => Err(fault),
     }
 }
 
 // Why a file that is not there cannot be opened.
-fn absence(rt: &HostRuntime, path: &str) -> OpenFault
+fn fault_of_missing(rt: &HostRuntime, path: &str) -> OpenFault
     ensures { IsAbsenceOr IsFileFault result }
 {
     match path.rsplit_once('/') {
         None | Some(("", _)) => OpenFault::NotALedger,
         Some((folder, _)) => match fs::exists(rt, folder) {
             Ok(true) => OpenFault::NotALedger,
-            Ok(false) => fault_of_look(rt, path, &io::Error::from_raw_os_error(NOT_THERE)),
+            Ok(false) => fault_of_look(rt, path, &io::Error::from_raw_os_error(ENOENT)),
             Err(cause) => fault_of_look(rt, path, &cause),
         },
     }
@@ -121,7 +121,7 @@ fn connect<S: Start>(rt: &HostRuntime, path: &str, start: S) -> Result<FileConne
     ensures plain { IfOk result (IsPlain (image_at S.Start)) }
     ensures refused { IfErr result IsFileFault }
 {
-    tell_size(rt, path);
+    eprint_size(rt, path);
     let missing = missing_log(rt, path);
     match Connection::open_from(rt, path, false, start) {
         Ok(connection) => Ok(connection),
@@ -130,7 +130,7 @@ fn connect<S: Start>(rt: &HostRuntime, path: &str, start: S) -> Result<FileConne
             if files.is_some() {
                 remove_log(rt, missing);
             }
-            tell_cause(rt, path, &error);
+            eprint_cause(rt, path, &error);
             Err(fault_of_opening(&error))
         }
     }
@@ -138,18 +138,18 @@ fn connect<S: Start>(rt: &HostRuntime, path: &str, start: S) -> Result<FileConne
 
 // Says on standard error how large a file is whose opening takes a second or more: the store looks through it first, and
 // tells nobody meanwhile.
-fn tell_size(rt: &HostRuntime, path: &str) {
+fn eprint_size(rt: &HostRuntime, path: &str) {
     let Ok(metadata) = fs::metadata(rt, path) else {
         return;
     };
     let megabytes = metadata.len() / 1_000_000;
-    if megabytes >= LARGE {
+    if megabytes >= LARGE_FILE_MB {
         let _ = eprintln!(rt; "opening {path}: {megabytes} MB");
     }
 }
 
 // Says on standard error why a file could not be opened, in the system's words where these say more.
-fn tell_cause(rt: &HostRuntime, path: &str, error: &Error) {
+fn eprint_cause(rt: &HostRuntime, path: &str, error: &Error) {
     let _ = match cause_of(rt, path) {
         Some(cause) => eprintln!(rt; "cannot open {path}: {cause}"),
         None => eprintln!(rt; "cannot open {path}: {error}"),

@@ -7,19 +7,19 @@ ghost use Rattle.s10_rows.specs.declared.open_fault.OpenFault.{OpenFault};
 ghost use Rattle.s10_host.specs.Audited.{HasFound, audit_line, audit_status};
 ghost use Rattle.s10_host.specs.Files.{LeavesClean};
 ghost use Rattle.s10_host.specs.Jobs.{ledger_line, HasCreated, HasServed, HasReported, HasAudited, IsRunOn, HasEnded};
-ghost use Rattle.s10_host.specs.Work.{EndsOver, EndsIn};
-ghost use Rattle.s10_host.specs.declared.work.Work.{Work};
+ghost use Rattle.s10_host.specs.BookJobs.{EndsOver, EndsIn};
+ghost use Rattle.s10_host.specs.declared.book_job.BookJob.{BookJob};
 
+use crate::book_job::BookJob;
+use crate::file_kind::{missing_log, remove_log};
 use crate::files::{
-    ClosedFiles, close_copied, connect_to_ledger, connect_to_place, fault_of_refusal,
+    ClosedFiles, checkpoint_and_close, connect_to_ledger, connect_to_new, fault_of_refusal,
 };
-use crate::front::{missing_log, remove_log};
-use crate::left::Left;
+use crate::job_resources::JobResources;
+use crate::ledger_job::{LedgerJob, LedgerJobEnd, run_ledger_job};
+use crate::loop_resources::LoopResources;
 use crate::loopback::run_loop;
-use crate::looped::Looped;
-use crate::onlooker::Onlooker;
-use crate::task::{Finished, Task, task_on};
-use crate::work::Work;
+use crate::progress::Progress;
 use s10_ends::UdpLink;
 use s10_history::Settings;
 use s10_jobs::{Job, JobStatus, Report, day_or_today, fail_by_clock, fail_by_ledger, refuse};
@@ -32,10 +32,10 @@ use sqlite_disk::Disk;
 use std::io::Write;
 
 /// What came of a job, and what it leaves behind it.
-type Ended<S> = (Result<JobStatus, WriteFault>, Left<S>);
+type JobEnd<S> = (Result<JobStatus, WriteFault>, JobResources<S>);
 
 /// What came of a task over the files of a ledger, the link that it was served on, and the files, where they were closed.
-type Over<D> = (
+type FileJobEnd<D> = (
     Result<JobStatus, WriteFault>,
     Option<UdpLink>,
     Option<Files<D>>,
@@ -47,7 +47,7 @@ pub fn run_job<S: Start, W: Write>(
     job: &Job<'_>,
     start: S,
     out: &mut W,
-) -> (Result<JobStatus, WriteFault>, Left<S>)
+) -> (Result<JobStatus, WriteFault>, JobResources<S>)
     ensures { HasEnded S.row S.Start job.now (W.contents out.old) (W.contents out.new) result.0 result.1.files result.1.link result.1.looped }
 {
     match job {
@@ -64,18 +64,18 @@ pub fn run_job<S: Start, W: Write>(
             is_of_issues,
             day,
         } => run_report(rt, *ledger, *is_of_issues, *day, start, out),
-        Job::Audit { ledger } => task_in(rt, *ledger, Task::Audit, start, out),
+        Job::Audit { ledger } => run_on_file(rt, *ledger, LedgerJob::Audit, start, out),
         Job::Loop { day } => with_looped(run_loop_on(rt, *day, out)),
     }
 }
 
-fn with_link<S: Start>(asked: (Result<JobStatus, WriteFault>, Option<UdpLink>)) -> Ended<S>
+fn with_link<S: Start>(asked: (Result<JobStatus, WriteFault>, Option<UdpLink>)) -> JobEnd<S>
     ensures same { (result.0 ≡ asked.0) × (result.1.link ≡ asked.1) × (result.1.files ≡ None) }
 {
     let (done, link) = asked;
     (
         done,
-        Left {
+        JobResources {
             files: None,
             link,
             looped: None,
@@ -83,24 +83,24 @@ fn with_link<S: Start>(asked: (Result<JobStatus, WriteFault>, Option<UdpLink>)) 
     )
 }
 
-fn left_of_task<S: Start>(link: Option<UdpLink>, files: Option<ClosedFiles<S>>) -> Left<S>
+fn left_of_task<S: Start>(link: Option<UdpLink>, files: Option<ClosedFiles<S>>) -> JobResources<S>
     ensures files { result.files ≡ files }
     ensures link { result.link ≡ link }
 {
-    Left {
+    JobResources {
         files,
         link,
         looped: None,
     }
 }
 
-fn with_looped<S: Start>(ended: (Result<JobStatus, WriteFault>, Option<Looped>)) -> Ended<S>
+fn with_looped<S: Start>(ended: (Result<JobStatus, WriteFault>, Option<LoopResources>)) -> JobEnd<S>
     ensures same { (result.0 ≡ ended.0) × (result.1.looped ≡ ended.1) }
 {
     let (done, looped) = ended;
     (
         done,
-        Left {
+        JobResources {
             files: None,
             link: None,
             looped,
@@ -115,14 +115,16 @@ fn run_create<S: Start, W: Write>(
     settings: Settings,
     start: S,
     out: &mut W,
-) -> Ended<S>
+) -> JobEnd<S>
     ensures { HasCreated S.row S.Start settings (W.contents out.old) (W.contents out.new) result.0 result.1.files }
 {
     let missing = missing_log(rt, ledger);
-    match connect_to_place(rt, ledger, start) {
+    match connect_to_new(rt, ledger, start) {
         Ok(connection) => {
-            let create = Task::Work(Work::Create(settings));
-            let (made, link, files) = task_over(rt, ledger, connection, missing, create, out);
+            let create = LedgerJob::BookJob(BookJob::Create(settings));
+            let (made, link, files) = run_and_close_file(
+                rt, ledger, connection, missing, create, out,
+            );
             match files {
                 Some(files) => (write_created(out), left_of_task(link, Some(files))),
                 None => (made, left_of_task(link, None)),
@@ -147,19 +149,19 @@ fn run_serve<S: Start, W: Write>(
     day: Option<u32>,
     start: S,
     out: &mut W,
-) -> Ended<S>
+) -> JobEnd<S>
     ensures { HasServed S.row S.Start bind.now day count (W.contents out.old) (W.contents out.new) result.0 result.1.files result.1.link }
 {
     let Some(at) = Peer::read(bind.as_bytes()) else {
         return with_link((refuse(b"peer", out), None));
     };
-    tell_opening(rt, ledger);
-    let serve = Work::Serve { at, count, day };
-    task_in(rt, ledger, Task::Work(serve), start, out)
+    eprint_opening(rt, ledger);
+    let serve = BookJob::Serve { at, count, day };
+    run_on_file(rt, ledger, LedgerJob::BookJob(serve), start, out)
 }
 
 // A large ledger takes a while; the turns go on where standard error is closed.
-fn tell_opening(rt: &HostRuntime, ledger: &str) {
+fn eprint_opening(rt: &HostRuntime, ledger: &str) {
     let _ = eprintln!(rt; "opening {ledger}");
 }
 
@@ -171,30 +173,38 @@ fn run_report<S: Start, W: Write>(
     day: Option<u32>,
     start: S,
     out: &mut W,
-) -> Ended<S>
+) -> JobEnd<S>
     ensures { HasReported S.row S.Start is_of_issues day (W.contents out.old) (W.contents out.new) result.0 result.1.files }
 {
     let Some(report) = Report::new(rt, is_of_issues, day) else {
         return with_link((fail_by_clock(out), None));
     };
-    task_in(rt, ledger, Task::Work(Work::Report(report)), start, out)
+    run_on_file(
+        rt,
+        ledger,
+        LedgerJob::BookJob(BookJob::Report(report)),
+        start,
+        out,
+    )
 }
 
 // Does the task over the ledger of a file that is there.
-fn task_in<S: Start, W: Write>(
+fn run_on_file<S: Start, W: Write>(
     rt: &HostRuntime,
     ledger: &str,
-    task: Task,
+    task: LedgerJob,
     start: S,
     out: &mut W,
-) -> Ended<S>
-    ensures worked { (work : Work) → task ≡ Task.Work work → EndsIn S.row S.Start work (W.contents out.old) (W.contents out.new) result.0 result.1.files result.1.link }
-    ensures audited { task ≡ Task.Audit → HasAudited S.row S.Start (W.contents out.old) (W.contents out.new) result.0 result.1.files }
+) -> JobEnd<S>
+    ensures worked { (work : BookJob) → task ≡ LedgerJob.BookJob work → EndsIn S.row S.Start work (W.contents out.old) (W.contents out.new) result.0 result.1.files result.1.link }
+    ensures audited { task ≡ LedgerJob.Audit → HasAudited S.row S.Start (W.contents out.old) (W.contents out.new) result.0 result.1.files }
 {
     let missing = missing_log(rt, ledger);
     match connect_to_ledger(rt, ledger, start) {
         Ok(connection) => {
-            let (done, link, files) = task_over(rt, ledger, connection, missing, task, out);
+            let (done, link, files) = run_and_close_file(
+                rt, ledger, connection, missing, task, out,
+            );
             (done, left_of_task(link, files))
         }
         Err(fault) => with_link((fail_by_ledger(fault, out), None)),
@@ -203,34 +213,34 @@ fn task_in<S: Start, W: Write>(
 
 // A ledger that was worked with is put away whatever came of that. A file that is refused is closed without the log that was made.
 // An audit leaves its files as they are: their last commits may stand in the log alone.
-fn task_over<D: Disk + Drop, W: Write>(
+fn run_and_close_file<D: Disk + Drop, W: Write>(
     rt: &HostRuntime,
     ledger: &str,
     connection: Connection<FileStore<D>>,
     missing: Option<String>,
-    task: Task,
+    task: LedgerJob,
     out: &mut W,
-) -> Over<D>
+) -> FileJobEnd<D>
     requires idle { connection.in_transaction ≡ false }
-    ensures worked { (work : Work) → task ≡ Task.Work work → EndsOver work connection (W.contents out.old) (W.contents out.new) result.0 result.2 result.1 }
-    ensures audited { task ≡ Task.Audit → (result.1 ≡ None) × (files : _) × (result.2 ≡ Some files) × (left : _) × (found : Result ℕ OpenFault)
+    ensures worked { (work : BookJob) → task ≡ LedgerJob.BookJob work → EndsOver work connection (W.contents out.old) (W.contents out.new) result.0 result.2 result.1 }
+    ensures audited { task ≡ LedgerJob.Audit → (result.1 ≡ None) × (files : _) × (result.2 ≡ Some files) × (left : _) × (found : Result ℕ OpenFault)
         × HasFound over_files connection left found × IfOk result.0 (λ status. (status ≡ audit_status found)
         × Appends (W.contents out.old) (W.contents out.new) (audit_line found)) × LeavesClean left files }
 {
-    let mut onlooker = Onlooker::new(rt, ledger);
-    match task_on(rt, connection, task, &mut onlooker, out) {
-        Finished::Worked((worked, link, connection)) => {
-            let closed = close_copied(rt, ledger, connection);
+    let mut progress = Progress::new(rt, ledger);
+    match run_ledger_job(rt, connection, task, &mut progress, out) {
+        LedgerJobEnd::BookJobEnd((worked, link, connection)) => {
+            let closed = checkpoint_and_close(rt, ledger, connection);
             let (done, files) = ended(worked, closed, out);
             (done, link, files)
         }
-        Finished::Refused(refusal) => {
-            onlooker.tell_place(&task, refusal.fault);
+        LedgerJobEnd::Refused(refusal) => {
+            progress.eprint_not_created(&task, refusal.fault);
             remove_log(rt, missing);
             (fail_by_ledger(fault_of_refusal(refusal), out), None, None)
         }
-        Finished::Audited(audited, store) => {
-            forget_log(rt, missing, &audited);
+        LedgerJobEnd::Audited(audited, store) => {
+            remove_audit_log(rt, missing, &audited);
             (audited, None, Some(store.close()))
         }
     }
@@ -265,7 +275,11 @@ fn fail_by_closing<W: Write>(
 }
 
 // Takes away the log of a file that an audit refuses, which is locked still.
-fn forget_log(rt: &HostRuntime, missing: Option<String>, audited: &Result<JobStatus, WriteFault>) {
+fn remove_audit_log(
+    rt: &HostRuntime,
+    missing: Option<String>,
+    audited: &Result<JobStatus, WriteFault>,
+) {
     if let Ok(JobStatus::Failed) = audited {
         remove_log(rt, missing);
     }
@@ -276,7 +290,7 @@ fn run_loop_on<W: Write>(
     rt: &HostRuntime,
     day: Option<u32>,
     out: &mut W,
-) -> (Result<JobStatus, WriteFault>, Option<Looped>)
+) -> (Result<JobStatus, WriteFault>, Option<LoopResources>)
     ensures { IsRunOn day (W.contents out.old) (W.contents out.new) result.0 result.1 }
 {
     match day_or_today(rt, day) {

@@ -2,18 +2,18 @@
 #![tactic(auto)]
 
 mod audit;
+mod book_job;
+mod file_kind;
 mod files;
-mod front;
+mod job_resources;
 mod jobs;
-mod left;
+mod ledger_job;
+mod loop_resources;
 mod loopback;
-mod looped;
-mod onlooker;
-mod task;
-mod work;
+mod progress;
 
 pub use audit::run_audit;
+pub use job_resources::JobResources;
 pub use jobs::run_job;
-pub use left::Left;
+pub use loop_resources::LoopResources;
 pub use loopback::run_loop;
-pub use looped::Looped;

@@ -10,10 +10,10 @@ ghost use Rattle.s10_link.specs.Link.{LeadsTo};
 ghost use Rattle.s10_link.specs.Trace.{new_trace};
 ghost use Rattle.s10_jobs.specs.Shown.{Prints};
 ghost use Rattle.s10_sockets.specs.LoopCalls.{loop_calls, AreMadeInTurn};
-ghost use Rattle.s10_host.specs.Looped.{IsLooped, IsNoLoop};
+ghost use Rattle.s10_host.specs.LoopRun.{IsLoopRun, IsLoopFailure};
 
-use crate::looped::Looped;
-use s10_book::Settle;
+use crate::loop_resources::LoopResources;
+use s10_book::GroupCommit;
 use s10_ends::{NearLink, Server, UdpLink};
 use s10_history::Settings;
 use s10_jobs::{JobStatus, fail_by_ledger, fail_by_link};
@@ -38,9 +38,9 @@ pub fn run_loop<R: Net + Eprint + AllocGlobal, W: Write>(
     rt: &R,
     day: u32,
     out: &mut W,
-) -> (Result<JobStatus, WriteFault>, Option<Looped>)
-    ensures asked { IfSome result.1 (IsLooped day (W.contents out.old) (W.contents out.new) result.0) }
-    ensures unasked { result.1 ≡ None → IfOk result.0 (λ status. (status ≡ JobStatus.Failed) × Prints (W.contents out.old) (W.contents out.new) IsNoLoop) }
+) -> (Result<JobStatus, WriteFault>, Option<LoopResources>)
+    ensures asked { IfSome result.1 (IsLoopRun day (W.contents out.old) (W.contents out.new) result.0) }
+    ensures unasked { result.1 ≡ None → IfOk result.0 (λ status. (status ≡ JobStatus.Failed) × Prints (W.contents out.old) (W.contents out.new) IsLoopFailure) }
 {
     let (far, near) = match two_links(rt) {
         Ok(links) => links,
@@ -54,7 +54,7 @@ pub fn run_loop<R: Net + Eprint + AllocGlobal, W: Write>(
         Err(fault) => return (fail_by_ledger(fault, out), None),
     };
     let (asked, book, far, near) = loop_over(book, far, near, day, out);
-    let looped = Looped {
+    let looped = LoopResources {
         connection: book.close(),
         far,
         near,
@@ -63,7 +63,7 @@ pub fn run_loop<R: Net + Eprint + AllocGlobal, W: Write>(
 }
 
 // Serves a book over the far link on this day, and makes the calls to it over the near one. Answers the book and the links too.
-fn loop_over<B: Settle, W: Write>(
+fn loop_over<B: GroupCommit, W: Write>(
     book: B,
     far: UdpLink,
     near: UdpLink,
@@ -72,7 +72,7 @@ fn loop_over<B: Settle, W: Write>(
 ) -> (Result<JobStatus, WriteFault>, B, UdpLink, UdpLink)
     ensures { (begun : NearLink B BoundLink BoundLink) × (begun ≡ record { server = begun.server; far = far; near = near; day = day }) × (book_of begun.server ≡ book)
         × (ended : NearLink B BoundLink BoundLink) × (result.1 ≡ book_of ended.server) × (result.2 ≡ ended.far) × (result.3 ≡ ended.near)
-        × LeadsTo (IsNearStep B.faults B.honest B.terms B.history B.settled (λ (l : BoundLink). l.trace) (λ (l : BoundLink). l.trace)) begun ended
+        × LeadsTo (IsNearStep B.faults B.honest B.terms B.history B.committed (λ (l : BoundLink). l.trace) (λ (l : BoundLink). l.trace)) begun ended
         × (to : Peer) × IfOk result.0 (λ status. Prints (W.contents out.old) (W.contents out.new) (AreMadeInTurn to loop_calls near.trace result.3.trace status)) }
 {
     let to = far.local();

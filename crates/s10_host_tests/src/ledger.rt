@@ -1,8 +1,10 @@
 //! Tests of ledgers in tables, and of their rows.
 
+mod batches;
 mod books;
 pub(crate) mod calls;
 mod closed_tables;
+mod committing;
 mod creating;
 mod made_rows;
 mod many_draws;
@@ -10,9 +12,7 @@ mod many_ranges;
 mod old_ledgers;
 mod openings;
 mod readings;
-mod rounds;
 mod rows;
-mod settling;
 mod sheet_tables;
 mod sheets;
 mod stops;

@@ -17,10 +17,10 @@ use Rattle.s10_book.proofs.Apart.{apart}
 use Rattle.s10_book.proofs.Marks.{one_range}
 use Rattle.s10_book.proofs.Own.{lies_picked, ordered}
 use Rattle.s10_history.proofs.Numbering.{Contains-find, found_passes}
-use Rattle.s10_ranges.specs.declared.turn.Turn.TheVariants.{First, Later}
-use Rattle.s10_ranges.specs.Turns.{turn_of}
+use Rattle.s10_ranges.specs.declared.lap.Lap.TheVariants.{First, Later}
+use Rattle.s10_ranges.specs.Laps.{lap_of}
 use Rattle.s10_ranges.proofs.Turning.{pick_unissued}
-use Rattle.s10_rows.specs.Kept.{issues_before}
+use Rattle.s10_rows.specs.RowWrites.{issues_before}
 use Rattle.s10_replay.proofs.CallIssues.{issue_at}
 
 -- whether the range has the identifier
@@ -58,8 +58,8 @@ still_first false is = refl
 
 -- what a range gives in its first turn, and not behind its last serial in the same call, was never issued
 pub never_issued : (h : List Entry) (t : Terms) (e : Entry) (place : ℕ) (y : Issuance) (r : Range) → IsLegal h t → MayFollow h t e → slice_get (issues_at (1 + length h) e) place ≡ Some y → Contains (ranges_of h) r → lies_in r y.id ≡ true
-    → turn_of (issues_of h) r ≡ First → is_issued (take place (issues_at (1 + length h) e)) (id_at r r.last) ≡ false → is_issued (issues_before place h e) y.id ≡ false
-never_issued h t e place y r legal may at there lies turn none =
+    → lap_of (issues_of h) r ≡ First → is_issued (take place (issues_at (1 + length h) e)) (id_at r r.last) ≡ false → is_issued (issues_before place h e) y.id ≡ false
+never_issued h t e place y r legal may at there lies lap none =
     let found = issue_at h t e (1 + length h) place y legal may at in
     let is : List Issuance = issues_before place h e in
     let from = found.2.picked in
@@ -68,7 +68,7 @@ never_issued h t e place y r legal may at there lies turn none =
     one_range (ranges_of h) from.range r found.0.1 (apart h t legal) from.there there (lies_picked h t e.request.customer e.day t.interval is found.0 legal from) (subst P found.1 lies) in
     let last : is_issued is (id_at r r.last) ≡ false =
     list_any-append (is_of (id_at r r.last)) (issues_of h) (take place (issues_at (1 + length h) e))
-    ∙ or_from (is_issued (issues_of h) (id_at r r.last)) (is_issued (take place (issues_at (1 + length h) e)) (id_at r r.last)) (still_first (is_issued (issues_of h) (id_at r r.last)) turn) none in
+    ∙ or_from (is_issued (issues_of h) (id_at r r.last)) (is_issued (take place (issues_at (1 + length h) e)) (id_at r r.last)) (still_first (is_issued (issues_of h) (id_at r r.last)) lap) none in
     let order : r.first ≤ r.last = All-contains (λ s. s.first ≤ s.last) (ranges_of h) r (ordered h t legal) there in
     let picked : id_at r (pick_of is r) ≡ y.id = ap (λ (s : Range). id_at s (pick_of is s)) (sym same) ∙ from.picked ∙ ap (λ (i : Issuance). i.id) (sym found.1) in
     let Q : Id → Type 0 = λ x. is_issued is x ≡ false in

@@ -19,14 +19,14 @@ use Rattle.s10_book.proofs.Spaced.{id_same, sound}
 use Rattle.s10_ranges.specs.declared.mark.Mark.{Mark}
 use Rattle.s10_ranges.specs.declared.ranges.Ranges.{Ranges}
 use Rattle.s10_ranges.specs.Mirror.{Mirrors}
-use Rattle.s10_ranges.specs.Turns.{mark_of}
+use Rattle.s10_ranges.specs.Laps.{mark_of}
 use Rattle.s10_rows.specs.declared.range_row.RangeRow.{RangeRow}
 use Rattle.s10_rows.specs.declared.serial_row.SerialRow.{SerialRow}
 use Rattle.s10_rows.specs.Tables.{range_row, serial_row}
 use Rattle.s10_replay.proofs.LastIssues.{none_filter}
 use Rattle.s10_replay.proofs.SerialRows.{last_passes}
-use Rattle.s10_index.specs.LastIssues.{told}
-use Rattle.s10_index.specs.RowsBehind.{range_rows_behind, last_rows, rows_behind}
+use Rattle.s10_index.specs.LastIssues.{issue_in_history}
+use Rattle.s10_index.specs.RowsFrom.{range_rows_from, last_rows, serial_rows_from}
 
 -- ---- the issues of a history, parted at a call and at an issue of it
 
@@ -91,7 +91,7 @@ last_behind p o (x ∷ front) is l e = at (p x) refl (last_behind p (Some x) fro
     at false fails here past = rw fails past
 
 -- what is told of the last issue
-told_last : (h : List Entry) (x : Id) (l : Issuance) → last_issuance_of (issues_of h) x ≡ Some l → last_issue_of h x ≡ Some (told h x l)
+told_last : (h : List Entry) (x : Id) (l : Issuance) → last_issuance_of (issues_of h) x ≡ Some l → last_issue_of h x ≡ Some (issue_in_history h x l)
 told_last h x l e =
     ap (λ (o : Option Issuance). option_map (λ (i : Issuance). record { day = i.day; voided = unwrap_or (option_map (λ (j : Issuance). voided_after j.arrival h x) o) false; customer = i.customer; number = i.number }) o) e
 
@@ -161,7 +161,7 @@ own_issue h t before behind i known legal pos split is own = by (is_issued behin
 -- ---- the rows so far
 
 -- behind the last call there is none
-pub none_behind : (h : List Entry) (place : ℕ) → length h ≤ place → rows_behind h place ≡ []
+pub none_behind : (h : List Entry) (place : ℕ) → length h ≤ place → serial_rows_from h place ≡ []
 none_behind h place past = ap (λ l. last_rows h (issues_from (place + 1) l)) (drop_all place h past)
 
 -- the rows so far, and those that one step makes
@@ -179,12 +179,12 @@ whole rows rest all none before = sym (append-nil rows) ∙ ap (λ l. rows ++ l)
 
 -- the row of a range stands before those of the ranges behind it
 pub range_row_next : (r : Ranges) (h : List Entry) (place : ℕ) (range : Range) (mark : Mark) (row : RangeRow) → Mirrors r h → slice_get r.ranges.items place ≡ Some range → slice_get r.marks.items place ≡ Some mark
-    → row ≡ range_row mark.serial range → range_rows_behind h place ≡ row ∷ range_rows_behind h (place + 1)
+    → row ≡ range_row mark.serial range → range_rows_from h place ≡ row ∷ range_rows_from h (place + 1)
 range_row_next r h place range mark row m at marked is =
     let here : slice_get (ranges_of h) place ≡ Some range = ap (λ (l : List Range). slice_get l place) (sym m.ranges) ∙ at in
     let own : Some mark ≡ Some (mark_of (issues_of h) range) =
     sym marked ∙ ap (λ (l : List Mark). slice_get l place) m.marks ∙ slice_get-map (mark_of (issues_of h)) (ranges_of h) place ∙ ap (option_map (mark_of (issues_of h))) here in
     let row_of : Range → RangeRow = λ s. range_row (pick_of (issues_of h) s) s in
     ap (map row_of) (from_place (ranges_of h) place range here)
-    ∙ ap (λ (k : Mark). range_row k.serial range ∷ range_rows_behind h (place + 1)) (sym (same_Some mark (mark_of (issues_of h) range) own))
-    ∙ ap (λ (s : RangeRow). s ∷ range_rows_behind h (place + 1)) (sym is)
+    ∙ ap (λ (k : Mark). range_row k.serial range ∷ range_rows_from h (place + 1)) (sym (same_Some mark (mark_of (issues_of h) range) own))
+    ∙ ap (λ (s : RangeRow). s ∷ range_rows_from h (place + 1)) (sym is)

@@ -1,7 +1,7 @@
 pub mod Sheets
 pub mod LastDay
 pub mod Placing
-pub mod Noting
+pub mod Recording
 pub mod Inserting
 pub mod Reserving
 pub mod LastRows

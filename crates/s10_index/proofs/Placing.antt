@@ -11,15 +11,15 @@ use Rattle.s10_history.specs.declared.issue.Issue.{Issue}
 use Rattle.std.proofs.lemmas.List.Elements.{All-nil, All-push, All-weaker, Contains-get_or}
 use Rattle.s10_history.specs.declared.issuance.Issuance.{Issuance}
 use Rattle.s10_history.specs.Settings.{Terms}
-use Rattle.s10_history.specs.History.{has_key, entry_with_key}
+use Rattle.s10_history.specs.History.{has_key, find_entry}
 use Rattle.s10_history.specs.Issues.{issues_of, last_issuance_of, last_issue_of}
 use Rattle.s10_book.specs.Rules.{IsLegal}
 use Rattle.s10_book.proofs.Legal.{legal_induction}
 use Rattle.s10_book.proofs.Carried.{made_by, after_call}
 use Rattle.s10_book.proofs.Own.{IsOwned, owned}
 use Rattle.s10_replay.proofs.SerialRows.{last_passes}
-use Rattle.s10_index.specs.LastIssues.{told}
-use Rattle.s10_index.proofs.Noting.{last_told}
+use Rattle.s10_index.specs.LastIssues.{issue_in_history}
+use Rattle.s10_index.proofs.Recording.{last_told}
 
 -- where no call has a place, none is found
 pub none_placed : (p : Entry → Bool) (xs : List Entry) (i : ℕ) → position_from p i xs ≡ None → find p xs ≡ None
@@ -64,15 +64,15 @@ place_same p [] i e fails = rw fails refl
 place_same p (x ∷ xs) i e fails = ap (cond (p x) (Some i)) (place_same p xs (i + 1) e fails)
 
 -- the place of a key behind a call with a new key
-pub place_behind : (h : List Entry) (e : Entry) (customer number place : ℕ) (o : Option ℕ) → entry_with_key h e.request.customer e.request.number ≡ None → place ≡ length h
+pub place_behind : (h : List Entry) (e : Entry) (customer number place : ℕ) (o : Option ℕ) → find_entry h e.request.customer e.request.number ≡ None → place ≡ length h
     → o ≡ position_from (has_key customer number) 0 h → cond (has_key customer number e) (Some place) o ≡ position_from (has_key customer number) 0 (h ++ e ∷ [])
 place_behind h e customer number place o new is old = at (has_key customer number e) refl
   where
     at : (b : Bool) → has_key customer number e ≡ b → cond b (Some place) o ≡ position_from (has_key customer number) 0 (h ++ e ∷ [])
     at true same =
         let both = and_parts (eqb e.request.customer customer) (eqb e.request.number number) same in
-        let none : entry_with_key h customer number ≡ None =
-        ap₂ (entry_with_key h) (sym (eqb-true e.request.customer customer both.0)) (sym (eqb-true e.request.number number both.1)) ∙ new in
+        let none : find_entry h customer number ≡ None =
+        ap₂ (find_entry h) (sym (eqb-true e.request.customer customer both.0)) (sym (eqb-true e.request.number number both.1)) ∙ new in
         sym (place_new (has_key customer number) h 0 e none ∙ ap (λ b. cond b (Some (0 + length h)) None) same ∙ ap Some (omega (arith, is)))
     at false other = old ∙ sym (place_same (has_key customer number) h 0 e other)
 
@@ -116,15 +116,15 @@ last_placed h t x known found legal is at = by (last_issuance_of (issues_of h) x
     Known k = found ≡ position_from (has_key k.customer k.number) 0 h
         → (place : ℕ) × (found ≡ Some place) × (place + 1 ≤ length h) × (last_issuance_of (issues_of h) x ≡ Some (record { id = x; day = k.day; customer = k.customer; number = k.number; arrival = place + 1 }))
 
-    by : (o : Option Issuance) → last_issuance_of (issues_of h) x ≡ o → option_map (told h x) o ≡ Some known
+    by : (o : Option Issuance) → last_issuance_of (issues_of h) x ≡ o → option_map (issue_in_history h x) o ≡ Some known
         → (place : ℕ) × (found ≡ Some place) × (place + 1 ≤ length h) × (last_issuance_of (issues_of h) x ≡ Some (record { id = x; day = known.day; customer = known.customer; number = known.number; arrival = place + 1 }))
     by None last e = absurd (none-some known e)
     by (Some i) last e =
         let it = last_passes (IsPlaced h) x (issues_of h) i (placed_issues h t legal) last in
         let made = last_passes (IsOwned h) x (issues_of h) i (owned h t legal) last in
         let same : i ≡ record { id = x; day = i.day; customer = i.customer; number = i.number; arrival = it.0.0 + 1 } = ap₂ (λ (y : Id) (n : ℕ). record i { id = y; arrival = n }) it.1 it.0.2 in
-        let here : Known (told h x i) = λ stands. (it.0.0, stands ∙ it.0.1, omega (arith, made.0.1, it.0.2), last ∙ ap Some same) in
-        subst Known (same_Some (told h x i) known e) here at
+        let here : Known (issue_in_history h x i) = λ stands. (it.0.0, stands ∙ it.0.1, omega (arith, made.0.1, it.0.2), last ∙ ap Some same) in
+        subst Known (same_Some (issue_in_history h x i) known e) here at
 
 -- what stands at a place is among all
 pub placed_among : (xs : List Entry) (k : ℕ) → IfSome (slice_get xs k) (Contains xs)

@@ -8,26 +8,26 @@ use Rattle.s10_core.specs.declared.id.Id.{Id}
 use Rattle.s10_wire.specs.declared.outcome.Outcome.{Outcome}
 use Rattle.s10_wire.specs.declared.outcome.Outcome.TheVariants as outcomes
 use Rattle.s10_history.specs.declared.entry.Entry.{Entry}
-use Rattle.s10_index.specs.declared.short_outcome.ShortOutcome.{ShortOutcome}
-use Rattle.s10_index.specs.declared.short_outcome.ShortOutcome.TheVariants.{DrawnMany}
-use Rattle.s10_index.specs.declared.short_call.ShortCall.{ShortCall}
-use Rattle.s10_index.specs.ShortOutcomes.{outcome_of, entry_of, sheet_of, NamesSheetOf}
+use Rattle.s10_index.specs.declared.compact_outcome.CompactOutcome.{CompactOutcome}
+use Rattle.s10_index.specs.declared.compact_outcome.CompactOutcome.TheVariants.{DrawnMany}
+use Rattle.s10_index.specs.declared.compact_call.CompactCall.{CompactCall}
+use Rattle.s10_index.specs.CompactOutcomes.{outcome_of, entry_of, sheet_of, NamesSheetOf}
 
 -- an outcome whose sheet is there is the same over more sheets
-same_outcome : (sheets more : List (List Id)) (o : ShortOutcome) → NamesSheetOf (length sheets) o → outcome_of (sheets ++ more) o ≡ outcome_of sheets o
+same_outcome : (sheets more : List (List Id)) (o : CompactOutcome) → NamesSheetOf (length sheets) o → outcome_of (sheets ++ more) o ≡ outcome_of sheets o
 same_outcome sheets more (DrawnMany day sheet) there = ap (outcomes.DrawnMany day) (get_or-append sheets more [] sheet there)
 same_outcome sheets more o there = refl
 
 -- and so is each call
-same_calls : (sheets more : List (List Id)) (rows : List ShortCall) → All (λ row. NamesSheetOf (length sheets) row.outcome) rows → map (entry_of (sheets ++ more)) rows ≡ map (entry_of sheets) rows
+same_calls : (sheets more : List (List Id)) (rows : List CompactCall) → All (λ row. NamesSheetOf (length sheets) row.outcome) rows → map (entry_of (sheets ++ more)) rows ≡ map (entry_of sheets) rows
 same_calls sheets more [] there = refl
 same_calls sheets more (row ∷ rows) there =
-    let Named : ShortCall → Type 0 = λ r. NamesSheetOf (length sheets) r.outcome in
+    let Named : CompactCall → Type 0 = λ r. NamesSheetOf (length sheets) r.outcome in
     let told : Outcome → Entry = λ o. record { request = row.request; day = row.day; outcome = o } in
     ap₂ (λ (e : Entry) (es : List Entry). e ∷ es) (ap told (same_outcome sheets more row.outcome (All-head Named row rows there))) (same_calls sheets more rows (All-tail Named row rows there))
 
 -- one more call, told in short over its own sheet too
-pub calls-push : (old more new : List (List Id)) (rows all : List ShortCall) (row : ShortCall) (e : Entry) → new ≡ old ++ more → all ≡ rows ++ row ∷ [] → All (λ r. NamesSheetOf (length old) r.outcome) rows
+pub calls-push : (old more new : List (List Id)) (rows all : List CompactCall) (row : CompactCall) (e : Entry) → new ≡ old ++ more → all ≡ rows ++ row ∷ [] → All (λ r. NamesSheetOf (length old) r.outcome) rows
     → entry_of new row ≡ e → map (entry_of new) all ≡ map (entry_of old) rows ++ e ∷ []
 calls-push old more new rows all row e grown longer there is =
     ap (map (entry_of new)) longer
@@ -35,15 +35,15 @@ calls-push old more new rows all row e grown longer there is =
     ∙ ap₂ (λ (es : List Entry) (x : Entry). es ++ x ∷ []) (ap (λ (sheets : List (List Id)). map (entry_of sheets) rows) grown ∙ same_calls old more rows there) is
 
 -- a sheet that is there is there among more
-still_named : (count more : ℕ) (o : ShortOutcome) → count ≤ more → NamesSheetOf count o → NamesSheetOf more o
+still_named : (count more : ℕ) (o : CompactOutcome) → count ≤ more → NamesSheetOf count o → NamesSheetOf more o
 still_named count more (DrawnMany day sheet) le there = omega arith
 still_named count more o le there = tt
 
 -- the sheets of all calls are there, that of one more call too
-pub named-push : (count more : ℕ) (rows all : List ShortCall) (row : ShortCall) → count ≤ more → all ≡ rows ++ row ∷ [] → All (λ r. NamesSheetOf count r.outcome) rows
+pub named-push : (count more : ℕ) (rows all : List CompactCall) (row : CompactCall) → count ≤ more → all ≡ rows ++ row ∷ [] → All (λ r. NamesSheetOf count r.outcome) rows
     → NamesSheetOf more row.outcome → All (λ r. NamesSheetOf more r.outcome) all
 named-push count more rows all row le longer there named =
-    let Named : ℕ → ShortCall → Type 0 = λ n r. NamesSheetOf n r.outcome in
+    let Named : ℕ → CompactCall → Type 0 = λ n r. NamesSheetOf n r.outcome in
     subst (All (Named more)) (sym longer) (All-push (Named more) rows row (All-weaker (Named count) (Named more) (λ r. still_named count more r.outcome le) rows there) named)
 
 -- a call has at most one sheet

@@ -8,7 +8,7 @@ use Rattle.s10_rows.specs.declared.call_write.CallWrite.{CallWrite}
 use Rattle.s10_rows.specs.CallWrite.{Writes, row_written}
 use Rattle.s10_rows.specs.Replies.{reply_bytes}
 use Rattle.s10_rows.specs.Tables.{tables_of, call_row, call_rows_from, call_rows, closing, closed_rows_from, closed_rows}
-use Rattle.s10_rows.specs.Kept.{Makes}
+use Rattle.s10_rows.specs.RowWrites.{MakesWrites}
 
 call_rows_more : (at : ℕ) (h : List Entry) (e : Entry) → call_rows_from at (h ++ e ∷ []) ≡ call_rows_from at h ++ call_row (at + length h) e ∷ []
 call_rows_more at [] e = ap (λ n. call_row n e ∷ []) (omega arith)
@@ -27,7 +27,7 @@ row_is : (n : ℕ) (w : CallWrite) → w.arrival ≡ n → w.reply ≡ reply_byt
 row_is n w p q = cc
 
 -- what a call writes behind a history, with its reply, makes the tables into those of the longer one
-pub writes_call : (h : List Entry) (t : Terms) (w : CallWrite) → w.arrival ≡ length h + 1 → w.reply ≡ reply_bytes w.entry.request w.entry.outcome → Makes h w.entry w.ranges.items w.serials.items
+pub writes_call : (h : List Entry) (t : Terms) (w : CallWrite) → w.arrival ≡ length h + 1 → w.reply ≡ reply_bytes w.entry.request w.entry.outcome → MakesWrites h w.entry w.ranges.items w.serials.items
     → Writes w (tables_of h t) (tables_of (h ++ w.entry ∷ []) t)
 writes_call h t w at reply makes = record {
   few = makes.few;

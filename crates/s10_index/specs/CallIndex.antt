@@ -6,19 +6,19 @@ use Rattle.s10_history.specs.Issues.{carried_by}
 use Rattle.s10_ranges.specs.Mirror.{Mirrors}
 use Rattle.s10_ranges.specs.Room.{HasRoom}
 use Rattle.s10_index.specs.declared.call_index.CallIndex.{CallIndex}
-use Rattle.s10_index.specs.Places.{HasPlaces}
+use Rattle.s10_index.specs.Positions.{HasPositions}
 use Rattle.s10_index.specs.LastIssues.{HasIssues}
 
 -- the calls of the history, its ranges with their marks, the place of each call, and the last issue of each identifier
 pub record Indexes (index : CallIndex) (h : List Entry) : Type 0 where
   pub calls : index.entries.items ≡ h
   pub ranges : Mirrors index.ranges h
-  pub places : HasPlaces index.places h
+  pub positions : HasPositions index.positions h
   pub issues : HasIssues index.issues h
 
 -- there is room for the call, and for all that it makes
 pub record HasRoomFor (index : CallIndex) (e : Entry) : Type 0 where
   pub calls : 0 < index.entries.room
   pub ranges : HasRoom index.ranges
-  pub places : 0 < spare index.places
+  pub positions : 0 < spare index.positions
   pub issues : length (carried_by e.outcome) ≤ spare index.issues

@@ -1,8 +1,8 @@
-pub mod ShortOutcomes
-pub mod Calls
+pub mod CompactOutcomes
+pub mod CallLog
 pub mod Keys
-pub mod Places
+pub mod Positions
 pub mod LastIssues
 pub mod CallIndex
-pub mod RowsBehind
-pub mod Remade
+pub mod RowsFrom
+pub mod ReplayedBook

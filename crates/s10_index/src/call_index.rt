@@ -4,13 +4,13 @@ ghost use Rattle.std.specs.Prelude.{◌≡◌, ◌∷◌, ◌++◌, [], ◌<◌,
 ghost use Rattle.s10_wire.specs.Kind.{fits};
 ghost use Rattle.s10_history.specs.declared.entry.Entry.{Entry};
 ghost use Rattle.s10_history.specs.Settings.{Terms};
-ghost use Rattle.s10_history.specs.History.{day_of, ranges_of, entry_with_key, entry_at};
+ghost use Rattle.s10_history.specs.History.{day_of, ranges_of, find_entry, entry_at};
 ghost use Rattle.s10_history.specs.Issues.{issues_of, last_issuance_of, last_issue_of, candidate_after_of, size_of, pick_of};
 ghost use Rattle.s10_book.specs.Rules.{IsLegal, MayFollow};
 
-use crate::calls::Calls;
-use crate::last_issues::{note_call, noted_issue};
-use crate::places::{kept_call, kept_place, note_place};
+use crate::call_log::CallLog;
+use crate::last_issues::{record_call, recorded_issue};
+use crate::positions::{find_in, position_of, record_position};
 use s10_core::{Id, Serial};
 use s10_history::{Candidate, Entry, Issuance, Issue, Range};
 use s10_ranges::Ranges;
@@ -22,9 +22,9 @@ use std::collections::HashMap;
 /// holds where its calls are a history, as `Indexes` says. No look-up takes longer in a long history than the logarithm of it.
 #[derive(Drop)]
 pub struct CallIndex {
-    pub(crate) entries: Calls,
+    pub(crate) entries: CallLog,
     pub(crate) ranges: Ranges,
-    places: HashMap<(u32, u32), u32>,
+    positions: HashMap<(u32, u32), u32>,
     pub(crate) issues: HashMap<(u32, u32), Issue>,
     ghost fitting: { All (λ e. IsTrue (fits e.request.body e.outcome)) entries.items },
 }
@@ -37,15 +37,15 @@ impl CallIndex {
         ensures { Indexes result [] }
     {
         CallIndex {
-            entries: Calls::new(alloc),
+            entries: CallLog::new(alloc),
             ranges: Ranges::new(alloc),
-            places: HashMap::new(alloc),
+            positions: HashMap::new(alloc),
             issues: HashMap::new(alloc),
         }
     }
 
     /// The calls, in order of arrival.
-    pub fn calls(&self) -> &Calls
+    pub fn calls(&self) -> &CallLog
         ensures { result.now.items ≡ self.now.entries.items }
     {
         &self.entries
@@ -70,10 +70,10 @@ impl CallIndex {
 
     /// The call with that key, if there is one.
     pub fn find(&self, customer: u32, number: u32) -> Option<Entry>
-        ensures answer { (h : List Entry) → Indexes self.now h → result ≡ entry_with_key h customer number }
+        ensures answer { (h : List Entry) → Indexes self.now h → result ≡ find_entry h customer number }
         ensures fits { IfSome result (λ e. IsTrue (fits e.request.body e.outcome)) }
     {
-        kept_call(&self.entries, &self.places, customer, number)
+        find_in(&self.entries, &self.positions, customer, number)
     }
 
     /// Call number `at`, counted from 1, if there are so many.
@@ -90,7 +90,7 @@ impl CallIndex {
     pub fn last_issue(&self, id: &Id) -> Option<Issue>
         ensures { (h : List Entry) → Indexes self.now h → result ≡ last_issue_of h id.now }
     {
-        noted_issue(&self.issues, id)
+        recorded_issue(&self.issues, id)
     }
 
     /// The last issue of an identifier with the call that made it, if it was ever issued.
@@ -98,7 +98,7 @@ impl CallIndex {
         ensures { (h : List Entry) (t : Terms) → IsLegal h t → length h < 4294967295 → Indexes self.now h → result ≡ last_issuance_of (issues_of h) id.now }
     {
         let issue = self.last_issue(id)?;
-        let place = kept_place(&self.places, issue.customer, issue.number)?;
+        let place = position_of(&self.positions, issue.customer, issue.number)?;
         let arrival = place.checked_add(1)?;
         Some(Issuance {
             id: *id,
@@ -124,7 +124,7 @@ impl CallIndex {
     pub fn candidate_after(&self, range: &Range, issued: u8) -> Candidate
         ensures { (h : List Entry) (t : Terms) → IsLegal h t → Indexes self.now h → Contains (ranges_of h) range.now → issued < size_of range.now → result ≡ candidate_after_of h range.now issued }
     {
-        let serial = range.serial_behind(self.pick(range), issued);
+        let serial = range.serial_after(self.pick(range), issued);
         let id = Id {
             service: range.service,
             serial,
@@ -141,7 +141,7 @@ impl CallIndex {
         ensures room { OnOk result (HasRoomFor self.new entry.now) }
     {
         self.ranges.reserve()?;
-        self.places.reserve(1)?;
+        self.positions.reserve(1)?;
         self.issues.reserve(entry.issued())?;
         self.entries.reserve()
     }
@@ -156,8 +156,8 @@ impl CallIndex {
     {
         let place = self.calls().len() as u32;
         self.ranges.follow(&entry);
-        note_place(&mut self.places, &entry, place);
-        note_call(&mut self.issues, &entry);
+        record_position(&mut self.positions, &entry, place);
+        record_call(&mut self.issues, &entry);
         self.entries.push_reserved(entry);
     }
 }

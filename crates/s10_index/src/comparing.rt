@@ -1,25 +1,25 @@
 //! The rows of a ledger are compared with those that its calls make.
 
 ghost use Rattle.std.specs.Prelude.{◌≡◌, ◌≤◌, ◌↔◌, pos, length, All, IfOk, IfErr, OnOk, IsTrue};
-ghost use Rattle.s10_history.specs.declared.settings.TheConstants.{GREATEST_LIMIT};
+ghost use Rattle.s10_history.specs.declared.settings.TheConstants.{MAX_LIMIT};
 ghost use Rattle.s10_history.specs.Settings.{Terms};
 ghost use Rattle.s10_index.specs.CallIndex.{Indexes};
 ghost use Rattle.s10_rows.specs.Tables.{Tables, HaveSameRows, range_rows, serial_rows, closed_rows};
 ghost use Rattle.s10_replay.specs.RightRows.{AreRight, kept_of};
-ghost use Rattle.s10_replay.specs.Verdict.{AreMade, IsHead, IsWhole, IsRefusal};
+ghost use Rattle.s10_replay.specs.CheckedTables.{AreDerived, IsHead, IsConsistent, IsRefusal};
 ghost use Rattle.s10_rows.specs.Selected.{IsCall};
-ghost use Rattle.s10_index.specs.Remade.{IsRemade, AreTheirs};
+ghost use Rattle.s10_index.specs.ReplayedBook.{IsReplayedBook, AreDerivedRows};
 
 use crate::call_index::CallIndex;
 use crate::indexed_book::IndexedBook;
-use crate::made_rows::MadeRows;
-use crate::remade::Remade;
+use crate::replayed_book::ReplayedBook;
+use crate::stored_rows::StoredRows;
 use s10_replay::{same_closed, same_ranges, same_serials};
-use s10_rows::{ClosedRow, OpenFault, Opened, RangeRow, SerialRow};
+use s10_rows::{ClosedRow, LedgerSummary, OpenFault, RangeRow, SerialRow};
 use std::alloc::Global;
 
 // Whether these are the ranges of the book.
-fn has_ranges(alloc: Global, book: &IndexedBook, rows: Vec<RangeRow>) -> Result<bool, OpenFault>
+fn ranges_match(alloc: Global, book: &IndexedBook, rows: Vec<RangeRow>) -> Result<bool, OpenFault>
     ensures err { (tables : Tables) → IfErr result (IsRefusal tables) }
     ensures answer { IfOk result (λ b. IsTrue b ↔ HaveSameRows (range_rows book.now.index.entries.items) rows.items) }
 {
@@ -30,7 +30,7 @@ fn has_ranges(alloc: Global, book: &IndexedBook, rows: Vec<RangeRow>) -> Result<
 }
 
 // Whether these are the serials of the book.
-fn has_serials(alloc: Global, book: &IndexedBook, rows: Vec<SerialRow>) -> Result<bool, OpenFault>
+fn serials_match(alloc: Global, book: &IndexedBook, rows: Vec<SerialRow>) -> Result<bool, OpenFault>
     ensures err { (tables : Tables) → IfErr result (IsRefusal tables) }
     ensures answer { All IsCall book.now.index.entries.items → IfOk result (λ b. IsTrue b ↔ HaveSameRows (serial_rows book.now.index.entries.items) rows.items) }
 {
@@ -41,7 +41,7 @@ fn has_serials(alloc: Global, book: &IndexedBook, rows: Vec<SerialRow>) -> Resul
 }
 
 // Whether these are the closed ranges of the book.
-fn has_closed(alloc: Global, book: &IndexedBook, rows: Vec<ClosedRow>) -> Result<bool, OpenFault>
+fn closed_match(alloc: Global, book: &IndexedBook, rows: Vec<ClosedRow>) -> Result<bool, OpenFault>
     ensures err { (tables : Tables) → IfErr result (IsRefusal tables) }
     ensures answer { IfOk result (λ b. IsTrue b ↔ HaveSameRows (closed_rows book.now.index.entries.items) rows.items) }
 {
@@ -52,14 +52,14 @@ fn has_closed(alloc: Global, book: &IndexedBook, rows: Vec<ClosedRow>) -> Result
 }
 
 // Compares the rows with those that the calls of the book make. Refused with Damaged(0) where they differ, and with Memory.
-fn compare_rows(alloc: Global, book: &IndexedBook, rows: MadeRows) -> Result<(), OpenFault>
-    ensures ok { (tables : Tables) (t : Terms) → AreTheirs tables rows → AreRight t tables.calls → book.now.index.entries.items ≡ kept_of tables.calls → OnOk result (AreMade tables) }
-    ensures err { (tables : Tables) (t : Terms) → AreTheirs tables rows → IsHead tables.heads (pos 1) t → AreRight t tables.calls → book.now.index.entries.items ≡ kept_of tables.calls
+fn compare_rows(alloc: Global, book: &IndexedBook, rows: StoredRows) -> Result<(), OpenFault>
+    ensures ok { (tables : Tables) (t : Terms) → AreDerivedRows tables rows → AreRight t tables.calls → book.now.index.entries.items ≡ kept_of tables.calls → OnOk result (AreDerived tables) }
+    ensures err { (tables : Tables) (t : Terms) → AreDerivedRows tables rows → IsHead tables.heads (pos 1) t → AreRight t tables.calls → book.now.index.entries.items ≡ kept_of tables.calls
         → IfErr result (IsRefusal tables) }
 {
-    let ranges = has_ranges(alloc, book, rows.ranges)?;
-    let serials = has_serials(alloc, book, rows.serials)?;
-    let closed = has_closed(alloc, book, rows.closed)?;
+    let ranges = ranges_match(alloc, book, rows.ranges)?;
+    let serials = serials_match(alloc, book, rows.serials)?;
+    let closed = closed_match(alloc, book, rows.closed)?;
     if ranges && serials && closed {
         Ok(())
     } else {
@@ -69,17 +69,17 @@ fn compare_rows(alloc: Global, book: &IndexedBook, rows: MadeRows) -> Result<(),
 
 /// What is found of a ledger whose calls were done again, by the rows of the tables that they make, and the index of its
 /// calls. Refused with Damaged(0) where another row is there, and with Memory.
-pub fn verdict(
+pub fn check_tables(
     alloc: Global,
-    made: Remade,
-    rows: MadeRows,
-) -> Result<(Opened, CallIndex), OpenFault>
-    ensures few { IfOk result (λ found. length found.1.entries.items ≤ GREATEST_LIMIT) }
-    ensures indexed { (tables : Tables) → IsRemade tables.heads tables.calls made → IfOk result (λ found. Indexes found.1 (kept_of tables.calls)) }
-    ensures ok { (tables : Tables) → AreTheirs tables rows → IsRemade tables.heads tables.calls made → IfOk result (λ found. IsWhole tables found.0) }
-    ensures err { (tables : Tables) → AreTheirs tables rows → IsRemade tables.heads tables.calls made → IfErr result (IsRefusal tables) }
+    made: ReplayedBook,
+    rows: StoredRows,
+) -> Result<(LedgerSummary, CallIndex), OpenFault>
+    ensures few { IfOk result (λ found. length found.1.entries.items ≤ MAX_LIMIT) }
+    ensures indexed { (tables : Tables) → IsReplayedBook tables.heads tables.calls made → IfOk result (λ found. Indexes found.1 (kept_of tables.calls)) }
+    ensures ok { (tables : Tables) → AreDerivedRows tables rows → IsReplayedBook tables.heads tables.calls made → IfOk result (λ found. IsConsistent tables found.0) }
+    ensures err { (tables : Tables) → AreDerivedRows tables rows → IsReplayedBook tables.heads tables.calls made → IfErr result (IsRefusal tables) }
 {
-    let Remade { book, opened } = made;
+    let ReplayedBook { book, opened } = made;
     compare_rows(alloc, &book, rows)?;
     Ok((opened, book.into_index()))
 }

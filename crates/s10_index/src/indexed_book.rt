@@ -2,20 +2,20 @@
 
 ghost use Rattle.std.specs.Prelude.{◌≡◌, ◌∷◌, ◌++◌, [], ⊤, OnOk, OnErr, IfOk, IfErr, IfSome, IsTrue, Contains, find, ◌==◌, ◌<◌, ◌≤◌, length, count_by};
 ghost use Rattle.s10_wire.specs.Kind.{fits};
-ghost use Rattle.s10_history.specs.History.{ranges_of, entry_with_key, entry_at, is_closed, is_open_above, overlaps};
+ghost use Rattle.s10_history.specs.History.{ranges_of, find_entry, entry_at, is_closed, is_open_after, overlaps};
 ghost use Rattle.s10_history.specs.Issues.{issues_of, last_issue_of, candidate_of, candidate_after_of, size_of, pick_of, is_issued, is_voided as is_voided_in, is_free as is_free_on, id_at, serials};
 ghost use Rattle.s10_history.specs.Usage.{usage_of};
-ghost use Rattle.s10_history.specs.declared.settings.TheConstants.{GREATEST_LIMIT};
+ghost use Rattle.s10_history.specs.declared.settings.TheConstants.{MAX_LIMIT};
 ghost use Rattle.s10_book.specs.Rules.{IsLegal, MayFollow};
-ghost use Rattle.s10_book.specs.BookFault.{Counts, no_faults};
+ghost use Rattle.s10_book.specs.BookFault.{CountsResult, no_faults};
 ghost use Rattle.s10_index.specs.CallIndex.{Indexes};
 
 use crate::call_index::CallIndex;
-use s10_book::{Book, BookFault, Faults, Settle};
+use s10_book::{Book, BookFault, Faults, GroupCommit};
 use s10_core::Id;
 use s10_history::{
-    Block, Candidate, Entry, Holding, Issue, Range, Settings, Usage, count_if, id_with, is_free,
-    is_voided,
+    Candidate, Entry, HolderKey, Issue, Range, SerialSpan, Settings, Usage, count_if, id_in_range,
+    is_free, is_voided,
 };
 use std::alloc::{AllocError, Global};
 
@@ -48,7 +48,7 @@ impl IndexedBook {
     /// Its calls, with their index.
     pub fn into_index(self) -> CallIndex
         ensures indexed { Indexes result self.index.entries.items }
-        ensures few { length result.entries.items ≤ GREATEST_LIMIT }
+        ensures few { length result.entries.items ≤ MAX_LIMIT }
     {
         let _len = self.len();
         self.index
@@ -81,7 +81,7 @@ impl IndexedBook {
             free: 0,
         };
         for value in range.first.value()..=range.last.value() {
-            let last = self.index.last_issue(&id_with(range, value));
+            let last = self.index.last_issue(&id_in_range(range, value));
             usage.used = count_if(usage.used, last.is_some());
             usage.voided = count_if(usage.voided, is_voided(&last));
             usage.free = count_if(usage.free, is_free(&last, day, interval));
@@ -117,7 +117,7 @@ impl Book for IndexedBook {
 
     fn find(&mut self, customer: u32, number: u32) -> Result<Option<Entry>, BookFault>
         ensures same { self.new ≡ self.old }
-        ensures answer { result ≡ Ok (entry_with_key (⟦<IndexedBook as Book>⟧.history self.old) customer number) }
+        ensures answer { result ≡ Ok (find_entry (⟦<IndexedBook as Book>⟧.history self.old) customer number) }
         ensures fits { IfOk result (λ found. IfSome found (λ e. IsTrue (fits e.request.body e.outcome))) }
     {
         Ok(self.index.find(customer, number))
@@ -134,7 +134,7 @@ impl Book for IndexedBook {
         ensures same { self.new ≡ self.old }
         ensures answer { result ≡ Ok (find (λ r. r.num == num) (ranges_of (⟦<IndexedBook as Book>⟧.history self.old))) }
     {
-        Ok(self.index.ranges().numbered(num))
+        Ok(self.index.ranges().range_by_number(num))
     }
 
     fn closed(&mut self, num: u32) -> Result<bool, BookFault>
@@ -144,26 +144,26 @@ impl Book for IndexedBook {
         Ok(self.index.ranges().is_closed(num))
     }
 
-    fn next_range(&mut self, held: &Holding, after: u32) -> Result<Option<Range>, BookFault>
+    fn next_range(&mut self, held: &HolderKey, after: u32) -> Result<Option<Range>, BookFault>
         ensures same { self.new ≡ self.old }
-        ensures answer { result ≡ Ok (find (is_open_above (⟦<IndexedBook as Book>⟧.history self.old) after held.now.holder held.now.service held.now.country) (ranges_of (⟦<IndexedBook as Book>⟧.history self.old))) }
+        ensures answer { result ≡ Ok (find (is_open_after (⟦<IndexedBook as Book>⟧.history self.old) after held.now.holder held.now.service held.now.country) (ranges_of (⟦<IndexedBook as Book>⟧.history self.old))) }
         ensures above { IfOk result (λ found. IfSome found (λ r. after < r.num)) }
     {
         let next = self
             .index
             .ranges()
-            .open_after(held.holder, held.service, held.country, after);
+            .next_open_range(held.holder, held.service, held.country, after);
         Ok(next)
     }
 
-    fn covering(&mut self, block: &Block) -> Result<Option<Range>, BookFault>
+    fn covering(&mut self, block: &SerialSpan) -> Result<Option<Range>, BookFault>
         ensures same { self.new ≡ self.old }
         ensures answer { result ≡ Ok (find (overlaps block.now.service block.now.country block.now.first block.now.last) (ranges_of (⟦<IndexedBook as Book>⟧.history self.old))) }
     {
         let found = self
             .index
             .ranges()
-            .over(block.service, block.country, block.first, block.last);
+            .covering_range(block.service, block.country, block.first, block.last);
         Ok(found)
     }
 
@@ -202,7 +202,7 @@ impl Book for IndexedBook {
 
     fn keep(&mut self, entry: Entry) -> Result<(), BookFault>
         requires { MayFollow (⟦<IndexedBook as Book>⟧.history self.old) (⟦<IndexedBook as Book>⟧.terms self.old) entry }
-        ensures faults { Counts result (⟦<IndexedBook as Book>⟧.faults self.old) (⟦<IndexedBook as Book>⟧.faults self.new) }
+        ensures faults { CountsResult result (⟦<IndexedBook as Book>⟧.faults self.old) (⟦<IndexedBook as Book>⟧.faults self.new) }
         ensures memory { IfErr result (λ fault. fault ≡ BookFault.Memory) }
         ensures same_terms { ⟦<IndexedBook as Book>⟧.terms self.new ≡ ⟦<IndexedBook as Book>⟧.terms self.old }
         ensures ok { OnOk result (⟦<IndexedBook as Book>⟧.history self.new ≡ ⟦<IndexedBook as Book>⟧.history self.old ++ entry ∷ []) }
@@ -219,18 +219,18 @@ impl Book for IndexedBook {
 }
 
 // What a book in memory keeps is settled as far as it can be.
-impl Settle for IndexedBook {
+impl GroupCommit for IndexedBook {
     ghost use Rattle.std.proofs.Common.{sym, append-nil};
 
-    ghost settled = { λ b. b.index.entries.items };
+    ghost committed = { λ b. b.index.entries.items };
 
     ghost first = { λ b h. ([], sym (append-nil b.index.entries.items)) };
 
-    fn settle(&mut self) -> Result<(), BookFault> {
+    fn commit(&mut self) -> Result<(), BookFault> {
         Ok(())
     }
 
-    fn is_settled(&self, _customer: u32, _number: u32) -> bool {
+    fn is_committed(&self, _customer: u32, _number: u32) -> bool {
         true
     }
 }

@@ -8,7 +8,7 @@ ghost use Rattle.s10_history.specs.Settings.{Terms};
 ghost use Rattle.s10_history.specs.Issues.{issues_of, carried_by};
 ghost use Rattle.s10_book.specs.Rules.{IsLegal};
 ghost use Rattle.s10_index.specs.Keys.{same_key, id_key};
-ghost use Rattle.s10_index.specs.LastIssues.{HasIssues, HasLast, Notes, Voids, as_issue};
+ghost use Rattle.s10_index.specs.LastIssues.{HasIssues, HasLast, RecordsIssue, RecordsVoid, as_issue};
 
 use crate::id_key::key_of;
 use s10_core::Id;
@@ -16,7 +16,7 @@ use s10_history::{Entry, Issuance, Issue};
 use s10_wire::{Body, Outcome};
 use std::collections::HashMap;
 
-pub(crate) fn noted_issue(issues: &HashMap<(u32, u32), Issue>, id: &Id) -> Option<Issue>
+pub(crate) fn recorded_issue(issues: &HashMap<(u32, u32), Issue>, id: &Id) -> Option<Issue>
     ensures value { result ≡ get same_key issues.now (id_key id.now) }
     ensures parts { IsId id.now }
 {
@@ -24,37 +24,37 @@ pub(crate) fn noted_issue(issues: &HashMap<(u32, u32), Issue>, id: &Id) -> Optio
 }
 
 // Notes what a kept call makes of the last issues of its identifiers. There is room for all that it issued.
-pub(crate) fn note_call(issues: &mut HashMap<(u32, u32), Issue>, entry: &Entry)
+pub(crate) fn record_call(issues: &mut HashMap<(u32, u32), Issue>, entry: &Entry)
     requires room { length (carried_by entry.now.outcome) ≤ spare issues.old }
     ensures { (h : List Entry) (t : Terms) → IsLegal h t → HasIssues issues.old h → HasIssues issues.new (h ++ entry.now ∷ []) }
 {
     match entry.outcome {
         Outcome::Voided => {
             if let Body::Void { id } = entry.request.body {
-                note_void(issues, &id);
+                record_void(issues, &id);
             }
         }
-        _ => note_issues(issues, entry),
+        _ => record_issues(issues, entry),
     }
 }
 
 // Notes each issue of the call, one after another. There is room for all of them.
-fn note_issues(issues: &mut HashMap<(u32, u32), Issue>, entry: &Entry)
+fn record_issues(issues: &mut HashMap<(u32, u32), Issue>, entry: &Entry)
     requires room { length (carried_by entry.now.outcome) ≤ spare issues.old }
     ensures { (h : List Entry) → HasLast issues.old (h ++ entry.now ∷ []) (issues_of h) → HasLast issues.new (h ++ entry.now ∷ []) (issues_of (h ++ entry.now ∷ [])) }
 {
     for place in 0..entry.issued() {
         // Which arrival the issues have is no matter to what is noted.
         if let Some(issuance) = entry.issue(0, place) {
-            note_issue(issues, &issuance);
+            record_issue(issues, &issuance);
         }
     }
 }
 
 // Notes an issue. There is room for one more.
-fn note_issue(issues: &mut HashMap<(u32, u32), Issue>, issuance: &Issuance)
+fn record_issue(issues: &mut HashMap<(u32, u32), Issue>, issuance: &Issuance)
     requires room { 0 < spare issues.old }
-    ensures notes { Notes (id_key issuance.now.id) (as_issue issuance.now false) issues.old issues.new }
+    ensures notes { RecordsIssue (id_key issuance.now.id) (as_issue issuance.now false) issues.old issues.new }
     ensures spare { spare issues.old ≤ spare issues.new + 1 }
     ensures parts { IsId issuance.now.id }
 {
@@ -67,8 +67,8 @@ fn note_issue(issues: &mut HashMap<(u32, u32), Issue>, issuance: &Issuance)
     let _ = issues.insert(key_of(&issuance.id), issue);
 }
 
-fn note_void(issues: &mut HashMap<(u32, u32), Issue>, id: &Id)
-    ensures voids { Voids (id_key id.now) issues.old issues.new }
+fn record_void(issues: &mut HashMap<(u32, u32), Issue>, id: &Id)
+    ensures voids { RecordsVoid (id_key id.now) issues.old issues.new }
     ensures parts { IsId id.now }
 {
     if let Some(issue) = issues.get_mut(&key_of(id)) {

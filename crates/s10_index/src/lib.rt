@@ -3,25 +3,25 @@
 #![tactic(auto)]
 
 mod call_index;
-mod calls;
+mod call_log;
+mod call_writes;
+mod compact_call;
+mod compact_outcome;
 mod comparing;
 mod id_key;
 mod indexed_book;
-mod issuing;
+mod issue_writes;
 mod last_issues;
-mod made;
-mod made_rows;
-mod making;
-mod places;
-mod remade;
+mod positions;
+mod replayed_book;
+mod row_writes;
 mod rows;
-mod short_call;
-mod short_outcome;
+mod stored_rows;
 
 pub use call_index::CallIndex;
-pub use calls::Calls;
-pub use comparing::verdict;
+pub use call_log::CallLog;
+pub use call_writes::call_write;
+pub use comparing::check_tables;
 pub use indexed_book::IndexedBook;
-pub use made_rows::MadeRows;
-pub use making::call_write;
-pub use remade::Remade;
+pub use replayed_book::ReplayedBook;
+pub use stored_rows::StoredRows;

@@ -8,10 +8,10 @@ ghost use Rattle.s10_history.specs.Issues.{issues_of};
 ghost use Rattle.s10_book.specs.Rules.{IsLegal};
 ghost use Rattle.s10_rows.specs.Tables.{closing, closed_rows, closed_rows_from, range_rows, serial_rows};
 ghost use Rattle.s10_index.specs.LastIssues.{HasIssues};
-ghost use Rattle.s10_index.specs.RowsBehind.{last_rows, rows_behind};
+ghost use Rattle.s10_index.specs.RowsFrom.{last_rows, serial_rows_from};
 
 use crate::indexed_book::IndexedBook;
-use crate::last_issues::noted_issue;
+use crate::last_issues::recorded_issue;
 use s10_book::Book;
 use s10_history::{Entry, Issuance, Issue};
 use s10_rows::{ClosedRow, RangeRow, SerialRow};
@@ -25,7 +25,7 @@ fn last_row(issues: &HashMap<(u32, u32), Issue>, issuance: &Issuance) -> Option<
         → issues_of h ≡ before ++ issuance.now ∷ behind
         → option_to_list result ++ last_rows h behind ≡ last_rows h (issuance.now ∷ behind) }
 {
-    let last = noted_issue(issues, &issuance.id)?;
+    let last = recorded_issue(issues, &issuance.id)?;
     if last.day != issuance.day {
         return None;
     }
@@ -41,7 +41,7 @@ fn push_rows(
 ) -> Result<(), AllocError>
     requires { place < 4294967295 }
     ensures { OnOk result ((h : List Entry) (t : Terms) → IsLegal h t → 1 ≤ t.interval → HasIssues issues.now h → slice_get h place ≡ Some entry.now
-        → rows.new.items ++ rows_behind h (place + 1) ≡ rows.old.items ++ rows_behind h place) }
+        → rows.new.items ++ serial_rows_from h (place + 1) ≡ rows.old.items ++ serial_rows_from h place) }
 {
     for at in 0..entry.issued() {
         if let Some(issuance) = entry.issue(place + 1, at) {

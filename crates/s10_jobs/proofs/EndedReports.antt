@@ -5,7 +5,7 @@ use Rattle.s10_lines.proofs.Writing.{Appends-then}
 use Rattle.std.specs.Io.KnownBytes.{Appends}
 use Rattle.s10_book.specs.declared.book_fault.BookFault.{BookFault}
 use Rattle.s10_book.specs.declared.faults.Faults.{Faults}
-use Rattle.s10_book.specs.BookFault.{FaultCounts}
+use Rattle.s10_book.specs.BookFault.{CountsBookFault}
 use Rattle.s10_reports.specs.declared.report_fault.ReportFault.{ReportFault}
 use Rattle.s10_reports.specs.declared.report_fault.ReportFault.TheVariants.{Book}
 use Rattle.s10_reports.specs.ReportFault.{Reported, CountsReport}
@@ -18,6 +18,6 @@ pub ends_by_book : {T : Type 0} (r : Result T ReportFault) (fault : BookFault) (
     → r ≡ Err (Book fault) → CountsReport r was now → Reported old between lines r
     → Appends between new (line_of (codes "faulted") (book_fault_words fault)) → EndsByBook was now old new lines
 ends_by_book r fault was now old between new lines is counts reported tells =
-    let counted : FaultCounts fault was now = subst (λ x. CountsReport x was now) is counts in
+    let counted : CountsBookFault fault was now = subst (λ x. CountsReport x was now) is counts in
     let told : (count : ℕ) × Appends old between (joined (take count lines)) = subst (λ x. Reported old between lines x) is reported in
     (told.0, fault, counted, Appends-then old between new _ _ told.1 tells)

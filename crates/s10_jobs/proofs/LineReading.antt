@@ -8,7 +8,7 @@ use Rattle.std.proofs.lemmas.List.{append-nil}
 use Rattle.std.proofs.lemmas.Grind.{common_steps}
 use Rattle.s10_jobs.specs.InputLines.{pieces, last_piece, lines_of}
 use Rattle.s10_jobs.specs.LineReader.{ReadsByte, ReadsLine}
-use Rattle.s10_jobs.specs.declared.line_reader.TheConstants.{LINE_ROOM}
+use Rattle.s10_jobs.specs.declared.line_reader.TheConstants.{MAX_LINE}
 use Rattle.s10_jobs.specs.declared.line_reader.NextLine.TheVariants.{End, Whole, Long}
 
 -- no line feed stands in the bytes
@@ -101,7 +101,7 @@ line_at_break (Some a) (Some b) (Some c) content buffer n h free k e =
     ap lines_of (h ∙ ap (λ l. content ++ l) k) ∙ pieces_walk [] content (10 ∷ c) free ∙ pieces_break content c ∙ ap (λ l. l ∷ lines_of c) (sym e)
 
 -- past the limit
-pub line_too_long : (a b c : Option (List ℕ)) (content buffer : List ℕ) (x : ℕ) → Consumes a b content → IsUnbroken content → ReadsByte b c (Some x) → x ≢ 10 → length content ≡ LINE_ROOM → ReadsLine a c buffer Long
+pub line_too_long : (a b c : Option (List ℕ)) (content buffer : List ℕ) (x : ℕ) → Consumes a b content → IsUnbroken content → ReadsByte b c (Some x) → x ≢ 10 → length content ≡ MAX_LINE → ReadsLine a c buffer Long
 line_too_long None b c content buffer x h free k ne e = tt
 line_too_long (Some a) None c content buffer x h free k ne e = absurd h
 line_too_long (Some a) (Some b) None content buffer x h free k ne e = absurd k

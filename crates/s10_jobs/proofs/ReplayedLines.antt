@@ -18,8 +18,8 @@ use Rattle.s10_jobs.specs.InputLines.{lines_of, without_return, delivery_in, del
 use Rattle.s10_jobs.specs.LineReader.{ReadsByte, ReadsLine, BeginsLine}
 use Rattle.s10_jobs.specs.AnswerLines.{answer_line}
 use Rattle.s10_jobs.specs.Replay.{Shows, Ends, Replayed}
-use Rattle.s10_jobs.specs.declared.line_reader.TheConstants.{LINE_ROOM}
-use Rattle.s10_jobs.specs.declared.replaying.TheConstants.{MOST_LINES}
+use Rattle.s10_jobs.specs.declared.line_reader.TheConstants.{MAX_LINE}
+use Rattle.s10_jobs.specs.declared.replaying.TheConstants.{MAX_LINES}
 use Rattle.s10_jobs.specs.declared.line_reader.NextLine.TheVariants.{End, Whole, Long}
 use Rattle.s10_jobs.specs.declared.replay_fault.ReplayFault.{ReplayFault}
 use Rattle.s10_jobs.specs.declared.replay_fault.ReplayFault.TheVariants.{Line, Read, Write}
@@ -36,7 +36,7 @@ each_push P (z ∷ zs) x all here (suc k) y at = each_push (λ w n. P w (suc n))
 NoneRefused-push : (lines : List (List ℕ)) (line : List ℕ) → NoneRefused lines → ¬ IsRefused line (length lines + 1) → NoneRefused (lines ++ line ∷ [])
 NoneRefused-push lines line none here = each_push (λ l n. ¬ IsRefused l (n + 1)) lines line none here
 
-is_delivery : (line : List ℕ) (n : ℕ) (d : Dated) → length line ≤ LINE_ROOM → n ≤ MOST_LINES → delivery_in line ≡ Some d → ¬ IsRefused line n
+is_delivery : (line : List ℕ) (n : ℕ) (d : Dated) → length line ≤ MAX_LINE → n ≤ MAX_LINES → delivery_in line ≡ Some d → ¬ IsRefused line n
 is_delivery line n d short few is refused =
     elim refused [
       | inl long ↦ omega arith
@@ -46,7 +46,7 @@ is_delivery line n d short few is refused =
       ]
     ]
 
-is_empty : (line : List ℕ) (n : ℕ) → length line ≤ LINE_ROOM → n ≤ MOST_LINES → without_return line ≡ [] → ¬ IsRefused line n
+is_empty : (line : List ℕ) (n : ℕ) → length line ≤ MAX_LINE → n ≤ MAX_LINES → without_return line ≡ [] → ¬ IsRefused line n
 is_empty line n short few is refused =
     elim refused [
       | inl long ↦ omega arith
@@ -94,7 +94,7 @@ lines_more : (bytes left rest line : List ℕ) (before : List (List ℕ)) → li
 lines_more bytes left rest line before so_far next = so_far ∙ ap (λ l. before ++ l) next ∙ sym (append_assoc before (line ∷ []) (lines_of rest))
 
 pub Front-answer : (h h1 h2 : List Entry) (t : Terms) (bytes left rest held now after line taken : List ℕ) (done count : ℕ) (d : Dated) (a : Answer)
-    → Front h t bytes left held now done count h1 → left ≡ taken ++ rest → lines_of left ≡ line ∷ lines_of rest → length line ≤ LINE_ROOM → done < MOST_LINES → delivery_in line ≡ Some d
+    → Front h t bytes left held now done count h1 → left ≡ taken ++ rest → lines_of left ≡ line ∷ lines_of rest → length line ≤ MAX_LINE → done < MAX_LINES → delivery_in line ≡ Some d
     → Served h1 t (d ∷ []) (a ∷ []) h2 → after ≡ now ++ answer_line a → Front h t bytes rest held after (done + 1) (count + 1) h2
 Front-answer h h1 h2 t bytes left rest held now after line taken done count d a front read next short few is served out = record {
   read = front.read ++ taken;
@@ -113,7 +113,7 @@ Front-answer h h1 h2 t bytes left rest held now after line taken done count d a 
 }
 
 pub Front-empty : (h h1 : List Entry) (t : Terms) (bytes left rest held now line taken : List ℕ) (done count : ℕ)
-    → Front h t bytes left held now done count h1 → left ≡ taken ++ rest → lines_of left ≡ line ∷ lines_of rest → length line ≤ LINE_ROOM → done < MOST_LINES → delivery_in line ≡ None
+    → Front h t bytes left held now done count h1 → left ≡ taken ++ rest → lines_of left ≡ line ∷ lines_of rest → length line ≤ MAX_LINE → done < MAX_LINES → delivery_in line ≡ None
     → without_return line ≡ [] → Front h t bytes rest held now (done + 1) count h1
 Front-empty h h1 t bytes left rest held now line taken done count front read next short few is empty = record {
   read = front.read ++ taken;
@@ -164,7 +164,7 @@ Front-refused h h' t bytes left held now line new more done count front next ref
 
 -- the input cannot be read on
 pub Front-stopped : (h h' : List Entry) (t : Terms) (bytes left held now : List ℕ) (new : Option (List ℕ)) (done count : ℕ) → Front h t bytes left held now done count h'
-    → BeginsLine (Some left) new → (MOST_LINES ≤ done → new ≡ Some left) → Ends h t bytes new held now (Err Read) h'
+    → BeginsLine (Some left) new → (MAX_LINES ≤ done → new ≡ Some left) → Ends h t bytes new held now (Err Read) h'
 Front-stopped h h' t bytes left held now new done count front stopped counted =
     let P : List (List ℕ) → Type 0 = λ l. Shows h t l held now h' in
     let taken = sym (front_taken h h' t bytes left held now done count front) in (
@@ -200,7 +200,7 @@ at_start h t (Some bytes) (Some held) = Front-start h t bytes held
 
 -- the next answer
 pub one_more : (h h1 h2 : List Entry) (t : Terms) (bytes left rest held now after : Option (List ℕ)) (buffer : List ℕ) (n done count : ℕ) (d : Dated) (a : Answer)
-    → HasReplayed h t bytes left held now done count h1 → ReadsLine left rest buffer (Whole n) → Takes left rest → n ≤ LINE_ROOM → done < MOST_LINES → delivery_in (take n buffer) ≡ Some d
+    → HasReplayed h t bytes left held now done count h1 → ReadsLine left rest buffer (Whole n) → Takes left rest → n ≤ MAX_LINE → done < MAX_LINES → delivery_in (take n buffer) ≡ Some d
     → Served h1 t (d ∷ []) (a ∷ []) h2 → Appends now after (answer_line a) → HasReplayed h t bytes rest held after (done + 1) (count + 1) h2
 one_more h h1 h2 t None left rest held now after buffer n done count d a front line read short few is served out = tt
 one_more h h1 h2 t (Some bytes) left rest None now after buffer n done count d a front line read short few is served out = tt
@@ -209,12 +209,12 @@ one_more h h1 h2 t (Some bytes) (Some left) None (Some held) now after buffer n 
 one_more h h1 h2 t (Some bytes) (Some left) (Some rest) (Some held) None after buffer n done count d a front line read short few is served out = absurd front
 one_more h h1 h2 t (Some bytes) (Some left) (Some rest) (Some held) (Some now) None buffer n done count d a front line read short few is served out = absurd out
 one_more h h1 h2 t (Some bytes) (Some left) (Some rest) (Some held) (Some now) (Some after) buffer n done count d a front line read short few is served out =
-    let fits : length (take n buffer) ≤ LINE_ROOM = grind (arith, common_steps) in
+    let fits : length (take n buffer) ≤ MAX_LINE = grind (arith, common_steps) in
     Front-answer h h1 h2 t bytes left rest held now after (take n buffer) read.0 done count d a front read.1 line fits few is served out
 
 -- the next empty line
 pub one_empty : (h h1 : List Entry) (t : Terms) (bytes left rest held now : Option (List ℕ)) (buffer : List ℕ) (n done count : ℕ)
-    → HasReplayed h t bytes left held now done count h1 → ReadsLine left rest buffer (Whole n) → Takes left rest → n ≤ LINE_ROOM → done < MOST_LINES → delivery_in (take n buffer) ≡ None
+    → HasReplayed h t bytes left held now done count h1 → ReadsLine left rest buffer (Whole n) → Takes left rest → n ≤ MAX_LINE → done < MAX_LINES → delivery_in (take n buffer) ≡ None
     → without_return (take n buffer) ≡ [] → HasReplayed h t bytes rest held now (done + 1) count h1
 one_empty h h1 t None left rest held now buffer n done count front line read short few is empty = tt
 one_empty h h1 t (Some bytes) left rest None now buffer n done count front line read short few is empty = tt
@@ -222,7 +222,7 @@ one_empty h h1 t (Some bytes) None rest (Some held) now buffer n done count fron
 one_empty h h1 t (Some bytes) (Some left) None (Some held) now buffer n done count front line read short few is empty = absurd line
 one_empty h h1 t (Some bytes) (Some left) (Some rest) (Some held) None buffer n done count front line read short few is empty = absurd front
 one_empty h h1 t (Some bytes) (Some left) (Some rest) (Some held) (Some now) buffer n done count front line read short few is empty =
-    let fits : length (take n buffer) ≤ LINE_ROOM = grind (arith, common_steps) in
+    let fits : length (take n buffer) ≤ MAX_LINE = grind (arith, common_steps) in
     Front-empty h h1 t bytes left rest held now (take n buffer) read.0 done count front read.1 line fits few is empty
 
 -- how a replay ends, by what stands before its end
@@ -250,7 +250,7 @@ whole_line None rest buffer l n is read = absurd (none-some l is)
 whole_line (Some x) None buffer l n is read = absurd read
 whole_line (Some x) (Some r) buffer l n is read = (lines_of r, ap lines_of (sym (same_Some x l is)) ∙ read)
 
-long_line : (left rest : Option (List ℕ)) (buffer l : List ℕ) → left ≡ Some l → ReadsLine left rest buffer Long → (line : List ℕ) × LineOf l line × (LINE_ROOM < length line)
+long_line : (left rest : Option (List ℕ)) (buffer l : List ℕ) → left ≡ Some l → ReadsLine left rest buffer Long → (line : List ℕ) × LineOf l line × (MAX_LINE < length line)
 long_line None rest buffer l is read = absurd (none-some l is)
 long_line (Some x) None buffer l is read = absurd read
 long_line (Some x) (Some r) buffer l is read = (read.0, (read.1, ap lines_of (sym (same_Some x l is)) ∙ read.2), read.3)
@@ -272,7 +272,7 @@ ends_refused h h' t bytes left rest held now buffer k done count front read is f
     ends h h' t bytes left rest held now done count (Err (Line (done + 1))) front
     (λ b l w n same at. let line = whole_line left rest buffer l k same read in Front-refused h h' t b l w n (take k buffer) rest line.0 done count at line.1 (inr (inr (full, is))))
 
-pub ends_stopped : (h h' : List Entry) (t : Terms) (bytes left rest held now : Option (List ℕ)) (done count : ℕ) → HasReplayed h t bytes left held now done count h' → BeginsLine left rest → done < MOST_LINES
+pub ends_stopped : (h h' : List Entry) (t : Terms) (bytes left rest held now : Option (List ℕ)) (done count : ℕ) → HasReplayed h t bytes left held now done count h' → BeginsLine left rest → done < MAX_LINES
     → EndsSo h t bytes rest held now (Err Read) h'
 ends_stopped h h' t bytes left rest held now done count front stopped few =
     ends h h' t bytes left rest held now done count (Err Read) front
@@ -306,7 +306,7 @@ ends_unread h h' t bytes left rest held now done count front read =
     begins : (l : List ℕ) → rest ≡ Some l → BeginsLine (Some l) rest
     begins l is = record { begun = []; taken = subst (λ o. Consumes (Some l) o []) (sym is) refl; unbroken = All-nil (λ b. b ≢ 10); short = omega arith }
 
-pub ends_one_too_many : (h h' : List Entry) (t : Terms) (bytes left rest held now : Option (List ℕ)) (byte done count : ℕ) → HasReplayed h t bytes left held now done count h' → ReadsByte left rest (Some byte) → done ≡ MOST_LINES
+pub ends_one_too_many : (h h' : List Entry) (t : Terms) (bytes left rest held now : Option (List ℕ)) (byte done count : ℕ) → HasReplayed h t bytes left held now done count h' → ReadsByte left rest (Some byte) → done ≡ MAX_LINES
     → EndsSo h t bytes rest held now (Err (Line 1000001)) h'
 ends_one_too_many h h' t bytes left rest held now byte done count front read many =
     let P : ℕ → Type 0 = λ k. EndsSo h t bytes rest held now (Err (Line (k + 1))) h' in

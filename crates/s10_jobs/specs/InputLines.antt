@@ -6,8 +6,8 @@ use Rattle.std.specs.Result.{result_ok}
 use Rattle.hex.specs.Hex.{decode_of}
 use Rattle.s10_core.specs.Serial.{number_of}
 use Rattle.s10_ends.specs.Served.{Dated}
-use Rattle.s10_jobs.specs.declared.line_reader.TheConstants.{LINE_ROOM}
-use Rattle.s10_jobs.specs.declared.replaying.TheConstants.{MOST_LINES}
+use Rattle.s10_jobs.specs.declared.line_reader.TheConstants.{MAX_LINE}
+use Rattle.s10_jobs.specs.declared.replaying.TheConstants.{MAX_LINES}
 
 -- a last piece counts where it is not empty
 abbrev pub last_piece : List ℕ → List (List ℕ)
@@ -57,7 +57,7 @@ deliveries_in lines = filter_map delivery_in lines
 
 -- the line with that number, from 1, is refused: it is too long, or one too many, or neither empty nor a delivery
 abbrev pub IsRefused : List ℕ → ℕ → Type 0
-IsRefused line number = (LINE_ROOM < length line) ⊎ ((MOST_LINES < number) ⊎ ((without_return line ≢ []) × (delivery_in line ≡ None)))
+IsRefused line number = (MAX_LINE < length line) ⊎ ((MAX_LINES < number) ⊎ ((without_return line ≢ []) × (delivery_in line ≡ None)))
 
 abbrev pub NoneRefused : List (List ℕ) → Type 0
 NoneRefused lines = (k : ℕ) (line : List ℕ) → slice_get lines k ≡ Some line → ¬ IsRefused line (k + 1)

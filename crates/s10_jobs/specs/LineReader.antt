@@ -1,7 +1,7 @@
 -- What a read of a byte, or of a line, does to the bytes that a reader has left, where these are known.
 use Rattle.std.specs.Prelude.{◌≡◌, ◌≢◌, ℕ, ◌<◌, ◌≤◌, ⊤, List, [], ◌∷◌, length, take, Option, Some, None, All}
 use Rattle.std.specs.Io.KnownBytes.{Consumes, IsAtEnd}
-use Rattle.s10_jobs.specs.declared.line_reader.TheConstants.{LINE_ROOM}
+use Rattle.s10_jobs.specs.declared.line_reader.TheConstants.{MAX_LINE}
 use Rattle.s10_jobs.specs.declared.line_reader.NextLine.{NextLine}
 use Rattle.s10_jobs.specs.declared.line_reader.NextLine.TheVariants.{End, Whole, Long}
 use Rattle.s10_jobs.specs.InputLines.{lines_of}
@@ -14,14 +14,14 @@ ReadsByte old new (Some b) = Consumes old new (b ∷ [])
 -- a line in the buffer is within it
 abbrev pub FitsIn : NextLine → Type 0
 FitsIn End = ⊤
-FitsIn (Whole n) = n ≤ LINE_ROOM
+FitsIn (Whole n) = n ≤ MAX_LINE
 FitsIn Long = ⊤
 
 -- the next line is in the buffer, or there is none, or it is too long
 abbrev pub TakesLine : List ℕ → List ℕ → List ℕ → NextLine → Type 0
 TakesLine old new buffer End = (old ≡ []) × (new ≡ [])
 TakesLine old new buffer (Whole n) = lines_of old ≡ take n buffer ∷ lines_of new
-TakesLine old new buffer Long = (line : List ℕ) × (more : List (List ℕ)) × (lines_of old ≡ line ∷ more) × (LINE_ROOM < length line)
+TakesLine old new buffer Long = (line : List ℕ) × (more : List (List ℕ)) × (lines_of old ≡ line ∷ more) × (MAX_LINE < length line)
 
 abbrev pub ReadsLine : Option (List ℕ) → Option (List ℕ) → List ℕ → NextLine → Type 0
 ReadsLine None new buffer next = ⊤
@@ -33,4 +33,4 @@ pub record BeginsLine (old new : Option (List ℕ)) : Type 0 where
   pub begun : List ℕ
   pub taken : Consumes old new begun
   pub unbroken : All (λ b. b ≢ 10) begun
-  pub short : length begun ≤ LINE_ROOM
+  pub short : length begun ≤ MAX_LINE

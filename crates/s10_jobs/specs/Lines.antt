@@ -3,7 +3,7 @@ use Rattle.std.specs.Prelude.{◌≡◌, ℕ, Bool, if◌then◌else◌, List, [
 use Rattle.s10_core.specs.declared.id.Id.{Id}
 use Rattle.s10_core.specs.Letters.{IsCapital, group_of}
 use Rattle.s10_core.specs.Serial.{number_of, check_digit_of, character_of}
-use Rattle.s10_core.specs.Id.{spelling_of, tidied}
+use Rattle.s10_core.specs.Id.{spelling_of, normalized}
 use Rattle.s10_lines.specs.Lines.{line_of}
 use Rattle.s10_jobs.specs.Words.{group_words}
 
@@ -13,7 +13,7 @@ refused_line words = line_of (codes "refused") words
 
 -- a label is read without its spaces and in capitals, any other text as it stands
 abbrev pub text_read : Bool → List ℕ → List ℕ
-text_read is_label text = if is_label then tidied text else text
+text_read is_label text = if is_label then normalized text else text
 
 abbrev pub valid_line : Id → List ℕ
 valid_line id = line_of (spelling_of id) (codes "valid" ∷ group_words (group_of id.service.0) ∷ [])

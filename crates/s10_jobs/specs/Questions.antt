@@ -1,7 +1,7 @@
 -- What the words of a request ask, and which of its texts is refused.
 use Rattle.std.specs.Prelude.{◌≡◌, ℕ, List, [], ◌∷◌, codes}
 use Rattle.s10_core.specs.Letters.{letters_of}
-use Rattle.s10_core.specs.Id.{SpellsLoosely, tidied}
+use Rattle.s10_core.specs.Id.{SpellsLoosely, normalized}
 use Rattle.s10_core.specs.TextFault.{IsFirstRefusal}
 use Rattle.s10_wire.specs.declared.body.Body.{Body}
 use Rattle.s10_wire.specs.declared.body.Body.TheVariants as asked
@@ -43,7 +43,7 @@ abbrev pub IsIdRefusal : List ℕ → Refusal → Type 0
 IsIdRefusal id refused.Peer = ⊥
 IsIdRefusal id refused.Service = ⊥
 IsIdRefusal id refused.Country = ⊥
-IsIdRefusal id (refused.Text fault) = IsFirstRefusal (tidied id) fault
+IsIdRefusal id (refused.Text fault) = IsFirstRefusal (normalized id) fault
 
 abbrev pub IsBodyRefusal : BodyWords → Refusal → Type 0
 IsBodyRefusal (Grant holder service country first last) refusal = IsPairRefusal service.now country.now refusal

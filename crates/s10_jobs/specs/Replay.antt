@@ -48,6 +48,6 @@ Replayed h t bytes left held None (Err Write) h' = ⊤
 Replayed h t bytes left held None result h' = ⊥
 
 -- a whole replay is all that is written; behind one that ended early stands the line of what ended it
-abbrev pub TellsReplay : Result ℕ ReplayFault → Option (List ℕ) → Option (List ℕ) → Result JobStatus WriteFault → Type 0
-TellsReplay (Ok count) between new result = (result ≡ Ok Done) × (new ≡ between)
-TellsReplay (Err fault) between new result = IfOk result (λ status. (status ≡ replay_fault_status fault) × Appends between new (replay_fault_line fault))
+abbrev pub ReportsReplay : Result ℕ ReplayFault → Option (List ℕ) → Option (List ℕ) → Result JobStatus WriteFault → Type 0
+ReportsReplay (Ok count) between new result = (result ≡ Ok Done) × (new ≡ between)
+ReportsReplay (Err fault) between new result = IfOk result (λ status. (status ≡ replay_fault_status fault) × Appends between new (replay_fault_line fault))

@@ -5,7 +5,7 @@ use Rattle.s10_lines.specs.Lines.{line_of}
 use Rattle.s10_history.specs.declared.entry.Entry.{Entry}
 use Rattle.s10_book.specs.declared.book_fault.BookFault.{BookFault}
 use Rattle.s10_book.specs.declared.faults.Faults.{Faults}
-use Rattle.s10_book.specs.BookFault.{FaultCounts}
+use Rattle.s10_book.specs.BookFault.{CountsBookFault}
 use Rattle.s10_history.specs.Settings.{Terms}
 use Rattle.s10_reports.specs.Reports.{joined, ranges_report, issues_report}
 use Rattle.s10_jobs.specs.declared.reporting.Report.{Report}
@@ -22,7 +22,7 @@ report_lines Issues h t = issues_report h
 -- so many first lines of the report, and the fault of the book that ended it, which the book counted
 abbrev pub EndsByBook : Faults → Faults → Option (List ℕ) → Option (List ℕ) → List (List ℕ) → Type 0
 EndsByBook was now old new lines =
-    (count : ℕ) × (fault : BookFault) × FaultCounts fault was now
+    (count : ℕ) × (fault : BookFault) × CountsBookFault fault was now
     × Appends old new (joined (take count lines) ++ line_of (codes "faulted") (book_fault_words fault))
 
 -- the writer failed in the report and not the book, and took its last line

@@ -36,10 +36,10 @@ pub fn ask<L: Link, W: Write>(
     ensures led { LeadsTo L.step link.old link.new }
 {
     let called = call(client, link, to, body, tries);
-    write_called(&called, out)
+    write_call_result(&called, out)
 }
 
-fn write_called<W: Write>(
+fn write_call_result<W: Write>(
     called: &Result<Reply, CallFault>,
     out: &mut W,
 ) -> Result<JobStatus, WriteFault>

@@ -7,7 +7,7 @@ use std::io;
 use std::io::{ErrorKind, Read};
 
 /// How many bytes a line may have, without its line feed.
-pub const LINE_ROOM: usize = 1036;
+pub const MAX_LINE: usize = 1036;
 
 /// What stood next in an input.
 #[derive(Clone, Copy)]
@@ -54,13 +54,13 @@ pub fn next_byte<R: Read>(input: &mut R) -> io::Result<Option<u8>>
 
 /// Reads the next line into the buffer, and no byte past its line feed; of a line that does not fit, one byte more than
 /// the buffer has room for.
-pub fn read_line<R: Read>(input: &mut R, buffer: &mut [u8; LINE_ROOM]) -> io::Result<NextLine>
+pub fn read_line<R: Read>(input: &mut R, buffer: &mut [u8; MAX_LINE]) -> io::Result<NextLine>
     ensures fits { IfOk result FitsIn }
     ensures line { IfOk result (ReadsLine (R.remaining input.old) (R.remaining input.new) buffer.new) }
     ensures taken { (bytes : List ℕ) × Consumes (R.remaining input.old) (R.remaining input.new) bytes }
     ensures stopped { OnErr result (BeginsLine (R.remaining input.old) (R.remaining input.new)) }
 {
-    for at in 0..LINE_ROOM {
+    for at in 0..MAX_LINE {
         match next_byte(input)? {
             None => {
                 return Ok(if at == 0 {
@@ -74,8 +74,8 @@ pub fn read_line<R: Read>(input: &mut R, buffer: &mut [u8; LINE_ROOM]) -> io::Re
         }
     }
     match next_byte(input)? {
-        None => Ok(NextLine::Whole(LINE_ROOM)),
-        Some(b'\n') => Ok(NextLine::Whole(LINE_ROOM)),
+        None => Ok(NextLine::Whole(MAX_LINE)),
+        Some(b'\n') => Ok(NextLine::Whole(MAX_LINE)),
         Some(_byte) => Ok(NextLine::Long),
     }
 }

@@ -2,13 +2,13 @@
 ghost use Rattle.std.specs.Prelude.{[], ℕ, List, Option, Result, IfSome};
 ghost use Rattle.s10_history.specs.declared.entry.Entry.{Entry};
 ghost use Rattle.s10_ends.specs.Server.{book_of};
-ghost use Rattle.s10_jobs.specs.Replay.{Replayed, TellsReplay};
+ghost use Rattle.s10_jobs.specs.Replay.{Replayed, ReportsReplay};
 ghost use Rattle.s10_jobs.specs.declared.replay_fault.ReplayFault.{ReplayFault};
 
 use crate::answer_line::write_answer;
 use crate::delivery_line::{read_delivery, without_return};
 use crate::job_status::JobStatus;
-use crate::line_reader::{LINE_ROOM, NextLine, next_byte, read_line};
+use crate::line_reader::{MAX_LINE, NextLine, next_byte, read_line};
 use crate::replay_fault::{ReplayFault, write_replay_fault};
 use s10_book::Book;
 use s10_ends::Server;
@@ -19,13 +19,13 @@ use std::alloc::Global;
 use std::io::{Read, Write};
 
 /// How many lines an input may have, empty ones too.
-const MOST_LINES: u32 = 1_000_000;
+const MAX_LINES: u32 = 1_000_000;
 
 /// Hands the datagrams of an input to a server, writes a line for each answer, and answers how many there were.
 ///
 /// An input line is DAY, one space, HEX: one to ten digits, at most 4294967295, and an even number of hexadecimal digits,
 /// at most 1024, also none. A carriage return at the end of a line is dropped, and an empty line is passed over. A line
-/// of more than [`LINE_ROOM`] bytes, or past the millionth, is refused without reading more of it, so a replay ends on any reader.
+/// of more than [`MAX_LINE`] bytes, or past the millionth, is refused without reading more of it, so a replay ends on any reader.
 /// An interrupted read is tried again.
 pub fn replay_on<B: Book, R: Read, W: Write>(
     server: &mut Server<B>,
@@ -36,9 +36,9 @@ pub fn replay_on<B: Book, R: Read, W: Write>(
     ensures replayed { B.honest (book_of server.new) → IfSome (R.remaining input.old) (λ bytes. IfSome (W.contents output.old) (λ held.
         Replayed (B.history (book_of server.old)) (B.terms (book_of server.old)) bytes (R.remaining input.new) held (W.contents output.new) result (B.history (book_of server.new)))) }
 {
-    let mut buffer = [0u8; LINE_ROOM];
+    let mut buffer = [0u8; MAX_LINE];
     let mut count = 0;
-    for done in 0..MOST_LINES {
+    for done in 0..MAX_LINES {
         let Ok(next) = read_line(input, &mut buffer) else {
             return Err(ReplayFault::Read);
         };
@@ -62,7 +62,7 @@ pub fn replay_on<B: Book, R: Read, W: Write>(
     }
     match next_byte(input) {
         Ok(None) => Ok(count),
-        Ok(Some(_byte)) => Err(ReplayFault::Line(MOST_LINES + 1)),
+        Ok(Some(_byte)) => Err(ReplayFault::Line(MAX_LINES + 1)),
         Err(_) => Err(ReplayFault::Read),
     }
 }
@@ -92,7 +92,7 @@ pub fn run_replay<R: Read, W: Write>(
 ) -> Result<JobStatus, WriteFault>
     ensures { IfSome (R.remaining input.old) (λ bytes. IfSome (W.contents output.old) (λ held.
         (after : List Entry) × (replayed : Result ℕ ReplayFault) × (between : Option (List ℕ))
-        × Replayed [] settings bytes (R.remaining input.new) held between replayed after × TellsReplay replayed between (W.contents output.new) result)) }
+        × Replayed [] settings bytes (R.remaining input.new) held between replayed after × ReportsReplay replayed between (W.contents output.new) result)) }
 {
     match replay(alloc, settings, input, output) {
         Ok(_) => Ok(JobStatus::Done),

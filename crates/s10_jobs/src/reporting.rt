@@ -1,6 +1,6 @@
 //! A report, and the line of what ended it early.
 
-ghost use Rattle.s10_book.specs.Book.{Keeps};
+ghost use Rattle.s10_book.specs.Book.{Unchanged};
 ghost use Rattle.s10_jobs.specs.Reporting.{report_lines, PrintsReport};
 ghost use Rattle.std.specs.Prelude.{IfOk};
 
@@ -47,7 +47,7 @@ pub fn write_report<B: Book, W: Write>(
     report: Report,
     out: &mut W,
 ) -> Result<JobStatus, WriteFault>
-    ensures keeps { Keeps B.history B.terms B.honest book.old book.new }
+    ensures unchanged { Unchanged B.history B.terms B.honest book.old book.new }
     ensures written { B.honest book.new → IfOk result (PrintsReport (B.faults book.old) (B.faults book.new) (W.contents out.old) (W.contents out.new)
         (report_lines report (B.history book.old) (B.terms book.old))) }
 {

@@ -15,7 +15,7 @@ use s10_lines::{WriteFault, write_text};
 use s10_wire::Frame;
 use std::io::Write;
 
-/// Writes what a turn came to: `quiet`, `dropped`, `faulted` or `unsettled` and why, `replied` and the reply in lower-case
+/// Writes what a turn came to: `quiet`, `dropped`, `faulted` or `uncommitted` and why, `replied` and the reply in lower-case
 /// hex, or `link` and why. Peers are not told. A fault of the writer may leave part of the line written.
 pub fn write_turn<W: Write>(turn: &Turn, out: &mut W) -> Result<(), WriteFault>
     ensures { OnOk result (Appends (W.contents out.old) (W.contents out.new) (turn_line turn.now)) }
@@ -24,17 +24,17 @@ pub fn write_turn<W: Write>(turn: &Turn, out: &mut W) -> Result<(), WriteFault>
         Ok(ServerTurn::Quiet) => write_text(b"quiet\n", out),
         Ok(ServerTurn::Dropped(_, fault)) => write_dropped(*fault, out),
         Ok(ServerTurn::Faulted(_, fault)) => write_faulted(*fault, out),
-        Ok(ServerTurn::Unsettled(_, fault)) => write_unsettled(*fault, out),
+        Ok(ServerTurn::Uncommitted(_, fault)) => write_uncommitted(*fault, out),
         Ok(ServerTurn::Replied(_, frame)) => write_replied(frame, out),
         Err(fault) => write_link_fault(*fault, out),
     }
 }
 
 // The line of a request whose call could not be settled.
-fn write_unsettled<W: Write>(fault: BookFault, out: &mut W) -> Result<(), WriteFault>
-    ensures { OnOk result (Appends (W.contents out.old) (W.contents out.new) (line_of (codes "unsettled") (book_fault_words fault))) }
+fn write_uncommitted<W: Write>(fault: BookFault, out: &mut W) -> Result<(), WriteFault>
+    ensures { OnOk result (Appends (W.contents out.old) (W.contents out.new) (line_of (codes "uncommitted") (book_fault_words fault))) }
 {
-    write_text(b"unsettled", out)?;
+    write_text(b"uncommitted", out)?;
     write_book_fault(fault, out)?;
     write_text(b"\n", out)
 }

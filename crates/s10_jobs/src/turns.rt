@@ -4,16 +4,16 @@ ghost use Rattle.std.specs.Prelude.{◌≡◌, ◌≢◌, ◌≤◌, ℕ, None, 
 ghost use Rattle.std.specs.List.{flat_map};
 ghost use Rattle.std.specs.Io.KnownBytes.{Appends};
 ghost use Rattle.s10_ends.specs.Server.{book_of};
-ghost use Rattle.s10_ends.specs.Round.{ServesRound};
+ghost use Rattle.s10_ends.specs.Batch.{ServesBatch};
 ghost use Rattle.s10_jobs.specs.TurnLines.{turn_line};
-ghost use Rattle.s10_jobs.specs.Serving.{IsRound, Serves, ShowsRound};
+ghost use Rattle.s10_jobs.specs.Serving.{IsBatch, Serves, PrintsBatch};
 
 use crate::day::day_or_today;
 use crate::failures::fail_by_clock;
 use crate::job_status::JobStatus;
 use crate::turn_line::write_turn;
-use s10_book::Settle;
-use s10_ends::{Server, ServerTurn, Turn, serve_one, serve_round};
+use s10_book::GroupCommit;
+use s10_ends::{Server, ServerTurn, Turn, serve_batch, serve_one};
 use s10_lines::WriteFault;
 use s10_link::Link;
 use std::alloc::Global;
@@ -21,13 +21,13 @@ use std::io::Write;
 use std::time::Clock;
 
 /// How many datagrams are taken in one round at most.
-const MOST_TOGETHER: u32 = 64;
+const MAX_BATCH: u32 = 64;
 
 /// So many turns of a server, each with its line, in rounds of the datagrams that have come at once: their calls are settled
 /// together, and only then are the replies sent. The lines of a round are flushed together. Where no day is given the clock
 /// is read before each round, and one that gives no day ends the turns. Standard error has a line for each datagram that
 /// is dropped, with its sender.
-pub fn serve_turns<R: Clock + Eprint, B: Settle, L: Link, W: Write>(
+pub fn serve_turns<R: Clock + Eprint, B: GroupCommit, L: Link, W: Write>(
     rt: &R,
     alloc: Global,
     server: &mut Server<B>,
@@ -36,7 +36,7 @@ pub fn serve_turns<R: Clock + Eprint, B: Settle, L: Link, W: Write>(
     day: Option<u32>,
     out: &mut W,
 ) -> Result<JobStatus, WriteFault>
-    ensures turns { Serves (IsRound B.faults B.honest B.terms B.history B.settled day)
+    ensures turns { Serves (IsBatch B.faults B.honest B.terms B.history B.committed day)
         (L.trace_of link.old, book_of server.old) (L.trace_of link.new, book_of server.new)
         (W.contents out.old) (W.contents out.new) count result }
     ensures given { day ≢ None → result ≢ Ok JobStatus.Failed }
@@ -46,15 +46,15 @@ pub fn serve_turns<R: Clock + Eprint, B: Settle, L: Link, W: Write>(
         let Some(today) = day_or_today(rt, day) else {
             return fail_by_clock(out);
         };
-        let most = (count - done).min(MOST_TOGETHER);
-        done += serve_together(rt, alloc, server, link, today, most, out)?;
+        let most = (count - done).min(MAX_BATCH);
+        done += serve_batched(rt, alloc, server, link, today, most, out)?;
     }
     Ok(JobStatus::Done)
 }
 
 // One round, with the lines of its turns. Answers how many these are. Where there is no room for a round, one datagram is
 // taken.
-fn serve_together<R: Eprint, B: Settle, L: Link, W: Write>(
+fn serve_batched<R: Eprint, B: GroupCommit, L: Link, W: Write>(
     rt: &R,
     alloc: Global,
     server: &mut Server<B>,
@@ -64,29 +64,29 @@ fn serve_together<R: Eprint, B: Settle, L: Link, W: Write>(
     out: &mut W,
 ) -> Result<u32, WriteFault>
     requires { 1 ≤ most }
-    ensures { ShowsRound (λ turns. (room : ℕ) × ServesRound B.faults B.honest B.terms B.history B.settled day room
+    ensures { PrintsBatch (λ turns. (room : ℕ) × ServesBatch B.faults B.honest B.terms B.history B.committed day room
         (L.trace_of link.old, book_of server.old) (L.trace_of link.new, book_of server.new) turns)
         most (W.contents out.old) (W.contents out.new) result }
 {
-    match serve_round(alloc, server, link, day, most) {
+    match serve_batch(alloc, server, link, day, most) {
         Ok(turns) => {
-            show_turns(rt, &turns, out)?;
+            print_turns(rt, &turns, out)?;
             Ok(turns.len() as u32)
         }
         Err(_) => {
             let turn = serve_one(server, link, day);
-            show_turns(rt, &[turn], out)?;
+            print_turns(rt, &[turn], out)?;
             Ok(1)
         }
     }
 }
 
 // Writes the lines of turns, and tells who sent what was dropped.
-fn show_turns<R: Eprint, W: Write>(rt: &R, turns: &[Turn], out: &mut W) -> Result<(), WriteFault>
+fn print_turns<R: Eprint, W: Write>(rt: &R, turns: &[Turn], out: &mut W) -> Result<(), WriteFault>
     ensures { OnOk result (Appends (W.contents out.old) (W.contents out.new) (flat_map turn_line turns.now)) }
 {
     for turn in turns {
-        tell_sender(rt, turn);
+        eprint_sender(rt, turn);
         write_turn(turn, out)?;
     }
     let Ok(()) = out.flush() else {
@@ -96,7 +96,7 @@ fn show_turns<R: Eprint, W: Write>(rt: &R, turns: &[Turn], out: &mut W) -> Resul
 }
 
 // The turns go on where standard error is closed.
-fn tell_sender<R: Eprint>(rt: &R, turn: &Turn) {
+fn eprint_sender<R: Eprint>(rt: &R, turn: &Turn) {
     if let Ok(ServerTurn::Dropped(from, _)) = turn {
         let _ = eprintln!(rt; "dropped from {from}");
     }

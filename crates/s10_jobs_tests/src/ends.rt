@@ -1,5 +1,7 @@
 //! Tests of the server, the client and the links between them, and of both ends in one world.
 
+mod answered;
+mod batches;
 mod calls;
 mod clients;
 mod days;
@@ -13,10 +15,8 @@ mod ranges;
 mod refusals;
 mod refused_worlds;
 mod repeats;
-mod rounds;
 mod scripts;
 mod story;
-mod told;
 mod turns;
 mod udp_links;
 mod withdrawals;

@@ -7,12 +7,12 @@ use Rattle.sqlite.specs.Effect.{Database}
 use Rattle.sqlite.specs.State.{HasCleanDisk}
 use Rattle.sqlite.specs.Held.{Held, state}
 use Rattle.s10_book.specs.Rules.{IsLegal}
-use Rattle.s10_book.specs.Book.{Keeps}
+use Rattle.s10_book.specs.Book.{Unchanged}
 use Rattle.s10_book.specs.declared.faults.Faults.{Faults}
 use Rattle.s10_history.specs.Settings.{Terms}
 use Rattle.s10_schema.specs.Schema.{IsLedgerSchema, IsClosedSchema}
-use Rattle.s10_statements.specs.Settled.{IsSettled}
-use Rattle.s10_statements.specs.Statements.{Leaves}
+use Rattle.s10_statements.specs.ConnectionState.{IsQuiescent}
+use Rattle.s10_statements.specs.Statements.{LeavesTables}
 use Rattle.s10_ledger.specs.Ledger.{Ledger, IsLedger, IsHonest, history_in, history_of}
 use Rattle.s10_statements.proofs.Apart.{is_ledger-prop, is_closed-prop}
 
@@ -26,7 +26,7 @@ schema_is db t len day it = ∥∥₁_elim it.held (is_ledger-prop db.schema) (�
 pub closed_is : (db : Database) (t : Terms) (len day : ℕ) → IsLedger db t len day → IsClosedSchema db.schema
 closed_is db t len day it = ∥∥₁_elim it.held (is_closed-prop db.schema) (λ h. h.tables.schema)
 
-module _ {S : Type 0} (g : Ghosts S) (old new : Held S) (t : Terms) (len day : ℕ) (leaves : Leaves g old new) (settled : IsSettled g old) (kept : IsKept g old t len day) where
+module _ {S : Type 0} (g : Ghosts S) (old new : Held S) (t : Terms) (len day : ℕ) (leaves : LeavesTables g old new) (settled : IsQuiescent g old) (kept : IsKept g old t len day) where
   -- the tables are as they were
   pub same_tables : HasCleanDisk (state g new) → IsTrue (state g new).is_open → (state g new).now ≡ (state g old).now
   same_tables clean opened = leaves.now clean opened settled (schema_is (state g old).now t len day (kept (omega (arith, leaves.clean)) (leaves.was_open clean opened)))
@@ -34,8 +34,8 @@ module _ {S : Type 0} (g : Ghosts S) (old new : Held S) (t : Terms) (len day : �
   pub was_ledger : HasCleanDisk (state g new) → IsTrue (state g new).is_open → IsLedger (state g old).now t len day
   was_ledger clean opened = kept (omega (arith, leaves.clean)) (leaves.was_open clean opened)
 
-pub read_keeps : {S : Type 0} (g : Ghosts S) (old : Ledger S) (conn : Held S) (faults : Faults) → Leaves g old.conn conn → IsSettled g old.conn → IsKept g old.conn old.terms old.len old.day
-    → Keeps (history_of g) (λ (l : Ledger S). l.terms) (IsHonest g) old (record old { conn = conn; faults = faults })
+pub read_keeps : {S : Type 0} (g : Ghosts S) (old : Ledger S) (conn : Held S) (faults : Faults) → LeavesTables g old.conn conn → IsQuiescent g old.conn → IsKept g old.conn old.terms old.len old.day
+    → Unchanged (history_of g) (λ (l : Ledger S). l.terms) (IsHonest g) old (record old { conn = conn; faults = faults })
 read_keeps g old conn faults leaves settled kept = record {
   was_honest = λ h. record {
     clean = omega (arith, leaves.clean, h.clean);

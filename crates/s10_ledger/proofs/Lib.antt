@@ -4,7 +4,7 @@ pub mod HistoryLemmas
 pub mod BookLemmas
 pub mod NewLedger
 pub mod PendingLemmas
-pub mod SettledLemmas
+pub mod CommittedLemmas
 pub mod WholeLemmas
 pub mod ReadingLemmas
 pub mod OpeningLemmas

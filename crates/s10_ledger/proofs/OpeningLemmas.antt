@@ -11,19 +11,19 @@ use Rattle.s10_index.specs.declared.call_index.CallIndex.{CallIndex}
 use Rattle.s10_index.specs.CallIndex.{Indexes}
 use Rattle.s10_rows.specs.declared.open_fault.OpenFault.{OpenFault}
 use Rattle.s10_rows.specs.declared.open_fault.OpenFault.TheVariants.{Memory, Store}
-use Rattle.s10_rows.specs.declared.opened.Opened.{Opened}
+use Rattle.s10_rows.specs.declared.ledger_summary.LedgerSummary.{LedgerSummary}
 use Rattle.s10_rows.specs.Tables.{Tables, HaveSameRows, tables_of}
 use Rattle.s10_replay.specs.RightRows.{kept_of, entry_of}
-use Rattle.s10_replay.specs.Verdict.{IsWhole}
+use Rattle.s10_replay.specs.CheckedTables.{IsConsistent}
 use Rattle.s10_replay.proofs.SameRows.{same_length}
 use Rattle.s10_replay.proofs.Compared.{right_calls}
 use Rattle.s10_schema.specs.Schema.{IsClosedSchema}
-use Rattle.s10_statements.specs.Settled.{IsSettled, StaysUnclean, WasSound}
+use Rattle.s10_statements.specs.ConnectionState.{IsQuiescent, StaysUnclean, WasSound}
 use Rattle.s10_statements.specs.Shown.{HasTables, HasOldTables, shown_head, shown_range, shown_serial, head_columns}
-use Rattle.s10_statements.specs.Statements.{Leaves}
-use Rattle.s10_ledger.specs.declared.form.Form.{Form}
-use Rattle.s10_ledger.specs.declared.form.Form.TheVariants.{Whole, Old}
-use Rattle.s10_ledger.specs.Form.{IsOfForm, HasForm}
+use Rattle.s10_statements.specs.Statements.{LeavesTables}
+use Rattle.s10_ledger.specs.declared.table_layout.TableLayout.{TableLayout}
+use Rattle.s10_ledger.specs.declared.table_layout.TableLayout.TheVariants.{Whole, Old}
+use Rattle.s10_ledger.specs.TableLayout.{IsOfTableLayout, HasTableLayout}
 use Rattle.s10_ledger.specs.Ledger.{IsLedger, IsOldLedger, IsAnyLedger, history_in}
 use Rattle.s10_ledger.specs.Refusals.{IsOpeningRefusal}
 use Rattle.s10_ledger.specs.AllRows.{IsFound}
@@ -35,7 +35,7 @@ pub sound_before : {S : Type 0} (g : Ghosts S) (old new : Held S) → StaysUncle
 sound_before g old new stays was_open clean = (omega (arith, stays, clean), was_open clean)
 
 -- the tables are read, and completed then
-module _ {S : Type 0} (g : Ghosts S) (old read new : Held S) (form : Form) (declared : IsOfForm form (state g old).now.schema) (settled : IsSettled g old) (leaves : Leaves g old read) (sound : WasSound g read new) where
+module _ {S : Type 0} (g : Ghosts S) (old read new : Held S) (form : TableLayout) (declared : IsOfTableLayout form (state g old).now.schema) (settled : IsQuiescent g old) (leaves : LeavesTables g old read) (sound : WasSound g read new) where
   pub was_sound : WasSound g old new
   was_sound clean = let s = sound clean in (omega (arith, leaves.clean, s.0), λ opened. leaves.was_open s.0 (s.1 opened))
 
@@ -43,20 +43,20 @@ module _ {S : Type 0} (g : Ghosts S) (old read new : Held S) (form : Form) (decl
   as_read clean opened = let s = sound clean in leaves.now s.0 (s.1 opened) settled (form_ledger form (state g old).now.schema declared)
 
 -- what has all five tables is not touched
-pub as_it_was : (form : Form) (old read new : Database) → IsOfForm form old.schema → read ≡ old → (form ≡ Whole → new ≡ read) → IsClosedSchema old.schema → new ≡ old
+pub as_it_was : (form : TableLayout) (old read new : Database) → IsOfTableLayout form old.schema → read ≡ old → (form ≡ Whole → new ≡ read) → IsClosedSchema old.schema → new ≡ old
 as_it_was Whole old read new declared was same closed = same refl ∙ was
 as_it_was Old old read new declared was same closed = absurd (four_lack old.schema declared closed)
 
 -- what holds of the calls that were counted holds of those of the index
-counted : (P : ℕ → ℕ → Type 0) (found : Opened) (index : CallIndex) (tables : Tables) → IsWhole tables found → Indexes index (kept_of tables.calls) → P found.len found.day → P (length index.entries.items) (day_of index.entries.items)
+counted : (P : ℕ → ℕ → Type 0) (found : LedgerSummary) (index : CallIndex) (tables : Tables) → IsConsistent tables found → Indexes index (kept_of tables.calls) → P found.len found.day → P (length index.entries.items) (day_of index.entries.items)
 counted P found index tables whole indexed holds =
     subst (λ d. P (length index.entries.items) d) (whole.day ∙ sym (ap day_of indexed.calls))
     (subst (λ n. P n found.day) (whole.len ∙ sym (ap length indexed.calls ∙ length-map tables.calls entry_of)) holds)
 
 -- what was found of the tables is so of the completed ones
-module _ (form : Form) (old read new : Database) (found : Opened) (index : CallIndex) (it : IsFound form old found index) (was : read ≡ old) (whole : (tables : Tables) → HasForm form read tables → HasTables new tables) where
+module _ (form : TableLayout) (old read new : Database) (found : LedgerSummary) (index : CallIndex) (it : IsFound form old found index) (was : read ≡ old) (whole : (tables : Tables) → HasTableLayout form read tables → HasTables new tables) where
   completed : HasTables new it.tables
-  completed = whole it.tables (subst (λ (d : Database). HasForm form d it.tables) (sym was) it.has)
+  completed = whole it.tables (subst (λ (d : Database). HasTableLayout form d it.tables) (sym was) it.has)
 
   pub same_history : history_in new ≡ history_in old
   same_history = history new it.tables found completed it.whole ∙ sym (found_history form old it.tables found it.has it.whole)
@@ -72,7 +72,7 @@ no_rows_left [] ys same none = refl
 no_rows_left (x ∷ xs) ys same none = absurd (omega (arith, same_length (x ∷ xs) ys same, ap length none))
 
 -- tables of an earlier build whose rows are whole are a ledger of that
-old_ledger : (db : Database) (tables : Tables) (found : Opened) → HasOldTables db tables → IsWhole tables found → IsOldLedger db found.settings found.len found.day
+old_ledger : (db : Database) (tables : Tables) (found : LedgerSummary) → HasOldTables db tables → IsConsistent tables found → IsOldLedger db found.settings found.len found.day
 old_ledger db tables found has whole =
     let kept : List Entry = kept_of tables.calls in
     let is : history_in db ≡ kept = found_history Old db tables found has whole in
@@ -96,10 +96,10 @@ old_ledger db tables found has whole =
     }
 
 -- what was found is a ledger, of whichever build
-pub found_ledger : (form : Form) (db : Database) (found : Opened) (index : CallIndex) → IsFound form db found index → IsAnyLedger db found.settings (length index.entries.items) (day_of index.entries.items)
+pub found_ledger : (form : TableLayout) (db : Database) (found : LedgerSummary) (index : CallIndex) → IsFound form db found index → IsAnyLedger db found.settings (length index.entries.items) (day_of index.entries.items)
 found_ledger form db found index it = counted (λ n d. IsAnyLedger db found.settings n d) found index it.tables it.whole it.indexed (either form it.has)
   where
-    either : (form : Form) → HasForm form db it.tables → IsAnyLedger db found.settings found.len found.day
+    either : (form : TableLayout) → HasTableLayout form db it.tables → IsAnyLedger db found.settings found.len found.day
     either Whole has = inl (whole_ledger db it.tables found has it.whole)
     either Old has = inr (old_ledger db it.tables found has it.whole)
 

@@ -14,7 +14,7 @@ use Rattle.sqlite.specs.State.{HasCleanDisk}
 use Rattle.sqlite.specs.Held.{Held, state}
 use Rattle.s10_history.specs.declared.entry.Entry.{Entry}
 use Rattle.s10_history.specs.contracts.entry.Entry as entry
-use Rattle.s10_history.specs.declared.settings.TheConstants.{GREATEST_LIMIT}
+use Rattle.s10_history.specs.declared.settings.TheConstants.{MAX_LIMIT}
 use Rattle.s10_history.specs.Settings.{Terms}
 use Rattle.s10_history.specs.History.{day_of}
 use Rattle.s10_book.specs.Rules.{IsLegal, MayFollow}
@@ -27,21 +27,21 @@ use Rattle.s10_rows.specs.declared.call_write.CallWrite.{CallWrite}
 use Rattle.s10_rows.specs.CallWrite.{AreWritten, Writes}
 use Rattle.s10_rows.specs.Selected.{IsCall}
 use Rattle.s10_rows.specs.Tables.{Tables, tables_of}
-use Rattle.s10_statements.specs.Settled.{IsSettled, IsOpenIf, StaysUnclean}
+use Rattle.s10_statements.specs.ConnectionState.{IsQuiescent, IsOpenIf, StaysUnclean}
 use Rattle.s10_statements.specs.Shown.{HasTables, StandsFor}
-use Rattle.s10_statements.specs.Statements.{Leaves}
-use Rattle.s10_ledger.specs.declared.sql_book.TheConstants.{MOST_PENDING}
-use Rattle.s10_ledger.specs.Ledger.{Ledger, IsLedger, Holds, IsHonest, IsSettledIn, history_in}
-use Rattle.s10_ledger.specs.Pending.{calls_of, settled_among, HoldsPending, IsFollowed, IsSound}
+use Rattle.s10_statements.specs.Statements.{LeavesTables}
+use Rattle.s10_ledger.specs.declared.sql_book.TheConstants.{MAX_PENDING}
+use Rattle.s10_ledger.specs.Ledger.{Ledger, IsLedger, Holds, IsHonest, IsCommittedIn, history_in}
+use Rattle.s10_ledger.specs.Pending.{calls_of, committed_among, HoldsPending, IsFollowed, IsSound}
 use Rattle.s10_ledger.proofs.HistoryLemmas.{history_is}
 use Rattle.s10_ledger.proofs.BookLemmas.{same_tables}
 
 -- where nothing is pending all calls are settled
-pub all_settled : (es : List Entry) → settled_among [] es ≡ es
+pub all_settled : (es : List Entry) → committed_among [] es ≡ es
 all_settled es = let n : length es - 0 ≡ length es = omega arith in rw n (take-length es)
 
 -- one more pending call leaves the settled ones
-pub settled_push : (ws : List CallWrite) (w : CallWrite) (es : List Entry) (e : Entry) → settled_among (ws ++ w ∷ []) (es ++ e ∷ []) ≡ settled_among ws es
+pub settled_push : (ws : List CallWrite) (w : CallWrite) (es : List Entry) (e : Entry) → committed_among (ws ++ w ∷ []) (es ++ e ∷ []) ≡ committed_among ws es
 settled_push ws w es e =
     let n : length (es ++ e ∷ []) - length (ws ++ w ∷ []) ≡ length es - length ws = omega (arith, length-append es (e ∷ []), length-append ws (w ∷ [])) in
     rw n (take-append-le (length es - length ws) es (e ∷ []) (omega arith))
@@ -96,8 +96,8 @@ abbrev pub ledger_of : {S : Type 0} → Held S → Terms → CallIndex → List 
 ledger_of conn t index ws faults = record {
   conn = conn;
   terms = t;
-  len = length (settled_among ws index.entries.items);
-  day = day_of (settled_among ws index.entries.items);
+  len = length (committed_among ws index.entries.items);
+  day = day_of (committed_among ws index.entries.items);
   faults = faults;
   pending = calls_of ws;
 }
@@ -108,7 +108,7 @@ sound_is_honest g conn t index ws answered faults sound clean opened =
     record { clean = clean; is_open = opened; ledger = sound.ledger clean opened; legal = (sound.followed clean opened).legal }
 
 -- what is kept true of a new book
-pub sound_at_first : {S : Type 0} (g : Ghosts S) (conn : Held S) (t : Terms) (index : CallIndex) (ws : List CallWrite) (answered : Bool) → ws ≡ [] → length index.entries.items ≤ GREATEST_LIMIT → IsSettled g conn
+pub sound_at_first : {S : Type 0} (g : Ghosts S) (conn : Held S) (t : Terms) (index : CallIndex) (ws : List CallWrite) (answered : Bool) → ws ≡ [] → length index.entries.items ≤ MAX_LIMIT → IsQuiescent g conn
     → (HasCleanDisk (state g conn) → IsTrue (state g conn).is_open)
     → (HasCleanDisk (state g conn) → IsTrue (state g conn).is_open → IsLedger (state g conn).now t (length index.entries.items) (day_of index.entries.items))
     → (HasCleanDisk (state g conn) → IsTrue (state g conn).is_open → Indexes index (history_in (state g conn).now)) → IsSound g conn t index ws answered
@@ -131,11 +131,11 @@ ledger_at_first conn t index ws faults nothing memory store =
     ∙ ap (λ (es : List Entry). record { conn = conn; terms = t; len = length es; day = day_of es; faults = no_faults; pending = [] }) (all_settled index.entries.items))
 
 -- after a read
-pub sound_after_read : {S : Type 0} (g : Ghosts S) (old new : Held S) (t : Terms) (index : CallIndex) (ws : List CallWrite) (before after : Bool) → IsSound g old t index ws before → Leaves g old new
+pub sound_after_read : {S : Type 0} (g : Ghosts S) (old new : Held S) (t : Terms) (index : CallIndex) (ws : List CallWrite) (before after : Bool) → IsSound g old t index ws before → LeavesTables g old new
     → IsOpenIf g new after → IsSound g new t index ws after
 sound_after_read g old new t index ws before after sound leaves opened =
-    let len = length (settled_among ws index.entries.items) in
-    let day = day_of (settled_among ws index.entries.items) in
+    let len = length (committed_among ws index.entries.items) in
+    let day = day_of (committed_among ws index.entries.items) in
     record {
       few = sound.few;
       few_pending = sound.few_pending;
@@ -148,7 +148,7 @@ sound_after_read g old new t index ws before after sound leaves opened =
     }
 
 -- after the pending calls were written, or were not
-module _ {S : Type 0} (g : Ghosts S) (old new : Held S) (t : Terms) (index : CallIndex) (ws now : List CallWrite) (before after : Bool) (sound : IsSound g old t index ws before) (settled : IsSettled g new)
+module _ {S : Type 0} (g : Ghosts S) (old new : Held S) (t : Terms) (index : CallIndex) (ws now : List CallWrite) (before after : Bool) (sound : IsSound g old t index ws before) (settled : IsQuiescent g new)
     (clean : StaysUnclean g old new) (was_open : HasCleanDisk (state g new) → IsTrue (state g new).is_open → IsTrue (state g old).is_open) (opened : IsOpenIf g new after) where
   was_clean : HasCleanDisk (state g new) → HasCleanDisk (state g old)
   was_clean is = omega (arith, clean)
@@ -224,12 +224,12 @@ written_calls index ws now e (Err x) written = tt
 
 -- after a call was held, or was not
 module _ {S : Type 0} (g : Ghosts S) (conn : Held S) (t : Terms) (index after : CallIndex) (ws now : List CallWrite) (e : Entry) (answered : Bool) (sound : IsSound g conn t index ws answered)
-    (room : length ws < MOST_PENDING) (follows : HasCleanDisk (state g conn) → IsTrue (state g conn).is_open → MayFollow (history_in (state g conn).now ++ calls_of ws) t e)
-    (few : length index.entries.items ≤ GREATEST_LIMIT → length after.entries.items ≤ GREATEST_LIMIT) where
+    (room : length ws < MAX_PENDING) (follows : HasCleanDisk (state g conn) → IsTrue (state g conn).is_open → MayFollow (history_in (state g conn).now ++ calls_of ws) t e)
+    (few : length index.entries.items ≤ MAX_LIMIT → length after.entries.items ≤ MAX_LIMIT) where
   sound_held : (w : CallWrite) → w.entry ≡ e → after.entries.items ≡ index.entries.items ++ e ∷ [] → IsWriteOf index e w
       → ((h : List Entry) (u : Terms) → IsLegal h u → MayFollow h u e → Indexes index h → Indexes after (h ++ e ∷ [])) → IsSound g conn t after (ws ++ w ∷ []) answered
   sound_held w call calls writes indexed =
-      let same = ap (settled_among (ws ++ w ∷ [])) calls ∙ settled_push ws w index.entries.items e in
+      let same = ap (committed_among (ws ++ w ∷ [])) calls ∙ settled_push ws w index.entries.items e in
       record {
         few = few sound.few;
         few_pending = omega (arith, length-append ws (w ∷ []));
@@ -276,7 +276,7 @@ unwritten_history old new (Err x) same = ap history_in same
 -- what a stop leaves once they are written
 pub written_in : {S : Type 0} (g : Ghosts S) (conn : Held S) (t : Terms) (index : CallIndex) (ws : List CallWrite) (answered : Bool) (faults : Faults) (db : Trees) → IsSound g conn t index ws answered
     → HasCleanDisk (state g conn) → IsTrue (state g conn).is_open
-    → ((a b : Tables) → AreWritten ws a b → HasTables (state g conn).now a → HasTables (record (state g conn).now { trees = db }) b) → IsSettledIn g (ledger_of conn t index ws faults) db
+    → ((a b : Tables) → AreWritten ws a b → HasTables (state g conn).now a → HasTables (record (state g conn).now { trees = db }) b) → IsCommittedIn g (ledger_of conn t index ws faults) db
 written_in g conn t index ws answered faults db sound clean opened made =
     let old = (state g conn).now in
     let new : Database = record old { trees = db } in

@@ -31,12 +31,12 @@ use Rattle.s10_rows.specs.Tables.{Tables, HaveSameRows, tables_of, head_row, cal
 use Rattle.s10_replay.specs.RightRows.{IsRightRow, AreRight, kept_of, entry_of}
 use Rattle.s10_rows.specs.Selected.{IsCall}
 use Rattle.s10_statements.specs.Shown.{shown_head, shown_call, shown_range, shown_serial, shown_closed}
-use Rattle.s10_replay.specs.Verdict.{IsHead, IsFirstWrong, AreMade, IsRefusal}
+use Rattle.s10_replay.specs.CheckedTables.{IsHead, IsFirstWrong, AreDerived, IsRefusal}
 use Rattle.s10_ledger.specs.Refusals.{HasRows, IsRefusedFor, IsOpeningRefusal}
 use Rattle.s10_ledger.specs.Ledger.{IsAnyLedger, history_in}
-use Rattle.s10_ledger.specs.declared.form.Form.{Form}
-use Rattle.s10_ledger.specs.declared.form.Form.TheVariants.{Whole, Old}
-use Rattle.s10_ledger.specs.Form.{HasForm}
+use Rattle.s10_ledger.specs.declared.table_layout.TableLayout.{TableLayout}
+use Rattle.s10_ledger.specs.declared.table_layout.TableLayout.TheVariants.{Whole, Old}
+use Rattle.s10_ledger.specs.TableLayout.{HasTableLayout}
 use Rattle.s10_ledger.proofs.Forms.{AreShown, four_lack, form_declared, form_shown}
 use Rattle.s10_statements.proofs.AnswerLemmas.{int_in, call_from, range_from, serial_from}
 use Rattle.s10_statements.proofs.ReadLemmas.{again}
@@ -132,13 +132,13 @@ abbrev closed_from : Row → ClosedRow
 closed_from v = record { num = int_in (column v 0); arrival = int_in (column v 1) }
 
 -- the rows of closed are the same, in whichever form
-closed_same : (f g : Form) (db : Database) (a b : Tables) → HasForm f db a → HasForm g db b → HaveSameRows a.closed b.closed
+closed_same : (f g : TableLayout) (db : Database) (a b : Tables) → HasTableLayout f db a → HasTableLayout g db b → HaveSameRows a.closed b.closed
 closed_same Whole Whole db a b first second = same_typed shown_closed closed_from (λ r. refl) a.closed b.closed _ first.closed second.closed
 closed_same Old Old db a b first second = same_rows a.closed b.closed (first.closed ∙ sym second.closed)
 closed_same Whole Old db a b first second = absurd (four_lack db.schema second.schema first.schema)
 closed_same Old Whole db a b first second = absurd (four_lack db.schema first.schema second.schema)
 
-module _ (form : Form) (db : Database) (h : List Entry) (t : Terms) (limits : AreTerms t) (legal : IsLegal h t) (calls : All IsCall h) (stands : HasForm form db (tables_of h t)) where
+module _ (form : TableLayout) (db : Database) (h : List Entry) (t : Terms) (limits : AreTerms t) (legal : IsLegal h t) (calls : All IsCall h) (stands : HasTableLayout form db (tables_of h t)) where
   own : AreShown db (tables_of h t)
   own = form_shown form db (tables_of h t) stands
 
@@ -160,7 +160,7 @@ module _ (form : Form) (db : Database) (h : List Entry) (t : Terms) (limits : Ar
     are_right : AreRight t tables.calls
     are_right = subst (AreRight t) (sym calls_are) (rows_right t h legal calls)
 
-    are_made : AreMade tables
+    are_made : AreDerived tables
     are_made = record {
       ranges = subst (λ g. HaveSameRows (range_rows g) tables.ranges) kept_is (same_typed shown_range range_from (λ r. refl) (range_rows h) tables.ranges _ own.ranges theirs.ranges);
       serials = subst (λ g. HaveSameRows (serial_rows g) tables.serials) kept_is (same_typed shown_serial serial_from (λ r. refl) (serial_rows h) tables.serials _ own.serials theirs.serials);
@@ -202,7 +202,7 @@ neither a b (inl x) = a x
 neither a b (inr y) = b y
 
 module _ (db : Database) (t : Terms) (limits : AreTerms t) (legal : IsLegal (history_in db) t)
-    (held : ∥ ((form : Form) × All IsCall (history_in db) × HasForm form db (tables_of (history_in db) t)) ∥₁) where
+    (held : ∥ ((form : TableLayout) × All IsCall (history_in db) × HasTableLayout form db (tables_of (history_in db) t)) ∥₁) where
   never : (fault : OpenFault) → fault ≢ Memory → fault ≢ Store → IsOpeningRefusal db fault → ⊥
   never fault memory store refusal =
       ∥∥₁_elim held (λ x y. absurd x) (λ it. neither memory store (opens it.0 db (history_in db) t limits legal it.1 it.2 fault refusal))

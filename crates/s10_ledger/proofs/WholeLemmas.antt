@@ -8,23 +8,23 @@ use Rattle.sqlite_value.specs.Order.{Row}
 use Rattle.sqlite.specs.Effect.{Database}
 use Rattle.s10_history.specs.declared.entry.Entry.{Entry}
 use Rattle.s10_history.specs.Settings.{Terms}
-use Rattle.s10_history.specs.declared.settings.TheConstants.{GREATEST_LIMIT}
+use Rattle.s10_history.specs.declared.settings.TheConstants.{MAX_LIMIT}
 use Rattle.s10_history.specs.History.{day_of}
 use Rattle.s10_book.specs.Rules.{IsLegal}
 use Rattle.s10_book.proofs.Push.{IsLegal-push, IsLegal-nil}
 use Rattle.s10_rows.specs.declared.open_fault.OpenFault.{OpenFault}
 use Rattle.s10_rows.specs.declared.open_fault.OpenFault.TheVariants.{NotALedger, Schema as OtherSchema, Damaged, NotEmpty, Memory, Store}
-use Rattle.s10_rows.specs.declared.opened.Opened.{Opened}
+use Rattle.s10_rows.specs.declared.ledger_summary.LedgerSummary.{LedgerSummary}
 use Rattle.s10_rows.specs.CallRow.{StoredCall}
 use Rattle.s10_rows.specs.Replies.{reply_bytes}
 use Rattle.s10_rows.specs.Tables.{Tables, HaveSameRows, call_row, call_rows_from, call_rows}
 use Rattle.s10_replay.specs.RightRows.{IsRightRow, AreRight, kept_of, entry_of}
 use Rattle.s10_rows.specs.Selected.{IsCall}
 use Rattle.s10_statements.specs.Shown.{HasTables, StandsFor, shown_head, shown_range, shown_serial, shown_closed, head_columns}
-use Rattle.s10_replay.specs.Verdict.{IsWhole, IsRefusal}
-use Rattle.s10_ledger.specs.declared.form.Form.{Form}
-use Rattle.s10_ledger.specs.declared.form.Form.TheVariants.{Whole, Old}
-use Rattle.s10_ledger.specs.Form.{HasForm}
+use Rattle.s10_replay.specs.CheckedTables.{IsConsistent, IsRefusal}
+use Rattle.s10_ledger.specs.declared.table_layout.TableLayout.{TableLayout}
+use Rattle.s10_ledger.specs.declared.table_layout.TableLayout.TheVariants.{Whole, Old}
+use Rattle.s10_ledger.specs.TableLayout.{HasTableLayout}
 use Rattle.s10_ledger.specs.Refusals.{HasRows, IsOpeningRefusal}
 use Rattle.s10_index.specs.declared.call_index.CallIndex.{CallIndex}
 use Rattle.s10_index.specs.CallIndex.{Indexes}
@@ -79,7 +79,7 @@ right_legal t (row ∷ rows) right =
 pub shown_again : {X : Type 0} (shown : X → Row) (xs ys : List X) (vs : List Row) → HaveSameRows xs ys → HaveSameRows (map shown ys) vs → HaveSameRows (map shown xs) vs
 shown_again shown xs ys vs same has = ∥∥₁_elim same ∥∥₁_prop (λ p. ∥∥₁_map has (λ q. IsPermutation-trans _ _ _ (IsPermutation-map shown xs ys p) q))
 
-module _ (db : Database) (tables : Tables) (found : Opened) (has : HasTables db tables) (whole : IsWhole tables found) where
+module _ (db : Database) (tables : Tables) (found : LedgerSummary) (has : HasTables db tables) (whole : IsConsistent tables found) where
   abbrev pub kept : List Entry
   kept = kept_of tables.calls
 
@@ -116,13 +116,13 @@ module _ (db : Database) (tables : Tables) (found : Opened) (has : HasTables db 
   }
 
 -- the history is that of the rows, also in the tables of an earlier build
-pub found_history : (form : Form) (db : Database) (tables : Tables) (found : Opened) → HasForm form db tables → IsWhole tables found → history_in db ≡ kept_of tables.calls
+pub found_history : (form : TableLayout) (db : Database) (tables : Tables) (found : LedgerSummary) → HasTableLayout form db tables → IsConsistent tables found → history_in db ≡ kept_of tables.calls
 found_history Whole db tables found has whole = history db tables found has whole
 found_history Old db tables found has whole =
     calls_history db (kept_of tables.calls) (right_calls found.settings tables.calls whole.right) (rw (right_rows found.settings tables.calls whole.right) has.calls)
 
 -- and it has no more calls than the settings allow
-pub whole_few : (tables : Tables) (found : Opened) → IsWhole tables found → found.len ≤ GREATEST_LIMIT
+pub whole_few : (tables : Tables) (found : LedgerSummary) → IsConsistent tables found → found.len ≤ MAX_LIMIT
 whole_few tables found whole =
     let legal = right_legal found.settings tables.calls whole.right in
     omega (arith, legal.few, whole.len, whole.head.in_limits, length-map tables.calls entry_of)
@@ -137,7 +137,7 @@ refused_for db tables rows Memory refusal = tt
 refused_for db tables rows Store refusal = tt
 
 -- what is whole, and indexed, was found
-pub found_both : {E : Type 0} (form : Form) (db : Database) (tables : Tables) → HasForm form db tables → (r : Result (Opened × CallIndex) E) → IfOk r (λ found. IsWhole tables found.0) → IfOk r (λ found. Indexes found.1 (kept_of tables.calls))
+pub found_both : {E : Type 0} (form : TableLayout) (db : Database) (tables : Tables) → HasTableLayout form db tables → (r : Result (LedgerSummary × CallIndex) E) → IfOk r (λ found. IsConsistent tables found.0) → IfOk r (λ found. Indexes found.1 (kept_of tables.calls))
     → IfOk r (λ found. IsFound form db found.0 found.1)
 found_both form db tables has (Ok found) whole indexed = record { tables = tables; has = has; whole = whole; indexed = indexed }
 found_both form db tables has (Err e) whole indexed = tt

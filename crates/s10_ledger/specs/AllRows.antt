@@ -12,41 +12,41 @@ use Rattle.s10_rows.specs.declared.open_fault.OpenFault.{OpenFault}
 use Rattle.s10_rows.specs.CallRow.{StoredCall}
 use Rattle.s10_rows.specs.Tables.{Tables, HaveSameRows}
 use Rattle.s10_replay.specs.RightRows.{kept_of}
-use Rattle.s10_rows.specs.declared.opened.Opened.{Opened}
-use Rattle.s10_replay.specs.Verdict.{IsRefusal, IsWhole}
+use Rattle.s10_rows.specs.declared.ledger_summary.LedgerSummary.{LedgerSummary}
+use Rattle.s10_replay.specs.CheckedTables.{IsRefusal, IsConsistent}
 use Rattle.s10_index.specs.declared.call_index.CallIndex.{CallIndex}
 use Rattle.s10_index.specs.CallIndex.{Indexes}
-use Rattle.s10_index.specs.declared.remade.Remade.{Remade}
-use Rattle.s10_statements.specs.Shown.{shown_head, shown_call, shown_range, shown_serial, head_columns, call_columns, range_columns, serial_columns, IsNumbered}
-use Rattle.s10_ledger.specs.declared.form.Form.{Form}
-use Rattle.s10_index.specs.declared.made_rows.MadeRows.{MadeRows}
-use Rattle.s10_index.specs.Remade.{IsRemade, AreTheirs}
-use Rattle.s10_ledger.specs.Form.{HasForm}
+use Rattle.s10_index.specs.declared.replayed_book.ReplayedBook.{ReplayedBook}
+use Rattle.s10_statements.specs.Shown.{shown_head, shown_call, shown_range, shown_serial, head_columns, call_columns, range_columns, serial_columns, HasIntegerRowid}
+use Rattle.s10_ledger.specs.declared.table_layout.TableLayout.{TableLayout}
+use Rattle.s10_index.specs.declared.stored_rows.StoredRows.{StoredRows}
+use Rattle.s10_index.specs.ReplayedBook.{IsReplayedBook, AreDerivedRows}
+use Rattle.s10_ledger.specs.TableLayout.{HasTableLayout}
 
 -- these are the rows of head and of calls, the latter in order of arrival
-pub record HasKept (db : Database) (heads : List HeadRow) (calls : List StoredCall) : Type 0 where
+pub record HasCallRows (db : Database) (heads : List HeadRow) (calls : List StoredCall) : Type 0 where
   pub heads_are : HaveSameRows (map shown_head heads) (map head_columns (db.trees 0))
   pub calls_are : HaveSameRows (map shown_call calls) (map call_columns (db.trees 1))
   pub in_order : IsAscending (λ a b. int_cmp a.arrival b.arrival ≢ Ordering.Greater) calls
 
 -- these are the rows of ranges and of serials
-pub record HasMade (db : Database) (ranges : List RangeRow) (serials : List SerialRow) : Type 0 where
+pub record HasDerivedRows (db : Database) (ranges : List RangeRow) (serials : List SerialRow) : Type 0 where
   pub ranges_are : HaveSameRows (map shown_range ranges) (map range_columns (db.trees 3))
   pub serials_are : HaveSameRows (map shown_serial serials) (map serial_columns (db.trees 4))
-  pub numbered : AllByRecursion IsNumbered (db.trees 4)
+  pub numbered : AllByRecursion HasIntegerRowid (db.trees 4)
 
 -- the tables of the database, of which the calls were done again or are refused
-pub record AreRead (form : Form) (db : Database) (made : Result Remade OpenFault) (rows : MadeRows) : Type 0 where
+pub record AreRead (form : TableLayout) (db : Database) (made : Result ReplayedBook OpenFault) (rows : StoredRows) : Type 0 where
   pub tables : Tables
-  pub has : HasForm form db tables
+  pub has : HasTableLayout form db tables
   pub in_order : IsAscending (λ a b. int_cmp a.arrival b.arrival ≢ Ordering.Greater) tables.calls
-  pub theirs : AreTheirs tables rows
-  pub ok : IfOk made (IsRemade tables.heads tables.calls)
+  pub theirs : AreDerivedRows tables rows
+  pub ok : IfOk made (IsReplayedBook tables.heads tables.calls)
   pub err : IfErr made (IsRefusal tables)
 
 -- what was found of a database whose rows are whole, and the index of its calls
-pub record IsFound (form : Form) (db : Database) (opened : Opened) (index : CallIndex) : Type 0 where
+pub record IsFound (form : TableLayout) (db : Database) (opened : LedgerSummary) (index : CallIndex) : Type 0 where
   pub tables : Tables
-  pub has : HasForm form db tables
-  pub whole : IsWhole tables opened
+  pub has : HasTableLayout form db tables
+  pub whole : IsConsistent tables opened
   pub indexed : Indexes index (kept_of tables.calls)

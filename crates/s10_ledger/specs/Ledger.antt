@@ -106,8 +106,8 @@ abbrev pub IsAnyLedger : Database → Terms → ℕ → ℕ → Type 0
 IsAnyLedger db t len day = IsLedger db t len day ⊎ IsOldLedger db t len day
 
 -- the calls that are settled
-abbrev pub settled_of : {S : Type 0} → Ghosts S → Ledger S → List Entry
-settled_of g l = history_in (state g l.conn).now
+abbrev pub committed_of : {S : Type 0} → Ghosts S → Ledger S → List Entry
+committed_of g l = history_in (state g l.conn).now
 
 -- the calls that a ledger keeps: behind those that are settled, those that are not
 abbrev pub history_of : {S : Type 0} → Ghosts S → Ledger S → List Entry
@@ -121,6 +121,6 @@ pub record IsHonest {S : Type 0} (g : Ghosts S) (l : Ledger S) : Type 0 where
   pub legal : IsLegal (history_of g l) l.terms
 
 -- these trees hold the ledger with its pending calls behind the others
-pub record IsSettledIn {S : Type 0} (g : Ghosts S) (l : Ledger S) (db : Trees) : Type 0 where
+pub record IsCommittedIn {S : Type 0} (g : Ghosts S) (l : Ledger S) (db : Trees) : Type 0 where
   pub history : history_in (record (state g l.conn).now { trees = db }) ≡ history_of g l
   pub ledger : IsLedger (record (state g l.conn).now { trees = db }) l.terms (length (history_of g l)) (day_of (history_of g l))

@@ -1,4 +1,4 @@
-pub mod Form
+pub mod TableLayout
 pub mod Ledger
 pub mod Pending
 pub mod Refusals

@@ -5,7 +5,7 @@ use Rattle.sqlite.specs.Effect.{Database}
 use Rattle.sqlite.specs.State.{HasCleanDisk}
 use Rattle.sqlite.specs.Held.{Held, state}
 use Rattle.s10_history.specs.declared.entry.Entry.{Entry}
-use Rattle.s10_history.specs.declared.settings.TheConstants.{GREATEST_LIMIT}
+use Rattle.s10_history.specs.declared.settings.TheConstants.{MAX_LIMIT}
 use Rattle.s10_history.specs.Settings.{Terms}
 use Rattle.s10_history.specs.History.{day_of}
 use Rattle.s10_book.specs.Rules.{IsLegal}
@@ -15,8 +15,8 @@ use Rattle.s10_rows.specs.declared.call_write.CallWrite.{CallWrite}
 use Rattle.s10_rows.specs.CallWrite.{AreWritten}
 use Rattle.s10_rows.specs.Selected.{IsCall}
 use Rattle.s10_rows.specs.Tables.{tables_of}
-use Rattle.s10_statements.specs.Settled.{IsSettled, IsOpenIf}
-use Rattle.s10_ledger.specs.declared.sql_book.TheConstants.{MOST_PENDING}
+use Rattle.s10_statements.specs.ConnectionState.{IsQuiescent, IsOpenIf}
+use Rattle.s10_ledger.specs.declared.sql_book.TheConstants.{MAX_PENDING}
 use Rattle.s10_ledger.specs.Ledger.{IsLedger, history_in}
 
 -- the calls that are written so
@@ -24,8 +24,8 @@ abbrev pub calls_of : List CallWrite → List Entry
 calls_of ws = map (λ w. w.entry) ws
 
 -- the calls before those that are pending
-abbrev pub settled_among : List CallWrite → List Entry → List Entry
-settled_among ws es = take (length es - length ws) es
+abbrev pub committed_among : List CallWrite → List Entry → List Entry
+committed_among ws es = take (length es - length ws) es
 
 -- the pending calls make the tables of the history into those of the history with them behind
 pub record HoldsPending (db : Database) (t : Terms) (ws : List CallWrite) : Type 0 where
@@ -40,10 +40,10 @@ pub record IsFollowed (db : Database) (t : Terms) (index : CallIndex) (ws : List
 
 -- what is kept true of a book
 pub record IsSound {S : Type 0} (g : Ghosts S) (conn : Held S) (t : Terms) (index : CallIndex) (ws : List CallWrite) (answered : Bool) : Type 0 where
-  pub few : length index.entries.items ≤ GREATEST_LIMIT
-  pub few_pending : length ws ≤ MOST_PENDING
-  pub settled : IsSettled g conn
+  pub few : length index.entries.items ≤ MAX_LIMIT
+  pub few_pending : length ws ≤ MAX_PENDING
+  pub settled : IsQuiescent g conn
   pub opened : IsOpenIf g conn answered
   pub ledger : HasCleanDisk (state g conn) → IsTrue (state g conn).is_open
-      → IsLedger (state g conn).now t (length (settled_among ws index.entries.items)) (day_of (settled_among ws index.entries.items))
+      → IsLedger (state g conn).now t (length (committed_among ws index.entries.items)) (day_of (committed_among ws index.entries.items))
   pub followed : HasCleanDisk (state g conn) → IsTrue (state g conn).is_open → IsFollowed (state g conn).now t index ws

@@ -7,15 +7,15 @@ use Rattle.sqlite.specs.Effect.{Database}
 use Rattle.s10_rows.specs.declared.open_fault.OpenFault.{OpenFault}
 use Rattle.s10_rows.specs.declared.open_fault.OpenFault.TheVariants.{NotALedger, Schema as OtherSchema, Damaged, NotEmpty, Memory, Store}
 use Rattle.s10_rows.specs.Tables.{Tables}
-use Rattle.s10_replay.specs.Verdict.{IsRefusal}
+use Rattle.s10_replay.specs.CheckedTables.{IsRefusal}
 use Rattle.sqlite_schema.specs.declared.schema.Schema.{Schema}
-use Rattle.s10_ledger.specs.declared.form.Form.{Form}
-use Rattle.s10_ledger.specs.Form.{IsOfForm, HasForm}
+use Rattle.s10_ledger.specs.declared.table_layout.TableLayout.{TableLayout}
+use Rattle.s10_ledger.specs.TableLayout.{IsOfTableLayout, HasTableLayout}
 
 -- the database has a ledger's tables with these rows, those of calls in order of arrival
 pub record HasRows (db : Database) (tables : Tables) : Type 0 where
-  pub form : Form
-  pub has : HasForm form db tables
+  pub form : TableLayout
+  pub has : HasTableLayout form db tables
   pub in_order : IsAscending (λ a b. int_cmp a.arrival b.arrival ≢ Ordering.Greater) tables.calls
 
 -- the rows of the database are refused so
@@ -25,12 +25,12 @@ pub record IsRefusedFor (db : Database) (fault : OpenFault) : Type 0 where
   pub refusal : IsRefusal tables fault
 
 -- the tables of a ledger are declared, all five or the four of an earlier build
-abbrev pub HasAForm : Schema → Type 0
-HasAForm s = (form : Form) × IsOfForm form s
+abbrev pub HasSomeTableLayout : Schema → Type 0
+HasSomeTableLayout s = (form : TableLayout) × IsOfTableLayout form s
 
 -- what the opening of a database is refused for
 abbrev pub IsOpeningRefusal : Database → OpenFault → Type 0
-IsOpeningRefusal db NotALedger = (¬ HasAForm db.schema) ⊎ IsRefusedFor db NotALedger
+IsOpeningRefusal db NotALedger = (¬ HasSomeTableLayout db.schema) ⊎ IsRefusedFor db NotALedger
 IsOpeningRefusal db (OtherSchema n) = IsRefusedFor db (OtherSchema n)
 IsOpeningRefusal db (Damaged k) = IsRefusedFor db (Damaged k)
 IsOpeningRefusal db NotEmpty = ⊥

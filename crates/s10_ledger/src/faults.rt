@@ -3,7 +3,7 @@
 ghost use Rattle.std.specs.Prelude.{◌≡◌, ◌≢◌, ◌↔◌, ◌⊎◌};
 ghost use Rattle.s10_book.specs.declared.book_fault.BookFault.TheVariants.{Full};
 ghost use Rattle.s10_rows.specs.Tables.{Tables};
-ghost use Rattle.s10_replay.specs.Verdict.{IsRefusal};
+ghost use Rattle.s10_replay.specs.CheckedTables.{IsRefusal};
 
 use s10_book::BookFault;
 use s10_replay::fault_of_book;

@@ -1,16 +1,16 @@
 //! The book of kept calls in the tables of a database.
 #![tactic(auto)]
 
-mod all_rows;
 mod faults;
-mod form;
-mod keeping;
 mod lookups;
 mod opening;
+mod pending;
+mod reading;
 mod refused;
 mod sql_book;
+mod table_layout;
 
 pub use refused::Refused;
 pub use s10_rows::OpenFault;
-pub use s10_statements::{Unwatched, Watch};
-pub use sql_book::{MOST_PENDING, SqlBook};
+pub use s10_statements::{NoObserver, Observer};
+pub use sql_book::{MAX_PENDING, SqlBook};

@@ -11,8 +11,8 @@ ghost use Rattle.s10_history.specs.Usage.{usage_of};
 ghost use Rattle.s10_book.specs.Rules.{IsLegal};
 ghost use Rattle.s10_statements.specs.Shown.{StandsFor};
 ghost use Rattle.s10_rows.specs.Selected.{IsCall};
-ghost use Rattle.s10_statements.specs.Settled.{Spares};
-ghost use Rattle.s10_statements.specs.Statements.{Leaves};
+ghost use Rattle.s10_statements.specs.ConnectionState.{AddsNoCrashState};
+ghost use Rattle.s10_statements.specs.Statements.{LeavesTables};
 
 use crate::faults::fault_of;
 use s10_book::BookFault;
@@ -25,8 +25,8 @@ use std::alloc::Global;
 
 // Asks the connection for its settings, to see whether it answers.
 pub(crate) fn ask<S: Alter>(alloc: Global, conn: &mut Connection<S>) -> Result<(), BookFault>
-    ensures spares { Spares S.Store conn.old conn.new }
-    ensures leaves { Leaves S.Store conn.old conn.new }
+    ensures spares { AddsNoCrashState S.Store conn.old conn.new }
+    ensures leaves { LeavesTables S.Store conn.old conn.new }
     ensures opened { HasCleanDisk (state S.Store conn.new) → OnOk result (IsTrue (state S.Store conn.new).is_open) }
     ensures fault { result ≢ Err Full }
 {
@@ -43,7 +43,7 @@ pub(crate) fn usage_in<S: Alter>(
     day: u32,
     interval: u32,
 ) -> Result<Usage, BookFault>
-    ensures leaves { Leaves S.Store conn.old conn.new }
+    ensures leaves { LeavesTables S.Store conn.old conn.new }
     ensures opened { HasCleanDisk (state S.Store conn.new) → OnOk result (IsTrue (state S.Store conn.new).is_open) }
     ensures fault { result ≢ Err Full }
     ensures answer { HasCleanDisk (state S.Store conn.new) → (h : List Entry) (t : Terms) → IsLegal h t → All IsCall h → StandsFor (state S.Store conn.old).now h t

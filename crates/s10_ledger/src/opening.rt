@@ -2,78 +2,78 @@
 
 ghost use Rattle.std.specs.Prelude.{◌≡◌, ◌≤◌, ◌⊎◌, length, IfOk, IfErr, OnOk, OnErr, IsTrue};
 ghost use Rattle.s10_history.specs.History.{day_of};
-ghost use Rattle.s10_history.specs.declared.settings.TheConstants.{GREATEST_LIMIT};
+ghost use Rattle.s10_history.specs.declared.settings.TheConstants.{MAX_LIMIT};
 ghost use Rattle.sqlite.specs.Held.{state};
 ghost use Rattle.sqlite.specs.State.{HasCleanDisk};
 ghost use Rattle.s10_rows.specs.Tables.{Tables};
 ghost use Rattle.s10_schema.specs.Schema.{IsClosedSchema};
 ghost use Rattle.s10_statements.specs.Shown.{HasTables};
-ghost use Rattle.s10_statements.specs.Settled.{IsSettled, WasSound};
-ghost use Rattle.s10_statements.specs.Statements.{Leaves};
-ghost use Rattle.s10_ledger.specs.declared.form.Form.TheVariants.{Whole};
-ghost use Rattle.s10_ledger.specs.Form.{IsOfForm, HasForm};
+ghost use Rattle.s10_statements.specs.ConnectionState.{IsQuiescent, WasSound};
+ghost use Rattle.s10_statements.specs.Statements.{LeavesTables};
+ghost use Rattle.s10_ledger.specs.declared.table_layout.TableLayout.TheVariants.{Whole};
+ghost use Rattle.s10_ledger.specs.TableLayout.{IsOfTableLayout, HasTableLayout};
 ghost use Rattle.s10_ledger.specs.AllRows.{IsFound};
 ghost use Rattle.s10_ledger.specs.Ledger.{IsLedger, IsAnyLedger, IsIndexed, history_in};
 ghost use Rattle.s10_ledger.specs.Refusals.{IsOpeningRefusal};
 
-use crate::all_rows::all_rows;
 use crate::faults::opening_fault;
-use crate::form::{Form, form_of};
+use crate::reading::read_tables;
 use crate::refused::Refused;
 use crate::sql_book::SqlBook;
-use s10_index::{CallIndex, verdict};
-use s10_rows::{OpenFault, Opened};
-use s10_statements::{Watch, make_closed};
+use crate::table_layout::{TableLayout, table_layout_of};
+use s10_index::{CallIndex, check_tables};
+use s10_rows::{LedgerSummary, OpenFault};
+use s10_statements::{Observer, create_closed};
 use sqlite::{Alter, Connection};
 use std::alloc::Global;
 
 // What is found of the ledger in the tables, and the index of its calls.
-fn found_in<S: Alter, W: Watch>(
+fn replay_tables<S: Alter, W: Observer>(
     alloc: Global,
     conn: &mut Connection<S>,
-    form: Form,
+    form: TableLayout,
     watch: &mut W,
-) -> Result<(Opened, CallIndex), OpenFault>
-    requires settled { IsSettled S.Store conn.old }
-    requires form { IsOfForm form (state S.Store conn.old).now.schema }
-    ensures leaves { Leaves S.Store conn.old conn.new }
+) -> Result<(LedgerSummary, CallIndex), OpenFault>
+    requires settled { IsQuiescent S.Store conn.old }
+    requires form { IsOfTableLayout form (state S.Store conn.old).now.schema }
+    ensures leaves { LeavesTables S.Store conn.old conn.new }
     ensures opened { HasCleanDisk (state S.Store conn.new) → OnOk result (IsTrue (state S.Store conn.new).is_open) }
-    ensures few { IfOk result (λ found. length found.1.entries.items ≤ GREATEST_LIMIT) }
+    ensures few { IfOk result (λ found. length found.1.entries.items ≤ MAX_LIMIT) }
     ensures found { HasCleanDisk (state S.Store conn.new) → IsTrue (state S.Store conn.new).is_open → IfOk result (λ found. IsFound form (state S.Store conn.old).now found.0 found.1) }
     ensures refused { HasCleanDisk (state S.Store conn.new) → IsTrue (state S.Store conn.new).is_open → IfErr result (IsOpeningRefusal (state S.Store conn.old).now) }
 {
-    let (made, rows) = match all_rows(alloc, conn, form, watch) {
+    let (made, rows) = match read_tables(alloc, conn, form, watch) {
         Ok(rows) => rows,
         Err(error) => {
-            watch.has_failed(&error);
+            watch.statement_failed(&error);
             return Err(opening_fault(error));
         }
     };
     let made = made?;
-    verdict(alloc, made, rows)
+    check_tables(alloc, made, rows)
 }
 
 // Makes the table that an earlier build does not have.
-fn complete<S: Alter, W: Watch>(
+fn complete<S: Alter, W: Observer>(
     conn: &mut Connection<S>,
-    form: Form,
+    form: TableLayout,
     watch: &mut W,
 ) -> Result<(), OpenFault>
-    requires settled { IsSettled S.Store conn.old }
-    ensures settled { IsSettled S.Store conn.new }
+    requires settled { IsQuiescent S.Store conn.old }
+    ensures settled { IsQuiescent S.Store conn.new }
     ensures was { WasSound S.Store conn.old conn.new }
     ensures opened { HasCleanDisk (state S.Store conn.new) → OnOk result (IsTrue (state S.Store conn.old).is_open → IsTrue (state S.Store conn.new).is_open) }
-    ensures whole { HasCleanDisk (state S.Store conn.new) → OnOk result ((tables : Tables) → HasForm form (state S.Store conn.old).now tables → HasTables (state S.Store conn.new).now tables) }
+    ensures whole { HasCleanDisk (state S.Store conn.new) → OnOk result ((tables : Tables) → HasTableLayout form (state S.Store conn.old).now tables → HasTables (state S.Store conn.new).now tables) }
     ensures same { form ≡ Whole → (state S.Store conn.new).now ≡ (state S.Store conn.old).now }
     ensures none { HasCleanDisk (state S.Store conn.new) → IsTrue (state S.Store conn.new).is_open → OnErr result ((state S.Store conn.new).now ≡ (state S.Store conn.old).now) }
     ensures fault { IfErr result (λ f. (f ≡ OpenFault.Memory) ⊎ (f ≡ OpenFault.Store)) }
 {
     match form {
-        Form::Whole => Ok(()),
-        Form::Old => match make_closed(conn) {
+        TableLayout::Whole => Ok(()),
+        TableLayout::Old => match create_closed(conn) {
             Ok(()) => Ok(()),
             Err(error) => {
-                watch.has_failed(&error);
+                watch.statement_failed(&error);
                 Err(opening_fault(error))
             }
         },
@@ -81,16 +81,16 @@ fn complete<S: Alter, W: Watch>(
 }
 
 // What is found of the ledger in the tables, and the index of its calls. Tables of an earlier build are completed.
-pub(crate) fn ledger_in<S: Alter, W: Watch>(
+pub(crate) fn ledger_in<S: Alter, W: Observer>(
     alloc: Global,
     conn: &mut Connection<S>,
     watch: &mut W,
-) -> Result<(Opened, CallIndex), OpenFault>
-    requires settled { IsSettled S.Store conn.old }
-    ensures settled { IsSettled S.Store conn.new }
+) -> Result<(LedgerSummary, CallIndex), OpenFault>
+    requires settled { IsQuiescent S.Store conn.old }
+    ensures settled { IsQuiescent S.Store conn.new }
     ensures was { WasSound S.Store conn.old conn.new }
     ensures opened { HasCleanDisk (state S.Store conn.new) → OnOk result (IsTrue (state S.Store conn.new).is_open) }
-    ensures few { IfOk result (λ found. length found.1.entries.items ≤ GREATEST_LIMIT) }
+    ensures few { IfOk result (λ found. length found.1.entries.items ≤ MAX_LIMIT) }
     ensures same { HasCleanDisk (state S.Store conn.new) → IsTrue (state S.Store conn.new).is_open → IsClosedSchema (state S.Store conn.old).now.schema → (state S.Store conn.new).now ≡ (state S.Store conn.old).now }
     ensures kept { HasCleanDisk (state S.Store conn.new) → IsTrue (state S.Store conn.new).is_open → OnErr result ((state S.Store conn.new).now ≡ (state S.Store conn.old).now) }
     ensures history { HasCleanDisk (state S.Store conn.new) → IsTrue (state S.Store conn.new).is_open → OnOk result (history_in (state S.Store conn.new).now ≡ history_in (state S.Store conn.old).now) }
@@ -101,10 +101,10 @@ pub(crate) fn ledger_in<S: Alter, W: Watch>(
     ensures indexed { IfOk result (λ found. IsIndexed S.Store conn.new found.1) }
     ensures refused { HasCleanDisk (state S.Store conn.new) → IsTrue (state S.Store conn.new).is_open → IfErr result (IsOpeningRefusal (state S.Store conn.old).now) }
 {
-    let Some(form) = form_of(conn.schema()) else {
+    let Some(form) = table_layout_of(conn.schema()) else {
         return Err(OpenFault::NotALedger);
     };
-    let found = found_in(alloc, conn, form, watch)?;
+    let found = replay_tables(alloc, conn, form, watch)?;
     complete(conn, form, watch)?;
     Ok(found)
 }
@@ -115,7 +115,7 @@ impl<S: Alter> SqlBook<S> {
     ghost use Rattle.sqlite.specs.State.{HasCleanDisk};
     ghost use Rattle.s10_history.specs.Settings.{Terms, AreTerms};
     ghost use Rattle.s10_book.specs.BookFault.{no_faults};
-    ghost use Rattle.s10_statements.specs.Settled.{WasSound};
+    ghost use Rattle.s10_statements.specs.ConnectionState.{WasSound};
     ghost use Rattle.s10_schema.specs.Schema.{IsClosedSchema};
     ghost use Rattle.s10_ledger.specs.Ledger.{IsAnyLedger, IsHonest, history_in};
     ghost use Rattle.s10_ledger.specs.Refusals.{IsOpeningRefusal};
@@ -127,7 +127,7 @@ impl<S: Alter> SqlBook<S> {
     /// refers to them or an index is on them, or `head` is not its one row, with Schema, with Damaged
     /// and the first call that is wrong, or 0 where another row is, with Memory, and with Store where a
     /// statement failed; a refusal leaves the tables as they are.
-    pub fn open<W: Watch>(
+    pub fn open<W: Observer>(
         alloc: Global,
         mut conn: Connection<S>,
         watch: &mut W,

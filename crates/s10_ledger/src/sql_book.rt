@@ -2,26 +2,26 @@
 
 ghost use Rattle.std.specs.Prelude.{◌≡◌, ◌≢◌, [], Err};
 ghost use Rattle.s10_book.specs.declared.book_fault.BookFault.TheVariants.{Full};
-ghost use Rattle.s10_book.specs.BookFault.{Counts, no_faults};
+ghost use Rattle.s10_book.specs.BookFault.{CountsResult, no_faults};
 ghost use Rattle.sqlite.specs.Held.{state};
 ghost use Rattle.s10_ledger.specs.Ledger.{history_in, IsHonest};
 
 use crate::faults::opening_fault;
-use crate::keeping::{hold_call, is_pending, write_calls};
 use crate::lookups::{ask, usage_in};
+use crate::pending::{append_pending, commit_calls, is_pending};
 use crate::refused::Refused;
-use s10_book::{Book, BookFault, Faults, Settle};
+use s10_book::{Book, BookFault, Faults, GroupCommit};
 use s10_core::Id;
-use s10_history::{Block, Candidate, Entry, Holding, Issue, Range, Settings, Usage};
+use s10_history::{Candidate, Entry, HolderKey, Issue, Range, SerialSpan, Settings, Usage};
 use s10_index::CallIndex;
 use s10_rows::{CallWrite, OpenFault};
-use s10_statements::{Unwatched, Watch, make_ledger, refusal_of};
+use s10_statements::{NoObserver, Observer, create_tables, refusal_of};
 use sqlite::{Alter, Connection, MemStore};
 use std::alloc::Global;
 use std::marker::Model;
 
 /// So many calls are pending at most.
-pub const MOST_PENDING: usize = 64;
+pub const MAX_PENDING: usize = 64;
 
 /// A book over the tables of a connection. It holds the calls that it keeps in the process, where they are pending until it
 /// settles: then it writes them in one transaction.
@@ -42,13 +42,13 @@ impl<S: Alter> Model for SqlBook<S> {
     ghost use Rattle.std.specs.Prelude.{length};
     ghost use Rattle.s10_history.specs.History.{day_of};
     ghost use Rattle.s10_ledger.specs.Ledger.{Ledger, ledger_code};
-    ghost use Rattle.s10_ledger.specs.Pending.{IsSound, calls_of, settled_among};
+    ghost use Rattle.s10_ledger.specs.Pending.{IsSound, calls_of, committed_among};
 
     ghost Value = { Ledger S };
 
     ghost coded = { ledger_code S.code };
 
-    ghost view = { λ b. let kept = settled_among b.pending.items b.index.entries.items in record { conn = b.conn; terms = b.settings; len = length kept; day = day_of kept; faults = b.faults; pending = calls_of b.pending.items } };
+    ghost view = { λ b. let kept = committed_among b.pending.items b.index.entries.items in record { conn = b.conn; terms = b.settings; len = length kept; day = day_of kept; faults = b.faults; pending = calls_of b.pending.items } };
 
     ghost invariant = { λ b. IsSound S.Store b.conn b.settings b.index b.pending.items b.answered };
 }
@@ -56,18 +56,18 @@ impl<S: Alter> Model for SqlBook<S> {
 impl<S: Alter> SqlBook<S> {
     ghost use Rattle.std.specs.Prelude.{◌≡◌, ◌≤◌, IfOk, IfErr, IsTrue, [], length, false};
     ghost use Rattle.s10_history.specs.History.{day_of};
-    ghost use Rattle.s10_history.specs.declared.settings.TheConstants.{GREATEST_LIMIT};
+    ghost use Rattle.s10_history.specs.declared.settings.TheConstants.{MAX_LIMIT};
     ghost use Rattle.sqlite.specs.Held.{state};
     ghost use Rattle.sqlite.specs.State.{HasCleanDisk};
     ghost use Rattle.s10_ledger.specs.Ledger.{Ledger, IsLedger, IsIndexed, IsHonest, history_in};
-    ghost use Rattle.s10_statements.specs.Settled.{IsSettled, WasSound};
-    ghost use Rattle.s10_statements.specs.Making.{HasOneOfTheNames, IsMakingRefusal};
+    ghost use Rattle.s10_statements.specs.ConnectionState.{IsQuiescent, WasSound};
+    ghost use Rattle.s10_statements.specs.Creating.{HasOneOfTheNames, IsCreateRefusal};
     ghost use Rattle.s10_schema.specs.Schema.{ledger_schema};
 
     /// Makes an empty ledger with these settings in an empty database, in one transaction. Refused
     /// with NotEmpty where a table of one of the five names is there, with Memory, and with Store
     /// where a statement failed or the database has other tables; a refusal leaves no table.
-    pub fn create<W: Watch>(
+    pub fn create<W: Observer>(
         alloc: Global,
         conn: Connection<S>,
         settings: Settings,
@@ -86,15 +86,15 @@ impl<S: Alter> SqlBook<S> {
         ensures none_pending { IfOk result (λ b. b.pending ≡ []) }
         ensures left_idle { IfErr result (λ r. r.connection.in_transaction ≡ false) }
         ensures was_refused { IfErr result (λ r. WasSound S.Store conn r.connection) }
-        ensures refused { IfErr result (λ r. IsMakingRefusal (state S.Store conn).now.schema r.fault) }
+        ensures refused { IfErr result (λ r. IsCreateRefusal (state S.Store conn).now.schema r.fault) }
         ensures kept { IfErr result (λ r. HasCleanDisk (state S.Store r.connection) → IsTrue (state S.Store r.connection).is_open → (state S.Store r.connection).now ≡ (state S.Store conn).now) }
     {
         let mut connection = conn;
         if let Some(fault) = refusal_of(&connection) {
             return Err(Refused { fault, connection });
         }
-        if let Err(error) = make_ledger(&mut connection, settings) {
-            watch.has_failed(&error);
+        if let Err(error) = create_tables(&mut connection, settings) {
+            watch.statement_failed(&error);
             let fault = opening_fault(error);
             return Err(Refused { fault, connection });
         }
@@ -109,8 +109,8 @@ impl<S: Alter> SqlBook<S> {
         settings: Settings,
         index: CallIndex,
     ) -> SqlBook<S>
-        requires few { length index.entries.items ≤ GREATEST_LIMIT }
-        requires settled { IsSettled S.Store conn }
+        requires few { length index.entries.items ≤ MAX_LIMIT }
+        requires settled { IsQuiescent S.Store conn }
         requires ledger { HasCleanDisk (state S.Store conn) → IsTrue (state S.Store conn).is_open → IsLedger (state S.Store conn).now settings (length index.entries.items) (day_of index.entries.items) }
         requires indexed { IsIndexed S.Store conn index }
         requires opened { HasCleanDisk (state S.Store conn) → IsTrue (state S.Store conn).is_open }
@@ -181,7 +181,7 @@ impl SqlBook<MemStore> {
         let Ok(conn) = Connection::open_in_memory(alloc) else {
             return Err(OpenFault::Memory);
         };
-        match SqlBook::create(alloc, conn, settings, &mut Unwatched) {
+        match SqlBook::create(alloc, conn, settings, &mut NoObserver) {
             Ok(book) => Ok(book),
             Err(
                 Refused {
@@ -197,7 +197,7 @@ impl SqlBook<MemStore> {
 fn counted<T>(faults: &mut Faults, answer: Result<T, BookFault>) -> Result<T, BookFault>
     requires { answer ≢ Err Full }
     ensures same { result ≡ answer }
-    ensures faults { Counts result faults.old faults.new }
+    ensures faults { CountsResult result faults.old faults.new }
 {
     if let Err(fault) = &answer {
         faults.add(*fault);
@@ -213,14 +213,14 @@ impl<S: Alter> SqlBook<S> {
     ghost use Rattle.s10_history.specs.History.{has_key, ranges_of};
     ghost use Rattle.s10_history.specs.Usage.{usage_of};
     ghost use Rattle.s10_book.specs.Rules.{MayFollow};
-    ghost use Rattle.s10_book.specs.Book.{Keeps};
-    ghost use Rattle.s10_ledger.specs.Ledger.{IsSettledIn, history_of, settled_of};
+    ghost use Rattle.s10_book.specs.Book.{Unchanged};
+    ghost use Rattle.s10_ledger.specs.Ledger.{IsCommittedIn, history_of, committed_of};
 
     // Asks the connection where it did not answer the last statement, so that nothing is told over a
     // connection that is shut.
     fn ask_again(&mut self) -> Result<(), BookFault>
-        ensures faults { Counts result self.old.faults self.new.faults }
-        ensures keeps { Keeps (history_of S.Store) (λ b. b.terms) (IsHonest S.Store) self.old self.new }
+        ensures faults { CountsResult result self.old.faults self.new.faults }
+        ensures unchanged { Unchanged (history_of S.Store) (λ b. b.terms) (IsHonest S.Store) self.old self.new }
         ensures opened { HasCleanDisk (state S.Store self.new.conn) → OnOk result (IsTrue (state S.Store self.new.conn).is_open) }
         ensures same_pending { self.new.pending ≡ self.old.pending }
         ensures same { IsHonest S.Store self.new → (state S.Store self.new.conn).now ≡ (state S.Store self.old.conn).now }
@@ -236,16 +236,16 @@ impl<S: Alter> SqlBook<S> {
     }
 
     // Writes the pending calls in one transaction.
-    fn write_pending(&mut self) -> Result<(), BookFault>
-        ensures faults { Counts result self.old.faults self.new.faults }
-        ensures keeps { Keeps (history_of S.Store) (λ b. b.terms) (IsHonest S.Store) self.old self.new }
+    fn commit_pending(&mut self) -> Result<(), BookFault>
+        ensures faults { CountsResult result self.old.faults self.new.faults }
+        ensures unchanged { Unchanged (history_of S.Store) (λ b. b.terms) (IsHonest S.Store) self.old self.new }
         ensures opened { HasCleanDisk (state S.Store self.new.conn) → OnOk result (IsTrue (state S.Store self.new.conn).is_open) }
-        ensures left { IsHonest S.Store self.new → OnErr result (settled_of S.Store self.new ≡ settled_of S.Store self.old) }
+        ensures left { IsHonest S.Store self.new → OnErr result (committed_of S.Store self.new ≡ committed_of S.Store self.old) }
         ensures none_pending { OnOk result (self.new.pending ≡ []) }
         ensures crash { IsHonest S.Store self.old → HasCleanDisk (state S.Store self.new.conn) → (db : Trees) → (state S.Store self.new.conn).may_leave db
-            → (db ≡ (state S.Store self.old.conn).now.trees) ⊎ IsSettledIn S.Store self.old db }
+            → (db ≡ (state S.Store self.old.conn).now.trees) ⊎ IsCommittedIn S.Store self.old db }
     {
-        let written = write_calls(&mut self.conn, &mut self.pending);
+        let written = commit_calls(&mut self.conn, &mut self.pending);
         let answered = written.is_ok();
         self.answered = answered;
         counted(&mut self.faults, written)
@@ -253,25 +253,25 @@ impl<S: Alter> SqlBook<S> {
 
     // Settles where no more calls may be pending, and else asks the connection as the reads do.
     fn make_room(&mut self) -> Result<(), BookFault>
-        ensures faults { Counts result self.old.faults self.new.faults }
-        ensures keeps { Keeps (history_of S.Store) (λ b. b.terms) (IsHonest S.Store) self.old self.new }
+        ensures faults { CountsResult result self.old.faults self.new.faults }
+        ensures unchanged { Unchanged (history_of S.Store) (λ b. b.terms) (IsHonest S.Store) self.old self.new }
         ensures opened { HasCleanDisk (state S.Store self.new.conn) → OnOk result (IsTrue (state S.Store self.new.conn).is_open) }
-        ensures room { OnOk result (length self.new.pending < MOST_PENDING) }
-        ensures unsettled { IsHonest S.Store self.new → length self.old.pending < MOST_PENDING → ((state S.Store self.new.conn).now ≡ (state S.Store self.old.conn).now) × (self.new.pending ≡ self.old.pending) }
+        ensures room { OnOk result (length self.new.pending < MAX_PENDING) }
+        ensures uncommitted { IsHonest S.Store self.new → length self.old.pending < MAX_PENDING → ((state S.Store self.new.conn).now ≡ (state S.Store self.old.conn).now) × (self.new.pending ≡ self.old.pending) }
         ensures crash { IsHonest S.Store self.old → HasCleanDisk (state S.Store self.new.conn) → (db : Trees) → (state S.Store self.new.conn).may_leave db
-            → (db ≡ (state S.Store self.old.conn).now.trees) ⊎ IsSettledIn S.Store self.old db }
+            → (db ≡ (state S.Store self.old.conn).now.trees) ⊎ IsCommittedIn S.Store self.old db }
     {
-        if self.pending.len() >= MOST_PENDING {
-            return self.settle();
+        if self.pending.len() >= MAX_PENDING {
+            return self.commit();
         }
         self.ask_again()
     }
 
     // Holds the call behind the others.
-    fn hold(&mut self, entry: &Entry) -> Result<(), BookFault>
-        requires room { length self.old.pending < MOST_PENDING }
+    fn append_call(&mut self, entry: &Entry) -> Result<(), BookFault>
+        requires room { length self.old.pending < MAX_PENDING }
         requires follows { IsHonest S.Store self.old → MayFollow (history_of S.Store self.old) self.old.terms entry.now }
-        ensures faults { Counts result self.old.faults self.new.faults }
+        ensures faults { CountsResult result self.old.faults self.new.faults }
         ensures same_conn { self.new.conn ≡ self.old.conn }
         ensures same_terms { self.new.terms ≡ self.old.terms }
         ensures was_honest { IsHonest S.Store self.new → IsHonest S.Store self.old }
@@ -279,16 +279,16 @@ impl<S: Alter> SqlBook<S> {
         ensures err { OnErr result (self.new.pending ≡ self.old.pending) }
     {
         let limit = self.settings.limit();
-        let held = hold_call(self.alloc, &mut self.index, &mut self.pending, limit, entry);
+        let held = append_pending(self.alloc, &mut self.index, &mut self.pending, limit, entry);
         counted(&mut self.faults, held)
     }
 
     // The usage of a range, where no call is pending.
-    fn usage_settled(&mut self, range: &Range, day: u32) -> Result<Usage, BookFault>
+    fn usage_committed(&mut self, range: &Range, day: u32) -> Result<Usage, BookFault>
         requires none_pending { self.old.pending ≡ [] }
         requires there { IsHonest S.Store self.old → Contains (ranges_of (history_of S.Store self.old)) range.now }
-        ensures faults { Counts result self.old.faults self.new.faults }
-        ensures keeps { Keeps (history_of S.Store) (λ b. b.terms) (IsHonest S.Store) self.old self.new }
+        ensures faults { CountsResult result self.old.faults self.new.faults }
+        ensures unchanged { Unchanged (history_of S.Store) (λ b. b.terms) (IsHonest S.Store) self.old self.new }
         ensures opened { HasCleanDisk (state S.Store self.new.conn) → OnOk result (IsTrue (state S.Store self.new.conn).is_open) }
         ensures answer { IsHonest S.Store self.new → IfOk result (λ u. u ≡ usage_of (history_of S.Store self.old) range.now day self.old.terms.interval) }
     {
@@ -301,34 +301,34 @@ impl<S: Alter> SqlBook<S> {
     }
 }
 
-impl<S: Alter> Settle for SqlBook<S> {
+impl<S: Alter> GroupCommit for SqlBook<S> {
     ghost use Rattle.std.specs.Prelude.{◌⊎◌, IsTrue, OnErr, OnOk, refl};
     ghost use Rattle.sqlite_trees.specs.Tree.{Trees};
     ghost use Rattle.sqlite.specs.State.{HasCleanDisk};
-    ghost use Rattle.s10_book.specs.Book.{Keeps};
-    ghost use Rattle.s10_ledger.specs.Ledger.{IsSettledIn, history_of, settled_of};
+    ghost use Rattle.s10_book.specs.Book.{Unchanged};
+    ghost use Rattle.s10_ledger.specs.Ledger.{IsCommittedIn, history_of, committed_of};
 
-    ghost settled = { settled_of S.Store };
+    ghost committed = { committed_of S.Store };
 
     ghost first = { λ book honest. (book.pending, refl) };
 
-    fn settle(&mut self) -> Result<(), BookFault>
-        ensures faults { Counts result self.old.faults self.new.faults }
-        ensures keeps { Keeps (history_of S.Store) (λ b. b.terms) (IsHonest S.Store) self.old self.new }
+    fn commit(&mut self) -> Result<(), BookFault>
+        ensures faults { CountsResult result self.old.faults self.new.faults }
+        ensures unchanged { Unchanged (history_of S.Store) (λ b. b.terms) (IsHonest S.Store) self.old self.new }
         ensures opened { HasCleanDisk (state S.Store self.new.conn) → OnOk result (IsTrue (state S.Store self.new.conn).is_open) }
-        ensures done { IsHonest S.Store self.new → OnOk result (settled_of S.Store self.new ≡ history_of S.Store self.new) }
-        ensures left { IsHonest S.Store self.new → OnErr result (settled_of S.Store self.new ≡ settled_of S.Store self.old) }
+        ensures done { IsHonest S.Store self.new → OnOk result (committed_of S.Store self.new ≡ history_of S.Store self.new) }
+        ensures left { IsHonest S.Store self.new → OnErr result (committed_of S.Store self.new ≡ committed_of S.Store self.old) }
         ensures none_pending { OnOk result (self.new.pending ≡ []) }
         ensures crash { IsHonest S.Store self.old → HasCleanDisk (state S.Store self.new.conn) → (db : Trees) → (state S.Store self.new.conn).may_leave db
-            → (db ≡ (state S.Store self.old.conn).now.trees) ⊎ IsSettledIn S.Store self.old db }
+            → (db ≡ (state S.Store self.old.conn).now.trees) ⊎ IsCommittedIn S.Store self.old db }
     {
         if self.pending.is_empty() {
             return self.ask_again();
         }
-        self.write_pending()
+        self.commit_pending()
     }
 
-    fn is_settled(&self, customer: u32, number: u32) -> bool {
+    fn is_committed(&self, customer: u32, number: u32) -> bool {
         !is_pending(&self.pending, customer, number)
     }
 }
@@ -337,12 +337,12 @@ impl<S: Alter> Book for SqlBook<S> {
     ghost use Rattle.std.specs.Prelude.{◌⊎◌, ◌++◌, ◌∷◌, ◌<◌, ◌==◌, length, find, IfOk, IfSome, IsTrue, OnErr, OnOk, Contains};
     ghost use Rattle.sqlite.specs.State.{HasCleanDisk};
     ghost use Rattle.s10_wire.specs.Kind.{fits};
-    ghost use Rattle.s10_history.specs.History.{entry_with_key, entry_at, ranges_of, is_closed, is_open_above, overlaps};
+    ghost use Rattle.s10_history.specs.History.{find_entry, entry_at, ranges_of, is_closed, is_open_after, overlaps};
     ghost use Rattle.s10_history.specs.Issues.{last_issue_of, candidate_of, candidate_after_of, size_of};
     ghost use Rattle.s10_history.specs.Usage.{usage_of};
     ghost use Rattle.s10_book.specs.Rules.{MayFollow};
-    ghost use Rattle.s10_book.specs.Book.{Keeps};
-    ghost use Rattle.s10_ledger.specs.Ledger.{history_of, IsSettledIn};
+    ghost use Rattle.s10_book.specs.Book.{Unchanged};
+    ghost use Rattle.s10_ledger.specs.Ledger.{history_of, IsCommittedIn};
     ghost use Rattle.sqlite_trees.specs.Tree.{Trees};
 
     ghost history = { history_of S.Store };
@@ -368,10 +368,10 @@ impl<S: Alter> Book for SqlBook<S> {
     }
 
     fn find(&mut self, customer: u32, number: u32) -> Result<Option<Entry>, BookFault>
-        ensures faults { Counts result self.old.faults self.new.faults }
-        ensures keeps { Keeps (history_of S.Store) (λ b. b.terms) (IsHonest S.Store) self.old self.new }
+        ensures faults { CountsResult result self.old.faults self.new.faults }
+        ensures unchanged { Unchanged (history_of S.Store) (λ b. b.terms) (IsHonest S.Store) self.old self.new }
         ensures opened { HasCleanDisk (state S.Store self.new.conn) → OnOk result (IsTrue (state S.Store self.new.conn).is_open) }
-        ensures answer { IsHonest S.Store self.new → IfOk result (λ e. e ≡ entry_with_key (history_of S.Store self.old) customer number) }
+        ensures answer { IsHonest S.Store self.new → IfOk result (λ e. e ≡ find_entry (history_of S.Store self.old) customer number) }
         ensures fits { IfOk result (λ found. IfSome found (λ e. IsTrue (fits e.request.body e.outcome))) }
     {
         if let Err(fault) = self.ask_again() {
@@ -381,8 +381,8 @@ impl<S: Alter> Book for SqlBook<S> {
     }
 
     fn entry(&mut self, at: u32) -> Result<Option<Entry>, BookFault>
-        ensures faults { Counts result self.old.faults self.new.faults }
-        ensures keeps { Keeps (history_of S.Store) (λ b. b.terms) (IsHonest S.Store) self.old self.new }
+        ensures faults { CountsResult result self.old.faults self.new.faults }
+        ensures unchanged { Unchanged (history_of S.Store) (λ b. b.terms) (IsHonest S.Store) self.old self.new }
         ensures opened { HasCleanDisk (state S.Store self.new.conn) → OnOk result (IsTrue (state S.Store self.new.conn).is_open) }
         ensures answer { IsHonest S.Store self.new → IfOk result (λ e. e ≡ entry_at (history_of S.Store self.old) at) }
     {
@@ -393,20 +393,20 @@ impl<S: Alter> Book for SqlBook<S> {
     }
 
     fn range(&mut self, num: u32) -> Result<Option<Range>, BookFault>
-        ensures faults { Counts result self.old.faults self.new.faults }
-        ensures keeps { Keeps (history_of S.Store) (λ b. b.terms) (IsHonest S.Store) self.old self.new }
+        ensures faults { CountsResult result self.old.faults self.new.faults }
+        ensures unchanged { Unchanged (history_of S.Store) (λ b. b.terms) (IsHonest S.Store) self.old self.new }
         ensures opened { HasCleanDisk (state S.Store self.new.conn) → OnOk result (IsTrue (state S.Store self.new.conn).is_open) }
         ensures answer { IsHonest S.Store self.new → IfOk result (λ r. r ≡ find (λ x. x.num == num) (ranges_of (history_of S.Store self.old))) }
     {
         if let Err(fault) = self.ask_again() {
             return Err(fault);
         }
-        Ok(self.index.ranges().numbered(num))
+        Ok(self.index.ranges().range_by_number(num))
     }
 
     fn closed(&mut self, num: u32) -> Result<bool, BookFault>
-        ensures faults { Counts result self.old.faults self.new.faults }
-        ensures keeps { Keeps (history_of S.Store) (λ b. b.terms) (IsHonest S.Store) self.old self.new }
+        ensures faults { CountsResult result self.old.faults self.new.faults }
+        ensures unchanged { Unchanged (history_of S.Store) (λ b. b.terms) (IsHonest S.Store) self.old self.new }
         ensures opened { HasCleanDisk (state S.Store self.new.conn) → OnOk result (IsTrue (state S.Store self.new.conn).is_open) }
         ensures answer { IsHonest S.Store self.new → IfOk result (λ b. b ≡ is_closed (history_of S.Store self.old) num) }
     {
@@ -416,12 +416,12 @@ impl<S: Alter> Book for SqlBook<S> {
         Ok(self.index.ranges().is_closed(num))
     }
 
-    fn next_range(&mut self, held: &Holding, after: u32) -> Result<Option<Range>, BookFault>
-        ensures faults { Counts result self.old.faults self.new.faults }
-        ensures keeps { Keeps (history_of S.Store) (λ b. b.terms) (IsHonest S.Store) self.old self.new }
+    fn next_range(&mut self, held: &HolderKey, after: u32) -> Result<Option<Range>, BookFault>
+        ensures faults { CountsResult result self.old.faults self.new.faults }
+        ensures unchanged { Unchanged (history_of S.Store) (λ b. b.terms) (IsHonest S.Store) self.old self.new }
         ensures opened { HasCleanDisk (state S.Store self.new.conn) → OnOk result (IsTrue (state S.Store self.new.conn).is_open) }
         ensures above { IfOk result (λ found. IfSome found (λ r. after < r.num)) }
-        ensures answer { IsHonest S.Store self.new → IfOk result (λ found. found ≡ find (is_open_above (history_of S.Store self.old) after held.now.holder held.now.service held.now.country) (ranges_of (history_of S.Store self.old))) }
+        ensures answer { IsHonest S.Store self.new → IfOk result (λ found. found ≡ find (is_open_after (history_of S.Store self.old) after held.now.holder held.now.service held.now.country) (ranges_of (history_of S.Store self.old))) }
     {
         if let Err(fault) = self.ask_again() {
             return Err(fault);
@@ -429,13 +429,13 @@ impl<S: Alter> Book for SqlBook<S> {
         let next = self
             .index
             .ranges()
-            .open_after(held.holder, held.service, held.country, after);
+            .next_open_range(held.holder, held.service, held.country, after);
         Ok(next)
     }
 
-    fn covering(&mut self, block: &Block) -> Result<Option<Range>, BookFault>
-        ensures faults { Counts result self.old.faults self.new.faults }
-        ensures keeps { Keeps (history_of S.Store) (λ b. b.terms) (IsHonest S.Store) self.old self.new }
+    fn covering(&mut self, block: &SerialSpan) -> Result<Option<Range>, BookFault>
+        ensures faults { CountsResult result self.old.faults self.new.faults }
+        ensures unchanged { Unchanged (history_of S.Store) (λ b. b.terms) (IsHonest S.Store) self.old self.new }
         ensures opened { HasCleanDisk (state S.Store self.new.conn) → OnOk result (IsTrue (state S.Store self.new.conn).is_open) }
         ensures answer { IsHonest S.Store self.new → IfOk result (λ found. found ≡ find (overlaps block.now.service block.now.country block.now.first block.now.last) (ranges_of (history_of S.Store self.old))) }
     {
@@ -445,13 +445,13 @@ impl<S: Alter> Book for SqlBook<S> {
         let found = self
             .index
             .ranges()
-            .over(block.service, block.country, block.first, block.last);
+            .covering_range(block.service, block.country, block.first, block.last);
         Ok(found)
     }
 
     fn last_issue(&mut self, id: &Id) -> Result<Option<Issue>, BookFault>
-        ensures faults { Counts result self.old.faults self.new.faults }
-        ensures keeps { Keeps (history_of S.Store) (λ b. b.terms) (IsHonest S.Store) self.old self.new }
+        ensures faults { CountsResult result self.old.faults self.new.faults }
+        ensures unchanged { Unchanged (history_of S.Store) (λ b. b.terms) (IsHonest S.Store) self.old self.new }
         ensures opened { HasCleanDisk (state S.Store self.new.conn) → OnOk result (IsTrue (state S.Store self.new.conn).is_open) }
         ensures answer { IsHonest S.Store self.new → IfOk result (λ i. i ≡ last_issue_of (history_of S.Store self.old) id.now) }
     {
@@ -463,8 +463,8 @@ impl<S: Alter> Book for SqlBook<S> {
 
     fn candidate(&mut self, range: &Range) -> Result<Candidate, BookFault>
         requires { IsHonest S.Store self.old → Contains (ranges_of (history_of S.Store self.old)) range.now }
-        ensures faults { Counts result self.old.faults self.new.faults }
-        ensures keeps { Keeps (history_of S.Store) (λ b. b.terms) (IsHonest S.Store) self.old self.new }
+        ensures faults { CountsResult result self.old.faults self.new.faults }
+        ensures unchanged { Unchanged (history_of S.Store) (λ b. b.terms) (IsHonest S.Store) self.old self.new }
         ensures opened { HasCleanDisk (state S.Store self.new.conn) → OnOk result (IsTrue (state S.Store self.new.conn).is_open) }
         ensures answer { IsHonest S.Store self.new → IfOk result (λ c. c ≡ candidate_of (history_of S.Store self.old) range.now) }
     {
@@ -477,8 +477,8 @@ impl<S: Alter> Book for SqlBook<S> {
     fn candidate_after(&mut self, range: &Range, issued: u8) -> Result<Candidate, BookFault>
         requires there { IsHonest S.Store self.old → Contains (ranges_of (history_of S.Store self.old)) range.now }
         requires fewer { issued < size_of range.now }
-        ensures faults { Counts result self.old.faults self.new.faults }
-        ensures keeps { Keeps (history_of S.Store) (λ b. b.terms) (IsHonest S.Store) self.old self.new }
+        ensures faults { CountsResult result self.old.faults self.new.faults }
+        ensures unchanged { Unchanged (history_of S.Store) (λ b. b.terms) (IsHonest S.Store) self.old self.new }
         ensures opened { HasCleanDisk (state S.Store self.new.conn) → OnOk result (IsTrue (state S.Store self.new.conn).is_open) }
         ensures answer { IsHonest S.Store self.new → IfOk result (λ c. c ≡ candidate_after_of (history_of S.Store self.old) range.now issued) }
     {
@@ -490,33 +490,33 @@ impl<S: Alter> Book for SqlBook<S> {
 
     fn usage(&mut self, range: &Range, day: u32) -> Result<Usage, BookFault>
         requires { IsHonest S.Store self.old → Contains (ranges_of (history_of S.Store self.old)) range.now }
-        ensures faults { Counts result self.old.faults self.new.faults }
-        ensures keeps { Keeps (history_of S.Store) (λ b. b.terms) (IsHonest S.Store) self.old self.new }
+        ensures faults { CountsResult result self.old.faults self.new.faults }
+        ensures unchanged { Unchanged (history_of S.Store) (λ b. b.terms) (IsHonest S.Store) self.old self.new }
         ensures opened { HasCleanDisk (state S.Store self.new.conn) → OnOk result (IsTrue (state S.Store self.new.conn).is_open) }
         ensures answer { IsHonest S.Store self.new → IfOk result (λ u. u ≡ usage_of (history_of S.Store self.old) range.now day self.old.terms.interval) }
     {
-        if let Err(fault) = self.settle() {
+        if let Err(fault) = self.commit() {
             return Err(fault);
         }
-        self.usage_settled(range, day)
+        self.usage_committed(range, day)
     }
 
     fn keep(&mut self, entry: Entry) -> Result<(), BookFault>
         requires { IsHonest S.Store self.old → MayFollow (history_of S.Store self.old) self.old.terms entry }
-        ensures faults { Counts result self.old.faults self.new.faults }
+        ensures faults { CountsResult result self.old.faults self.new.faults }
         ensures was_honest { IsHonest S.Store self.new → IsHonest S.Store self.old }
         ensures same_terms { IsHonest S.Store self.new → self.new.terms ≡ self.old.terms }
         ensures opened { HasCleanDisk (state S.Store self.new.conn) → OnOk result (IsTrue (state S.Store self.new.conn).is_open) }
         ensures crash { IsHonest S.Store self.old → HasCleanDisk (state S.Store self.new.conn) → (db : Trees) → (state S.Store self.new.conn).may_leave db
-            → (db ≡ (state S.Store self.old.conn).now.trees) ⊎ IsSettledIn S.Store self.old db }
+            → (db ≡ (state S.Store self.old.conn).now.trees) ⊎ IsCommittedIn S.Store self.old db }
         ensures ok { IsHonest S.Store self.new → OnOk result (history_of S.Store self.new ≡ history_of S.Store self.old ++ entry ∷ []) }
         ensures err { IsHonest S.Store self.new → OnErr result (history_of S.Store self.new ≡ history_of S.Store self.old) }
-        ensures unsettled { IsHonest S.Store self.new → length self.old.pending < MOST_PENDING
+        ensures uncommitted { IsHonest S.Store self.new → length self.old.pending < MAX_PENDING
             → OnOk result (((state S.Store self.new.conn).now ≡ (state S.Store self.old.conn).now) × (self.new.pending ≡ self.old.pending ++ entry ∷ [])) }
     {
         if let Err(fault) = self.make_room() {
             return Err(fault);
         }
-        self.hold(&entry)
+        self.append_call(&entry)
     }
 }

@@ -6,7 +6,7 @@ use crate::packet::Packet;
 use s10_wire::Frame;
 
 /// A frame holds 256 bytes at most, and a packet 512.
-pub fn rooms_are_kept(frame: &Frame, packet: &Packet)
+pub fn padding_is_zero(frame: &Frame, packet: &Packet)
     ensures frame { length frame.now ≤ 256 }
     ensures packet { length packet.now ≤ 512 }
 {

@@ -10,7 +10,7 @@ mod receipt;
 mod script_link;
 mod trace;
 
-pub use laws::rooms_are_kept;
+pub use laws::padding_is_zero;
 pub use link::Link;
 pub use link_fault::LinkFault;
 pub use packet::Packet;

@@ -25,7 +25,7 @@ pub trait Link {
         ensures step { step self.old self.new };
 
     /// The next datagram that has come already: as a receive, without a wait.
-    fn receive_now(&mut self) -> Result<Option<(Peer, Packet)>, LinkFault>
+    fn try_receive(&mut self) -> Result<Option<(Peer, Packet)>, LinkFault>
         ensures trace { Receives (trace_of self.old) (trace_of self.new) result }
         ensures step { step self.old self.new };
 

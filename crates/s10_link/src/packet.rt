@@ -13,15 +13,15 @@ pub struct Packet {
 impl Model for Packet {
     ghost use Rattle.std.specs.Prelude.{ℕ, List, take, length};
     ghost use Rattle.std.proofs.Common.{sym};
-    ghost use Rattle.s10_wire.specs.Room.{IsRoomed, roomed};
+    ghost use Rattle.s10_wire.specs.Padding.{IsZeroPadded, zero_padded};
 
     ghost Value = { List ℕ };
 
     ghost view = { λ packet. take packet.len packet.room };
 
-    ghost invariant = { λ packet. IsRoomed 512 packet.room packet.len };
+    ghost invariant = { λ packet. IsZeroPadded 512 packet.room packet.len };
 
-    ghost inverse = { λ bytes. record { room = roomed 512 bytes; len = length bytes } };
+    ghost inverse = { λ bytes. record { room = zero_padded 512 bytes; len = length bytes } };
 
     ghost inverse_ok = { λ packet known i. record { room = sym known.rest i; len = known.long i } };
 }

@@ -109,7 +109,7 @@ impl Link for ScriptLink {
     }
 
     // No receive of a script waits.
-    fn receive_now(&mut self) -> Result<Option<(Peer, Packet)>, LinkFault>
+    fn try_receive(&mut self) -> Result<Option<(Peer, Packet)>, LinkFault>
         ensures trace { Receives self.old.trace self.new.trace result }
         ensures script { FollowsReceipts self.old self.new result }
     {

@@ -31,18 +31,18 @@ upto_next h e place c at =
     ap (λ (l : List (ℕ × Id)). issues_of h ++ map made l) next ∙ ap (λ l. issues_of h ++ l) (map-append made (take place cs) (c ∷ [])) ∙ sym (append_assoc (issues_of h) (map made (take place cs)) (made c ∷ []))
 
 turn_before : (P : List Issuance → ℕ × Id → Type 0) (made : ℕ × Id → Issuance) (is : List Issuance) (cs : List (ℕ × Id)) (place : ℕ) → InTurn P made is cs → InTurn P made is (take place cs)
-turn_before P made is cs zero turn = tt
-turn_before P made is [] (suc place) turn = tt
-turn_before P made is (c ∷ cs) (suc place) turn = (turn.0, turn_before P made (is ++ made c ∷ []) cs place turn.1)
+turn_before P made is cs zero lap = tt
+turn_before P made is [] (suc place) lap = tt
+turn_before P made is (c ∷ cs) (suc place) lap = (lap.0, turn_before P made (is ++ made c ∷ []) cs place lap.1)
 
 turn_at : (P : List Issuance → ℕ × Id → Type 0) (made : ℕ × Id → Issuance) (is : List Issuance) (cs : List (ℕ × Id)) (place : ℕ) (c : ℕ × Id) → InTurn P made is cs → slice_get cs place ≡ Some c → P (is ++ map made (take place cs)) c
-turn_at P made is [] place c turn at = absurd (let lt = slice_get_within [] place c at in omega (arith, lt))
-turn_at P made is (d ∷ cs) zero c turn at =
+turn_at P made is [] place c lap at = absurd (let lt = slice_get_within [] place c at in omega (arith, lt))
+turn_at P made is (d ∷ cs) zero c lap at =
     let Q : List Issuance → Type 0 = λ l. P l c in
-    subst Q (sym (append-nil is)) (subst (P is) (same_Some d c at) turn.0)
-turn_at P made is (d ∷ cs) (suc place) c turn at =
+    subst Q (sym (append-nil is)) (subst (P is) (same_Some d c at) lap.0)
+turn_at P made is (d ∷ cs) (suc place) c lap at =
     let Q : List Issuance → Type 0 = λ l. P l c in
-    subst Q (append_assoc is (made d ∷ []) (map made (take place cs))) (turn_at P made (is ++ made d ∷ []) cs place c turn.1 at)
+    subst Q (append_assoc is (made d ∷ []) (map made (take place cs))) (turn_at P made (is ++ made d ∷ []) cs place c lap.1 at)
 
 -- what stands at a place of a call that may follow was picked behind the issues before it
 pub picked_at : (h : List Entry) (t : Terms) (e : Entry) (place : ℕ) (c : ℕ × Id) → MayFollow h t e → slice_get (carried_by e.outcome) place ≡ Some c

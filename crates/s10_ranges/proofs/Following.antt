@@ -24,9 +24,9 @@ use Rattle.s10_book.proofs.Marks.{picked_mark}
 use Rattle.s10_book.proofs.Apart.{none_pass, apart}
 use Rattle.s10_ranges.specs.declared.mark.Mark.{Mark}
 use Rattle.s10_ranges.specs.declared.ranges.Ranges.{Ranges}
-use Rattle.s10_ranges.specs.declared.turn.Turn.TheVariants.{First}
+use Rattle.s10_ranges.specs.declared.lap.Lap.TheVariants.{First}
 use Rattle.s10_ranges.specs.Mirror.{MirrorsAt}
-use Rattle.s10_ranges.specs.Turns.{turn_of, mark_of, mark_behind}
+use Rattle.s10_ranges.specs.Laps.{lap_of, mark_of, mark_after}
 use Rattle.s10_ranges.specs.Sound.{AreSound}
 use Rattle.s10_ranges.proofs.Found.{find_none, find_first}
 use Rattle.s10_ranges.proofs.Marked.{mark_at_issues}
@@ -100,7 +100,7 @@ set_map f g (x ∷ xs) (suc k) v lt here same = ap₂ ◌∷◌ (same 0 x (omega
 
 -- the mark of a range that gave no serial
 abbrev pub first_mark : Range → Mark
-first_mark r = record { serial = r.first; turn = First }
+first_mark r = record { serial = r.first; lap = First }
 
 -- the ranges and marks behind a Done Grant
 pub grant_ranges : (h : List Entry) (e : Entry) (r : Range) → IsNext h e r → ranges_of (h ++ e ∷ []) ≡ ranges_of h ++ r ∷ []
@@ -166,7 +166,7 @@ one_place h t x i k d legal lt lt' li lk =
 pub issue_mirrors : (old new : Ranges) (h : List Entry) (t : Terms) (e : Entry) (arrival : ℕ) (is : List Issuance) (c : ℕ × Id) → IsLegal h t → AreSound old.ranges.items → AtPicks (ranges_of h) is
     → IsPicked (ranges_of h) e.request.customer e.day t.interval is c → MirrorsAt (ranges_of h) is old → new.ranges.items ≡ old.ranges.items
     → ((r : Range) (m : Mark) → find (overlaps c.1.service c.1.country c.1.serial c.1.serial) old.ranges.items ≡ Some r → slice_get old.marks.items (r.num - 1) ≡ Some m
-    → new.marks.items ≡ set old.marks.items (r.num - 1) (mark_behind r m.turn c.1.serial))
+    → new.marks.items ≡ set old.marks.items (r.num - 1) (mark_after r m.lap c.1.serial))
     → MirrorsAt (ranges_of h) (is ++ made_by e arrival c ∷ []) new
 issue_mirrors old new h t e arrival is c legal sound turns from m kept turned =
     let rs : List Range = ranges_of h in
@@ -188,7 +188,7 @@ issue_mirrors old new h t e arrival is c legal sound turns from m kept turned =
     let sound' : AreSound rs = subst AreSound m.ranges sound in
     let num = sound' k r lt in
     let place : r.num - 1 ≡ k = omega (arith, num.num, ap (λ (s : Range). s.num) own) in
-    let v : Mark = mark_behind r (turn_of is r) x.serial in
+    let v : Mark = mark_after r (lap_of is r) x.serial in
     let f : Range → Mark = mark_of (is ++ y ∷ []) in
     let moved_one : f r ≡ v = mark_inside r is y (turns r from.there) lies (picked_mark h t e.request.customer e.day t.interval is c r legal from from.there lies) in
     let moved : set (map (mark_of is) rs) k v ≡ map f rs =
@@ -207,14 +207,14 @@ issue_mirrors old new h t e arrival is c legal sound turns from m kept turned =
 pub turned_mirrors : (old new : Ranges) (h : List Entry) (t : Terms) (e : Entry) (place : ℕ) (i : Issuance) → IsLegal h t → MayFollow h t e → AreSound old.ranges.items
     → slice_get (issues_at 0 e) place ≡ Some i → MirrorsAt (ranges_of h) (issues_upto h e place) old → new.ranges.items ≡ old.ranges.items
     → ((r : Range) (m : Mark) → find (overlaps i.id.service i.id.country i.id.serial i.id.serial) old.ranges.items ≡ Some r → slice_get old.marks.items (r.num - 1) ≡ Some m
-    → new.marks.items ≡ set old.marks.items (r.num - 1) (mark_behind r m.turn i.id.serial))
+    → new.marks.items ≡ set old.marks.items (r.num - 1) (mark_after r m.lap i.id.serial))
     → MirrorsAt (ranges_of h) (issues_upto h e (place + 1)) new
 turned_mirrors old new h t e place i legal may sound at m kept turned =
     let found = carried_at e 0 place i at in
     let c : ℕ × Id = found.0 in
     let T : Issuance → Type 0 =
     λ j. (r : Range) (m : Mark) → find (overlaps j.id.service j.id.country j.id.serial j.id.serial) old.ranges.items ≡ Some r → slice_get old.marks.items (r.num - 1) ≡ Some m
-    → new.marks.items ≡ set old.marks.items (r.num - 1) (mark_behind r m.turn j.id.serial) in
+    → new.marks.items ≡ set old.marks.items (r.num - 1) (mark_after r m.lap j.id.serial) in
     let Q : List Issuance → Type 0 = λ is. MirrorsAt (ranges_of h) is new in
     subst Q (sym (upto_next h e place c found.1))
     (issue_mirrors old new h t e (1 + length h) (issues_upto h e place) c legal sound (at_picks h t e place legal may) (picked_at h t e place c may found.1) m kept (subst T (sym found.2) turned))

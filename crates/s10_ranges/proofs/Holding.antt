@@ -4,7 +4,7 @@ use Rattle.std.specs.Prelude.{find, Some, None}
 use Rattle.std.proofs.lemmas.Bool.{cases_lt, both_ways, false_from_ne_true, and_parts, and_from, ltb-true, lt-ltb, eqb-true, eq-eqb}
 use Rattle.s10_core.specs.Letters.{AreCapitals}
 use Rattle.s10_history.specs.declared.range.Range.{Range}
-use Rattle.s10_history.specs.History.{is_held_above}
+use Rattle.s10_history.specs.History.{is_held_after}
 use Rattle.s10_book.proofs.Apart.{letters_equal, letters_same}
 use Rattle.s10_ranges.specs.declared.sort_key.SortKey.TheVariants.{Holder}
 use Rattle.s10_ranges.specs.Keys.{pair_of, holder_key, key_by, IsFitting}
@@ -21,14 +21,14 @@ pub record IsHeld (after customer : ℕ) (s c : ℕ × ℕ) (r : Range) : Type 0
   pub service : r.service ≡ s
   pub country : r.country ≡ c
 
-pub held_parts : (after customer : ℕ) (s c : ℕ × ℕ) (r : Range) → is_held_above after customer s c r ≡ true → IsHeld after customer s c r
+pub held_parts : (after customer : ℕ) (s c : ℕ × ℕ) (r : Range) → is_held_after after customer s c r ≡ true → IsHeld after customer s c r
 held_parts after customer s c r hit =
     let a = and_parts _ _ hit in
     let b = and_parts _ _ a.1 in
     let d = and_parts _ _ b.0 in
     record { above = ltb-true after r.num a.0; holder = eqb-true r.holder customer d.0; service = letters_equal r.service s d.1; country = letters_equal r.country c b.1 }
 
-pub held_from : (after customer : ℕ) (s c : ℕ × ℕ) (r : Range) → IsHeld after customer s c r → is_held_above after customer s c r ≡ true
+pub held_from : (after customer : ℕ) (s c : ℕ × ℕ) (r : Range) → IsHeld after customer s c r → is_held_after after customer s c r ≡ true
 held_from after customer s c r h =
     and_from _ _ (lt-ltb after r.num h.above) (and_from _ _ (and_from _ _ (eq-eqb r.holder customer h.holder) (letters_same r.service s h.service)) (letters_same r.country c h.country))
 
@@ -80,7 +80,7 @@ pub record IsCut (rs : List Range) (order : List ℕ) (after customer : ℕ) (s 
 
 -- such a range does not stand before the cut
 pub not_before : (rs : List Range) (order : List ℕ) (after customer : ℕ) (s c : ℕ × ℕ) (at key : ℕ) → IsCut rs order after customer s c at key
-    → (j : ℕ) (d : Range) → is_held_above after customer s c (range_at rs order j d) ≡ true → at ≤ j
+    → (j : ℕ) (d : Range) → is_held_after after customer s c (range_at rs order j d) ≡ true → at ≤ j
 not_before rs order after customer s c at key cut j d hit =
     let up = held_key after customer s c (range_at rs order j d) (held_parts after customer s c (range_at rs order j d) hit) in
     elim (cases_lt j at) [
@@ -90,17 +90,17 @@ not_before rs order after customer s c at key cut j d hit =
 
 -- none is found where the cut is the end
 pub held_past : (rs : List Range) (order : List ℕ) (after customer : ℕ) (s c : ℕ × ℕ) (at key : ℕ) → IsCut rs order after customer s c at key → at ≡ length order
-    → find (is_held_above after customer s c) rs ≡ None
+    → find (is_held_after after customer s c) rs ≡ None
 held_past rs order after customer s c at key cut end =
-    none_in_order (key_by Holder) (key_by Holder) rs order cut.held (is_held_above after customer s c)
-    (λ j d lt. false_from_ne_true (is_held_above after customer s c (range_at rs order j d))
+    none_in_order (key_by Holder) (key_by Holder) rs order cut.held (is_held_after after customer s c)
+    (λ j d lt. false_from_ne_true (is_held_after after customer s c (range_at rs order j d))
     (λ hit. let ge = not_before rs order after customer s c at key cut j d hit in absurd (omega (arith, ge, end, lt))))
 
 -- the range at the cut is found, where it is such a one
 pub held_found : (rs : List Range) (order : List ℕ) (after customer : ℕ) (s c : ℕ × ℕ) (at key : ℕ) (r : Range) → IsCut rs order after customer s c at key → at < length order
-    → get_or rs (get_or order at 0) r ≡ r → is_held_above after customer s c r ≡ true → find (is_held_above after customer s c) rs ≡ Some r
+    → get_or rs (get_or order at 0) r ≡ r → is_held_after after customer s c r ≡ true → find (is_held_after after customer s c) rs ≡ Some r
 held_found rs order after customer s c at key r cut inside is hit =
-    first_in_order (key_by Holder) (key_by Holder) rs order cut.held (is_held_above after customer s c) at r inside is hit
+    first_in_order (key_by Holder) (key_by Holder) rs order cut.held (is_held_after after customer s c) at r inside is hit
     (λ j d lt also.
     let ge = not_before rs order after customer s c at key cut j d also in
     let here : range_at rs order at d ≡ r = at_place rs (get_or order at 0) d r (cut.held.places at inside) is in
@@ -118,14 +118,14 @@ held_found rs order after customer s c at key r cut inside is hit =
 
 -- and none is found where it is not
 pub held_missed : (rs : List Range) (order : List ℕ) (after customer : ℕ) (s c : ℕ × ℕ) (at key : ℕ) (r : Range) → IsCut rs order after customer s c at key → at < length order
-    → get_or rs (get_or order at 0) r ≡ r → is_held_above after customer s c r ≡ false → find (is_held_above after customer s c) rs ≡ None
+    → get_or rs (get_or order at 0) r ≡ r → is_held_after after customer s c r ≡ false → find (is_held_after after customer s c) rs ≡ None
 held_missed rs order after customer s c at key r cut inside is miss =
-    none_in_order (key_by Holder) (key_by Holder) rs order cut.held (is_held_above after customer s c)
-    (λ j d lt. false_from_ne_true (is_held_above after customer s c (range_at rs order j d))
+    none_in_order (key_by Holder) (key_by Holder) rs order cut.held (is_held_after after customer s c)
+    (λ j d lt. false_from_ne_true (is_held_after after customer s c (range_at rs order j d))
     (λ also.
     let ge = not_before rs order after customer s c at key cut j d also in
     let here : range_at rs order at d ≡ r = at_place rs (get_or order at 0) d r (cut.held.places at inside) is in
-    let miss_here : is_held_above after customer s c (range_at rs order at d) ≡ false = ap (is_held_above after customer s c) here ∙ miss in
+    let miss_here : is_held_after after customer s c (range_at rs order at d) ≡ false = ap (is_held_after after customer s c) here ∙ miss in
     let one = cut.sound (get_or order at 0) d (cut.held.places at inside) in
     let two = cut.sound (get_or order j 0) d (cut.held.places j lt) in
     elim (cases_lt at j) [
@@ -133,10 +133,10 @@ held_missed rs order after customer s c at key r cut inside is miss =
           let up = cut.held.apart at j d gt lt in
           let low = cut.above at d (omega arith) inside in
           let fact = held_between after customer s c (range_at rs order at d) (range_at rs order j d) cut.service cut.country one.fitting one.small two.small (held_parts after customer s c (range_at rs order j d) also) (omega (arith, low, cut.key_is)) up in
-          both_ways (is_held_above after customer s c (range_at rs order at d)) miss_here (held_from after customer s c (range_at rs order at d) fact)
+          both_ways (is_held_after after customer s c (range_at rs order at d)) miss_here (held_from after customer s c (range_at rs order at d) fact)
       | inr le ↦
           let e : at ≡ j = omega (arith, ge, le) in
-          both_ways (is_held_above after customer s c (range_at rs order j d)) (ap (λ i. is_held_above after customer s c (range_at rs order i d)) (sym e) ∙ miss_here) also
+          both_ways (is_held_after after customer s c (range_at rs order j d)) (ap (λ i. is_held_after after customer s c (range_at rs order i d)) (sym e) ∙ miss_here) also
     ]))
 
 other_key : (h p q n m : ℕ) → n < m → n < 4294967296 → m < 4294967296 → h * 4294967296 + m ≡ q * 4294967296 + n → ⊥

@@ -9,7 +9,7 @@ use Rattle.s10_history.specs.Issues.{issues_of}
 use Rattle.s10_ranges.specs.declared.mark.Mark.{Mark}
 use Rattle.s10_ranges.specs.declared.ranges.Ranges.{Ranges}
 use Rattle.s10_ranges.specs.Mirror.{Mirrors, MirrorsAt}
-use Rattle.s10_ranges.specs.Turns.{mark_of}
+use Rattle.s10_ranges.specs.Laps.{mark_of}
 use Rattle.s10_ranges.specs.Sound.{AreSound}
 
 get_map : {X : Type 0} (f : Range → X) (rs : List Range) (k : ℕ) (d : Range) → k < length rs → slice_get (map f rs) k ≡ Some (f (get_or rs k d))

@@ -3,7 +3,7 @@ use Rattle.std.proofs.Common.{◌≡◌, ℕ, Bool, true, false, cond, not, ◌&
 use Rattle.std.specs.Prelude.{find, filter, nat_lt}
 use Rattle.s10_history.specs.declared.entry.Entry.{Entry}
 use Rattle.s10_history.specs.declared.range.Range.{Range}
-use Rattle.s10_history.specs.History.{ranges_of, is_held, is_closed, is_open_above}
+use Rattle.s10_history.specs.History.{ranges_of, is_held, is_closed, is_open_after}
 use Rattle.s10_book.proofs.Alike.{find_same}
 use Rattle.s10_history.proofs.Numbering.{above, numbered, next_above, filter_none}
 
@@ -23,19 +23,19 @@ and_again : (a b c : Bool) → (a && (b && c)) ≡ ((a && b) && c)
 and_again true b c = refl
 and_again false b c = refl
 
-open_is : (h : List Entry) (after customer : ℕ) (s c : ℕ × ℕ) → find (is_open_above h after customer s c) (ranges_of h) ≡ find (is_left h) (filter (above (is_held customer s c) after) (ranges_of h))
+open_is : (h : List Entry) (after customer : ℕ) (s c : ℕ × ℕ) → find (is_open_after h after customer s c) (ranges_of h) ≡ find (is_left h) (filter (above (is_held customer s c) after) (ranges_of h))
 open_is h after customer s c =
-    find_same (is_open_above h after customer s c) (λ r. above (is_held customer s c) after r && is_left h r) (ranges_of h) (λ r. and_again (nat_lt after r.num) (is_held customer s c r) (is_left h r))
+    find_same (is_open_after h after customer s c) (λ r. above (is_held customer s c) after r && is_left h r) (ranges_of h) (λ r. and_again (nat_lt after r.num) (is_held customer s c r) (is_left h r))
     ∙ find_filter (above (is_held customer s c) after) (is_left h) (ranges_of h)
 
 front : (h : List Entry) (after customer : ℕ) (s c : ℕ × ℕ) (r : Range) → find (above (is_held customer s c) after) (ranges_of h) ≡ Some r
-    → find (is_open_above h after customer s c) (ranges_of h) ≡ find (is_left h) (r ∷ filter (above (is_held customer s c) r.num) (ranges_of h))
+    → find (is_open_after h after customer s c) (ranges_of h) ≡ find (is_left h) (r ∷ filter (above (is_held customer s c) r.num) (ranges_of h))
 front h after customer s c r found =
     open_is h after customer s c ∙ ap (find (is_left h)) (next_above (is_held customer s c) after 1 (ranges_of h) r (numbered 1 h) found)
 
 -- a closed range is passed over
 pub next_open : (h : List Entry) (after customer : ℕ) (s c : ℕ × ℕ) (r : Range) → find (above (is_held customer s c) after) (ranges_of h) ≡ Some r → is_closed h r.num ≡ true
-    → find (is_open_above h after customer s c) (ranges_of h) ≡ find (is_open_above h r.num customer s c) (ranges_of h)
+    → find (is_open_after h after customer s c) (ranges_of h) ≡ find (is_open_after h r.num customer s c) (ranges_of h)
 next_open h after customer s c r found closed =
     front h after customer s c r found
     ∙ ap (λ (b : Bool). cond (not b) (Some r) (find (is_left h) (filter (above (is_held customer s c) r.num) (ranges_of h)))) closed
@@ -43,12 +43,12 @@ next_open h after customer s c r found closed =
 
 -- an open one is found
 pub this_open : (h : List Entry) (after customer : ℕ) (s c : ℕ × ℕ) (r : Range) → find (above (is_held customer s c) after) (ranges_of h) ≡ Some r → is_closed h r.num ≡ false
-    → find (is_open_above h after customer s c) (ranges_of h) ≡ Some r
+    → find (is_open_after h after customer s c) (ranges_of h) ≡ Some r
 this_open h after customer s c r found left =
     front h after customer s c r found
     ∙ ap (λ (b : Bool). cond (not b) (Some r) (find (is_left h) (filter (above (is_held customer s c) r.num) (ranges_of h)))) left
 
 -- where none is held, none is open
-pub none_open : (h : List Entry) (after customer : ℕ) (s c : ℕ × ℕ) → find (above (is_held customer s c) after) (ranges_of h) ≡ None → find (is_open_above h after customer s c) (ranges_of h) ≡ None
+pub none_open : (h : List Entry) (after customer : ℕ) (s c : ℕ × ℕ) → find (above (is_held customer s c) after) (ranges_of h) ≡ None → find (is_open_after h after customer s c) (ranges_of h) ≡ None
 none_open h after customer s c none =
     open_is h after customer s c ∙ ap (find (is_left h)) (filter_none (above (is_held customer s c) after) (ranges_of h) none)

@@ -8,7 +8,7 @@ use Rattle.s10_history.specs.declared.range.Range.{Range}
 use Rattle.s10_history.specs.History.{overlaps}
 use Rattle.s10_book.proofs.Apart.{letters_equal, overlapping}
 use Rattle.s10_ranges.specs.declared.sort_key.SortKey.TheVariants.{First, Last}
-use Rattle.s10_ranges.specs.Keys.{pair_of, place_key, key_by, IsFitting}
+use Rattle.s10_ranges.specs.Keys.{pair_of, serial_key, key_by, IsFitting}
 use Rattle.s10_ranges.specs.Order.{range_at, IsRising, IsOrder, IsLeastIn}
 use Rattle.s10_ranges.specs.Sound.{AreSound}
 use Rattle.s10_ranges.proofs.Orders.{rising_low, rising_high}
@@ -16,8 +16,8 @@ use Rattle.s10_ranges.proofs.Found.{none_in_order, first_in_order, find_none, no
 use Rattle.s10_ranges.proofs.Pairs.{one_pair}
 
 -- a range that overlaps ends not before the first serial, and begins not behind the last
-pub over_keys : (s c : ℕ × ℕ) (first last : ℕ) (r : Range) → overlaps s c first last r ≡ true → (place_key s c first ≤ key_by Last r) × (key_by First r ≤ place_key s c last)
-unfolding place_key
+pub over_keys : (s c : ℕ × ℕ) (first last : ℕ) (r : Range) → overlaps s c first last r ≡ true → (serial_key s c first ≤ key_by Last r) × (key_by First r ≤ serial_key s c last)
+unfolding serial_key
 over_keys s c first last r hit =
     let a = and_parts _ _ hit in
     let b = and_parts _ _ a.0 in
@@ -33,15 +33,15 @@ same_first x y a b m n p q u v le le' = omega arith
 
 -- and the other way round
 pub over_from : (s c : ℕ × ℕ) (first last : ℕ) (r : Range) → AreCapitals s → AreCapitals c → IsSerial first → IsSerial last → first ≤ last → IsFitting r
-    → place_key s c first ≤ key_by Last r → key_by First r ≤ place_key s c last → overlaps s c first last r ≡ true
-unfolding place_key
+    → serial_key s c first ≤ key_by Last r → key_by First r ≤ serial_key s c last → overlaps s c first last r ≡ true
+unfolding serial_key
 over_from s c first last r cs cc fs ls order fit low high =
     let same : pair_of s c ≡ pair_of r.service r.country = same_first (pair_of s c) (pair_of r.service r.country) r.last r.first first last fit.last fit.first fs ls low high in
     let letters = one_pair s c r.service r.country cs cc fit.service fit.country same in
     overlapping s c first last r (sym letters.0) (sym letters.1) (omega (arith, high, same)) (omega (arith, low, same)) order
 
 pub proper_keys : (rs : List Range) → AreSound rs → (k : ℕ) (d : Range) → k < length rs → key_by First (get_or rs k d) ≤ key_by Last (get_or rs k d)
-unfolding place_key
+unfolding serial_key
 proper_keys rs sound k d lt = let at = sound k d lt in omega (arith, at.proper)
 
 pub rising_last : (rs : List Range) (order : List ℕ) → AreSound rs → IsOrder (key_by First) (key_by Last) rs order → IsRising (key_by Last) rs order
@@ -76,8 +76,8 @@ pub record IsRun (rs : List Range) (order : List ℕ) (s c : ℕ × ℕ) (first 
   pub from : IsSerial first
   pub to : IsSerial last
   pub ordered : first ≤ last
-  pub low_is : low ≡ place_key s c first
-  pub high_is : high ≡ place_key s c last
+  pub low_is : low ≡ serial_key s c first
+  pub high_is : high ≡ serial_key s c last
   pub within : end ≤ length order
   pub before : (j : ℕ) (d : Range) → j < start → key_by Last (range_at rs order j d) < low
   pub since : (j : ℕ) (d : Range) → start ≤ j → j < length order → low ≤ key_by Last (range_at rs order j d)

@@ -17,7 +17,7 @@ use Rattle.s10_history.specs.declared.issue.Issue.{Issue}
 use Rattle.s10_history.specs.declared.issuance.Issuance.{Issuance}
 use Rattle.s10_history.specs.Settings.{Terms}
 use Rattle.s10_history.specs.History.{ranges_of, range_of_grant, lies_in}
-use Rattle.s10_history.specs.Issues.{issues_of, carried_by, is_of, is_issued, id_at, serials, least_serial_unissued, serial_issued_earliest, pick_of, serial_behind, pick_behind, is_voided, last_issue_of, candidate_of}
+use Rattle.s10_history.specs.Issues.{issues_of, carried_by, is_of, is_issued, id_at, serials, least_serial_unissued, serial_issued_earliest, pick_of, serial_after, pick_after, is_voided, last_issue_of, candidate_of}
 use Rattle.s10_book.specs.Rules.{IsLegal, MayFollow}
 use Rattle.s10_book.proofs.Apart.{new_apart}
 use Rattle.s10_book.proofs.Carried.{made_by, IsPicked, after_call}
@@ -29,13 +29,13 @@ use Rattle.s10_history.proofs.Push.{ranges_from-push, issues_from-push}
 use Rattle.s10_history.proofs.Numbering.{found_passes}
 use Rattle.s10_book.proofs.Spaced.{id_same}
 use Rattle.s10_ranges.specs.declared.mark.Mark.{Mark}
-use Rattle.s10_ranges.specs.declared.turn.Turn.{Turn}
-use Rattle.s10_ranges.specs.declared.turn.Turn.TheVariants.{First, Later}
-use Rattle.s10_ranges.specs.Turns.{turn_of, mark_of, mark_behind}
+use Rattle.s10_ranges.specs.declared.lap.Lap.{Lap}
+use Rattle.s10_ranges.specs.declared.lap.Lap.TheVariants.{First, Later}
+use Rattle.s10_ranges.specs.Laps.{lap_of, mark_of, mark_after}
 use Rattle.s10_ranges.proofs.Carrying.{issues_upto, upto_holds}
 
-abbrev mark_at : ℕ → Turn → Mark
-mark_at serial turn = record { serial = serial; turn = turn }
+abbrev mark_at : ℕ → Lap → Mark
+mark_at serial lap = record { serial = serial; lap = lap }
 
 -- a range of a legal history has a serial
 pub in_order : (h : List Entry) (t : Terms) (r : Range) → IsLegal h t → Contains (ranges_of h) r → r.first ≤ r.last
@@ -56,16 +56,16 @@ is_last r x lies =
       | inr ne ↦ false_from_ne_true (same_id x (id_at r r.last)) (λ is. ne (ap (λ (y : Id). y.serial) (id_equal x (id_at r r.last) is))) ∙ sym (ne_eqb x.serial r.last ne)
     ]
 
-turn_inside : (r : Range) (is : List Issuance) (y : Issuance) → lies_in r y.id ≡ true → turn_of (is ++ y ∷ []) r ≡ cond (eqb y.id.serial r.last) Later (turn_of is r)
+turn_inside : (r : Range) (is : List Issuance) (y : Issuance) → lies_in r y.id ≡ true → lap_of (is ++ y ∷ []) r ≡ cond (eqb y.id.serial r.last) Later (lap_of is r)
 turn_inside r is y lies =
     ap (λ (b : Bool). cond b Later First) (list_any-append (is_of (id_at r r.last)) is (y ∷ []))
     ∙ turned (is_issued is (id_at r r.last)) (same_id y.id (id_at r r.last))
-    ∙ ap (λ (b : Bool). cond b Later (turn_of is r)) (is_last r y.id lies)
+    ∙ ap (λ (b : Bool). cond b Later (lap_of is r)) (is_last r y.id lies)
 
 pub mark_inside : (r : Range) (is : List Issuance) (y : Issuance) → Turns r is (pick_of is r) → lies_in r y.id ≡ true → y.id.serial ≡ pick_of is r
-    → mark_of (is ++ y ∷ []) r ≡ mark_behind r (turn_of is r) y.id.serial
+    → mark_of (is ++ y ∷ []) r ≡ mark_after r (lap_of is r) y.id.serial
 mark_inside r is y turns lies at =
-    ap₂ mark_at (pick_turns r (is ++ y ∷ []) (serial_behind r (pick_of is r)) (turns_inside r is y (pick_of is r) lies at turns) ∙ ap (serial_behind r) (sym at)) (turn_inside r is y lies)
+    ap₂ mark_at (pick_turns r (is ++ y ∷ []) (serial_after r (pick_of is r)) (turns_inside r is y (pick_of is r) lies at turns) ∙ ap (serial_after r) (sym at)) (turn_inside r is y lies)
 
 -- ---- behind an issue outside the range
 
@@ -73,7 +73,7 @@ or_false : (b : Bool) → (b || (false || false)) ≡ b
 or_false true = refl
 or_false false = refl
 
-turn_outside : (r : Range) (is : List Issuance) (y : Issuance) → r.first ≤ r.last → lies_in r y.id ≡ false → turn_of (is ++ y ∷ []) r ≡ turn_of is r
+turn_outside : (r : Range) (is : List Issuance) (y : Issuance) → r.first ≤ r.last → lies_in r y.id ≡ false → lap_of (is ++ y ∷ []) r ≡ lap_of is r
 turn_outside r is y order out =
     let P : Id → Type 0 = λ x. lies_in r x ≡ true in
     let last : lies_in r (id_at r r.last) ≡ true = lies_at r r.last (record { low = order; high = omega arith }) in
@@ -97,7 +97,7 @@ at_picks h t e place legal may =
     upto_holds (AtPicks (ranges_of h)) h t e place may (all_at_pick h t legal)
     (λ is c picked before r there.
     let y : Issuance = made_by e (1 + length h) c in
-    turns_pick r (is ++ y ∷ []) (pick_behind r (pick_of is r) c.1, mark_step r is y (pick_of is r) (picked_mark h t e.request.customer e.day t.interval is c r legal picked there) (before r there)))
+    turns_pick r (is ++ y ∷ []) (pick_after r (pick_of is r) c.1, mark_step r is y (pick_of is r) (picked_mark h t e.request.customer e.day t.interval is c r legal picked there) (before r there)))
 
 -- ---- behind the Grant of the range
 
@@ -147,7 +147,7 @@ pub mark_new : (h : List Entry) (t : Terms) (e : Entry) (num : ℕ) (r : Range) 
     → mark_of (issues_of (h ++ e ∷ [])) r ≡ mark_at r.first First
 mark_new h t e num r legal may done made =
     ap₂ mark_at (pick_new h t e legal may r made)
-    (ap (λ (is : List Issuance). turn_of is r) (none_granted h e num done) ∙ ap (λ (b : Bool). cond b Later First) (last_new h t e r (length (ranges_of h) + 1) legal may made))
+    (ap (λ (is : List Issuance). lap_of is r) (none_granted h e num done) ∙ ap (λ (b : Bool). cond b Later First) (last_new h t e r (length (ranges_of h) + 1) legal may made))
 
 -- ---- the serial at the mark in the first turn
 
@@ -160,8 +160,8 @@ still_first true h = absurd (let e = h in cc)
 still_first false h = refl
 
 -- it was never issued
-pub pick_unissued : (is : List Issuance) (r : Range) → r.first ≤ r.last → turn_of is r ≡ First → is_issued is (id_at r (pick_of is r)) ≡ false
-pick_unissued is r order turn = at (least_serial_unissued r is) refl
+pub pick_unissued : (is : List Issuance) (r : Range) → r.first ≤ r.last → lap_of is r ≡ First → is_issued is (id_at r (pick_of is r)) ≡ false
+pick_unissued is r order lap = at (least_serial_unissued r is) refl
   where
     test : ℕ → Bool
     test = λ serial. not (is_issued is (id_at r serial))
@@ -169,7 +169,7 @@ pick_unissued is r order turn = at (least_serial_unissued r is) refl
     at : (o : Option ℕ) → least_serial_unissued r is ≡ o → is_issued is (id_at r (pick_of is r)) ≡ false
     at None none =
         absurd (both_ways (test r.last) (none_within test r.first (r.last + 1 - r.first) r.last none order (omega (arith, order)))
-        (not_from_false (is_issued is (id_at r r.last)) (still_first (is_issued is (id_at r r.last)) turn)))
+        (not_from_false (is_issued is (id_at r r.last)) (still_first (is_issued is (id_at r r.last)) lap)))
     at (Some s) found =
         let P : ℕ → Type 0 = λ k. is_issued is (id_at r k) ≡ false in
         subst P (sym (ap (λ (o : Option ℕ). unwrap_or (option_or o (serial_issued_earliest r is)) r.first) found)) (not_yet (is_issued is (id_at r s)) (found_passes test (serials r) s found))
@@ -182,13 +182,13 @@ abbrev new_candidate : ℕ → Option Issue → Candidate
 new_candidate serial issue = record { serial = serial; issue = issue }
 
 -- so the candidate has no issue
-pub candidate_new : (h : List Entry) (t : Terms) (r : Range) (m : Mark) → IsLegal h t → Contains (ranges_of h) r → m ≡ mark_of (issues_of h) r → m.turn ≡ First
+pub candidate_new : (h : List Entry) (t : Terms) (r : Range) (m : Mark) → IsLegal h t → Contains (ranges_of h) r → m ≡ mark_of (issues_of h) r → m.lap ≡ First
     → new_candidate m.serial None ≡ candidate_of h r
 candidate_new h t r m legal there is first =
     let serial : m.serial ≡ pick_of (issues_of h) r = ap (λ (k : Mark). k.serial) is in
-    let turn : turn_of (issues_of h) r ≡ First = sym (ap (λ (k : Mark). k.turn) is) ∙ first in
+    let lap : lap_of (issues_of h) r ≡ First = sym (ap (λ (k : Mark). k.lap) is) ∙ first in
     let x : Id = id_at r (pick_of (issues_of h) r) in
     let told : Issuance → Issue = λ i. record { day = i.day; voided = is_voided h x; customer = i.customer; number = i.number } in
     let none : last_issue_of h x ≡ None =
-    ap (λ (is : List Issuance). option_map told (last_or None is)) (none_passes (is_of x) (issues_of h) (pick_unissued (issues_of h) r (in_order h t r legal there) turn)) in
+    ap (λ (is : List Issuance). option_map told (last_or None is)) (none_passes (is_of x) (issues_of h) (pick_unissued (issues_of h) r (in_order h t r legal there) lap)) in
     ap₂ new_candidate serial (sym none)

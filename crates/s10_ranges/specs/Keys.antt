@@ -12,8 +12,8 @@ unfoldable pub pair_of : ℕ × ℕ → ℕ × ℕ → ℕ
 pair_of service country = from_be_bytes w32 (letters_of service ++ letters_of country)
 
 -- the pair, and behind it the serial
-unfoldable pub place_key : ℕ × ℕ → ℕ × ℕ → ℕ → ℕ
-place_key service country serial = pair_of service country * 4294967296 + serial
+unfoldable pub serial_key : ℕ × ℕ → ℕ × ℕ → ℕ → ℕ
+serial_key service country serial = pair_of service country * 4294967296 + serial
 
 -- the holder, behind it the pair, and behind that the number
 unfoldable pub holder_key : ℕ → ℕ × ℕ → ℕ × ℕ → ℕ → ℕ
@@ -21,8 +21,8 @@ holder_key holder service country num = (holder * 4294967296 + pair_of service c
 
 -- the number of a range by which it is sorted
 abbrev pub key_by : SortKey → Range → ℕ
-key_by First r = place_key r.service r.country r.first
-key_by Last r = place_key r.service r.country r.last
+key_by First r = serial_key r.service r.country r.first
+key_by Last r = serial_key r.service r.country r.last
 key_by Holder r = holder_key r.holder r.service r.country r.num
 
 -- the parts of a range are in theirs

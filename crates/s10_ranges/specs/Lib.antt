@@ -2,6 +2,6 @@ pub mod Keys
 pub mod Order
 pub mod Sound
 pub mod Room
-pub mod Turns
+pub mod Laps
 pub mod ClosedRanges
 pub mod Mirror

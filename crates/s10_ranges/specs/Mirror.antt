@@ -6,7 +6,7 @@ use Rattle.s10_history.specs.declared.issuance.Issuance.{Issuance}
 use Rattle.s10_history.specs.History.{ranges_of}
 use Rattle.s10_history.specs.Issues.{issues_of}
 use Rattle.s10_ranges.specs.declared.ranges.Ranges.{Ranges}
-use Rattle.s10_ranges.specs.Turns.{mark_of}
+use Rattle.s10_ranges.specs.Laps.{mark_of}
 use Rattle.s10_ranges.specs.ClosedRanges.{HasClosed}
 
 -- these ranges, each with its mark behind the issues: its pick, and its turn

@@ -7,8 +7,8 @@ abbrev pub range_at : List Range → List ℕ → ℕ → Range → Range
 range_at rs order j d = slice_index_or rs (slice_index order j) d
 
 -- each is the place of a range
-abbrev pub ArePlaces : List Range → List ℕ → Type 0
-ArePlaces rs order = (j : ℕ) → j < length order → slice_index order j < length rs
+abbrev pub AreIndices : List Range → List ℕ → Type 0
+AreIndices rs order = (j : ℕ) → j < length order → slice_index order j < length rs
 
 -- the key goes up along the order
 abbrev pub IsRising : (Range → ℕ) → List Range → List ℕ → Type 0
@@ -17,7 +17,7 @@ IsRising key rs order = (i j : ℕ) (d : Range) → i < j → j < length order �
 -- the places of all ranges, so that each ends before the next one begins
 pub record IsOrder (low high : Range → ℕ) (rs : List Range) (order : List ℕ) : Type 0 where
   pub size : length order ≡ length rs
-  pub places : ArePlaces rs order
+  pub places : AreIndices rs order
   pub apart : (i j : ℕ) (d : Range) → i < j → j < length order → high (range_at rs order i d) < low (range_at rs order j d)
   pub all : (k : ℕ) → k < length rs → ((j : ℕ) → j < length order → slice_index order j ≡ k → ⊥) → ⊥
 

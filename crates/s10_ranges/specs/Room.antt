@@ -7,6 +7,6 @@ use Rattle.s10_ranges.specs.declared.ranges.Ranges.{Ranges}
 pub record HasRoom (r : Ranges) : Type 0 where
   pub ranges : vec_len r.ranges < vec_capacity r.ranges
   pub marks : vec_len r.marks < vec_capacity r.marks
-  pub by_place : vec_len r.by_place < vec_capacity r.by_place
+  pub by_serial : vec_len r.by_serial < vec_capacity r.by_serial
   pub by_holder : vec_len r.by_holder < vec_capacity r.by_holder
   pub closed : 0 < spare r.closed.numbers

@@ -3,7 +3,7 @@
 ghost use Rattle.std.specs.Prelude.{◌≡◌, ◌≤◌, ◌<◌, ◌^◌};
 ghost use Rattle.s10_core.specs.Letters.{AreCapitals};
 ghost use Rattle.s10_core.specs.Serial.{IsSerial};
-ghost use Rattle.s10_ranges.specs.Keys.{pair_of, place_key, holder_key, key_by, IsFitting};
+ghost use Rattle.s10_ranges.specs.Keys.{pair_of, serial_key, holder_key, key_by, IsFitting};
 
 use crate::sort_key::SortKey;
 use s10_core::{Country, Serial, Service};
@@ -21,8 +21,8 @@ fn pair_number(service: Service, country: Country) -> u32
 }
 
 // The pair, and behind it the serial.
-pub(crate) fn place_number(service: Service, country: Country, serial: Serial) -> u128
-    ensures value { result ≡ place_key service country serial }
+pub(crate) fn serial_sort_key(service: Service, country: Country, serial: Serial) -> u128
+    ensures value { result ≡ serial_key service country serial }
     ensures service { AreCapitals service }
     ensures country { AreCapitals country }
     ensures serial { IsSerial serial }
@@ -32,7 +32,7 @@ pub(crate) fn place_number(service: Service, country: Country, serial: Serial) -
 }
 
 // The holder, behind it the pair, and behind that the number.
-pub(crate) fn holder_number(holder: u32, service: Service, country: Country, num: u128) -> u128
+pub(crate) fn holder_sort_key(holder: u32, service: Service, country: Country, num: u128) -> u128
     requires { num ≤ 4294967296 }
     ensures value { result ≡ holder_key holder service country num }
     ensures service { AreCapitals service }
@@ -43,13 +43,13 @@ pub(crate) fn holder_number(holder: u32, service: Service, country: Country, num
 }
 
 // The number of a range by which it is sorted.
-pub(crate) fn key_number(by: SortKey, range: &Range) -> u128
+pub(crate) fn sort_key_of(by: SortKey, range: &Range) -> u128
     ensures { result ≡ key_by by range.now }
 {
     match by {
-        SortKey::First => place_number(range.service, range.country, range.first),
-        SortKey::Last => place_number(range.service, range.country, range.last),
-        SortKey::Holder => holder_number(
+        SortKey::First => serial_sort_key(range.service, range.country, range.first),
+        SortKey::Last => serial_sort_key(range.service, range.country, range.last),
+        SortKey::Holder => holder_sort_key(
             range.holder,
             range.service,
             range.country,
@@ -63,6 +63,6 @@ pub(crate) fn parts_fit(range: &Range)
     ensures { IsFitting range.now }
 {
     let range = *range;
-    let _first = place_number(range.service, range.country, range.first);
-    let _last = place_number(range.service, range.country, range.last);
+    let _first = serial_sort_key(range.service, range.country, range.first);
+    let _last = serial_sort_key(range.service, range.country, range.last);
 }

@@ -2,16 +2,16 @@
 #![tactic(auto)]
 
 mod closed_ranges;
+mod insertion;
 mod keys;
+mod lap;
 mod lookups;
 mod mark;
 mod next_mark;
 mod order;
-mod places;
 mod ranges;
 mod sort_key;
-mod turn;
 
+pub use lap::Lap;
 pub use mark::Mark;
 pub use ranges::Ranges;
-pub use turn::Turn;

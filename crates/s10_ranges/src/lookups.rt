@@ -1,20 +1,20 @@
 //! Look-ups among ranges by the orders of their places.
 
 ghost use Rattle.std.specs.Prelude.{◌≡◌, ◌-◌, ◌<◌, ◌==◌, find, slice_get, None};
-ghost use Rattle.s10_history.specs.History.{is_held_above, overlaps};
+ghost use Rattle.s10_history.specs.History.{is_held_after, overlaps};
 ghost use Rattle.s10_ranges.specs.declared.sort_key.SortKey.TheVariants.{First, Last, Holder};
 ghost use Rattle.s10_ranges.specs.Keys.{key_by};
 ghost use Rattle.s10_ranges.specs.Order.{IsOrder};
 ghost use Rattle.s10_ranges.specs.Sound.{AreSound};
 
-use crate::keys::{holder_number, place_number};
+use crate::keys::{holder_sort_key, serial_sort_key};
 use crate::mark::Mark;
 use crate::order::{first_at, least_in};
 use crate::sort_key::SortKey;
 use s10_core::{Country, Serial, Service};
 use s10_history::Range;
 
-pub(crate) fn range_numbered(ranges: &[Range], num: u32) -> Option<Range>
+pub(crate) fn range_in(ranges: &[Range], num: u32) -> Option<Range>
     requires sound { AreSound ranges.now }
     ensures { result ≡ find (λ r. r.num == num) ranges.now }
 {
@@ -24,7 +24,7 @@ pub(crate) fn range_numbered(ranges: &[Range], num: u32) -> Option<Range>
     Some(ranges[num as usize - 1])
 }
 
-pub(crate) fn mark_numbered(marks: &[Mark], num: u32) -> Option<Mark>
+pub(crate) fn mark_in(marks: &[Mark], num: u32) -> Option<Mark>
     ensures some { 0 < num → result ≡ slice_get marks.now (num - 1) }
     ensures none { num ≡ 0 → result ≡ None }
 {
@@ -34,12 +34,12 @@ pub(crate) fn mark_numbered(marks: &[Mark], num: u32) -> Option<Mark>
 
 // Whether the range is the customer's, of that service and country, with a number above another.
 fn is_later(range: &Range, after: u32, customer: u32, service: Service, country: Country) -> bool
-    ensures { result ≡ is_held_above after customer service country range.now }
+    ensures { result ≡ is_held_after after customer service country range.now }
 {
     after < range.num && range.is_held_by(customer, service, country)
 }
 
-pub(crate) fn range_held(
+pub(crate) fn next_held_in(
     ranges: &[Range],
     by_holder: &[u32],
     customer: u32,
@@ -49,9 +49,9 @@ pub(crate) fn range_held(
 ) -> Option<Range>
     requires sound { AreSound ranges.now }
     requires held { IsOrder (key_by Holder) (key_by Holder) ranges.now by_holder.now }
-    ensures { result ≡ find (is_held_above after customer service country) ranges.now }
+    ensures { result ≡ find (is_held_after after customer service country) ranges.now }
 {
-    let key = holder_number(customer, service, country, u128::from(after) + 1);
+    let key = holder_sort_key(customer, service, country, u128::from(after) + 1);
     let at = first_at(ranges, by_holder, SortKey::Holder, key);
     if at == by_holder.len() {
         return None;
@@ -64,26 +64,26 @@ pub(crate) fn range_held(
     }
 }
 
-pub(crate) fn range_over(
+pub(crate) fn covering_in(
     ranges: &[Range],
-    by_place: &[u32],
+    by_serial: &[u32],
     service: Service,
     country: Country,
     first: Serial,
     last: Serial,
 ) -> Option<Range>
     requires sound { AreSound ranges.now }
-    requires placed { IsOrder (key_by First) (key_by Last) ranges.now by_place.now }
+    requires placed { IsOrder (key_by First) (key_by Last) ranges.now by_serial.now }
     ensures { result ≡ find (overlaps service country first last) ranges.now }
 {
     if last.value() < first.value() {
         return None;
     }
-    let low = place_number(service, country, first);
-    let start = first_at(ranges, by_place, SortKey::Last, low);
-    let high = place_number(service, country, last) + 1;
-    let end = first_at(ranges, by_place, SortKey::First, high);
-    match least_in(by_place, start, end) {
+    let low = serial_sort_key(service, country, first);
+    let start = first_at(ranges, by_serial, SortKey::Last, low);
+    let high = serial_sort_key(service, country, last) + 1;
+    let end = first_at(ranges, by_serial, SortKey::First, high);
+    match least_in(by_serial, start, end) {
         None => None,
         Some(place) => Some(ranges[place as usize]),
     }

@@ -1,15 +1,15 @@
 //! The mark behind a serial that a range gave.
 
 ghost use Rattle.std.specs.Prelude.{◌≡◌, ◌==◌, ◌≤◌, ◌+◌, if◌then◌else◌};
-ghost use Rattle.s10_ranges.specs.Turns.{mark_behind};
+ghost use Rattle.s10_ranges.specs.Laps.{mark_after};
 
+use crate::lap::Lap;
 use crate::mark::Mark;
-use crate::turn::Turn;
 use s10_core::Serial;
 use s10_history::Range;
 
 // The serial behind that one of the range: the next, or the first one behind the last.
-fn serial_behind(range: &Range, serial: Serial) -> Serial
+fn serial_after(range: &Range, serial: Serial) -> Serial
     requires { serial ≤ range.now.last }
     ensures { result ≡ (if serial == range.now.last then range.now.first else serial + 1) }
 {
@@ -21,16 +21,16 @@ fn serial_behind(range: &Range, serial: Serial) -> Serial
 }
 
 // The mark behind a serial that the range gave in that turn.
-pub(crate) fn next_mark(range: &Range, turn: Turn, serial: Serial) -> Mark
+pub(crate) fn next_mark(range: &Range, lap: Lap, serial: Serial) -> Mark
     requires { serial ≤ range.now.last }
-    ensures { result ≡ mark_behind range.now turn serial }
+    ensures { result ≡ mark_after range.now lap serial }
 {
-    let next = serial_behind(range, serial);
+    let next = serial_after(range, serial);
     if serial.value() == range.last.value() {
         return Mark {
             serial: next,
-            turn: Turn::Later,
+            lap: Lap::Later,
         };
     }
-    Mark { serial: next, turn }
+    Mark { serial: next, lap }
 }

@@ -3,15 +3,15 @@
 ghost use Rattle.std.specs.Prelude.{◌≡◌, ℕ, ◌<◌, ◌≤◌, length, MatchOption, slice_index};
 ghost use Rattle.s10_history.specs.declared.range.Range.{Range};
 ghost use Rattle.s10_ranges.specs.Keys.{key_by};
-ghost use Rattle.s10_ranges.specs.Order.{range_at, ArePlaces, IsRising, IsLeastIn};
+ghost use Rattle.s10_ranges.specs.Order.{range_at, AreIndices, IsRising, IsLeastIn};
 
-use crate::keys::key_number;
+use crate::keys::sort_key_of;
 use crate::sort_key::SortKey;
 use s10_history::Range;
 
 // How many ranges, in the order, come before the key. By halving.
 pub(crate) fn first_at(ranges: &[Range], order: &[u32], by: SortKey, key: u128) -> usize
-    requires places { ArePlaces ranges.now order.now }
+    requires places { AreIndices ranges.now order.now }
     requires rising { IsRising (key_by by) ranges.now order.now }
     ensures within { result ≤ length order.now }
     ensures below { (j : ℕ) (d : Range) → j < result → key_by by (range_at ranges.now order.now j d) < key }
@@ -22,7 +22,7 @@ pub(crate) fn first_at(ranges: &[Range], order: &[u32], by: SortKey, key: u128) 
     while low < high {
         let middle = low + (high - low) / 2;
         let range = &ranges[order[middle] as usize];
-        if key_number(by, range) < key {
+        if sort_key_of(by, range) < key {
             low = middle + 1;
         } else {
             high = middle;

@@ -1,19 +1,19 @@
 //! Ranges with their marks in memory.
 
 ghost use Rattle.std.specs.Prelude.{◌≡◌, ◌≤◌, ◌<◌, ◌+◌, ◌-◌, ◌==◌, ◌++◌, ◌∷◌, [], length, find, set, None, OnOk, slice_get};
-ghost use Rattle.s10_history.specs.History.{is_held_above, overlaps};
+ghost use Rattle.s10_history.specs.History.{is_held_after, overlaps};
 ghost use Rattle.s10_ranges.specs.declared.sort_key.SortKey.TheVariants.{First, Last, Holder};
 ghost use Rattle.s10_ranges.specs.Keys.{key_by};
 ghost use Rattle.s10_ranges.specs.Order.{IsOrder};
 ghost use Rattle.s10_ranges.specs.Sound.{AreSound};
-ghost use Rattle.s10_ranges.specs.Turns.{mark_behind};
+ghost use Rattle.s10_ranges.specs.Laps.{mark_after};
 
 use crate::closed_ranges::ClosedRanges;
-use crate::lookups::{mark_numbered, range_held, range_numbered, range_over};
+use crate::insertion::{index_by_holder, index_by_serial};
+use crate::lap::Lap;
+use crate::lookups::{covering_in, mark_in, next_held_in, range_in};
 use crate::mark::Mark;
 use crate::next_mark::next_mark;
-use crate::places::{place_among, place_among_held};
-use crate::turn::Turn;
 use s10_core::{Country, Id, Serial, Service};
 use s10_history::{Entry, Range};
 use s10_wire::Outcome;
@@ -21,18 +21,18 @@ use std::alloc::{AllocError, Global};
 
 /// The ranges of a ledger, numbered from 1, each with its mark: the serial that it gives next, and its
 /// turn; and which of them are closed. No two have a serial in common. A look-up takes steps as the logarithm of how many ranges there are, and
-/// `over` besides as many as there are ranges with a serial in common, and `open_after` as many times
+/// `over` besides as many as there are ranges with a serial in common, and `next_open_range` as many times
 /// that as there are closed ranges before the one that it finds.
 #[derive(Drop)]
 pub struct Ranges {
     ranges: Vec<Range>,
     marks: Vec<Mark>,
-    by_place: Vec<u32>,
+    by_serial: Vec<u32>,
     by_holder: Vec<u32>,
     closed: ClosedRanges,
     ghost sound: { AreSound ranges.items },
     ghost marked: { length marks.items ≡ length ranges.items },
-    ghost placed: { IsOrder (key_by First) (key_by Last) ranges.items by_place.items },
+    ghost placed: { IsOrder (key_by First) (key_by Last) ranges.items by_serial.items },
     ghost held: { IsOrder (key_by Holder) (key_by Holder) ranges.items by_holder.items },
 }
 
@@ -43,7 +43,7 @@ impl Ranges {
     ghost use Rattle.s10_ranges.specs.declared.mark.Mark.{Mark};
     ghost use Rattle.s10_history.specs.Settings.{Terms};
     ghost use Rattle.std.specs.Prelude.{IfSome};
-    ghost use Rattle.s10_history.specs.History.{ranges_of, is_closed, is_open_above};
+    ghost use Rattle.s10_history.specs.History.{ranges_of, is_closed, is_open_after};
     ghost use Rattle.s10_history.specs.Issues.{issues_of};
     ghost use Rattle.s10_book.specs.Rules.{IsLegal, MayFollow};
     ghost use Rattle.s10_ranges.specs.Mirror.{Mirrors, MirrorsAt};
@@ -56,7 +56,7 @@ impl Ranges {
         Ranges {
             ranges: Vec::new(alloc),
             marks: Vec::new(alloc),
-            by_place: Vec::new(alloc),
+            by_serial: Vec::new(alloc),
             by_holder: Vec::new(alloc),
             closed: ClosedRanges::new(alloc),
         }
@@ -69,7 +69,7 @@ impl Ranges {
     {
         self.ranges.reserve(1)?;
         self.marks.reserve(1)?;
-        self.by_place.reserve(1)?;
+        self.by_serial.reserve(1)?;
         self.by_holder.reserve(1)?;
         self.closed.reserve()
     }
@@ -87,9 +87,9 @@ impl Ranges {
         ensures closed { self.new.closed ≡ self.old.closed }
     {
         let place = self.ranges.len() as u32;
-        let place_at = place_among(&self.ranges, &self.by_place, &range);
-        let held_at = place_among_held(&self.ranges, &self.by_holder, &range);
-        let _ = self.by_place.insert(place_at, place);
+        let place_at = index_by_serial(&self.ranges, &self.by_serial, &range);
+        let held_at = index_by_holder(&self.ranges, &self.by_holder, &range);
+        let _ = self.by_serial.insert(place_at, place);
         let _ = self.by_holder.insert(held_at, place);
         self.ranges.push_reserved(range);
         self.marks.push_reserved(mark);
@@ -111,9 +111,9 @@ impl Ranges {
         if range.last.value() < range.first.value() {
             return;
         }
-        let over = range_over(
+        let over = covering_in(
             &self.ranges,
-            &self.by_place,
+            &self.by_serial,
             range.service,
             range.country,
             range.first,
@@ -126,15 +126,15 @@ impl Ranges {
 
     // Sets the mark of the range of the identifier behind its serial: the next, or the first one behind
     // the last, which begins a later turn. Leaves the marks as they are where it lies in no range.
-    fn turn(&mut self, id: &Id)
+    fn advance_mark(&mut self, id: &Id)
         ensures ranges { self.new.ranges.items ≡ self.old.ranges.items }
         ensures marks { (r : Range) (m : Mark) → find (overlaps id.now.service id.now.country id.now.serial id.now.serial) self.old.ranges.items ≡ Some r
-            → slice_get self.old.marks.items (r.num - 1) ≡ Some m → self.new.marks.items ≡ set self.old.marks.items (r.num - 1) (mark_behind r m.turn id.now.serial) }
+            → slice_get self.old.marks.items (r.num - 1) ≡ Some m → self.new.marks.items ≡ set self.old.marks.items (r.num - 1) (mark_after r m.lap id.now.serial) }
         ensures closed { self.new.closed ≡ self.old.closed }
     {
-        let found = range_over(
+        let found = covering_in(
             &self.ranges,
-            &self.by_place,
+            &self.by_serial,
             id.service,
             id.country,
             id.serial,
@@ -143,16 +143,16 @@ impl Ranges {
         let Some(range) = found else {
             return;
         };
-        let held = mark_numbered(&self.marks, range.num);
+        let held = mark_in(&self.marks, range.num);
         let Some(mark) = held else {
             return;
         };
-        let next = next_mark(&range, mark.turn, id.serial);
+        let next = next_mark(&range, mark.lap, id.serial);
         self.set_mark(range.num, next);
     }
 
     // Turns the mark of the range of each identifier that a call issued, one after another.
-    fn turn_all(&mut self, entry: &Entry)
+    fn advance_marks(&mut self, entry: &Entry)
         ensures marks { (h : List Entry) (t : Terms) → IsLegal h t → MayFollow h t entry.now → MirrorsAt (ranges_of h) (issues_of h) self.old
             → MirrorsAt (ranges_of h) (issues_of (h ++ entry.now ∷ [])) self.new }
         ensures closed { self.new.closed ≡ self.old.closed }
@@ -160,7 +160,7 @@ impl Ranges {
         for place in 0..entry.issued() {
             // Which arrival the issues have is no matter to a mark.
             if let Some(issuance) = entry.issue(0, place) {
-                self.turn(&issuance.id);
+                self.advance_mark(&issuance.id);
             }
         }
     }
@@ -177,12 +177,12 @@ impl Ranges {
                 if let Some(range) = entry.range_made(num) {
                     let mark = Mark {
                         serial: range.first,
-                        turn: Turn::First,
+                        lap: Lap::First,
                     };
                     self.push_next(range, mark);
                 }
             }
-            _ => self.turn_all(entry),
+            _ => self.advance_marks(entry),
         }
     }
 
@@ -227,14 +227,14 @@ impl Ranges {
         ensures some { 0 < num → result ≡ slice_get self.now.marks.items (num - 1) }
         ensures none { num ≡ 0 → result ≡ None }
     {
-        mark_numbered(&self.marks, num)
+        mark_in(&self.marks, num)
     }
 
     /// The range of that number, if there is one.
-    pub fn numbered(&self, num: u32) -> Option<Range>
+    pub fn range_by_number(&self, num: u32) -> Option<Range>
         ensures { result ≡ find (λ r. r.num == num) self.now.ranges.items }
     {
-        range_numbered(&self.ranges, num)
+        range_in(&self.ranges, num)
     }
 
     /// Whether the range of that number is closed.
@@ -245,7 +245,7 @@ impl Ranges {
     }
 
     /// The open range of least number above `after` with that holder, service and country, if there is one.
-    pub fn open_after(
+    pub fn next_open_range(
         &self,
         customer: u32,
         service: Service,
@@ -253,10 +253,10 @@ impl Ranges {
         after: u32,
     ) -> Option<Range>
         ensures above { IfSome result (λ r. after < r.num) }
-        ensures open { (h : List Entry) → Mirrors self.now h → result ≡ find (is_open_above h after customer service country) (ranges_of h) }
+        ensures open { (h : List Entry) → Mirrors self.now h → result ≡ find (is_open_after h after customer service country) (ranges_of h) }
     {
         let mut past = after;
-        while let Some(range) = range_held(
+        while let Some(range) = next_held_in(
             &self.ranges,
             &self.by_holder,
             customer,
@@ -274,7 +274,7 @@ impl Ranges {
 
     /// The range of least number of that service and country that has a serial in common with `first`
     /// to `last`, if there is one. Where `first` is above `last` there is none.
-    pub fn over(
+    pub fn covering_range(
         &self,
         service: Service,
         country: Country,
@@ -283,6 +283,6 @@ impl Ranges {
     ) -> Option<Range>
         ensures { result ≡ find (overlaps service country first last) self.now.ranges.items }
     {
-        range_over(&self.ranges, &self.by_place, service, country, first, last)
+        covering_in(&self.ranges, &self.by_serial, service, country, first, last)
     }
 }

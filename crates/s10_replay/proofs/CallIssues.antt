@@ -10,13 +10,13 @@ use Rattle.s10_history.specs.declared.range.Range.{Range}
 use Rattle.s10_history.specs.declared.issuance.Issuance.{Issuance}
 use Rattle.s10_history.specs.Settings.{Terms}
 use Rattle.s10_history.specs.History.{ranges_of, lies_in}
-use Rattle.s10_history.specs.Issues.{issues_at, issues_of, carried_by, pick_of, pick_behind}
+use Rattle.s10_history.specs.Issues.{issues_at, issues_of, carried_by, pick_of, pick_after}
 use Rattle.s10_book.specs.Rules.{IsLegal, MayFollow}
 use Rattle.s10_book.proofs.Apart.{apart}
 use Rattle.s10_book.proofs.Carried.{made_by, InTurn, IsPicked, carried_call}
 use Rattle.s10_book.proofs.Marks.{Turns, all_at_pick, mark_step, one_range, pick_turns, turns_pick}
 use Rattle.s10_book.proofs.Own.{lies_picked}
-use Rattle.s10_rows.specs.Kept.{issues_before}
+use Rattle.s10_rows.specs.RowWrites.{issues_before}
 
 -- what is kept by each issue before a place holds there, and so does what holds of each in turn
 reached : (P : List Issuance → ℕ × Id → Type 0) (Q : List Issuance → Type 0) (made : ℕ × Id → Issuance) (is : List Issuance) (cs : List (ℕ × Id)) (place : ℕ) (c : ℕ × Id)
@@ -69,11 +69,11 @@ issue_at h t e arrival place y legal may at =
 
 -- it moves the pick of the range that has it, to the serial behind its own
 pub pick_moved : (h : List Entry) (t : Terms) (e : Entry) (place : ℕ) (c : ℕ × Id) (r : Range) → IsLegal h t → IsIssueAt h e t.interval place c → Contains (ranges_of h) r
-    → pick_of (issues_before place h e ++ made_by e (1 + length h) c ∷ []) r ≡ pick_behind r (pick_of (issues_before place h e) r) c.1
+    → pick_of (issues_before place h e ++ made_by e (1 + length h) c ∷ []) r ≡ pick_after r (pick_of (issues_before place h e) r) c.1
 pick_moved h t e place c r legal here there =
     let is : List Issuance = issues_before place h e in
     let y : Issuance = made_by e (1 + length h) c in
-    pick_turns r (is ++ y ∷ []) (pick_behind r (pick_of is r) c.1)
+    pick_turns r (is ++ y ∷ []) (pick_after r (pick_of is r) c.1)
     (mark_step r is y (pick_of is r) (at_mark h t e.request.customer e.day t.interval is c r legal here.picked there) (here.turns r there))
 
 -- one more issue

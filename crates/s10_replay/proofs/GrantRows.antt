@@ -18,7 +18,7 @@ use Rattle.s10_book.proofs.Marks.{pick_new}
 use Rattle.s10_rows.specs.declared.range_row.RangeRow.{RangeRow}
 use Rattle.s10_rows.specs.declared.range_write.RangeWrite.TheVariants.{New}
 use Rattle.s10_rows.specs.Tables.{range_row, range_rows, serial_rows}
-use Rattle.s10_rows.specs.Kept.{Makes}
+use Rattle.s10_rows.specs.RowWrites.{MakesWrites}
 use Rattle.s10_rows.proofs.Replaced.{same_rows}
 use Rattle.s10_replay.proofs.MadeRows.{same_issues, same_serial_rows, none_voided}
 
@@ -37,7 +37,7 @@ made_range h customer day interval num (Grant holder s c first last) o r is done
 made_range h customer day interval num b o r is done made = absurd cc
 
 pub grant_makes : (h : List Entry) (t : Terms) (e : Entry) (num : ℕ) (r : Range) → IsLegal h t → MayFollow h t e → e.outcome ≡ Granted num → range_of_grant num e.request.body (Granted num) ≡ Some r
-    → Makes h e (New (range_row r.first r) ∷ []) []
+    → MakesWrites h e (New (range_row r.first r) ∷ []) []
 grant_makes h t e num r legal may done makes =
     let made : range_of_grant (length (ranges_of h) + 1) e.request.body e.outcome ≡ Some r =
     made_range h e.request.customer e.day t.interval num e.request.body e.outcome r may.right done makes in

@@ -17,7 +17,7 @@ use Rattle.s10_history.specs.declared.range.Range.{Range}
 use Rattle.s10_history.specs.declared.issuance.Issuance.{Issuance}
 use Rattle.s10_history.specs.Settings.{Terms}
 use Rattle.s10_history.specs.History.{ranges_of, lies_in}
-use Rattle.s10_history.specs.Issues.{issues_at, issues_of, is_of, is_issued, last_issues, last_issuance_of, voids, voided_after, pick_of, pick_behind, serial_behind}
+use Rattle.s10_history.specs.Issues.{issues_at, issues_of, is_of, is_issued, last_issues, last_issuance_of, voids, voided_after, pick_of, pick_after, serial_after}
 use Rattle.s10_book.specs.Rules.{IsLegal, MayFollow}
 use Rattle.s10_history.proofs.Numbering.{Numbered, numbered}
 use Rattle.s10_history.proofs.Push.{issues_from-push}
@@ -26,8 +26,8 @@ use Rattle.s10_book.proofs.Carried.{made_by}
 use Rattle.s10_book.proofs.Marks.{one_range}
 use Rattle.s10_book.proofs.Spaced.{id_same}
 use Rattle.s10_book.proofs.Free.{id_equal}
-use Rattle.s10_rows.specs.declared.issued.Issued.{Issued}
-use Rattle.s10_rows.specs.declared.issued.Issued.TheVariants.{Never, Before}
+use Rattle.s10_rows.specs.declared.prior_issue.PriorIssue.{PriorIssue}
+use Rattle.s10_rows.specs.declared.prior_issue.PriorIssue.TheVariants.{Never, Before}
 use Rattle.s10_rows.specs.declared.range_row.RangeRow.{RangeRow}
 use Rattle.s10_rows.specs.declared.range_write.RangeWrite.{RangeWrite}
 use Rattle.s10_rows.specs.declared.range_write.RangeWrite.TheVariants.{Mark}
@@ -35,7 +35,7 @@ use Rattle.s10_rows.specs.declared.serial_row.SerialRow.{SerialRow}
 use Rattle.s10_rows.specs.declared.serial_write.SerialWrite.{SerialWrite}
 use Rattle.s10_rows.specs.Tables.{pair_of, range_row, range_rows, serial_row, serial_rows}
 use Rattle.s10_rows.specs.Selected.{IsCall, IsIssuance}
-use Rattle.s10_rows.specs.Kept.{FindAtMostOne, IssuesMake, Makes, issues_before, marked, is_at, row_of, with_range, with_ranges, with_serial, with_serials, write_of}
+use Rattle.s10_rows.specs.RowWrites.{FindAtMostOne, IssueWritesMake, MakesWrites, issues_before, marked, is_at, row_of, with_range, with_ranges, with_serial, with_serials, write_of}
 use Rattle.s10_replay.proofs.Tests.{int_eq-pos, between_itself}
 use Rattle.s10_replay.proofs.LastIssues.{none_filter, last_of, All-last_issues}
 use Rattle.s10_replay.proofs.SerialRows.{issues_at_fit, issues_of_fit, row_of_is, filter_image}
@@ -81,7 +81,7 @@ elsewhere h t r s x legal there in' lies other (inl ly) =
 
 -- the rows of ranges behind one more issue
 ranges_more : (h : List Entry) (t : Terms) (e : Entry) (place : ℕ) (c : ℕ × Id) (r : Range) → IsLegal h t → IsIssueAt h e t.interval place c → Contains (ranges_of h) r → lies_in r c.1 ≡ true
-    → map (marked (pos r.num) (pos (serial_behind r c.1.serial))) (map (λ s. range_row (pick_of (issues_before place h e) s) s) (ranges_of h))
+    → map (marked (pos r.num) (pos (serial_after r c.1.serial))) (map (λ s. range_row (pick_of (issues_before place h e) s) s) (ranges_of h))
     ≡ map (λ s. range_row (pick_of (issues_before place h e ++ made_by e (1 + length h) c ∷ []) s) s) (ranges_of h)
 ranges_more h t e place c r legal here there lies =
     let x : Id = c.1 in
@@ -89,10 +89,10 @@ ranges_more h t e place c r legal here there lies =
     let y : Issuance = made_by e (1 + length h) c in
     let old : Range → RangeRow = λ s. range_row (pick_of is s) s in
     let new : Range → RangeRow = λ s. range_row (pick_of (is ++ y ∷ []) s) s in
-    let next : Range → RangeRow = range_row (serial_behind r x.serial) in
-    let write : RangeRow → RangeRow = marked (pos r.num) (pos (serial_behind r x.serial)) in
-    let moved : (s : Range) → Contains (ranges_of h) s → pick_of (is ++ y ∷ []) s ≡ pick_behind s (pick_of is s) x = λ s in'. pick_moved h t e place c s legal here in' in
-    let at : new r ≡ next r = ap (λ (m : ℕ). range_row m r) (moved r there ∙ ap (λ (b : Bool). cond b (serial_behind r x.serial) (pick_of is r)) lies) in
+    let next : Range → RangeRow = range_row (serial_after r x.serial) in
+    let write : RangeRow → RangeRow = marked (pos r.num) (pos (serial_after r x.serial)) in
+    let moved : (s : Range) → Contains (ranges_of h) s → pick_of (is ++ y ∷ []) s ≡ pick_after s (pick_of is s) x = λ s in'. pick_moved h t e place c s legal here in' in
+    let at : new r ≡ next r = ap (λ (m : ℕ). range_row m r) (moved r there ∙ ap (λ (b : Bool). cond b (serial_after r x.serial) (pick_of is r)) lies) in
     let each : (s : Range) → Contains (ranges_of h) s → write (old s) ≡ new s =
     λ s in'. ap (λ (b : Bool). cond b (next s) (old s)) (int_eq-pos s.num r.num) ∙ elim (cases_Bool (eqb s.num r.num)) [
       | inl same ↦
@@ -101,7 +101,7 @@ ranges_more h t e place c r legal here there lies =
       | inr other ↦
           let out : lies_in s x ≡ false = elsewhere h t r s x legal there in' lies other (cases_Bool (lies_in s x)) in
           ap (λ (b : Bool). cond b (next s) (old s)) other
-          ∙ ap (λ (m : ℕ). range_row m s) (sym (moved s in' ∙ ap (λ (b : Bool). cond b (serial_behind s x.serial) (pick_of is s)) out))
+          ∙ ap (λ (m : ℕ). range_row m s) (sym (moved s in' ∙ ap (λ (b : Bool). cond b (serial_after s x.serial) (pick_of is s)) out))
     ] in
     map_twice write old (ranges_of h)
     ∙ images_agree (λ s. write (old s)) new (ranges_of h) (All-weaker (λ s. Contains (ranges_of h) s) (λ s. write (old s) ≡ new s) each (ranges_of h) (All-contains_itself (ranges_of h)))
@@ -170,19 +170,19 @@ module _ (h : List Entry) (is : List Issuance) (x : Id) (fit : All IsIssuance is
   none_at never =
       rows_but_at ∙ ap (map (row_in h)) (all_left (is_of x) (last_issues is) (last_of is x ∙ ap (λ (js : List Issuance). option_to_list (last_or None js)) (none_filter (is_of x) is never)))
 
-written : (issued : Issued) (row : SerialRow) → row_of (write_of issued row) ≡ row
+written : (issued : PriorIssue) (row : SerialRow) → row_of (write_of issued row) ≡ row
 written Never row = refl
 written Before row = refl
 
 -- a row takes the place of that of its identifier
-replaced_row : (h : List Entry) (is : List Issuance) (y : Issuance) (issued : Issued) → All IsIssuance is → IsId y.id → (issued ≡ Never → is_issued is y.id ≡ false)
+replaced_row : (h : List Entry) (is : List Issuance) (y : Issuance) (issued : PriorIssue) → All IsIssuance is → IsId y.id → (issued ≡ Never → is_issued is y.id ≡ false)
     → with_serial (write_of issued (serial_row false y)) (map (row_in h) (last_issues is))
     ≡ filter (λ row. not (is_at (pos (pair_of y.id.service y.id.country)) (pos y.id.serial) row)) (map (row_in h) (last_issues is)) ++ serial_row false y ∷ []
 replaced_row h is y Never fit right never = ap (λ (l : List SerialRow). l ++ serial_row false y ∷ []) (sym (none_at h is y.id fit right (never refl)))
 replaced_row h is y Before fit right never = refl
 
 -- the rows of serials behind one more issue
-serials_more : (h : List Entry) (is : List Issuance) (y : Issuance) (issued : Issued) → All IsIssuance is → IsId y.id → row_in h y ≡ serial_row false y → (issued ≡ Never → is_issued is y.id ≡ false)
+serials_more : (h : List Entry) (is : List Issuance) (y : Issuance) (issued : PriorIssue) → All IsIssuance is → IsId y.id → row_in h y ≡ serial_row false y → (issued ≡ Never → is_issued is y.id ≡ false)
     → with_serial (write_of issued (serial_row false y)) (map (row_in h) (last_issues is)) ≡ map (row_in h) (last_issues (is ++ y ∷ []))
 serials_more h is y issued fit right unvoided never =
     let others : List Issuance = filter (λ i. not (is_of y.id i)) (last_issues is) in
@@ -207,9 +207,9 @@ none_after : (h : List Entry) (y : Issuance) → y.arrival ≡ 1 + length h → 
 none_after h y next = ap (list_any (voids y.id)) (drop_all y.arrival h (omega (arith, next)))
 
 -- the rows that a call makes by one more issue
-pub issue_makes : (h : List Entry) (t : Terms) (e : Entry) (place : ℕ) (y : Issuance) (r : Range) (issued : Issued) (ranges : List RangeWrite) (serials : List SerialWrite) → IsLegal h t → MayFollow h t e → All IsCall h → IsCall e
-    → slice_get (issues_at (1 + length h) e) place ≡ Some y → Contains (ranges_of h) r → lies_in r y.id ≡ true → (issued ≡ Never → is_issued (issues_before place h e) y.id ≡ false) → IssuesMake h e place ranges serials
-    → IssuesMake h e (place + 1) (ranges ++ Mark (pos r.num) (pos (serial_behind r y.id.serial)) ∷ []) (serials ++ write_of issued (serial_row false y) ∷ [])
+pub issue_makes : (h : List Entry) (t : Terms) (e : Entry) (place : ℕ) (y : Issuance) (r : Range) (issued : PriorIssue) (ranges : List RangeWrite) (serials : List SerialWrite) → IsLegal h t → MayFollow h t e → All IsCall h → IsCall e
+    → slice_get (issues_at (1 + length h) e) place ≡ Some y → Contains (ranges_of h) r → lies_in r y.id ≡ true → (issued ≡ Never → is_issued (issues_before place h e) y.id ≡ false) → IssueWritesMake h e place ranges serials
+    → IssueWritesMake h e (place + 1) (ranges ++ Mark (pos r.num) (pos (serial_after r y.id.serial)) ∷ []) (serials ++ write_of issued (serial_row false y) ∷ [])
 issue_makes h t e place y r issued ranges serials legal may calls call at there lies never made =
     let found = issue_at h t e (1 + length h) place y legal may at in
     let is : List Issuance = issues_before place h e in
@@ -217,8 +217,8 @@ issue_makes h t e place y r issued ranges serials legal may calls call at there 
     let right : IsId y.id = (All-contains IsIssuance (issues_at (1 + length h) e) y fits.1 (in_list (issues_at (1 + length h) e) place y at)).id in
     let more : issues_before (place + 1) h e ≡ is ++ y ∷ [] = before_more h e place y at in
     let rows : List Issuance → List RangeRow = λ js. map (λ s. range_row (pick_of js s) s) (ranges_of h) in
-    let write : RangeWrite = Mark (pos r.num) (pos (serial_behind r y.id.serial)) in
-    let step : Issuance → Type 0 = λ i. lies_in r i.id ≡ true → with_range (Mark (pos r.num) (pos (serial_behind r i.id.serial))) (rows is) ≡ rows (is ++ i ∷ []) in
+    let write : RangeWrite = Mark (pos r.num) (pos (serial_after r y.id.serial)) in
+    let step : Issuance → Type 0 = λ i. lies_in r i.id ≡ true → with_range (Mark (pos r.num) (pos (serial_after r i.id.serial))) (rows is) ≡ rows (is ++ i ∷ []) in
     let row : SerialRow = serial_row false y in
     let late : voided_after y.arrival h y.id ≡ false = none_after h y (ap (λ (i : Issuance). i.arrival) found.1) in
     let at_one : SerialRow → Type 0 = λ w. length (filter (is_at w.pair w.serial) (map (row_in h) (last_issues is))) ≤ 1 in
@@ -232,7 +232,7 @@ issue_makes h t e place y r issued ranges serials legal may calls call at there 
     }
 
 -- no issue makes no row
-pub none_make : (h : List Entry) (e : Entry) → IssuesMake h e 0 [] []
+pub none_make : (h : List Entry) (e : Entry) → IssueWritesMake h e 0 [] []
 none_make h e =
     let none : issues_of h ≡ issues_before 0 h e = sym (append-nil (issues_of h)) in
     record {
@@ -248,7 +248,7 @@ past (x ∷ xs) (suc k) none = let le = past xs k none in omega (arith, le)
 
 -- a call that was no Grant and no Void makes the rows of its issues
 pub all_make : (h : List Entry) (e : Entry) (place : ℕ) (ranges : List RangeWrite) (serials : List SerialWrite) → ((num : ℕ) → ¬ (e.outcome ≡ Granted num)) → ¬ (e.outcome ≡ Voided)
-    → slice_get (issues_at (1 + length h) e) place ≡ None → IssuesMake h e place ranges serials → Makes h e ranges serials
+    → slice_get (issues_at (1 + length h) e) place ≡ None → IssueWritesMake h e place ranges serials → MakesWrites h e ranges serials
 all_make h e place ranges serials not_granted not_voided none made =
     let l : List Issuance = issues_at (1 + length h) e in
     let issues : issues_before place h e ≡ issues_of (h ++ e ∷ []) =

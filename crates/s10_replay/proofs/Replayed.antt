@@ -13,7 +13,7 @@ use Rattle.s10_rows.specs.declared.open_fault.OpenFault.TheVariants.{Damaged}
 use Rattle.s10_rows.specs.Tables.{Tables, head_row}
 use Rattle.s10_replay.specs.RightRows.{IsRightRow, AreRight, kept_of, entry_of}
 use Rattle.s10_rows.specs.Selected.{IsCall}
-use Rattle.s10_replay.specs.Verdict.{IsHead, IsFirstWrong, IsRefusal}
+use Rattle.s10_replay.specs.CheckedTables.{IsHead, IsFirstWrong, IsRefusal}
 use Rattle.s10_wire.specs.Datagrams.{Replies}
 
 -- a row that does not hold settings is not the one of head

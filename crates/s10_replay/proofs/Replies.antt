@@ -16,7 +16,7 @@ use Rattle.s10_core.specs.Id.{IsId}
 use Rattle.s10_wire.specs.Ids.{spellings_of}
 use Rattle.s10_wire.proofs.Many.{length-spellings}
 use Rattle.s10_wire.specs.Datagrams.{datagram, outcome_bytes, IsBody, IsOutcome, Replies}
-use Rattle.s10_rows.specs.Replies.{body_in, ids_in, request_in, outcome_behind, outcome_in, reply_bytes}
+use Rattle.s10_rows.specs.Replies.{body_in, ids_in, request_in, outcome_from, outcome_in, reply_bytes}
 
 abbrev asked : ℕ → ℕ → Body → Request
 asked customer number body = record { customer = customer; number = number; body = body }
@@ -39,8 +39,8 @@ ids_again [] ok = refl
 ids_again (id ∷ ids) ok =
     rw (number_of-digits_of id.serial (All-head IsId id ids ok).serial, ids_again ids (All-tail IsId id ids ok)) refl
 
-outcome_again : (body : Body) (o : Outcome) → IsOutcome o → fits body o ≡ true → outcome_behind (kind_of body) (outcome_bytes o) ≡ o
-unfolding outcome_behind
+outcome_again : (body : Body) (o : Outcome) → IsOutcome o → fits body o ≡ true → outcome_from (kind_of body) (outcome_bytes o) ≡ o
+unfolding outcome_from
 outcome_again (Grant h s t f l) (Granted range) ok fit = rw (from_be_bytes-to_be_bytes_4 range ok) refl
 outcome_again (Draw s t) (Drawn day id) ok fit = rw (from_be_bytes-to_be_bytes_4 day ok.0, number_of-digits_of id.serial ok.1.serial) refl
 outcome_again (DrawMany s t count) (DrawnMany day ids) ok fit =
@@ -87,8 +87,8 @@ behind customer number (Query id) rest = refl
 
 said : (customer number : ℕ) (body : Body) (o : Outcome) → IsBody body → IsOutcome o → fits body o ≡ true → outcome_in (datagram 0x80 (asked customer number body) ++ outcome_bytes o) ≡ o
 said customer number body o ok out fit =
-    ap (λ (b : Body). outcome_behind (kind_of b) (drop (request_length (kind_of b)) (datagram 0x80 (asked customer number body) ++ outcome_bytes o))) (body_again customer number body (outcome_bytes o) ok)
-    ∙ ap (outcome_behind (kind_of body)) (behind customer number body (outcome_bytes o))
+    ap (λ (b : Body). outcome_from (kind_of b) (drop (request_length (kind_of b)) (datagram 0x80 (asked customer number body) ++ outcome_bytes o))) (body_again customer number body (outcome_bytes o) ok)
+    ∙ ap (outcome_from (kind_of body)) (behind customer number body (outcome_bytes o))
     ∙ outcome_again body o out fit
 
 same_asked : (c d m n : ℕ) (a b : Body) → c ≡ d → m ≡ n → a ≡ b → asked c m a ≡ asked d n b

@@ -17,7 +17,7 @@ use Rattle.s10_book.proofs.Spaced.{id_same}
 use Rattle.s10_book.proofs.Carried.{issued_at}
 use Rattle.s10_rows.specs.declared.serial_row.SerialRow.{SerialRow}
 use Rattle.s10_rows.specs.Tables.{pair_of, serial_row}
-use Rattle.s10_rows.specs.Selected.{IsCall, IsIssuance, is_within, issue_told}
+use Rattle.s10_rows.specs.Selected.{IsCall, IsIssuance, is_within, issue_in_row}
 use Rattle.s10_replay.proofs.Pairs.{one_pair, one_number}
 use Rattle.s10_replay.proofs.LastIssues.{last_of, All-last_issues}
 
@@ -83,7 +83,7 @@ filter_image p q f P same (x ∷ xs) all =
 -- the rows are the row of an issue that tells this, or none
 abbrev pub Tell : List SerialRow → Option Issue → Type 0
 Tell rows None = rows ≡ []
-Tell rows (Some issue) = (v : Bool) × ((i : Issuance) × (IsIssuance i × (rows ≡ serial_row v i ∷ []) × (issue ≡ issue_told v i)))
+Tell rows (Some issue) = (v : Bool) × ((i : Issuance) × (IsIssuance i × (rows ≡ serial_row v i ∷ []) × (issue ≡ issue_in_row v i)))
 
 abbrev last_row : List Entry → Issuance → SerialRow
 last_row h i = serial_row (voided_after i.arrival h i.id) i

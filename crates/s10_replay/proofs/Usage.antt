@@ -28,7 +28,7 @@ use Rattle.s10_history.proofs.Counting.{issued_is}
 use Rattle.s10_rows.specs.declared.serial_row.SerialRow.{SerialRow}
 use Rattle.s10_rows.specs.Tables.{HaveSameRows, pair_of, serial_row, serial_rows, flag}
 use Rattle.s10_replay.specs.RightRows.{day_in}
-use Rattle.s10_rows.specs.Selected.{IsCall, IsRange, IsIssuance, is_within, issue_told}
+use Rattle.s10_rows.specs.Selected.{IsCall, IsRange, IsIssuance, is_within, issue_in_row}
 use Rattle.s10_replay.specs.ReadRows.{is_voided_row, is_taken, IsUsageOf}
 use Rattle.s10_replay.proofs.Pairs.{one_pair, one_number}
 use Rattle.s10_replay.proofs.SameRows.{same_length}
@@ -213,11 +213,11 @@ all_read h (i ∷ is) all =
 
 -- each row reads
 pub never_unread : (h : List Entry) (r : Range) (rows : List SerialRow) (i : ℕ) (d : SerialRow) → All IsCall h → HaveSameRows (filter (rows_within r) (serial_rows h)) rows → i < length rows
-    → ((v : Bool) (j : Issuance) → IsIssuance j → get_or rows i d ≡ serial_row v j → None ≡ Some (issue_told v j)) → ⊥
+    → ((v : Bool) (j : Issuance) → IsIssuance j → get_or rows i d ≡ serial_row v j → None ≡ Some (issue_in_row v j)) → ⊥
 never_unread h r rows i d calls same lt kept =
     let all : All Reads (filter (rows_within r) (serial_rows h)) =
     All-filter (rows_within r) Reads (serial_rows h) (all_read h (last_issues (issues_of h)) (All-last_issues IsIssuance (issues_of h) (issues_of_fit h calls))) in
     ∥∥₁_elim same (λ x y. absurd x) (λ perm. never (All-permutation Reads _ rows perm all i d lt))
   where
     never : Reads (get_or rows i d) → ⊥
-    never (v, (j, told)) = none-some (issue_told v j) (kept v j told.0 told.1)
+    never (v, (j, told)) = none-some (issue_in_row v j) (kept v j told.0 told.1)

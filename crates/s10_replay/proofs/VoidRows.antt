@@ -22,7 +22,7 @@ use Rattle.s10_rows.specs.declared.serial_row.SerialRow.{SerialRow}
 use Rattle.s10_rows.specs.declared.serial_write.SerialWrite.TheVariants.{Again}
 use Rattle.s10_rows.specs.Tables.{HaveSameRows, pair_of, range_rows, serial_row, serial_rows}
 use Rattle.s10_rows.specs.Selected.{IsCall, IsIssuance}
-use Rattle.s10_rows.specs.Kept.{Makes, is_at}
+use Rattle.s10_rows.specs.RowWrites.{MakesWrites, is_at}
 use Rattle.s10_replay.proofs.LastIssues.{last_of}
 use Rattle.s10_replay.proofs.SerialRows.{issues_of_fit, last_passes}
 use Rattle.s10_rows.proofs.Replaced.{replaced, same_rows}
@@ -37,7 +37,7 @@ voids_is e x y asks done = ap₂ (λ (b : Body) (o : Outcome). voids_by y b o) a
 
 -- the row of the last issue is made anew as voided
 pub void_makes : (h : List Entry) (t : Terms) (e : Entry) (x : Id) (i : Issuance) → IsLegal h t → All IsCall h → IsCall e → e.request.body ≡ Void x → e.outcome ≡ Voided → last_issuance_of (issues_of h) x ≡ Some i
-    → Makes h e [] (Again (serial_row true i) ∷ [])
+    → MakesWrites h e [] (Again (serial_row true i) ∷ [])
 void_makes h t e x i legal calls call asks done last =
     let body : IsBody (Void x) = subst IsBody asks call.request.2 in
     let fit : All IsIssuance (issues_of h) = issues_of_fit h calls in

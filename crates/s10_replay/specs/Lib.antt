@@ -1,4 +1,4 @@
 pub mod Ascending
 pub mod RightRows
-pub mod Verdict
+pub mod CheckedTables
 pub mod ReadRows

@@ -20,7 +20,7 @@ pub record IsCallOf (row : StoredCall) (e : Entry) : Type 0 where
   pub day : row.day ≡ pos e.day
 
 -- the row tells the issue
-pub record Tells (row : SerialRow) (i : Issue) : Type 0 where
+pub record IsRowOfIssue (row : SerialRow) (i : Issue) : Type 0 where
   pub day : row.day ≡ pos i.day
   pub voided : row.voided ≡ pos (flag i.voided)
   pub customer : row.customer ≡ pos i.customer

@@ -2,7 +2,7 @@
 
 ghost use Rattle.std.specs.Prelude.{◌≡◌, ◌≢◌};
 ghost use Rattle.s10_rows.specs.Tables.{Tables};
-ghost use Rattle.s10_replay.specs.Verdict.{IsRefusal};
+ghost use Rattle.s10_replay.specs.CheckedTables.{IsRefusal};
 
 use s10_book::BookFault;
 use s10_rows::OpenFault;

@@ -3,7 +3,7 @@
 ghost use Rattle.std.specs.Prelude.{◌≡◌, ◌≢◌, ℤ, pos, IfSome, IfNone, IfOk, IfErr};
 ghost use Rattle.s10_history.specs.Settings.{Terms, AreTerms};
 ghost use Rattle.s10_rows.specs.Tables.{Tables, head_row};
-ghost use Rattle.s10_replay.specs.Verdict.{IsHead, IsRefusal};
+ghost use Rattle.s10_replay.specs.CheckedTables.{IsHead, IsRefusal};
 
 use crate::column::number_in;
 use s10_history::Settings;

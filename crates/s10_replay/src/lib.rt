@@ -3,17 +3,17 @@
 
 mod call_reading;
 mod column;
+mod derived_writes;
 mod faults;
 mod head_reading;
-mod made_rows;
 mod replaying;
 mod same_rows;
 mod serial_reading;
 mod usage_reading;
 
+pub use derived_writes::{grant_write, issue_writes, issue_writes_are_complete, void_write};
 pub use faults::fault_of_book;
 pub use head_reading::settings_in;
-pub use made_rows::{granted_row, issue_rows, issues_make_the_rows, voided_row};
 pub use replaying::replay_rows;
 pub use same_rows::{same_closed, same_ranges, same_serials};
 pub use usage_reading::usage_among;

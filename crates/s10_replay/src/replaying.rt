@@ -1,14 +1,14 @@
 //! The calls of a ledger are replayed.
 
 ghost use Rattle.std.specs.Prelude.{◌≡◌, ◌↔◌, ◌<◌, ◌≤◌, pos, length, IfSome, IfNone, IfOk, IfErr, IsTrue, None, OnOk, []};
-ghost use Rattle.s10_book.specs.Book.{Keeps};
-ghost use Rattle.s10_history.specs.History.{day_of, entry_with_key};
+ghost use Rattle.s10_book.specs.Book.{Unchanged};
+ghost use Rattle.s10_history.specs.History.{day_of, find_entry};
 ghost use Rattle.s10_rows.specs.Tables.{Tables};
 ghost use Rattle.s10_replay.specs.RightRows.{IsRightRow, AreRight, kept_of, entry_of};
-ghost use Rattle.s10_replay.specs.Verdict.{IsHead, IsRefusal};
+ghost use Rattle.s10_replay.specs.CheckedTables.{IsHead, IsRefusal};
 ghost use Rattle.s10_rows.specs.Selected.{IsCall};
 
-use crate::call_reading::call_in;
+use crate::call_reading::entry_in_row;
 use crate::faults::fault_of_book;
 use s10_book::{Book, BookFault, decide};
 use s10_history::Entry;
@@ -16,7 +16,7 @@ use s10_rows::{CallRow, OpenFault};
 use s10_wire::same_outcome;
 
 // Whether the row is call number `arrival`, with the key of the call.
-fn has_columns(row: &CallRow, arrival: u32, call: &Entry) -> bool
+fn has_key_columns(row: &CallRow, arrival: u32, call: &Entry) -> bool
     ensures { IsTrue result ↔ ((row.now.arrival ≡ pos arrival) × (row.now.customer ≡ pos call.now.request.customer) × (row.now.number ≡ pos call.now.request.number)) }
 {
     row.arrival() == i64::from(arrival)
@@ -26,19 +26,19 @@ fn has_columns(row: &CallRow, arrival: u32, call: &Entry) -> bool
 
 // Whether no call of the book has the key of the call.
 fn is_new<B: Book>(book: &mut B, call: &Entry) -> Result<bool, BookFault>
-    ensures keeps { Keeps B.history B.terms B.honest book.old book.new }
-    ensures answer { B.honest book.new → IfOk result (λ b. IsTrue b ↔ (entry_with_key (B.history book.old) call.now.request.customer call.now.request.number ≡ None)) }
+    ensures unchanged { Unchanged B.history B.terms B.honest book.old book.new }
+    ensures answer { B.honest book.new → IfOk result (λ b. IsTrue b ↔ (find_entry (B.history book.old) call.now.request.customer call.now.request.number ≡ None)) }
 {
     let found = book.find(call.request.customer, call.request.number)?;
     Ok(found.is_none())
 }
 
 // Whether there is room for the call, its day is not before the book's, and its key is new.
-fn has_place<B: Book>(book: &mut B, call: &Entry) -> Result<bool, BookFault>
-    ensures keeps { Keeps B.history B.terms B.honest book.old book.new }
+fn may_follow<B: Book>(book: &mut B, call: &Entry) -> Result<bool, BookFault>
+    ensures unchanged { Unchanged B.history B.terms B.honest book.old book.new }
     ensures answer { B.honest book.new → IfOk result (λ b. IsTrue b ↔ ((length (B.history book.old) < (B.terms book.old).limit)
         × (day_of (B.history book.old) ≤ call.now.day)
-        × (entry_with_key (B.history book.old) call.now.request.customer call.now.request.number ≡ None))) }
+        × (find_entry (B.history book.old) call.now.request.customer call.now.request.number ≡ None))) }
 {
     if book.len() < book.settings().limit() && book.day() <= call.day {
         is_new(book, call)
@@ -49,14 +49,14 @@ fn has_place<B: Book>(book: &mut B, call: &Entry) -> Result<bool, BookFault>
 
 // The call of the row, where it is right behind the book's calls.
 fn right_call<B: Book>(book: &mut B, row: &CallRow) -> Result<Option<Entry>, BookFault>
-    ensures keeps { Keeps B.history B.terms B.honest book.old book.new }
+    ensures unchanged { Unchanged B.history B.terms B.honest book.old book.new }
     ensures right { B.honest book.new → IfOk result (λ found. IfSome found (λ e. (e ≡ entry_of row.now) × IsCall e × IsRightRow (B.terms book.old) (B.history book.old) row.now)) }
     ensures wrong { B.honest book.new → IfOk result (λ found. IfNone found (¬ IsRightRow (B.terms book.old) (B.history book.old) row.now)) }
 {
-    let Some(call) = call_in(row) else {
+    let Some(call) = entry_in_row(row) else {
         return Ok(None);
     };
-    if !has_columns(row, book.len() + 1, &call) || !has_place(book, &call)? {
+    if !has_key_columns(row, book.len() + 1, &call) || !may_follow(book, &call)? {
         return Ok(None);
     }
     let outcome = decide(book, &call.request, call.day)?;

@@ -3,8 +3,8 @@
 ghost use Rattle.std.specs.Prelude.{◌≡◌, Bool, Some, IfSome};
 ghost use Rattle.s10_history.specs.declared.issuance.Issuance.{Issuance};
 ghost use Rattle.s10_rows.specs.Tables.{serial_row};
-ghost use Rattle.s10_rows.specs.Selected.{IsIssuance, issue_told};
-ghost use Rattle.s10_replay.specs.ReadRows.{Tells};
+ghost use Rattle.s10_rows.specs.Selected.{IsIssuance, issue_in_row};
+ghost use Rattle.s10_replay.specs.ReadRows.{IsRowOfIssue};
 
 use crate::column::{flag_in, number_in};
 use s10_history::Issue;
@@ -12,8 +12,8 @@ use s10_rows::SerialRow;
 
 // The issue that the row tells. None where a column of it does not read.
 pub(crate) fn issue_in(row: &SerialRow) -> Option<Issue>
-    ensures read { IfSome result (Tells row.now) }
-    ensures kept { (voided : Bool) (i : Issuance) → IsIssuance i → row.now ≡ serial_row voided i → result ≡ Some (issue_told voided i) }
+    ensures read { IfSome result (IsRowOfIssue row.now) }
+    ensures kept { (voided : Bool) (i : Issuance) → IsIssuance i → row.now ≡ serial_row voided i → result ≡ Some (issue_in_row voided i) }
 {
     let day = number_in(row.day)?;
     let voided = flag_in(row.voided)?;

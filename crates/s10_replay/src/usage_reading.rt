@@ -14,7 +14,7 @@ use s10_history::{Issue, Range, Usage};
 use s10_rows::SerialRow;
 
 // The usage with one more issue, of a serial that was counted as free.
-fn with_issue(usage: Usage, issue: &Issue, day: u32, interval: u32) -> Usage
+fn count_issue(usage: Usage, issue: &Issue, day: u32, interval: u32) -> Usage
     requires used { usage.used < 100000000 }
     requires voided { usage.voided < 100000000 }
     requires free { 0 < usage.free }
@@ -35,7 +35,7 @@ fn with_issue(usage: Usage, issue: &Issue, day: u32, interval: u32) -> Usage
 }
 
 // How many serials the range has.
-fn serials_of(range: &Range) -> u32
+fn range_size(range: &Range) -> u32
     ensures count { result ≡ range.now.last + 1 - range.now.first }
     ensures few { result ≤ 100000000 }
 {
@@ -56,7 +56,7 @@ pub fn usage_among(
         → HaveSameRows (filter (is_within (pos (pair_of range.now.service range.now.country)) (pos range.now.first) (pos range.now.last)) (serial_rows h)) rows.now
         → result ≡ Ok (usage_of h range.now asked interval) }
 {
-    let serials = serials_of(range);
+    let serials = range_size(range);
     if rows.len() > serials as usize {
         return Err(BookFault::Store);
     }
@@ -69,7 +69,7 @@ pub fn usage_among(
         let Some(issue) = issue_in(row) else {
             return Err(BookFault::Store);
         };
-        usage = with_issue(usage, &issue, day, interval);
+        usage = count_issue(usage, &issue, day, interval);
     }
     Ok(usage)
 }

@@ -4,7 +4,7 @@ use Rattle.std.specs.Io.KnownBytes.{Appends}
 use Rattle.s10_reports.specs.declared.report_fault.ReportFault.{ReportFault}
 use Rattle.s10_reports.specs.declared.report_fault.ReportFault.TheVariants.{Book, Write}
 use Rattle.s10_book.specs.declared.faults.Faults.{Faults}
-use Rattle.s10_book.specs.BookFault.{FaultCounts}
+use Rattle.s10_book.specs.BookFault.{CountsBookFault}
 use Rattle.s10_reports.specs.Reports.{joined}
 
 -- the whole report, or after a fault of the book so many of its first lines
@@ -16,5 +16,5 @@ Reported old new lines (Err Write) = ⊤
 -- the counts are as before, but for a fault of the book
 abbrev pub CountsReport : {T : Type 0} → Result T ReportFault → Faults → Faults → Type 0
 CountsReport (Ok _) before after = after ≡ before
-CountsReport (Err (Book fault)) before after = FaultCounts fault before after
+CountsReport (Err (Book fault)) before after = CountsBookFault fault before after
 CountsReport (Err Write) before after = after ≡ before

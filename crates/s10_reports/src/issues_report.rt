@@ -2,7 +2,7 @@
 
 ghost use Rattle.std.specs.Prelude.{◌≡◌, OnOk};
 ghost use Rattle.std.specs.Io.KnownBytes.{Appends};
-ghost use Rattle.s10_book.specs.Book.{Keeps};
+ghost use Rattle.s10_book.specs.Book.{Unchanged};
 ghost use Rattle.s10_history.specs.Issues.{issues_at};
 ghost use Rattle.s10_reports.specs.Reports.{issue_line, issue_lines, issues_report, state_of};
 ghost use Rattle.s10_reports.specs.ReportFault.{Reported, CountsReport};
@@ -18,7 +18,7 @@ use std::io::Write;
 /// it goes out.
 pub fn write_issues<B: Book, W: Write>(book: &mut B, out: &mut W) -> Result<(), ReportFault>
     ensures faults { CountsReport result (B.faults book.old) (B.faults book.new) }
-    ensures keeps { Keeps B.history B.terms B.honest book.old book.new }
+    ensures unchanged { Unchanged B.history B.terms B.honest book.old book.new }
     ensures written { B.honest book.new
         → Reported (W.contents out.old) (W.contents out.new) (issues_report (B.history book.old)) result }
 {
@@ -41,7 +41,7 @@ fn write_call<B: Book, W: Write>(
     out: &mut W,
 ) -> Result<(), ReportFault>
     ensures faults { CountsReport result (B.faults book.old) (B.faults book.new) }
-    ensures keeps { Keeps B.history B.terms B.honest book.old book.new }
+    ensures unchanged { Unchanged B.history B.terms B.honest book.old book.new }
     ensures written { B.honest book.new
         → Reported (W.contents out.old) (W.contents out.new) (issue_lines (B.history book.old) (issues_at arrival entry.now)) result }
 {

@@ -3,7 +3,7 @@
 ghost use Rattle.std.specs.Prelude.{[], ◌∷◌, decimal, OnOk};
 ghost use Rattle.std.specs.Io.KnownBytes.{Appends};
 ghost use Rattle.s10_lines.specs.Lines.{spaced};
-ghost use Rattle.s10_book.specs.Book.{Keeps};
+ghost use Rattle.s10_book.specs.Book.{Unchanged};
 ghost use Rattle.s10_reports.specs.Reports.{range_line, closed_words, ranges_report};
 ghost use Rattle.s10_reports.specs.ReportFault.{Reported, CountsReport};
 
@@ -25,7 +25,7 @@ pub fn write_ranges<B: Book, W: Write>(
     out: &mut W,
 ) -> Result<(), ReportFault>
     ensures faults { CountsReport result (B.faults book.old) (B.faults book.new) }
-    ensures keeps { Keeps B.history B.terms B.honest book.old book.new }
+    ensures unchanged { Unchanged B.history B.terms B.honest book.old book.new }
     ensures written { B.honest book.new → Reported (W.contents out.old) (W.contents out.new)
         (ranges_report (B.history book.old) day (B.terms book.old).interval) result }
 {

@@ -2,7 +2,7 @@
 use Rattle.std.specs.Prelude.{◌≡◌, pos, List, [], ◌∷◌, ◌++◌, option_to_list}
 use Rattle.s10_rows.specs.CallRow.{StoredCall}
 use Rattle.s10_rows.specs.Tables.{Tables, HaveSameRows, closing}
-use Rattle.s10_rows.specs.Kept.{FindAtMostOne, with_ranges, with_serials}
+use Rattle.s10_rows.specs.RowWrites.{FindAtMostOne, with_ranges, with_serials}
 use Rattle.s10_rows.specs.declared.call_write.CallWrite.{CallWrite}
 
 -- the row of the call

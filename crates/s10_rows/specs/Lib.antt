@@ -1,6 +1,6 @@
 pub mod CallRow
 pub mod Replies
 pub mod Tables
-pub mod Kept
+pub mod RowWrites
 pub mod Selected
 pub mod CallWrite

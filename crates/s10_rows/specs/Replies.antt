@@ -43,7 +43,7 @@ request_in b = record { customer = number b 4; number = number b 8; body = body_
 abbrev pub status_in : ℕ → ℕ → Status
 status_in code day =
     if code == 0 then statuses.Unknown else if code == 1 then statuses.Never
-    else if code == 2 then statuses.Issued day else statuses.Voided day
+    else if code == 2 then statuses.PriorIssue day else statuses.Voided day
 
 abbrev pub done_in : Kind → List ℕ → Outcome
 done_in kinds.Grant rest = Granted (number rest 1)
@@ -61,11 +61,11 @@ refusal_in code =
     else if code == 10 then NoSuchRange else if code == 11 then Closed else NumberReused
 
 -- the outcome, by the bytes from the outcome byte on
-unfoldable pub outcome_behind : Kind → List ℕ → Outcome
-outcome_behind k rest = if byte rest 0 == 0 then done_in k rest else refusal_in (byte rest 0)
+unfoldable pub outcome_from : Kind → List ℕ → Outcome
+outcome_from k rest = if byte rest 0 == 0 then done_in k rest else refusal_in (byte rest 0)
 
 abbrev pub outcome_in : List ℕ → Outcome
-outcome_in b = let k = kind_of (body_in b) in outcome_behind k (drop (request_length k) b)
+outcome_in b = let k = kind_of (body_in b) in outcome_from k (drop (request_length k) b)
 
 -- the datagram of the reply to the request with the outcome
 unfoldable pub reply_bytes : Request → Outcome → List ℕ

@@ -37,8 +37,8 @@ pub record IsIssuance (i : Issuance) : Type 0 where
   pub number : i.number < 2 ^ 32
 
 -- the issue that its row tells
-abbrev pub issue_told : Bool → Issuance → Issue
-issue_told voided i = record { day = i.day; voided = voided; customer = i.customer; number = i.number }
+abbrev pub issue_in_row : Bool → Issuance → Issue
+issue_in_row voided i = record { day = i.day; voided = voided; customer = i.customer; number = i.number }
 
 -- whether the arrival is one of these
 abbrev pub arrives_between : ℤ → ℤ → StoredCall → Bool

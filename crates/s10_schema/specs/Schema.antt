@@ -157,8 +157,8 @@ abbrev pub others_in : Schema → Schema
 others_in s = record { tables = drop 4 s.tables; indexes = drop 2 s.indexes; views = s.views }
 
 -- and what stands behind the first five
-abbrev pub others_behind_closed : Schema → Schema
-others_behind_closed s = record { tables = drop 5 s.tables; indexes = drop 2 s.indexes; views = s.views }
+abbrev pub others_after_closed : Schema → Schema
+others_after_closed s = record { tables = drop 5 s.tables; indexes = drop 2 s.indexes; views = s.views }
 
 abbrev pub is_own_tree : ℕ → Bool
 is_own_tree t = (t == 0) || ((t == 1) || ((t == 3) || (t == 4)))
@@ -194,6 +194,6 @@ index_apart_from_closed indexes = list_all (λ i. not (i.table == 6)) indexes
 -- The schema begins with the five tables of a ledger. No table behind them has a foreign key on `closed` either, and no index is of it.
 pub record IsClosedSchema (s : Schema) : Type 0 where
   pub ledger : IsLedgerSchema s
-  pub is : s ≡ with_closed (others_behind_closed s)
+  pub is : s ≡ with_closed (others_after_closed s)
   pub tables : are_apart_from_closed (drop 5 s.tables) ≡ true
   pub indexes : index_apart_from_closed s.indexes ≡ true

@@ -10,7 +10,7 @@ use Rattle.s10_link.specs.declared.trace.Trace.{Trace}
 use Rattle.s10_ends.specs.declared.call_fault.CallFault.{CallFault}
 use Rattle.s10_ends.specs.declared.call_fault.CallFault.TheVariants.{Submit, GaveUp, Link}
 use Rattle.s10_ends.specs.Calls.{Calls}
-use Rattle.s10_ends.specs.Client.{ClientState, after_submit, settled}
+use Rattle.s10_ends.specs.Client.{ClientState, after_submit, without_pending}
 use Rattle.s10_lines.specs.declared.write_fault.WriteFault.{WriteFault}
 use Rattle.s10_jobs.specs.declared.job_status.JobStatus.{JobStatus}
 use Rattle.s10_jobs.specs.declared.job_status.JobStatus.TheVariants.{Done, Refused, CommandLine, Failed}
@@ -19,7 +19,7 @@ use Rattle.s10_jobs.specs.Shown.{Prints}
 use Rattle.s10_sockets.specs.LoopCalls.{calls_of, AreMadeInTurn}
 
 abbrev pub after_call : ClientState → Body → ClientState
-after_call c body = settled (after_submit c body)
+after_call c body = without_pending (after_submit c body)
 
 abbrev pub after_calls : ClientState → List Body → ClientState
 after_calls c [] = c

@@ -8,7 +8,7 @@ use Rattle.s10_link.specs.declared.peer.Peer.{Peer}
 use Rattle.s10_link.specs.declared.trace.Trace.{Trace}
 use Rattle.s10_ends.specs.declared.call_fault.CallFault.{CallFault}
 use Rattle.s10_ends.specs.Calls.{Calls}
-use Rattle.s10_ends.specs.Client.{ClientState, new_client, after_submit, settled}
+use Rattle.s10_ends.specs.Client.{ClientState, new_client, after_submit, without_pending}
 use Rattle.s10_jobs.specs.declared.job_status.JobStatus.{JobStatus}
 use Rattle.s10_jobs.specs.declared.job_status.JobStatus.TheVariants.{Done}
 use Rattle.s10_jobs.specs.Asked.{asked_status, asked_line}
@@ -35,7 +35,7 @@ customer_calls = Draw ra gb ∷ Draw ra gb ∷ Void first_of_range ∷ Query fir
 -- a client as each of its calls finds it, and what that asks
 abbrev pub calls_of : ClientState → List Body → List (ClientState × Body)
 calls_of c [] = []
-calls_of c (body ∷ bodies) = (c, body) ∷ calls_of (settled (after_submit c body)) bodies
+calls_of c (body ∷ bodies) = (c, body) ∷ calls_of (without_pending (after_submit c body)) bodies
 
 -- the post's number 1, then customer 7's numbers 1 to 4
 abbrev pub loop_calls : List (ClientState × Body)

@@ -18,14 +18,14 @@ pub fn bind_link<R: Net + Eprint>(rt: &R, at: Peer) -> Result<UdpLink, LinkFault
     match UdpLink::bind(rt, at, WAIT) {
         Ok(link) => Ok(link),
         Err(fault) => {
-            tell_cause(rt, at);
+            eprint_cause(rt, at);
             Err(fault)
         }
     }
 }
 
 // Binds once more, for the words of the system.
-fn tell_cause<R: Net + Eprint>(rt: &R, at: Peer) {
+fn eprint_cause<R: Net + Eprint>(rt: &R, at: Peer) {
     let [a, b, c, d] = at.ip;
     let address = SocketAddrV4::new(Ipv4Addr::new(a, b, c, d), at.port);
     if let Err(cause) = UdpSocket::bind(rt, SocketAddr::V4(address)) {

@@ -2,11 +2,11 @@
 
 ghost use Rattle.std.specs.Prelude.{◌≡◌, None, IfSome};
 ghost use Rattle.s10_link.specs.Trace.{new_trace};
-ghost use Rattle.s10_jobs.specs.Serving.{IsRound, Serves};
+ghost use Rattle.s10_jobs.specs.Serving.{IsBatch, Serves};
 ghost use Rattle.s10_sockets.specs.Unbound.{IsUnbound};
 
 use crate::binding::bind_link;
-use s10_book::Settle;
+use s10_book::GroupCommit;
 use s10_ends::{Server, UdpLink};
 use s10_jobs::{JobStatus, fail_by_link, serve_turns};
 use s10_lines::WriteFault;
@@ -29,10 +29,10 @@ pub fn serve_at<R, B, W>(
 ) -> (Result<JobStatus, WriteFault>, Option<UdpLink>, B)
 where
     R: Net + Clock + Eprint,
-    B: Settle,
+    B: GroupCommit,
     W: Write,
     ensures unbound { result.1 ≡ None → IsUnbound book result.2 (W.contents out.old) (W.contents out.new) result.0 }
-    ensures served { IfSome result.1 (λ link. Serves (IsRound B.faults B.honest B.terms B.history B.settled day)
+    ensures served { IfSome result.1 (λ link. Serves (IsBatch B.faults B.honest B.terms B.history B.committed day)
         (new_trace, book) (link.trace, result.2)
         (W.contents out.old) (W.contents out.new) count result.0) }
 {
@@ -40,13 +40,13 @@ where
         Ok(link) => link,
         Err(fault) => return (fail_by_link(fault, out), None, book),
     };
-    tell_address(rt, link.local());
+    eprint_address(rt, link.local());
     let mut server = Server::new(book);
     let served = serve_turns(rt, alloc, &mut server, &mut link, count, day, out);
     (served, Some(link), server.into_book())
 }
 
 // The turns go on where standard error is closed.
-fn tell_address<R: Eprint>(rt: &R, at: Peer) {
+fn eprint_address<R: Eprint>(rt: &R, at: Peer) {
     let _ = eprintln!(rt; "serving on {at}");
 }

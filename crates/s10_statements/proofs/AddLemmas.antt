@@ -17,10 +17,10 @@ use Rattle.sqlite.specs.State.{State, mode_of, Executes}
 use Rattle.sqlite.proofs.Callers.{statement_of, runs_as, one_step}
 use Rattle.s10_rows.specs.declared.range_row.RangeRow.{RangeRow}
 use Rattle.s10_rows.specs.declared.serial_row.SerialRow.{SerialRow}
-use Rattle.s10_schema.specs.Schema.{with_closed, closed_first, others_behind_closed, ranges_table, serials_table}
+use Rattle.s10_schema.specs.Schema.{with_closed, closed_first, others_after_closed, ranges_table, serials_table}
 use Rattle.s10_rows.specs.Tables.{Tables}
-use Rattle.s10_statements.specs.Shown.{HasTables, IsNumbered, shown_range, range_columns, shown_serial, serial_columns}
-use Rattle.s10_statements.specs.Statements.{grant_text, issue_text}
+use Rattle.s10_statements.specs.Shown.{HasTables, HasIntegerRowid, shown_range, range_columns, shown_serial, serial_columns}
+use Rattle.s10_statements.specs.Statements.{insert_range_sql, insert_serial_sql}
 use Rattle.s10_statements.proofs.WriteTexts.{grant_terms, grant_is, grant_plain, issue_terms, issue_is, issue_plain}
 use Rattle.s10_statements.proofs.Apart.{no_works, not_ranges, not_serials, is_as_it_was, behind_apart}
 use Rattle.s10_statements.proofs.PutLemmas.{cast_int, cast_null, went, same_value, put_fresh, one_fresh}
@@ -59,16 +59,16 @@ three_four e = omega arith
 six_four : ◌≢◌ {A = ℕ} 6 4
 six_four e = omega arith
 
-pub adds_range : (old new : State) (r : RangeRow) (count : ℕ) (tables : Tables) → HasTables old.now tables → Executes grant_text (shown_range r) old new (Ok count)
+pub adds_range : (old new : State) (r : RangeRow) (count : ℕ) (tables : Tables) → HasTables old.now tables → Executes insert_range_sql (shown_range r) old new (Ok count)
     → HasTables new.now (record tables { ranges = tables.ranges ++ r ∷ [] })
 adds_range old new r count tables held h =
     let params = shown_range r in
     let db = old.now.trees in
     let has = held.schema.is in
-    let o = others_behind_closed old.now.schema in
+    let o = others_after_closed old.now.schema in
     let command = Insert 2 (Values grant_terms 7) in
-    let w = runs_as grant_text params old new (with_closed o) has command (grant_is (closed_first o)) (grant_plain (closed_first o)) count h in
-    let text = statement_of grant_text (understood (with_closed o) grant_text) in
+    let w = runs_as insert_range_sql params old new (with_closed o) has command (grant_is (closed_first o)) (grant_plain (closed_first o)) count h in
+    let text = statement_of insert_range_sql (understood (with_closed o) insert_range_sql) in
     let done = went (subst (λ s. Does old.step_limit (mode_of old) params (record old.now { schema = s }) text None command (Ok (w.tally, new.now))) has w.changed) in
     let now = ap (λ (p : Tally × Database). p.1) (same_value (went (went done.2).2).2) in
     let given = went done.1 in
@@ -91,16 +91,16 @@ adds_range old new r count tables held h =
       closed = rw (at 6 ∙ applied.tables.1.1.1.1.0 six_three) held.closed;
     }
 
-pub adds_serial : (old new : State) (r : SerialRow) (count : ℕ) (tables : Tables) → HasTables old.now tables → Executes issue_text (shown_serial r) old new (Ok count)
+pub adds_serial : (old new : State) (r : SerialRow) (count : ℕ) (tables : Tables) → HasTables old.now tables → Executes insert_serial_sql (shown_serial r) old new (Ok count)
     → HasTables new.now (record tables { serials = tables.serials ++ r ∷ [] })
 adds_serial old new r count tables held h =
     let params = shown_serial r in
     let db = old.now.trees in
     let has = held.schema.is in
-    let o = others_behind_closed old.now.schema in
+    let o = others_after_closed old.now.schema in
     let command = Insert 3 (Values issue_terms 8) in
-    let w = runs_as issue_text params old new (with_closed o) has command (issue_is (closed_first o)) (issue_plain (closed_first o)) count h in
-    let text = statement_of issue_text (understood (with_closed o) issue_text) in
+    let w = runs_as insert_serial_sql params old new (with_closed o) has command (issue_is (closed_first o)) (issue_plain (closed_first o)) count h in
+    let text = statement_of insert_serial_sql (understood (with_closed o) insert_serial_sql) in
     let done = went (subst (λ s. Does old.step_limit (mode_of old) params (record old.now { schema = s }) text None command (Ok (w.tally, new.now))) has w.changed) in
     let now = ap (λ (p : Tally × Database). p.1) (same_value (went (went done.2).2).2) in
     let given = went done.1 in
@@ -120,6 +120,6 @@ adds_serial old new r count tables held h =
       calls = rw (at 1 ∙ applied.tables.1.0 one_four) held.calls;
       ranges = rw (at 3 ∙ applied.tables.1.1.0 three_four) held.ranges;
       serials = ∥∥₁_map held.serials (λ p. one_more shown_serial serial_columns tables.serials r (db 4) (new.now.trees 4) row refl put p);
-      numbered = all_moved IsNumbered (row ∷ db 4) (new.now.trees 4) put (refl, held.numbered);
+      numbered = all_moved HasIntegerRowid (row ∷ db 4) (new.now.trees 4) put (refl, held.numbered);
       closed = rw (at 6 ∙ applied.tables.1.1.1.1.0 six_four) held.closed;
     }

@@ -21,10 +21,10 @@ use Rattle.s10_rows.specs.declared.range_row.RangeRow.{RangeRow}
 use Rattle.s10_rows.specs.declared.serial_row.SerialRow.{SerialRow}
 use Rattle.s10_rows.specs.declared.closed_row.ClosedRow.{ClosedRow}
 use Rattle.s10_rows.specs.CallRow.{StoredCall}
-use Rattle.s10_schema.specs.Schema.{IsLedgerSchema, IsClosedSchema, with_others, with_closed, others_in, others_behind_closed}
+use Rattle.s10_schema.specs.Schema.{IsLedgerSchema, IsClosedSchema, with_others, with_closed, others_in, others_after_closed}
 use Rattle.s10_statements.specs.Shown.{shown_call, shown_range, shown_serial, shown_closed, head_columns, call_columns, range_columns, serial_columns, closed_columns}
 use Rattle.s10_rows.specs.Selected.{is_within}
-use Rattle.s10_statements.specs.Statements.{head_text, calls_text, ranges_text, within_text, serials_text, closed_text}
+use Rattle.s10_statements.specs.Statements.{select_head_sql, select_calls_sql, select_ranges_sql, select_serials_within_sql, select_serials_sql, select_closed_sql}
 use Rattle.s10_statements.proofs.Texts.{head_query, head_is, head_plain, head_unlisted, calls_query, calls_is, calls_plain, calls_unlisted, ranges_query, ranges_is, ranges_plain, ranges_unlisted, within_query, within_is, within_plain, within_unlisted, serials_query, serials_is, serials_plain, serials_unlisted, closed_query, closed_is, closed_plain, closed_unlisted}
 use Rattle.s10_statements.proofs.ReadLemmas.{kept_are, rows_are, rows_rise, selected}
 
@@ -85,53 +85,53 @@ module _ (params : Row) (old new : State) (rows : List Row) (has : IsLedgerSchem
   abbrev o : Schema
   o = others_in old.now.schema
 
-  head_answers : Shown head_text params old new rows → IsAnswer head_query (overlay old.now.trees []) params rows
-  head_answers h = (reads_as head_text params old new (with_others o) has.is _ (head_is o) (head_plain o) (head_unlisted o) rows h).answer Null
+  head_answers : Shown select_head_sql params old new rows → IsAnswer head_query (overlay old.now.trees []) params rows
+  head_answers h = (reads_as select_head_sql params old new (with_others o) has.is _ (head_is o) (head_plain o) (head_unlisted o) rows h).answer Null
 
-  pub head_shows : Shown head_text params old new rows → IsPermutation (map head_columns (old.now.trees 0)) rows
+  pub head_shows : Shown select_head_sql params old new rows → IsPermutation (map head_columns (old.now.trees 0)) rows
   head_shows h =
       let a = head_answers h in
       subst (λ vs. IsPermutation vs rows) (all_pass (map head_columns (old.now.trees 0))) (rows_are params head_query (old.now.trees 0) head_columns first_key always (λ r. refl) (λ r. refl) a.kept a.ordered rows
       (kept_are params head_query (old.now.trees 0) head_columns first_key always (λ r. refl) (λ r. refl) a.staged a.kept a.grouped a.distinct) a.same a.shown)
 
-  pub calls_answers : Shown calls_text params old new rows → IsAnswer calls_query (overlay old.now.trees []) params rows
-  calls_answers h = (reads_as calls_text params old new (with_others o) has.is _ (calls_is o) (calls_plain o) (calls_unlisted o) rows h).answer Null
+  pub calls_answers : Shown select_calls_sql params old new rows → IsAnswer calls_query (overlay old.now.trees []) params rows
+  calls_answers h = (reads_as select_calls_sql params old new (with_others o) has.is _ (calls_is o) (calls_plain o) (calls_unlisted o) rows h).answer Null
 
-  pub calls_shows : Shown calls_text params old new rows → IsPermutation (map call_columns (old.now.trees 1)) rows
+  pub calls_shows : Shown select_calls_sql params old new rows → IsPermutation (map call_columns (old.now.trees 1)) rows
   calls_shows h =
       let a = calls_answers h in
       subst (λ vs. IsPermutation vs rows) (all_pass (map call_columns (old.now.trees 1))) (rows_are params calls_query (old.now.trees 1) call_columns first_key always (λ r. refl) (λ r. refl) a.kept a.ordered rows
       (kept_are params calls_query (old.now.trees 1) call_columns first_key always (λ r. refl) (λ r. refl) a.staged a.kept a.grouped a.distinct) a.same a.shown)
 
-  ranges_answers : Shown ranges_text params old new rows → IsAnswer ranges_query (overlay old.now.trees []) params rows
-  ranges_answers h = (reads_as ranges_text params old new (with_others o) has.is _ (ranges_is o) (ranges_plain o) (ranges_unlisted o) rows h).answer Null
+  ranges_answers : Shown select_ranges_sql params old new rows → IsAnswer ranges_query (overlay old.now.trees []) params rows
+  ranges_answers h = (reads_as select_ranges_sql params old new (with_others o) has.is _ (ranges_is o) (ranges_plain o) (ranges_unlisted o) rows h).answer Null
 
-  pub ranges_shows : Shown ranges_text params old new rows → IsPermutation (map range_columns (old.now.trees 3)) rows
+  pub ranges_shows : Shown select_ranges_sql params old new rows → IsPermutation (map range_columns (old.now.trees 3)) rows
   ranges_shows h =
       let a = ranges_answers h in
       subst (λ vs. IsPermutation vs rows) (all_pass (map range_columns (old.now.trees 3))) (rows_are params ranges_query (old.now.trees 3) range_columns first_key always (λ r. refl) (λ r. refl) a.kept a.ordered rows
       (kept_are params ranges_query (old.now.trees 3) range_columns first_key always (λ r. refl) (λ r. refl) a.staged a.kept a.grouped a.distinct) a.same a.shown)
 
-  within_answers : Shown within_text params old new rows → IsAnswer within_query (overlay old.now.trees []) params rows
-  within_answers h = (reads_as within_text params old new (with_others o) has.is _ (within_is o) (within_plain o) (within_unlisted o) rows h).answer Null
+  within_answers : Shown select_serials_within_sql params old new rows → IsAnswer within_query (overlay old.now.trees []) params rows
+  within_answers h = (reads_as select_serials_within_sql params old new (with_others o) has.is _ (within_is o) (within_plain o) (within_unlisted o) rows h).answer Null
 
-  pub within_shows : Shown within_text params old new rows → IsPermutation (filter (within_test params) (map serial_columns (old.now.trees 4))) rows
+  pub within_shows : Shown select_serials_within_sql params old new rows → IsPermutation (filter (within_test params) (map serial_columns (old.now.trees 4))) rows
   within_shows h =
       let a = within_answers h in
       rows_are params within_query (old.now.trees 4) serial_columns pair_key (within_test params) (λ r. refl) (λ r. refl) a.kept a.ordered rows
       (kept_are params within_query (old.now.trees 4) serial_columns pair_key (within_test params) (λ r. refl) (λ r. refl) a.staged a.kept a.grouped a.distinct) a.same a.shown
 
-  serials_answers : Shown serials_text params old new rows → IsAnswer serials_query (overlay old.now.trees []) params rows
-  serials_answers h = (reads_as serials_text params old new (with_others o) has.is _ (serials_is o) (serials_plain o) (serials_unlisted o) rows h).answer Null
+  serials_answers : Shown select_serials_sql params old new rows → IsAnswer serials_query (overlay old.now.trees []) params rows
+  serials_answers h = (reads_as select_serials_sql params old new (with_others o) has.is _ (serials_is o) (serials_plain o) (serials_unlisted o) rows h).answer Null
 
-  pub serials_shows : Shown serials_text params old new rows → IsPermutation (map wide_columns (old.now.trees 4)) rows
+  pub serials_shows : Shown select_serials_sql params old new rows → IsPermutation (map wide_columns (old.now.trees 4)) rows
   serials_shows h =
       let a = serials_answers h in
       subst (λ vs. IsPermutation vs rows) (all_pass (map wide_columns (old.now.trees 4))) (rows_are params serials_query (old.now.trees 4) wide_columns pair_key always (λ r. refl) (λ r. refl) a.kept a.ordered rows
       (kept_are params serials_query (old.now.trees 4) wide_columns pair_key always (λ r. refl) (λ r. refl) a.staged a.kept a.grouped a.distinct) a.same a.shown)
 
   -- in order of their key
-  pub calls_rise : (xs : List StoredCall) → IsAscending (λ a b. int_cmp a.arrival b.arrival ≡ Less) xs → IsPermutation (map shown_call xs) (map call_columns (old.now.trees 1)) → Shown calls_text params old new rows → rows ≡ map shown_call xs
+  pub calls_rise : (xs : List StoredCall) → IsAscending (λ a b. int_cmp a.arrival b.arrival ≡ Less) xs → IsPermutation (map shown_call xs) (map call_columns (old.now.trees 1)) → Shown select_calls_sql params old new rows → rows ≡ map shown_call xs
   calls_rise xs up same h =
       let a = calls_answers h in
       rows_rise params calls_query (old.now.trees 1) call_columns first_key always (λ r. refl) (λ r. refl) shown_call xs
@@ -140,7 +140,7 @@ module _ (params : Row) (old new : State) (rows : List Row) (has : IsLedgerSchem
       (kept_are params calls_query (old.now.trees 1) call_columns first_key always (λ r. refl) (λ r. refl) a.staged a.kept a.grouped a.distinct) a.same a.sorted a.shown
 
   -- in order of their key
-  pub ranges_rise : (xs : List RangeRow) → IsAscending (λ a b. int_cmp a.num b.num ≡ Less) xs → IsPermutation (map shown_range xs) (map range_columns (old.now.trees 3)) → Shown ranges_text params old new rows → rows ≡ map shown_range xs
+  pub ranges_rise : (xs : List RangeRow) → IsAscending (λ a b. int_cmp a.num b.num ≡ Less) xs → IsPermutation (map shown_range xs) (map range_columns (old.now.trees 3)) → Shown select_ranges_sql params old new rows → rows ≡ map shown_range xs
   ranges_rise xs up same h =
       let a = ranges_answers h in
       rows_rise params ranges_query (old.now.trees 3) range_columns first_key always (λ r. refl) (λ r. refl) shown_range xs
@@ -149,19 +149,19 @@ module _ (params : Row) (old new : State) (rows : List Row) (has : IsLedgerSchem
       (kept_are params ranges_query (old.now.trees 3) range_columns first_key always (λ r. refl) (λ r. refl) a.staged a.kept a.grouped a.distinct) a.same a.sorted a.shown
 
 module _ (params : Row) (old new : State) (rows : List Row) (has : IsClosedSchema old.now.schema) where
-  closed_answers : Shown closed_text params old new rows → IsAnswer closed_query (overlay old.now.trees []) params rows
+  closed_answers : Shown select_closed_sql params old new rows → IsAnswer closed_query (overlay old.now.trees []) params rows
   closed_answers h =
-      let o : Schema = others_behind_closed old.now.schema in
-      (reads_as closed_text params old new (with_closed o) has.is _ (closed_is o) (closed_plain o) (closed_unlisted o) rows h).answer Null
+      let o : Schema = others_after_closed old.now.schema in
+      (reads_as select_closed_sql params old new (with_closed o) has.is _ (closed_is o) (closed_plain o) (closed_unlisted o) rows h).answer Null
 
-  pub closed_shows : Shown closed_text params old new rows → IsPermutation (map closed_columns (old.now.trees 6)) rows
+  pub closed_shows : Shown select_closed_sql params old new rows → IsPermutation (map closed_columns (old.now.trees 6)) rows
   closed_shows h =
       let a = closed_answers h in
       subst (λ vs. IsPermutation vs rows) (all_pass (map closed_columns (old.now.trees 6))) (rows_are params closed_query (old.now.trees 6) closed_columns first_key always (λ r. refl) (λ r. refl) a.kept a.ordered rows
       (kept_are params closed_query (old.now.trees 6) closed_columns first_key always (λ r. refl) (λ r. refl) a.staged a.kept a.grouped a.distinct) a.same a.shown)
 
   -- in order of their key
-  pub closed_rise : (xs : List ClosedRow) → IsAscending (λ a b. int_cmp a.num b.num ≡ Less) xs → IsPermutation (map shown_closed xs) (map closed_columns (old.now.trees 6)) → Shown closed_text params old new rows → rows ≡ map shown_closed xs
+  pub closed_rise : (xs : List ClosedRow) → IsAscending (λ a b. int_cmp a.num b.num ≡ Less) xs → IsPermutation (map shown_closed xs) (map closed_columns (old.now.trees 6)) → Shown select_closed_sql params old new rows → rows ≡ map shown_closed xs
   closed_rise xs up same h =
       let a = closed_answers h in
       rows_rise params closed_query (old.now.trees 6) closed_columns first_key always (λ r. refl) (λ r. refl) shown_closed xs

@@ -17,7 +17,7 @@ use Rattle.sqlite_schema.specs.Rules.{ParentKey, parent_key, key_in, key_places,
 use Rattle.sqlite_rules.specs.declared.action.Deed.{Deed}
 use Rattle.sqlite_rules.specs.Action.{work_by, work_for, works, pairs, deed_for}
 use Rattle.sqlite_rules.specs.Keys.{shares}
-use Rattle.s10_schema.specs.Schema.{IsLedgerSchema, IsClosedSchema, with_others, with_closed, closed_first, others_behind_closed, is_own_tree, is_own_name, refer_apart, refer_apart_from_closed, are_apart, are_apart_from_closed, index_apart}
+use Rattle.s10_schema.specs.Schema.{IsLedgerSchema, IsClosedSchema, with_others, with_closed, closed_first, others_after_closed, is_own_tree, is_own_name, refer_apart, refer_apart_from_closed, are_apart, are_apart_from_closed, index_apart}
 
 pub is_ledger-prop : (s : Schema) (a b : IsLedgerSchema s) → a ≡ b
 is_ledger-prop s a b =
@@ -35,11 +35,11 @@ is_closed-prop s a b =
     λ i. record { ledger = o i; is = p i; tables = q i; indexes = r i }
 
 -- a schema that is as one of a ledger was
-pub is_as_it_was : (s t : Schema) → IsClosedSchema s → t ≡ with_closed (others_behind_closed s) → IsClosedSchema t
+pub is_as_it_was : (s t : Schema) → IsClosedSchema s → t ≡ with_closed (others_after_closed s) → IsClosedSchema t
 is_as_it_was s t has e = subst IsClosedSchema (has.is ∙ sym e) has
 
 -- what stands behind closed is apart from the four too
-pub behind_apart : (s : Schema) → IsClosedSchema s → are_apart (others_behind_closed s).tables ≡ true
+pub behind_apart : (s : Schema) → IsClosedSchema s → are_apart (others_after_closed s).tables ≡ true
 behind_apart s has = subst (λ (x : Schema). are_apart (drop 4 x.tables) ≡ true) has.is has.ledger.tables
 
 not_true : (b : Bool) → not b ≡ true → b ≡ false

@@ -15,7 +15,7 @@ use Rattle.sqlite.specs.State.{State, Shown}
 use Rattle.s10_rows.specs.CallRow.{StoredCall}
 use Rattle.s10_schema.specs.Schema.{IsLedgerSchema}
 use Rattle.s10_statements.specs.Shown.{shown_call, call_columns}
-use Rattle.s10_statements.specs.Statements.{calls_text}
+use Rattle.s10_statements.specs.Statements.{select_calls_sql}
 use Rattle.s10_statements.proofs.Texts.{calls_query}
 use Rattle.s10_statements.proofs.ReadLemmas.{kept_are}
 use Rattle.s10_statements.proofs.GoneLemmas.{all_moved, all_shown}
@@ -61,7 +61,7 @@ not_above a b h above =
     true≢false (rw e at h)
 
 module _ (params : Row) (old new : State) (rows : List Row) (has : IsLedgerSchema old.now.schema) where
-  pub calls_sorted : (found : List StoredCall) → Shown calls_text params old new rows → map shown_call found ≡ rows → IsAscending NotAbove found
+  pub calls_sorted : (found : List StoredCall) → Shown select_calls_sql params old new rows → map shown_call found ≡ rows → IsAscending NotAbove found
   calls_sorted found h typed =
       let a = calls_answers params old new rows has h in
       let columns : List Row = filter always (map call_columns (old.now.trees 1)) in

@@ -11,7 +11,7 @@ use Rattle.s10_rows.specs.declared.call_write.CallWrite.{CallWrite}
 use Rattle.s10_rows.specs.CallWrite.{AreWritten, Writes, with_call}
 use Rattle.sqlite.proofs.InsideLemmas.{keeps_then}
 use Rattle.sqlite.proofs.StateLemmas.{survives_then}
-use Rattle.s10_rows.specs.Kept.{FindAtMostOne}
+use Rattle.s10_rows.specs.RowWrites.{FindAtMostOne}
 
 shown_same : {X Y : Type 0} (shown : X → Y) (xs ys : List X) (vs : List Y) → HaveSameRows (map shown xs) vs → HaveSameRows xs ys → HaveSameRows (map shown ys) vs
 shown_same shown xs ys vs p q = ∥∥₁_elim p ∥∥₁_prop (λ a. ∥∥₁_map q (λ b. IsPermutation-trans _ _ _ (IsPermutation-sym _ _ (IsPermutation-map shown xs ys b)) a))

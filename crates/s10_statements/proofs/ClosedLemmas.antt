@@ -16,10 +16,10 @@ use Rattle.sqlite.specs.Listing.{understood}
 use Rattle.sqlite.specs.State.{State, mode_of, Executes}
 use Rattle.sqlite.proofs.Callers.{statement_of, runs_as, one_step}
 use Rattle.s10_rows.specs.declared.closed_row.ClosedRow.{ClosedRow}
-use Rattle.s10_schema.specs.Schema.{with_closed, others_behind_closed, closed_table}
+use Rattle.s10_schema.specs.Schema.{with_closed, others_after_closed, closed_table}
 use Rattle.s10_rows.specs.Tables.{Tables}
 use Rattle.s10_statements.specs.Shown.{HasTables, shown_closed, closed_columns}
-use Rattle.s10_statements.specs.Statements.{close_text}
+use Rattle.s10_statements.specs.Statements.{insert_closed_sql}
 use Rattle.s10_statements.proofs.WriteTexts.{close_terms, close_is, close_plain}
 use Rattle.s10_statements.proofs.Apart.{no_works_closed, behind_apart, is_as_it_was}
 use Rattle.s10_statements.proofs.PutLemmas.{cast_int, cast_null, went, same_value, put_fresh, one_fresh}
@@ -41,16 +41,16 @@ three_six e = omega arith
 four_six : ◌≢◌ {A = ℕ} 4 6
 four_six e = omega arith
 
-pub closes : (old new : State) (r : ClosedRow) (count : ℕ) (tables : Tables) → HasTables old.now tables → Executes close_text (shown_closed r) old new (Ok count)
+pub closes : (old new : State) (r : ClosedRow) (count : ℕ) (tables : Tables) → HasTables old.now tables → Executes insert_closed_sql (shown_closed r) old new (Ok count)
     → HasTables new.now (record tables { closed = tables.closed ++ r ∷ [] })
 closes old new r count tables held h =
     let params = shown_closed r in
     let db = old.now.trees in
     let has = held.schema.is in
-    let o = others_behind_closed old.now.schema in
+    let o = others_after_closed old.now.schema in
     let command = Insert 4 (Values close_terms 3) in
-    let w = runs_as close_text params old new (with_closed o) has command (close_is o) (close_plain o) count h in
-    let text = statement_of close_text (understood (with_closed o) close_text) in
+    let w = runs_as insert_closed_sql params old new (with_closed o) has command (close_is o) (close_plain o) count h in
+    let text = statement_of insert_closed_sql (understood (with_closed o) insert_closed_sql) in
     let done = went (subst (λ s. Does old.step_limit (mode_of old) params (record old.now { schema = s }) text None command (Ok (w.tally, new.now))) has w.changed) in
     let now = ap (λ (p : Tally × Database). p.1) (same_value (went (went done.2).2).2) in
     let given = went done.1 in

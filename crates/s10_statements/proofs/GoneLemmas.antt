@@ -11,7 +11,7 @@ use Rattle.sqlite_trees.specs.Tree.{rowid, has_rowid}
 use Rattle.sqlite_rules.specs.Lists.{Has}
 use Rattle.sqlite_keyed.proofs.ListLemmas.{along_permutation}
 use Rattle.sqlite_trees.specs.View.{is_int}
-use Rattle.s10_statements.specs.Shown.{IsNumbered}
+use Rattle.s10_statements.specs.Shown.{HasIntegerRowid}
 
 pub all_moved : {X : Type 0} (P : X → Type 0) (xs ys : List X) → IsPermutation xs ys → AllByRecursion P xs → AllByRecursion P ys
 all_moved P = along_permutation (λ us vs. AllByRecursion P us → AllByRecursion P vs) (λ us h. h) (λ x us vs f h. (h.0, f h.1)) (λ x y us h. (h.1.0, (h.0, h.1.1)))
@@ -41,7 +41,7 @@ int_of (Real x) h = absurd (let e = h in cc)
 int_of (Text t) h = absurd (let e = h in cc)
 int_of (Blob b) h = absurd (let e = h in cc)
 
-pub all_ids : (rows : List Row) → AllByRecursion IsNumbered rows → AllByRecursion HasId rows
+pub all_ids : (rows : List Row) → AllByRecursion HasIntegerRowid rows → AllByRecursion HasId rows
 all_ids [] all = tt
 all_ids (r ∷ rs) all = (int_of (rowid r) all.0, all_ids rs all.1)
 

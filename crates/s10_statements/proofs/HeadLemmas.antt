@@ -20,10 +20,10 @@ use Rattle.sqlite.specs.Listing.{understood}
 use Rattle.sqlite.specs.State.{State, mode_of, Executes}
 use Rattle.sqlite.proofs.Callers.{command_of, statement_of, runs_as, one_step}
 use Rattle.s10_history.specs.Settings.{Terms}
-use Rattle.s10_schema.specs.Schema.{with_others, with_closed, closed_first, others_behind_closed, head_table}
+use Rattle.s10_schema.specs.Schema.{with_others, with_closed, closed_first, others_after_closed, head_table}
 use Rattle.s10_rows.specs.Tables.{Tables, head_row}
 use Rattle.s10_statements.specs.Shown.{HasTables, shown_head, head_columns}
-use Rattle.s10_statements.specs.Statements.{settings_text}
+use Rattle.s10_statements.specs.Statements.{insert_head_sql}
 use Rattle.s10_statements.proofs.KeepLemmas.{one_more}
 use Rattle.s10_statements.proofs.Apart.{no_works, not_head, is_as_it_was, behind_apart}
 use Rattle.s10_statements.proofs.PutLemmas.{cast_int, cast_null, went, same_value, put_fresh, one_fresh}
@@ -31,11 +31,11 @@ use Rattle.s10_statements.proofs.PutLemmas.{cast_int, cast_null, went, same_valu
 abbrev settings_terms : List Term
 settings_terms = lit (Int (pos 1)) ∷ lit Null ∷ lit (Int (pos 1)) ∷ col 0 0 ∷ col 0 1 ∷ []
 
-settings_is : (o : Schema) → command_of (understood (with_others o) settings_text) ≡ Insert 0 (Values settings_terms 5)
+settings_is : (o : Schema) → command_of (understood (with_others o) insert_head_sql) ≡ Insert 0 (Values settings_terms 5)
 unfolding understood everything
 settings_is o = refl
 
-settings_plain : (o : Schema) → IsPlain (understood (with_others o) settings_text)
+settings_plain : (o : Schema) → IsPlain (understood (with_others o) insert_head_sql)
 unfolding understood everything
 settings_plain o = (refl, refl)
 
@@ -58,16 +58,16 @@ four_zero e = omega arith
 six_zero : ◌≢◌ {A = ℕ} 6 0
 six_zero e = omega arith
 
-pub begins : (old new : State) (t : Terms) (count : ℕ) (tables : Tables) → HasTables old.now tables → Executes settings_text (given_settings t) old new (Ok count)
+pub begins : (old new : State) (t : Terms) (count : ℕ) (tables : Tables) → HasTables old.now tables → Executes insert_head_sql (given_settings t) old new (Ok count)
     → HasTables new.now (record tables { heads = tables.heads ++ head_row t ∷ [] })
 begins old new t count tables held h =
     let params = given_settings t in
     let db = old.now.trees in
     let has = held.schema.is in
-    let o = others_behind_closed old.now.schema in
+    let o = others_after_closed old.now.schema in
     let command = Insert 0 (Values settings_terms 5) in
-    let w = runs_as settings_text params old new (with_closed o) has command (settings_is (closed_first o)) (settings_plain (closed_first o)) count h in
-    let text = statement_of settings_text (understood (with_closed o) settings_text) in
+    let w = runs_as insert_head_sql params old new (with_closed o) has command (settings_is (closed_first o)) (settings_plain (closed_first o)) count h in
+    let text = statement_of insert_head_sql (understood (with_closed o) insert_head_sql) in
     let done = went (subst (λ s. Does old.step_limit (mode_of old) params (record old.now { schema = s }) text None command (Ok (w.tally, new.now))) has w.changed) in
     let now = ap (λ (p : Tally × Database). p.1) (same_value (went (went done.2).2).2) in
     let given = went done.1 in
@@ -91,15 +91,15 @@ begins old new t count tables held h =
     }
 
 -- and nothing else is declared than before
-pub as_declared : (old new : State) (t : Terms) (count : ℕ) (tables : Tables) → HasTables old.now tables → Executes settings_text (given_settings t) old new (Ok count)
+pub as_declared : (old new : State) (t : Terms) (count : ℕ) (tables : Tables) → HasTables old.now tables → Executes insert_head_sql (given_settings t) old new (Ok count)
     → new.now.schema ≡ old.now.schema
 as_declared old new t count tables held h =
     let params = given_settings t in
     let has = held.schema.is in
-    let o = others_behind_closed old.now.schema in
+    let o = others_after_closed old.now.schema in
     let command = Insert 0 (Values settings_terms 5) in
-    let w = runs_as settings_text params old new (with_closed o) has command (settings_is (closed_first o)) (settings_plain (closed_first o)) count h in
-    let text = statement_of settings_text (understood (with_closed o) settings_text) in
+    let w = runs_as insert_head_sql params old new (with_closed o) has command (settings_is (closed_first o)) (settings_plain (closed_first o)) count h in
+    let text = statement_of insert_head_sql (understood (with_closed o) insert_head_sql) in
     let done = went (subst (λ s. Does old.step_limit (mode_of old) params (record old.now { schema = s }) text None command (Ok (w.tally, new.now))) has w.changed) in
     let now = ap (λ (p : Tally × Database). p.1) (same_value (went (went done.2).2).2) in
     ap (λ (d : Database). d.schema) now ∙ sym has

@@ -44,11 +44,11 @@ use Rattle.sqlite.specs.State.{State, mode_of, Executes}
 use Rattle.sqlite.proofs.Callers.{statement_of, runs_as, one_step, one_permutation}
 use Rattle.s10_rows.specs.declared.serial_row.SerialRow.{SerialRow}
 use Rattle.s10_rows.specs.declared.serial_write.SerialWrite.TheVariants.{Again}
-use Rattle.s10_schema.specs.Schema.{with_closed, closed_first, others_behind_closed, are_apart, index_apart, serials_table}
+use Rattle.s10_schema.specs.Schema.{with_closed, closed_first, others_after_closed, are_apart, index_apart, serials_table}
 use Rattle.s10_rows.specs.Tables.{Tables}
-use Rattle.s10_rows.specs.Kept.{is_at, with_serial}
-use Rattle.s10_statements.specs.Shown.{HasTables, shown_serial, serial_columns, IsNumbered}
-use Rattle.s10_statements.specs.Statements.{again_text}
+use Rattle.s10_rows.specs.RowWrites.{is_at, with_serial}
+use Rattle.s10_statements.specs.Shown.{HasTables, shown_serial, serial_columns, HasIntegerRowid}
+use Rattle.s10_statements.specs.Statements.{upsert_serial_sql}
 use Rattle.s10_statements.proofs.WriteTexts.{issue_terms, again_is, again_plain, issue_upsert, update_query}
 use Rattle.s10_statements.proofs.Apart.{no_works, none_shares, not_serials, is_as_it_was, behind_apart}
 use Rattle.s10_statements.proofs.ReadLemmas.{filter_each, kept_are, rows_are}
@@ -78,7 +78,7 @@ others r = filter (λ x. not (at_key r (serial_columns x)))
 -- a row that shows as this one is put in place of those of its identifier, and the other tables are as they were
 pub record Upserted (old new : Trees) (r : SerialRow) : Type 0 where
   pub row : Row
-  pub is_numbered : IsNumbered row
+  pub is_numbered : HasIntegerRowid row
   pub shows : serial_columns row ≡ shown_serial r
   pub put : IsPermutation (row ∷ others r (old 4)) (new 4)
   pub head : new 0 ≡ old 0
@@ -296,7 +296,7 @@ module _ (o : Schema) (apart : are_apart o.tables ≡ true) (behind : index_apar
       let e2 : column s.0 2 ≡ Int r.serial = ap (λ v. column v 1) t.1 ∙ ap Int (same_int t.0.serial r.serial same.1) in
       updated o apart limit (shown_serial r) id n.0 r there s.0 (ap rowid s.3 ∙ n.1) n.1 e1 e2 db one numbers s.1 key len h count
 
-  judged : (verdict : Option Refusal) → Judged task Abort (issue_upsert ∷ []) (new_row id r) db verdict (Ok one) → Upserted db one.trees r
+  judged : (check_tables : Option Refusal) → Judged task Abort (issue_upsert ∷ []) (new_row id r) db check_tables (Ok one) → Upserted db one.trees r
   judged None h = met h.0 h.1 h.2
   judged (Some why) h = absurd (let e = h in cc)
 
@@ -368,18 +368,18 @@ pub all_kept : {X : Type 0} (P : X → Type 0) (p : X → Bool) (xs : List X) �
 all_kept P p [] all = tt
 all_kept P p (x ∷ xs) all = elim (p x) as (λ b. AllByRecursion P (cond b (x ∷ filter p xs) (filter p xs))) [ true ↦ (all.0, all_kept P p xs all.1) | false ↦ all_kept P p xs all.1 ]
 
-numbered_after : (r : SerialRow) (old new : Trees) → Upserted old new r → AllByRecursion IsNumbered (old 4) → AllByRecursion IsNumbered (new 4)
-numbered_after r old new it all = all_moved IsNumbered (it.row ∷ others r (old 4)) (new 4) it.put (it.is_numbered, all_kept IsNumbered (λ x. not (at_key r (serial_columns x))) (old 4) all)
+numbered_after : (r : SerialRow) (old new : Trees) → Upserted old new r → AllByRecursion HasIntegerRowid (old 4) → AllByRecursion HasIntegerRowid (new 4)
+numbered_after r old new it all = all_moved HasIntegerRowid (it.row ∷ others r (old 4)) (new 4) it.put (it.is_numbered, all_kept HasIntegerRowid (λ x. not (at_key r (serial_columns x))) (old 4) all)
 
 pub issues : (old new : State) (r : SerialRow) (tables : Tables) → HasTables old.now tables → length (filter (is_at r.pair r.serial) tables.serials) ≤ 1
-    → Executes again_text (shown_serial r) old new (Ok 1) → HasTables new.now (record tables { serials = with_serial (Again r) tables.serials })
+    → Executes upsert_serial_sql (shown_serial r) old new (Ok 1) → HasTables new.now (record tables { serials = with_serial (Again r) tables.serials })
 issues old new r tables held few h =
     let params = shown_serial r in
     let has = held.schema.is in
-    let o = others_behind_closed old.now.schema in
+    let o = others_after_closed old.now.schema in
     let command = InsertOr 3 Abort (Values issue_terms 8) (issue_upsert ∷ []) in
-    let w = runs_as again_text params old new (with_closed o) has command (again_is (closed_first o)) (again_plain (closed_first o)) 1 h in
-    let text = statement_of again_text (understood (with_closed o) again_text) in
+    let w = runs_as upsert_serial_sql params old new (with_closed o) has command (again_is (closed_first o)) (again_plain (closed_first o)) 1 h in
+    let text = statement_of upsert_serial_sql (understood (with_closed o) upsert_serial_sql) in
     let does = subst (λ s. Does old.step_limit (mode_of old) params (record old.now { schema = s }) text None command (Ok (w.tally, new.now))) has w.changed in
     let it : IsPermutation (map shown_serial tables.serials) (map serial_columns (old.now.trees 4)) → Upserted old.now.trees new.now.trees r =
     λ p. (does_issue o (behind_apart old.now.schema held.schema) held.schema.ledger.indexes old.step_limit (mode_of old) old.now.trees r text w.tally new.now refl (one_changed w.tally.rows w.counted) (all_ids (old.now.trees 4) held.numbered)
@@ -390,6 +390,6 @@ issues old new r tables held few h =
       calls = ∥∥₁_elim held.serials ∥∥₁_prop (λ p. rw (it p).calls held.calls);
       ranges = ∥∥₁_elim held.serials ∥∥₁_prop (λ p. rw (it p).ranges held.ranges);
       serials = ∥∥₁_map held.serials (λ p. typed_after tables.serials r old.now.trees new.now.trees (it p) p);
-      numbered = ∥∥₁_elim held.serials (AllByRecursion-prop IsNumbered (λ x. Bool-set _ _) (new.now.trees 4)) (λ p. numbered_after r old.now.trees new.now.trees (it p) held.numbered);
+      numbered = ∥∥₁_elim held.serials (AllByRecursion-prop HasIntegerRowid (λ x. Bool-set _ _) (new.now.trees 4)) (λ p. numbered_after r old.now.trees new.now.trees (it p) held.numbered);
       closed = ∥∥₁_elim held.serials ∥∥₁_prop (λ p. rw (it p).closed held.closed);
     }

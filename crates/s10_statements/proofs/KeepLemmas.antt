@@ -17,10 +17,10 @@ use Rattle.sqlite.specs.Listing.{understood}
 use Rattle.sqlite.specs.State.{State, mode_of, Executes}
 use Rattle.sqlite.proofs.Callers.{statement_of, runs_as, one_step}
 use Rattle.s10_rows.specs.CallRow.{StoredCall}
-use Rattle.s10_schema.specs.Schema.{with_closed, closed_first, others_behind_closed, calls_table}
+use Rattle.s10_schema.specs.Schema.{with_closed, closed_first, others_after_closed, calls_table}
 use Rattle.s10_rows.specs.Tables.{Tables}
 use Rattle.s10_statements.specs.Shown.{HasTables, shown_call, call_columns}
-use Rattle.s10_statements.specs.Statements.{keep_text}
+use Rattle.s10_statements.specs.Statements.{insert_call_sql}
 use Rattle.s10_statements.proofs.WriteTexts.{keep_terms, keep_is, keep_plain}
 use Rattle.s10_statements.proofs.Apart.{no_works, not_calls, is_as_it_was, behind_apart}
 use Rattle.s10_statements.proofs.PutLemmas.{cast_int, cast_null, went, same_value, put_fresh, one_fresh}
@@ -49,16 +49,16 @@ one_more {X} shown columns xs x old new row is put has =
     let longer : IsPermutation (map shown (x ∷ xs)) (map columns (row ∷ old)) = rw is (IsPermutation-cons (shown x) (map shown xs) (map columns old) has) in
     IsPermutation-trans _ _ _ turned (IsPermutation-trans _ _ _ longer (IsPermutation-map columns (row ∷ old) new put))
 
-pub keeps : (old new : State) (call : StoredCall) (count : ℕ) (tables : Tables) → HasTables old.now tables → Executes keep_text (shown_call call) old new (Ok count)
+pub keeps : (old new : State) (call : StoredCall) (count : ℕ) (tables : Tables) → HasTables old.now tables → Executes insert_call_sql (shown_call call) old new (Ok count)
     → HasTables new.now (record tables { calls = tables.calls ++ call ∷ [] })
 keeps old new call count tables held h =
     let params = shown_call call in
     let db = old.now.trees in
     let has = held.schema.is in
-    let o = others_behind_closed old.now.schema in
+    let o = others_after_closed old.now.schema in
     let command = Insert 1 (Values keep_terms 6) in
-    let w = runs_as keep_text params old new (with_closed o) has command (keep_is (closed_first o)) (keep_plain (closed_first o)) count h in
-    let text = statement_of keep_text (understood (with_closed o) keep_text) in
+    let w = runs_as insert_call_sql params old new (with_closed o) has command (keep_is (closed_first o)) (keep_plain (closed_first o)) count h in
+    let text = statement_of insert_call_sql (understood (with_closed o) insert_call_sql) in
     let done = went (subst (λ s. Does old.step_limit (mode_of old) params (record old.now { schema = s }) text None command (Ok (w.tally, new.now))) has w.changed) in
     let now = ap (λ (p : Tally × Database). p.1) (same_value (went (went done.2).2).2) in
     let given = went done.1 in

@@ -14,7 +14,7 @@ use Rattle.sqlite.specs.Listing.{understood}
 use Rattle.sqlite.specs.State.{State, Writes, Executes}
 use Rattle.sqlite.proofs.Callers.{command_of, statement_of, runs_as}
 use Rattle.s10_schema.specs.Schema.{IsClosedSchema, ledger_schema, four_tables, no_schema, head_table, calls_table, ranges_table, serials_table, closed_table, calls_index}
-use Rattle.s10_statements.specs.Statements.{head_made, calls_made, ranges_made, serials_made, closed_made}
+use Rattle.s10_statements.specs.Statements.{create_head_sql, create_calls_sql, create_ranges_sql, create_serials_sql, create_closed_sql}
 use Rattle.s10_rows.specs.Tables.{Tables, no_rows}
 use Rattle.s10_statements.specs.Shown.{HasTables, HasOldTables}
 use Rattle.s10_statements.proofs.PutLemmas.{went, same_value}
@@ -37,23 +37,23 @@ pub record Defines (schema : Schema) (text : List ℕ) (table : Table) (next : S
   pub is : created schema table ≡ next
   pub uncounted : lacks_sequence next ≡ false
 
-head_defined : Defines no_schema head_made (record head_table { tree = 0 }) one_table
+head_defined : Defines no_schema create_head_sql (record head_table { tree = 0 }) one_table
 unfolding understood everything
 head_defined = record { command = refl; plain = (refl, refl); whole = refl; defined = refl; is = refl; uncounted = refl }
 
-calls_defined : Defines one_table calls_made (record calls_table { tree = 0 }) two_tables
+calls_defined : Defines one_table create_calls_sql (record calls_table { tree = 0 }) two_tables
 unfolding understood everything
 calls_defined = record { command = refl; plain = (refl, refl); whole = refl; defined = refl; is = refl; uncounted = refl }
 
-ranges_defined : Defines two_tables ranges_made (record ranges_table { tree = 0 }) three_tables
+ranges_defined : Defines two_tables create_ranges_sql (record ranges_table { tree = 0 }) three_tables
 unfolding understood everything
 ranges_defined = record { command = refl; plain = (refl, refl); whole = refl; defined = refl; is = refl; uncounted = refl }
 
-serials_defined : Defines three_tables serials_made (record serials_table { tree = 0 }) four_tables
+serials_defined : Defines three_tables create_serials_sql (record serials_table { tree = 0 }) four_tables
 unfolding understood everything
 serials_defined = record { command = refl; plain = (refl, refl); whole = refl; defined = refl; is = refl; uncounted = refl }
 
-closed_defined : Defines four_tables closed_made (record closed_table { tree = 0 }) ledger_schema
+closed_defined : Defines four_tables create_closed_sql (record closed_table { tree = 0 }) ledger_schema
 unfolding understood everything
 closed_defined = record { command = refl; plain = (refl, refl); whole = refl; defined = refl; is = refl; uncounted = refl }
 
@@ -85,22 +85,22 @@ pub is_ledger : IsClosedSchema ledger_schema
 is_ledger = record { ledger = record { is = refl; tables = refl; indexes = refl }; is = refl; tables = refl; indexes = refl }
 
 -- the five statements, one after the other
-module _ (s0 s1 s2 s3 s4 s5 : State) (m n p q r : ℕ) (has : s0.now.schema ≡ no_schema) (h1 : Executes head_made [] s0 s1 (Ok m)) (h2 : Executes calls_made [] s1 s2 (Ok n)) (h3 : Executes ranges_made [] s2 s3 (Ok p))
-    (h4 : Executes serials_made [] s3 s4 (Ok q)) (h5 : Executes closed_made [] s4 s5 (Ok r)) where
+module _ (s0 s1 s2 s3 s4 s5 : State) (m n p q r : ℕ) (has : s0.now.schema ≡ no_schema) (h1 : Executes create_head_sql [] s0 s1 (Ok m)) (h2 : Executes create_calls_sql [] s1 s2 (Ok n)) (h3 : Executes create_ranges_sql [] s2 s3 (Ok p))
+    (h4 : Executes create_serials_sql [] s3 s4 (Ok q)) (h5 : Executes create_closed_sql [] s4 s5 (Ok r)) where
   head_next : IsNext no_schema one_table s0.now s1.now
-  head_next = makes no_schema head_made (record head_table { tree = 0 }) one_table head_defined s0 s1 m has h1
+  head_next = makes no_schema create_head_sql (record head_table { tree = 0 }) one_table head_defined s0 s1 m has h1
 
   calls_next : IsNext one_table two_tables s1.now s2.now
-  calls_next = makes one_table calls_made (record calls_table { tree = 0 }) two_tables calls_defined s1 s2 n head_next.schema_is h2
+  calls_next = makes one_table create_calls_sql (record calls_table { tree = 0 }) two_tables calls_defined s1 s2 n head_next.schema_is h2
 
   ranges_next : IsNext two_tables three_tables s2.now s3.now
-  ranges_next = makes two_tables ranges_made (record ranges_table { tree = 0 }) three_tables ranges_defined s2 s3 p calls_next.schema_is h3
+  ranges_next = makes two_tables create_ranges_sql (record ranges_table { tree = 0 }) three_tables ranges_defined s2 s3 p calls_next.schema_is h3
 
   serials_next : IsNext three_tables four_tables s3.now s4.now
-  serials_next = makes three_tables serials_made (record serials_table { tree = 0 }) four_tables serials_defined s3 s4 q ranges_next.schema_is h4
+  serials_next = makes three_tables create_serials_sql (record serials_table { tree = 0 }) four_tables serials_defined s3 s4 q ranges_next.schema_is h4
 
   closed_next : IsNext four_tables ledger_schema s4.now s5.now
-  closed_next = makes four_tables closed_made (record closed_table { tree = 0 }) ledger_schema closed_defined s4 s5 r serials_next.schema_is h5
+  closed_next = makes four_tables create_closed_sql (record closed_table { tree = 0 }) ledger_schema closed_defined s4 s5 r serials_next.schema_is h5
 
   pub all_made : HasTables s5.now no_rows
   all_made =
@@ -129,9 +129,9 @@ module _ (s0 s1 s2 s3 s4 s5 : State) (m n p q r : ℕ) (has : s0.now.schema ≡ 
   all_declared = closed_next.schema_is
 
 -- the fifth statement alone, in a database of an earlier build
-pub gets_closed : (old new : State) (count : ℕ) (tables : Tables) → HasOldTables old.now tables → Executes closed_made [] old new (Ok count) → HasTables new.now tables
+pub gets_closed : (old new : State) (count : ℕ) (tables : Tables) → HasOldTables old.now tables → Executes create_closed_sql [] old new (Ok count) → HasTables new.now tables
 gets_closed old new count tables held h =
-    let e = makes four_tables closed_made (record closed_table { tree = 0 }) ledger_schema closed_defined old new count held.schema h in
+    let e = makes four_tables create_closed_sql (record closed_table { tree = 0 }) ledger_schema closed_defined old new count held.schema h in
     let closed : new.now.trees 6 ≡ [] = e.empty in
     record {
       schema = subst IsClosedSchema (sym e.schema_is) is_ledger;

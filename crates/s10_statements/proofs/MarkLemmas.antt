@@ -33,12 +33,12 @@ use Rattle.sqlite.specs.Listing.{understood}
 use Rattle.sqlite.specs.State.{State, mode_of, Executes}
 use Rattle.sqlite.proofs.Callers.{statement_of, runs_as, one_step, one_permutation}
 use Rattle.s10_rows.specs.declared.range_row.RangeRow.{RangeRow}
-use Rattle.s10_schema.specs.Schema.{with_closed, closed_first, others_behind_closed, are_apart, ranges_table}
+use Rattle.s10_schema.specs.Schema.{with_closed, closed_first, others_after_closed, are_apart, ranges_table}
 use Rattle.s10_rows.specs.Tables.{Tables}
-use Rattle.s10_rows.specs.Kept.{marked}
+use Rattle.s10_rows.specs.RowWrites.{marked}
 use Rattle.s10_rows.proofs.Replaced.{map_twice, same_images, rest_same}
-use Rattle.s10_statements.specs.Shown.{HasTables, shown_range, range_columns, IsNumbered}
-use Rattle.s10_statements.specs.Statements.{mark_text}
+use Rattle.s10_statements.specs.Shown.{HasTables, shown_range, range_columns, HasIntegerRowid}
+use Rattle.s10_statements.specs.Statements.{update_mark_sql}
 use Rattle.s10_statements.proofs.WriteTexts.{mark_query, mark_is, mark_plain}
 use Rattle.s10_statements.proofs.Apart.{no_works, not_ranges, is_as_it_was, behind_apart}
 use Rattle.s10_statements.proofs.ReadLemmas.{kept_are, rows_are}
@@ -202,15 +202,15 @@ typed_after ranges num mark old new it p =
     (IsPermutation-trans _ _ _ (subst (IsPermutation (map (marked_row num mark) (map shown_range ranges))) (map_twice (marked_row num mark) range_columns (old 3)) moved)
     (IsPermutation-trans _ _ _ images (IsPermutation-map range_columns (row ∷ others) (new 3) it.put)))
 
-pub marks : (old new : State) (num mark : ℤ) (tables : Tables) → HasTables old.now tables → Executes mark_text (params_of num mark) old new (Ok 1)
+pub marks : (old new : State) (num mark : ℤ) (tables : Tables) → HasTables old.now tables → Executes update_mark_sql (params_of num mark) old new (Ok 1)
     → HasTables new.now (record tables { ranges = map (marked num mark) tables.ranges })
 marks old new num mark tables held h =
     let params = params_of num mark in
     let has = held.schema.is in
-    let o = others_behind_closed old.now.schema in
+    let o = others_after_closed old.now.schema in
     let command = Update 2 (record { lets = []; body = mark_query }) in
-    let w = runs_as mark_text params old new (with_closed o) has command (mark_is (closed_first o)) (mark_plain (closed_first o)) 1 h in
-    let text = statement_of mark_text (understood (with_closed o) mark_text) in
+    let w = runs_as update_mark_sql params old new (with_closed o) has command (mark_is (closed_first o)) (mark_plain (closed_first o)) 1 h in
+    let text = statement_of update_mark_sql (understood (with_closed o) update_mark_sql) in
     let done = went (subst (λ s. Does old.step_limit (mode_of old) params (record old.now { schema = s }) text None command (Ok (w.tally, new.now))) has w.changed) in
     let out = same_value (went (went done.2).2).2 in
     let now = ap (λ (p : Tally × Database). p.1) out in
@@ -225,6 +225,6 @@ marks old new num mark tables held h =
       calls = ∥∥₁_elim held.ranges ∥∥₁_prop (λ p. rw (it p).calls held.calls);
       ranges = ∥∥₁_map held.ranges (λ p. typed_after tables.ranges num mark old.now.trees new.now.trees (it p) p);
       serials = ∥∥₁_elim held.ranges ∥∥₁_prop (λ p. rw (it p).serials held.serials);
-      numbered = ∥∥₁_elim held.ranges (AllByRecursion-prop IsNumbered (λ x. Bool-set _ _) (new.now.trees 4)) (λ p. rw (it p).serials held.numbered);
+      numbered = ∥∥₁_elim held.ranges (AllByRecursion-prop HasIntegerRowid (λ x. Bool-set _ _) (new.now.trees 4)) (λ p. rw (it p).serials held.numbered);
       closed = ∥∥₁_elim held.ranges ∥∥₁_prop (λ p. rw (it p).closed held.closed);
     }

@@ -13,8 +13,8 @@ use Rattle.sqlite.specs.Listing.{understood, reads_listing, IsSourceOf}
 use Rattle.sqlite.specs.State.{State, HasCleanDisk, Shown, ShowsRows, IsUnchanged, IsRolledBack, Fails, FailsToQuery, Survives, CommitsShowing}
 use Rattle.sqlite.proofs.Callers.{begun_plain, unchanged_then}
 use Rattle.s10_schema.specs.Schema.{IsLedgerSchema, with_others, others_in}
-use Rattle.s10_statements.specs.Settled.{IsSettled, Spares}
-use Rattle.s10_statements.specs.Statements.{Leaves}
+use Rattle.s10_statements.specs.ConnectionState.{IsQuiescent, AddsNoCrashState}
+use Rattle.s10_statements.specs.Statements.{LeavesTables}
 use Rattle.s10_statements.proofs.StateLemmas.{read_open, read_same, read_settled, leaves_then}
 use Rattle.s10_statements.proofs.CrashLemmas.{commits_none, first, spared}
 
@@ -43,7 +43,7 @@ moved_settled old new (inl same) settled opened = same.0.committed_is ∙ settle
 moved_settled old new (inr back) settled opened = (back.undone opened).1 ∙ sym (back.undone opened).0
 
 pub moved_leaves : {S : Type 0} (g : Ghosts S) (old new : Held S) → doubt (state g old).is_clean ≤ doubt (state g new).is_clean → (old.in_transaction ≡ false → new.in_transaction ≡ false)
-    → (HasCleanDisk (state g new) → Moves (state g old) (state g new)) → Leaves g old new
+    → (HasCleanDisk (state g new) → Moves (state g old) (state g new)) → LeavesTables g old new
 moved_leaves g old new clean mode moves =
     let before : HasCleanDisk (state g new) → HasCleanDisk (state g old) = λ c. omega (arith, clean, c) in
     record {
@@ -61,7 +61,7 @@ module _ {S : Type 0} (g : Ghosts S) (sql : List ℕ) (params : Row) (plain : On
   -- what the query answered, all of it or with an error, leaves
   answered_leaves : (r : HasCleanDisk (state g new) → Result (List Row) Error)
       → ((c : HasCleanDisk (state g new)) → IfOk (r c) (Shown sql params (state g old) (state g new)))
-      → ((c : HasCleanDisk (state g new)) → IfErr (r c) (FailsToQuery sql params (state g old) (state g new))) → Leaves g old new
+      → ((c : HasCleanDisk (state g new)) → IfErr (r c) (FailsToQuery sql params (state g old) (state g new))) → LeavesTables g old new
   answered_leaves r ok err =
       let before : HasCleanDisk (state g new) → HasCleanDisk (state g old) = λ c. omega (arith, clean, c) in
       record {
@@ -75,24 +75,24 @@ module _ {S : Type 0} (g : Ghosts S) (sql : List ℕ) (params : Row) (plain : On
         };
       }
 
-  pub failed_leaves : (e : Error) → (HasCleanDisk (state g new) → FailsToQuery sql params (state g old) (state g new) e) → Leaves g old new
+  pub failed_leaves : (e : Error) → (HasCleanDisk (state g new) → FailsToQuery sql params (state g old) (state g new) e) → LeavesTables g old new
   failed_leaves e fails = answered_leaves (λ c. Err e) (λ c. tt) fails
 
   begun_was : HasBegun g sql params old new → IsTrue (state g new).is_open → IsTrue (state g old).is_open
   begun_was (inl it) opened = it.1.0.was_open
   begun_was (inr it) opened = read_open (λ (rows : List Row). rows) sql params (state g old) (state g new) (Ok _) it.1 tt opened
 
-  begun_now : HasBegun g sql params old new → IsSettled g old → HasCleanDisk (state g old) → IsLedgerSchema (state g old).now.schema → IsTrue (state g new).is_open → (state g new).now ≡ (state g old).now
+  begun_now : HasBegun g sql params old new → IsQuiescent g old → HasCleanDisk (state g old) → IsLedgerSchema (state g old).now.schema → IsTrue (state g new).is_open → (state g new).now ≡ (state g old).now
   begun_now (inl it) settled c has opened = it.1.0.now_is
   begun_now (inr it) settled c has opened =
       read_same (λ (rows : List Row). rows) sql params (state g old) (state g new) (Ok _) it.1 tt
       (with_others (others_in (state g old).now.schema)) (plain (others_in (state g old).now.schema)) has.is (λ was. sym (settled.committed c was)) opened
 
-  begun_settled : HasBegun g sql params old new → IsSettled g old → HasCleanDisk (state g old) → IsTrue (state g new).is_open → (state g new).committed ≡ (state g new).now
+  begun_settled : HasBegun g sql params old new → IsQuiescent g old → HasCleanDisk (state g old) → IsTrue (state g new).is_open → (state g new).committed ≡ (state g new).now
   begun_settled (inl it) settled c opened = moved_settled (state g old) (state g new) (inl it.1) (settled.committed c) opened
   begun_settled (inr it) settled c opened = read_settled (λ (rows : List Row). rows) sql params (state g old) (state g new) (Ok _) it.1 tt settled.idle (settled.committed c) opened
 
-  pub begun_leaves : (HasCleanDisk (state g new) → HasBegun g sql params old new) → Leaves g old new
+  pub begun_leaves : (HasCleanDisk (state g new) → HasBegun g sql params old new) → LeavesTables g old new
   begun_leaves begun =
       let before : HasCleanDisk (state g new) → HasCleanDisk (state g old) = λ c. omega (arith, clean, c) in
       record {
@@ -102,7 +102,7 @@ module _ {S : Type 0} (g : Ghosts S) (sql : List ℕ) (params : Row) (plain : On
         settled = λ settled. record { idle = mode settled.idle; committed = λ c opened. begun_settled (begun c) settled (before c) opened };
       }
 
-  pub begun_spares : Survives (state g old) (state g new) (CommitsShowing sql params (state g old)) → Spares g old new
+  pub begun_spares : Survives (state g old) (state g new) (CommitsShowing sql params (state g old)) → AddsNoCrashState g old new
   begun_spares survives c has db left =
       first (commits_none sql params (state g old) (with_others (others_in (state g old).now.schema)) has.is (plain (others_in (state g old).now.schema)) db) (survives.crash c db left)
 
@@ -122,8 +122,8 @@ shown_before sql params a b c rows plain same h =
 
 -- so far rows were given of which P holds
 pub record IsUnderWay {S : Type 0} (g : Ghosts S) (sql : List ℕ) (params : Row) (P : List Row → Type 0) (old now : Held S) : Type 0 where
-  pub leaves : Leaves g old now
-  pub spares : Spares g old now
+  pub leaves : LeavesTables g old now
+  pub spares : AddsNoCrashState g old now
   pub given : HasCleanDisk (state g now) → IsLedgerSchema (state g old).now.schema → (rows : List Row) × HasGiven g sql params now rows × IsUnchanged (state g old) (state g now) × P rows
 
 -- and so in that of one
@@ -141,13 +141,13 @@ module _ {S : Type 0} (g : Ghosts S) (sql : List ℕ) (params : Row) (plain : On
 
   module _ (P : List Row → Type 0) (old a b : Held S) (it : IsUnderWay g sql params P old a) (mode : a.in_transaction ≡ false → b.in_transaction ≡ false)
       (survives : Survives (state g a) (state g b) (λ _. ⊥)) where
-    pub stepped_leaves : (HasCleanDisk (state g b) → Moves (state g a) (state g b)) → Leaves g old b
+    pub stepped_leaves : (HasCleanDisk (state g b) → Moves (state g a) (state g b)) → LeavesTables g old b
     stepped_leaves moves = leaves_then g old a b it.leaves (moved_leaves g a b survives.clean mode moves)
 
     before : HasCleanDisk (state g b) → HasCleanDisk (state g a)
     before c = omega (arith, survives.clean, c)
 
-    pub stepped_spares : Spares g old b
+    pub stepped_spares : AddsNoCrashState g old b
     stepped_spares c has db left = it.spares (before c) has db (spared (state g a) (state g b) survives c db left)
 
     pub stepped : (row : Row) (Q : List Row → Type 0) → (HasCleanDisk (state g b) → IsUnchanged (state g a) (state g b)) → (HasCleanDisk (state g b) → Advances g a b (Some row))

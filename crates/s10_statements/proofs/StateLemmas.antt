@@ -11,8 +11,8 @@ use Rattle.sqlite.specs.Listing.{understood}
 use Rattle.sqlite_trees.specs.declared.store.Store.{Ghosts}
 use Rattle.sqlite.specs.Effect.{Database}
 use Rattle.sqlite.specs.Held.{Held, state}
-use Rattle.s10_statements.specs.Settled.{IsSettled, WasSound}
-use Rattle.s10_statements.specs.Statements.{Leaves, LeavesWhere}
+use Rattle.s10_statements.specs.ConnectionState.{IsQuiescent, WasSound}
+use Rattle.s10_statements.specs.Statements.{LeavesTables, LeavesTablesWhere}
 use Rattle.sqlite.specs.State.{State, HasCleanDisk, Shown, ShowsRows, IsUnchanged, IsRolledBack, FailsToQuery, FailsToShow, IsNotRun}
 
 shown_same : (sql : List ℕ) (params : Row) (old new : State) (rows : List Row) (schema : Schema) → old.now.schema ≡ schema → IsPlain (understood schema sql) → Shown sql params old new rows → IsUnchanged old new
@@ -113,10 +113,10 @@ module _ {V : Type 0} (items : V → List Row) (sql : List ℕ) (params : Row) (
       by_result r _ _ ok err (λ v h. shown_settled sql params old new (items v) idle before h) (λ e h. failed_settled sql params old new e before h opened)
 
 -- two reads, one after the other
-pub leaves_then : {S : Type 0} {Fits : Schema → Type 0} (g : Ghosts S) (a b c : Held S) → LeavesWhere Fits g a b → LeavesWhere Fits g b c → LeavesWhere Fits g a c
+pub leaves_then : {S : Type 0} {Fits : Schema → Type 0} (g : Ghosts S) (a b c : Held S) → LeavesTablesWhere Fits g a b → LeavesTablesWhere Fits g b c → LeavesTablesWhere Fits g a c
 leaves_then {S} {Fits} g a b c p q =
     let mid : HasCleanDisk (state g c) → HasCleanDisk (state g b) = λ clean. omega (arith, q.clean) in
-    let schema : HasCleanDisk (state g c) → IsTrue (state g c).is_open → IsSettled g a → Fits (state g a).now.schema → Fits (state g b).now.schema =
+    let schema : HasCleanDisk (state g c) → IsTrue (state g c).is_open → IsQuiescent g a → Fits (state g a).now.schema → Fits (state g b).now.schema =
     λ clean opened settled has. subst (λ (d : Database). Fits d.schema) (sym (p.now (mid clean) (q.was_open clean opened) settled has)) has in
     record {
       clean = omega (arith, p.clean, q.clean);
@@ -126,7 +126,7 @@ leaves_then {S} {Fits} g a b c p q =
     }
 
 -- what leaves the tables under a schema leaves them under one of which more is known
-pub leaves_weaker : {S : Type 0} {Fits More : Schema → Type 0} (g : Ghosts S) (old new : Held S) → ((s : Schema) → More s → Fits s) → LeavesWhere Fits g old new → LeavesWhere More g old new
+pub leaves_weaker : {S : Type 0} {Fits More : Schema → Type 0} (g : Ghosts S) (old new : Held S) → ((s : Schema) → More s → Fits s) → LeavesTablesWhere Fits g old new → LeavesTablesWhere More g old new
 leaves_weaker g old new fits it = record {
   clean = it.clean;
   was_open = it.was_open;
@@ -134,7 +134,7 @@ leaves_weaker g old new fits it = record {
   settled = it.settled;
 }
 
-pub leaves_same : {S : Type 0} (g : Ghosts S) (a : Held S) → Leaves g a a
+pub leaves_same : {S : Type 0} (g : Ghosts S) (a : Held S) → LeavesTables g a a
 leaves_same g a = record {
   clean = omega arith;
   was_open = λ clean opened. opened;
@@ -142,5 +142,5 @@ leaves_same g a = record {
   settled = λ settled. settled;
 }
 
-pub left_sound : {S : Type 0} (g : Ghosts S) (old new : Held S) → Leaves g old new → WasSound g old new
+pub left_sound : {S : Type 0} (g : Ghosts S) (old new : Held S) → LeavesTables g old new → WasSound g old new
 left_sound g old new left clean = (omega (arith, left.clean, clean), left.was_open clean)

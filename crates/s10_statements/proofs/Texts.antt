@@ -13,8 +13,8 @@ use Rattle.sqlite_schema.specs.declared.schema.Schema.{Schema}
 use Rattle.sqlite.specs.Listing.{understood, reads_listing}
 use Rattle.sqlite.specs.Given.{IsPlain}
 use Rattle.sqlite.proofs.Callers.{command_of}
-use Rattle.s10_schema.specs.Schema.{IsClosedSchema, with_others, with_closed, others_behind_closed}
-use Rattle.s10_statements.specs.Statements.{head_text, calls_text, ranges_text, within_text, serials_text, closed_text}
+use Rattle.s10_schema.specs.Schema.{IsClosedSchema, with_others, with_closed, others_after_closed}
+use Rattle.s10_statements.specs.Statements.{select_head_sql, select_calls_sql, select_ranges_sql, select_serials_within_sql, select_serials_sql, select_closed_sql}
 
 -- a read of one table
 abbrev pub read_of : ℕ → List Term → List Term → List Term → Query
@@ -54,92 +54,92 @@ serial_names = codes "pair" ∷ codes "serial" ∷ codes "arrival" ∷ codes "da
 abbrev pub head_query : Query
 head_query = read_of 0 [] (col 1 0 ∷ col 1 2 ∷ col 1 3 ∷ col 1 4 ∷ []) by_one
 
-pub head_is : (o : Schema) → command_of (understood (with_others o) head_text) ≡ Select (record { lets = []; body = head_query }) (codes "one" ∷ codes "schema" ∷ codes "interval" ∷ codes "cap" ∷ [])
+pub head_is : (o : Schema) → command_of (understood (with_others o) select_head_sql) ≡ Select (record { lets = []; body = head_query }) (codes "one" ∷ codes "schema" ∷ codes "interval" ∷ codes "cap" ∷ [])
 unfolding understood everything
 head_is o = refl
 
-pub head_plain : (o : Schema) → IsPlain (understood (with_others o) head_text)
+pub head_plain : (o : Schema) → IsPlain (understood (with_others o) select_head_sql)
 unfolding understood everything
 head_plain o = (refl, refl)
 
-pub head_unlisted : (o : Schema) → reads_listing (with_others o) head_text ≡ false
+pub head_unlisted : (o : Schema) → reads_listing (with_others o) select_head_sql ≡ false
 unfolding understood everything
 head_unlisted o = refl
 
 abbrev pub calls_query : Query
 calls_query = read_of 1 [] call_terms by_one
 
-pub calls_is : (o : Schema) → command_of (understood (with_others o) calls_text) ≡ Select (record { lets = []; body = calls_query }) (call_names)
+pub calls_is : (o : Schema) → command_of (understood (with_others o) select_calls_sql) ≡ Select (record { lets = []; body = calls_query }) (call_names)
 unfolding understood everything
 calls_is o = refl
 
-pub calls_plain : (o : Schema) → IsPlain (understood (with_others o) calls_text)
+pub calls_plain : (o : Schema) → IsPlain (understood (with_others o) select_calls_sql)
 unfolding understood everything
 calls_plain o = (refl, refl)
 
-pub calls_unlisted : (o : Schema) → reads_listing (with_others o) calls_text ≡ false
+pub calls_unlisted : (o : Schema) → reads_listing (with_others o) select_calls_sql ≡ false
 unfolding understood everything
 calls_unlisted o = refl
 
 abbrev pub ranges_query : Query
 ranges_query = read_of 3 [] (col 1 0 ∷ col 1 2 ∷ col 1 3 ∷ col 1 4 ∷ col 1 5 ∷ col 1 6 ∷ []) by_one
 
-pub ranges_is : (o : Schema) → command_of (understood (with_others o) ranges_text) ≡ Select (record { lets = []; body = ranges_query }) (codes "num" ∷ codes "holder" ∷ codes "pair" ∷ codes "low" ∷ codes "high" ∷ codes "mark" ∷ [])
+pub ranges_is : (o : Schema) → command_of (understood (with_others o) select_ranges_sql) ≡ Select (record { lets = []; body = ranges_query }) (codes "num" ∷ codes "holder" ∷ codes "pair" ∷ codes "low" ∷ codes "high" ∷ codes "mark" ∷ [])
 unfolding understood everything
 ranges_is o = refl
 
-pub ranges_plain : (o : Schema) → IsPlain (understood (with_others o) ranges_text)
+pub ranges_plain : (o : Schema) → IsPlain (understood (with_others o) select_ranges_sql)
 unfolding understood everything
 ranges_plain o = (refl, refl)
 
-pub ranges_unlisted : (o : Schema) → reads_listing (with_others o) ranges_text ≡ false
+pub ranges_unlisted : (o : Schema) → reads_listing (with_others o) select_ranges_sql ≡ false
 unfolding understood everything
 ranges_unlisted o = refl
 
 abbrev pub within_query : Query
 within_query = read_of 4 (equals 1 0 ∷ from_to 2 1 2) serial_terms (col 1 1 ∷ col 1 2 ∷ [])
 
-pub within_is : (o : Schema) → command_of (understood (with_others o) within_text) ≡ Select (record { lets = []; body = within_query }) (serial_names)
+pub within_is : (o : Schema) → command_of (understood (with_others o) select_serials_within_sql) ≡ Select (record { lets = []; body = within_query }) (serial_names)
 unfolding understood everything
 within_is o = refl
 
-pub within_plain : (o : Schema) → IsPlain (understood (with_others o) within_text)
+pub within_plain : (o : Schema) → IsPlain (understood (with_others o) select_serials_within_sql)
 unfolding understood everything
 within_plain o = (refl, refl)
 
-pub within_unlisted : (o : Schema) → reads_listing (with_others o) within_text ≡ false
+pub within_unlisted : (o : Schema) → reads_listing (with_others o) select_serials_within_sql ≡ false
 unfolding understood everything
 within_unlisted o = refl
 
 abbrev pub serials_query : Query
 serials_query = read_of 4 [] (col 1 1 ∷ col 1 2 ∷ col 1 3 ∷ col 1 4 ∷ col 1 5 ∷ col 1 6 ∷ col 1 7 ∷ col 1 0 ∷ []) (col 1 1 ∷ col 1 2 ∷ [])
 
-pub serials_is : (o : Schema) → command_of (understood (with_others o) serials_text) ≡ Select (record { lets = []; body = serials_query }) (codes "pair" ∷ codes "serial" ∷ codes "arrival" ∷ codes "day" ∷ codes "customer" ∷ codes "number" ∷ codes "voided" ∷ codes "rowid" ∷ [])
+pub serials_is : (o : Schema) → command_of (understood (with_others o) select_serials_sql) ≡ Select (record { lets = []; body = serials_query }) (codes "pair" ∷ codes "serial" ∷ codes "arrival" ∷ codes "day" ∷ codes "customer" ∷ codes "number" ∷ codes "voided" ∷ codes "rowid" ∷ [])
 unfolding understood everything
 serials_is o = refl
 
-pub serials_plain : (o : Schema) → IsPlain (understood (with_others o) serials_text)
+pub serials_plain : (o : Schema) → IsPlain (understood (with_others o) select_serials_sql)
 unfolding understood everything
 serials_plain o = (refl, refl)
 
-pub serials_unlisted : (o : Schema) → reads_listing (with_others o) serials_text ≡ false
+pub serials_unlisted : (o : Schema) → reads_listing (with_others o) select_serials_sql ≡ false
 unfolding understood everything
 serials_unlisted o = refl
 
 abbrev pub closed_query : Query
 closed_query = read_of 6 [] (col 1 0 ∷ col 1 2 ∷ []) by_one
 
-pub closed_is : (o : Schema) → command_of (understood (with_closed o) closed_text) ≡ Select (record { lets = []; body = closed_query }) (codes "num" ∷ codes "arrival" ∷ [])
+pub closed_is : (o : Schema) → command_of (understood (with_closed o) select_closed_sql) ≡ Select (record { lets = []; body = closed_query }) (codes "num" ∷ codes "arrival" ∷ [])
 unfolding understood everything
 closed_is o = refl
 
-pub closed_plain : (o : Schema) → IsPlain (understood (with_closed o) closed_text)
+pub closed_plain : (o : Schema) → IsPlain (understood (with_closed o) select_closed_sql)
 unfolding understood everything
 closed_plain o = (refl, refl)
 
-pub known_closed : (s : Schema) → IsClosedSchema s → IsPlain (understood s closed_text)
-known_closed s has = subst (λ (x : Schema). IsPlain (understood x closed_text)) (sym has.is) (closed_plain (others_behind_closed s))
+pub known_closed : (s : Schema) → IsClosedSchema s → IsPlain (understood s select_closed_sql)
+known_closed s has = subst (λ (x : Schema). IsPlain (understood x select_closed_sql)) (sym has.is) (closed_plain (others_after_closed s))
 
-pub closed_unlisted : (o : Schema) → reads_listing (with_closed o) closed_text ≡ false
+pub closed_unlisted : (o : Schema) → reads_listing (with_closed o) select_closed_sql ≡ false
 unfolding understood everything
 closed_unlisted o = refl

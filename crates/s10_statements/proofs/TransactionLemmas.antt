@@ -6,7 +6,7 @@ use Rattle.sqlite.specs.declared.error.Error.{Error}
 use Rattle.sqlite.specs.Held.{Held, state}
 use Rattle.sqlite.specs.State.{State, Shows, KeepsCounts, IsRolledBack}
 use Rattle.sqlite.specs.Steps.{FailsToCommit}
-use Rattle.s10_statements.specs.Settled.{IsSettled, IsClean, IsOpen, StaysUnclean}
+use Rattle.s10_statements.specs.ConnectionState.{IsQuiescent, IsClean, IsOpen, StaysUnclean}
 use Rattle.s10_statements.proofs.StepLemmas.{Keeps}
 
 -- what a commit that passed tells
@@ -45,7 +45,7 @@ module _ {S : Type 0} (g : Ghosts S) (old begun mid end : Held S) (is : begun �
   was_committed c opened = (kept (before c) begun_inside).committed opened ∙ ap (λ (h : Held S). (state g h).committed) is
 
   module _ (ended : end.in_transaction ≡ false) (undone : IsClean g end → IsRolledBack (state g mid) (state g end)) where
-    pub undone_settled : IsSettled g end
+    pub undone_settled : IsQuiescent g end
     undone_settled = record { idle = ended; committed = λ c opened. let back = (undone c).undone opened in back.1 ∙ sym back.0 }
 
     pub undone_open : IsClean g end → IsOpen g end → IsOpen g old
@@ -64,5 +64,5 @@ module _ {S : Type 0} (g : Ghosts S) (old begun mid end : Held S) (is : begun �
         (λ back. back ∙ was_committed c (end_was_open r (state g mid) (state g end) (ok c) (err c) opened) ∙ settled (omega (arith, all_clean, c)) (ended_open c opened))
         (end_undone r (state g mid) (state g end) (inside (before c) begun_inside) (err c) opened)
 
-    pub ended_settled : end.in_transaction ≡ false → (IsClean g mid → IsTrue (state g begun).in_transaction → IsTrue (state g mid).in_transaction) → IsSettled g end
+    pub ended_settled : end.in_transaction ≡ false → (IsClean g mid → IsTrue (state g begun).in_transaction → IsTrue (state g mid).in_transaction) → IsQuiescent g end
     ended_settled idle inside = record { idle = idle; committed = λ c opened. end_settled r (state g mid) (state g end) (inside (before c) begun_inside) (ok c) (err c) opened }

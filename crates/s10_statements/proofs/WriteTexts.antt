@@ -16,27 +16,27 @@ use Rattle.sqlite.specs.Listing.{understood}
 use Rattle.sqlite.specs.Given.{IsPlain}
 use Rattle.sqlite.proofs.Callers.{command_of}
 use Rattle.s10_schema.specs.Schema.{with_others, with_closed}
-use Rattle.s10_statements.specs.Statements.{keep_text, grant_text, mark_text, issue_text, again_text, close_text}
+use Rattle.s10_statements.specs.Statements.{insert_call_sql, insert_range_sql, update_mark_sql, insert_serial_sql, upsert_serial_sql, insert_closed_sql}
 
 abbrev pub keep_terms : List Term
 keep_terms = col 0 0 ∷ lit Null ∷ col 0 1 ∷ col 0 2 ∷ col 0 3 ∷ col 0 4 ∷ []
 
-pub keep_is : (o : Schema) → command_of (understood (with_others o) keep_text) ≡ Insert 1 (Values keep_terms 6)
+pub keep_is : (o : Schema) → command_of (understood (with_others o) insert_call_sql) ≡ Insert 1 (Values keep_terms 6)
 unfolding understood everything
 keep_is o = refl
 
-pub keep_plain : (o : Schema) → IsPlain (understood (with_others o) keep_text)
+pub keep_plain : (o : Schema) → IsPlain (understood (with_others o) insert_call_sql)
 unfolding understood everything
 keep_plain o = (refl, refl)
 
 abbrev pub grant_terms : List Term
 grant_terms = col 0 0 ∷ lit Null ∷ col 0 1 ∷ col 0 2 ∷ col 0 3 ∷ col 0 4 ∷ col 0 5 ∷ []
 
-pub grant_is : (o : Schema) → command_of (understood (with_others o) grant_text) ≡ Insert 2 (Values grant_terms 7)
+pub grant_is : (o : Schema) → command_of (understood (with_others o) insert_range_sql) ≡ Insert 2 (Values grant_terms 7)
 unfolding understood everything
 grant_is o = refl
 
-pub grant_plain : (o : Schema) → IsPlain (understood (with_others o) grant_text)
+pub grant_plain : (o : Schema) → IsPlain (understood (with_others o) insert_range_sql)
 unfolding understood everything
 grant_plain o = (refl, refl)
 
@@ -53,11 +53,11 @@ mark_query = record {
   offset = lit (Int (pos 0));
 }
 
-pub mark_is : (o : Schema) → command_of (understood (with_others o) mark_text) ≡ Update 2 (record { lets = []; body = mark_query })
+pub mark_is : (o : Schema) → command_of (understood (with_others o) update_mark_sql) ≡ Update 2 (record { lets = []; body = mark_query })
 unfolding understood everything
 mark_is o = refl
 
-pub mark_plain : (o : Schema) → IsPlain (understood (with_others o) mark_text)
+pub mark_plain : (o : Schema) → IsPlain (understood (with_others o) update_mark_sql)
 unfolding understood everything
 mark_plain o = (refl, refl)
 
@@ -80,29 +80,29 @@ update_query = record {
 abbrev pub issue_upsert : Upsert
 issue_upsert = record { target = Some (1 ∷ 2 ∷ []); update = Some (record { lets = []; body = update_query }) }
 
-pub issue_is : (o : Schema) → command_of (understood (with_others o) issue_text) ≡ Insert 3 (Values issue_terms 8)
+pub issue_is : (o : Schema) → command_of (understood (with_others o) insert_serial_sql) ≡ Insert 3 (Values issue_terms 8)
 unfolding understood everything
 issue_is o = refl
 
-pub issue_plain : (o : Schema) → IsPlain (understood (with_others o) issue_text)
+pub issue_plain : (o : Schema) → IsPlain (understood (with_others o) insert_serial_sql)
 unfolding understood everything
 issue_plain o = (refl, refl)
 
-pub again_is : (o : Schema) → command_of (understood (with_others o) again_text) ≡ InsertOr 3 Abort (Values issue_terms 8) (issue_upsert ∷ [])
+pub again_is : (o : Schema) → command_of (understood (with_others o) upsert_serial_sql) ≡ InsertOr 3 Abort (Values issue_terms 8) (issue_upsert ∷ [])
 unfolding understood everything
 again_is o = refl
 
-pub again_plain : (o : Schema) → IsPlain (understood (with_others o) again_text)
+pub again_plain : (o : Schema) → IsPlain (understood (with_others o) upsert_serial_sql)
 unfolding understood everything
 again_plain o = (refl, refl)
 
 abbrev pub close_terms : List Term
 close_terms = col 0 0 ∷ lit Null ∷ col 0 1 ∷ []
 
-pub close_is : (o : Schema) → command_of (understood (with_closed o) close_text) ≡ Insert 4 (Values close_terms 3)
+pub close_is : (o : Schema) → command_of (understood (with_closed o) insert_closed_sql) ≡ Insert 4 (Values close_terms 3)
 unfolding understood everything
 close_is o = refl
 
-pub close_plain : (o : Schema) → IsPlain (understood (with_closed o) close_text)
+pub close_plain : (o : Schema) → IsPlain (understood (with_closed o) insert_closed_sql)
 unfolding understood everything
 close_plain o = (refl, refl)

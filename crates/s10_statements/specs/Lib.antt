@@ -1,4 +1,4 @@
 pub mod Shown
-pub mod Settled
+pub mod ConnectionState
 pub mod Statements
-pub mod Making
+pub mod Creating

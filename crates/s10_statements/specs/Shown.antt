@@ -53,8 +53,8 @@ abbrev pub closed_columns : Row → Row
 closed_columns r = column r 0 ∷ column r 2 ∷ []
 
 -- the rowid is an integer
-abbrev pub IsNumbered : Row → Type 0
-IsNumbered r = IsTrue (is_int (rowid r))
+abbrev pub HasIntegerRowid : Row → Type 0
+HasIntegerRowid r = IsTrue (is_int (rowid r))
 
 -- the database has the five tables, with these rows; those of serials have rowids, which nothing shows
 pub record HasTables (db : Database) (tables : Tables) : Type 0 where
@@ -63,7 +63,7 @@ pub record HasTables (db : Database) (tables : Tables) : Type 0 where
   pub calls : HaveSameRows (map shown_call tables.calls) (map call_columns (db.trees 1))
   pub ranges : HaveSameRows (map shown_range tables.ranges) (map range_columns (db.trees 3))
   pub serials : HaveSameRows (map shown_serial tables.serials) (map serial_columns (db.trees 4))
-  pub numbered : AllByRecursion IsNumbered (db.trees 4)
+  pub numbered : AllByRecursion HasIntegerRowid (db.trees 4)
   pub closed : HaveSameRows (map shown_closed tables.closed) (map closed_columns (db.trees 6))
 
 -- the database has the four tables of an earlier build and nothing else, with these rows; no range is closed
@@ -73,7 +73,7 @@ pub record HasOldTables (db : Database) (tables : Tables) : Type 0 where
   pub calls : HaveSameRows (map shown_call tables.calls) (map call_columns (db.trees 1))
   pub ranges : HaveSameRows (map shown_range tables.ranges) (map range_columns (db.trees 3))
   pub serials : HaveSameRows (map shown_serial tables.serials) (map serial_columns (db.trees 4))
-  pub numbered : AllByRecursion IsNumbered (db.trees 4)
+  pub numbered : AllByRecursion HasIntegerRowid (db.trees 4)
   pub closed : tables.closed ≡ []
 
 -- the tables stand for a history: they have the rows that it makes, and no others

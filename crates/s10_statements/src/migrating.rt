@@ -6,16 +6,16 @@ ghost use Rattle.sqlite.specs.Held.{state};
 ghost use Rattle.s10_rows.specs.Tables.{Tables};
 ghost use Rattle.s10_schema.specs.Schema.{ledger_schema};
 ghost use Rattle.s10_statements.specs.Shown.{HasTables, HasOldTables};
-ghost use Rattle.s10_statements.specs.Settled.{IsSettled, IsClean, IsOpen, StaysUnclean};
+ghost use Rattle.s10_statements.specs.ConnectionState.{IsQuiescent, IsClean, IsOpen, StaysUnclean};
 
-use crate::making::{CLOSED, run};
+use crate::creating::{CLOSED, run};
 use sqlite::{Alter, Connection, Error};
 
 /// Makes `closed`, with no row, behind the four tables of an earlier build. An error is that of the statement, and leaves the
 /// four as they are.
-pub fn make_closed<S: Alter>(conn: &mut Connection<S>) -> Result<(), Error>
-    requires settled { IsSettled S.Store conn.old }
-    ensures settled { IsSettled S.Store conn.new }
+pub fn create_closed<S: Alter>(conn: &mut Connection<S>) -> Result<(), Error>
+    requires settled { IsQuiescent S.Store conn.old }
+    ensures settled { IsQuiescent S.Store conn.new }
     ensures opened { IsClean S.Store conn.new → OnOk result (IsOpen S.Store conn.new) }
     ensures all { IsClean S.Store conn.new → OnOk result ((tables : Tables) → HasOldTables (state S.Store conn.old).now tables → HasTables (state S.Store conn.new).now tables) }
     ensures none { IsClean S.Store conn.new → IsOpen S.Store conn.new → OnErr result ((state S.Store conn.new).now ≡ (state S.Store conn.old).now) }

@@ -12,14 +12,14 @@ ghost use Rattle.sqlite.specs.Listing.{understood};
 ghost use Rattle.sqlite.specs.Values.{bound};
 ghost use Rattle.s10_rows.specs.Tables.{Tables, HaveSameRows};
 ghost use Rattle.s10_schema.specs.Schema.{IsLedgerSchema, IsClosedSchema};
-ghost use Rattle.s10_statements.specs.Shown.{HasTables, shown_head, shown_call, shown_range, shown_serial, shown_closed, head_columns, call_columns, range_columns, serial_columns, closed_columns, IsNumbered};
+ghost use Rattle.s10_statements.specs.Shown.{HasTables, shown_head, shown_call, shown_range, shown_serial, shown_closed, head_columns, call_columns, range_columns, serial_columns, closed_columns, HasIntegerRowid};
 ghost use Rattle.s10_rows.specs.Selected.{is_within};
-ghost use Rattle.s10_statements.specs.Settled.{Spares, SparesWhere, IsClean, IsOpen};
-ghost use Rattle.s10_statements.specs.Statements.{Leaves, LeavesWhere};
+ghost use Rattle.s10_statements.specs.ConnectionState.{AddsNoCrashState, AddsNoCrashStateWhere, IsClean, IsOpen};
+ghost use Rattle.s10_statements.specs.Statements.{LeavesTables, LeavesTablesWhere};
 
+use crate::observer::Observer;
 use crate::row_reading::rows_in;
-use crate::streams::{calls_shown, numbered_serials_shown};
-use crate::watch::Watch;
+use crate::streams::{stream_calls, stream_serials};
 use s10_rows::{CallRow, ClosedRow, HeadRow, RangeRow, SerialRow};
 use sqlite::types::ValueRef;
 use sqlite::{Alter, Connection, Error, Row, params};
@@ -31,8 +31,8 @@ fn read<S: Alter>(
     sql: &str,
     params: &[ValueRef<'_>],
 ) -> Result<Vec<Row>, Error>
-    ensures leaves { LeavesWhere (λ schema. IsPlain (understood schema sql.now)) S.Store conn.old conn.new }
-    ensures spares { SparesWhere (λ schema. IsPlain (understood schema sql.now)) S.Store conn.old conn.new }
+    ensures leaves { LeavesTablesWhere (λ schema. IsPlain (understood schema sql.now)) S.Store conn.old conn.new }
+    ensures spares { AddsNoCrashStateWhere (λ schema. IsPlain (understood schema sql.now)) S.Store conn.old conn.new }
     ensures rows { IsClean S.Store conn.new → IfOk result (λ rows. Shown sql.now (bound params.now) (state S.Store conn.old) (state S.Store conn.new) rows.items) }
     ensures opened { IsClean S.Store conn.new → OnOk result (IsOpen S.Store conn.new) }
 {
@@ -41,8 +41,8 @@ fn read<S: Alter>(
 
 /// All rows of `head`.
 pub fn all_heads<S: Alter>(alloc: Global, conn: &mut Connection<S>) -> Result<Vec<HeadRow>, Error>
-    ensures spares { Spares S.Store conn.old conn.new }
-    ensures leaves { Leaves S.Store conn.old conn.new }
+    ensures spares { AddsNoCrashState S.Store conn.old conn.new }
+    ensures leaves { LeavesTables S.Store conn.old conn.new }
     ensures opened { IsClean S.Store conn.new → OnOk result (IsOpen S.Store conn.new) }
     ensures rows { IsClean S.Store conn.new → IfOk result (λ rows. IsLedgerSchema (state S.Store conn.old).now.schema
         → HaveSameRows (map shown_head rows.items) (map head_columns ((state S.Store conn.old).now.trees 0))) }
@@ -56,12 +56,12 @@ pub fn all_heads<S: Alter>(alloc: Global, conn: &mut Connection<S>) -> Result<Ve
 }
 
 /// All rows of `calls`, in order of arrival.
-pub fn all_calls<S: Alter, W: Watch>(
+pub fn all_calls<S: Alter, W: Observer>(
     alloc: Global,
     conn: &mut Connection<S>,
     watch: &mut W,
 ) -> Result<Vec<CallRow>, Error>
-    ensures leaves { Leaves S.Store conn.old conn.new }
+    ensures leaves { LeavesTables S.Store conn.old conn.new }
     ensures opened { IsClean S.Store conn.new → OnOk result (IsOpen S.Store conn.new) }
     ensures rows { IsClean S.Store conn.new → IfOk result (λ rows. IsLedgerSchema (state S.Store conn.old).now.schema
         → HaveSameRows (map shown_call rows.items) (map call_columns ((state S.Store conn.old).now.trees 1))) }
@@ -70,7 +70,7 @@ pub fn all_calls<S: Alter, W: Watch>(
     ensures sorted { IsClean S.Store conn.new → IfOk result (λ rows. IsLedgerSchema (state S.Store conn.old).now.schema
         → IsAscending (λ a b. int_cmp a.arrival b.arrival ≢ Ordering.Greater) rows.items) }
 {
-    calls_shown(
+    stream_calls(
         alloc,
         conn,
         "SELECT arrival, customer, number, day, reply FROM calls ORDER BY arrival",
@@ -81,8 +81,8 @@ pub fn all_calls<S: Alter, W: Watch>(
 
 /// All rows of `ranges`, in order of their numbers.
 pub fn all_ranges<S: Alter>(alloc: Global, conn: &mut Connection<S>) -> Result<Vec<RangeRow>, Error>
-    ensures spares { Spares S.Store conn.old conn.new }
-    ensures leaves { Leaves S.Store conn.old conn.new }
+    ensures spares { AddsNoCrashState S.Store conn.old conn.new }
+    ensures leaves { LeavesTables S.Store conn.old conn.new }
     ensures opened { IsClean S.Store conn.new → OnOk result (IsOpen S.Store conn.new) }
     ensures rows { IsClean S.Store conn.new → IfOk result (λ rows. IsLedgerSchema (state S.Store conn.old).now.schema
         → HaveSameRows (map shown_range rows.items) (map range_columns ((state S.Store conn.old).now.trees 3))) }
@@ -105,8 +105,8 @@ pub fn serials_within<S: Alter>(
     low: u32,
     high: u32,
 ) -> Result<Vec<SerialRow>, Error>
-    ensures spares { Spares S.Store conn.old conn.new }
-    ensures leaves { Leaves S.Store conn.old conn.new }
+    ensures spares { AddsNoCrashState S.Store conn.old conn.new }
+    ensures leaves { LeavesTables S.Store conn.old conn.new }
     ensures opened { IsClean S.Store conn.new → OnOk result (IsOpen S.Store conn.new) }
     ensures rows { IsClean S.Store conn.new → IfOk result (λ rows. (tables : Tables) → HasTables (state S.Store conn.old).now tables
         → HaveSameRows (filter (is_within (pos pair) (pos low) (pos high)) tables.serials) rows.items) }
@@ -120,18 +120,18 @@ pub fn serials_within<S: Alter>(
 }
 
 /// All rows of `serials`. Their rowids are read too, which shows that they are integers.
-pub fn all_serials<S: Alter, W: Watch>(
+pub fn all_serials<S: Alter, W: Observer>(
     alloc: Global,
     conn: &mut Connection<S>,
     watch: &mut W,
 ) -> Result<Vec<SerialRow>, Error>
-    ensures leaves { Leaves S.Store conn.old conn.new }
+    ensures leaves { LeavesTables S.Store conn.old conn.new }
     ensures opened { IsClean S.Store conn.new → OnOk result (IsOpen S.Store conn.new) }
     ensures rows { IsClean S.Store conn.new → IfOk result (λ rows. IsLedgerSchema (state S.Store conn.old).now.schema
         → HaveSameRows (map shown_serial rows.items) (map serial_columns ((state S.Store conn.old).now.trees 4))) }
-    ensures numbered { IsClean S.Store conn.new → OnOk result (IsLedgerSchema (state S.Store conn.old).now.schema → AllByRecursion IsNumbered ((state S.Store conn.old).now.trees 4)) }
+    ensures numbered { IsClean S.Store conn.new → OnOk result (IsLedgerSchema (state S.Store conn.old).now.schema → AllByRecursion HasIntegerRowid ((state S.Store conn.old).now.trees 4)) }
 {
-    numbered_serials_shown(
+    stream_serials(
         alloc,
         conn,
         "SELECT pair, serial, arrival, day, customer, number, voided, rowid FROM serials ORDER BY pair, serial",
@@ -144,8 +144,8 @@ pub fn all_closed<S: Alter>(
     alloc: Global,
     conn: &mut Connection<S>,
 ) -> Result<Vec<ClosedRow>, Error>
-    ensures spares { SparesWhere IsClosedSchema S.Store conn.old conn.new }
-    ensures leaves { LeavesWhere IsClosedSchema S.Store conn.old conn.new }
+    ensures spares { AddsNoCrashStateWhere IsClosedSchema S.Store conn.old conn.new }
+    ensures leaves { LeavesTablesWhere IsClosedSchema S.Store conn.old conn.new }
     ensures opened { IsClean S.Store conn.new → OnOk result (IsOpen S.Store conn.new) }
     ensures rows { IsClean S.Store conn.new → IfOk result (λ rows. IsClosedSchema (state S.Store conn.old).now.schema
         → HaveSameRows (map shown_closed rows.items) (map closed_columns ((state S.Store conn.old).now.trees 6))) }

@@ -37,7 +37,7 @@ impl FromRow for HeadRow {
     }
 }
 
-pub(crate) fn call_in(row: &Row) -> Result<CallRow, Error>
+pub(crate) fn call_row_in(row: &Row) -> Result<CallRow, Error>
     ensures { IfOk result (λ call. shown_call call ≡ row.now) }
 {
     check_width(row, 5)?;
@@ -68,7 +68,7 @@ impl FromRow for RangeRow {
 }
 
 // The columns of `serials`, which others may stand behind.
-fn serial_front_in(row: &Row) -> Result<SerialRow, Error>
+fn serial_columns_in(row: &Row) -> Result<SerialRow, Error>
     ensures { IfOk result (λ serial. shown_serial serial ≡ serial_front row.now) }
 {
     Ok(SerialRow {
@@ -89,17 +89,17 @@ impl FromRow for SerialRow {
         ensures { IfOk result (λ serial. shown_serial serial ≡ row.now) }
     {
         check_width(row, 7)?;
-        serial_front_in(row)
+        serial_columns_in(row)
     }
 }
 
 // A row of `serials` with its rowid behind the columns.
-pub(crate) fn numbered_serial_in(row: &Row) -> Result<SerialRow, Error>
+pub(crate) fn serial_with_rowid_in(row: &Row) -> Result<SerialRow, Error>
     ensures columns { IfOk result (λ serial. shown_serial serial ≡ serial_front row.now) }
     ensures numbered { OnOk result (IsTrue (is_int (column row.now 7))) }
 {
     let _rowid: i64 = row.get(7)?;
-    serial_front_in(row)
+    serial_columns_in(row)
 }
 
 impl FromRow for ClosedRow {

@@ -11,11 +11,11 @@ ghost use Rattle.sqlite.specs.Listing.{understood};
 ghost use Rattle.sqlite.specs.Values.{bound};
 ghost use Rattle.s10_schema.specs.Schema.{IsLedgerSchema, with_others};
 ghost use Rattle.s10_statements.specs.Shown.{shown_call, shown_serial, serial_front};
-ghost use Rattle.s10_statements.specs.Settled.{Spares, IsClean, IsOpen};
-ghost use Rattle.s10_statements.specs.Statements.{Leaves};
+ghost use Rattle.s10_statements.specs.ConnectionState.{AddsNoCrashState, IsClean, IsOpen};
+ghost use Rattle.s10_statements.specs.Statements.{LeavesTables};
 
-use crate::row_reading::{call_in, numbered_serial_in};
-use crate::watch::Watch;
+use crate::observer::Observer;
+use crate::row_reading::{call_row_in, serial_with_rowid_in};
 use s10_rows::{CallRow, SerialRow};
 use sqlite::types::ValueRef;
 use sqlite::{Alter, Connection, Error, ErrorCode};
@@ -25,7 +25,7 @@ use std::alloc::Global;
 const TOO_MANY: Error = Error::SqliteFailure(ErrorCode::TooBig);
 
 /// The rows of `calls` that a query shows.
-pub(crate) fn calls_shown<S: Alter, W: Watch>(
+pub(crate) fn stream_calls<S: Alter, W: Observer>(
     alloc: Global,
     conn: &mut Connection<S>,
     sql: &str,
@@ -33,8 +33,8 @@ pub(crate) fn calls_shown<S: Alter, W: Watch>(
     watch: &mut W,
 ) -> Result<Vec<CallRow>, Error>
     requires plain { (o : Schema) → IsPlain (understood (with_others o) sql.now) }
-    ensures leaves { Leaves S.Store conn.old conn.new }
-    ensures spares { Spares S.Store conn.old conn.new }
+    ensures leaves { LeavesTables S.Store conn.old conn.new }
+    ensures spares { AddsNoCrashState S.Store conn.old conn.new }
     ensures opened { IsClean S.Store conn.new → OnOk result (IsOpen S.Store conn.new) }
     ensures rows { IsClean S.Store conn.new → IfOk result (λ calls. IsLedgerSchema (state S.Store conn.old).now.schema
         → (rows : List Row) × Shown sql.now (bound params.now) (state S.Store conn.old) (state S.Store conn.new) rows × (map shown_call calls.items ≡ rows)) }
@@ -46,21 +46,21 @@ pub(crate) fn calls_shown<S: Alter, W: Watch>(
         let Some(row) = shown.get() else {
             return Ok(calls);
         };
-        calls.push(call_in(row)?)?;
-        watch.has_read("calls", done + 1);
+        calls.push(call_row_in(row)?)?;
+        watch.rows_read("calls", done + 1);
     }
     Err(TOO_MANY)
 }
 
 /// The rows of `serials` that a query shows with their rowids, which are integers.
-pub(crate) fn numbered_serials_shown<S: Alter, W: Watch>(
+pub(crate) fn stream_serials<S: Alter, W: Observer>(
     alloc: Global,
     conn: &mut Connection<S>,
     sql: &str,
     watch: &mut W,
 ) -> Result<Vec<SerialRow>, Error>
     requires plain { (o : Schema) → IsPlain (understood (with_others o) sql.now) }
-    ensures leaves { Leaves S.Store conn.old conn.new }
+    ensures leaves { LeavesTables S.Store conn.old conn.new }
     ensures opened { IsClean S.Store conn.new → OnOk result (IsOpen S.Store conn.new) }
     ensures rows { IsClean S.Store conn.new → IfOk result (λ serials. IsLedgerSchema (state S.Store conn.old).now.schema
         → (rows : List Row) × Shown sql.now (bound []) (state S.Store conn.old) (state S.Store conn.new) rows × (map shown_serial serials.items ≡ map serial_front rows) × All (λ row. IsTrue (is_int (column row 7))) rows) }
@@ -72,8 +72,8 @@ pub(crate) fn numbered_serials_shown<S: Alter, W: Watch>(
         let Some(row) = shown.get() else {
             return Ok(serials);
         };
-        serials.push(numbered_serial_in(row)?)?;
-        watch.has_read("serials", done + 1);
+        serials.push(serial_with_rowid_in(row)?)?;
+        watch.rows_read("serials", done + 1);
     }
     Err(TOO_MANY)
 }

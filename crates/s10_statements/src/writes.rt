@@ -7,8 +7,8 @@ ghost use Rattle.sqlite.specs.State.{Shows, KeepsCommit, Survives};
 ghost use Rattle.s10_rows.specs.CallRow.{StoredCall};
 ghost use Rattle.s10_rows.specs.Tables.{Tables, closing};
 ghost use Rattle.s10_statements.specs.Shown.{HasTables};
-ghost use Rattle.s10_statements.specs.Settled.{IsSettled, IsClean, IsOpen, IsInTransaction, StaysUnclean};
-ghost use Rattle.s10_rows.specs.Kept.{FindAtMostOne, is_at, row_of, with_range, with_ranges, with_serial, with_serials};
+ghost use Rattle.s10_statements.specs.ConnectionState.{IsQuiescent, IsClean, IsOpen, IsInTransaction, StaysUnclean};
+ghost use Rattle.s10_rows.specs.RowWrites.{FindAtMostOne, is_at, row_of, with_range, with_ranges, with_serial, with_serials};
 ghost use Rattle.s10_rows.specs.CallWrite.{AreWritten, with_call};
 
 use s10_history::Entry;
@@ -16,7 +16,7 @@ use s10_rows::{CallWrite, ClosedRow, RangeRow, RangeWrite, SerialRow, SerialWrit
 use sqlite::{Alter, Connection, Error, Transaction, params};
 
 /// Adds the row of a call.
-fn put_call<S: Alter>(
+fn insert_call<S: Alter>(
     tx: &mut Transaction<'_, S>,
     arrival: u32,
     entry: &Entry,
@@ -45,7 +45,7 @@ fn put_call<S: Alter>(
 }
 
 /// Adds the row of a range.
-fn add_range<S: Alter>(tx: &mut Transaction<'_, S>, range: &RangeRow) -> Result<(), Error>
+fn insert_range<S: Alter>(tx: &mut Transaction<'_, S>, range: &RangeRow) -> Result<(), Error>
     ensures same_reference { tx.new.conn.ghost_name ≡ tx.old.conn.ghost_name }
     ensures made { IsClean S.Store tx.new.conn.now → IsInTransaction S.Store tx.old.conn.now → OnOk result ((tables : Tables) → HasTables (state S.Store tx.old.conn.now).now tables
         → HasTables (state S.Store tx.new.conn.now).now (record tables { ranges = with_range (RangeWrite.New range.now) tables.ranges })) }
@@ -70,7 +70,7 @@ fn add_range<S: Alter>(tx: &mut Transaction<'_, S>, range: &RangeRow) -> Result<
 }
 
 /// Sets the mark of the range of that number. It fails unless one row is changed.
-fn set_mark<S: Alter>(tx: &mut Transaction<'_, S>, num: i64, mark: i64) -> Result<(), Error>
+fn update_mark<S: Alter>(tx: &mut Transaction<'_, S>, num: i64, mark: i64) -> Result<(), Error>
     ensures same_reference { tx.new.conn.ghost_name ≡ tx.old.conn.ghost_name }
     ensures made { IsClean S.Store tx.new.conn.now → IsInTransaction S.Store tx.old.conn.now → OnOk result ((tables : Tables) → HasTables (state S.Store tx.old.conn.now).now tables
         → HasTables (state S.Store tx.new.conn.now).now (record tables { ranges = with_range (RangeWrite.Mark num mark) tables.ranges })) }
@@ -91,7 +91,7 @@ fn set_mark<S: Alter>(tx: &mut Transaction<'_, S>, num: i64, mark: i64) -> Resul
 }
 
 /// Makes of the ranges what a call makes of them.
-fn put_range<S: Alter>(tx: &mut Transaction<'_, S>, write: &RangeWrite) -> Result<(), Error>
+fn apply_range_write<S: Alter>(tx: &mut Transaction<'_, S>, write: &RangeWrite) -> Result<(), Error>
     ensures same_reference { tx.new.conn.ghost_name ≡ tx.old.conn.ghost_name }
     ensures made { IsClean S.Store tx.new.conn.now → IsInTransaction S.Store tx.old.conn.now → OnOk result ((tables : Tables) → HasTables (state S.Store tx.old.conn.now).now tables
         → HasTables (state S.Store tx.new.conn.now).now (record tables { ranges = with_range write.now tables.ranges })) }
@@ -101,13 +101,13 @@ fn put_range<S: Alter>(tx: &mut Transaction<'_, S>, write: &RangeWrite) -> Resul
     ensures survives { Survives (state S.Store tx.old.conn.now) (state S.Store tx.new.conn.now) (λ _. ⊥) }
 {
     match *write {
-        RangeWrite::New(row) => add_range(tx, &row),
-        RangeWrite::Mark { num, mark } => set_mark(tx, num, mark),
+        RangeWrite::New(row) => insert_range(tx, &row),
+        RangeWrite::Mark { num, mark } => update_mark(tx, num, mark),
     }
 }
 
 /// Adds the row of a serial.
-fn add_serial<S: Alter>(tx: &mut Transaction<'_, S>, serial: &SerialRow) -> Result<(), Error>
+fn insert_serial<S: Alter>(tx: &mut Transaction<'_, S>, serial: &SerialRow) -> Result<(), Error>
     ensures same_reference { tx.new.conn.ghost_name ≡ tx.old.conn.ghost_name }
     ensures made { IsClean S.Store tx.new.conn.now → IsInTransaction S.Store tx.old.conn.now → OnOk result ((tables : Tables) → HasTables (state S.Store tx.old.conn.now).now tables
         → HasTables (state S.Store tx.new.conn.now).now (record tables { serials = with_serial (SerialWrite.New serial.now) tables.serials })) }
@@ -133,7 +133,7 @@ fn add_serial<S: Alter>(tx: &mut Transaction<'_, S>, serial: &SerialRow) -> Resu
 }
 
 /// Puts the row of a serial in the place of the one of its identifier, or adds it. It fails unless one row is changed.
-fn replace_serial<S: Alter>(tx: &mut Transaction<'_, S>, serial: &SerialRow) -> Result<(), Error>
+fn upsert_serial<S: Alter>(tx: &mut Transaction<'_, S>, serial: &SerialRow) -> Result<(), Error>
     ensures same_reference { tx.new.conn.ghost_name ≡ tx.old.conn.ghost_name }
     ensures made { IsClean S.Store tx.new.conn.now → IsInTransaction S.Store tx.old.conn.now → OnOk result ((tables : Tables) → HasTables (state S.Store tx.old.conn.now).now tables
         → length (filter (is_at serial.now.pair serial.now.serial) tables.serials) ≤ 1 → HasTables (state S.Store tx.new.conn.now).now (record tables { serials = with_serial (SerialWrite.Again serial.now) tables.serials })) }
@@ -163,7 +163,10 @@ fn replace_serial<S: Alter>(tx: &mut Transaction<'_, S>, serial: &SerialRow) -> 
 }
 
 /// Makes of the serials what a call makes of them.
-fn put_serial<S: Alter>(tx: &mut Transaction<'_, S>, write: &SerialWrite) -> Result<(), Error>
+fn apply_serial_write<S: Alter>(
+    tx: &mut Transaction<'_, S>,
+    write: &SerialWrite,
+) -> Result<(), Error>
     ensures same_reference { tx.new.conn.ghost_name ≡ tx.old.conn.ghost_name }
     ensures made { IsClean S.Store tx.new.conn.now → IsInTransaction S.Store tx.old.conn.now → OnOk result ((tables : Tables) → HasTables (state S.Store tx.old.conn.now).now tables
         → length (filter (is_at (row_of write.now).pair (row_of write.now).serial) tables.serials) ≤ 1 → HasTables (state S.Store tx.new.conn.now).now (record tables { serials = with_serial write.now tables.serials })) }
@@ -173,13 +176,16 @@ fn put_serial<S: Alter>(tx: &mut Transaction<'_, S>, write: &SerialWrite) -> Res
     ensures survives { Survives (state S.Store tx.old.conn.now) (state S.Store tx.new.conn.now) (λ _. ⊥) }
 {
     match *write {
-        SerialWrite::New(row) => add_serial(tx, &row),
-        SerialWrite::Again(row) => replace_serial(tx, &row),
+        SerialWrite::New(row) => insert_serial(tx, &row),
+        SerialWrite::Again(row) => upsert_serial(tx, &row),
     }
 }
 
 /// Makes of the ranges what a call makes of them, write by write.
-fn put_ranges<S: Alter>(tx: &mut Transaction<'_, S>, ranges: &[RangeWrite]) -> Result<(), Error>
+fn apply_range_writes<S: Alter>(
+    tx: &mut Transaction<'_, S>,
+    ranges: &[RangeWrite],
+) -> Result<(), Error>
     ensures same_reference { tx.new.conn.ghost_name ≡ tx.old.conn.ghost_name }
     ensures made { IsClean S.Store tx.new.conn.now → IsInTransaction S.Store tx.old.conn.now → OnOk result ((tables : Tables) → HasTables (state S.Store tx.old.conn.now).now tables
         → HasTables (state S.Store tx.new.conn.now).now (record tables { ranges = with_ranges ranges.now tables.ranges })) }
@@ -190,13 +196,16 @@ fn put_ranges<S: Alter>(tx: &mut Transaction<'_, S>, ranges: &[RangeWrite]) -> R
     ensures clean { StaysUnclean S.Store tx.old.conn.now tx.new.conn.now }
 {
     for write in ranges {
-        put_range(tx, write)?;
+        apply_range_write(tx, write)?;
     }
     Ok(())
 }
 
 /// Makes of the serials what a call makes of them, write by write.
-fn put_serials<S: Alter>(tx: &mut Transaction<'_, S>, serials: &[SerialWrite]) -> Result<(), Error>
+fn apply_serial_writes<S: Alter>(
+    tx: &mut Transaction<'_, S>,
+    serials: &[SerialWrite],
+) -> Result<(), Error>
     ensures same_reference { tx.new.conn.ghost_name ≡ tx.old.conn.ghost_name }
     ensures made { IsClean S.Store tx.new.conn.now → IsInTransaction S.Store tx.old.conn.now → OnOk result ((tables : Tables) → HasTables (state S.Store tx.old.conn.now).now tables
         → FindAtMostOne serials.now tables.serials → HasTables (state S.Store tx.new.conn.now).now (record tables { serials = with_serials serials.now tables.serials })) }
@@ -207,13 +216,13 @@ fn put_serials<S: Alter>(tx: &mut Transaction<'_, S>, serials: &[SerialWrite]) -
     ensures clean { StaysUnclean S.Store tx.old.conn.now tx.new.conn.now }
 {
     for write in serials {
-        put_serial(tx, write)?;
+        apply_serial_write(tx, write)?;
     }
     Ok(())
 }
 
 /// Adds the row of a closed range.
-fn add_closed<S: Alter>(tx: &mut Transaction<'_, S>, closed: &ClosedRow) -> Result<(), Error>
+fn insert_closed<S: Alter>(tx: &mut Transaction<'_, S>, closed: &ClosedRow) -> Result<(), Error>
     ensures same_reference { tx.new.conn.ghost_name ≡ tx.old.conn.ghost_name }
     ensures made { IsClean S.Store tx.new.conn.now → IsInTransaction S.Store tx.old.conn.now → OnOk result ((tables : Tables) → HasTables (state S.Store tx.old.conn.now).now tables
         → HasTables (state S.Store tx.new.conn.now).now (record tables { closed = tables.closed ++ closed.now ∷ [] })) }
@@ -231,7 +240,7 @@ fn add_closed<S: Alter>(tx: &mut Transaction<'_, S>, closed: &ClosedRow) -> Resu
 }
 
 /// Adds the row of the range that a call closes, where it closes one.
-fn put_closed<S: Alter>(
+fn insert_if_closed<S: Alter>(
     tx: &mut Transaction<'_, S>,
     arrival: u32,
     entry: &Entry,
@@ -246,13 +255,16 @@ fn put_closed<S: Alter>(
     ensures clean { StaysUnclean S.Store tx.old.conn.now tx.new.conn.now }
 {
     match ClosedRow::made_by(arrival, entry) {
-        Some(row) => add_closed(tx, &row),
+        Some(row) => insert_closed(tx, &row),
         None => Ok(()),
     }
 }
 
 /// Writes the row of a call and those that it makes.
-fn put_rows<S: Alter>(tx: &mut Transaction<'_, S>, write: &CallWrite) -> Result<(), Error>
+fn insert_call_and_writes<S: Alter>(
+    tx: &mut Transaction<'_, S>,
+    write: &CallWrite,
+) -> Result<(), Error>
     ensures same_reference { tx.new.conn.ghost_name ≡ tx.old.conn.ghost_name }
     ensures made { IsClean S.Store tx.new.conn.now → IsInTransaction S.Store tx.old.conn.now → OnOk result ((tables : Tables) → HasTables (state S.Store tx.old.conn.now).now tables
         → FindAtMostOne write.now.serials.items tables.serials → HasTables (state S.Store tx.new.conn.now).now (with_call write.now tables)) }
@@ -262,14 +274,14 @@ fn put_rows<S: Alter>(tx: &mut Transaction<'_, S>, write: &CallWrite) -> Result<
     ensures kept { IsClean S.Store tx.new.conn.now → IsInTransaction S.Store tx.old.conn.now → KeepsCommit (state S.Store tx.old.conn.now) (state S.Store tx.new.conn.now) }
     ensures survives { Survives (state S.Store tx.old.conn.now) (state S.Store tx.new.conn.now) (λ _. ⊥) }
 {
-    put_call(tx, write.arrival, &write.entry, write.reply.bytes())?;
-    put_ranges(tx, &write.ranges)?;
-    put_serials(tx, &write.serials)?;
-    put_closed(tx, write.arrival, &write.entry)
+    insert_call(tx, write.arrival, &write.entry, write.reply.bytes())?;
+    apply_range_writes(tx, &write.ranges)?;
+    apply_serial_writes(tx, &write.serials)?;
+    insert_if_closed(tx, write.arrival, &write.entry)
 }
 
 /// Writes the rows of calls, call by call.
-fn put_calls<S: Alter>(tx: &mut Transaction<'_, S>, writes: &[CallWrite]) -> Result<(), Error>
+fn insert_calls<S: Alter>(tx: &mut Transaction<'_, S>, writes: &[CallWrite]) -> Result<(), Error>
     ensures same_reference { tx.new.conn.ghost_name ≡ tx.old.conn.ghost_name }
     ensures made { IsClean S.Store tx.new.conn.now → IsInTransaction S.Store tx.old.conn.now → OnOk result ((before after : Tables) → AreWritten writes.now before after
         → HasTables (state S.Store tx.old.conn.now).now before → HasTables (state S.Store tx.new.conn.now).now after) }
@@ -281,15 +293,15 @@ fn put_calls<S: Alter>(tx: &mut Transaction<'_, S>, writes: &[CallWrite]) -> Res
     ensures clean { StaysUnclean S.Store tx.old.conn.now tx.new.conn.now }
 {
     for write in writes {
-        put_rows(tx, write)?;
+        insert_call_and_writes(tx, write)?;
     }
     Ok(())
 }
 
 /// Writes the rows of calls and those that they make, in one transaction: all of them, or none.
-pub fn keep_rows<S: Alter>(conn: &mut Connection<S>, writes: &[CallWrite]) -> Result<(), Error>
-    requires settled { IsSettled S.Store conn.old }
-    ensures settled { IsSettled S.Store conn.new }
+pub fn commit_rows<S: Alter>(conn: &mut Connection<S>, writes: &[CallWrite]) -> Result<(), Error>
+    requires settled { IsQuiescent S.Store conn.old }
+    ensures settled { IsQuiescent S.Store conn.new }
     ensures opened { IsClean S.Store conn.new → OnOk result (IsOpen S.Store conn.new) }
     ensures all { IsClean S.Store conn.new → OnOk result ((before after : Tables) → AreWritten writes.now before after
         → HasTables (state S.Store conn.old).now before → HasTables (state S.Store conn.new).now after) }
@@ -301,6 +313,6 @@ pub fn keep_rows<S: Alter>(conn: &mut Connection<S>, writes: &[CallWrite]) -> Re
         → HasTables (state S.Store conn.old).now before → HasTables (record (state S.Store conn.old).now { trees = db }) after)) }
 {
     let mut tx = conn.transaction();
-    put_calls(&mut tx, writes)?;
+    insert_calls(&mut tx, writes)?;
     tx.commit()
 }

@@ -5,7 +5,7 @@ use Rattle.s10_wire.specs.declared.wire_fault.WireFault.TheVariants.{Outcome}
 use Rattle.std.proofs.lemmas.Bool.{ne_eqb}
 use Rattle.s10_wire.specs.declared.kind.Kind.{Kind}
 use Rattle.s10_wire.specs.Kind.{request_length, is_reply_long}
-use Rattle.s10_wire.specs.WireFault.{byte, code_fits, done_fields, first_refusal, kind_named, of_kind, header_refusals, request_fields, request_refusals, outcome_refusals, reply_refusals, refusals_behind_request, refusals_behind_reply}
+use Rattle.s10_wire.specs.WireFault.{byte, code_fits, done_fields, first_refusal, kind_named, of_kind, header_refusals, request_fields, request_refusals, outcome_refusals, reply_refusals, refusals_after_request, refusals_after_reply}
 
 passed_over : (applies : Bool) (fault : WireFault) (r s : List (Bool × WireFault)) → (first_refusal r ≡ None → first_refusal (r ++ s) ≡ first_refusal s)
     → first_refusal ((applies, fault) ∷ r) ≡ None → first_refusal ((applies, fault) ∷ (r ++ s)) ≡ first_refusal s
@@ -29,17 +29,17 @@ first_decides (refusal ∷ r) s fault found = found_before refusal.0 refusal.1 f
 
 -- behind the header of a request its length and its fields decide
 pub length_decides : (b : List ℕ) (kind : Kind) → None ≡ first_refusal (header_refusals 0 b) → kind_named 0 b ≡ Some kind
-    → first_refusal (request_refusals b) ≡ first_refusal (refusals_behind_request b kind)
+    → first_refusal (request_refusals b) ≡ first_refusal (refusals_after_request b kind)
 length_decides b kind passed named =
-    second_decides (header_refusals 0 b) (of_kind (kind_named 0 b) (refusals_behind_request b)) (sym passed)
-    ∙ ap (λ (named : Option Kind). first_refusal (of_kind named (refusals_behind_request b))) named
+    second_decides (header_refusals 0 b) (of_kind (kind_named 0 b) (refusals_after_request b)) (sym passed)
+    ∙ ap (λ (named : Option Kind). first_refusal (of_kind named (refusals_after_request b))) named
 
 -- behind the header of a reply its length and its fields decide
 pub reply_length_decides : (b : List ℕ) (kind : Kind) → None ≡ first_refusal (header_refusals 0x80 b) → kind_named 0x80 b ≡ Some kind
-    → first_refusal (reply_refusals b) ≡ first_refusal (refusals_behind_reply b kind)
+    → first_refusal (reply_refusals b) ≡ first_refusal (refusals_after_reply b kind)
 reply_length_decides b kind passed named =
-    second_decides (header_refusals 0x80 b) (of_kind (kind_named 0x80 b) (refusals_behind_reply b)) (sym passed)
-    ∙ ap (λ (named : Option Kind). first_refusal (of_kind named (refusals_behind_reply b))) named
+    second_decides (header_refusals 0x80 b) (of_kind (kind_named 0x80 b) (refusals_after_reply b)) (sym passed)
+    ∙ ap (λ (named : Option Kind). first_refusal (of_kind named (refusals_after_reply b))) named
 
 -- behind the header and the length of a reply its fields decide
 pub fields_decide : (b : List ℕ) (kind : Kind) → None ≡ first_refusal (header_refusals 0x80 b) → kind_named 0x80 b ≡ Some kind → is_reply_long kind b ≡ true

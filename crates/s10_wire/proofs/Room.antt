@@ -5,30 +5,30 @@ use Rattle.std.proofs.Math.Seq.{take-append_seam, drop-append-add}
 use Rattle.std.proofs.lemmas.List.{drop-replicate, take-append-drop}
 use Rattle.std.proofs.lemmas.Slice.{take-put_mid, drop-put_mid}
 use borrow.Rule.Slice.PartMut.{put_mid}
-use Rattle.s10_wire.specs.Room.{roomed, IsRoomed}
+use Rattle.s10_wire.specs.Padding.{zero_padded, IsZeroPadded}
 
 -- bytes with zeros behind them are the bytes of their room
-pub front_is : (size : ℕ) (room : List ℕ) (len : ℕ) (bytes : List ℕ) → len ≡ length bytes → room ≡ roomed size bytes → take len room ≡ bytes
+pub front_is : (size : ℕ) (room : List ℕ) (len : ℕ) (bytes : List ℕ) → len ≡ length bytes → room ≡ zero_padded size bytes → take len room ≡ bytes
 front_is size room len bytes long rest = ap₂ take long rest ∙ take-append_seam bytes (replicate (size - length bytes) 0)
 
-pub is_roomed : (size : ℕ) (room : List ℕ) (len : ℕ) (bytes : List ℕ) → len ≤ size → len ≡ length bytes → room ≡ roomed size bytes → IsRoomed size room len
+pub is_roomed : (size : ℕ) (room : List ℕ) (len : ℕ) (bytes : List ℕ) → len ≤ size → len ≡ length bytes → room ≡ zero_padded size bytes → IsZeroPadded size room len
 is_roomed size room len bytes few long rest =
     let front : take len room ≡ bytes = front_is size room len bytes long rest in
-    record { few = few; long = ap length front ∙ sym long; rest = rest ∙ sym (ap (roomed size) front) }
+    record { few = few; long = ap length front ∙ sym long; rest = rest ∙ sym (ap (zero_padded size) front) }
 
 -- a room of zeros once bytes were written at its front
-pub fill_roomed : (size len : ℕ) (front bytes : List ℕ) → len ≡ length bytes → len ≤ size → front ≡ bytes → IsRoomed size (front ++ drop len (replicate size 0)) len
+pub fill_roomed : (size len : ℕ) (front bytes : List ℕ) → len ≡ length bytes → len ≤ size → front ≡ bytes → IsZeroPadded size (front ++ drop len (replicate size 0)) len
 fill_roomed size len front bytes long few same =
     let zeros : drop len (replicate size 0) ≡ replicate (size - length bytes) 0 = drop-replicate len size 0 ∙ ap (λ (n : ℕ). replicate (size - n) 0) long in
     is_roomed size _ len bytes few long (ap₂ (λ (l m : List ℕ). l ++ m) same zeros)
 
 -- rooms of one size and one count of bytes are the same room where their bytes are
-pub one_front : (size : ℕ) (a b : List ℕ) → roomed size a ≡ roomed size b → length a ≡ length b → a ≡ b
-one_front size a b rooms lens = sym (front_is size (roomed size a) (length a) a refl refl) ∙ front_is size (roomed size a) (length a) b lens rooms
+pub one_front : (size : ℕ) (a b : List ℕ) → zero_padded size a ≡ zero_padded size b → length a ≡ length b → a ≡ b
+one_front size a b rooms lens = sym (front_is size (zero_padded size a) (length a) a refl refl) ∙ front_is size (zero_padded size a) (length a) b lens rooms
 
 -- the room once bytes were written behind those that it held
-pub put_is : (size : ℕ) (room : List ℕ) (len k : ℕ) (ys bytes : List ℕ) → IsRoomed size room len → len + length bytes ≤ size → k ≡ length bytes → ys ≡ bytes
-    → put_mid len k room ys ≡ roomed size (take len room ++ bytes)
+pub put_is : (size : ℕ) (room : List ℕ) (len k : ℕ) (ys bytes : List ℕ) → IsZeroPadded size room len → len + length bytes ≤ size → k ≡ length bytes → ys ≡ bytes
+    → put_mid len k room ys ≡ zero_padded size (take len room ++ bytes)
 put_is size room len k ys bytes is fits count same =
     let front : List ℕ = take len room in
     let zeros : List ℕ = replicate (size - length front) 0 in
@@ -47,8 +47,8 @@ put_is size room len k ys bytes is fits count same =
     sym (take-append-drop end made) ∙ ap₂ (λ (l m : List ℕ). l ++ m) before behind
 
 -- it holds them too
-pub put_roomed : (size : ℕ) (room : List ℕ) (len k end : ℕ) (ys bytes : List ℕ) → IsRoomed size room len → end ≡ len + length bytes → end ≤ size → k ≡ length bytes → ys ≡ bytes
-    → IsRoomed size (put_mid len k room ys) end × (take end (put_mid len k room ys) ≡ take len room ++ bytes)
+pub put_roomed : (size : ℕ) (room : List ℕ) (len k end : ℕ) (ys bytes : List ℕ) → IsZeroPadded size room len → end ≡ len + length bytes → end ≤ size → k ≡ length bytes → ys ≡ bytes
+    → IsZeroPadded size (put_mid len k room ys) end × (take end (put_mid len k room ys) ≡ take len room ++ bytes)
 put_roomed size room len k end ys bytes is ends fits count same =
     let made = put_is size room len k ys bytes is (omega (arith, ends, fits)) count same in
     let long : end ≡ length (take len room ++ bytes) = omega (arith, ends, is.long, length-append (take len room) bytes) in

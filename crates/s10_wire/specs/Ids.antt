@@ -18,14 +18,14 @@ first_id [] = record { service = (65, 65); serial = 0; country = (65, 65) }
 first_id (id ∷ ids) = id
 
 -- the identifiers in a room for sixteen, the rest of which is the first of them again
-abbrev pub roomed : List Id → List Id
-roomed ids = ids ++ replicate (16 - length ids) (first_id ids)
+abbrev pub zero_padded : List Id → List Id
+zero_padded ids = ids ++ replicate (16 - length ids) (first_id ids)
 
 -- the room holds so many
-pub record AreRoomed (room : List Id) (len : ℕ) : Type 0 where
+pub record AreZeroPadded (room : List Id) (len : ℕ) : Type 0 where
   pub count : IsCount len
   pub long : length (take len room) ≡ len
-  pub rest : room ≡ roomed (take len room)
+  pub rest : room ≡ zero_padded (take len room)
 
 -- their texts, one behind the other
 abbrev pub spellings_of : List Id → List ℕ

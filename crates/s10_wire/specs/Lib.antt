@@ -1,6 +1,6 @@
 pub mod Ids
 pub mod Datagrams
-pub mod Room
+pub mod Padding
 pub mod Kind
 pub mod Reply
 pub mod WireFault

@@ -109,21 +109,21 @@ outcome_refusals kind b =
     if code == 0 then done_fields kind b else (not (code_fits kind code), Outcome) ∷ []
 
 -- the refusals of a request of this kind, behind its header
-abbrev pub refusals_behind_request : List ℕ → Kind → List (Bool × WireFault)
-refusals_behind_request b kind = (not (length b == request_length kind), Length) ∷ request_fields kind b
+abbrev pub refusals_after_request : List ℕ → Kind → List (Bool × WireFault)
+refusals_after_request b kind = (not (length b == request_length kind), Length) ∷ request_fields kind b
 
 -- the refusals of a request
 abbrev pub request_refusals : List ℕ → List (Bool × WireFault)
-request_refusals b = header_refusals 0 b ++ of_kind (kind_named 0 b) (refusals_behind_request b)
+request_refusals b = header_refusals 0 b ++ of_kind (kind_named 0 b) (refusals_after_request b)
 
 -- the refusals of a reply of this kind, behind its header
-abbrev pub refusals_behind_reply : List ℕ → Kind → List (Bool × WireFault)
-refusals_behind_reply b kind =
+abbrev pub refusals_after_reply : List ℕ → Kind → List (Bool × WireFault)
+refusals_after_reply b kind =
     (not (is_reply_long kind b), Length) ∷ (request_fields kind b ++ outcome_refusals kind b)
 
 -- the refusals of a reply
 abbrev pub reply_refusals : List ℕ → List (Bool × WireFault)
-reply_refusals b = header_refusals 0x80 b ++ of_kind (kind_named 0x80 b) (refusals_behind_reply b)
+reply_refusals b = header_refusals 0x80 b ++ of_kind (kind_named 0x80 b) (refusals_after_reply b)
 
 -- the refusal applies to the bytes as a request, and none before it does
 abbrev pub IsFirstRefusalOfRequest : List ℕ → WireFault → Type 0

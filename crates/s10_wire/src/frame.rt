@@ -11,15 +11,15 @@ pub struct Frame {
 impl Model for Frame {
     ghost use Rattle.std.specs.Prelude.{ℕ, List, take, length};
     ghost use Rattle.std.proofs.Common.{sym};
-    ghost use Rattle.s10_wire.specs.Room.{IsRoomed, roomed};
+    ghost use Rattle.s10_wire.specs.Padding.{IsZeroPadded, zero_padded};
 
     ghost Value = { List ℕ };
 
     ghost view = { λ frame. take frame.len frame.room };
 
-    ghost invariant = { λ frame. IsRoomed 256 frame.room frame.len };
+    ghost invariant = { λ frame. IsZeroPadded 256 frame.room frame.len };
 
-    ghost inverse = { λ bytes. record { room = roomed 256 bytes; len = length bytes } };
+    ghost inverse = { λ bytes. record { room = zero_padded 256 bytes; len = length bytes } };
 
     ghost inverse_ok = { λ frame known i. record { room = sym known.rest i; len = known.long i } };
 }

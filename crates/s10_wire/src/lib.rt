@@ -4,6 +4,7 @@
 mod body;
 mod count;
 mod encoders;
+mod equality;
 mod fields;
 mod frame;
 mod ids;
@@ -14,13 +15,13 @@ mod reply;
 mod reply_decoder;
 mod request;
 mod request_decoder;
-mod sameness;
 mod status;
 mod wire_fault;
 
 pub use body::Body;
 pub use count::Count;
 pub use encoders::{encode_reply, encode_request};
+pub use equality::{same_outcome, same_request};
 pub use frame::Frame;
 pub use ids::Ids;
 pub use laws::{
@@ -32,6 +33,5 @@ pub use reply::Reply;
 pub use reply_decoder::decode_reply;
 pub use request::Request;
 pub use request_decoder::decode_request;
-pub use sameness::{same_outcome, same_request};
 pub use status::Status;
 pub use wire_fault::WireFault;

@@ -6,7 +6,7 @@ use Rattle.s10_wire.specs.declared.body.Body.{Body}
 use Rattle.s10_wire.specs.declared.request.Request.{Request}
 use Rattle.s10_history.specs.Settings.{Terms}
 use Rattle.s10_ends.specs.declared.submit_fault.SubmitFault.{SubmitFault}
-use Rattle.s10_ends.specs.Client.{ClientState, next_request, after_submit, submit_fault, settled}
+use Rattle.s10_ends.specs.Client.{ClientState, next_request, after_submit, submit_fault, without_pending}
 use Rattle.s10_world.specs.declared.event.Event.{Event}
 use Rattle.s10_world.specs.declared.event.Event.TheVariants.{Submit, Resend, GiveUp, ToServer, Strange, ToClient}
 use Rattle.s10_world.specs.declared.world_fault.WorldFault.{WorldFault}
@@ -48,7 +48,7 @@ submit_same w k body (Some c) there = submit_at w k c body (submit_fault c) ther
 
 give_up_same : (w : WorldState) (k : ℕ) (client : Option ClientState) → slice_get w.clients k ≡ client → AreSame w.clients (after_give_up_by w k client).clients
 give_up_same w k None there = same_lists w.clients w.clients refl
-give_up_same w k (Some c) there = same_set w.clients k c (settled c) there (refl, refl, refl)
+give_up_same w k (Some c) there = same_set w.clients k c (without_pending c) there (refl, refl, refl)
 
 -- what a step leaves as it was
 left : (w w' v : WorldState) → w' ≡ v → v.clients ≡ w.clients → AreSame w.clients w'.clients
@@ -83,7 +83,7 @@ reply_same : (w w' : WorldState) (k : ℕ) (client : Option ClientState) (b : Op
 reply_same w w' k None b there is = left w w' w is refl
 reply_same w w' k (Some c) None there is = left w w' w is refl
 reply_same w w' k (Some c) (Some b) there is = elim is [
-  | inl own ↦ made w w' _ own.3 (same_set w.clients k c (settled c) there (refl, refl, refl))
+  | inl own ↦ made w w' _ own.3 (same_set w.clients k c (without_pending c) there (refl, refl, refl))
   | inr other ↦ left w w' w other.1 refl
 ]
 

@@ -16,12 +16,12 @@ use Rattle.s10_wire.proofs.Replied.{one_reply}
 use Rattle.s10_history.specs.declared.entry.Entry.{Entry}
 use Rattle.s10_book.specs.declared.faults.Faults.{Faults}
 use Rattle.s10_history.specs.Settings.{Terms}
-use Rattle.s10_history.specs.History.{has_key, entry_with_key}
+use Rattle.s10_history.specs.History.{has_key, find_entry}
 use Rattle.s10_book.specs.Once.{applied_once}
 use Rattle.s10_ends.specs.declared.submit_fault.SubmitFault.{SubmitFault}
 use Rattle.s10_ends.specs.declared.submit_fault.SubmitFault.TheVariants.{Busy, NumbersSpent}
-use Rattle.s10_ends.specs.Served.{Gives, IsOwed}
-use Rattle.s10_ends.specs.Client.{ClientState, next_number, next_request, after_submit, submit_fault, settled}
+use Rattle.s10_ends.specs.Served.{GivesOutcome, IsOwed}
+use Rattle.s10_ends.specs.Client.{ClientState, next_number, next_request, after_submit, submit_fault, without_pending}
 use Rattle.s10_world.specs.declared.event.Event.{Event}
 use Rattle.s10_world.specs.declared.event.Event.TheVariants.{Submit, Resend, GiveUp, ToServer, Strange, ToClient}
 use Rattle.s10_world.specs.World.{Acceptance, WorldState, after_submit_by, after_give_up_by, SendsPending, Resends, ServesRequest, ReachesServer, DeliversRequest, DeliversReply, Step, Steps}
@@ -110,16 +110,16 @@ sound_submit_by w k body None there sound = sound
 sound_submit_by w k body (Some c) there sound = submit_at w k c body (submit_fault c) there refl sound
 
 -- what is pending at another place
-awaited_settled : (w : WorldState) (k j : ℕ) (c x : ClientState) (p : Request) → IsSoundWorld w → slice_get (slice_set w.clients k (settled c)) j ≡ Some x → x.pending ≡ Some p
+awaited_settled : (w : WorldState) (k j : ℕ) (c x : ClientState) (p : Request) → IsSoundWorld w → slice_get (slice_set w.clients k (without_pending c)) j ≡ Some x → x.pending ≡ Some p
     → (j ≢ k) × IsAwaited w j x p
-awaited_settled w k j c x p sound is pending = elim (after_set w.clients k (settled c) j x is) [
+awaited_settled w k j c x p sound is pending = elim (after_set w.clients k (without_pending c) j x is) [
   | inl e ↦ absurd (none-some p (sym (ap (λ (y : ClientState). y.pending) e.1) ∙ pending))
   | inr e ↦ (e.0, sound.awaited j x p e.1 pending)
 ]
 
-settled_taken : (w : WorldState) (k : ℕ) (c : ClientState) → IsSoundWorld w → slice_get w.clients k ≡ Some c → All (IsOfClient (slice_set w.clients k (settled c))) w.submitted
+settled_taken : (w : WorldState) (k : ℕ) (c : ClientState) → IsSoundWorld w → slice_get w.clients k ≡ Some c → All (IsOfClient (slice_set w.clients k (without_pending c))) w.submitted
 settled_taken w k c sound there =
-    All-weaker (IsOfClient w.clients) (IsOfClient (slice_set w.clients k (settled c))) (λ s. of_client_later w.clients k c (settled c) s there (refl, refl, refl, omega arith)) w.submitted sound.taken
+    All-weaker (IsOfClient w.clients) (IsOfClient (slice_set w.clients k (without_pending c))) (λ s. of_client_later w.clients k c (without_pending c) s there (refl, refl, refl, omega arith)) w.submitted sound.taken
 
 sound_give_up_by : (w : WorldState) (k : ℕ) (client : Option ClientState) → slice_get w.clients k ≡ client → IsSoundWorld w → IsSoundWorld (after_give_up_by w k client)
 sound_give_up_by w k None there sound = sound
@@ -154,16 +154,16 @@ sound_resends w w' None is sound = sound_same w w' is sound
 sound_resends w w' (Some c) is sound = sound_sends w w' c.pending is sound
 
 -- a history that grew gives what it gave
-gives_first : (kept more : Option Entry) (q : Request) (o : Outcome) → Gives kept q o → Gives (option_or kept more) q o
+gives_first : (kept more : Option Entry) (q : Request) (o : Outcome) → GivesOutcome kept q o → GivesOutcome (option_or kept more) q o
 gives_first None more q o is = absurd is
 gives_first (Some e) more q o is = is
 
 gives_grown : (b : Bool) (h : List Entry) (e : Entry) (q : Request) (o : Outcome) → GivesIn h q o → GivesIn (cond b h (h ++ e ∷ [])) q o
 gives_grown true h e q o is = is
-gives_grown false h e q o is = rw (find-append (has_key q.customer q.number) h (e ∷ [])) (gives_first (entry_with_key h q.customer q.number) _ q o is)
+gives_grown false h e q o is = rw (find-append (has_key q.customer q.number) h (e ∷ [])) (gives_first (find_entry h q.customer q.number) _ q o is)
 
 pub gives_later : (h : List Entry) (p : Request) (day n : ℕ) (q : Request) (o : Outcome) → GivesIn h q o → GivesIn (applied_once h ((p, day) ∷ []) n) q o
-gives_later h p day n q o is = subst (λ (l : List Entry). GivesIn l q o) (sym (once_one h p day n)) (gives_grown (is_some (entry_with_key h p.customer p.number)) h _ q o is)
+gives_later h p day n q o is = subst (λ (l : List Entry). GivesIn l q o) (sym (once_one h p day n)) (gives_grown (is_some (find_entry h p.customer p.number)) h _ q o is)
 
 sound_replied : (w : WorldState) (b f : List ℕ) (p : Request) (day n : ℕ) → IsOwed (applied_once w.history ((p, day) ∷ []) n) b f → IsSoundWorld w
     → IsSoundWorld (record w { history = applied_once w.history ((p, day) ∷ []) n; replied = w.replied ++ f ∷ [] })
@@ -207,7 +207,7 @@ given_by h b q o is replies =
     subst (λ (x : Request). GivesIn h x o) same.0 (subst (λ (u : Outcome). GivesIn h is.0 u) same.1 is.2)
 
 sound_accept : (w : WorldState) (k : ℕ) (c : ClientState) (q : Request) (o : Outcome) → slice_get w.clients k ≡ Some c → c.pending ≡ Some q → GivesIn w.history q o → IsSoundWorld w
-    → IsSoundWorld (record w { accepted = w.accepted ++ record { client = k; request = q; outcome = o } ∷ []; clients = slice_set w.clients k (settled c) })
+    → IsSoundWorld (record w { accepted = w.accepted ++ record { client = k; request = q; outcome = o } ∷ []; clients = slice_set w.clients k (without_pending c) })
 sound_accept w k c q o there pending gives sound =
     let a : Acceptance = record { client = k; request = q; outcome = o } in
     let mine = sound.awaited k c q there pending in

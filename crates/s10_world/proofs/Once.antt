@@ -7,7 +7,7 @@ use Rattle.s10_wire.specs.declared.request.Request.{Request}
 use Rattle.s10_wire.specs.Datagrams.{Asks}
 use Rattle.s10_wire.proofs.Asked.{one_request}
 use Rattle.s10_history.specs.declared.entry.Entry.{Entry}
-use Rattle.s10_history.specs.History.{has_key, entry_with_key}
+use Rattle.s10_history.specs.History.{has_key, find_entry}
 use Rattle.s10_book.specs.Once.{same_key, applied, applied_once}
 use Rattle.s10_ends.specs.Served.{Dated, AskNothing, AreAsked}
 use Rattle.s10_ends.specs.Served.AreAsked.{none, nothing, request}
@@ -16,7 +16,7 @@ any_at : (b : Bool) (e : Entry) (rest : Bool) (o : Option Entry) → rest ≡ is
 any_at true e rest o same = refl
 any_at false e rest o same = same
 
-any_kept : (q : Request) (h : List Entry) → list_any (same_key q) (map (λ e. e.request) h) ≡ is_some (entry_with_key h q.customer q.number)
+any_kept : (q : Request) (h : List Entry) → list_any (same_key q) (map (λ e. e.request) h) ≡ is_some (find_entry h q.customer q.number)
 any_kept q [] = refl
 any_kept q (e ∷ es) = any_at (has_key q.customer q.number e) e _ _ (any_kept q es)
 
@@ -25,7 +25,7 @@ one_at true h n p = refl
 one_at false h n p = refl
 
 -- one request is applied where its key is new
-pub once_one : (h : List Entry) (q : Request) (day n : ℕ) → applied_once h ((q, day) ∷ []) n ≡ cond (is_some (entry_with_key h q.customer q.number)) h (applied n h (q, day))
+pub once_one : (h : List Entry) (q : Request) (day n : ℕ) → applied_once h ((q, day) ∷ []) n ≡ cond (is_some (find_entry h q.customer q.number)) h (applied n h (q, day))
 once_one h q day n = one_at (list_any (same_key q) (map (λ e. e.request) h)) h n (q, day) ∙ ap (λ b. cond b h (applied n h (q, day))) (any_kept q h)
 
 -- what deliveries ask, by the first of them

@@ -7,14 +7,14 @@ use Rattle.s10_wire.specs.declared.body.Body.{Body}
 use Rattle.s10_wire.specs.declared.request.Request.{Request}
 use Rattle.s10_history.specs.declared.entry.Entry.{Entry}
 use Rattle.s10_history.specs.Settings.{Terms}
-use Rattle.s10_history.specs.History.{entry_with_key, day_of}
+use Rattle.s10_history.specs.History.{find_entry, day_of}
 use Rattle.s10_book.specs.Once.{entry_for, applied}
 use Rattle.s10_book.specs.Rules.{IsLegal}
 use Rattle.s10_book.proofs.Push.{IsLegal-push}
 use Rattle.s10_book.proofs.Spaced.{spaced}
 use Rattle.s10_book.proofs.Own.{own}
 use Rattle.s10_book.proofs.Apart.{apart}
-use Rattle.s10_ends.specs.Runs.{IsKept}
+use Rattle.s10_ends.specs.Runs.{KeepsPromises}
 use Rattle.s10_ends.specs.Client.{ClientState, IsNew, submit_fault}
 use Rattle.s10_world.specs.declared.event.Event.{Event}
 use Rattle.s10_world.specs.declared.event.Event.TheVariants.{Submit, Resend, GiveUp, ToServer, Strange, ToClient}
@@ -41,7 +41,7 @@ start_sound w start =
 legal_same : (t : Terms) (w w' : WorldState) → w'.history ≡ w.history → IsLegal w.history t → IsLegal w'.history t
 legal_same t w w' same legal = subst (λ (h : List Entry). IsLegal h t) (sym same) legal
 
-applied_at : (h : List Entry) (t : Terms) (q : Request) (day : ℕ) (kept : Option Entry) → entry_with_key h q.customer q.number ≡ kept
+applied_at : (h : List Entry) (t : Terms) (q : Request) (day : ℕ) (kept : Option Entry) → find_entry h q.customer q.number ≡ kept
     → (length h < t.limit) ⊎ IsSome kept → IsLegal h t → IsLegal (cond (is_some kept) h (applied t.interval h (q, day))) t
 applied_at h t q day (Some e) is room legal = legal
 applied_at h t q day None is (inr known) legal = absurd (none-some known (cc))
@@ -54,9 +54,9 @@ legal_serves t w w' b q day serves legal = elim serves [
   | inr other ↦ elim other [
     | inl full ↦ legal_same t w w' (ap (λ (v : WorldState). v.history) full.1) legal
     | inr replied ↦
-        let after : w'.history ≡ cond (is_some (entry_with_key w.history q.customer q.number)) w.history (applied t.interval w.history (q, day)) =
+        let after : w'.history ≡ cond (is_some (find_entry w.history q.customer q.number)) w.history (applied t.interval w.history (q, day)) =
         ap (λ (v : WorldState). v.history) replied.3 ∙ once_one w.history q day t.interval in
-        subst (λ (h : List Entry). IsLegal h t) (sym after) (applied_at w.history t q day (entry_with_key w.history q.customer q.number) refl replied.0 legal)
+        subst (λ (h : List Entry). IsLegal h t) (sym after) (applied_at w.history t q day (find_entry w.history q.customer q.number) refl replied.0 legal)
   ]
 ]
 
@@ -110,5 +110,5 @@ pub steps_legal : (t : Terms) (w w' : WorldState) (es : List Event) → Steps t 
 steps_legal t w w' [] is legal = legal_same t w w' (ap (λ (v : WorldState). v.history) is) legal
 steps_legal t w w' (e ∷ es) is legal = steps_legal t is.0 w' es is.2 (step_legal t w is.0 e is.1 legal)
 
-pub kept_of : (h : List Entry) (t : Terms) → IsLegal h t → IsKept h t
+pub kept_of : (h : List Entry) (t : Terms) → IsLegal h t → KeepsPromises h t
 kept_of h t legal = record { legal = legal; spaced = spaced h t legal; own = own h t legal; apart = apart h t legal }

@@ -17,7 +17,7 @@ use Rattle.s10_book.specs.declared.book_fault.BookFault.TheVariants.{Memory, Sto
 use Rattle.s10_book.specs.declared.faults.Faults.{Faults}
 use Rattle.s10_book.specs.BookFault.{CountsFault}
 use Rattle.s10_history.specs.Settings.{Terms}
-use Rattle.s10_history.specs.History.{entry_with_key}
+use Rattle.s10_history.specs.History.{find_entry}
 use Rattle.s10_book.specs.Once.{applied, applied_once}
 use Rattle.s10_ends.specs.declared.answer.Answer.TheVariants.{Reply as replied_with, Faulted}
 use Rattle.s10_ends.specs.declared.submit_fault.SubmitFault.{SubmitFault}
@@ -67,10 +67,10 @@ reached_reply w t b day frame h faults replied served few same grown =
     let asks : Asks b q = served.answered.0.2 in
     let once : h ≡ applied_once w.history ((q, day) ∷ []) t.interval =
     served.once_each.2 ∙ ap (λ l. applied_once w.history l t.interval) (one_asked b day served.once_each.0 q asks served.once_each.1) in
-    let short : length (cond (is_some (entry_with_key w.history q.customer q.number)) w.history (applied t.interval w.history (q, day))) ≤ t.limit =
+    let short : length (cond (is_some (find_entry w.history q.customer q.number)) w.history (applied t.interval w.history (q, day))) ≤ t.limit =
     subst (λ (l : List Entry). length l ≤ t.limit) (once ∙ once_one w.history q day t.interval) few in
     let owed : IsOwed (applied_once w.history ((q, day) ∷ []) t.interval) b frame = subst (λ (l : List Entry). IsOwed l b frame) once served.answered.0 in
-    inr (q, asks, inr (inr (room_at (entry_with_key w.history q.customer q.number) w.history _ t.limit short, frame, owed, rw (once, same, grown) refl)))
+    inr (q, asks, inr (inr (room_at (find_entry w.history q.customer q.number) w.history _ t.limit short, frame, owed, rw (once, same, grown) refl)))
 
 pub reached_nothing : (w : WorldState) (t : Terms) (b : List ℕ) (day : ℕ) (h : List Entry) (faults : Faults)
     → AskNothing b → h ≡ w.history → faults ≡ w.faults → ReachesServer t w b day (record w { history = h; faults = faults })

@@ -16,11 +16,11 @@ use Rattle.s10_history.specs.declared.range.Range.{Range}
 use Rattle.s10_history.specs.declared.issue.Issue.{Issue}
 use Rattle.s10_history.specs.declared.issuance.Issuance.{Issuance}
 use Rattle.s10_history.specs.Settings.{Terms}
-use Rattle.s10_history.specs.History.{has_key, entry_with_key}
-use Rattle.s10_book.specs.Rules.{IsLegal, answer_of, outcome_of_pick, outcome_of_row, void_issue}
-use Rattle.s10_ends.specs.Served.{Gives}
+use Rattle.s10_history.specs.History.{has_key, find_entry}
+use Rattle.s10_book.specs.Rules.{IsLegal, answer_of, outcome_of_pick, outcome_of_draws, void_issue}
+use Rattle.s10_ends.specs.Served.{GivesOutcome}
 use Rattle.s10_world.specs.World.{Acceptance, WorldState}
-use Rattle.s10_world.specs.Agreement.{HasOutcome, HasOther, IsOutcomeIn, Agrees, IsExecutedAtMostOnce, TellsExecution, IsAtMostOnce}
+use Rattle.s10_world.specs.Agreement.{HasOutcome, HasOther, IsOutcomeIn, Agrees, IsExecutedAtMostOnce, RevealsExecution, IsAtMostOnce}
 use Rattle.s10_world.specs.Sound.{GivesIn, IsSoundWorld}
 use Rattle.s10_ends.proofs.Equal.{same_request_or_not}
 
@@ -36,7 +36,7 @@ found p (x ∷ xs) r is = elim (chosen (p x) x r (find p xs) is) [
   | inr later ↦ let rest = found p xs r later in (rest.0, (suc rest.1.0, omega (arith, rest.1.1), rest.1.2))
 ]
 
-outcome_at : (h : List Entry) (q : Request) (o : Outcome) (kept : Option Entry) → entry_with_key h q.customer q.number ≡ kept → Gives kept q o
+outcome_at : (h : List Entry) (q : Request) (o : Outcome) (kept : Option Entry) → find_entry h q.customer q.number ≡ kept → GivesOutcome kept q o
     → HasOutcome h q o ⊎ ((o ≡ NumberReused) × HasOther h q)
 outcome_at h q o None is gives = absurd gives
 outcome_at h q o (Some e) is gives =
@@ -47,7 +47,7 @@ outcome_at h q o (Some e) is gives =
     ]
 
 outcome_in : (h : List Entry) (q : Request) (o : Outcome) → GivesIn h q o → HasOutcome h q o ⊎ ((o ≡ NumberReused) × HasOther h q)
-outcome_in h q o gives = outcome_at h q o (entry_with_key h q.customer q.number) refl gives
+outcome_in h q o gives = outcome_at h q o (find_entry h q.customer q.number) refl gives
 
 pub agrees : (w : WorldState) → IsSoundWorld w → Agrees w
 agrees w sound =
@@ -103,7 +103,7 @@ pick_not is day rs (Some r) = λ e. cc
 pick_not is day [] None = λ e. cc
 pick_not is day (r ∷ rs) None = λ e. cc
 
-row_not : (day : ℕ) (rs : List Range) (row : Option (List Id)) → outcome_of_row day rs row ≢ NumberReused
+row_not : (day : ℕ) (rs : List Range) (row : Option (List Id)) → outcome_of_draws day rs row ≢ NumberReused
 row_not day [] row = λ e. cc
 row_not day (r ∷ rs) None = λ e. cc
 row_not day (r ∷ rs) (Some ids) = λ e. cc
@@ -135,7 +135,7 @@ kept_not h t i e legal at reused = answer_not (take i h) e.request e.request.bod
 placed : {X : Type 0} (xs : List X) (x : X) (is : Contains xs x) → slice_get xs is.0 ≡ Some x
 placed xs x is = slice_get-get_or xs is.0 x is.1 ∙ ap Some is.2
 
-tells : (h : List Entry) (t : Terms) (a : Acceptance) → IsLegal h t → GivesIn h a.request a.outcome → TellsExecution h a
+tells : (h : List Entry) (t : Terms) (a : Acceptance) → IsLegal h t → GivesIn h a.request a.outcome → RevealsExecution h a
 tells h t a legal gives =
     let outcome = outcome_in h a.request a.outcome gives in
     record {
@@ -158,5 +158,5 @@ pub once : (w : WorldState) (t : Terms) → IsLegal w.history t → IsSoundWorld
 once w t legal sound =
     record {
       submitted = λ i d within. at_most_once w.history t (get_or w.submitted i d).1 legal;
-      accepted = All-weaker (λ a. GivesIn w.history a.request a.outcome) (TellsExecution w.history) (λ a. tells w.history t a legal) w.accepted sound.given;
+      accepted = All-weaker (λ a. GivesIn w.history a.request a.outcome) (RevealsExecution w.history) (λ a. tells w.history t a legal) w.accepted sound.given;
     }

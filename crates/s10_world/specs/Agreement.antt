@@ -40,7 +40,7 @@ abbrev pub IsExecutedAtMostOnce : List Entry → Request → Type 0
 IsExecutedAtMostOnce h q = (i j : ℕ) → IsExecutedAt h q i → IsExecutedAt h q j → i ≡ j
 
 -- a reply other than NumberReused says that the request was executed exactly once, and NumberReused that it was not
-pub record TellsExecution (h : List Entry) (a : Acceptance) : Type 0 where
+pub record RevealsExecution (h : List Entry) (a : Acceptance) : Type 0 where
   pub executed : a.outcome ≢ NumberReused → IsExecuted h a.request × IsExecutedAtMostOnce h a.request
   pub reused : a.outcome ≡ NumberReused → ¬ (IsExecuted h a.request)
 
@@ -63,7 +63,7 @@ AreDaysApart interval a b = (x : Id) (d e : ℕ) → Contains (carried_by a.outc
 -- whether its request was executed
 pub record IsAtMostOnce (w : WorldState) : Type 0 where
   pub submitted : All (λ s. IsExecutedAtMostOnce w.history s.1) w.submitted
-  pub accepted : All (TellsExecution w.history) w.accepted
+  pub accepted : All (RevealsExecution w.history) w.accepted
 
 -- where no two clients of one customer have a number in common, no two calls share a request, and no identifier is
 -- accepted twice within the interval

@@ -4,14 +4,14 @@ use Rattle.s10_wire.specs.declared.request.Request.{Request}
 use Rattle.s10_wire.specs.declared.outcome.Outcome.{Outcome}
 use Rattle.s10_wire.specs.Datagrams.{Replies}
 use Rattle.s10_history.specs.declared.entry.Entry.{Entry}
-use Rattle.s10_history.specs.History.{entry_with_key}
-use Rattle.s10_ends.specs.Served.{Gives}
+use Rattle.s10_history.specs.History.{find_entry}
+use Rattle.s10_ends.specs.Served.{GivesOutcome}
 use Rattle.s10_ends.specs.Client.{ClientState, IsNew, next_number}
 use Rattle.s10_world.specs.World.{WorldState}
 
 -- the history gives the request that outcome
 abbrev pub GivesIn : List Entry → Request → Outcome → Type 0
-GivesIn h q o = Gives (entry_with_key h q.customer q.number) q o
+GivesIn h q o = GivesOutcome (find_entry h q.customer q.number) q o
 
 -- the bytes are a reply that the history gives
 abbrev pub IsGivenBy : List Entry → List ℕ → Type 0

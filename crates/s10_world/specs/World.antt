@@ -6,12 +6,12 @@ use Rattle.s10_wire.specs.declared.outcome.Outcome.{Outcome}
 use Rattle.s10_wire.specs.Datagrams.{Asks}
 use Rattle.s10_history.specs.declared.entry.Entry.{Entry}
 use Rattle.s10_history.specs.Settings.{Terms}
-use Rattle.s10_history.specs.History.{entry_with_key}
+use Rattle.s10_history.specs.History.{find_entry}
 use Rattle.s10_book.specs.Once.{applied_once}
 use Rattle.s10_book.specs.declared.faults.Faults.{Faults}
 use Rattle.s10_book.specs.BookFault.{MemoryRises, StoreRises}
 use Rattle.s10_ends.specs.Served.{AskNothing, IsOwed, IsFullFor}
-use Rattle.s10_ends.specs.Client.{ClientState, next_request, after_submit, submit_fault, settled, IsOwnReply}
+use Rattle.s10_ends.specs.Client.{ClientState, next_request, after_submit, submit_fault, without_pending, IsOwnReply}
 use Rattle.s10_world.specs.declared.event.Event.{Event}
 use Rattle.s10_world.specs.declared.event.Event.TheVariants.{Submit, Resend, GiveUp, ToServer, Strange, ToClient}
 
@@ -52,7 +52,7 @@ Resends w (Some c) w' = SendsPending w c.pending w'
 -- GiveUp: nothing is pending any more
 abbrev pub after_give_up_by : WorldState → ℕ → Option ClientState → WorldState
 after_give_up_by w k None = w
-after_give_up_by w k (Some c) = record w { clients = slice_set w.clients k (settled c) }
+after_give_up_by w k (Some c) = record w { clients = slice_set w.clients k (without_pending c) }
 
 -- a fault of the book: one of its counts rises, or is the greatest number
 abbrev pub Fails : WorldState → WorldState → Type 0
@@ -60,7 +60,7 @@ Fails w w' = (MemoryRises w.faults w'.faults ⊎ StoreRises w.faults w'.faults) 
 
 -- there are fewer calls than the limit allows, or one has the key of the request
 abbrev pub HasPlaceFor : List Entry → Terms → Request → Type 0
-HasPlaceFor h t q = (length h < t.limit) ⊎ IsSome (entry_with_key h q.customer q.number)
+HasPlaceFor h t q = (length h < t.limit) ⊎ IsSome (find_entry h q.customer q.number)
 
 -- the request is executed, unless it was before, and the reply that is owed is sent
 abbrev pub RepliesTo : Terms → WorldState → List ℕ → Request → ℕ → WorldState → Type 0
@@ -84,7 +84,7 @@ DeliversRequest t w (Some b) day w' = ReachesServer t w b day w'
 -- the bytes reply to exactly what is pending: nothing is pending any more, and the reply joins those accepted
 abbrev pub Accepts : WorldState → ℕ → ClientState → List ℕ → WorldState → Type 0
 Accepts w k c b w' = (q : Request) × (o : Outcome) × IsOwnReply c b q o
-    × (w' ≡ record w { accepted = w.accepted ++ record { client = k; request = q; outcome = o } ∷ []; clients = slice_set w.clients k (settled c) })
+    × (w' ≡ record w { accepted = w.accepted ++ record { client = k; request = q; outcome = o } ∷ []; clients = slice_set w.clients k (without_pending c) })
 
 -- ToClient: bytes that were sent in reply
 abbrev pub DeliversReply : WorldState → ℕ → Option ClientState → Option (List ℕ) → WorldState → Type 0

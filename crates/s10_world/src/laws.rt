@@ -3,7 +3,7 @@
 ghost use Rattle.std.specs.Prelude.{List};
 ghost use Rattle.s10_history.specs.Settings.{Terms};
 ghost use Rattle.s10_book.specs.Rules.{IsLegal};
-ghost use Rattle.s10_ends.specs.Runs.{IsKept};
+ghost use Rattle.s10_ends.specs.Runs.{KeepsPromises};
 ghost use Rattle.s10_world.specs.declared.event.Event.{Event};
 ghost use Rattle.s10_world.specs.World.{WorldState, Steps};
 ghost use Rattle.s10_world.specs.Sound.{IsStart};
@@ -13,7 +13,7 @@ ghost use Rattle.s10_world.specs.Agreement.{Agrees, IsAtMostOnce, HaveOwnNumbers
 /// the events are: what was lost, repeated or reordered, and whatever bytes reached the server.
 pub fn reachable_worlds()
     // The history is legal, no identifier is issued twice within the interval, each is its customer's own.
-    ensures kept { (t : Terms) (w w' : WorldState) (events : List Event) → IsStart w → IsLegal w.history t → Steps t w events w' → IsKept w'.history t }
+    ensures kept { (t : Terms) (w w' : WorldState) (events : List Event) → IsStart w → IsLegal w.history t → Steps t w events w' → KeepsPromises w'.history t }
     // What was accepted agrees with the history.
     ensures agree { (t : Terms) (w w' : WorldState) (events : List Event) → IsStart w → Steps t w events w' → Agrees w' }
     // Each submitted request was executed at most once, and its reply tells whether it was.

@@ -32,7 +32,7 @@ impl<B: Book> Model for World<B> {
 impl<B: Book> World<B> {
     ghost use Rattle.std.specs.Prelude.{◌≡◌, ◌<◌, ◌^◌, ℕ, [], length, map, take, slice_get, All, OnOk, OnErr, IfErr};
     ghost use Rattle.s10_ends.specs.Client.{IsNew};
-    ghost use Rattle.s10_ends.specs.Runs.{IsKept};
+    ghost use Rattle.s10_ends.specs.Runs.{KeepsPromises};
     ghost use Rattle.s10_world.specs.World.{Steps};
     ghost use Rattle.s10_world.specs.Agreement.{Agrees, IsAtMostOnce, HaveOwnNumbers, IsUnshared};
     ghost use Rattle.s10_world.specs.Parts.{server_of, book_in, clients_of, asked_of, replied_of, submitted_of, accepted_of, world_state_of, place_of};
@@ -115,7 +115,7 @@ impl<B: Book> World<B> {
             Steps (B.terms (book_in self.old)) (world_state_of B.history B.faults self.old) (take (place_of fault) events.now) (world_state_of B.history B.faults self.new)) }
 
         // What was accepted agrees with the history, which keeps what legal histories keep.
-        ensures kept { B.honest (book_in self.new) → IsKept (B.history (book_in self.new)) (B.terms (book_in self.new)) }
+        ensures kept { B.honest (book_in self.new) → KeepsPromises (B.history (book_in self.new)) (B.terms (book_in self.new)) }
         ensures agrees { B.honest (book_in self.new) → Agrees (world_state_of B.history B.faults self.new) }
 
         // Each submitted request was executed at most once; a call whose reply was accepted exactly once, or not at all

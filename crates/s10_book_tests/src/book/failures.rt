@@ -93,7 +93,7 @@ const FIRST_CALLS: &'static [(&'static [Step], u64)] = &[
 ];
 
 #[test]
-fn a_failed_call_of_the_book_is_made_good_by_a_repeat(rt: HostRuntime) {
+fn a_retry_succeeds_after_a_failed_book_call(rt: HostRuntime) {
     for at in 0..3u64 {
         assert!(rt; fails_once(rt.alloc(), at));
     }
@@ -131,7 +131,7 @@ const WITHDRAWALS: &'static [(&'static [Step], u64)] = &[
 ];
 
 #[test]
-fn a_failed_withdrawal_is_made_good_by_a_repeat(rt: HostRuntime) {
+fn a_retry_succeeds_after_a_failed_withdrawal(rt: HostRuntime) {
     all_make(&rt, WITHDRAWALS);
 }
 

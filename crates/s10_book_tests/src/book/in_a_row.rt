@@ -4,7 +4,7 @@ use crate::book::books::Answered::{Drawn, Granted, Withdrawn};
 use crate::book::books::Asked::{Draw, Grant, Withdraw};
 use crate::book::books::{OPENING, Step, answer, book_after, gb, id, ra, request, sheet};
 use crate::expect::same;
-use s10_book::{Book, draws_in_a_row};
+use s10_book::{Book, successive_draws};
 use s10_wire::{Ids, Outcome};
 use std::process::Abort;
 
@@ -47,7 +47,7 @@ fn are_serials(ids: &Option<Ids>, serials: Option<&[u32]>) -> bool {
 /// Whether a row is as it says of a book, and like single Draws of another one.
 fn is_right<B: Book + Drop>(mut book: B, mut other: B, row: &Row) -> bool {
     let (customer, count, day, serials) = *row;
-    match draws_in_a_row(&mut book, customer, ra(), gb(), sheet(count), day) {
+    match successive_draws(&mut book, customer, ra(), gb(), sheet(count), day) {
         Ok(ids) => are_serials(&ids, serials) && are_single_draws(&mut other, row, &ids),
         Err(_) => false,
     }

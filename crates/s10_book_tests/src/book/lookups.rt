@@ -11,7 +11,7 @@ use std::process::Abort;
 /// Under the numbers from 0 to 8 stand the ranges that were granted.
 fn are_numbered(rt: &impl Abort, ranges: &Ranges) {
     for num in 0..9u32 {
-        same(rt, &num, &ranges.numbered(num), &numbered(rt, num));
+        same(rt, &num, &ranges.range_by_number(num), &numbered(rt, num));
     }
 }
 
@@ -19,7 +19,7 @@ fn are_numbered(rt: &impl Abort, ranges: &Ranges) {
 fn has_next(rt: &impl Abort, ranges: &Ranges, customer: u32, after: u32, want: u32) {
     let ra = service(rt, *b"RA");
     let gb = country(rt, *b"GB");
-    let found = ranges.open_after(customer, ra, gb, after);
+    let found = ranges.next_open_range(customer, ra, gb, after);
     same(rt, &(customer, after), &found, &numbered(rt, want));
 }
 
@@ -42,7 +42,7 @@ fn has_over(
 ) {
     let service = service(rt, letters);
     let country = country(rt, code);
-    let found = ranges.over(service, country, serial(rt, first), serial(rt, last));
+    let found = ranges.covering_range(service, country, serial(rt, first), serial(rt, last));
     same(rt, &(first, last), &found, &numbered(rt, want));
 }
 
@@ -160,7 +160,7 @@ fn ranges_of_another_service_or_country_are_not_found(rt: HostRuntime) {
 #[test]
 fn in_no_ranges_none_is_found(rt: HostRuntime) {
     let ranges = Ranges::new(rt.alloc());
-    assert!(rt; ranges.numbered(1).is_none());
+    assert!(rt; ranges.range_by_number(1).is_none());
     assert!(rt; !ranges.is_closed(1));
     has_next(&rt, &ranges, 7, 0, 0);
     has_over(&rt, &ranges, *b"RA", *b"GB", 0, 99_999_999, 0);
@@ -170,7 +170,7 @@ fn in_no_ranges_none_is_found(rt: HostRuntime) {
 fn is_left_out<R: Abort + AllocGlobal>(rt: &R, num: u32, granted: Granted) {
     let mut ranges = all_granted(rt);
     grant(rt, &mut ranges, &range(rt, num, granted));
-    same(rt, &granted, &ranges.numbered(8), &None);
+    same(rt, &granted, &ranges.range_by_number(8), &None);
 }
 
 // A Grant that overlaps, one whose number is not the next, and one that ends before it begins.

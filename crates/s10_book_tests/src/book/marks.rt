@@ -2,14 +2,14 @@
 
 use crate::book::granted::{all_granted, draw, serial, withdraw};
 use crate::expect::same;
-use s10_ranges::{Mark, Ranges, Turn};
+use s10_ranges::{Lap, Mark, Ranges};
 use s10_wire::Outcome;
 use std::process::Abort;
 
-fn has_mark(rt: &impl Abort, ranges: &Ranges, num: u32, mark: u32, turn: Turn) {
+fn has_mark(rt: &impl Abort, ranges: &Ranges, num: u32, mark: u32, lap: Lap) {
     let mark = Mark {
         serial: serial(rt, mark),
-        turn,
+        lap,
     };
     same(rt, &num, &ranges.mark(num), &Some(mark));
 }
@@ -17,7 +17,7 @@ fn has_mark(rt: &impl Abort, ranges: &Ranges, num: u32, mark: u32, turn: Turn) {
 /// Numbers of ranges in their first turn, and their marks.
 fn have_marks(rt: &impl Abort, ranges: &Ranges, marks: &[(u32, u32)]) {
     for (num, mark) in marks {
-        has_mark(rt, ranges, *num, *mark, Turn::First);
+        has_mark(rt, ranges, *num, *mark, Lap::First);
     }
 }
 
@@ -34,24 +34,24 @@ fn new_range_is_marked_at_its_first_serial(rt: HostRuntime) {
 
 /// Each drawn serial, the number of its range, and the mark behind it: past the last serial it is the first again, and the range
 /// stays in a later turn.
-const DRAWN: &[(u32, u32, u32, Turn)] = &[
-    (10, 2, 11, Turn::First),
-    (18, 2, 19, Turn::First),
-    (19, 2, 10, Turn::Later),
-    (10, 2, 11, Turn::Later),
-    (30, 3, 30, Turn::Later),
-    (30, 3, 30, Turn::Later),
-    (50, 1, 51, Turn::First),
-    (0, 5, 0, Turn::Later),
-    (19, 2, 10, Turn::Later),
+const DRAWN: &[(u32, u32, u32, Lap)] = &[
+    (10, 2, 11, Lap::First),
+    (18, 2, 19, Lap::First),
+    (19, 2, 10, Lap::Later),
+    (10, 2, 11, Lap::Later),
+    (30, 3, 30, Lap::Later),
+    (30, 3, 30, Lap::Later),
+    (50, 1, 51, Lap::First),
+    (0, 5, 0, Lap::Later),
+    (19, 2, 10, Lap::Later),
 ];
 
 #[test]
-fn mark_stands_behind_the_serial_that_was_drawn(rt: HostRuntime) {
+fn mark_is_one_after_the_drawn_serial(rt: HostRuntime) {
     let mut ranges = all_granted(&rt);
-    for (value, num, mark, turn) in DRAWN {
+    for (value, num, mark, lap) in DRAWN {
         draw(&rt, &mut ranges, *value);
-        has_mark(&rt, &ranges, *num, *mark, *turn);
+        has_mark(&rt, &ranges, *num, *mark, *lap);
     }
     have_marks(&rt, &ranges, &[(4, 90), (6, 20), (7, 10)]);
 }

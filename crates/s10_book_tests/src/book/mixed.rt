@@ -15,10 +15,10 @@ const ROUNDS: u32 = 60;
 const NUMBERS: [u32; 12] = [0, 1, 2, 3, 4, 5, 6, 7, 3, 8, 9, 4];
 
 // The customers 1 to 4 draw in turn; the others are the post, holders of a slot, and any.
-fn customer(round: u32, turn: usize) -> u32
+fn customer(round: u32, lap: usize) -> u32
     requires { round ≤ 1000 }
 {
-    match turn {
+    match lap {
         1 => 1 + (round + 1) % 4,
         2 => 1 + (round + 2) % 4,
         3 | 8 | 9 => 1 + (round + 3) % 4,
@@ -35,12 +35,12 @@ fn customer(round: u32, turn: usize) -> u32
 // a Void and a Query of a serial of the slots in turn; a Grant that is not the post's, or has its first serial above its last; a
 // Query of the post; a sheet of two; and four Withdraws of a range, the second by customer 1, and then of the next one, from a
 // number that no range has on. The others are Draws.
-fn asked(round: u32, turn: usize) -> Asked
+fn asked(round: u32, lap: usize) -> Asked
     requires { round ≤ 1000 }
 {
     let slot = round % 12;
     let serial = 4 * (round * 5 % 12) + round % 3;
-    match turn {
+    match lap {
         0 => Asked::Grant(1 + slot % 3, 4 * slot, 4 * slot + 2),
         4 => Asked::Void(serial),
         5 => Asked::Query(serial),
@@ -77,10 +77,10 @@ fn kind(outcome: &Outcome) -> usize
 }
 
 // The days rise by five in four rounds; one call of each round is handed in on an earlier day.
-fn day(round: u32, turn: usize) -> u32
+fn day(round: u32, lap: usize) -> u32
     requires { round ≤ 1000 }
 {
-    if turn == 2 {
+    if lap == 2 {
         19_000
     } else {
         20_000 + round * 5 / 4
@@ -117,10 +117,10 @@ fn round_is_alike<A: Book, B: Book>(
 ) -> bool
     requires { round ≤ 1000 }
 {
-    for (turn, number) in NUMBERS.iter().enumerate() {
+    for (lap, number) in NUMBERS.iter().enumerate() {
         let number = number.saturating_add(10 * round);
-        let request = request(customer(round, turn), number, asked(round, turn));
-        if !turn_is_alike(one, other, &request, day(round, turn), seen) {
+        let request = request(customer(round, lap), number, asked(round, lap));
+        if !turn_is_alike(one, other, &request, day(round, lap), seen) {
             return false;
         }
     }
@@ -139,7 +139,7 @@ fn rounds_alike<A: Book, B: Book>(one: &mut A, other: &mut B) -> (u32, [bool; 17
 }
 
 #[test]
-fn mixed_calls_are_answered_alike(rt: HostRuntime) {
+fn both_books_answer_mixed_calls_alike(rt: HostRuntime) {
     let mut plain = plain_book(rt.alloc());
     let mut indexed = indexed_book(rt.alloc());
     let alike = rounds_alike(&mut plain, &mut indexed);

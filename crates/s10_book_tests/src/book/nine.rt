@@ -69,7 +69,7 @@ fn told_after_nine_calls<B: Book + Drop>(mut book: B) -> ((Option<usize>, u32), 
 }
 
 #[test]
-fn the_last_issue_of_each_serial_is_told(rt: HostRuntime) {
+fn the_last_issue_of_each_serial_is_reported(rt: HostRuntime) {
     let found = told_after_nine_calls(indexed_book(rt.alloc()));
     same(&rt, &"serial", &found, &((None, 9), None));
 }
@@ -103,7 +103,7 @@ fn nine_calls_at_last<B: Book + Drop>(mut book: B) -> (Option<usize>, u32) {
 }
 
 #[test]
-fn a_refused_request_for_memory_is_made_good_by_a_repeat(rt: HostRuntime) {
+fn a_retry_succeeds_after_a_failed_allocation(rt: HostRuntime) {
     let found = nine_calls_at_last(indexed_book(rt.alloc()));
     same(&rt, &"at last", &found, &(None, 9));
 }

@@ -21,7 +21,7 @@ fn behind(first: u32, last: u32, from: u32, count: u8) -> Option<u32> {
     let from = serial(from);
     let is_own = range.first.value() <= from.value() && from.value() <= range.last.value();
     if is_own && u32::from(count) < range.size() {
-        Some(range.serial_behind(from, count).value())
+        Some(range.serial_after(from, count).value())
     } else {
         None
     }
@@ -61,7 +61,7 @@ const BEHIND: &[(u32, u32, u32, u8, u32)] = &[
 ];
 
 #[test]
-fn behind_its_last_serial_a_range_gives_its_first(rt: HostRuntime) {
+fn after_its_last_serial_a_range_gives_its_first(rt: HostRuntime) {
     for (first, last, from, count, serial) in BEHIND {
         let found = behind(*first, *last, *from, *count);
         same(&rt, &(first, last, from, count), &found, &Some(*serial));

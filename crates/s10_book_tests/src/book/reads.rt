@@ -4,7 +4,7 @@ use crate::book::books::{
     Asked, SIX_CALLS, THREE_MORE, book_after, gb, go_on, id, ra, request, serial,
 };
 use s10_book::{Book, PlainBook};
-use s10_history::{Block, Candidate, Entry, Holding, Issuance, Issue, Range, Usage};
+use s10_history::{Candidate, Entry, HolderKey, Issuance, Issue, Range, SerialSpan, Usage};
 use s10_wire::Outcome;
 use std::process::Abort;
 
@@ -79,7 +79,7 @@ fn holds(book: &mut PlainBook, at: u32, entry: Option<Entry>) -> bool {
 
 /// Whether range 1 is the first, there is no other, and customer 7 holds it alone.
 fn has_one_range(book: &mut PlainBook) -> bool {
-    let held = Holding {
+    let held = HolderKey {
         holder: 7,
         service: ra(),
         country: gb(),
@@ -92,7 +92,7 @@ fn has_one_range(book: &mut PlainBook) -> bool {
 
 /// Whether the range found over these serials is this.
 fn has_over(book: &mut PlainBook, first: u32, last: u32, range: Option<Range>) -> bool {
-    let block = Block {
+    let block = SerialSpan {
         service: ra(),
         country: gb(),
         first: serial(first),

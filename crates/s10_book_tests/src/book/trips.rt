@@ -2,9 +2,9 @@
 
 use crate::book::books::{OPENING, answer, book_after, id, sheet};
 use crate::expect::same;
-use s10_book::{Book, BookFault, Settle, TripBook, decide, draws_in_a_row};
+use s10_book::{Book, BookFault, GroupCommit, TripBook, decide, successive_draws};
 use s10_core::Id;
-use s10_history::{Block, Holding};
+use s10_history::{HolderKey, SerialSpan};
 use s10_reports::{ReportFault, write_ranges};
 use s10_wire::{Body, Request};
 use std::alloc::Global;
@@ -26,7 +26,7 @@ enum Read {
 #[derive(Clone, Copy)]
 enum Question {
     Read(Read),
-    Settle,
+    GroupCommit,
     /// What a Draw would be given: the customer's range is looked for, and its candidate.
     Candidate,
     /// What a sheet of one label would be given: the customer's range is looked for, and its pick behind none.
@@ -49,7 +49,7 @@ const QUESTIONS: &[(&str, Question, u64)] = &[
     ("next range", Question::Read(Read::NextRange), 1),
     ("covering", Question::Read(Read::Covering), 1),
     ("last issue", Question::Read(Read::LastIssue), 1),
-    ("settle", Question::Settle, 1),
+    ("settle", Question::GroupCommit, 1),
     ("candidate", Question::Candidate, 2),
     ("sheet", Question::Sheet, 2),
     ("usage", Question::Usage, 3),
@@ -82,7 +82,7 @@ fn told<T: Copy>(answer: Result<T, BookFault>) -> Result<(), BookFault> {
 }
 
 fn next_range<B: Book>(book: &mut B, id: &Id) -> Result<(), BookFault> {
-    let held = Holding {
+    let held = HolderKey {
         holder: 7,
         service: id.service,
         country: id.country,
@@ -91,7 +91,7 @@ fn next_range<B: Book>(book: &mut B, id: &Id) -> Result<(), BookFault> {
 }
 
 fn covering<B: Book>(book: &mut B, id: &Id) -> Result<(), BookFault> {
-    let block = Block::of(id);
+    let block = SerialSpan::of(id);
     told(book.covering(&block))
 }
 
@@ -112,7 +112,7 @@ fn report<B: Book>(alloc: Global, book: &mut B) -> Result<(), BookFault> {
 
 fn sheet_of_one<B: Book>(book: &mut B, id: &Id) -> Result<(), BookFault> {
     let one = sheet(1);
-    told(draws_in_a_row(book, 7, id.service, id.country, one, 20_000))
+    told(successive_draws(book, 7, id.service, id.country, one, 20_000))
 }
 
 fn look_up<B: Book>(book: &mut B, read: Read, id: &Id) -> Result<(), BookFault> {
@@ -132,7 +132,7 @@ fn keep<B: Book>(book: &mut B, id: &Id, number: u32) -> Result<(), BookFault> {
     told(answer(book, &query, 20_000))
 }
 
-fn ask<B: Settle>(
+fn ask<B: GroupCommit>(
     alloc: Global,
     book: &mut B,
     question: Question,
@@ -141,7 +141,7 @@ fn ask<B: Settle>(
 ) -> Result<(), BookFault> {
     match question {
         Question::Read(read) => look_up(book, read, id),
-        Question::Settle => book.settle(),
+        Question::GroupCommit => book.commit(),
         Question::Candidate => decided(book, &asked(7, number, draw_of(id))),
         Question::Sheet => sheet_of_one(book, id),
         Question::Usage => report(alloc, book),
@@ -151,7 +151,7 @@ fn ask<B: Settle>(
 }
 
 /// Whether a question is refused; None where it is refused with another fault than Store.
-fn is_refused<B: Settle>(
+fn is_refused<B: GroupCommit>(
     alloc: Global,
     book: &mut B,
     question: Question,
@@ -166,7 +166,11 @@ fn is_refused<B: Settle>(
 }
 
 /// Which of two questions of a kind, and of a third one of a single call, a book refuses.
-fn refused<B: Settle + Drop>(alloc: Global, mut book: B, question: Question) -> Option<[bool; 3]> {
+fn refused<B: GroupCommit + Drop>(
+    alloc: Global,
+    mut book: B,
+    question: Question,
+) -> Option<[bool; 3]> {
     let id = id(0);
     let first = is_refused(alloc, &mut book, question, &id, 2)?;
     let second = is_refused(alloc, &mut book, question, &id, 3)?;

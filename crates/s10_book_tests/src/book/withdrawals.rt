@@ -9,7 +9,7 @@ use crate::book::books::Asked::{
 };
 use crate::book::books::{OPENING, Step, all_are_answered, are_answered, book_after, gb, id, ra};
 use s10_book::{Book, BookFault};
-use s10_history::{Block, Holding, Range};
+use s10_history::{HolderKey, Range, SerialSpan};
 use s10_wire::Status;
 use std::process::Abort;
 
@@ -187,7 +187,7 @@ fn has_closed<B: Book>(book: &mut B, num: u32, closed: bool) -> bool {
 
 /// Whether the next open range of customer 7 behind that one has this number.
 fn has_open<B: Book>(book: &mut B, after: u32, num: Option<u32>) -> bool {
-    let held = Holding {
+    let held = HolderKey {
         holder: 7,
         service: ra(),
         country: gb(),
@@ -197,7 +197,7 @@ fn has_open<B: Book>(book: &mut B, after: u32, num: Option<u32>) -> bool {
 
 /// Whether the range that has a serial has this number.
 fn has_over<B: Book>(book: &mut B, value: u32, num: Option<u32>) -> bool {
-    has_number(book.covering(&Block::of(&id(value))), num)
+    has_number(book.covering(&SerialSpan::of(&id(value))), num)
 }
 
 /// Numbers of ranges, and whether they are closed.

@@ -14,7 +14,7 @@ fn stand_for(rt: &impl Abort, bytes: &[u8], request: &Request) {
 }
 
 #[test]
-fn requests_are_read_and_written_as_they_stand(rt: HostRuntime) {
+fn requests_decode_and_encode_to_the_same_bytes(rt: HostRuntime) {
     for (bytes, call) in requests() {
         stand_for(&rt, bytes, &request(&rt, call));
     }
@@ -27,7 +27,7 @@ fn stand_for_reply(rt: &impl Abort, bytes: &[u8], reply: &Reply) {
 }
 
 #[test]
-fn replies_are_read_and_written_as_they_stand(rt: HostRuntime) {
+fn replies_decode_and_encode_to_the_same_bytes(rt: HostRuntime) {
     for (bytes, call, came) in replies() {
         let reply = reply(&rt, bytes, call, came);
         stand_for_reply(&rt, bytes, &reply);

@@ -100,10 +100,10 @@ fn calls_follow_the_script(rt: HostRuntime) {
 
 /// Whether receives give the packet, nothing, a failure, and nothing, whether they wait or not.
 fn receives_at_once(link: &mut ScriptLink, packet: Packet) -> bool {
-    link.receive_now() == Ok(Some((FAR, packet)))
+    link.try_receive() == Ok(Some((FAR, packet)))
         && link.receive() == Ok(None)
-        && link.receive_now() == Err(LinkFault::Receive)
-        && link.receive_now() == Ok(None)
+        && link.try_receive() == Err(LinkFault::Receive)
+        && link.try_receive() == Ok(None)
 }
 
 #[test]

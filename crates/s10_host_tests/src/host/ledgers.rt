@@ -3,12 +3,12 @@
 use crate::expect::holds;
 use crate::host::refusing::Refusing;
 use crate::ledger::calls::{closed, ledger};
-use s10_book::{Book, PlainBook, Settle};
+use s10_book::{Book, GroupCommit, PlainBook};
 use s10_ends::{Answer, Delivery, Server};
 use s10_history::Settings;
 use s10_host::run_audit;
 use s10_jobs::{JobStatus, write_answer};
-use s10_ledger::Unwatched;
+use s10_ledger::NoObserver;
 use s10_lines::WriteFault;
 use s10_link::Packet;
 use s10_reports::{write_issues, write_ranges};
@@ -102,15 +102,15 @@ fn is_worked<B: Book>(alloc: Global, server: &mut Server<B>) -> bool {
 }
 
 /// Whether a server over this book does, and the book, whose calls are settled.
-fn hand_in<B: Settle>(alloc: Global, book: B) -> (bool, B) {
+fn hand_in<B: GroupCommit>(alloc: Global, book: B) -> (bool, B) {
     let mut server = Server::new(book);
     let is_same = is_worked(alloc, &mut server);
-    let _ = server.settle();
+    let _ = server.commit();
     (is_same, server.into_book())
 }
 
 /// Whether a server over this book answers the nine calls with the nine replies.
-fn gives_nine_replies<B: Settle + Drop>(alloc: Global, book: B) -> bool {
+fn gives_nine_replies<B: GroupCommit + Drop>(alloc: Global, book: B) -> bool {
     let (is_same, _left) = hand_in(alloc, book);
     is_same
 }
@@ -124,7 +124,7 @@ fn are_as_worked<B: Book>(alloc: Global, book: &mut B) -> bool {
 }
 
 /// The book behind the nine calls. Says whether it gave the nine replies, and whether its reports are then as worked by hand.
-fn reported<B: Settle>(alloc: Global, book: B, said: &mut (bool, bool)) -> B {
+fn reported<B: GroupCommit>(alloc: Global, book: B, said: &mut (bool, bool)) -> B {
     let (is_same, mut book) = hand_in(alloc, book);
     *said = (is_same, are_as_worked(alloc, &mut book));
     book
@@ -172,7 +172,7 @@ fn audited<R: Abort + AllocGlobal, S: Alter + Drop, W: Write>(
 ) -> Option<Result<JobStatus, WriteFault>> {
     let connection = ledger?;
     assert!(rt; connection.is_autocommit());
-    let (done, _left) = run_audit(rt.alloc(), connection, &mut Unwatched, out);
+    let (done, _left) = run_audit(rt.alloc(), connection, &mut NoObserver, out);
     Some(done)
 }
 

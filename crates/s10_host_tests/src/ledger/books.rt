@@ -11,7 +11,7 @@ use crate::ledger::calls::{
     request, serial, settings,
 };
 use s10_book::{Book, BookFault, PlainBook};
-use s10_history::{Block, Candidate, Entry, Holding, Issue, Range, Settings, Usage};
+use s10_history::{Candidate, Entry, HolderKey, Issue, Range, SerialSpan, Settings, Usage};
 use s10_ledger::SqlBook;
 use s10_wire::{Outcome, Status};
 use sqlite::{Connection, MemStore};
@@ -306,7 +306,7 @@ fn is_first(found: &Result<Option<Range>, BookFault>, is_there: bool) -> bool {
 
 /// Whether the range that a holder has behind that number is the first, or none.
 fn has_behind<B: Book>(book: &mut B, holder: u32, after: u32, is_there: bool) -> bool {
-    let held = Holding {
+    let held = HolderKey {
         holder,
         service: ra(),
         country: gb(),
@@ -316,7 +316,7 @@ fn has_behind<B: Book>(book: &mut B, holder: u32, after: u32, is_there: bool) ->
 
 /// Whether the range over these serials is the first, or none.
 fn has_over<B: Book>(book: &mut B, first: u32, last: u32, is_there: bool) -> bool {
-    let block = Block {
+    let block = SerialSpan {
         service: ra(),
         country: gb(),
         first: serial(first),

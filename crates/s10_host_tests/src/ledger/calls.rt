@@ -1,10 +1,10 @@
 //! Calls in rows, and books that they are handed in to.
 
-use s10_book::{Book, BookFault, Settle, decide};
+use s10_book::{Book, BookFault, GroupCommit, decide};
 use s10_core::{Country, Id, Serial, Service};
 use s10_history::{Entry, Settings};
 use s10_ledger::SqlBook;
-use s10_rows::Opened;
+use s10_rows::LedgerSummary;
 use s10_wire::{Body, Outcome, Request, Status};
 use sqlite::{Connection, MemStore};
 use std::process::Abort;
@@ -172,8 +172,8 @@ pub(crate) fn settings<R: Abort>(rt: &R, limit: u32) -> Settings {
 }
 
 /// What a ledger holds whose interval is 30 days and whose limit is 100 calls.
-pub(crate) fn whole(len: u32, day: u32) -> Opened {
-    Opened {
+pub(crate) fn whole(len: u32, day: u32) -> LedgerSummary {
+    LedgerSummary {
         settings: Settings::new(30, 100).unwrap(),
         len,
         day,
@@ -190,7 +190,7 @@ pub(crate) fn ledger<R: Abort + AllocGlobal>(rt: &R, settings: Settings) -> SqlB
 
 /// The connection of a ledger, once its calls are settled.
 pub(crate) fn closed(mut book: SqlBook<MemStore>) -> Connection<MemStore> {
-    let _ = book.settle();
+    let _ = book.commit();
     book.close()
 }
 

@@ -5,7 +5,7 @@ use crate::ledger::books::{Read, first_unlike_of, found_in};
 use crate::ledger::calls::{NINE_CALLS, closed, ledger, settings};
 use crate::ledger::rows::{Shown, first_unshown};
 use s10_history::Settings;
-use s10_ledger::{OpenFault, Refused, SqlBook, Unwatched};
+use s10_ledger::{NoObserver, OpenFault, Refused, SqlBook};
 use sqlite::{Connection, MemStore};
 use std::process::Abort;
 
@@ -61,7 +61,7 @@ fn refusal<R: Abort + AllocGlobal>(
     if !conn.is_autocommit() {
         panic!(rt; "in a transaction")
     }
-    match SqlBook::create(rt.alloc(), conn, settings, &mut Unwatched) {
+    match SqlBook::create(rt.alloc(), conn, settings, &mut NoObserver) {
         Ok(_) => panic!(rt; "made"),
         Err(Refused { fault, connection }) => (fault, connection),
     }

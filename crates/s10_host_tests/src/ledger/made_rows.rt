@@ -3,8 +3,8 @@
 use crate::expect::same;
 use s10_core::{Country, Id, Serial, Service};
 use s10_history::{Entry, Issuance, Range};
-use s10_replay::{granted_row, issue_rows, voided_row};
-use s10_rows::{ClosedRow, Issued, RangeRow, RangeWrite, SerialRow, SerialWrite};
+use s10_replay::{grant_write, issue_writes, void_write};
+use s10_rows::{ClosedRow, PriorIssue, RangeRow, RangeWrite, SerialRow, SerialWrite};
 use s10_wire::{Body, Outcome, Request};
 use std::process::Abort;
 
@@ -71,7 +71,7 @@ fn new_range_gives_its_first_serial_next(rt: HostRuntime) {
         outcome: Outcome::Granted { range: 1 },
     };
     let made = Some(RangeWrite::New(NEW_RANGE));
-    same(&rt, &"range 1", &granted_row(&grant), &made);
+    same(&rt, &"range 1", &grant_write(&grant), &made);
 }
 
 #[test]
@@ -106,7 +106,7 @@ const DRAWN: &[(u32, u32, u32, u32, i64)] = &[
 ];
 
 #[test]
-fn mark_goes_on_by_one_and_back_behind_the_last(rt: HostRuntime) {
+fn mark_advances_by_one_and_wraps_after_the_last(rt: HostRuntime) {
     let range = first_range();
     for (value, arrival, day, number, mark) in DRAWN {
         let issuance = issuance(&range, *value, *arrival, *day, *number);
@@ -124,8 +124,8 @@ fn mark_goes_on_by_one_and_back_behind_the_last(rt: HostRuntime) {
             mark: *mark,
         };
         let found = (
-            issue_rows(&range, Issued::Never, &issuance),
-            issue_rows(&range, Issued::Before, &issuance),
+            issue_writes(&range, PriorIssue::Never, &issuance),
+            issue_writes(&range, PriorIssue::Before, &issuance),
         );
         let wanted = (
             (marked, SerialWrite::New(row)),
@@ -147,5 +147,5 @@ fn void_keeps_the_row_and_marks_it_as_voided(rt: HostRuntime) {
         number: 2,
         voided: 1,
     });
-    same(&rt, &"voided", &voided_row(&issuance), &write);
+    same(&rt, &"voided", &void_write(&issuance), &write);
 }

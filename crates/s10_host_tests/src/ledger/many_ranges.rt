@@ -4,9 +4,9 @@ ghost use Rattle.std.specs.Prelude.{◌≤◌};
 
 use crate::expect::same;
 use crate::ledger::calls::{Asked, answer, closed, gb, ledger, ra, request, serial, settings};
-use s10_book::{Book, PlainBook, Settle};
-use s10_history::{Block, Holding};
-use s10_ledger::{SqlBook, Unwatched};
+use s10_book::{Book, GroupCommit, PlainBook};
+use s10_history::{HolderKey, SerialSpan};
+use s10_ledger::{NoObserver, SqlBook};
 use s10_wire::Request;
 use sqlite::MemStore;
 use std::process::Abort;
@@ -66,13 +66,13 @@ fn draws_are_alike<A: Book, B: Book>(one: &mut A, other: &mut B, draws: u32) -> 
 fn range_is_alike<A: Book, B: Book>(one: &mut A, other: &mut B, place: u32) -> bool
     requires { place ≤ 2000 }
 {
-    let block = Block {
+    let block = SerialSpan {
         service: ra(),
         country: gb(),
         first: serial(place * 10 + 5),
         last: serial(place * 10 + 35),
     };
-    let held = Holding {
+    let held = HolderKey {
         holder: 1 + place % HOLDERS,
         service: ra(),
         country: gb(),
@@ -95,8 +95,8 @@ fn ranges_are_alike<A: Book, B: Book>(one: &mut A, other: &mut B, ranges: u32) -
 
 // The ledger, settled, closed and opened again.
 fn opened_again<R: Abort + AllocGlobal>(rt: &R, mut book: SqlBook<MemStore>) -> SqlBook<MemStore> {
-    let _ = book.settle();
-    match SqlBook::open(rt.alloc(), book.close(), &mut Unwatched) {
+    let _ = book.commit();
+    match SqlBook::open(rt.alloc(), book.close(), &mut NoObserver) {
         Ok(book) => book,
         Err(refused) => panic!(rt; "{}", refused.fault),
     }

@@ -10,7 +10,7 @@ use crate::ledger::rows::{
     CLOSED, COMPLETE, INCOMPLETE, Left, NONE_CLOSED, Shown, left, left_behind,
 };
 use crate::ledger::tables::{OLD_LEDGER, database};
-use s10_ledger::{OpenFault, Refused, SqlBook, Unwatched};
+use s10_ledger::{NoObserver, OpenFault, Refused, SqlBook};
 use sqlite::{Connection, Error, MemStore};
 use std::alloc::Global;
 use std::process::Abort;
@@ -77,7 +77,7 @@ fn served<R: Abort + AllocGlobal>(
     if !conn.is_autocommit() {
         return None;
     }
-    match SqlBook::open(rt.alloc(), conn, &mut Unwatched) {
+    match SqlBook::open(rt.alloc(), conn, &mut NoObserver) {
         Ok(mut book) => {
             let unlike = first_unlike_in(&mut book, steps);
             let conn = closed(book);

@@ -252,7 +252,7 @@ const MENDED: &[(&str, u32, &str)] = &[
 ];
 
 #[test]
-fn damage_is_told_and_leaves_the_rows(rt: HostRuntime) {
+fn damage_is_reported_and_changes_no_row(rt: HostRuntime) {
     for (damage, call, mend) in MENDED {
         let wanted = Some((Err(OpenFault::Damaged(*call)), NINE_FOUND));
         same(&rt, damage, &found_twice(rt.alloc(), damage, mend), &wanted);

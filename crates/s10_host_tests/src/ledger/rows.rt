@@ -7,7 +7,7 @@ use crate::ledger::calls::Asked::{Grant, Withdraw};
 use crate::ledger::calls::{FIRST_DRAW, NINE_CALLS, OPENING, SIX_CALLS, Step};
 use crate::ledger::tables::{found, numbers, run_batches};
 use s10_ledger::OpenFault;
-use s10_rows::Opened;
+use s10_rows::LedgerSummary;
 use sqlite::{Connection, Error, MemStore};
 use std::alloc::Global;
 use std::process::Abort;
@@ -32,7 +32,7 @@ pub(crate) fn first_unshown(
 /// What opening finds, whether it finds that again, how many tables there are then and whether one is of closed ranges, and the
 /// place of the first query that shows other rows than these.
 pub(crate) type Left = (
-    Result<Opened, OpenFault>,
+    Result<LedgerSummary, OpenFault>,
     bool,
     (usize, bool),
     Result<Option<usize>, Error>,
@@ -152,6 +152,6 @@ const BOTH_WITHDRAWN: &'static [Step] = &[
 const BOTH_CLOSED: &'static [Shown] = &[(CLOSED, 2, &[1, 5, 2, 3])];
 
 #[test]
-fn closed_ranges_stand_in_order_of_their_numbers(rt: HostRuntime) {
+fn closed_ranges_are_in_order_of_their_numbers(rt: HostRuntime) {
     leave(&rt, "both ranges", BOTH_WITHDRAWN, BOTH_CLOSED);
 }

@@ -331,7 +331,7 @@ fn is_as_draws<R: Abort + AllocGlobal>(
 }
 
 #[test]
-fn a_sheet_has_the_identifiers_of_so_many_draws(rt: HostRuntime) {
+fn a_sheet_of_n_has_the_identifiers_of_n_draws(rt: HostRuntime) {
     let is_round = is_as_draws(&rt, FIRST_ROUND, GOING_ROUND, THREE_DRAWS);
     let is_of_both = is_as_draws(&rt, TWO_GRANTS, OF_BOTH, FIVE_DRAWS);
     same(

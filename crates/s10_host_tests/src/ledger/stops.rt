@@ -3,11 +3,11 @@
 
 use crate::expect::same;
 use crate::ledger::calls::settings;
-use crate::ledger::settling::{SETTLED, Told, UNSETTLED, settles_three_in};
+use crate::ledger::committing::{SETTLED, Told, UNSETTLED, settles_three_in};
 use crate::ledger::tables::{OLD_LEDGER, run_batches};
 use s10_book::Book;
 use s10_history::Settings;
-use s10_ledger::{OpenFault, Refused, SqlBook, Unwatched};
+use s10_ledger::{NoObserver, OpenFault, Refused, SqlBook};
 use sqlite::{Alter, Connection, FileStore, Files, Options};
 use sqlite_disk::{Crash, Disk, Fuse, Memory};
 use std::alloc::Global;
@@ -51,7 +51,7 @@ enum Act {
     /// Its ledger is opened.
     Open(Global),
     /// A new ledger with these settings settles three calls.
-    Settle(Global, Settings),
+    GroupCommit(Global, Settings),
 }
 
 /// A file of these bytes, all of them synced, that stops at one of its calls.
@@ -85,7 +85,7 @@ fn ledger_in<S: Alter + Drop>(alloc: Global, conn: Connection<S>) -> (Ended, Con
     if !conn.is_autocommit() {
         return (Ended::Unconnected, conn);
     }
-    match SqlBook::open(alloc, conn, &mut Unwatched) {
+    match SqlBook::open(alloc, conn, &mut NoObserver) {
         Ok(book) => {
             let calls = book.len();
             let conn = book.close();
@@ -116,7 +116,7 @@ fn done<S: Alter + Drop>(conn: Connection<S>, act: Act) -> (Ended, Option<Told>,
             let (ended, conn) = ledger_in(alloc, conn);
             (ended, None, conn.into_store())
         }
-        Act::Settle(alloc, settings) => {
+        Act::GroupCommit(alloc, settings) => {
             let (told, conn) = settles_three_in(alloc, settings, conn);
             (Ended::Unconnected, told, conn.into_store())
         }
@@ -247,8 +247,8 @@ fn a_ledger_whose_completion_stopped_is_whole(rt: HostRuntime) {
 fn settled_until(alloc: Global, settings: Settings, at: u64) -> Option<(Option<Told>, Ended)> {
     let log = Fuse::new(Memory::new(alloc), at);
     let db = Fuse::new(Memory::new(alloc), NEVER);
-    let settle = Act::Settle(alloc, settings);
-    let (_, told, mut files) = done_in(alloc, Files { log, db }, Options::new(7), settle);
+    let commit = Act::GroupCommit(alloc, settings);
+    let (_, told, mut files) = done_in(alloc, Files { log, db }, Options::new(7), commit);
     files.log.crash();
     files.db.crash();
     Some((told, again(alloc, &files)?))
@@ -272,7 +272,7 @@ fn failed_settlings(alloc: Global, settings: Settings) -> Option<u32> {
 }
 
 #[test]
-fn a_settling_that_fails_settles_no_call_of_its_own(rt: HostRuntime) {
+fn a_failed_commit_commits_no_call(rt: HostRuntime) {
     let failed = failed_settlings(rt.alloc(), settings(&rt, 100));
     assert!(rt; failed.is_some_and(|count| 0 < count), "{failed:?}");
 }

@@ -2,8 +2,8 @@
 
 use crate::expect::same;
 use s10_book::Book;
-use s10_ledger::{OpenFault, Refused, SqlBook, Unwatched};
-use s10_rows::Opened;
+use s10_ledger::{NoObserver, OpenFault, Refused, SqlBook};
+use s10_rows::LedgerSummary;
 use sqlite::{Alter, Connection, Error, MemStore};
 use std::alloc::Global;
 use std::process::Abort;
@@ -128,13 +128,13 @@ pub(crate) fn database(alloc: Global, texts: &[&str]) -> Result<Connection<MemSt
 pub(crate) fn found<S: Alter + Drop>(
     alloc: Global,
     conn: Connection<S>,
-) -> Option<(Result<Opened, OpenFault>, Connection<S>)> {
+) -> Option<(Result<LedgerSummary, OpenFault>, Connection<S>)> {
     if !conn.is_autocommit() {
         return None;
     }
-    match SqlBook::open(alloc, conn, &mut Unwatched) {
+    match SqlBook::open(alloc, conn, &mut NoObserver) {
         Ok(book) => {
-            let opened = Opened {
+            let opened = LedgerSummary {
                 settings: book.settings(),
                 len: book.len(),
                 day: book.day(),
@@ -146,7 +146,7 @@ pub(crate) fn found<S: Alter + Drop>(
 }
 
 // What opening answers, in numbers.
-fn in_numbers(answer: &Result<Opened, OpenFault>) -> Finding {
+fn in_numbers(answer: &Result<LedgerSummary, OpenFault>) -> Finding {
     match answer {
         Ok(opened) => Ok((
             opened.settings.interval(),

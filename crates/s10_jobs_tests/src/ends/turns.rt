@@ -1,13 +1,13 @@
 //! Turns of a server over links that follow a script.
 
+use crate::ends::answered::{Ends, is_as_told};
 use crate::ends::fixtures::{
     DRAW, DRAWN, GRANT, GRANTED, SECOND_DRAW, SECOND_DRAWN, Sent, granted_server, has_sent,
     new_server,
 };
-use crate::ends::told::{Ends, is_as_told};
 use crate::expect::holds_at;
 use crate::links::{Meets, link_of, link_with_failure};
-use s10_book::{Book, BookFault, Settle};
+use s10_book::{Book, BookFault, GroupCommit};
 use s10_ends::{Server, serve_one};
 use s10_link::{Link, LinkFault, Peer, ScriptLink};
 use s10_wire::WireFault;
@@ -25,7 +25,7 @@ const OTHER: Peer = Peer {
 };
 
 /// Whether the next turn of a server ends so.
-fn serves<B: Settle, L: Link>(server: &mut Server<B>, link: &mut L, ends: &Ends) -> bool {
+fn serves<B: GroupCommit, L: Link>(server: &mut Server<B>, link: &mut L, ends: &Ends) -> bool {
     is_as_told(&serve_one(server, link, 20_000), ends)
 }
 
@@ -41,7 +41,7 @@ struct Script {
 }
 
 /// The turns of a server over a script go as told.
-fn go_as_told<B: Settle + Drop>(
+fn go_as_told<B: GroupCommit + Drop>(
     rt: &impl Abort,
     alloc: Global,
     mut server: Server<B>,
@@ -139,7 +139,7 @@ const TEN_TURNS: &'static [Ends] = &[
 
 /// Whether the ten turns send each reply, and one of them fails so: instead of its reply where that is not sent, and else before
 /// it.
-fn is_survived<B: Settle, L: Link>(
+fn is_survived<B: GroupCommit, L: Link>(
     server: &mut Server<B>,
     link: &mut L,
     failing: usize,

@@ -64,10 +64,10 @@ fn takes_what_has_come(
     frame: &Frame,
     packet: Packet,
 ) -> bool {
-    to.receive_now() == Ok(None)
+    to.try_receive() == Ok(None)
         && from.send(to.local(), frame) == Ok(())
-        && to.receive_now() == Ok(Some((from.local(), packet)))
-        && to.receive_now() == Ok(None)
+        && to.try_receive() == Ok(Some((from.local(), packet)))
+        && to.try_receive() == Ok(None)
         && passes(from, to, frame, packet)
 }
 
@@ -79,7 +79,7 @@ fn has_received(link: &UdpLink, calls: u64, received: u64) -> bool {
 
 // A receive that waited would take longer than a test may.
 #[test]
-fn what_has_come_is_taken_at_once(rt: HostRuntime) {
+fn what_has_arrived_is_received_without_waiting(rt: HostRuntime) {
     let mut near = bound(&rt, 100_000);
     let mut far = bound(&rt, 100_000);
     let packet = Packet::new(DRAW);
@@ -102,7 +102,7 @@ fn wait_that_ran_out_is_nothing(rt: HostRuntime) {
 }
 
 #[test]
-fn taken_port_cannot_be_bound(rt: HostRuntime) {
+fn port_in_use_cannot_be_bound(rt: HostRuntime) {
     let first = bound(&rt, 1);
     assert!(rt; UdpLink::bind(&rt, first.local(), 1).err() == Some(LinkFault::Bind));
 }

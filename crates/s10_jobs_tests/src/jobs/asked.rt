@@ -191,6 +191,6 @@ fn is_made_unwritten(alloc: Global) -> bool {
 }
 
 #[test]
-fn line_that_cannot_be_written_is_told_after_the_call(rt: HostRuntime) {
+fn a_failed_write_is_reported_after_the_call(rt: HostRuntime) {
     assert!(rt; is_made_unwritten(rt.alloc()));
 }

@@ -227,7 +227,7 @@ fn longer_line_is_refused_where_the_input_ends(rt: HostRuntime) {
 }
 
 #[test]
-fn full_ledger_is_told(rt: HostRuntime) {
+fn full_ledger_is_reported(rt: HostRuntime) {
     // The post grants range 1 to customer 7: RA GB 0 to 2. Customer 7 draws, draws again, and repeats the first.
     let mut input: &[u8] = b"20000 53310101000000000000000100000007524147420000000000000002
 20000 53310102000000070000000152414742

@@ -25,7 +25,7 @@ enum Ends {
     Quiet,
     Dropped(WireFault),
     Faulted(BookFault),
-    Unsettled(BookFault),
+    Uncommitted(BookFault),
     /// In this reply.
     Replied(&'static [u8]),
     Failed(LinkFault),
@@ -44,7 +44,7 @@ fn turn(ends: Ends) -> Turn {
         Ends::Quiet => Ok(ServerTurn::Quiet),
         Ends::Dropped(fault) => Ok(ServerTurn::Dropped(PEER, fault)),
         Ends::Faulted(fault) => Ok(ServerTurn::Faulted(PEER, fault)),
-        Ends::Unsettled(fault) => Ok(ServerTurn::Unsettled(PEER, fault)),
+        Ends::Uncommitted(fault) => Ok(ServerTurn::Uncommitted(PEER, fault)),
         Ends::Replied(reply) => replied(reply),
         Ends::Failed(fault) => Err(fault),
     }
@@ -92,7 +92,7 @@ const TURNS: &[(Ends, &str)] = &[
     (Ends::Dropped(WireFault::Field(12)), "dropped field 12\n"),
     (Ends::Faulted(BookFault::Full), "faulted full\n"),
     (Ends::Faulted(BookFault::Memory), "faulted memory\n"),
-    (Ends::Unsettled(BookFault::Store), "unsettled store\n"),
+    (Ends::Uncommitted(BookFault::Store), "uncommitted store\n"),
     (
         Ends::Replied(REPLY),
         "replied 533101820000000700000001524147420000004e2052413030303030303030354742\n",

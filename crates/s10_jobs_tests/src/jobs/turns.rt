@@ -3,7 +3,7 @@
 use crate::expect::holds;
 use crate::jobs::hiccup::Hiccup;
 use crate::links::{Meets, link_of};
-use s10_book::{Book, PlainBook, Settle};
+use s10_book::{Book, GroupCommit, PlainBook};
 use s10_ends::Server;
 use s10_history::Settings;
 use s10_jobs::{JobStatus, day_or_today, serve_turns, today};
@@ -173,7 +173,7 @@ fn has_lines(out: Flushed, turns: &Turns<'_>) -> bool {
 }
 
 /// Whether the turns of a server on the link have their status, and write and flush their lines.
-fn come_to<R: Clock + Eprint, B: Settle, L: Link>(
+fn come_to<R: Clock + Eprint, B: GroupCommit, L: Link>(
     rt: &R,
     alloc: Global,
     server: &mut Server<B>,
@@ -198,7 +198,7 @@ fn are_served<R: Clock + Eprint>(rt: &R, alloc: Global, turns: &Turns<'_>) -> bo
 }
 
 /// So many turns on the link of the seven, which have the first of the lines, and leave so many calls.
-fn first_turns(count: u32, rounds: u32, calls: u32) -> Turns<'static> {
+fn first_turns(count: u32, batches: u32, calls: u32) -> Turns<'static> {
     Turns {
         receipts: SEVEN,
         sends: THREE_SENDS,
@@ -206,7 +206,7 @@ fn first_turns(count: u32, rounds: u32, calls: u32) -> Turns<'static> {
         day: Some(20_000),
         status: JobStatus::Done,
         lines: first_lines(SEVEN_LINES, count),
-        flushed: rounds,
+        flushed: batches,
         calls,
     }
 }
@@ -226,8 +226,8 @@ const TURNS: &[(u32, u32, u32)] = &[
 
 #[test]
 fn each_turn_has_its_line(rt: HostRuntime) {
-    for (count, rounds, calls) in TURNS {
-        let turns = first_turns(*count, *rounds, *calls);
+    for (count, batches, calls) in TURNS {
+        let turns = first_turns(*count, *batches, *calls);
         holds(&rt, count, are_served(&rt, rt.alloc(), &turns));
     }
 }
@@ -278,7 +278,7 @@ dropped short
 ";
 
 /// Whether so many turns on the link of the two ends have the first of the lines, and standard error is told this.
-fn are_told(alloc: Global, count: u32, rounds: u32, told: &str) -> bool {
+fn are_told(alloc: Global, count: u32, batches: u32, told: &str) -> bool {
     let rt = Listening {
         told: RefCell::new(Vec::new(alloc)),
     };
@@ -289,7 +289,7 @@ fn are_told(alloc: Global, count: u32, rounds: u32, told: &str) -> bool {
         day: Some(20_000),
         status: JobStatus::Done,
         lines: first_lines(SIX_LINES, count),
-        flushed: rounds,
+        flushed: batches,
         calls: if count < 3 { 0 } else { 1 },
     };
     are_served(&rt, alloc, &turns) && rt.told.into_inner().as_slice() == told.as_bytes()
@@ -313,9 +313,9 @@ const TOLD: &[(u32, u32, &str)] = &[
 ];
 
 #[test]
-fn standard_error_is_told_who_sent_what_is_dropped(rt: HostRuntime) {
-    for (count, rounds, told) in TOLD {
-        holds(&rt, count, are_told(rt.alloc(), *count, *rounds, told));
+fn senders_of_dropped_datagrams_go_to_standard_error(rt: HostRuntime) {
+    for (count, batches, told) in TOLD {
+        holds(&rt, count, are_told(rt.alloc(), *count, *batches, told));
     }
 }
 
@@ -377,7 +377,7 @@ fn has_beginning(out: Hiccup, room: usize) -> bool {
 
 /// Whether the turns of a server on a link end where a line cannot be written whole, and the writer has got the lines to
 /// there.
-fn end_where_unwritten<R: Clock + Eprint, B: Settle, L: Link>(
+fn end_where_unwritten<R: Clock + Eprint, B: GroupCommit, L: Link>(
     alloc: Global,
     rt: &R,
     server: &mut Server<B>,

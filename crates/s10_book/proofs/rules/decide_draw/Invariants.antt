@@ -2,7 +2,7 @@ use Rattle.std.proofs.Common.{◌≡◌, ◌-◌, ◌^◌}
 use Rattle.s10_history.specs.History.{ranges_of, is_open}
 use Rattle.s10_history.specs.Issues.{issues_of}
 use Rattle.s10_book.specs.Rules.{has_free_pick}
-use Rattle.s10_book.specs.Book.{Keeps}
+use Rattle.s10_book.specs.Book.{Unchanged}
 use Rattle.s10_book.proofs.Drawing.{Remaining}
 use Rattle.s10_book.proofs.rules.decide_draw.Given as goal
 
@@ -11,7 +11,7 @@ invariant-loop-range g l =
     let history = g.B.Book.history l.fn.book in
     record {
       faults : g.B.Book.faults l.book ≡ g.B.Book.faults l.fn.book;
-      keeps : Keeps g.B.Book.history g.B.Book.terms g.B.Book.honest l.fn.book l.book;
+      unchanged : Unchanged g.B.Book.history g.B.Book.terms g.B.Book.honest l.fn.book l.book;
       interval : g.B.Book.honest l.book → l.interval ≡ (g.B.Book.terms l.fn.book).interval;
       remaining : g.B.Book.honest l.book → Remaining (has_free_pick (issues_of history) l.day l.interval) (is_open history l.held.holder l.held.service l.held.country) (ranges_of history) l.after;
     }

@@ -1,15 +1,15 @@
 use Rattle.std.proofs.Common.{◌≡◌, ◌≤◌, ◌-◌, length}
 use Rattle.s10_history.specs.History.{ranges_of}
-use Rattle.s10_history.specs.declared.settings.TheConstants.{GREATEST_LIMIT}
-use Rattle.s10_book.specs.Book.{Keeps}
+use Rattle.s10_history.specs.declared.settings.TheConstants.{MAX_LIMIT}
+use Rattle.s10_book.specs.Book.{Unchanged}
 use Rattle.s10_book.proofs.rules.next_number.Given as goal
 
 abbrev pub invariant-loop-low : goal.invariant-loop-low
 invariant-loop-low g l =
     record {
       faults : g.B.Book.faults l.book ≡ g.B.Book.faults l.fn.book;
-      keeps : Keeps g.B.Book.history g.B.Book.terms g.B.Book.honest l.fn.book l.book;
-      few : l.high ≤ GREATEST_LIMIT;
+      unchanged : Unchanged g.B.Book.history g.B.Book.terms g.B.Book.honest l.fn.book l.book;
+      few : l.high ≤ MAX_LIMIT;
       ordered : l.low ≤ l.high;
       between : g.B.Book.honest l.book → (l.low ≤ length (ranges_of (g.B.Book.history l.fn.book))) × (length (ranges_of (g.B.Book.history l.fn.book)) ≤ l.high);
     }

@@ -28,7 +28,7 @@ pub returns-in-Err-attempt-clause-calls : goal.returns-in-Err-attempt-clause-cal
 returns-in-Err-attempt-clause-calls g c =
     stopped_call c.args.client.now c.loop-done.client c.attempt.new.client c.give_up.new.self (g.L.Link.trace_of c.args.link.now) (g.L.Link.trace_of c.loop-done.link) (g.L.Link.trace_of c.attempt.new.link) c.args.to c.args.body c.args.tries c.loop-done._done
     c.encode_request-frame.result c.in-Ok.request c.in-Err-attempt.fault c.in-Ok.ensures.refused c.in-Ok.ensures.ok.0 c.encode_request-frame.ensures c.loop-done.invariant.client
-    c.loop-done.invariant.tried (omega arith) c.in-Err-attempt.ensures.attempts c.give_up.ensures.settled
+    c.loop-done.invariant.tried (omega arith) c.in-Err-attempt.ensures.attempts c.give_up.ensures.without_pending
 
 pub loop-done-preserved : goal.loop-done-preserved
 loop-done-preserved g c =
@@ -44,7 +44,7 @@ pub returns-clause-calls : goal.returns-clause-calls
 returns-clause-calls g c =
     gave_up_call c.args.client.now c.loop-done.client c.give_up-2.new.self (g.L.Link.trace_of c.args.link.now) (g.L.Link.trace_of c.loop-done.link) c.args.to c.args.body c.args.tries c.loop-done._done c.encode_request-frame.result c.in-Ok.request
     c.in-Ok.ensures.refused c.in-Ok.ensures.ok.0 c.encode_request-frame.ensures c.loop-done.invariant.client c.loop-done.invariant.tried (omega arith) c.loop-done.invariant.unanswered
-    c.give_up-2.ensures.settled
+    c.give_up-2.ensures.without_pending
 
 pub returns-in-Ok-Some-clause-led : goal.returns-in-Ok-Some-clause-led
 returns-in-Ok-Some-clause-led g c = led_on c.loop-done.invariant.led c.attempt.ensures.led

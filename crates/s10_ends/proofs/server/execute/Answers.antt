@@ -1,7 +1,7 @@
 use Rattle.std.proofs.Common.{◌≡◌, ◌∙◌, ℕ, ◌<◌, ◌≤◌, refl, ap, Some, ◌++◌, ◌∷◌, [], max, arith}
 use Rattle.std.proofs.lemmas.Result.{err_from_is_err_and}
 use Rattle.s10_history.specs.declared.entry.Entry.{Entry}
-use Rattle.s10_history.specs.History.{entry_with_key, day_of}
+use Rattle.s10_history.specs.History.{find_entry, day_of}
 use Rattle.s10_history.specs.Settings.{Terms}
 use Rattle.s10_ends.proofs.Faulted.{told_counts, never_full, ok_not_full}
 use Rattle.s10_ends.proofs.Applied.{once_new, kept_new}
@@ -50,9 +50,9 @@ decide-requires g c = λ h. not_before _ _ c.args.day _ (c.day.ensures h) c.max-
 
 pub keep-requires : goal.keep-requires
 keep-requires g c = λ h.
-    let h1 = c.decide.ensures.keeps.was_honest h in
+    let h1 = c.decide.ensures.unchanged.was_honest h in
     let limit = c.limit.ensures.value ∙ ap (λ (t : Terms). t.limit) (c.settings.ensures h1) in
-    rw (c.decide.ensures.keeps.same_history h, c.decide.ensures.keeps.same_terms h) record {
+    rw (c.decide.ensures.unchanged.same_history h, c.decide.ensures.unchanged.same_terms h) record {
       new_key = c.requires h1;
       in_order = not_before _ _ c.args.day _ (c.day.ensures h1) c.max-day.ensures;
       room = below_limit _ _ _ _ (c.len.ensures.answer h1) limit c.if-limit-len.false;
@@ -65,10 +65,10 @@ returns-in_err-decide-clause-faults g c =
     rw (p.1, p.2) (told_counts _ _ _ c.in_err-decide.ensures.faults)
 
 pub returns-in_err-decide-clause-was_honest : goal.returns-in_err-decide-clause-was_honest
-returns-in_err-decide-clause-was_honest g c = c.decide.ensures.keeps.was_honest
+returns-in_err-decide-clause-was_honest g c = c.decide.ensures.unchanged.was_honest
 
 pub returns-in_err-decide-clause-same_terms : goal.returns-in_err-decide-clause-same_terms
-returns-in_err-decide-clause-same_terms g c = c.decide.ensures.keeps.same_terms
+returns-in_err-decide-clause-same_terms g c = c.decide.ensures.unchanged.same_terms
 
 pub returns-in_err-decide-clause-applied : goal.returns-in_err-decide-clause-applied
 returns-in_err-decide-clause-applied g c = λ h. rw (err_from_is_err_and c.from_residual.result c.from_residual.ensures.1).1 tt
@@ -77,7 +77,7 @@ pub returns-in_err-decide-clause-owed : goal.returns-in_err-decide-clause-owed
 returns-in_err-decide-clause-owed g c = λ h. rw (err_from_is_err_and c.from_residual.result c.from_residual.ensures.1).1 tt
 
 pub returns-in_err-decide-clause-err : goal.returns-in_err-decide-clause-err
-returns-in_err-decide-clause-err g c = λ h. rw (err_from_is_err_and c.from_residual.result c.from_residual.ensures.1).1 (c.decide.ensures.keeps.same_history h)
+returns-in_err-decide-clause-err g c = λ h. rw (err_from_is_err_and c.from_residual.result c.from_residual.ensures.1).1 (c.decide.ensures.unchanged.same_history h)
 
 pub returns-in_err-decide-clause-full : goal.returns-in_err-decide-clause-full
 returns-in_err-decide-clause-full g c = λ h full. absurd (never_full c.from_residual.result c.in_err-decide.field-0.0 _ _ c.from_residual.ensures.1 c.in_err-decide.ensures.faults full)
@@ -91,10 +91,10 @@ returns-in_err-keep-clause-faults g c =
     rw (p.1, p.2) (told_counts _ _ _ (rw c.in_ok-decide.ensures.faults at c.in_err-keep.ensures.faults))
 
 pub returns-in_err-keep-clause-was_honest : goal.returns-in_err-keep-clause-was_honest
-returns-in_err-keep-clause-was_honest g c = λ h. c.decide.ensures.keeps.was_honest (c.keep.ensures.was_honest h)
+returns-in_err-keep-clause-was_honest g c = λ h. c.decide.ensures.unchanged.was_honest (c.keep.ensures.was_honest h)
 
 pub returns-in_err-keep-clause-same_terms : goal.returns-in_err-keep-clause-same_terms
-returns-in_err-keep-clause-same_terms g c = λ h. c.keep.ensures.same_terms h ∙ c.decide.ensures.keeps.same_terms (c.keep.ensures.was_honest h)
+returns-in_err-keep-clause-same_terms g c = λ h. c.keep.ensures.same_terms h ∙ c.decide.ensures.unchanged.same_terms (c.keep.ensures.was_honest h)
 
 pub returns-in_err-keep-clause-applied : goal.returns-in_err-keep-clause-applied
 returns-in_err-keep-clause-applied g c = λ h. rw (err_from_is_err_and c.from_residual-in_err-keep.result c.from_residual-in_err-keep.ensures.1).1 tt
@@ -103,7 +103,7 @@ pub returns-in_err-keep-clause-owed : goal.returns-in_err-keep-clause-owed
 returns-in_err-keep-clause-owed g c = λ h. rw (err_from_is_err_and c.from_residual-in_err-keep.result c.from_residual-in_err-keep.ensures.1).1 tt
 
 pub returns-in_err-keep-clause-err : goal.returns-in_err-keep-clause-err
-returns-in_err-keep-clause-err g c = λ h. rw (err_from_is_err_and c.from_residual-in_err-keep.result c.from_residual-in_err-keep.ensures.1).1 (c.in_err-keep.ensures.err h ∙ c.decide.ensures.keeps.same_history (c.keep.ensures.was_honest h))
+returns-in_err-keep-clause-err g c = λ h. rw (err_from_is_err_and c.from_residual-in_err-keep.result c.from_residual-in_err-keep.ensures.1).1 (c.in_err-keep.ensures.err h ∙ c.decide.ensures.unchanged.same_history (c.keep.ensures.was_honest h))
 
 pub returns-in_err-keep-clause-full : goal.returns-in_err-keep-clause-full
 returns-in_err-keep-clause-full g c = λ h full. absurd (never_full c.from_residual-in_err-keep.result c.in_err-keep.field-0.0 _ _ c.from_residual-in_err-keep.ensures.1 c.in_err-keep.ensures.faults full)
@@ -115,27 +115,27 @@ pub returns-clause-faults : goal.returns-clause-faults
 returns-clause-faults g c = c.in_ok-keep.ensures.faults ∙ c.in_ok-decide.ensures.faults
 
 pub returns-clause-was_honest : goal.returns-clause-was_honest
-returns-clause-was_honest g c = λ h. c.decide.ensures.keeps.was_honest (c.keep.ensures.was_honest h)
+returns-clause-was_honest g c = λ h. c.decide.ensures.unchanged.was_honest (c.keep.ensures.was_honest h)
 
 pub returns-clause-same_terms : goal.returns-clause-same_terms
-returns-clause-same_terms g c = λ h. c.keep.ensures.same_terms h ∙ c.decide.ensures.keeps.same_terms (c.keep.ensures.was_honest h)
+returns-clause-same_terms g c = λ h. c.keep.ensures.same_terms h ∙ c.decide.ensures.unchanged.same_terms (c.keep.ensures.was_honest h)
 
 pub returns-clause-applied : goal.returns-clause-applied
 returns-clause-applied g c = λ h.
     let h2 = c.keep.ensures.was_honest h in
-    let h1 = c.decide.ensures.keeps.was_honest h2 in
+    let h1 = c.decide.ensures.unchanged.was_honest h2 in
     let old = g.B.Book.history c.args.book.now in
     let day : c.max-day.result ≡ max (day_of old) c.args.day = c.max-day.ensures ∙ ap (λ d. max d c.args.day) (c.day.ensures h1) in
     once_new old _ c.args.request.now c.args.day c.max-day.result (g.B.Book.terms c.args.book.now).interval c.in_ok-decide.field-0 (c.requires h1) day (c.in_ok-decide.ensures.answer h2)
-    (c.in_ok-keep.ensures.ok h ∙ ap (λ l. l ++ record { request = c.args.request.now; day = c.max-day.result; outcome = c.in_ok-decide.field-0 } ∷ []) (c.decide.ensures.keeps.same_history h2))
+    (c.in_ok-keep.ensures.ok h ∙ ap (λ l. l ++ record { request = c.args.request.now; day = c.max-day.result; outcome = c.in_ok-decide.field-0 } ∷ []) (c.decide.ensures.unchanged.same_history h2))
 
 pub returns-clause-owed : goal.returns-clause-owed
 returns-clause-owed g c = λ h.
     let h2 = c.keep.ensures.was_honest h in
     let e : Entry = record { request = c.args.request.now; day = c.max-day.result; outcome = c.in_ok-decide.field-0 } in
-    let is : entry_with_key (g.B.Book.history c.keep.new.self) c.args.request.now.customer c.args.request.now.number ≡ Some e =
-    kept_new (g.B.Book.history c.args.book.now) _ e (c.requires (c.decide.ensures.keeps.was_honest h2))
-    (c.in_ok-keep.ensures.ok h ∙ ap (λ l. l ++ e ∷ []) (c.decide.ensures.keeps.same_history h2)) in
+    let is : find_entry (g.B.Book.history c.keep.new.self) c.args.request.now.customer c.args.request.now.number ≡ Some e =
+    kept_new (g.B.Book.history c.args.book.now) _ e (c.requires (c.decide.ensures.unchanged.was_honest h2))
+    (c.in_ok-keep.ensures.ok h ∙ ap (λ l. l ++ e ∷ []) (c.decide.ensures.unchanged.same_history h2)) in
     rw is (λ _. refl, λ other. absurd (other refl))
 
 pub returns-clause-err : goal.returns-clause-err

@@ -1,4 +1,4 @@
-use Rattle.s10_ends.proofs.Rounds.{one_failed, one_quiet, one_served}
+use Rattle.s10_ends.proofs.Batches.{one_failed, one_quiet, one_served}
 use Rattle.s10_ends.proofs.Standing.{turn_of_round}
 use Rattle.s10_ends.proofs.turn.serve_one.Goals as goal
 
@@ -12,7 +12,7 @@ pub returns-in_default-clause-served : goal.returns-in_default-clause-served
 returns-in_default-clause-served g c = one_quiet _ _ _ _ _ c.args.day _ _ c.in_ok-taken.field-0 c.in_ok-taken.ensures c.in_default.is
 
 pub returns-clause-served : goal.returns-clause-served
-returns-clause-served g c = one_served _ _ _ _ _ c.args.day _ _ _ c.in_ok-taken.field-0 c.in-Some.taken c.settle-settling.result c.answer.result c.in_ok-taken.ensures c.in-Some.is c.settle-settling.ensures c.answer.ensures
+returns-clause-served g c = one_served _ _ _ _ _ c.args.day _ _ _ c.in_ok-taken.field-0 c.in-Some.taken c.commit-commit_result.result c.answer.result c.in_ok-taken.ensures c.in-Some.is c.commit-commit_result.ensures c.answer.ensures
 
 pub returns-clause-stands : goal.returns-clause-stands
 returns-clause-stands g c = turn_of_round _ _ _ _ _ c.args.day _ _ _ (returns-clause-served g c)

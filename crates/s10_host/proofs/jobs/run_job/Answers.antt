@@ -13,4 +13,4 @@ returns-in-Report g c = ended_as _ g.S.Start c.args.job.now _ _ _ _ _ _ _ c.run_
 
 pub returns-in-Audit : goal.returns-in-Audit
 returns-in-Audit g c =
-    ended_as _ g.S.Start c.args.job.now _ _ _ _ _ _ _ c.task_in.result.1.link _ c.task_in.result.1.looped _ c.in-Audit.is refl refl refl refl (c.task_in.ensures.audited refl)
+    ended_as _ g.S.Start c.args.job.now _ _ _ _ _ _ _ c.run_on_file.result.1.link _ c.run_on_file.result.1.looped _ c.in-Audit.is refl refl refl refl (c.run_on_file.ensures.audited refl)

@@ -11,5 +11,5 @@ returns-in_default g c =
 pub returns : goal.returns
 returns g c =
     let asked = asked_for c.args.is_of_issues c.args.day c.new.result c.in-Some.report c.in-Some.is c.new.ensures.issues c.new.ensures.ranges c.new.ensures.of_a_day in
-    reported_in _ g.S.Start c.args.is_of_issues c.args.day c.in-Some.report (g.W.Write.contents c.args.out.now) (g.W.Write.contents c.task_in.new.out)
-    c.task_in.result.0 c.task_in.result.1.files c.task_in.result.1.link asked (c.task_in.ensures.worked _ refl)
+    reported_in _ g.S.Start c.args.is_of_issues c.args.day c.in-Some.report (g.W.Write.contents c.args.out.now) (g.W.Write.contents c.run_on_file.new.out)
+    c.run_on_file.result.0 c.run_on_file.result.1.files c.run_on_file.result.1.link asked (c.run_on_file.ensures.worked _ refl)

@@ -11,6 +11,6 @@ returns-in_default g c =
 
 pub returns : goal.returns
 returns g c =
-    served_in _ g.S.Start c.args.bind.now c.in-Some.at c.args.day c.args.count (g.W.Write.contents c.args.out.now) (g.W.Write.contents c.task_in.new.out)
-    c.task_in.result.0 c.task_in.result.1.files c.task_in.result.1.link
-    (c.in-Some.at, subst (λ text. SpellsPeer text c.in-Some.at) c.as_bytes.ensures.value c.in-Some.ensures.spelled) (c.task_in.ensures.worked _ refl)
+    served_in _ g.S.Start c.args.bind.now c.in-Some.at c.args.day c.args.count (g.W.Write.contents c.args.out.now) (g.W.Write.contents c.run_on_file.new.out)
+    c.run_on_file.result.0 c.run_on_file.result.1.files c.run_on_file.result.1.link
+    (c.in-Some.at, subst (λ text. SpellsPeer text c.in-Some.at) c.as_bytes.ensures.value c.in-Some.ensures.spelled) (c.run_on_file.ensures.worked _ refl)

@@ -2,8 +2,8 @@ use Rattle.std.proofs.Common.{rules, ◌≡◌, List, ◌++◌, append-nil, subs
 use Rattle.sqlite_trees.specs.declared.memory.MemStore.{MemStore}
 use Rattle.sqlite.specs.Steps.{over_memory}
 use Rattle.s10_history.specs.declared.entry.Entry.{Entry}
-use Rattle.s10_ledger.specs.Ledger.{Ledger, IsHonest, history_of, settled_of}
-use Rattle.s10_host.specs.Looped.{LoopLink, loop_terms}
+use Rattle.s10_ledger.specs.Ledger.{Ledger, IsHonest, history_of, committed_of}
+use Rattle.s10_host.specs.LoopRun.{LoopLink, loop_terms}
 use Rattle.s10_host.proofs.Leaving.{looped_over}
 use Rattle.s10_host.proofs.MemoryLedger.{is_honest}
 use Rattle.s10_host.proofs.loopback.run_loop.Goals as goal
@@ -18,7 +18,7 @@ returns-clause-asked g c =
       far = ap (λ (l : LoopLink). l.far.trace) new ∙ c.in-Ok.ensures.ok.0;
       near = ap (λ (l : LoopLink). l.near.trace) new ∙ c.in-Ok.ensures.ok.1;
       terms = ap (λ (b : Ledger MemStore). b.terms) over ∙ c.in-Ok-in_memory.ensures.new.0 ∙ settings;
-      empty = ap (λ (b : Ledger MemStore). history_of over_memory b) over ∙ ap (λ (p : List Entry). settled_of over_memory c.in-Ok-in_memory.book ++ p) c.in-Ok-in_memory.ensures.none_pending ∙ append-nil _ ∙ c.in-Ok-in_memory.ensures.empty;
+      empty = ap (λ (b : Ledger MemStore). history_of over_memory b) over ∙ ap (λ (p : List Entry). committed_of over_memory c.in-Ok-in_memory.book ++ p) c.in-Ok-in_memory.ensures.none_pending ∙ append-nil _ ∙ c.in-Ok-in_memory.ensures.empty;
     }) led (record {
       honest = subst (IsHonest over_memory) back (is_honest c.loop_over-asked.result.1 c.close.result c.close.ensures.honest);
       closed = c.close.ensures.same ∙ ap (λ (b : Ledger MemStore). b.conn) back;

@@ -6,7 +6,7 @@ use Rattle.s10_history.specs.Issues.{issues_at, carried_by}
 use Rattle.s10_book.proofs.Carried.{made_by}
 use Rattle.s10_rows.specs.declared.serial_row.SerialRow.{SerialRow}
 use Rattle.s10_ranges.proofs.Carrying.{issue_within}
-use Rattle.s10_index.specs.RowsBehind.{last_rows, rows_behind}
+use Rattle.s10_index.specs.RowsFrom.{last_rows, serial_rows_from}
 use Rattle.s10_index.proofs.LastRows.{issues_left, left_first, left_next, left_none, parted_at, grown}
 use Rattle.s10_index.proofs.rows.push_rows.Goals as goal
 use Rattle.s10_index.proofs.rows.push_rows.Goals.{in-Some+in-Some-last_row+in_ok-push, in-Some+in_default-last_row, in_default}
@@ -30,7 +30,7 @@ loop-at-preserved c h t legal pos issues here =
           let step = w.last_row.ensures h t front.0 left legal pos issues (front.1 ∙ ap (λ (l : List Issuance). front.0 ++ l) now) ∙ sym (ap (last_rows h) now) in
           let new : c.match-issue.rows.items ≡ rows ++ option_to_list w.last_row.result =
           ap (λ (v : Vec SerialRow Global). v.items) w.rows-is ∙ w.in_ok-push.ensures.items ∙ ap (λ (o : Option SerialRow). rows ++ option_to_list o) (sym w.in-Some-last_row.is) in
-          grown rows c.match-issue.rows.items (option_to_list w.last_row.result) (last_rows h left) (last_rows h (issues_left h place e k)) (c.args.rows.now.items ++ rows_behind h place) step before new
+          grown rows c.match-issue.rows.items (option_to_list w.last_row.result) (last_rows h left) (last_rows h (issues_left h place e k)) (c.args.rows.now.items ++ serial_rows_from h place) step before new
       | in-Some+in_default-last_row w ↦
           let i = w.in-Some.issuance in
           let now : issues_left h place e k ≡ i ∷ left = left_next h place e k i (sym c.issue.ensures ∙ w.in-Some.is) in
@@ -38,7 +38,7 @@ loop-at-preserved c h t legal pos issues here =
           let step = w.last_row.ensures h t front.0 left legal pos issues (front.1 ∙ ap (λ (l : List Issuance). front.0 ++ l) now) ∙ sym (ap (last_rows h) now) in
           let new : c.match-issue.rows.items ≡ rows ++ option_to_list w.last_row.result =
           ap (λ (v : Vec SerialRow Global). v.items) w.rows-is ∙ sym (append-nil rows) ∙ ap (λ (l : List SerialRow). rows ++ l) (sym (ap option_to_list w.in_default-last_row.is)) in
-          grown rows c.match-issue.rows.items (option_to_list w.last_row.result) (last_rows h left) (last_rows h (issues_left h place e k)) (c.args.rows.now.items ++ rows_behind h place) step before new
+          grown rows c.match-issue.rows.items (option_to_list w.last_row.result) (last_rows h left) (last_rows h (issues_left h place e k)) (c.args.rows.now.items ++ serial_rows_from h place) step before new
       | in_default w ↦
           let within : k < length (carried_by e.outcome) = omega (arith, c.loop-at-test.true, c.issued-at-end.ensures) in
           absurd (issue_within e (place + 1) k within (sym c.issue.ensures ∙ w.in_default.is))

@@ -6,7 +6,7 @@ use Rattle.std.proofs.lemmas.Grind.{common_steps}
 use Rattle.std.proofs.lemmas.Result.{err_from_is_err_and}
 use Rattle.s10_jobs.specs.LineReader.{ReadsByte}
 use Rattle.s10_jobs.proofs.LineReading.{Consumes-append, Consumes-kept, line_at_end, nothing_at_end, line_at_break, line_too_long}
-use Rattle.s10_jobs.specs.declared.line_reader.TheConstants.{LINE_ROOM}
+use Rattle.s10_jobs.specs.declared.line_reader.TheConstants.{MAX_LINE}
 use Rattle.s10_jobs.proofs.line_reader.read_line.Goals as goal
 
 pub returns-then-at-eq0-clause-line : goal.returns-then-at-eq0-clause-line
@@ -37,18 +37,18 @@ loop-at-preserved g c =
 pub returns-in-Some-2-clause-line : goal.returns-in-Some-2-clause-line
 returns-in-Some-2-clause-line g c =
     let byte : ReadsByte (g.R.Read.remaining c.loop-at.input) (g.R.Read.remaining c.next_byte-2.new.input) (Some c.in-Some-2._byte) = rw c.in-Some-2.is at c.in_ok-next_byte-2.ensures.read in
-    let full : length (take c.loop-at.at c.loop-at.buffer) ≡ LINE_ROOM = grind (arith, common_steps) in
+    let full : length (take c.loop-at.at c.loop-at.buffer) ≡ MAX_LINE = grind (arith, common_steps) in
     line_too_long _ _ _ _ _ _ c.loop-at.invariant.read (recursion_from_All _ _ c.loop-at.invariant.unbroken) byte c.in-Some-2._byte-test.1 full
 
 pub returns-in-None-2-clause-line : goal.returns-in-None-2-clause-line
 returns-in-None-2-clause-line g c =
-    let at : LINE_ROOM ≡ c.loop-at.at = omega arith in
+    let at : MAX_LINE ≡ c.loop-at.at = omega arith in
     let full : 0 < length (take c.loop-at.at c.loop-at.buffer) = grind (arith, common_steps) in
     line_at_end _ _ _ _ _ _ c.loop-at.invariant.read (recursion_from_All _ _ c.loop-at.invariant.unbroken) (rw c.in-None-2.is at c.in_ok-next_byte-2.ensures.read) (ap (λ n. take n c.loop-at.buffer) at) full
 
 pub returns-in-Some-eq10-2-clause-line : goal.returns-in-Some-eq10-2-clause-line
 returns-in-Some-eq10-2-clause-line g c =
-    let at : LINE_ROOM ≡ c.loop-at.at = omega arith in
+    let at : MAX_LINE ≡ c.loop-at.at = omega arith in
     let ten : ReadsByte (g.R.Read.remaining c.loop-at.input) (g.R.Read.remaining c.next_byte-2.new.input) (Some 10) = rw (c.in-Some-eq10-2.is, c.in-Some-eq10-2.field-0-test) at c.in_ok-next_byte-2.ensures.read in
     line_at_break _ _ _ _ _ _ c.loop-at.invariant.read (recursion_from_All _ _ c.loop-at.invariant.unbroken) ten (ap (λ n. take n c.loop-at.buffer) at)
 
@@ -93,7 +93,7 @@ returns-in_err-next_byte-clause-taken g c = (_, Consumes-kept _ _ _ _ c.loop-at.
 pub returns-in_err-next_byte-clause-stopped : goal.returns-in_err-next_byte-clause-stopped
 returns-in_err-next_byte-clause-stopped g c =
     let p = err_from_is_err_and c.from_residual.result c.from_residual.ensures.1 in
-    let short : length (take c.loop-at.at c.loop-at.buffer) ≤ LINE_ROOM = grind (arith, common_steps) in
+    let short : length (take c.loop-at.at c.loop-at.buffer) ≤ MAX_LINE = grind (arith, common_steps) in
     rw p.1 (record {
       begun = _;
       taken = Consumes-kept _ _ _ _ c.loop-at.invariant.read c.in_err-next_byte.ensures.kept;
@@ -112,7 +112,7 @@ returns-in_err-next_byte-2-clause-taken g c = (_, Consumes-kept _ _ _ _ c.loop-a
 pub returns-in_err-next_byte-2-clause-stopped : goal.returns-in_err-next_byte-2-clause-stopped
 returns-in_err-next_byte-2-clause-stopped g c =
     let p = err_from_is_err_and c.from_residual-in_err-next_byte-2.result c.from_residual-in_err-next_byte-2.ensures.1 in
-    let short : length (take c.loop-at.at c.loop-at.buffer) ≤ LINE_ROOM = grind (arith, common_steps) in
+    let short : length (take c.loop-at.at c.loop-at.buffer) ≤ MAX_LINE = grind (arith, common_steps) in
     rw p.1 (record {
       begun = _;
       taken = Consumes-kept _ _ _ _ c.loop-at.invariant.read c.in_err-next_byte-2.ensures.kept;

@@ -4,7 +4,7 @@ use Rattle.s10_ends.specs.Served.{Served}
 use Rattle.s10_ends.specs.Runs.{dated}
 use Rattle.s10_jobs.specs.InputLines.{without_return}
 use Rattle.s10_jobs.specs.LineReader.{ReadsByte, ReadsLine}
-use Rattle.s10_jobs.specs.declared.line_reader.TheConstants.{LINE_ROOM}
+use Rattle.s10_jobs.specs.declared.line_reader.TheConstants.{MAX_LINE}
 use Rattle.s10_jobs.specs.declared.line_reader.NextLine.TheVariants.{End, Whole, Long}
 use Rattle.s10_jobs.proofs.ReplayedLines.{at_start, one_more, one_empty, ends_at_end, ends_too_long, ends_refused, ends_stopped, ends_unread, ends_last, ends_one_too_many, not_empty, is_nothing}
 use Rattle.s10_jobs.proofs.replaying.replay_on.Goals as goal
@@ -71,7 +71,7 @@ pub loop-done-preserved : goal.loop-done-preserved
 loop-done-preserved g c =
     let before = c.loop-done.invariant in
     let read : ReadsLine (g.R.Read.remaining c.loop-done.input) (g.R.Read.remaining c.read_line.new.input) c.read_line.new.buffer (Whole c.in-Whole.len) = rw c.in-Whole.is at c.in-Ok.ensures.line in
-    let short : c.in-Whole.len ≤ LINE_ROOM = rw c.in-Whole.is at c.in-Ok.ensures.fits in
+    let short : c.in-Whole.len ≤ MAX_LINE = rw c.in-Whole.is at c.in-Ok.ensures.fits in
     elim c.match-read_delivery.branch [
       | in-Some+in-Ok-write_answer w ↦ rw (w.server-is, w.output-is, w.count-is) (record {
         few = omega (arith, before.few);

@@ -1,5 +1,5 @@
 use Rattle.std.proofs.Common.{rules, arith}
-use Rattle.s10_jobs.specs.Serving.{IsRound}
+use Rattle.s10_jobs.specs.Serving.{IsBatch}
 use Rattle.s10_jobs.proofs.Turning.{none_served, round_served, round_unshown, given_day}
 use Rattle.s10_jobs.proofs.turns.serve_turns.Goals as goal
 
@@ -11,23 +11,23 @@ loop-done-init g c = record {
 
 pub returns-in_err-done-clause-turns : goal.returns-in_err-done-clause-turns
 returns-in_err-done-clause-turns g c =
-    round_unshown (IsRound g.B.Book.faults g.B.Book.honest g.B.Book.terms g.B.Book.history g.B.Settle.settled c.args.day)
-    (g.L.Link.trace_of c.args.link.now, c.args.server.now.book) (g.L.Link.trace_of c.loop-done.link, c.loop-done.server.book) (g.L.Link.trace_of c.serve_together.new.link, c.serve_together.new.server.book)
-    (g.W.Write.contents c.args.out.now) (g.W.Write.contents c.loop-done.out) (g.W.Write.contents c.serve_together.new.out) c.loop-done.done c.args.count c.loop-done.invariant.served
-    _ c.min-most.result c.serve_together.result c.from_residual.result _ c.from_residual.ensures.1
-    (λ round is. (c.in-Some.today, given_day c.args.day c.day_or_today.result c.in-Some.today c.day_or_today.ensures c.in-Some.is, is.0, is.1))
-    (let few = c.min-most.ensures in let test = c.loop-done-test.true in grind arith) c.serve_together.ensures
+    round_unshown (IsBatch g.B.Book.faults g.B.Book.honest g.B.Book.terms g.B.Book.history g.B.GroupCommit.committed c.args.day)
+    (g.L.Link.trace_of c.args.link.now, c.args.server.now.book) (g.L.Link.trace_of c.loop-done.link, c.loop-done.server.book) (g.L.Link.trace_of c.serve_batched.new.link, c.serve_batched.new.server.book)
+    (g.W.Write.contents c.args.out.now) (g.W.Write.contents c.loop-done.out) (g.W.Write.contents c.serve_batched.new.out) c.loop-done.done c.args.count c.loop-done.invariant.served
+    _ c.min-most.result c.serve_batched.result c.from_residual.result _ c.from_residual.ensures.1
+    (λ batch is. (c.in-Some.today, given_day c.args.day c.day_or_today.result c.in-Some.today c.day_or_today.ensures c.in-Some.is, is.0, is.1))
+    (let few = c.min-most.ensures in let test = c.loop-done-test.true in grind arith) c.serve_batched.ensures
 
 pub loop-done-preserved : goal.loop-done-preserved
 loop-done-preserved g c =
     let shown = c.in_ok-done.ensures in
     record {
       few = let few = c.min-most.ensures in let test = c.loop-done-test.true in let short = shown.2 in let many = shown.3.0 in grind arith;
-      served = round_served (IsRound g.B.Book.faults g.B.Book.honest g.B.Book.terms g.B.Book.history g.B.Settle.settled c.args.day)
-          (g.L.Link.trace_of c.args.link.now, c.args.server.now.book) (g.L.Link.trace_of c.loop-done.link, c.loop-done.server.book) (g.L.Link.trace_of c.serve_together.new.link, c.serve_together.new.server.book)
-          (g.W.Write.contents c.args.out.now) (g.W.Write.contents c.loop-done.out) (g.W.Write.contents c.serve_together.new.out) c.loop-done.done c.args.count c.loop-done.invariant.served
+      served = round_served (IsBatch g.B.Book.faults g.B.Book.honest g.B.Book.terms g.B.Book.history g.B.GroupCommit.committed c.args.day)
+          (g.L.Link.trace_of c.args.link.now, c.args.server.now.book) (g.L.Link.trace_of c.loop-done.link, c.loop-done.server.book) (g.L.Link.trace_of c.serve_batched.new.link, c.serve_batched.new.server.book)
+          (g.W.Write.contents c.args.out.now) (g.W.Write.contents c.loop-done.out) (g.W.Write.contents c.serve_batched.new.out) c.loop-done.done c.args.count c.loop-done.invariant.served
           _ c.min-most.result c.in_ok-done.field-0
-          (λ round is. (c.in-Some.today, given_day c.args.day c.day_or_today.result c.in-Some.today c.day_or_today.ensures c.in-Some.is, is.0, is.1))
+          (λ batch is. (c.in-Some.today, given_day c.args.day c.day_or_today.result c.in-Some.today c.day_or_today.ensures c.in-Some.is, is.0, is.1))
           c.in_ok-done.ensures;
     }
 

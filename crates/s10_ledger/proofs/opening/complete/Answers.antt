@@ -1,12 +1,12 @@
 use Rattle.std.proofs.Common.{rules, ◌≡◌, refl, subst}
 use Rattle.sqlite.specs.Held.{state}
-use Rattle.s10_ledger.specs.declared.form.Form.{Form}
-use Rattle.s10_ledger.specs.declared.form.Form.TheVariants.{Whole, Old}
-use Rattle.s10_ledger.specs.Form.{HasForm}
+use Rattle.s10_ledger.specs.declared.table_layout.TableLayout.{TableLayout}
+use Rattle.s10_ledger.specs.declared.table_layout.TableLayout.TheVariants.{Whole, Old}
+use Rattle.s10_ledger.specs.TableLayout.{HasTableLayout}
 use Rattle.s10_ledger.proofs.OpeningLemmas.{sound_before}
 use Rattle.s10_ledger.proofs.opening.complete.Goals as goal
 
-not_both : (form : Form) → form ≡ Old → form ≡ Whole → ⊥
+not_both : (form : TableLayout) → form ≡ Old → form ≡ Whole → ⊥
 not_both form old whole = cc
 
 pub returns-in-Whole-clause-whole : goal.returns-in-Whole-clause-whole
@@ -31,16 +31,16 @@ pub returns-in-Whole-clause-fault : goal.returns-in-Whole-clause-fault
 returns-in-Whole-clause-fault g c = tt
 
 pub returns-in-Ok-clause-settled : goal.returns-in-Ok-clause-settled
-returns-in-Ok-clause-settled g c = c.make_closed.ensures.settled
+returns-in-Ok-clause-settled g c = c.create_closed.ensures.settled
 
 pub returns-in-Ok-clause-was : goal.returns-in-Ok-clause-was
-returns-in-Ok-clause-was g c = sound_before g.S.Store c.args.conn.now c.make_closed.new.conn c.make_closed.ensures.clean c.make_closed.ensures.was_open
+returns-in-Ok-clause-was g c = sound_before g.S.Store c.args.conn.now c.create_closed.new.conn c.create_closed.ensures.clean c.create_closed.ensures.was_open
 
 pub returns-in-Ok-clause-opened : goal.returns-in-Ok-clause-opened
 returns-in-Ok-clause-opened g c = λ clean was. c.in-Ok.ensures.opened clean
 
 pub returns-in-Ok-clause-whole : goal.returns-in-Ok-clause-whole
-returns-in-Ok-clause-whole g c = λ clean tables has. c.in-Ok.ensures.all clean tables (subst (λ (f : Form). HasForm f (state g.S.Store c.args.conn.now).now tables) c.in-Old.is has)
+returns-in-Ok-clause-whole g c = λ clean tables has. c.in-Ok.ensures.all clean tables (subst (λ (f : TableLayout). HasTableLayout f (state g.S.Store c.args.conn.now).now tables) c.in-Old.is has)
 
 pub returns-in-Ok-clause-same : goal.returns-in-Ok-clause-same
 returns-in-Ok-clause-same g c = λ is. absurd (not_both c.args.form c.in-Old.is is)
@@ -52,10 +52,10 @@ pub returns-in-Ok-clause-fault : goal.returns-in-Ok-clause-fault
 returns-in-Ok-clause-fault g c = tt
 
 pub returns-in-Err-clause-settled : goal.returns-in-Err-clause-settled
-returns-in-Err-clause-settled g c = c.make_closed.ensures.settled
+returns-in-Err-clause-settled g c = c.create_closed.ensures.settled
 
 pub returns-in-Err-clause-was : goal.returns-in-Err-clause-was
-returns-in-Err-clause-was g c = sound_before g.S.Store c.args.conn.now c.make_closed.new.conn c.make_closed.ensures.clean c.make_closed.ensures.was_open
+returns-in-Err-clause-was g c = sound_before g.S.Store c.args.conn.now c.create_closed.new.conn c.create_closed.ensures.clean c.create_closed.ensures.was_open
 
 pub returns-in-Err-clause-opened : goal.returns-in-Err-clause-opened
 returns-in-Err-clause-opened g c = λ clean. tt

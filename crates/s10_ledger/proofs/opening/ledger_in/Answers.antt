@@ -2,40 +2,40 @@ use Rattle.std.proofs.Common.{inl, refl, subst, ◌∙◌}
 use Rattle.std.proofs.lemmas.Result.{err_from_is_err_and}
 use Rattle.sqlite_schema.specs.declared.schema.Schema.{Schema}
 use Rattle.sqlite.specs.Held.{state}
-use Rattle.s10_ledger.specs.Form.{IsOfForm}
-use Rattle.s10_ledger.specs.Refusals.{HasAForm}
+use Rattle.s10_ledger.specs.TableLayout.{IsOfTableLayout}
+use Rattle.s10_ledger.specs.Refusals.{HasSomeTableLayout}
 use Rattle.s10_ledger.proofs.Forms.{form_ledger}
 use Rattle.s10_ledger.proofs.OpeningLemmas.{sound_before, was_sound, as_read, as_it_was, same_history, completed_ledger, completed_index, found_ledger, refused_by_store}
 use Rattle.s10_ledger.proofs.opening.ledger_in.Goals as goal
 
-pub found_in-requires-clause-form : goal.found_in-requires-clause-form
-found_in-requires-clause-form g c = subst (λ (s : Schema). IsOfForm c.in-Some.form s) c.schema.ensures.value c.in-Some.ensures.some
+pub replay_tables-requires-clause-form : goal.replay_tables-requires-clause-form
+replay_tables-requires-clause-form g c = subst (λ (s : Schema). IsOfTableLayout c.in-Some.form s) c.schema.ensures.value c.in-Some.ensures.some
 
 pub returns-clause-was : goal.returns-clause-was
 returns-clause-was g c =
-    let declared = subst (λ (s : Schema). IsOfForm c.in-Some.form s) c.schema.ensures.value c.in-Some.ensures.some in
-    was_sound g.S.Store c.args.conn.now c.found_in.new.conn c.complete.new.conn c.in-Some.form declared c.requires.settled c.found_in.ensures.leaves c.complete.ensures.was
+    let declared = subst (λ (s : Schema). IsOfTableLayout c.in-Some.form s) c.schema.ensures.value c.in-Some.ensures.some in
+    was_sound g.S.Store c.args.conn.now c.replay_tables.new.conn c.complete.new.conn c.in-Some.form declared c.requires.settled c.replay_tables.ensures.leaves c.complete.ensures.was
 
 pub returns-clause-same : goal.returns-clause-same
 returns-clause-same g c clean opened closed =
-    let declared = subst (λ (s : Schema). IsOfForm c.in-Some.form s) c.schema.ensures.value c.in-Some.ensures.some in
-    let was = as_read g.S.Store c.args.conn.now c.found_in.new.conn c.complete.new.conn c.in-Some.form declared c.requires.settled c.found_in.ensures.leaves c.complete.ensures.was clean opened in
-    as_it_was c.in-Some.form (state g.S.Store c.args.conn.now).now (state g.S.Store c.found_in.new.conn).now (state g.S.Store c.complete.new.conn).now declared was c.complete.ensures.same closed
+    let declared = subst (λ (s : Schema). IsOfTableLayout c.in-Some.form s) c.schema.ensures.value c.in-Some.ensures.some in
+    let was = as_read g.S.Store c.args.conn.now c.replay_tables.new.conn c.complete.new.conn c.in-Some.form declared c.requires.settled c.replay_tables.ensures.leaves c.complete.ensures.was clean opened in
+    as_it_was c.in-Some.form (state g.S.Store c.args.conn.now).now (state g.S.Store c.replay_tables.new.conn).now (state g.S.Store c.complete.new.conn).now declared was c.complete.ensures.same closed
 
 pub returns-clause-history : goal.returns-clause-history
 returns-clause-history g c clean opened =
-    let declared = subst (λ (s : Schema). IsOfForm c.in-Some.form s) c.schema.ensures.value c.in-Some.ensures.some in
-    let was = as_read g.S.Store c.args.conn.now c.found_in.new.conn c.complete.new.conn c.in-Some.form declared c.requires.settled c.found_in.ensures.leaves c.complete.ensures.was clean opened in
+    let declared = subst (λ (s : Schema). IsOfTableLayout c.in-Some.form s) c.schema.ensures.value c.in-Some.ensures.some in
+    let was = as_read g.S.Store c.args.conn.now c.replay_tables.new.conn c.complete.new.conn c.in-Some.form declared c.requires.settled c.replay_tables.ensures.leaves c.complete.ensures.was clean opened in
     let sound = c.complete.ensures.was clean in
-    same_history c.in-Some.form (state g.S.Store c.args.conn.now).now (state g.S.Store c.found_in.new.conn).now (state g.S.Store c.complete.new.conn).now c.in_ok-found.found.0 c.in_ok-found.found.1
+    same_history c.in-Some.form (state g.S.Store c.args.conn.now).now (state g.S.Store c.replay_tables.new.conn).now (state g.S.Store c.complete.new.conn).now c.in_ok-found.found.0 c.in_ok-found.found.1
     (c.in_ok-found.ensures.found sound.0 (sound.1 opened)) was (c.in_ok-complete.ensures.whole clean)
 
 pub returns-clause-ledger : goal.returns-clause-ledger
 returns-clause-ledger g c clean opened =
-    let declared = subst (λ (s : Schema). IsOfForm c.in-Some.form s) c.schema.ensures.value c.in-Some.ensures.some in
-    let was = as_read g.S.Store c.args.conn.now c.found_in.new.conn c.complete.new.conn c.in-Some.form declared c.requires.settled c.found_in.ensures.leaves c.complete.ensures.was clean opened in
+    let declared = subst (λ (s : Schema). IsOfTableLayout c.in-Some.form s) c.schema.ensures.value c.in-Some.ensures.some in
+    let was = as_read g.S.Store c.args.conn.now c.replay_tables.new.conn c.complete.new.conn c.in-Some.form declared c.requires.settled c.replay_tables.ensures.leaves c.complete.ensures.was clean opened in
     let sound = c.complete.ensures.was clean in
-    completed_ledger c.in-Some.form (state g.S.Store c.args.conn.now).now (state g.S.Store c.found_in.new.conn).now (state g.S.Store c.complete.new.conn).now c.in_ok-found.found.0 c.in_ok-found.found.1
+    completed_ledger c.in-Some.form (state g.S.Store c.args.conn.now).now (state g.S.Store c.replay_tables.new.conn).now (state g.S.Store c.complete.new.conn).now c.in_ok-found.found.0 c.in_ok-found.found.1
     (c.in_ok-found.ensures.found sound.0 (sound.1 opened)) was (c.in_ok-complete.ensures.whole clean)
 
 pub returns-clause-found : goal.returns-clause-found
@@ -45,20 +45,20 @@ returns-clause-found g c clean opened =
 
 pub returns-clause-indexed : goal.returns-clause-indexed
 returns-clause-indexed g c clean opened =
-    let declared = subst (λ (s : Schema). IsOfForm c.in-Some.form s) c.schema.ensures.value c.in-Some.ensures.some in
-    let was = as_read g.S.Store c.args.conn.now c.found_in.new.conn c.complete.new.conn c.in-Some.form declared c.requires.settled c.found_in.ensures.leaves c.complete.ensures.was clean opened in
+    let declared = subst (λ (s : Schema). IsOfTableLayout c.in-Some.form s) c.schema.ensures.value c.in-Some.ensures.some in
+    let was = as_read g.S.Store c.args.conn.now c.replay_tables.new.conn c.complete.new.conn c.in-Some.form declared c.requires.settled c.replay_tables.ensures.leaves c.complete.ensures.was clean opened in
     let sound = c.complete.ensures.was clean in
-    completed_index c.in-Some.form (state g.S.Store c.args.conn.now).now (state g.S.Store c.found_in.new.conn).now (state g.S.Store c.complete.new.conn).now c.in_ok-found.found.0 c.in_ok-found.found.1
+    completed_index c.in-Some.form (state g.S.Store c.args.conn.now).now (state g.S.Store c.replay_tables.new.conn).now (state g.S.Store c.complete.new.conn).now c.in_ok-found.found.0 c.in_ok-found.found.1
     (c.in_ok-found.ensures.found sound.0 (sound.1 opened)) was (c.in_ok-complete.ensures.whole clean)
 
 pub returns-in_err-found-clause-same : goal.returns-in_err-found-clause-same
-returns-in_err-found-clause-same g c clean opened closed = c.found_in.ensures.leaves.now clean opened c.requires.settled closed.ledger
+returns-in_err-found-clause-same g c clean opened closed = c.replay_tables.ensures.leaves.now clean opened c.requires.settled closed.ledger
 
 pub returns-in_err-found-clause-kept : goal.returns-in_err-found-clause-kept
 returns-in_err-found-clause-kept g c clean opened =
-    let declared = subst (λ (s : Schema). IsOfForm c.in-Some.form s) c.schema.ensures.value c.in-Some.ensures.some in
+    let declared = subst (λ (s : Schema). IsOfTableLayout c.in-Some.form s) c.schema.ensures.value c.in-Some.ensures.some in
     let p = err_from_is_err_and c.from_residual.result c.from_residual.ensures.1 in
-    rw p.1 (c.found_in.ensures.leaves.now clean opened c.requires.settled (form_ledger c.in-Some.form (state g.S.Store c.args.conn.now).now.schema declared))
+    rw p.1 (c.replay_tables.ensures.leaves.now clean opened c.requires.settled (form_ledger c.in-Some.form (state g.S.Store c.args.conn.now).now.schema declared))
 
 pub returns-in_err-found-clause-refused : goal.returns-in_err-found-clause-refused
 returns-in_err-found-clause-refused g c clean opened =
@@ -67,19 +67,19 @@ returns-in_err-found-clause-refused g c clean opened =
 
 pub returns-in_err-complete-clause-was : goal.returns-in_err-complete-clause-was
 returns-in_err-complete-clause-was g c =
-    let declared = subst (λ (s : Schema). IsOfForm c.in-Some.form s) c.schema.ensures.value c.in-Some.ensures.some in
-    was_sound g.S.Store c.args.conn.now c.found_in.new.conn c.complete.new.conn c.in-Some.form declared c.requires.settled c.found_in.ensures.leaves c.complete.ensures.was
+    let declared = subst (λ (s : Schema). IsOfTableLayout c.in-Some.form s) c.schema.ensures.value c.in-Some.ensures.some in
+    was_sound g.S.Store c.args.conn.now c.replay_tables.new.conn c.complete.new.conn c.in-Some.form declared c.requires.settled c.replay_tables.ensures.leaves c.complete.ensures.was
 
 pub returns-in_err-complete-clause-same : goal.returns-in_err-complete-clause-same
 returns-in_err-complete-clause-same g c clean opened closed =
-    let declared = subst (λ (s : Schema). IsOfForm c.in-Some.form s) c.schema.ensures.value c.in-Some.ensures.some in
-    let was = as_read g.S.Store c.args.conn.now c.found_in.new.conn c.complete.new.conn c.in-Some.form declared c.requires.settled c.found_in.ensures.leaves c.complete.ensures.was clean opened in
-    as_it_was c.in-Some.form (state g.S.Store c.args.conn.now).now (state g.S.Store c.found_in.new.conn).now (state g.S.Store c.complete.new.conn).now declared was c.complete.ensures.same closed
+    let declared = subst (λ (s : Schema). IsOfTableLayout c.in-Some.form s) c.schema.ensures.value c.in-Some.ensures.some in
+    let was = as_read g.S.Store c.args.conn.now c.replay_tables.new.conn c.complete.new.conn c.in-Some.form declared c.requires.settled c.replay_tables.ensures.leaves c.complete.ensures.was clean opened in
+    as_it_was c.in-Some.form (state g.S.Store c.args.conn.now).now (state g.S.Store c.replay_tables.new.conn).now (state g.S.Store c.complete.new.conn).now declared was c.complete.ensures.same closed
 
 pub returns-in_err-complete-clause-kept : goal.returns-in_err-complete-clause-kept
 returns-in_err-complete-clause-kept g c clean opened =
-    let declared = subst (λ (s : Schema). IsOfForm c.in-Some.form s) c.schema.ensures.value c.in-Some.ensures.some in
-    let was = as_read g.S.Store c.args.conn.now c.found_in.new.conn c.complete.new.conn c.in-Some.form declared c.requires.settled c.found_in.ensures.leaves c.complete.ensures.was clean opened in
+    let declared = subst (λ (s : Schema). IsOfTableLayout c.in-Some.form s) c.schema.ensures.value c.in-Some.ensures.some in
+    let was = as_read g.S.Store c.args.conn.now c.replay_tables.new.conn c.complete.new.conn c.in-Some.form declared c.requires.settled c.replay_tables.ensures.leaves c.complete.ensures.was clean opened in
     let p = err_from_is_err_and c.from_residual-in_err-complete.result c.from_residual-in_err-complete.ensures.1 in
     rw p.1 (c.in_err-complete.ensures.none clean opened ∙ was)
 
@@ -90,8 +90,8 @@ returns-in_err-complete-clause-refused g c clean opened =
 
 pub returns-in_default-clause-refused : goal.returns-in_default-clause-refused
 returns-in_default-clause-refused g c clean opened =
-    let none = rw c.in_default.is at c.form_of.ensures.none in
-    inl (subst (λ (s : Schema). HasAForm s → ⊥) c.schema.ensures.value none)
+    let none = rw c.in_default.is at c.table_layout_of.ensures.none in
+    inl (subst (λ (s : Schema). HasSomeTableLayout s → ⊥) c.schema.ensures.value none)
 
 pub returns-in_default-clause-settled : goal.returns-in_default-clause-settled
 returns-in_default-clause-settled g c = c.requires.settled
@@ -123,14 +123,14 @@ returns-in_default-clause-found g c = λ clean opened. tt
 pub returns-in_default-clause-indexed : goal.returns-in_default-clause-indexed
 returns-in_default-clause-indexed g c = tt
 
-pub found_in-requires-clause-settled : goal.found_in-requires-clause-settled
-found_in-requires-clause-settled g c = c.requires.settled
+pub replay_tables-requires-clause-settled : goal.replay_tables-requires-clause-settled
+replay_tables-requires-clause-settled g c = c.requires.settled
 
 pub returns-in_err-found-clause-settled : goal.returns-in_err-found-clause-settled
-returns-in_err-found-clause-settled g c = c.found_in.ensures.leaves.settled c.requires.settled
+returns-in_err-found-clause-settled g c = c.replay_tables.ensures.leaves.settled c.requires.settled
 
 pub returns-in_err-found-clause-was : goal.returns-in_err-found-clause-was
-returns-in_err-found-clause-was g c = sound_before g.S.Store c.args.conn.now c.found_in.new.conn c.found_in.ensures.leaves.clean c.found_in.ensures.leaves.was_open
+returns-in_err-found-clause-was g c = sound_before g.S.Store c.args.conn.now c.replay_tables.new.conn c.replay_tables.ensures.leaves.clean c.replay_tables.ensures.leaves.was_open
 
 pub returns-in_err-found-clause-opened : goal.returns-in_err-found-clause-opened
 returns-in_err-found-clause-opened g c =

@@ -3,12 +3,12 @@ use Rattle.s10_ranges.specs.Keys.{key_by}
 use Rattle.s10_ranges.proofs.Orders.{up_to, from_on}
 use Rattle.s10_ranges.proofs.order.first_at.Goals as goal
 
-pub loop-low-preserved-then-key_number-key : goal.loop-low-preserved-then-key_number-key
-loop-low-preserved-then-key_number-key c =
+pub loop-low-preserved-then-sort_key_of-key : goal.loop-low-preserved-then-sort_key_of-key
+loop-low-preserved-then-sort_key_of-key c =
     let mid : ℕ = c.loop-low.low + (c.loop-low.high - c.loop-low.low) / 2 in
     let inside : mid < length c.args.order.now = omega arith in
     let place = c.requires.places mid inside in
-    let here : key_by c.args.by c.index-ranges-order.result < c.args.key = omega (arith, c.key_number.ensures, c.if-key_number-key.true) in
+    let here : key_by c.args.by c.index-ranges-order.result < c.args.key = omega (arith, c.sort_key_of.ensures, c.if-sort_key_of-key.true) in
     record {
       ordered = omega arith;
       within = c.loop-low.invariant.within;
@@ -21,7 +21,7 @@ loop-low-preserved c =
     let mid : ℕ = c.loop-low.low + (c.loop-low.high - c.loop-low.low) / 2 in
     let inside : mid < length c.args.order.now = omega arith in
     let place = c.requires.places mid inside in
-    let here : c.args.key ≤ key_by c.args.by c.index-ranges-order.result = omega (arith, c.key_number.ensures, c.if-key_number-key.false) in
+    let here : c.args.key ≤ key_by c.args.by c.index-ranges-order.result = omega (arith, c.sort_key_of.ensures, c.if-sort_key_of-key.false) in
     record {
       ordered = omega arith;
       within = omega arith;

@@ -9,41 +9,41 @@ returns-then-rows-serials-clause-found c = λ h calls range asked is same.
     absurd (omega (arith, counts.few))
 
 pub loop-row-init : goal.loop-row-init
-loop-row-init c = UsedSoFar-start c.args.rows.now c.args.day c.args.interval c.serials_of-serials.result
+loop-row-init c = UsedSoFar-start c.args.rows.now c.args.day c.args.interval c.range_size-serials.result
 
 pub returns-in_default-clause-found : goal.returns-in_default-clause-found
 returns-in_default-clause-found c = λ h calls range asked is same.
     absurd (never_unread h c.args.range.now c.args.rows.now c.loop-row.row-index _ calls same c.loop-row-test.true c.in_default.ensures.kept)
 
-pub with_issue-usage-requires-clause-used : goal.with_issue-usage-requires-clause-used
-with_issue-usage-requires-clause-used c =
-    let room = UsedSoFar-room c.args.rows.now c.args.day c.args.interval c.serials_of-serials.result c.loop-row.row-index c.loop-row.usage c.loop-row.invariant c.loop-row-test.true c.if-rows-serials.false in
+pub count_issue-usage-requires-clause-used : goal.count_issue-usage-requires-clause-used
+count_issue-usage-requires-clause-used c =
+    let room = UsedSoFar-room c.args.rows.now c.args.day c.args.interval c.range_size-serials.result c.loop-row.row-index c.loop-row.usage c.loop-row.invariant c.loop-row-test.true c.if-rows-serials.false in
     omega (arith, room.0)
 
-pub with_issue-usage-requires-clause-voided : goal.with_issue-usage-requires-clause-voided
-with_issue-usage-requires-clause-voided c =
-    let room = UsedSoFar-room c.args.rows.now c.args.day c.args.interval c.serials_of-serials.result c.loop-row.row-index c.loop-row.usage c.loop-row.invariant c.loop-row-test.true c.if-rows-serials.false in
+pub count_issue-usage-requires-clause-voided : goal.count_issue-usage-requires-clause-voided
+count_issue-usage-requires-clause-voided c =
+    let room = UsedSoFar-room c.args.rows.now c.args.day c.args.interval c.range_size-serials.result c.loop-row.row-index c.loop-row.usage c.loop-row.invariant c.loop-row-test.true c.if-rows-serials.false in
     omega (arith, room.1)
 
-pub with_issue-usage-requires-clause-free : goal.with_issue-usage-requires-clause-free
-with_issue-usage-requires-clause-free c =
-    let room = UsedSoFar-room c.args.rows.now c.args.day c.args.interval c.serials_of-serials.result c.loop-row.row-index c.loop-row.usage c.loop-row.invariant c.loop-row-test.true c.if-rows-serials.false in
+pub count_issue-usage-requires-clause-free : goal.count_issue-usage-requires-clause-free
+count_issue-usage-requires-clause-free c =
+    let room = UsedSoFar-room c.args.rows.now c.args.day c.args.interval c.range_size-serials.result c.loop-row.row-index c.loop-row.usage c.loop-row.invariant c.loop-row-test.true c.if-rows-serials.false in
     room.2
 
 pub loop-row-preserved : goal.loop-row-preserved
 loop-row-preserved c =
-    UsedSoFar-step c.args.rows.now c.args.day c.args.interval c.serials_of-serials.result c.loop-row.row-index _ c.loop-row.usage _ c.in-Some.issue c.loop-row-test.true
-    c.in-Some.ensures.read.voided c.in-Some.ensures.read.day c.with_issue-usage.ensures.used c.with_issue-usage.ensures.voided c.with_issue-usage.ensures.free c.loop-row.invariant
+    UsedSoFar-step c.args.rows.now c.args.day c.args.interval c.range_size-serials.result c.loop-row.row-index _ c.loop-row.usage _ c.in-Some.issue c.loop-row-test.true
+    c.in-Some.ensures.read.voided c.in-Some.ensures.read.day c.count_issue-usage.ensures.used c.count_issue-usage.ensures.voided c.count_issue-usage.ensures.free c.loop-row.invariant
 
 pub returns-clause-counted : goal.returns-clause-counted
 returns-clause-counted c =
-    UsedSoFar-end c.args.range.now c.args.day c.args.interval c.serials_of-serials.result c.loop-row.row-index c.args.rows.now c.loop-row.usage (omega arith) (omega arith)
-    c.serials_of-serials.ensures.count c.loop-row.invariant
+    UsedSoFar-end c.args.range.now c.args.day c.args.interval c.range_size-serials.result c.loop-row.row-index c.args.rows.now c.loop-row.usage (omega arith) (omega arith)
+    c.range_size-serials.ensures.count c.loop-row.invariant
 
 pub returns-clause-found : goal.returns-clause-found
 returns-clause-found c = λ h calls range asked is same.
     let counts = rows_counted h c.args.range.now c.args.day c.args.interval c.args.rows.now calls range same in
     let counted =
-    UsedSoFar-end c.args.range.now c.args.day c.args.interval c.serials_of-serials.result c.loop-row.row-index c.args.rows.now c.loop-row.usage (omega arith) (omega arith)
-    c.serials_of-serials.ensures.count c.loop-row.invariant in
+    UsedSoFar-end c.args.range.now c.args.day c.args.interval c.range_size-serials.result c.loop-row.row-index c.args.rows.now c.loop-row.usage (omega arith) (omega arith)
+    c.range_size-serials.ensures.count c.loop-row.invariant in
     ap (λ (u : Usage). Ok u) (usage_is h c.args.range.now asked c.args.day c.args.interval c.args.rows.now c.loop-row.usage is counts counted)

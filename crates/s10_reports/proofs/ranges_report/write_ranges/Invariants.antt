@@ -1,6 +1,6 @@
 use Rattle.std.proofs.Common.{◌≡◌, ◌+◌, take}
 use Rattle.std.specs.Io.KnownBytes.{Appends}
-use Rattle.s10_book.specs.Book.{Keeps}
+use Rattle.s10_book.specs.Book.{Unchanged}
 use Rattle.s10_reports.specs.Reports.{joined, ranges_report}
 use Rattle.s10_reports.proofs.ranges_report.write_ranges.Given as goal
 
@@ -9,7 +9,7 @@ abbrev pub invariant-loop-done : goal.invariant-loop-done
 invariant-loop-done g l =
     record {
       faults : g.B.Book.faults l.book ≡ g.B.Book.faults l.fn.book;
-      keeps : Keeps g.B.Book.history g.B.Book.terms g.B.Book.honest l.fn.book l.book;
+      unchanged : Unchanged g.B.Book.history g.B.Book.terms g.B.Book.honest l.fn.book l.book;
       written : g.B.Book.honest l.book → Appends (g.W.Write.contents l.fn.out) (g.W.Write.contents l.out)
           (joined (take (l.done + 1) (ranges_report (g.B.Book.history l.fn.book) l.day (g.B.Book.terms l.fn.book).interval)));
     }

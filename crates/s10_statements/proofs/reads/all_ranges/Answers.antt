@@ -1,7 +1,7 @@
 use Rattle.std.proofs.Common.{[], ◌∙◌}
 use Rattle.std.proofs.lemmas.Result.{IfOk-weaker}
 use Rattle.sqlite.specs.Held.{state}
-use Rattle.s10_statements.specs.Statements.{ranges_text}
+use Rattle.s10_statements.specs.Statements.{select_ranges_sql}
 use Rattle.s10_statements.proofs.Texts.{ranges_plain}
 use Rattle.s10_statements.proofs.RowByRow.{known_plain}
 use Rattle.s10_statements.proofs.StateLemmas.{leaves_weaker}
@@ -9,10 +9,10 @@ use Rattle.s10_statements.proofs.FoundLemmas.{ranges_found, ranges_in_order}
 use Rattle.s10_statements.proofs.reads.all_ranges.Goals as goal
 
 pub returns-in_err-rows-clause-leaves : goal.returns-in_err-rows-clause-leaves
-returns-in_err-rows-clause-leaves g c = leaves_weaker g.S.Store c.args.conn.now c.read.new.conn (known_plain ranges_text ranges_plain) c.read.ensures.leaves
+returns-in_err-rows-clause-leaves g c = leaves_weaker g.S.Store c.args.conn.now c.read.new.conn (known_plain select_ranges_sql ranges_plain) c.read.ensures.leaves
 
 pub returns-clause-leaves : goal.returns-clause-leaves
-returns-clause-leaves g c = leaves_weaker g.S.Store c.args.conn.now c.read.new.conn (known_plain ranges_text ranges_plain) c.read.ensures.leaves
+returns-clause-leaves g c = leaves_weaker g.S.Store c.args.conn.now c.read.new.conn (known_plain select_ranges_sql ranges_plain) c.read.ensures.leaves
 
 pub returns-clause-rows : goal.returns-clause-rows
 returns-clause-rows g c clean =
@@ -23,7 +23,7 @@ returns-clause-in_order g c clean =
     IfOk-weaker c.rows_in.result _ _ (λ found typed tables held up. ranges_in_order [] (state g.S.Store c.args.conn.now) (state g.S.Store c.read.new.conn) c.in_ok-rows.rows.items held.schema.ledger tables held up found.items (c.in_ok-rows.ensures.rows clean) (typed ∙ c.deref.ensures.value)) c.rows_in.ensures
 
 pub returns-in_err-rows-clause-spares : goal.returns-in_err-rows-clause-spares
-returns-in_err-rows-clause-spares g c clean has = c.read.ensures.spares clean (known_plain ranges_text ranges_plain (state g.S.Store c.args.conn.now).now.schema has)
+returns-in_err-rows-clause-spares g c clean has = c.read.ensures.spares clean (known_plain select_ranges_sql ranges_plain (state g.S.Store c.args.conn.now).now.schema has)
 
 pub returns-clause-spares : goal.returns-clause-spares
-returns-clause-spares g c clean has = c.read.ensures.spares clean (known_plain ranges_text ranges_plain (state g.S.Store c.args.conn.now).now.schema has)
+returns-clause-spares g c clean has = c.read.ensures.spares clean (known_plain select_ranges_sql ranges_plain (state g.S.Store c.args.conn.now).now.schema has)

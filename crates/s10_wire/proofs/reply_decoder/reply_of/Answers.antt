@@ -4,7 +4,7 @@ use Rattle.std.proofs.lemmas.Result.{err_from_is_err_and}
 use Rattle.s10_wire.specs.declared.kind.Kind.{Kind}
 use Rattle.s10_wire.specs.declared.wire_fault.WireFault.TheVariants.{Length}
 use Rattle.s10_wire.specs.Kind.{request_length, is_reply_long}
-use Rattle.s10_wire.specs.WireFault.{first_refusal, kind_named, of_kind, header_refusals, request_fields, outcome_refusals, reply_refusals, refusals_behind_reply}
+use Rattle.s10_wire.specs.WireFault.{first_refusal, kind_named, of_kind, header_refusals, request_fields, outcome_refusals, reply_refusals, refusals_after_reply}
 use Rattle.s10_wire.proofs.Refusals.{first_decides, second_decides, reply_length_decides, fields_decide}
 use Rattle.s10_wire.proofs.reply_decoder.reply_of.Goals as goal
 
@@ -35,7 +35,7 @@ pub returns-in_err-kind-clause-refused : goal.returns-in_err-kind-clause-refused
 returns-in_err-kind-clause-refused c =
     let b = c.args.bytes.now in
     let p = err_from_is_err_and c.from_residual.result c.from_residual.ensures.1 in
-    rw (p.1, p.2) (sym (first_decides (header_refusals 0x80 b) (of_kind (kind_named 0x80 b) (refusals_behind_reply b)) c.in_err-kind.field-0.0 (sym c.in_err-kind.ensures.refused)))
+    rw (p.1, p.2) (sym (first_decides (header_refusals 0x80 b) (of_kind (kind_named 0x80 b) (refusals_after_reply b)) c.in_err-kind.field-0.0 (sym c.in_err-kind.ensures.refused)))
 
 pub returns-then-not-is_reply_long-clause-found : goal.returns-then-not-is_reply_long-clause-found
 returns-then-not-is_reply_long-clause-found c = tt

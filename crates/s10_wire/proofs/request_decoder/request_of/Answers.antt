@@ -4,7 +4,7 @@ use Rattle.std.proofs.lemmas.Result.{err_from_is_err_and}
 use Rattle.s10_wire.specs.declared.kind.Kind.{Kind}
 use Rattle.s10_wire.specs.declared.wire_fault.WireFault.TheVariants.{Length}
 use Rattle.s10_wire.specs.Kind.{request_length}
-use Rattle.s10_wire.specs.WireFault.{first_refusal, kind_named, of_kind, header_refusals, request_fields, refusals_behind_request}
+use Rattle.s10_wire.specs.WireFault.{first_refusal, kind_named, of_kind, header_refusals, request_fields, refusals_after_request}
 use Rattle.s10_wire.proofs.Asked.{is_asked}
 use Rattle.s10_wire.proofs.Refusals.{first_decides, length_decides}
 use Rattle.s10_wire.proofs.request_decoder.request_of.Goals as goal
@@ -25,7 +25,7 @@ pub returns-in_err-kind-clause-refused : goal.returns-in_err-kind-clause-refused
 returns-in_err-kind-clause-refused c =
     let b = c.args.bytes.now in
     let p = err_from_is_err_and c.from_residual.result c.from_residual.ensures.1 in
-    rw (p.1, p.2) (sym (first_decides (header_refusals 0 b) (of_kind (kind_named 0 b) (refusals_behind_request b)) c.in_err-kind.field-0.0 (sym c.in_err-kind.ensures.refused)))
+    rw (p.1, p.2) (sym (first_decides (header_refusals 0 b) (of_kind (kind_named 0 b) (refusals_after_request b)) c.in_err-kind.field-0.0 (sym c.in_err-kind.ensures.refused)))
 
 pub returns-then-bytes-request_length-clause-found : goal.returns-then-bytes-request_length-clause-found
 returns-then-bytes-request_length-clause-found c = tt

@@ -1,5 +1,5 @@
 use Rattle.std.proofs.Common.{rules}
-use Rattle.s10_ends.proofs.Receiving.{no_reply, nothing_waits, of_another}
+use Rattle.s10_ends.proofs.ClientReceiving.{no_reply, nothing_waits, of_another}
 use Rattle.s10_ends.proofs.client.Client.receive.Goals as goal
 
 pub returns-in-Err : goal.returns-in-Err

@@ -7,14 +7,14 @@ use Rattle.s10_ends.specs.Served.{Served}
 use Rattle.s10_ends.specs.Runs.{CountsAll}
 use Rattle.s10_ends.proofs.Filling.{room_for_next, room_kept, one_longer}
 use Rattle.s10_ends.proofs.Whole.{Served-nil}
-use Rattle.s10_ends.proofs.Runs.{CountsAll-nil, CountsAll-push, Served-map_push, IsKept-legal}
+use Rattle.s10_ends.proofs.Runs.{CountsAll-nil, CountsAll-push, Served-map_push, KeepsPromises-legal}
 use Rattle.s10_ends.proofs.Carried.{Served-issued}
 use Rattle.s10_ends.proofs.server.Server.run.Goals as goal
 
 pub returns-in_err-answers-clause-kept : goal.returns-in_err-answers-clause-kept
 returns-in_err-answers-clause-kept g c = λ h.
     let book = c.args.self.now.book in
-    IsKept-legal (g.B.Book.history book) (g.B.Book.terms book) (g.met.B.Book.legal book h)
+    KeepsPromises-legal (g.B.Book.history book) (g.B.Book.terms book) (g.met.B.Book.legal book h)
 
 pub loop-delivery-init : goal.loop-delivery-init
 loop-delivery-init g c =
@@ -60,7 +60,7 @@ returns-clause-served g c = λ h. rw (take_all c.loop-delivery.delivery-index c.
 pub returns-clause-kept : goal.returns-clause-kept
 returns-clause-kept g c = λ h.
     let book = c.loop-delivery.self.book in
-    IsKept-legal (g.B.Book.history book) (g.B.Book.terms book) (g.met.B.Book.legal book h)
+    KeepsPromises-legal (g.B.Book.history book) (g.B.Book.terms book) (g.met.B.Book.legal book h)
 
 pub returns-clause-issued : goal.returns-clause-issued
 returns-clause-issued g c = λ h. Served-issued _ _ _ _ _ (c.loop-delivery.invariant.served h)

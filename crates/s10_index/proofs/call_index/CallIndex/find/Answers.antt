@@ -10,4 +10,4 @@ among_fits calls None all among = tt
 among_fits calls (Some e) all among = All-contains (λ (x : Entry). IsTrue (fits x.request.body x.outcome)) calls e all among
 
 pub returns-clause-fits : goal.returns-clause-fits
-returns-clause-fits c = among_fits c.args.self.now.entries.items c.kept_call.result c.args.self.now.fitting c.kept_call.ensures.among
+returns-clause-fits c = among_fits c.args.self.now.entries.items c.find_in.result c.args.self.now.fitting c.find_in.ensures.among

@@ -15,6 +15,6 @@ returns-clause-followed c h t legal follows was =
     record {
       calls = c.push_reserved.ensures ∙ ap (λ (l : List Entry). l ++ c.args.entry ∷ []) was.calls;
       ranges = c.follow.ensures h t legal follows few was.ranges;
-      places = c.note_place.ensures h was.places (c.len-place.ensures ∙ ap length (c.calls.ensures ∙ was.calls)) follows.new_key;
-      issues = c.note_call.ensures h t legal was.issues;
+      positions = c.record_position.ensures h was.positions (c.len-place.ensures ∙ ap length (c.calls.ensures ∙ was.calls)) follows.new_key;
+      issues = c.record_call.ensures h t legal was.issues;
     }

@@ -2,7 +2,7 @@ use Rattle.std.proofs.Common.{◌∙◌, sym, ap}
 use Rattle.std.proofs.lemmas.Option.{none-some, same_Some}
 use Rattle.s10_history.specs.Issues.{issues_of}
 use Rattle.s10_ranges.specs.declared.mark.Mark.{Mark}
-use Rattle.s10_ranges.specs.Turns.{mark_of}
+use Rattle.s10_ranges.specs.Laps.{mark_of}
 use Rattle.s10_ranges.proofs.Marked.{mark_above, mark_held}
 use Rattle.s10_index.proofs.call_index.CallIndex.pick.Goals as goal
 

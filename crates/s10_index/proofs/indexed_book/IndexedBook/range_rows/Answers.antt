@@ -10,7 +10,7 @@ use Rattle.s10_ranges.specs.declared.mark.Mark.{Mark}
 use Rattle.s10_ranges.specs.declared.ranges.Ranges.{Ranges}
 use Rattle.s10_rows.specs.declared.range_row.RangeRow.{RangeRow}
 use Rattle.s10_rows.specs.Tables.{range_row, range_rows}
-use Rattle.s10_index.specs.RowsBehind.{range_rows_behind}
+use Rattle.s10_index.specs.RowsFrom.{range_rows_from}
 use Rattle.s10_index.proofs.LastRows.{whole, range_row_next}
 use Rattle.s10_index.proofs.indexed_book.IndexedBook.range_rows.Goals as goal
 
@@ -27,13 +27,13 @@ loop-place-preserved c =
     let held = c.args.self.now.index.ranges in
     let k = c.loop-place.place in
     let rows = c.loop-place.rows.items in
-    let behind = range_rows_behind h (k + 1) in
+    let behind = range_rows_from h (k + 1) in
     let range = c.index-ranges-place.result in
     let mark = c.index-marks-place.result in
     let ranges : c.all-ranges.result.now ≡ held.ranges.items = c.all-ranges.ensures ∙ ap (λ (r : Ranges). r.ranges.items) c.ranges-2.ensures in
     let marks : c.marks-marks.result.now ≡ held.marks.items = c.marks-marks.ensures ∙ ap (λ (r : Ranges). r.marks.items) c.ranges-3.ensures in
     let within : k < length c.marks-marks.result.now = omega (arith, c.loop-place-test.true, ap length ranges, ap length marks, held.marked) in
-    let next : range_rows_behind h k ≡ c.of.result ∷ behind =
+    let next : range_rows_from h k ≡ c.of.result ∷ behind =
     range_row_next held h k range mark c.of.result c.args.self.now.indexed.ranges
     (ap (λ (l : List Range). slice_get l k) (sym ranges) ∙ slice_get_read c.all-ranges.result.now _ k range refl c.loop-place-test.true c.index-ranges-place.is)
     (ap (λ l. slice_get l k) (sym marks) ∙ slice_get_read c.marks-marks.result.now _ k mark refl within c.index-marks-place.is)
@@ -54,4 +54,4 @@ returns c =
     let k = c.loop-place.place in
     let ranges : c.all-ranges.result.now ≡ ranges_of h = c.all-ranges.ensures ∙ ap (λ (r : Ranges). r.ranges.items) c.ranges-2.ensures ∙ c.args.self.now.indexed.ranges.ranges in
     let past : length (ranges_of h) ≤ k = omega (arith, c.loop-place-test.false, ap length ranges) in
-    whole c.loop-place.rows.items (range_rows_behind h k) (range_rows h) (ap (map (λ (r : Range). range_row (pick_of (issues_of h) r) r)) (drop_all k (ranges_of h) past)) c.loop-place.invariant
+    whole c.loop-place.rows.items (range_rows_from h k) (range_rows h) (ap (map (λ (r : Range). range_row (pick_of (issues_of h) r) r)) (drop_all k (ranges_of h) past)) c.loop-place.invariant

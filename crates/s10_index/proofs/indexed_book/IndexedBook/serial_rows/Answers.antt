@@ -3,12 +3,12 @@ use Rattle.std.specs.Prelude.{slice_get}
 use Rattle.s10_rows.specs.declared.serial_row.SerialRow.{SerialRow}
 use Rattle.s10_rows.specs.Tables.{serial_rows}
 use Rattle.s10_history.specs.Settings.{Terms}
-use Rattle.s10_index.specs.RowsBehind.{rows_behind}
+use Rattle.s10_index.specs.RowsFrom.{serial_rows_from}
 use Rattle.s10_index.proofs.LastRows.{none_behind, whole}
 use Rattle.s10_index.proofs.indexed_book.IndexedBook.serial_rows.Goals as goal
 
 pub loop-place-init : goal.loop-place-init
-loop-place-init c = ap (λ (l : List SerialRow). l ++ rows_behind c.args.self.now.index.entries.items 0) c.new-rows.ensures.items
+loop-place-init c = ap (λ (l : List SerialRow). l ++ serial_rows_from c.args.self.now.index.entries.items 0) c.new-rows.ensures.items
 
 pub loop-place-preserved : goal.loop-place-preserved
 loop-place-preserved c =
@@ -23,4 +23,4 @@ pub returns : goal.returns
 returns c =
     let h = c.args.self.now.index.entries.items in
     let past : length h ≤ c.loop-place.place = omega (arith, c.loop-place-test.false, c.len-len.ensures.answer tt) in
-    whole c.loop-place.rows.items (rows_behind h c.loop-place.place) (serial_rows h) (none_behind h c.loop-place.place past) c.loop-place.invariant
+    whole c.loop-place.rows.items (serial_rows_from h c.loop-place.place) (serial_rows h) (none_behind h c.loop-place.place past) c.loop-place.invariant

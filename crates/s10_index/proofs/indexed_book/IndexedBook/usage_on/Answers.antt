@@ -20,7 +20,7 @@ pub loop-value-preserved : goal.loop-value-preserved
 loop-value-preserved c =
     let h = c.args.self.now.index.entries.items in
     let le : c.loop-value.value ≤ c.args.range.now.last = omega (arith, c.loop-value-test.true, c.value-value-end.ensures.value) in
-    let known : c.last_issue-last.result ≡ last_issue_of h (id_at c.args.range.now c.loop-value.value) = c.last_issue-last.ensures h c.args.self.now.indexed ∙ ap (last_issue_of h) c.id_with.ensures in
+    let known : c.last_issue-last.result ≡ last_issue_of h (id_at c.args.range.now c.loop-value.value) = c.last_issue-last.ensures h c.args.self.now.indexed ∙ ap (last_issue_of h) c.id_in_range.ensures in
     UsedBelow-step h (issues_of h) c.args.range.now c.args.day c.interval-interval.result c.loop-value.value c.loop-value.usage _ _ _ _ _ le refl known c.is_some.ensures c.is_voided.ensures c.is_free.ensures c.count_if.ensures c.count_if-in-loop-value.ensures c.count_if-in-loop-value-2.ensures c.loop-value.invariant
 
 pub returns : goal.returns
@@ -41,7 +41,7 @@ pub returns-2-clause-used : goal.returns-2-clause-used
 returns-2-clause-used c =
     let h = c.args.self.now.index.entries.items in
     let le : c.loop-value.value ≤ c.args.range.now.last = omega (arith, c.loop-value-test.true, c.value-value-end.ensures.value) in
-    let known : c.last_issue-last.result ≡ last_issue_of h (id_at c.args.range.now c.loop-value.value) = c.last_issue-last.ensures h c.args.self.now.indexed ∙ ap (last_issue_of h) c.id_with.ensures in
+    let known : c.last_issue-last.result ≡ last_issue_of h (id_at c.args.range.now c.loop-value.value) = c.last_issue-last.ensures h c.args.self.now.indexed ∙ ap (last_issue_of h) c.id_in_range.ensures in
     let past : c.args.range.now.last < c.loop-value.value + 1 = omega arith in
     let all = UsedBelow-step h (issues_of h) c.args.range.now c.args.day c.interval-interval.result c.loop-value.value c.loop-value.usage _ _ _ _ _ le refl known c.is_some.ensures c.is_voided.ensures c.is_free.ensures c.count_if.ensures c.count_if-in-loop-value.ensures c.count_if-in-loop-value-2.ensures c.loop-value.invariant in
     Counted-all (λ serial. is_issued (issues_of h) (id_at c.args.range.now serial)) c.args.range.now (c.loop-value.value + 1) _ past all.used
@@ -50,7 +50,7 @@ pub returns-2-clause-voided : goal.returns-2-clause-voided
 returns-2-clause-voided c =
     let h = c.args.self.now.index.entries.items in
     let le : c.loop-value.value ≤ c.args.range.now.last = omega (arith, c.loop-value-test.true, c.value-value-end.ensures.value) in
-    let known : c.last_issue-last.result ≡ last_issue_of h (id_at c.args.range.now c.loop-value.value) = c.last_issue-last.ensures h c.args.self.now.indexed ∙ ap (last_issue_of h) c.id_with.ensures in
+    let known : c.last_issue-last.result ≡ last_issue_of h (id_at c.args.range.now c.loop-value.value) = c.last_issue-last.ensures h c.args.self.now.indexed ∙ ap (last_issue_of h) c.id_in_range.ensures in
     let past : c.args.range.now.last < c.loop-value.value + 1 = omega arith in
     let all = UsedBelow-step h (issues_of h) c.args.range.now c.args.day c.interval-interval.result c.loop-value.value c.loop-value.usage _ _ _ _ _ le refl known c.is_some.ensures c.is_voided.ensures c.is_free.ensures c.count_if.ensures c.count_if-in-loop-value.ensures c.count_if-in-loop-value-2.ensures c.loop-value.invariant in
     Counted-all (λ serial. is_voided h (id_at c.args.range.now serial)) c.args.range.now (c.loop-value.value + 1) _ past all.voided
@@ -59,7 +59,7 @@ pub returns-2-clause-free : goal.returns-2-clause-free
 returns-2-clause-free c =
     let h = c.args.self.now.index.entries.items in
     let le : c.loop-value.value ≤ c.args.range.now.last = omega (arith, c.loop-value-test.true, c.value-value-end.ensures.value) in
-    let known : c.last_issue-last.result ≡ last_issue_of h (id_at c.args.range.now c.loop-value.value) = c.last_issue-last.ensures h c.args.self.now.indexed ∙ ap (last_issue_of h) c.id_with.ensures in
+    let known : c.last_issue-last.result ≡ last_issue_of h (id_at c.args.range.now c.loop-value.value) = c.last_issue-last.ensures h c.args.self.now.indexed ∙ ap (last_issue_of h) c.id_in_range.ensures in
     let past : c.args.range.now.last < c.loop-value.value + 1 = omega arith in
     let all = UsedBelow-step h (issues_of h) c.args.range.now c.args.day c.interval-interval.result c.loop-value.value c.loop-value.usage _ _ _ _ _ le refl known c.is_some.ensures c.is_voided.ensures c.is_free.ensures c.count_if.ensures c.count_if-in-loop-value.ensures c.count_if-in-loop-value-2.ensures c.loop-value.invariant in
     Counted-all (λ serial. is_free (issues_of h) (id_at c.args.range.now serial) c.args.day c.interval-interval.result) c.args.range.now (c.loop-value.value + 1) _ past all.free

@@ -3,7 +3,7 @@ use Rattle.sqlite.specs.Effect.{Database}
 use Rattle.sqlite.specs.Held.{state}
 use Rattle.s10_history.specs.History.{day_of}
 use Rattle.s10_ledger.specs.Ledger.{Ledger}
-use Rattle.s10_ledger.specs.Pending.{settled_among}
+use Rattle.s10_ledger.specs.Pending.{committed_among}
 use Rattle.s10_ledger.proofs.BookLemmas.{schema_is, same_tables, if_answered, read_keeps}
 use Rattle.s10_ledger.proofs.PendingLemmas.{ledger_of, sound_after_read}
 use Rattle.s10_ledger.proofs.sql_book.SqlBook.ask_again.Goals as goal
@@ -13,20 +13,20 @@ invariant_of-self g c =
     sound_after_read g.S.Store c.self.inside.conn c.ask-asked.new.conn c.self.inside.settings c.self.inside.index c.self.inside.pending.items c.self.inside.answered c.is_ok-answered.result c.self.invariant
     c.ask-asked.ensures.leaves (λ so clean. if_answered c.ask-asked.result _ c.is_ok-answered.result c.is_ok-answered.ensures.value (c.ask-asked.ensures.opened clean) so)
 
-pub returns-clause-keeps : goal.returns-clause-keeps
-returns-clause-keeps g c =
+pub returns-clause-unchanged : goal.returns-clause-unchanged
+returns-clause-unchanged g c =
     let old : Ledger g.row.S.Denot = ledger_of c.self.inside.conn c.self.inside.settings c.self.inside.index c.self.inside.pending.items c.self.inside.faults in
     rw (← c.self.view_is) (read_keeps g.S.Store old c.ask-asked.new.conn c.counted.new.faults c.ask-asked.ensures.leaves c.self.invariant.settled c.self.invariant.ledger)
 
 pub returns-clause-same : goal.returns-clause-same
 returns-clause-same g c =
-    let kept = settled_among c.self.inside.pending.items c.self.inside.index.entries.items in
+    let kept = committed_among c.self.inside.pending.items c.self.inside.index.entries.items in
     rw (← c.self.view_is) (λ honest. same_tables g.S.Store c.self.inside.conn c.ask-asked.new.conn c.self.inside.settings (length kept) (day_of kept) c.ask-asked.ensures.leaves c.self.invariant.settled c.self.invariant.ledger
     honest.clean honest.is_open)
 
 pub returns-clause-spares : goal.returns-clause-spares
 returns-clause-spares g c = rw (← c.self.view_is) (λ honest clean db left.
-    let kept = settled_among c.self.inside.pending.items c.self.inside.index.entries.items in
+    let kept = committed_among c.self.inside.pending.items c.self.inside.index.entries.items in
     let conn = c.self.inside.conn in
     g.met.S.Store.settled conn.store db honest.is_open
     (c.ask-asked.ensures.spares clean (schema_is (state g.S.Store conn).now c.self.inside.settings (length kept) (day_of kept) (c.self.invariant.ledger honest.clean honest.is_open)) db left)

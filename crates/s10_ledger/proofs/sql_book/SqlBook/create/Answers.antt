@@ -8,45 +8,45 @@ use Rattle.s10_book.specs.Rules.{IsLegal}
 use Rattle.s10_index.specs.CallIndex.{Indexes}
 use Rattle.s10_rows.specs.declared.open_fault.OpenFault.{OpenFault}
 use Rattle.s10_rows.specs.declared.open_fault.OpenFault.TheVariants.{Memory, Store}
-use Rattle.s10_statements.specs.Making.{HasOneOfTheNames, IsMakingRefusal}
+use Rattle.s10_statements.specs.Creating.{HasOneOfTheNames, IsCreateRefusal}
 use Rattle.s10_ledger.specs.Ledger.{IsLedger, history_in}
 use Rattle.s10_ledger.proofs.NewLedger.{no_history, new_ledger}
 use Rattle.s10_ledger.proofs.sql_book.SqlBook.create.Goals as goal
 
-not_made : (s : Schema) (f : OpenFault) → ¬ HasOneOfTheNames s → (f ≡ Memory) ⊎ (f ≡ Store) → IsMakingRefusal s f
-not_made s f fresh (inl is) = subst (λ (x : OpenFault). IsMakingRefusal s x) (sym is) tt
-not_made s f fresh (inr is) = subst (λ (x : OpenFault). IsMakingRefusal s x) (sym is) fresh
+not_made : (s : Schema) (f : OpenFault) → ¬ HasOneOfTheNames s → (f ≡ Memory) ⊎ (f ≡ Store) → IsCreateRefusal s f
+not_made s f fresh (inl is) = subst (λ (x : OpenFault). IsCreateRefusal s x) (sym is) tt
+not_made s f fresh (inr is) = subst (λ (x : OpenFault). IsCreateRefusal s x) (sym is) fresh
 
 pub over-requires : goal.over-requires
 over-requires g c =
-    let db = (state g.S.Store c.make_ledger.new.conn).now in
+    let db = (state g.S.Store c.create_tables.new.conn).now in
     record {
       few = omega (arith, ap length c.new-index.ensures.calls);
-      settled = c.in_default-make_ledger.ensures.settled;
+      settled = c.in_default-create_tables.ensures.settled;
       ledger = λ clean opened. subst (λ (l : List Entry). IsLedger db c.args.settings (length l) (day_of l)) (sym c.new-index.ensures.calls)
-          (new_ledger db c.args.settings (c.in_default-make_ledger.ensures.all clean (c.refusal_of.ensures.none c.in_default.is)));
-      indexed = λ clean opened. subst (Indexes c.new-index.result) (sym (no_history db c.args.settings (c.in_default-make_ledger.ensures.all clean (c.refusal_of.ensures.none c.in_default.is)))) c.new-index.ensures;
-      opened = λ clean. c.in_default-make_ledger.ensures.opened clean;
+          (new_ledger db c.args.settings (c.in_default-create_tables.ensures.all clean (c.refusal_of.ensures.none c.in_default.is)));
+      indexed = λ clean opened. subst (Indexes c.new-index.result) (sym (no_history db c.args.settings (c.in_default-create_tables.ensures.all clean (c.refusal_of.ensures.none c.in_default.is)))) c.new-index.ensures;
+      opened = λ clean. c.in_default-create_tables.ensures.opened clean;
     }
 
 pub returns-clause-empty : goal.returns-clause-empty
-returns-clause-empty g c = rw c.over.ensures (λ honest. no_history (state g.S.Store c.make_ledger.new.conn).now c.args.settings (c.in_default-make_ledger.ensures.all honest.clean (c.refusal_of.ensures.none c.in_default.is)))
+returns-clause-empty g c = rw c.over.ensures (λ honest. no_history (state g.S.Store c.create_tables.new.conn).now c.args.settings (c.in_default-create_tables.ensures.all honest.clean (c.refusal_of.ensures.none c.in_default.is)))
 
 pub returns-clause-honest : goal.returns-clause-honest
 returns-clause-honest g c = rw c.over.ensures (λ clean opened.
-    let db = (state g.S.Store c.make_ledger.new.conn).now in
+    let db = (state g.S.Store c.create_tables.new.conn).now in
     let it = subst (λ (l : List Entry). IsLedger db c.args.settings (length l) (day_of l)) (sym c.new-index.ensures.calls)
-    (new_ledger db c.args.settings (c.in_default-make_ledger.ensures.all clean (c.refusal_of.ensures.none c.in_default.is))) in
+    (new_ledger db c.args.settings (c.in_default-create_tables.ensures.all clean (c.refusal_of.ensures.none c.in_default.is))) in
     record { clean = clean; is_open = opened; ledger = it; legal = subst (λ (h : List Entry). IsLegal h c.args.settings) (sym (append-nil (history_in db))) it.legal })
 
 pub returns-clause-alone : goal.returns-clause-alone
-returns-clause-alone g c = rw c.over.ensures (λ honest. c.in_default-make_ledger.ensures.alone honest.clean (c.refusal_of.ensures.none c.in_default.is))
+returns-clause-alone g c = rw c.over.ensures (λ honest. c.in_default-create_tables.ensures.alone honest.clean (c.refusal_of.ensures.none c.in_default.is))
 
 pub returns-in-Err-clause-left_idle : goal.returns-in-Err-clause-left_idle
-returns-in-Err-clause-left_idle g c = c.make_ledger.ensures.settled.idle
+returns-in-Err-clause-left_idle g c = c.create_tables.ensures.settled.idle
 
 pub returns-in-Err-clause-was_refused : goal.returns-in-Err-clause-was_refused
-returns-in-Err-clause-was_refused g c = c.make_ledger.ensures.was
+returns-in-Err-clause-was_refused g c = c.create_tables.ensures.was
 
 pub returns-in-Err-clause-kept : goal.returns-in-Err-clause-kept
 returns-in-Err-clause-kept g c = λ clean opened. c.in-Err.ensures.none clean opened
@@ -55,16 +55,16 @@ pub returns-clause-fresh : goal.returns-clause-fresh
 returns-clause-fresh g c = c.refusal_of.ensures.fresh c.in_default.is
 
 pub returns-clause-idle : goal.returns-clause-idle
-returns-clause-idle g c = rw c.over.ensures c.make_ledger.ensures.settled.idle
+returns-clause-idle g c = rw c.over.ensures c.create_tables.ensures.settled.idle
 
 pub returns-clause-opened : goal.returns-clause-opened
-returns-clause-opened g c = rw c.over.ensures (λ clean. c.in_default-make_ledger.ensures.opened clean)
+returns-clause-opened g c = rw c.over.ensures (λ clean. c.in_default-create_tables.ensures.opened clean)
 
 pub returns-clause-was : goal.returns-clause-was
-returns-clause-was g c = rw c.over.ensures c.make_ledger.ensures.was
+returns-clause-was g c = rw c.over.ensures c.create_tables.ensures.was
 
 pub returns-clause-committed : goal.returns-clause-committed
-returns-clause-committed g c = rw c.over.ensures (λ honest. c.make_ledger.ensures.settled.committed honest.clean honest.is_open)
+returns-clause-committed g c = rw c.over.ensures (λ honest. c.create_tables.ensures.settled.committed honest.clean honest.is_open)
 
 pub returns-in-Some-clause-new : goal.returns-in-Some-clause-new
 returns-in-Some-clause-new g c = tt

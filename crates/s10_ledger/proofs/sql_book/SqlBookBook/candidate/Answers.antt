@@ -8,7 +8,7 @@ use Rattle.s10_ledger.proofs.sql_book.SqlBookBook.candidate.Goals as goal
 
 pub returns-clause-answer : goal.returns-clause-answer
 returns-clause-answer g c =
-    let kept = rw (← c.self.view_is) at c.ask_again.ensures.keeps in
+    let kept = rw (← c.self.view_is) at c.ask_again.ensures.unchanged in
     rw (← c.self.view_is) (λ honest.
     let legal = honest.legal in
     let has = subst (λ (h : List Entry). Contains (ranges_of h) c.args.range.now) (sym (kept.same_history honest)) (c.requires (kept.was_honest honest)) in

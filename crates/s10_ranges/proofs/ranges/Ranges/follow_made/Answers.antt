@@ -10,4 +10,4 @@ returns-in-Some-clause-made c h t legal may few m =
     grant_mirrors c.args.self.now c.push_next.new.self h t c.args.entry.now c.in-Granted.num c.in-Some.range legal may few m c.in-Granted.is made c.push_next.ensures.next
 
 pub returns-in_default-clause-made : goal.returns-in_default-clause-made
-returns-in_default-clause-made c h t legal may few m = other_mirrors c.turn_all.new.self h c.args.entry.now c.in_default.not-Granted (c.turn_all.ensures.marks h t legal may m)
+returns-in_default-clause-made c h t legal may few m = other_mirrors c.advance_marks.new.self h c.args.entry.now c.in_default.not-Granted (c.advance_marks.ensures.marks h t legal may m)

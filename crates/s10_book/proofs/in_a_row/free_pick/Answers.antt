@@ -1,5 +1,0 @@
-use Rattle.std.proofs.Common.{rules}
-use Rattle.s10_book.proofs.in_a_row.free_pick.Goals as goal
-
-pub returns-then-size-from-clause-answer : goal.returns-then-size-from-clause-answer
-returns-then-size-from-clause-answer c = search rules

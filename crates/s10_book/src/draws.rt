@@ -1,0 +1,86 @@
+//! The identifiers of single Draws in a row.
+
+ghost use Rattle.std.specs.Prelude.{ℕ, ◌≡◌, length, IfOk, IfSome, Contains};
+ghost use Rattle.s10_history.specs.History.{ranges_of};
+ghost use Rattle.s10_history.specs.Issues.{free_pick_of};
+ghost use Rattle.s10_book.specs.Rules.{successive_draws as successive_draws_of};
+ghost use Rattle.s10_book.specs.BookFault.{CountsResult};
+ghost use Rattle.s10_book.specs.Book.{Unchanged};
+
+use crate::book::Book;
+use crate::book_fault::BookFault;
+use crate::picks::Picks;
+use s10_core::{Country, Id, Service};
+use s10_history::{HolderKey, Range, id_in_range, is_free};
+use s10_wire::{Count, Ids};
+
+// The identifier that the range gives behind so many picks of its own: none where each of its serials is among them, or
+// where that one is not free.
+fn free_pick<B: Book>(
+    book: &mut B,
+    range: &Range,
+    issued: u8,
+    day: u32,
+    interval: u32,
+) -> Result<Option<Id>, BookFault>
+    requires { B.honest book.old → Contains (ranges_of (B.history book.old)) range.now }
+    ensures faults { CountsResult result (B.faults book.old) (B.faults book.new) }
+    ensures unchanged { Unchanged B.history B.terms B.honest book.old book.new }
+    ensures answer { B.honest book.new → IfOk result (λ x. x ≡ free_pick_of (B.history book.old) range.now issued day interval) }
+{
+    if range.size() <= u32::from(issued) {
+        return Ok(None);
+    }
+    let candidate = book.candidate_after(range, issued)?;
+    if !is_free(&candidate.issue, day, interval) {
+        return Ok(None);
+    }
+    Ok(Some(Id {
+        service: range.service,
+        serial: candidate.serial,
+        country: range.country,
+    }))
+}
+
+/// The identifiers that so many single Draws of the customer in a row on that day would give, in their order, or `None`
+/// where one of them would give none. They are all that were asked for, whatever is under the book. Nothing is kept.
+/// Refused with Memory or Store where a call of the book was, with the same of the two.
+pub fn successive_draws<B: Book>(
+    book: &mut B,
+    customer: u32,
+    service: Service,
+    country: Country,
+    count: Count,
+    day: u32,
+) -> Result<Option<Ids>, BookFault>
+    ensures faults { CountsResult result (B.faults book.old) (B.faults book.new) }
+    ensures unchanged { Unchanged B.history B.terms B.honest book.old book.new }
+    ensures answer { B.honest book.new → IfOk result (λ ids. ids ≡ successive_draws_of (B.history book.old) customer service country day (B.terms book.old).interval count) }
+    ensures all { IfOk result (λ found. IfSome found (λ ids. length ids ≡ count)) }
+{
+    let interval = book.settings().interval();
+    let wanted = count.value() as usize;
+    let held = HolderKey {
+        holder: customer,
+        service,
+        country,
+    };
+    let Some(mut range) = book.next_range(&held, 0)? else {
+        return Ok(None);
+    };
+    let mut issued = 0;
+    let mut picks = Picks::new(id_in_range(&range, range.first.value()));
+    while picks.len() < wanted {
+        if let Some(id) = free_pick(book, &range, issued, day, interval)? {
+            picks.push(id);
+            issued += 1;
+            continue;
+        }
+        let Some(next) = book.next_range(&held, range.num)? else {
+            return Ok(None);
+        };
+        range = next;
+        issued = 0;
+    }
+    Ok(Some(picks.ids()))
+}

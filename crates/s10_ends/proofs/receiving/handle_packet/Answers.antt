@@ -1,0 +1,18 @@
+use Rattle.std.proofs.Common.{List, ℕ, subst}
+use Rattle.s10_ends.specs.Server.{book_of}
+use Rattle.s10_ends.specs.Turn.{Handles}
+use Rattle.s10_ends.proofs.receiving.handle_packet.Goals as goal
+
+pub returns : goal.returns
+returns g c =
+    let P : List ℕ → Type 0 = λ b. Handles g.B.Book.faults g.B.Book.honest g.B.Book.terms g.B.Book.history (book_of c.args.server.now) (book_of c.handle.new.self) c.args.day b c.handle.result in
+    subst P c.bytes.ensures.bytes (
+    record {
+      counts = c.handle.ensures.faults;
+      dropped = c.handle.ensures.dropped;
+      unasked = c.handle.ensures.unasked;
+      was_honest = c.handle.ensures.was_honest;
+      same_terms = c.handle.ensures.same_terms;
+      served = c.handle.ensures.served;
+      unchanged = c.handle.ensures.unchanged;
+    })

@@ -1,5 +1,0 @@
-use Rattle.std.proofs.Common.{rules}
-use Rattle.s10_ends.proofs.server.Server.settle.Goals as goal
-
-pub returns : goal.returns
-returns c = search rules

@@ -1,0 +1,87 @@
+//! What a server takes of a link.
+
+ghost use Rattle.std.specs.Prelude.{◌≡◌, ◌≤◌, [], length, vec_capacity};
+ghost use Rattle.s10_ends.specs.Server.{book_of};
+ghost use Rattle.s10_ends.specs.Turn.{Handles, Takes};
+ghost use Rattle.s10_ends.specs.Batch.{ReceivesBatch};
+
+use crate::answer::Answer;
+use crate::exchange::Exchange;
+use crate::server::Server;
+use s10_book::Book;
+use s10_link::{Link, LinkFault, Packet};
+
+// The next datagram, handled on this day.
+pub(crate) fn take<B: Book, L: Link>(
+    server: &mut Server<B>,
+    link: &mut L,
+    day: u32,
+) -> Result<Option<Exchange>, LinkFault>
+    ensures { Takes (λ before after b answer. Handles B.faults B.honest B.terms B.history before after day b answer)
+        (L.trace_of link.old, book_of server.old) (L.trace_of link.new, book_of server.new) result }
+{
+    let Some((from, packet)) = link.receive()? else {
+        return Ok(None);
+    };
+    let answer = handle_packet(server, packet, day);
+    Ok(Some(Exchange {
+        from,
+        packet,
+        answer,
+    }))
+}
+
+// The next datagram that has come already, handled on this day.
+fn try_handle_next<B: Book, L: Link>(
+    server: &mut Server<B>,
+    link: &mut L,
+    day: u32,
+) -> Result<Option<Exchange>, LinkFault>
+    ensures { Takes (λ before after b answer. Handles B.faults B.honest B.terms B.history before after day b answer)
+        (L.trace_of link.old, book_of server.old) (L.trace_of link.new, book_of server.new) result }
+{
+    let Some((from, packet)) = link.try_receive()? else {
+        return Ok(None);
+    };
+    let answer = handle_packet(server, packet, day);
+    Ok(Some(Exchange {
+        from,
+        packet,
+        answer,
+    }))
+}
+
+// What the server makes of a packet on this day.
+fn handle_packet<B: Book>(server: &mut Server<B>, packet: Packet, day: u32) -> Answer
+    ensures { Handles B.faults B.honest B.terms B.history (book_of server.old) (book_of server.new) day packet result }
+{
+    server.handle(packet.bytes(), day)
+}
+
+// Datagrams up to so many: the first that comes in time, and those that have come by then.
+pub(crate) fn receive_batch<B: Book, L: Link>(
+    server: &mut Server<B>,
+    link: &mut L,
+    day: u32,
+    most: u32,
+    taken: &mut Vec<Exchange>,
+) -> Result<(), LinkFault>
+    requires some { 1 ≤ most }
+    requires none { taken.old.items ≡ [] }
+    requires room { most ≤ vec_capacity taken.old }
+    ensures few { length taken.new.items ≤ most }
+    ensures taken { ReceivesBatch (λ before after b answer. Handles B.faults B.honest B.terms B.history before after day b answer) most
+        (L.trace_of link.old, book_of server.old) (L.trace_of link.new, book_of server.new) taken.new.items result }
+{
+    let Some(first) = take(server, link, day)? else {
+        return Ok(());
+    };
+    taken.push_reserved(first);
+    for _more in 1..most {
+        let Some(next) = try_handle_next(server, link, day)? else {
+            return Ok(());
+        };
+        taken.push_reserved(next);
+    }
+    Ok(())
+}

@@ -1,0 +1,79 @@
+//! What a server sends for the datagrams that it took.
+
+ghost use Rattle.std.specs.Prelude.{◌≡◌, ◌≤◌, ◌+◌, [], length, vec_capacity};
+ghost use Rattle.s10_ends.specs.Server.{book_of};
+ghost use Rattle.s10_ends.specs.Turn.{Answers, AsksCommitted, SendsReply, SendsCommitted};
+ghost use Rattle.s10_ends.specs.Batch.{AnswersAll};
+
+use crate::answer::Answer;
+use crate::exchange::Exchange;
+use crate::server::Server;
+use crate::server_turn::{ServerTurn, Turn};
+use s10_book::{BookFault, GroupCommit};
+use s10_link::{Link, Peer};
+use s10_wire::Frame;
+
+// Answers the peer of a datagram, once its call is settled or could not be.
+pub(crate) fn answer<B: GroupCommit, L: Link>(
+    link: &mut L,
+    server: &Server<B>,
+    taken: &Exchange,
+    commit_result: Result<(), BookFault>,
+) -> Turn
+    ensures { Answers (B.honest (book_of server.now)) (AsksCommitted (B.committed (book_of server.now)) (B.history (book_of server.now)))
+        (L.trace_of link.old) (L.trace_of link.new) commit_result taken.now.from taken.now.packet taken.now.answer result }
+{
+    match taken.answer {
+        Answer::Reply(frame) => send_committed(link, server, taken, frame, commit_result),
+        Answer::Dropped(fault) => Ok(ServerTurn::Dropped(taken.from, fault)),
+        Answer::Faulted(fault) => Ok(ServerTurn::Faulted(taken.from, fault)),
+    }
+}
+
+// Sends a reply back to the peer, if its call is settled.
+fn send_committed<B: GroupCommit, L: Link>(
+    link: &mut L,
+    server: &Server<B>,
+    taken: &Exchange,
+    frame: Frame,
+    commit_result: Result<(), BookFault>,
+) -> Turn
+    ensures { SendsCommitted (B.honest (book_of server.now)) (AsksCommitted (B.committed (book_of server.now)) (B.history (book_of server.now)))
+        (L.trace_of link.old) (L.trace_of link.new) commit_result taken.now.from taken.now.packet frame result }
+{
+    match commit_result {
+        Err(fault) if !server.is_committed(taken.packet.bytes()) => {
+            Ok(ServerTurn::Uncommitted(taken.from, fault))
+        }
+        _ => send(link, taken.from, frame),
+    }
+}
+
+// Sends a reply back to the peer.
+fn send<L: Link>(link: &mut L, to: Peer, frame: Frame) -> Turn
+    ensures { SendsReply (L.trace_of link.old) (L.trace_of link.new) to frame result }
+{
+    link.send(to, &frame)?;
+    Ok(ServerTurn::Replied(to, frame))
+}
+
+// Answers them one after another.
+pub(crate) fn reply_all<B: GroupCommit, L: Link>(
+    link: &mut L,
+    server: &Server<B>,
+    taken: &[Exchange],
+    commit_result: Result<(), BookFault>,
+    turns: &mut Vec<Turn>,
+)
+    requires none { turns.old.items ≡ [] }
+    requires room { length taken.now ≤ vec_capacity turns.old }
+    ensures answers { AnswersAll (B.honest (book_of server.now)) (AsksCommitted (B.committed (book_of server.now)) (B.history (book_of server.now)))
+        commit_result (L.trace_of link.old) taken.now turns.new.items (L.trace_of link.new) }
+    ensures many { length turns.new.items ≡ length taken.now }
+    ensures capacity { vec_capacity turns.new ≡ vec_capacity turns.old }
+{
+    for next in taken {
+        let turn = answer(link, server, next, commit_result);
+        turns.push_reserved(turn);
+    }
+}

@@ -1,8 +1,0 @@
-use Rattle.std.proofs.Common.{◌∙◌, rules, tests}
-use Rattle.std.proofs.lemmas.Iterator.{YieldsList-from_slice}
-use Rattle.std.proofs.lemmas.Iterator.Search.{find_from_yields_List}
-use Rattle.s10_history.specs.History.{overlaps}
-use Rattle.s10_history.proofs.ranges.range_over.Goals as goal
-
-pub returns : goal.returns
-returns c = c.copied.ensures ∙ find_from_yields_List (overlaps c.args.block.now.service c.args.block.now.country c.args.block.now.first c.args.block.now.last) _ _ c.find.result c.find.ensures.ran (YieldsList-from_slice c.args.ranges.now cc) (λ x b q k. search (rules, tests))

@@ -1,5 +1,0 @@
-use Rattle.std.proofs.Common.{rules}
-use Rattle.s10_history.proofs.serials.next_serial.Goals as goal
-
-pub returns : goal.returns
-returns c = search rules

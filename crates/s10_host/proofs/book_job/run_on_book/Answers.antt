@@ -1,0 +1,16 @@
+use Rattle.std.proofs.Common.{◌≡◌, refl}
+use Rattle.s10_host.proofs.book_job.run_on_book.Goals as goal
+
+pub returns-in-Create-clause-made : goal.returns-in-Create-clause-made
+returns-in-Create-clause-made g c terms is = (refl, refl, refl, refl)
+
+pub returns-in-Serve-clause-served : goal.returns-in-Serve-clause-served
+returns-in-Serve-clause-served g c at count day is =
+    let turns : c.in-Serve.count ≡ count = cc in
+    let given : c.in-Serve.day ≡ day = cc in
+    rw (← turns, ← given) (c.serve_at.ensures.unbound, c.serve_at.ensures.served)
+
+pub returns-in-Report-clause-reported : goal.returns-in-Report-clause-reported
+returns-in-Report-clause-reported g c report is =
+    let same : c.in-Report.report ≡ report = cc in
+    rw (← same) (refl, c.write_report-written.ensures.unchanged, c.write_report-written.ensures.written)

@@ -1,8 +1,0 @@
-use Rattle.s10_host.proofs.Opening.{worked_with}
-use Rattle.s10_host.proofs.work.work_and_close.Goals as goal
-
-pub returns : goal.returns
-returns g c was made opened =
-    let did = c.work_with-done.ensures in
-    worked_with g.A.Store c.args.work was _ _ _ _ c.args.book c.work_with-done.result.2 c.close.result made opened did.made did.served did.reported
-    (record { same = c.close.ensures.same; committed = c.close.ensures.committed; honest = c.close.ensures.honest })

@@ -1,0 +1,76 @@
+-- What `loop` does over a ledger in memory, and what it leaves behind it.
+use Rattle.std.specs.Prelude.{◌≡◌, ◌⊎◌, ℕ, List, [], ◌∷◌, ◌++◌, codes, Option, None, Result, IfOk, IfSome}
+use Rattle.sqlite_trees.specs.declared.memory.MemStore.{MemStore}
+use Rattle.sqlite.specs.Held.{state}
+use Rattle.sqlite.specs.Steps.{over_memory}
+use Rattle.s10_lines.specs.declared.write_fault.WriteFault.{WriteFault}
+use Rattle.s10_lines.specs.Lines.{line_of}
+use Rattle.s10_link.specs.declared.peer.Peer.{Peer}
+use Rattle.s10_link.specs.Trace.{new_trace}
+use Rattle.s10_link.specs.Link.{LeadsTo}
+use Rattle.s10_history.specs.declared.entry.Entry.{Entry}
+use Rattle.s10_history.specs.Settings.{Terms}
+use Rattle.s10_book.specs.BookFault.{no_faults}
+use Rattle.s10_ledger.specs.Ledger.{Ledger, IsHonest, history_in, history_of, committed_of}
+use Rattle.s10_ends.specs.UdpLink.{BoundLink}
+use Rattle.s10_ends.specs.declared.near_link.NearLink.{NearLink}
+use Rattle.s10_ends.specs.Server.{book_of}
+use Rattle.s10_ends.specs.NearLink.{IsNearStep, ServedOn}
+use Rattle.s10_rows.specs.declared.open_fault.OpenFault.{OpenFault}
+use Rattle.s10_jobs.specs.declared.job_status.JobStatus.{JobStatus}
+use Rattle.s10_jobs.specs.declared.job_status.JobStatus.TheVariants.{Failed}
+use Rattle.s10_jobs.specs.Shown.{Prints}
+use Rattle.s10_jobs.specs.Words.{open_fault_words}
+use Rattle.s10_sockets.specs.LoopCalls.{loop_calls, AreMadeInTurn}
+use Rattle.s10_host.specs.declared.loop_resources.LoopResources.{LoopResources}
+use Rattle.s10_host.specs.Files.{IsFileFault}
+
+-- why nothing was asked: a socket cannot be bound, or else no ledger can be made in memory
+abbrev pub IsLoopFailure : List ℕ → Type 0
+IsLoopFailure line = (line ≡ line_of (codes "link") (codes "bind" ∷ [])) ⊎ ((fault : OpenFault) × IsFileFault fault × (line ≡ line_of (codes "ledger") (open_fault_words fault)))
+
+-- a link to a ledger in memory, over two sockets of this machine
+abbrev pub LoopLink : Type 0
+LoopLink = NearLink (Ledger MemStore) BoundLink BoundLink
+
+-- the settings of its ledger
+abbrev pub loop_terms : Terms
+loop_terms = record { interval = 30; limit = 100 }
+
+-- how a call changes it
+abbrev pub IsLoopStep : LoopLink → LoopLink → Type 0
+IsLoopStep = IsNearStep (λ (b : Ledger MemStore). b.faults) (IsHonest over_memory) (λ b. b.terms) (history_of over_memory) (committed_of over_memory) (λ (l : BoundLink). l.trace) (λ (l : BoundLink). l.trace)
+
+-- it carried nothing, and its ledger is empty
+pub record IsNewLoop (day : ℕ) (link : LoopLink) : Type 0 where
+  pub on_day : link.day ≡ day
+  pub far : link.far.trace ≡ new_trace
+  pub near : link.near.trace ≡ new_trace
+  pub terms : (book_of link.server).terms ≡ loop_terms
+  pub empty : history_of over_memory (book_of link.server) ≡ []
+
+-- what is left of it once its ledger is closed, which was honest to the end
+pub record AreLoopResources (link : LoopLink) (looped : LoopResources) : Type 0 where
+  pub honest : IsHonest over_memory (book_of link.server)
+  pub closed : looped.connection ≡ (book_of link.server).conn
+  pub far : looped.far ≡ link.far
+  pub near : looped.near ≡ link.near
+
+-- the calls are all that a new link carried, of which this is left: what was served on the day is the history of the ledger, but for
+-- calls that could not be settled, of which there are none where it had no fault; where
+-- the writer did not fail the lines of the calls were written
+pub record IsLoopRun (day : ℕ) (old new : Option (List ℕ)) (result : Result JobStatus WriteFault) (looped : LoopResources) : Type 0 where
+  pub begun : LoopLink
+  pub fresh : IsNewLoop day begun
+  pub ended : LoopLink
+  pub led : LeadsTo IsLoopStep begun ended
+  pub left : AreLoopResources ended looped
+  pub uncommitted : List Entry
+  pub served : ServedOn day [] loop_terms (history_in (state over_memory looped.connection).now ++ uncommitted)
+  pub whole : (book_of ended.server).faults ≡ no_faults → uncommitted ≡ []
+  pub asked : IfOk result (λ status. (to : Peer) × Prints old new (AreMadeInTurn to loop_calls new_trace looped.near.trace status))
+
+-- so were they, or the line says why nothing was asked
+pub record HasRunLoop (day : ℕ) (old new : Option (List ℕ)) (result : Result JobStatus WriteFault) (looped : Option LoopResources) : Type 0 where
+  pub asked : IfSome looped (IsLoopRun day old new result)
+  pub unasked : looped ≡ None → IfOk result (λ status. (status ≡ Failed) × Prints old new IsLoopFailure)

@@ -1,0 +1,126 @@
+//! What is done with the ledger of a connection, from its making or its opening to its end.
+
+ghost use Rattle.std.specs.Prelude.{◌≡◌, ◌≢◌, ℕ, false, Option, None, Ok, IfOk, IfErr, IfSome};
+ghost use Rattle.sqlite.specs.Held.{Held};
+ghost use Rattle.s10_book.specs.Book.{Unchanged};
+ghost use Rattle.s10_history.specs.Settings.{Terms};
+ghost use Rattle.s10_jobs.specs.Reporting.{report_lines, PrintsReport};
+ghost use Rattle.s10_jobs.specs.Serving.{IsBatch, Serves};
+ghost use Rattle.s10_jobs.specs.declared.reporting.Report.{Report};
+ghost use Rattle.s10_link.specs.Trace.{new_trace};
+ghost use Rattle.s10_link.specs.declared.peer.Peer.{Peer};
+ghost use Rattle.s10_sockets.specs.Unbound.{IsUnbound};
+ghost use Rattle.s10_host.specs.BookJobs.{HasRunBookJob, IsMadeWith, IsOpenedFrom, IsBookJobRefusal};
+
+use s10_book::GroupCommit;
+use s10_ends::UdpLink;
+use s10_history::Settings;
+use s10_jobs::{JobStatus, Report, write_report};
+use s10_ledger::{Observer, Refused, SqlBook};
+use s10_lines::WriteFault;
+use s10_link::Peer;
+use s10_sockets::serve_at;
+use sqlite::{Alter, Connection};
+use std::alloc::Global;
+use std::io::Write;
+
+/// What is done with a ledger.
+#[derive(Clone, Copy)]
+pub enum BookJob {
+    /// An empty one with these settings is made. Nothing is written.
+    Create(Settings),
+    /// It is served at the address for so many turns, on the day that is given or on those of the clock.
+    Serve {
+        at: Peer,
+        count: u32,
+        day: Option<u32>,
+    },
+    /// The report of it is written.
+    Report(Report),
+}
+
+/// How it went, the link that the ledger was served over, and the connection.
+pub type BookJobEnd<A> = (
+    Result<JobStatus, WriteFault>,
+    Option<UdpLink>,
+    Connection<A>,
+);
+
+/// Makes or opens the ledger of a connection, does the work, and closes it whatever came of that. Refused as the making or
+/// the opening is, before anything is written.
+pub fn run_book_job<A: Alter, K: Observer, W: Write>(
+    rt: &HostRuntime,
+    connection: Connection<A>,
+    work: BookJob,
+    watch: &mut K,
+    out: &mut W,
+) -> Result<BookJobEnd<A>, Refused<A>>
+    requires idle { connection.in_transaction ≡ false }
+    ensures worked { IfOk result (λ w. HasRunBookJob A.Store work connection (W.contents out.old) (W.contents out.new) w.0 w.1 w.2) }
+    ensures refused { IfErr result (λ r. IsBookJobRefusal A.Store work connection r.connection r.fault) }
+    ensures silent { IfErr result (λ _. W.contents out.new ≡ W.contents out.old) }
+{
+    let book = book_for(rt.alloc(), connection, &work, watch)?;
+    Ok(run_and_close_book(rt, book, work, out))
+}
+
+// The new ledger that the work asks for, or else the one of the connection.
+fn book_for<A: Alter, K: Observer>(
+    alloc: Global,
+    connection: Connection<A>,
+    work: &BookJob,
+    watch: &mut K,
+) -> Result<SqlBook<A>, Refused<A>>
+    requires idle { connection.in_transaction ≡ false }
+    ensures made { (terms : Terms) → work.now ≡ BookJob.Create terms → IfOk result (IsMadeWith A.Store terms) }
+    ensures opened { ((terms : Terms) → work.now ≢ BookJob.Create terms) → IfOk result (IsOpenedFrom A.Store connection) }
+    ensures refused { IfErr result (λ r. IsBookJobRefusal A.Store work.now connection r.connection r.fault) }
+{
+    match work {
+        BookJob::Create(settings) => SqlBook::create(alloc, connection, *settings, watch),
+        _ => SqlBook::open(alloc, connection, watch),
+    }
+}
+
+// Does the work with its ledger, and closes that whatever came of it.
+fn run_and_close_book<A: Alter, W: Write>(
+    rt: &HostRuntime,
+    book: SqlBook<A>,
+    work: BookJob,
+    out: &mut W,
+) -> BookJobEnd<A>
+    ensures { (was : Held A) → ((terms : Terms) → work ≡ BookJob.Create terms → IsMadeWith A.Store terms book)
+        → (((terms : Terms) → work ≢ BookJob.Create terms) → IsOpenedFrom A.Store was book)
+        → HasRunBookJob A.Store work was (W.contents out.old) (W.contents out.new) result.0 result.1 result.2 }
+{
+    let (done, link, book) = run_on_book(rt, book, work, out);
+    (done, link, book.close())
+}
+
+// Does the work with its ledger. One that was made for it is left as it is. Answers the link too: None where there was none to
+// serve on.
+fn run_on_book<B: GroupCommit, W: Write>(
+    rt: &HostRuntime,
+    mut book: B,
+    work: BookJob,
+    out: &mut W,
+) -> (Result<JobStatus, WriteFault>, Option<UdpLink>, B)
+    ensures made { (terms : Terms) → work ≡ BookJob.Create terms → (result.0 ≡ Ok JobStatus.Done) × (result.1 ≡ None) × (result.2 ≡ book)
+        × (W.contents out.new ≡ W.contents out.old) }
+    ensures served { (at : Peer) (count : ℕ) (day : Option ℕ) → work ≡ BookJob.Serve at count day
+        → (result.1 ≡ None → IsUnbound book result.2 (W.contents out.old) (W.contents out.new) result.0)
+        × IfSome result.1 (λ link. Serves (IsBatch B.faults B.honest B.terms B.history B.committed day)
+        (new_trace, book) (link.trace, result.2) (W.contents out.old) (W.contents out.new) count result.0) }
+    ensures reported { (report : Report) → work ≡ BookJob.Report report → (result.1 ≡ None) × Unchanged B.history B.terms B.honest book result.2
+        × (B.honest result.2 → IfOk result.0 (PrintsReport (B.faults book) (B.faults result.2) (W.contents out.old) (W.contents out.new)
+        (report_lines report (B.history book) (B.terms book)))) }
+{
+    match work {
+        BookJob::Create(_) => (Ok(JobStatus::Done), None, book),
+        BookJob::Serve { at, count, day } => serve_at(rt, rt.alloc(), at, book, count, day, out),
+        BookJob::Report(report) => {
+            let written = write_report(&mut book, report, out);
+            (written, None, book)
+        }
+    }
+}

@@ -1,0 +1,62 @@
+//! What is asked of the ledger of a connection: a work, or an audit.
+
+ghost use Rattle.std.specs.Prelude.{◌≡◌, ◌≤◌, ℕ, false, Result, IfOk};
+ghost use Rattle.std.specs.Io.KnownBytes.{Appends};
+ghost use Rattle.sqlite_trees.specs.View.{doubt};
+ghost use Rattle.s10_rows.specs.declared.open_fault.OpenFault.{OpenFault};
+ghost use Rattle.s10_host.specs.Audited.{HasFound, audit_line, audit_status};
+ghost use Rattle.s10_host.specs.BookJobs.{HasRunBookJob, IsBookJobRefusal};
+ghost use Rattle.s10_host.specs.declared.book_job.BookJob.{BookJob};
+
+use crate::audit::run_audit;
+use crate::book_job::{BookJob, BookJobEnd, run_book_job};
+use s10_jobs::JobStatus;
+use s10_ledger::{Observer, Refused};
+use s10_lines::WriteFault;
+use sqlite::{Alter, Connection};
+use std::io::Write;
+
+/// What is asked of a ledger.
+#[derive(Clone, Copy)]
+pub enum LedgerJob {
+    BookJob(BookJob),
+    /// It is audited.
+    Audit,
+}
+
+/// What came of a task.
+pub enum LedgerJobEnd<A: Alter> {
+    BookJobEnd(BookJobEnd<A>),
+    Refused(Refused<A>),
+    /// How the audit went, and the store that it left.
+    Audited(Result<JobStatus, WriteFault>, A),
+}
+
+/// Does the task over the ledger of a connection.
+pub fn run_ledger_job<A: Alter + Drop, K: Observer, W: Write>(
+    rt: &HostRuntime,
+    connection: Connection<A>,
+    task: LedgerJob,
+    watch: &mut K,
+    out: &mut W,
+) -> LedgerJobEnd<A>
+    requires idle { connection.in_transaction ≡ false }
+    ensures worked { (w : _) → result ≡ LedgerJobEnd.BookJobEnd w → (work : BookJob) × (task ≡ LedgerJob.BookJob work)
+        × HasRunBookJob A.Store work connection (W.contents out.old) (W.contents out.new) w.0 w.1 w.2 }
+    ensures refused { (r : _) → result ≡ LedgerJobEnd.Refused r → (work : BookJob) × (task ≡ LedgerJob.BookJob work)
+        × IsBookJobRefusal A.Store work connection r.connection r.fault × (W.contents out.new ≡ W.contents out.old) }
+    ensures audited { (done store : _) → result ≡ LedgerJobEnd.Audited done store → (task ≡ LedgerJob.Audit) × (left : _) × (found : Result ℕ OpenFault)
+        × HasFound A.Store connection left found × IfOk done (λ status. (status ≡ audit_status found)
+        × Appends (W.contents out.old) (W.contents out.new) (audit_line found)) × (doubt (A.Store.view left.store).is_clean ≤ doubt (A.Store.view store).is_clean) }
+{
+    match task {
+        LedgerJob::BookJob(work) => match run_book_job(rt, connection, work, watch, out) {
+            Ok(worked) => LedgerJobEnd::BookJobEnd(worked),
+            Err(refused) => LedgerJobEnd::Refused(refused),
+        },
+        LedgerJob::Audit => {
+            let (audited, left) = run_audit(rt.alloc(), connection, watch, out);
+            LedgerJobEnd::Audited(audited, left.into_store())
+        }
+    }
+}

@@ -1,0 +1,70 @@
+//! What standard error is told while the ledger of a file is made or opened.
+
+use crate::book_job::BookJob;
+use crate::ledger_job::LedgerJob;
+use s10_ledger::{Observer, OpenFault};
+use sqlite::Error;
+use std::time::{Duration, Instant};
+
+/// How many rows are read between two looks at the clock.
+const ROWS_PER_CLOCK_READ: u64 = 4096;
+
+/// Tells standard error how far an opening is, once a second, and why a statement failed. The work goes on where
+/// standard error is closed.
+#[derive(Drop)]
+pub(crate) struct Progress<'a> {
+    rt: &'a HostRuntime,
+    path: &'a str,
+    spoke: Option<Instant>,
+    failed: bool,
+}
+
+impl<'a> Progress<'a> {
+    pub(crate) fn new(rt: &'a HostRuntime, path: &'a str) -> Progress<'a> {
+        let spoke = Instant::now(rt).ok();
+        Progress {
+            rt,
+            path,
+            spoke,
+            failed: false,
+        }
+    }
+
+    // Why no ledger was made, where one was asked for and no statement failed.
+    pub(crate) fn eprint_not_created(&self, task: &LedgerJob, fault: OpenFault) {
+        if let LedgerJob::BookJob(BookJob::Create(_)) = task
+            && fault == OpenFault::Store
+            && !self.failed
+        {
+            let _ = eprintln!(self.rt;
+                "cannot make a ledger in {}: it has tables of its own",
+                self.path
+            );
+        }
+    }
+
+    // Whether it has been silent for a second.
+    fn is_due(&self) -> bool {
+        let Some(spoke) = self.spoke else {
+            return false;
+        };
+        match spoke.elapsed(self.rt) {
+            Ok(silent) => silent >= Duration::from_secs(1),
+            Err(_) => false,
+        }
+    }
+}
+
+impl Observer for Progress<'_> {
+    fn rows_read(&mut self, table: &str, rows: u64) {
+        if rows % ROWS_PER_CLOCK_READ == 0 && self.is_due() {
+            self.spoke = Instant::now(self.rt).ok();
+            let _ = eprintln!(self.rt; "opening {}: {rows} rows of {table} read", self.path);
+        }
+    }
+
+    fn statement_failed(&mut self, error: &Error) {
+        self.failed = true;
+        let _ = eprintln!(self.rt; "cannot use {}: {error}", self.path);
+    }
+}

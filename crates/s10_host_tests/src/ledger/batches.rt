@@ -1,0 +1,171 @@
+//! Rounds of a server over a ledger that could not be settled once.
+
+use crate::expect::same;
+use crate::ledger::calls::{ledger, settings};
+use s10_book::{BookFault, GroupCommit, TripBook};
+use s10_ends::{Server, ServerTurn, Turn, serve_batch, serve_one};
+use s10_link::{Packet, Peer, Receipt, ScriptLink};
+use std::alloc::{AllocError, Global};
+use std::process::Abort;
+
+const PEER: Peer = Peer {
+    ip: [10, 0, 0, 7],
+    port: 4711,
+};
+
+const OTHER: Peer = Peer {
+    ip: [10, 0, 0, 8],
+    port: 4712,
+};
+
+// The post's first Grant: range 1 for customer 7, RA GB 0 to 2.
+const GRANT: &[u8] = b"S1\x01\x01\0\0\0\0\0\0\0\x01\0\0\0\x07RAGB\0\0\0\0\0\0\0\x02";
+
+// A datagram that comes, whose reply is held back where the settling fails if its call is new, and is sent in a round behind that.
+struct Case {
+    from: Peer,
+    request: &'static [u8],
+    reply: &'static [u8],
+    is_new: bool,
+}
+
+// Customer 7's first three Draws, of which the first is settled before.
+const FIRST: &Case = &Case {
+    from: OTHER,
+    request: b"S1\x01\x02\0\0\0\x07\0\0\0\x01RAGB",
+    reply: b"S1\x01\x82\0\0\0\x07\0\0\0\x01RAGB\0\0\0\x4e\x20RA000000005GB",
+    is_new: false,
+};
+
+const SECOND: &Case = &Case {
+    from: PEER,
+    request: b"S1\x01\x02\0\0\0\x07\0\0\0\x02RAGB",
+    reply: b"S1\x01\x82\0\0\0\x07\0\0\0\x02RAGB\0\0\0\x4e\x20RA000000014GB",
+    is_new: true,
+};
+
+const THIRD: &Case = &Case {
+    from: OTHER,
+    request: b"S1\x01\x02\0\0\0\x07\0\0\0\x03RAGB",
+    reply: b"S1\x01\x82\0\0\0\x07\0\0\0\x03RAGB\0\0\0\x4e\x20RA000000028GB",
+    is_new: true,
+};
+
+// A link on which both datagrams come twice, and all that is sent passes.
+fn link(alloc: Global, cases: (&Case, &Case)) -> Result<ScriptLink, AllocError> {
+    let (first, second) = cases;
+    let one = Receipt::Deliver(first.from, Packet::new(first.request));
+    let other = Receipt::Deliver(second.from, Packet::new(second.request));
+    let receipts = [one, other, one, other].to_vec(alloc)?;
+    ScriptLink::new(alloc, receipts, [true; 4].to_vec(alloc)?)
+}
+
+// The book once it settled the Grant and the first Draw.
+fn committed<B: GroupCommit>(book: B) -> B {
+    let mut server = Server::new(book);
+    let _ = server.handle(GRANT, 20_000);
+    let _ = server.handle(FIRST.request, 20_000);
+    let _ = server.commit();
+    server.into_book()
+}
+
+// Whether a turn is that of a datagram, where the settling fails or behind that.
+fn is_turn(turn: &Turn, case: &Case, fails: bool) -> bool {
+    let is_held = fails && case.is_new;
+    match turn {
+        Ok(ServerTurn::Replied(to, frame)) => {
+            !is_held && *to == case.from && frame.bytes() == case.reply
+        }
+        Ok(ServerTurn::Uncommitted(to, fault)) => {
+            is_held && *to == case.from && *fault == BookFault::Store
+        }
+        _ => false,
+    }
+}
+
+// Whether a round over both datagrams, or else a turn over the first, ends so.
+fn ends<B: GroupCommit>(
+    alloc: Global,
+    server: &mut Server<B>,
+    link: &mut ScriptLink,
+    cases: (&Case, &Case),
+    in_round: bool,
+    fails: bool,
+) -> bool {
+    let (first, second) = cases;
+    if !in_round {
+        return is_turn(&serve_one(server, link, 20_000), first, fails);
+    }
+    match serve_batch(alloc, server, link, 20_000, 2) {
+        Ok(turns) => {
+            turns.len() == 2
+                && is_turn(&turns[0], first, fails)
+                && is_turn(&turns[1], second, fails)
+        }
+        Err(_) => false,
+    }
+}
+
+// Whether a round or turn over a book ends as where the settling fails, and whether the next one over the same sends all replies;
+// and the book.
+fn ends_over<B: GroupCommit>(
+    alloc: Global,
+    book: B,
+    cases: (&Case, &Case),
+    in_round: bool,
+) -> (B, [bool; 2]) {
+    let Ok(mut link) = link(alloc, cases) else {
+        return (book, [false; 2]);
+    };
+    let mut server = Server::new(book);
+    let at_first = ends(alloc, &mut server, &mut link, cases, in_round, true);
+    let then = ends(alloc, &mut server, &mut link, cases, in_round, false);
+    (server.into_book(), [at_first, then])
+}
+
+// The same over a book whose call with this number fails, behind those that are settled.
+fn ends_tripping<B: GroupCommit>(
+    alloc: Global,
+    book: B,
+    at: u64,
+    cases: (&Case, &Case),
+    in_round: bool,
+) -> (B, [bool; 2]) {
+    let book = TripBook::new(committed(book), at);
+    let (book, ends) = ends_over(alloc, book, cases, in_round);
+    (book.into_inner(), ends)
+}
+
+// At how many calls of the book the replies wait for a settling. None where one is not sent then.
+fn waits<R: Abort + AllocGlobal>(rt: &R, cases: (&Case, &Case), in_round: bool) -> Option<u32> {
+    let mut count: u32 = 0;
+    for at in 0..20u64 {
+        let ledger = ledger(rt, settings(rt, 1000));
+        let (ledger, [at_first, then]) = ends_tripping(rt.alloc(), ledger, at, cases, in_round);
+        let _ = ledger.close();
+        if at_first && !then {
+            return None;
+        }
+        count = count.saturating_add(u32::from(at_first));
+    }
+    Some(count)
+}
+
+// Each call of the book fails in turn; one of them is the settling.
+fn wait_once<R: Abort + AllocGlobal>(rt: &R, first: &Case, second: &Case) {
+    let found = (
+        waits(rt, (first, second), true),
+        waits(rt, (first, first), false),
+    );
+    same(rt, &"rounds, and turns", &found, &(Some(1), Some(1)));
+}
+
+#[test]
+fn no_reply_is_sent_before_its_call_is_committed(rt: HostRuntime) {
+    wait_once(&rt, SECOND, THIRD);
+}
+
+#[test]
+fn a_committed_call_is_answered_though_another_is_pending(rt: HostRuntime) {
+    wait_once(&rt, SECOND, FIRST);
+}

@@ -1,0 +1,174 @@
+//! Calls that are pending, and their settling.
+
+use crate::expect::same;
+use crate::ledger::books::first_unlike_in;
+use crate::ledger::calls::{
+    Answered, Asked, Step, answer, first_unlike, ledger, request, settings,
+};
+use crate::ledger::tables::found;
+use s10_book::{Book, BookFault, GroupCommit};
+use s10_history::Settings;
+use s10_ledger::{NoObserver, Refused, SqlBook};
+use sqlite::{Alter, Connection, MemStore};
+use std::alloc::Global;
+use std::ops::Range;
+use std::process::Abort;
+
+const GRANT: &'static [Step] = &[(0, 1, Asked::Grant(7, 0, 999), 20000, Answered::Granted(1))];
+
+/// The first of these numbers with which a Draw is refused.
+fn first_refused<B: Book>(book: &mut B, numbers: Range<u32>) -> Option<u32> {
+    for number in numbers {
+        if answer(book, &request(7, number, Asked::Draw), 20000).is_err() {
+            return Some(number);
+        }
+    }
+    None
+}
+
+/// Whether the book keeps a Grant, and so many Draws behind it.
+fn keeps<B: Book>(book: &mut B, draws: u32) -> bool {
+    first_unlike(book, GRANT).is_none() && first_refused(book, 0..draws).is_none()
+}
+
+/// A new ledger, and whether it keeps them.
+fn kept<R: Abort + AllocGlobal>(rt: &R, draws: u32) -> (SqlBook<MemStore>, bool) {
+    let mut book = ledger(rt, settings(rt, 1000));
+    let is_kept = keeps(&mut book, draws);
+    (book, is_kept)
+}
+
+/// How many calls are found of a ledger that is closed as it is.
+fn calls_found(alloc: Global, book: SqlBook<MemStore>) -> Option<u32> {
+    let (answer, _conn) = found(alloc, book.close())?;
+    match answer {
+        Ok(opened) => Some(opened.len),
+        Err(_) => None,
+    }
+}
+
+/// Whether the calls are kept and settled, and how many are found then.
+fn committed<R: Abort + AllocGlobal>(rt: &R, draws: u32) -> (bool, Option<u32>) {
+    let (mut book, is_kept) = kept(rt, draws);
+    let is_committed = book.commit().is_ok();
+    (is_kept && is_committed, calls_found(rt.alloc(), book))
+}
+
+/// Draws behind a Grant, and how many calls are settled.
+const SETTLED_CALLS: &[(u32, u32)] = &[(0, 1), (1, 2), (63, 64), (64, 65)];
+
+#[test]
+fn committed_calls_are_found_after_reopening(rt: HostRuntime) {
+    for (draws, calls) in SETTLED_CALLS {
+        same(&rt, draws, &committed(&rt, *draws), &(true, Some(*calls)));
+    }
+}
+
+/// Whether the calls are kept, and how many are found where nobody settles them.
+fn uncommitted<R: Abort + AllocGlobal>(rt: &R, draws: u32) -> (bool, Option<u32>) {
+    let (book, is_kept) = kept(rt, draws);
+    (is_kept, calls_found(rt.alloc(), book))
+}
+
+/// Draws behind a Grant, and how many calls were settled to make room.
+const FULL_ROUNDS: &[(u32, u32)] = &[(0, 0), (1, 0), (63, 0), (64, 64), (127, 64), (128, 128)];
+
+#[test]
+fn pending_calls_are_committed_by_the_first_beyond_the_maximum(rt: HostRuntime) {
+    for (draws, calls) in FULL_ROUNDS {
+        same(&rt, draws, &uncommitted(&rt, *draws), &(true, Some(*calls)));
+    }
+}
+
+const REPEATED: &'static [Step] = &[(7, 1, Asked::Draw, 20001, Answered::Drawn(20000, 1))];
+
+/// Whether three Draws are kept and the second is answered as it was while it is pending, and how many calls the ledger has and
+/// leaves.
+fn repeated<R: Abort + AllocGlobal>(rt: &R) -> (bool, u32, Option<u32>) {
+    let (mut book, is_kept) = kept(rt, 3);
+    let is_repeated = first_unlike_in(&mut book, REPEATED).is_none();
+    let calls = book.len();
+    (is_kept && is_repeated, calls, calls_found(rt.alloc(), book))
+}
+
+#[test]
+fn a_pending_call_is_found(rt: HostRuntime) {
+    same(&rt, &"repeated", &repeated(&rt), &(true, 4, Some(0)));
+}
+
+/// What is told of a settling: which of four calls are settled before it, what it answers, which are settled behind it, and how many
+/// calls the book has then.
+pub(crate) type Told = ([bool; 4], Result<(), BookFault>, [bool; 4], u32);
+
+/// The third call is settled by the settling alone.
+pub(crate) const SETTLED: Told = ([true, true, false, true], Ok(()), [true; 4], 5);
+
+/// The settling fails, and what was pending stays so.
+pub(crate) const UNSETTLED: Told = (
+    [true, true, false, true],
+    Err(BookFault::Store),
+    [true, true, false, true],
+    5,
+);
+
+/// Whether the calls of these keys are settled. The last is the key of no call.
+fn settled_keys<B: GroupCommit>(book: &B) -> [bool; 4] {
+    [
+        book.is_committed(0, 1),
+        book.is_committed(7, 1),
+        book.is_committed(7, 2),
+        book.is_committed(7, 5),
+    ]
+}
+
+const GRANT_OF_TEN: &'static [Step] = &[(0, 1, Asked::Grant(7, 0, 9), 20000, Answered::Granted(1))];
+
+/// Whether the book settles a Grant and a Draw, and keeps three Draws behind them.
+fn keeps_three<B: GroupCommit>(book: &mut B) -> bool {
+    first_unlike(book, GRANT_OF_TEN).is_none()
+        && first_refused(book, 1..2).is_none()
+        && book.commit().is_ok()
+        && first_refused(book, 2..5).is_none()
+}
+
+/// What is told of a settling behind three more calls than are settled. None where the first two are not settled.
+fn settles_three<B: GroupCommit>(book: &mut B) -> Option<Told> {
+    if !keeps_three(book) {
+        return None;
+    }
+    let before = settled_keys(book);
+    let answer = book.commit();
+    Some((before, answer, settled_keys(book), book.len()))
+}
+
+/// The same of a new ledger in this connection, which is handed back. None where it is not made.
+pub(crate) fn settles_three_in<S: Alter>(
+    alloc: Global,
+    settings: Settings,
+    conn: Connection<S>,
+) -> (Option<Told>, Connection<S>) {
+    if !conn.is_autocommit() {
+        return (None, conn);
+    }
+    match SqlBook::create(alloc, conn, settings, &mut NoObserver) {
+        Ok(mut book) => (settles_three(&mut book), book.close()),
+        Err(
+            Refused {
+                fault: _,
+                connection,
+            },
+        ) => (None, connection),
+    }
+}
+
+/// The same of a ledger in memory.
+fn told_in_memory(alloc: Global, settings: Settings) -> Option<Told> {
+    let conn = Connection::open_in_memory(alloc).ok()?;
+    let (told, _conn) = settles_three_in(alloc, settings, conn);
+    told
+}
+
+#[test]
+fn a_call_is_committed_after_a_commit(rt: HostRuntime) {
+    assert!(rt; told_in_memory(rt.alloc(), settings(&rt, 100)) == Some(SETTLED));
+}

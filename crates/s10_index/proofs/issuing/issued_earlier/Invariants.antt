@@ -1,6 +1,0 @@
-use Rattle.std.proofs.Common.{◌≡◌, false, take}
-use Rattle.s10_history.specs.Issues.{is_issued, issues_at}
-use Rattle.s10_index.proofs.issuing.issued_earlier.Given as goal
-
-abbrev pub invariant-loop-earlier : goal.invariant-loop-earlier
-invariant-loop-earlier l = is_issued (take l.earlier (issues_at l.arrival l.entry)) l.id ≡ false

@@ -1,0 +1,24 @@
+-- A book in memory of the calls of a ledger, and the rows that are compared with what they make.
+use Rattle.std.specs.Prelude.{◌≡◌, pos, List, length}
+use Rattle.s10_history.specs.History.{day_of}
+use Rattle.s10_rows.specs.declared.head_row.HeadRow.{HeadRow}
+use Rattle.s10_rows.specs.CallRow.{StoredCall}
+use Rattle.s10_rows.specs.Tables.{Tables}
+use Rattle.s10_replay.specs.RightRows.{AreRight, kept_of}
+use Rattle.s10_replay.specs.CheckedTables.{IsHead}
+use Rattle.s10_index.specs.declared.replayed_book.ReplayedBook.{ReplayedBook}
+use Rattle.s10_index.specs.declared.stored_rows.StoredRows.{StoredRows}
+
+-- the calls are right under the settings, and a book in memory keeps them
+pub record IsReplayedBook (heads : List HeadRow) (calls : List StoredCall) (made : ReplayedBook) : Type 0 where
+  pub head : IsHead heads (pos 1) made.opened.settings
+  pub right : AreRight made.opened.settings calls
+  pub kept : made.book.index.entries.items ≡ kept_of calls
+  pub len : made.opened.len ≡ length calls
+  pub day : made.opened.day ≡ day_of (kept_of calls)
+
+-- the rows are those of the three tables that are compared
+pub record AreDerivedRows (tables : Tables) (rows : StoredRows) : Type 0 where
+  pub ranges : tables.ranges ≡ rows.ranges.items
+  pub serials : tables.serials ≡ rows.serials.items
+  pub closed : tables.closed ≡ rows.closed.items

@@ -1,0 +1,103 @@
+//! Calls in the process.
+
+ghost use Rattle.std.specs.Prelude.{◌≡◌, ◌∷◌, ◌++◌, ◌-◌, [], ◌<◌, OnOk, Some, length, slice_get, vec_len, vec_capacity};
+
+use crate::compact_call::CompactCall;
+use s10_history::Entry;
+use s10_wire::Ids;
+use std::alloc::{AllocError, Global};
+use std::marker::Model;
+
+/// Kept calls in the order of their arrival, each in a row that takes little room, and the sheets that rows name.
+#[derive(Drop)]
+pub struct CallLog {
+    rows: Vec<CompactCall>,
+    sheets: Vec<Ids>,
+}
+
+impl Model for CallLog {
+    ghost use Rattle.std.specs.Prelude.{◌-◌, ◌≤◌, All, length, map, min, vec_len, vec_capacity};
+    ghost use Rattle.s10_index.specs.CallLog.{CallList};
+    ghost use Rattle.s10_index.specs.CompactOutcomes.{entry_of, NamesSheetOf};
+
+    ghost Value = { CallList };
+
+    ghost view = { λ calls. record {
+      items = map (entry_of calls.sheets.items) calls.rows.items;
+      room = min (vec_capacity calls.rows - vec_len calls.rows) (vec_capacity calls.sheets - vec_len calls.sheets);
+    } };
+
+    ghost invariant = { λ calls. All (λ row. NamesSheetOf (length calls.sheets.items) row.outcome) calls.rows.items
+        × (length calls.sheets.items ≤ length calls.rows.items) };
+}
+
+impl CallLog {
+    /// No calls.
+    pub fn new(alloc: Global) -> CallLog
+        ensures { result.items ≡ [] }
+    {
+        CallLog {
+            rows: Vec::new(alloc),
+            sheets: Vec::new(alloc),
+        }
+    }
+
+    /// How many there are.
+    pub fn len(&self) -> usize
+        ensures { result ≡ length self.now.items }
+    {
+        self.rows.len()
+    }
+
+    /// The call at a place, counted from 0, if there are so many.
+    pub fn get(&self, place: usize) -> Option<Entry>
+        ensures { result ≡ slice_get self.now.items place }
+    {
+        if place >= self.len() {
+            return None;
+        }
+        Some(self.at(place))
+    }
+
+    /// The last call, if there is one.
+    pub fn last(&self) -> Option<Entry>
+        ensures { result ≡ slice_get self.now.items (length self.now.items - 1) }
+    {
+        self.get(self.len().saturating_sub(1))
+    }
+
+    /// The call at a place, counted from 0, where there is one.
+    pub fn at(&self, place: usize) -> Entry
+        requires { place < length self.now.items }
+        ensures { slice_get self.now.items place ≡ Some result }
+    {
+        self.rows[place].expand(&self.sheets)
+    }
+
+    /// Makes room for a call of any kind.
+    pub fn reserve(&mut self) -> Result<(), AllocError>
+        ensures calls { self.new.items ≡ self.old.items }
+        ensures room { OnOk result (0 < self.new.room) }
+    {
+        self.sheets.reserve(1)?;
+        self.rows.reserve(1)
+    }
+
+    /// Adds a call at the end, for which there is room.
+    pub fn push_reserved(&mut self, entry: Entry)
+        requires room { 0 < self.old.room }
+        requires few { length self.old.items < 4294967295 }
+        ensures { self.new.items ≡ self.old.items ++ entry ∷ [] }
+    {
+        let row = CompactCall::of(entry, &mut self.sheets);
+        push_item(&mut self.rows, row);
+    }
+}
+
+// Adds an item at the end, for which there is room.
+fn push_item<T: Copy>(list: &mut Vec<T>, item: T)
+    requires { vec_len list.old < vec_capacity list.old }
+    ensures { list.new.items ≡ list.old.items ++ item ∷ [] }
+{
+    list.push_reserved(item);
+}

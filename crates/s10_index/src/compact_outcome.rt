@@ -1,0 +1,94 @@
+//! Outcomes that take little room.
+
+ghost use Rattle.std.specs.Prelude.{◌≡◌, ◌++◌, ◌<◌, length, vec_len, vec_capacity};
+ghost use Rattle.s10_index.specs.CompactOutcomes.{outcome_of, sheet_of, NamesSheetOf};
+
+use s10_core::Id;
+use s10_wire::{Ids, Outcome, Status};
+
+/// An outcome as `Outcome` has it, but for a sheet, which is named by its place in a list of sheets, counted from 0. An
+/// outcome with a sheet in it has room for sixteen identifiers, and most have one or none.
+#[derive(Clone, Copy)]
+pub(crate) enum CompactOutcome {
+    Granted { range: u32 },
+    Drawn { day: u32, id: Id },
+    DrawnMany { day: u32, sheet: u32 },
+    Voided,
+    Told(Status),
+    Withdrawn,
+    NotThePost,
+    BadGrant,
+    Overlap,
+    NoRange,
+    NoneFree,
+    NotYours,
+    NotIssued,
+    AlreadyVoid,
+    NoSuchRange,
+    Closed,
+    NumberReused,
+}
+
+impl CompactOutcome {
+    /// The outcome in short. Its sheet, if it has one, goes behind the others, where there is room for it.
+    pub(crate) fn of(outcome: Outcome, sheets: &mut Vec<Ids>) -> CompactOutcome
+        requires room { vec_len sheets.old < vec_capacity sheets.old }
+        requires few { length sheets.old.items < 4294967295 }
+        ensures sheets { sheets.new.items ≡ sheets.old.items ++ sheet_of outcome }
+        ensures told { outcome_of sheets.new.items result ≡ outcome }
+        ensures named { NamesSheetOf (length sheets.new.items) result }
+    {
+        match outcome {
+            Outcome::Granted { range } => CompactOutcome::Granted { range },
+            Outcome::Drawn { day, id } => CompactOutcome::Drawn { day, id },
+            Outcome::DrawnMany { day, ids } => {
+                let sheet = sheets.len() as u32;
+                sheets.push_reserved(ids);
+                CompactOutcome::DrawnMany { day, sheet }
+            }
+            Outcome::Voided => CompactOutcome::Voided,
+            Outcome::Told(status) => CompactOutcome::Told(status),
+            Outcome::Withdrawn => CompactOutcome::Withdrawn,
+            Outcome::NotThePost => CompactOutcome::NotThePost,
+            Outcome::BadGrant => CompactOutcome::BadGrant,
+            Outcome::Overlap => CompactOutcome::Overlap,
+            Outcome::NoRange => CompactOutcome::NoRange,
+            Outcome::NoneFree => CompactOutcome::NoneFree,
+            Outcome::NotYours => CompactOutcome::NotYours,
+            Outcome::NotIssued => CompactOutcome::NotIssued,
+            Outcome::AlreadyVoid => CompactOutcome::AlreadyVoid,
+            Outcome::NoSuchRange => CompactOutcome::NoSuchRange,
+            Outcome::Closed => CompactOutcome::Closed,
+            Outcome::NumberReused => CompactOutcome::NumberReused,
+        }
+    }
+
+    /// The outcome, its sheet one of these.
+    pub(crate) fn expand(self, sheets: &[Ids]) -> Outcome
+        requires { NamesSheetOf (length sheets.now) self }
+        ensures { result ≡ outcome_of sheets.now self }
+    {
+        match self {
+            CompactOutcome::Granted { range } => Outcome::Granted { range },
+            CompactOutcome::Drawn { day, id } => Outcome::Drawn { day, id },
+            CompactOutcome::DrawnMany { day, sheet } => Outcome::DrawnMany {
+                day,
+                ids: sheets[sheet as usize],
+            },
+            CompactOutcome::Voided => Outcome::Voided,
+            CompactOutcome::Told(status) => Outcome::Told(status),
+            CompactOutcome::Withdrawn => Outcome::Withdrawn,
+            CompactOutcome::NotThePost => Outcome::NotThePost,
+            CompactOutcome::BadGrant => Outcome::BadGrant,
+            CompactOutcome::Overlap => Outcome::Overlap,
+            CompactOutcome::NoRange => Outcome::NoRange,
+            CompactOutcome::NoneFree => Outcome::NoneFree,
+            CompactOutcome::NotYours => Outcome::NotYours,
+            CompactOutcome::NotIssued => Outcome::NotIssued,
+            CompactOutcome::AlreadyVoid => Outcome::AlreadyVoid,
+            CompactOutcome::NoSuchRange => Outcome::NoSuchRange,
+            CompactOutcome::Closed => Outcome::Closed,
+            CompactOutcome::NumberReused => Outcome::NumberReused,
+        }
+    }
+}

@@ -1,9 +1,0 @@
-use s10_rows::{ClosedRow, RangeRow, SerialRow};
-
-/// The rows that are to be compared with what the calls make.
-#[derive(Drop)]
-pub struct MadeRows {
-    pub ranges: Vec<RangeRow>,
-    pub serials: Vec<SerialRow>,
-    pub closed: Vec<ClosedRow>,
-}

@@ -1,0 +1,59 @@
+//! The calls of a ledger are done again in memory.
+
+ghost use Rattle.std.specs.Prelude.{◌≡◌, pos, IfOk, IfErr};
+ghost use Rattle.s10_rows.specs.Tables.{Tables};
+ghost use Rattle.s10_replay.specs.RightRows.{AreRight, kept_of};
+ghost use Rattle.s10_replay.specs.CheckedTables.{IsHead, IsRefusal};
+
+use crate::indexed_book::IndexedBook;
+use s10_book::Book;
+use s10_history::Settings;
+use s10_replay::{replay_rows, settings_in};
+use s10_rows::{CallRow, HeadRow, LedgerSummary, OpenFault};
+use std::alloc::Global;
+
+/// A book in memory of a ledger's calls, and what is to be told of them.
+#[derive(Drop)]
+pub struct ReplayedBook {
+    pub book: IndexedBook,
+    pub opened: LedgerSummary,
+}
+
+// A book in memory that keeps the calls of the rows, each of them right behind those before it.
+fn replay_calls(
+    alloc: Global,
+    settings: Settings,
+    calls: &[CallRow],
+) -> Result<IndexedBook, OpenFault>
+    ensures right { IfOk result (λ book. AreRight settings calls.now) }
+    ensures kept { IfOk result (λ book. book.index.entries.items ≡ kept_of calls.now) }
+    ensures err { (tables : Tables) → tables.calls ≡ calls.now → IsHead tables.heads (pos 1) settings → IfErr result (IsRefusal tables) }
+{
+    let mut book = IndexedBook::new(alloc, settings);
+    replay_rows(&mut book, calls)?;
+    Ok(book)
+}
+
+impl ReplayedBook {
+    ghost use Rattle.s10_index.specs.ReplayedBook.{IsReplayedBook};
+
+    /// The book of these calls, each of them right behind those before it. Refused with NotALedger where `head` is not its
+    /// one row, with Schema, with Damaged and the first call that is wrong, and with Memory.
+    pub fn of(
+        alloc: Global,
+        heads: Vec<HeadRow>,
+        calls: Vec<CallRow>,
+    ) -> Result<ReplayedBook, OpenFault>
+        ensures ok { IfOk result (IsReplayedBook heads.items calls.items) }
+        ensures err { (tables : Tables) → tables.heads ≡ heads.items → tables.calls ≡ calls.items → IfErr result (IsRefusal tables) }
+    {
+        let settings = settings_in(&heads)?;
+        let book = replay_calls(alloc, settings, &calls)?;
+        let opened = LedgerSummary {
+            settings,
+            len: book.len(),
+            day: book.day(),
+        };
+        Ok(ReplayedBook { book, opened })
+    }
+}

@@ -1,9 +1,0 @@
-use Rattle.std.proofs.Common.{take}
-use Rattle.std.specs.List.{flat_map}
-use Rattle.std.specs.Io.KnownBytes.{Appends}
-use Rattle.s10_jobs.specs.TurnLines.{turn_line}
-use Rattle.s10_jobs.proofs.turns.show_turns.Given as goal
-
--- the lines of so many turns were written
-abbrev pub invariant-loop-turn : goal.invariant-loop-turn
-invariant-loop-turn g l = Appends (g.W.Write.contents l.fn.out) (g.W.Write.contents l.out) (flat_map turn_line (take l.turn-index l.turns))

@@ -1,5 +1,0 @@
-use Rattle.std.proofs.Common.{rules}
-use Rattle.s10_ledger.proofs.form.form_of.Goals as goal
-
-pub returns-then-is_old_schema-clause-none : goal.returns-then-is_old_schema-clause-none
-returns-then-is_old_schema-clause-none c = search rules

@@ -1,0 +1,55 @@
+use Rattle.std.proofs.Common.{map, subst}
+use Rattle.std.proofs.lemmas.Result.{err_from_is_err_and}
+use Rattle.sqlite.specs.Effect.{Database}
+use Rattle.std.specs.List.{AllByRecursion}
+use Rattle.s10_rows.specs.Tables.{HaveSameRows}
+use Rattle.s10_statements.specs.Shown.{shown_serial, serial_columns, HasIntegerRowid}
+use Rattle.s10_ledger.proofs.ReadingLemmas.{clean_between, same_between, schema_between, both_leave}
+use Rattle.s10_ledger.proofs.reading.read_derived_rows.Goals as goal
+
+pub returns-clause-leaves : goal.returns-clause-leaves
+returns-clause-leaves g c = both_leave g.S.Store c.args.conn.now c.all_ranges.new.conn c.all_serials.new.conn c.all_ranges.ensures.leaves c.all_serials.ensures.leaves
+
+pub returns-clause-opened : goal.returns-clause-opened
+returns-clause-opened g c clean = c.in_ok-serials.ensures.opened clean
+
+pub returns-clause-rows : goal.returns-clause-rows
+returns-clause-rows g c clean opened settled has =
+    let first = c.all_ranges.ensures.leaves in
+    let second = c.all_serials.ensures.leaves in
+    let old = c.args.conn.now in
+    let mid = c.all_ranges.new.conn in
+    let new = c.all_serials.new.conn in
+    let same = same_between g.S.Store old mid new first second clean opened settled has in
+    let stands = schema_between g.S.Store old mid new first second clean opened settled has in
+    record {
+      ranges_are = c.in_ok-ranges.ensures.rows (clean_between g.S.Store old mid new first second clean) has;
+      serials_are = subst (λ (d : Database). HaveSameRows (map shown_serial c.in_ok-serials.serials.items) (map serial_columns (d.trees 4))) same (c.in_ok-serials.ensures.rows clean stands);
+      numbered = subst (λ (d : Database). AllByRecursion HasIntegerRowid (d.trees 4)) same (c.in_ok-serials.ensures.numbered clean stands);
+    }
+
+pub returns-in_err-serials-clause-leaves : goal.returns-in_err-serials-clause-leaves
+returns-in_err-serials-clause-leaves g c = both_leave g.S.Store c.args.conn.now c.all_ranges.new.conn c.all_serials.new.conn c.all_ranges.ensures.leaves c.all_serials.ensures.leaves
+
+pub returns-in_err-serials-clause-opened : goal.returns-in_err-serials-clause-opened
+returns-in_err-serials-clause-opened g c clean =
+    let p = err_from_is_err_and c.from_residual-in_err-serials.result c.from_residual-in_err-serials.ensures.1 in
+    rw p.1 tt
+
+pub returns-in_err-serials-clause-rows : goal.returns-in_err-serials-clause-rows
+returns-in_err-serials-clause-rows g c clean opened settled has =
+    let p = err_from_is_err_and c.from_residual-in_err-serials.result c.from_residual-in_err-serials.ensures.1 in
+    rw p.1 tt
+
+pub returns-in_err-ranges-clause-leaves : goal.returns-in_err-ranges-clause-leaves
+returns-in_err-ranges-clause-leaves g c = c.all_ranges.ensures.leaves
+
+pub returns-in_err-ranges-clause-opened : goal.returns-in_err-ranges-clause-opened
+returns-in_err-ranges-clause-opened g c clean =
+    let p = err_from_is_err_and c.from_residual.result c.from_residual.ensures.1 in
+    rw p.1 tt
+
+pub returns-in_err-ranges-clause-rows : goal.returns-in_err-ranges-clause-rows
+returns-in_err-ranges-clause-rows g c clean opened settled has =
+    let p = err_from_is_err_and c.from_residual.result c.from_residual.ensures.1 in
+    rw p.1 tt

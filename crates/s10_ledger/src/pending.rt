@@ -1,0 +1,102 @@
+//! Calls are held in the process, and written.
+
+ghost use Rattle.std.specs.Prelude.{◌≡◌, ◌≢◌, ◌⊎◌, ◌≤◌, ◌+◌, ◌++◌, ◌∷◌, [], List, length, map, All, Err, IsTrue, OnOk, OnErr};
+ghost use Rattle.std.specs.List.{list_any};
+ghost use Rattle.sqlite_trees.specs.Tree.{Trees};
+ghost use Rattle.sqlite_trees.specs.View.{doubt};
+ghost use Rattle.sqlite.specs.Held.{state};
+ghost use Rattle.sqlite.specs.State.{HasCleanDisk};
+ghost use Rattle.s10_history.specs.declared.entry.Entry.{Entry};
+ghost use Rattle.s10_book.specs.declared.book_fault.BookFault.TheVariants.{Full};
+ghost use Rattle.s10_history.specs.History.{has_key};
+ghost use Rattle.s10_history.specs.Settings.{Terms};
+ghost use Rattle.s10_history.specs.declared.settings.TheConstants.{MAX_LIMIT};
+ghost use Rattle.s10_book.specs.Rules.{IsLegal, MayFollow};
+ghost use Rattle.s10_index.specs.CallIndex.{Indexes};
+ghost use Rattle.s10_rows.specs.declared.call_write.CallWrite.{CallWrite};
+ghost use Rattle.s10_rows.specs.CallWrite.{AreWritten, Writes};
+ghost use Rattle.s10_rows.specs.Selected.{IsCall};
+ghost use Rattle.s10_rows.specs.Tables.{Tables, tables_of};
+ghost use Rattle.s10_statements.specs.ConnectionState.{IsQuiescent};
+ghost use Rattle.s10_statements.specs.Shown.{HasTables};
+ghost use Rattle.s10_ledger.specs.Pending.{calls_of};
+
+use crate::faults::fault_of;
+use s10_book::BookFault;
+use s10_history::Entry;
+use s10_index::{CallIndex, call_write};
+use s10_rows::CallWrite;
+use s10_statements::commit_rows;
+use sqlite::{Alter, Connection};
+use std::alloc::Global;
+
+// Writes the pending calls in one transaction: all of them, and then none is pending, or none.
+pub(crate) fn commit_calls<S: Alter>(
+    conn: &mut Connection<S>,
+    pending: &mut Vec<CallWrite>,
+) -> Result<(), BookFault>
+    requires settled { IsQuiescent S.Store conn.old }
+    ensures settled { IsQuiescent S.Store conn.new }
+    ensures opened { HasCleanDisk (state S.Store conn.new) → OnOk result (IsTrue (state S.Store conn.new).is_open) }
+    ensures fault { result ≢ Err Full }
+    ensures clean { doubt (state S.Store conn.old).is_clean ≤ doubt (state S.Store conn.new).is_clean }
+    ensures was_open { HasCleanDisk (state S.Store conn.new) → IsTrue (state S.Store conn.new).is_open → IsTrue (state S.Store conn.old).is_open }
+    ensures emptied { OnOk result (pending.new.items ≡ []) }
+    ensures left { OnErr result (pending.new.items ≡ pending.old.items) }
+    ensures ok { HasCleanDisk (state S.Store conn.new) → OnOk result ((before after : Tables) → AreWritten pending.old.items before after
+        → HasTables (state S.Store conn.old).now before → HasTables (state S.Store conn.new).now after) }
+    ensures err { HasCleanDisk (state S.Store conn.new) → IsTrue (state S.Store conn.new).is_open → OnErr result ((state S.Store conn.new).now ≡ (state S.Store conn.old).now) }
+    ensures crash { HasCleanDisk (state S.Store conn.new) → (db : Trees) → (state S.Store conn.new).may_leave db
+        → (state S.Store conn.old).may_leave db ⊎ ((before after : Tables) → AreWritten pending.old.items before after
+        → HasTables (state S.Store conn.old).now before → HasTables (record (state S.Store conn.old).now { trees = db }) after) }
+{
+    match commit_rows(conn, pending) {
+        Ok(()) => {
+            pending.clear();
+            Ok(())
+        }
+        Err(error) => Err(fault_of(error)),
+    }
+}
+
+// Holds the call behind those of the index, where they are fewer than the limit and there is room for it, for what it makes and for
+// what it writes.
+pub(crate) fn append_pending(
+    alloc: Global,
+    index: &mut CallIndex,
+    pending: &mut Vec<CallWrite>,
+    limit: u32,
+    entry: &Entry,
+) -> Result<(), BookFault>
+    requires limit { limit ≤ MAX_LIMIT }
+    ensures fault { result ≢ Err Full }
+    ensures few { length index.old.entries.items ≤ MAX_LIMIT → length index.new.entries.items ≤ MAX_LIMIT }
+    ensures calls { OnOk result (index.new.entries.items ≡ index.old.entries.items ++ entry.now ∷ []) }
+    ensures same_calls { OnErr result (index.new.entries.items ≡ index.old.entries.items) }
+    ensures written { OnOk result ((write : CallWrite) × (pending.new.items ≡ pending.old.items ++ write ∷ []) × (write.entry ≡ entry.now)
+        × ((h : List Entry) (t : Terms) → IsLegal h t → MayFollow h t entry.now → All IsCall h → Indexes index.old h → IsCall entry.now × Writes write (tables_of h t) (tables_of (h ++ entry.now ∷ []) t))) }
+    ensures left { OnErr result (pending.new.items ≡ pending.old.items) }
+    ensures followed { (h : List Entry) (t : Terms) → IsLegal h t → MayFollow h t entry.now → Indexes index.old h → OnOk result (Indexes index.new (h ++ entry.now ∷ [])) }
+    ensures same_index { (h : List Entry) → Indexes index.old h → OnErr result (Indexes index.new h) }
+{
+    let held = index.calls().len();
+    if held >= limit as usize {
+        return Err(BookFault::Store);
+    }
+    if index.reserve(entry).is_err() {
+        return Err(BookFault::Memory);
+    }
+    let write = call_write(alloc, index, held as u32 + 1, entry)?;
+    if pending.push(write).is_err() {
+        return Err(BookFault::Memory);
+    }
+    index.follow(*entry);
+    Ok(())
+}
+
+// Whether a call of that key is pending.
+pub(crate) fn is_pending(pending: &[CallWrite], customer: u32, number: u32) -> bool
+    ensures { result ≡ list_any (has_key customer number) (calls_of pending.now) }
+{
+    pending.iter().any(|w| w.entry.request.customer == customer && w.entry.request.number == number)
+}

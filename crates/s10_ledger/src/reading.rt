@@ -1,0 +1,94 @@
+//! The rows of a ledger's tables are read, those of the calls to be done again and dropped.
+
+ghost use Rattle.std.specs.Prelude.{List, IfOk, OnOk, IsTrue};
+ghost use Rattle.sqlite.specs.Held.{state};
+ghost use Rattle.sqlite.specs.State.{HasCleanDisk};
+ghost use Rattle.s10_rows.specs.declared.head_row.HeadRow.{HeadRow};
+ghost use Rattle.s10_rows.specs.CallRow.{StoredCall};
+ghost use Rattle.s10_schema.specs.Schema.{IsLedgerSchema};
+ghost use Rattle.s10_statements.specs.ConnectionState.{IsQuiescent};
+ghost use Rattle.s10_statements.specs.Statements.{LeavesTables};
+ghost use Rattle.s10_ledger.specs.TableLayout.{IsOfTableLayout, AreClosed};
+ghost use Rattle.s10_index.specs.ReplayedBook.{IsReplayedBook};
+ghost use Rattle.s10_ledger.specs.AllRows.{HasCallRows, HasDerivedRows, AreRead};
+
+use crate::table_layout::TableLayout;
+use s10_index::{ReplayedBook, StoredRows};
+use s10_rows::{CallRow, ClosedRow, HeadRow, OpenFault, RangeRow, SerialRow};
+use s10_statements::{Observer, all_calls, all_closed, all_heads, all_ranges, all_serials};
+use sqlite::{Alter, Connection, Error};
+use std::alloc::Global;
+
+// The rows of `head`, and those of `calls` in order of arrival.
+fn read_call_rows<S: Alter, W: Observer>(
+    alloc: Global,
+    conn: &mut Connection<S>,
+    watch: &mut W,
+) -> Result<(Vec<HeadRow>, Vec<CallRow>), Error>
+    ensures leaves { LeavesTables S.Store conn.old conn.new }
+    ensures opened { HasCleanDisk (state S.Store conn.new) → OnOk result (IsTrue (state S.Store conn.new).is_open) }
+    ensures rows { HasCleanDisk (state S.Store conn.new) → IsTrue (state S.Store conn.new).is_open → IsQuiescent S.Store conn.old → IsLedgerSchema (state S.Store conn.old).now.schema
+        → IfOk result (λ kept. HasCallRows (state S.Store conn.old).now kept.0.items kept.1.items) }
+{
+    let heads = all_heads(alloc, conn)?;
+    let calls = all_calls(alloc, conn, watch)?;
+    Ok((heads, calls))
+}
+
+// The rows of `closed`, none where it is missing.
+fn closed_rows<S: Alter>(
+    alloc: Global,
+    conn: &mut Connection<S>,
+    form: TableLayout,
+) -> Result<Vec<ClosedRow>, Error>
+    requires form { IsOfTableLayout form (state S.Store conn.old).now.schema }
+    ensures leaves { LeavesTables S.Store conn.old conn.new }
+    ensures rows { HasCleanDisk (state S.Store conn.new) → IfOk result (λ rows. AreClosed form (state S.Store conn.old).now rows.items) }
+{
+    match form {
+        TableLayout::Whole => all_closed(alloc, conn),
+        TableLayout::Old => Ok(Vec::new(alloc)),
+    }
+}
+
+// The rows of `ranges` and of `serials`.
+fn read_derived_rows<S: Alter, W: Observer>(
+    alloc: Global,
+    conn: &mut Connection<S>,
+    watch: &mut W,
+) -> Result<(Vec<RangeRow>, Vec<SerialRow>), Error>
+    ensures leaves { LeavesTables S.Store conn.old conn.new }
+    ensures opened { HasCleanDisk (state S.Store conn.new) → OnOk result (IsTrue (state S.Store conn.new).is_open) }
+    ensures rows { HasCleanDisk (state S.Store conn.new) → IsTrue (state S.Store conn.new).is_open → IsQuiescent S.Store conn.old → IsLedgerSchema (state S.Store conn.old).now.schema
+        → IfOk result (λ made. HasDerivedRows (state S.Store conn.old).now made.0.items made.1.items) }
+{
+    let ranges = all_ranges(alloc, conn)?;
+    let serials = all_serials(alloc, conn, watch)?;
+    Ok((ranges, serials))
+}
+
+// What is found of the settings and the calls, and the rows that are to be compared with what these make.
+pub(crate) fn read_tables<S: Alter, W: Observer>(
+    alloc: Global,
+    conn: &mut Connection<S>,
+    form: TableLayout,
+    watch: &mut W,
+) -> Result<(Result<ReplayedBook, OpenFault>, StoredRows), Error>
+    requires form { IsOfTableLayout form (state S.Store conn.old).now.schema }
+    ensures leaves { LeavesTables S.Store conn.old conn.new }
+    ensures opened { HasCleanDisk (state S.Store conn.new) → OnOk result (IsTrue (state S.Store conn.new).is_open) }
+    ensures rows { HasCleanDisk (state S.Store conn.new) → IsTrue (state S.Store conn.new).is_open → IsQuiescent S.Store conn.old
+        → IfOk result (λ rows. AreRead form (state S.Store conn.old).now rows.0 rows.1) }
+    ensures remade { IfOk result (λ rows. IfOk rows.0 (λ made. (heads : List HeadRow) × ((calls : List StoredCall) × IsReplayedBook heads calls made))) }
+{
+    let closed = closed_rows(alloc, conn, form)?;
+    let (heads, calls) = read_call_rows(alloc, conn, watch)?;
+    let made = ReplayedBook::of(alloc, heads, calls);
+    let (ranges, serials) = read_derived_rows(alloc, conn, watch)?;
+    let rows = StoredRows {
+        ranges,
+        serials,
+        closed,
+    };
+    Ok((made, rows))
+}

@@ -1,7 +1,0 @@
-use Rattle.std.proofs.Common.{arith}
-use Rattle.s10_ranges.specs.Keys.{place_key}
-use Rattle.s10_ranges.proofs.keys.place_number.Goals as goal
-
-pub returns-clause-value : goal.returns-clause-value
-unfolding place_key
-returns-clause-value c = omega (arith, c.from.ensures, c.from-2.ensures, c.value.ensures.value, c.pair_number.ensures.value)

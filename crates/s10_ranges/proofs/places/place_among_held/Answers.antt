@@ -1,5 +1,0 @@
-use Rattle.s10_ranges.proofs.Holding.{held_apart}
-use Rattle.s10_ranges.proofs.places.place_among_held.Goals as goal
-
-pub returns-clause-above : goal.returns-clause-above
-returns-clause-above c = held_apart c.args.ranges.now c.args.by_holder.now c.args.range.now c.first_at.result c.key_number-held.result c.requires.sound c.requires.held c.requires.few c.requires.num c.key_number-held.ensures c.first_at.ensures.above

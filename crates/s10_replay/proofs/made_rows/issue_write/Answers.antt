@@ -1,5 +1,0 @@
-use Rattle.std.proofs.Common.{rules}
-use Rattle.s10_replay.proofs.made_rows.issue_write.Goals as goal
-
-pub returns-in-Before : goal.returns-in-Before
-returns-in-Before c = search rules

@@ -1,0 +1,47 @@
+-- What is found of the rows of the five tables.
+use Rattle.std.specs.Prelude.{◌≡◌, ◌≢◌, ℕ, zero, suc, ℤ, pos, List, [], ◌∷◌, length, take, slice_get, Some, ⊤}
+use Rattle.s10_history.specs.Settings.{Terms, AreTerms}
+use Rattle.s10_history.specs.History.{day_of}
+use Rattle.s10_rows.specs.declared.head_row.HeadRow.{HeadRow}
+use Rattle.s10_rows.specs.declared.open_fault.OpenFault.{OpenFault}
+use Rattle.s10_rows.specs.declared.open_fault.OpenFault.TheVariants.{NotALedger, Schema, Damaged, NotEmpty, Memory, Store}
+use Rattle.s10_rows.specs.declared.ledger_summary.LedgerSummary.{LedgerSummary}
+use Rattle.s10_rows.specs.CallRow.{StoredCall}
+use Rattle.s10_rows.specs.Tables.{Tables, HaveSameRows, head_row, range_rows, serial_rows, closed_rows}
+use Rattle.s10_replay.specs.RightRows.{IsRightRow, AreRight, kept_of}
+
+-- head is one row with that schema number, and with settings in their limits
+pub record IsHead (heads : List HeadRow) (schema : ℤ) (t : Terms) : Type 0 where
+  pub row : heads ≡ record (head_row t) { schema = schema } ∷ []
+  pub in_limits : AreTerms t
+
+-- the rows of ranges, of serials and of closed are those that the kept calls make
+pub record AreDerived (tables : Tables) : Type 0 where
+  pub ranges : HaveSameRows (range_rows (kept_of tables.calls)) tables.ranges
+  pub serials : HaveSameRows (serial_rows (kept_of tables.calls)) tables.serials
+  pub closed : HaveSameRows (closed_rows (kept_of tables.calls)) tables.closed
+
+-- the rows, those of calls in order of arrival, are a ledger's
+pub record IsConsistent (tables : Tables) (found : LedgerSummary) : Type 0 where
+  pub head : IsHead tables.heads (pos 1) found.settings
+  pub right : AreRight found.settings tables.calls
+  pub made : AreDerived tables
+  pub len : found.len ≡ length tables.calls
+  pub day : found.day ≡ day_of (kept_of tables.calls)
+
+-- row k, from 0, is the first that is not right
+pub record IsFirstWrong (t : Terms) (calls : List StoredCall) (k : ℕ) : Type 0 where
+  pub right : AreRight t (take k calls)
+  pub row : StoredCall
+  pub there : slice_get calls k ≡ Some row
+  pub wrong : ¬ IsRightRow t (kept_of (take k calls)) row
+
+-- what is wrong with the rows, where the refusals before it do not apply
+abbrev pub IsRefusal : Tables → OpenFault → Type 0
+IsRefusal tables NotALedger = (schema : ℤ) (t : Terms) → ¬ IsHead tables.heads schema t
+IsRefusal tables (Schema n) = (t : Terms) × IsHead tables.heads n t × (n ≢ pos 1)
+IsRefusal tables (Damaged zero) = (t : Terms) × IsHead tables.heads (pos 1) t × AreRight t tables.calls × ¬ AreDerived tables
+IsRefusal tables (Damaged (suc k)) = (t : Terms) × IsHead tables.heads (pos 1) t × IsFirstWrong t tables.calls k
+IsRefusal tables NotEmpty = ⊥
+IsRefusal tables Memory = ⊤
+IsRefusal tables Store = ⊤

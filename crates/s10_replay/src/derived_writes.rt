@@ -1,0 +1,95 @@
+//! The rows that a kept call makes.
+
+ghost use Rattle.std.specs.Prelude.{◌≡◌, ℕ, ◌+◌, pos, true, false, List, [], ◌++◌, ◌∷◌, length, filter, option_to_list, slice_get, All, Contains, Some, None, IfOk, IfErr, IsOk, IsSome};
+ghost use Rattle.s10_core.specs.declared.id.Id.{Id};
+ghost use Rattle.s10_wire.specs.declared.body.Body.TheVariants.{Void};
+ghost use Rattle.s10_wire.specs.declared.outcome.Outcome.TheVariants.{Granted, Voided};
+ghost use Rattle.s10_history.specs.declared.entry.Entry.{Entry};
+ghost use Rattle.s10_history.specs.Settings.{Terms};
+ghost use Rattle.s10_book.specs.Rules.{IsLegal, MayFollow};
+ghost use Rattle.s10_history.specs.History.{ranges_of, lies_in};
+ghost use Rattle.s10_history.specs.Issues.{issues_at, issues_of, is_issued, last_issuance_of, serial_after};
+ghost use Rattle.s10_rows.specs.declared.serial_row.SerialRow.{SerialRow};
+ghost use Rattle.s10_rows.specs.declared.range_write.RangeWrite.{RangeWrite};
+ghost use Rattle.s10_rows.specs.declared.serial_write.SerialWrite.{SerialWrite};
+ghost use Rattle.s10_rows.specs.Tables.{HaveSameRows, pair_of, serial_row, serial_rows};
+ghost use Rattle.s10_rows.specs.Selected.{IsCall, is_within};
+ghost use Rattle.s10_rows.specs.RowWrites.{IssueWritesMake, MakesWrites, issues_before, write_of};
+
+use s10_core::Serial;
+use s10_history::{Entry, Issuance, Range};
+use s10_rows::{PriorIssue, RangeRow, RangeWrite, SerialRow, SerialWrite};
+use s10_wire::Outcome;
+
+// The write of the mark behind a serial that the range gave.
+fn mark_write(range: &Range, serial: Serial) -> RangeWrite
+    ensures { result ≡ RangeWrite.Mark (pos range.now.num) (pos (serial_after range.now serial)) }
+{
+    let mark = if serial == range.last {
+        range.first.value()
+    } else {
+        serial.value() + 1
+    };
+    RangeWrite::Mark {
+        num: i64::from(range.num),
+        mark: i64::from(mark),
+    }
+}
+
+// The write of an issue, by whether its identifier was issued before.
+fn issue_write(issued: PriorIssue, row: SerialRow) -> SerialWrite
+    ensures { result ≡ write_of issued row }
+{
+    match issued {
+        PriorIssue::Never => SerialWrite::New(row),
+        PriorIssue::Before => SerialWrite::Again(row),
+    }
+}
+
+/// What an issue of a call makes: the mark behind it, of the range that has its identifier, and its row, which is new where the
+/// identifier was never issued, neither by the calls before nor by this one before that place.
+pub fn issue_writes(
+    range: &Range,
+    issued: PriorIssue,
+    issuance: &Issuance,
+) -> (RangeWrite, SerialWrite)
+    ensures { (h : List Entry) (t : Terms) (e : Entry) (place : ℕ) (ranges : List RangeWrite) (serials : List SerialWrite) → IsLegal h t → MayFollow h t e → All IsCall h → IsCall e
+        → slice_get (issues_at (1 + length h) e) place ≡ Some issuance.now → Contains (ranges_of h) range.now → lies_in range.now issuance.now.id ≡ true
+        → (issued ≡ PriorIssue.Never → is_issued (issues_before place h e) issuance.now.id ≡ false)
+        → IssueWritesMake h e place ranges serials → IssueWritesMake h e (place + 1) (ranges ++ result.0 ∷ []) (serials ++ result.1 ∷ []) }
+{
+    let row = SerialRow::of(issuance, false);
+    (
+        mark_write(range, issuance.id.serial),
+        issue_write(issued, row),
+    )
+}
+
+/// Before its first issue a call has made no row. Behind its last one it has made all of its rows, where it was no Done Grant
+/// and no Done Void.
+pub fn issue_writes_are_complete()
+    ensures none { (h : List Entry) (e : Entry) → IssueWritesMake h e 0 [] [] }
+    ensures all { (h : List Entry) (e : Entry) (place : ℕ) (ranges : List RangeWrite) (serials : List SerialWrite) → ((num : ℕ) → ¬ (e.outcome ≡ Granted num)) → ¬ (e.outcome ≡ Voided)
+        → slice_get (issues_at (1 + length h) e) place ≡ None → IssueWritesMake h e place ranges serials → MakesWrites h e ranges serials }
+{}
+
+/// The row of the range that a Grant makes where it is Done: its first serial is the mark. None for another call.
+pub fn grant_write(entry: &Entry) -> Option<RangeWrite>
+    ensures made { (h : List Entry) (t : Terms) (n : ℕ) → IsLegal h t → MayFollow h t entry.now → entry.now.outcome ≡ Granted n
+        → MakesWrites h entry.now (option_to_list result) [] }
+    ensures some { (h : List Entry) (t : Terms) (n : ℕ) → MayFollow h t entry.now → entry.now.outcome ≡ Granted n → IsSome result }
+{
+    let Outcome::Granted { range: num } = entry.outcome else {
+        return None;
+    };
+    let range = entry.range_made(num)?;
+    Some(RangeWrite::New(RangeRow::of(&range, range.first.value())))
+}
+
+/// What a Done Void makes of the rows: that of the last issue of its identifier, voided.
+pub fn void_write(issuance: &Issuance) -> SerialWrite
+    ensures { (h : List Entry) (t : Terms) (e : Entry) (id : Id) → IsLegal h t → MayFollow h t e → All IsCall h → IsCall e → e.request.body ≡ Void id → e.outcome ≡ Voided
+        → last_issuance_of (issues_of h) id ≡ Some issuance.now → MakesWrites h e [] (result ∷ []) }
+{
+    SerialWrite::Again(SerialRow::of(issuance, true))
+}

@@ -1,9 +1,0 @@
-use s10_history::Settings;
-
-/// What was found of a ledger as it was opened: its settings, how many calls are kept, and the day of the last one.
-#[derive(Clone, Copy, Debug, PartialEq, Eq)]
-pub struct Opened {
-    pub settings: Settings,
-    pub len: u32,
-    pub day: u32,
-}

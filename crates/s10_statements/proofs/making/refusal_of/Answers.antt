@@ -1,5 +1,0 @@
-use Rattle.std.proofs.Common.{rules}
-use Rattle.s10_statements.proofs.making.refusal_of.Goals as goal
-
-pub returns-else-is_empty-clause-refusal : goal.returns-else-is_empty-clause-refusal
-returns-else-is_empty-clause-refusal c = search rules

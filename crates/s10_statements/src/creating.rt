@@ -1,0 +1,128 @@
+//! The five tables of a new ledger are made.
+
+ghost use Rattle.std.specs.Prelude.{◌≡◌, ℕ, ◌++◌, ◌∷◌, [], codes, false, IsSome, IfSome, None, Ok, OnOk, OnErr};
+ghost use Rattle.sqlite.specs.Held.{state};
+ghost use Rattle.sqlite.specs.State.{KeepsCommit, Survives, Executes};
+ghost use Rattle.sqlite_schema.specs.Names.{table_named};
+ghost use Rattle.s10_statements.specs.Creating.{HasOneOfTheNames, IsCreateRefusal};
+ghost use Rattle.s10_schema.specs.Schema.{no_schema, ledger_schema};
+ghost use Rattle.s10_rows.specs.Tables.{Tables, no_rows, head_row};
+ghost use Rattle.s10_statements.specs.Shown.{HasTables, StandsFor};
+ghost use Rattle.s10_statements.specs.ConnectionState.{IsQuiescent, WasSound, IsClean, IsOpen, IsInTransaction, StaysUnclean};
+
+use s10_history::Settings;
+use s10_rows::OpenFault;
+use sqlite::{Alter, Connection, Error, Transaction, params};
+
+const HEAD: &str =
+    "CREATE TABLE head (one INTEGER NOT NULL PRIMARY KEY CHECK (one = 1), schema INTEGER NOT NULL, interval INTEGER NOT NULL, cap INTEGER NOT NULL) STRICT";
+
+const CALLS: &str =
+    "CREATE TABLE calls (arrival INTEGER NOT NULL PRIMARY KEY, customer INTEGER NOT NULL, number INTEGER NOT NULL, day INTEGER NOT NULL, reply BLOB NOT NULL, UNIQUE (customer, number)) STRICT";
+
+const RANGES: &str =
+    "CREATE TABLE ranges (num INTEGER NOT NULL PRIMARY KEY, holder INTEGER NOT NULL, pair INTEGER NOT NULL, low INTEGER NOT NULL, high INTEGER NOT NULL, mark INTEGER NOT NULL) STRICT";
+
+const SERIALS: &str =
+    "CREATE TABLE serials (pair INTEGER NOT NULL, serial INTEGER NOT NULL, arrival INTEGER NOT NULL, day INTEGER NOT NULL, customer INTEGER NOT NULL, number INTEGER NOT NULL, voided INTEGER NOT NULL, PRIMARY KEY (pair, serial)) STRICT";
+
+pub(crate) const CLOSED: &str =
+    "CREATE TABLE closed (num INTEGER NOT NULL PRIMARY KEY, arrival INTEGER NOT NULL) STRICT";
+
+// Runs a statement that has no parameters.
+pub(crate) fn run<S: Alter>(tx: &mut Transaction<'_, S>, sql: &str) -> Result<(), Error>
+    ensures same_reference { tx.new.conn.ghost_name ≡ tx.old.conn.ghost_name }
+    ensures runs { IsClean S.Store tx.new.conn.now → IsInTransaction S.Store tx.old.conn.now
+        → OnOk result ((count : ℕ) × Executes sql.now [] (state S.Store tx.old.conn.now) (state S.Store tx.new.conn.now) (Ok count)) }
+    ensures opened { IsClean S.Store tx.new.conn.now → IsInTransaction S.Store tx.old.conn.now
+        → OnOk result (IsOpen S.Store tx.old.conn.now) }
+    ensures inside { IsClean S.Store tx.new.conn.now → IsInTransaction S.Store tx.old.conn.now
+        → OnOk result (IsInTransaction S.Store tx.new.conn.now) }
+    ensures kept { IsClean S.Store tx.new.conn.now → IsInTransaction S.Store tx.old.conn.now → KeepsCommit (state S.Store tx.old.conn.now) (state S.Store tx.new.conn.now) }
+    ensures survives { Survives (state S.Store tx.old.conn.now) (state S.Store tx.new.conn.now) (λ _. ⊥) }
+    ensures clean { StaysUnclean S.Store tx.old.conn.now tx.new.conn.now }
+{
+    tx.execute(sql, &[])?;
+    Ok(())
+}
+
+// Makes the five tables, with no row.
+fn create_each_table<S: Alter>(tx: &mut Transaction<'_, S>) -> Result<(), Error>
+    ensures same_reference { tx.new.conn.ghost_name ≡ tx.old.conn.ghost_name }
+    ensures made { IsClean S.Store tx.new.conn.now → IsInTransaction S.Store tx.old.conn.now → (state S.Store tx.old.conn.now).now.schema ≡ no_schema
+        → OnOk result (HasTables (state S.Store tx.new.conn.now).now no_rows) }
+    ensures alone { IsClean S.Store tx.new.conn.now → IsInTransaction S.Store tx.old.conn.now → (state S.Store tx.old.conn.now).now.schema ≡ no_schema
+        → OnOk result ((state S.Store tx.new.conn.now).now.schema ≡ ledger_schema) }
+    ensures inside { IsClean S.Store tx.new.conn.now → IsInTransaction S.Store tx.old.conn.now
+        → OnOk result (IsInTransaction S.Store tx.new.conn.now) }
+    ensures kept { IsClean S.Store tx.new.conn.now → IsInTransaction S.Store tx.old.conn.now → KeepsCommit (state S.Store tx.old.conn.now) (state S.Store tx.new.conn.now) }
+    ensures clean { StaysUnclean S.Store tx.old.conn.now tx.new.conn.now }
+{
+    run(tx, HEAD)?;
+    run(tx, CALLS)?;
+    run(tx, RANGES)?;
+    run(tx, SERIALS)?;
+    run(tx, CLOSED)
+}
+
+// Adds the row of the settings.
+fn insert_head<S: Alter>(tx: &mut Transaction<'_, S>, settings: Settings) -> Result<(), Error>
+    ensures same_reference { tx.new.conn.ghost_name ≡ tx.old.conn.ghost_name }
+    ensures made { IsClean S.Store tx.new.conn.now → IsInTransaction S.Store tx.old.conn.now → OnOk result ((tables : Tables) → HasTables (state S.Store tx.old.conn.now).now tables
+        → HasTables (state S.Store tx.new.conn.now).now (record tables { heads = tables.heads ++ head_row settings ∷ [] })) }
+    ensures alone { IsClean S.Store tx.new.conn.now → IsInTransaction S.Store tx.old.conn.now → OnOk result ((tables : Tables) → HasTables (state S.Store tx.old.conn.now).now tables
+        → (state S.Store tx.new.conn.now).now.schema ≡ (state S.Store tx.old.conn.now).now.schema) }
+    ensures inside { IsClean S.Store tx.new.conn.now → IsInTransaction S.Store tx.old.conn.now
+        → OnOk result (IsInTransaction S.Store tx.new.conn.now) }
+    ensures kept { IsClean S.Store tx.new.conn.now → IsInTransaction S.Store tx.old.conn.now → KeepsCommit (state S.Store tx.old.conn.now) (state S.Store tx.new.conn.now) }
+    ensures clean { StaysUnclean S.Store tx.old.conn.now tx.new.conn.now }
+{
+    let interval = settings.interval();
+    let limit = settings.limit();
+    tx.execute(
+        "INSERT INTO head (one, schema, interval, cap) VALUES (1, 1, ?1, ?2)",
+        params![interval, limit],
+    )?;
+    Ok(())
+}
+
+/// Makes the tables of a ledger with no call in an empty database, in one transaction: all of them, or none. An error is that
+/// of the statement that failed, and `OutOfMemory` is want of memory.
+pub fn create_tables<S: Alter>(conn: &mut Connection<S>, settings: Settings) -> Result<(), Error>
+    requires idle { conn.old.in_transaction ≡ false }
+    ensures settled { IsQuiescent S.Store conn.new }
+    ensures was { WasSound S.Store conn.old conn.new }
+    ensures opened { IsClean S.Store conn.new → OnOk result (IsOpen S.Store conn.new) }
+    ensures all { IsClean S.Store conn.new → (state S.Store conn.old).now.schema ≡ no_schema → OnOk result (StandsFor (state S.Store conn.new).now [] settings) }
+    ensures alone { IsClean S.Store conn.new → (state S.Store conn.old).now.schema ≡ no_schema → OnOk result ((state S.Store conn.new).now.schema ≡ ledger_schema) }
+    ensures none { IsClean S.Store conn.new → IsOpen S.Store conn.new → OnErr result ((state S.Store conn.new).now ≡ (state S.Store conn.old).now) }
+{
+    // A connection that is in no transaction has nothing to commit.
+    prove!(conn.is_autocommit());
+    let mut tx = conn.transaction();
+    create_each_table(&mut tx)?;
+    insert_head(&mut tx, settings)?;
+    tx.commit()
+}
+
+/// What a database that is not empty is refused for: None for an empty one.
+pub fn refusal_of<S: Alter>(conn: &Connection<S>) -> Option<OpenFault>
+    ensures refusal { IfSome result (IsCreateRefusal (state S.Store conn.now).now.schema) }
+    ensures none { result ≡ None → (state S.Store conn.now).now.schema ≡ no_schema }
+    ensures fresh { result ≡ None → ¬ HasOneOfTheNames (state S.Store conn.now).now.schema }
+{
+    let schema = conn.schema();
+    if schema.table_named(b"head").is_some()
+        || schema.table_named(b"calls").is_some()
+        || schema.table_named(b"ranges").is_some()
+        || schema.table_named(b"serials").is_some()
+        || schema.table_named(b"closed").is_some()
+    {
+        return Some(OpenFault::NotEmpty);
+    }
+    if schema.tables.is_empty() && schema.indexes.is_empty() && schema.views.is_empty() {
+        None
+    } else {
+        Some(OpenFault::Store)
+    }
+}
