@@ -33,7 +33,7 @@ abbrev pub InTurn : (List Issuance → ℕ × Id → Type 0) → (ℕ × Id → 
 InTurn P made is [] = Unit {0}
 InTurn P made is (c ∷ cs) = P is c × InTurn P made (is ++ made c ∷ []) cs
 
--- what holds before, and is kept by each issue, holds behind all of them
+-- what holds before, and is kept by each issue, holds after all of them
 pub in_turn : (P : List Issuance → ℕ × Id → Type 0) (Q : List Issuance → Type 0) (made : ℕ × Id → Issuance) (is : List Issuance) (cs : List (ℕ × Id))
     → InTurn P made is cs → Q is → ((js : List Issuance) (c : ℕ × Id) → P js c → Q js → Q (js ++ made c ∷ [])) → Q (is ++ map made cs)
 in_turn P Q made is [] turn start step = subst Q (sym (append-nil is)) start
@@ -76,7 +76,7 @@ carried_at P day n among is made (y ∷ ys) None found holds = tt
 carried_at P day n among is made [] (Some r) found holds = (holds is r found, tt)
 carried_at P day n among is made (y ∷ ys) (Some r) found holds = (holds is r found, tt)
 
--- the picks of so many Draws in a row
+-- the picks of n Draws in a row
 row_carried : (P : List Issuance → ℕ × Id → Type 0) (day n : ℕ) (among : List Range) (made : ℕ × Id → Issuance)
     → ((js : List Issuance) (r : Range) → find (has_free_pick js day n) among ≡ Some r → P js (day, id_at r (pick_of js r)))
     → (count : ℕ) (is : List Issuance) (ids : List Id) → picks (λ x. made (day, x)) day n among is count ≡ Some ids → InTurn P made is (map (λ x. (day, x)) ids)
@@ -150,7 +150,7 @@ carried_call g t e may =
     (carried (IsPicked (ranges_of g) e.request.customer e.day t.interval) g e.request.customer e.day t.interval e.request.body (made_by e (1 + length g)) (λ c. refl) (λ c. refl)
     (λ s c. picked_from g (ranges_of g) e.request.customer e.day t.interval s c))
 
--- what holds of the issues of a history, and is kept by each pick, holds behind one more call
+-- what holds of the issues of a history, and is kept by each pick, holds after one more call
 pub after_call : (Q : List Issuance → Type 0) (g : List Entry) (t : Terms) (e : Entry) → MayFollow g t e → Q (issues_of g)
     → ((is : List Issuance) (c : ℕ × Id) → IsPicked (ranges_of g) e.request.customer e.day t.interval is c → Q is → Q (is ++ made_by e (1 + length g) c ∷ [])) → Q (issues_of (g ++ e ∷ []))
 after_call Q g t e may start step =

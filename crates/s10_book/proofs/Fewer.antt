@@ -1,4 +1,4 @@
--- Where so many Draws in a row are not all Done, fewer serials than that are free.
+-- Where n Draws in a row are not all Done, fewer serials than that are free.
 use Rattle.std.proofs.Common.{◌≡◌, ℕ, zero, suc, ◌+◌, ◌-◌, ◌<◌, ◌≤◌, Bool, true, false, cond, leb, List, [], ◌∷◌, ◌++◌, Option, Some, None, Result, Ok, refl, sym, ap, ◌∙◌, ◌⊎◌, inl, inr, arith, subst, get_or}
 use Rattle.std.specs.Prelude.{find, All, AllPairs, IfOk, Contains, count_by}
 use Rattle.std.specs.List.{range_with_len}
@@ -157,7 +157,7 @@ rest_none : (x : Id) (row : Option (List Id)) → option_map (λ xs. x ∷ xs) r
 rest_none x None is = refl
 rest_none x (Some xs) is = absurd (none-some _ (sym is))
 
--- so many picks in a row fail only where fewer serials than that are free
+-- n picks in a row fail only where fewer serials than that are free
 pub fewer_free : (made : Id → Issuance) (day n : ℕ) (rs : List Range) → ((x : Id) → (made x).id ≡ x) → ((x : Id) → (made x).day ≡ day) → 1 ≤ n → AllPairs Apart rs
     → (k : ℕ) (is : List Issuance) → Ready rs is → InDays is → All (λ i. i.day ≤ day) is → picks made day n rs is k ≡ None → free_serials is day n rs < k
 fewer_free made day n rs same on pos pairs zero is ready days upto e = absurd (none-some [] (sym e))

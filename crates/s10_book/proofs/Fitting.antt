@@ -43,7 +43,7 @@ row_step (Drawn day x) next n ids rest is = mapped (next x) refl is
     mapped (Some xs) e is' = sym (ap length (same_Some (x ∷ xs) ids is')) ∙ ap suc (rest x xs e)
 row_step o next n ids rest is = absurd (none-some ids is)
 
--- so many Draws in a row give so many identifiers
+-- n Draws in a row give n identifiers
 pub row_length : (h : List Entry) (customer : ℕ) (s c : ℕ × ℕ) (day n count : ℕ) (ids : List Id) → successive_draws h customer s c day n count ≡ Some ids → length ids ≡ count
 row_length h customer s c day n zero ids is = sym (ap length (same_Some [] ids is))
 row_length h customer s c day n (suc k) ids is =

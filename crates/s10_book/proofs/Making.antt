@@ -11,7 +11,7 @@ use Rattle.s10_book.proofs.Legal.{element}
 pub length-issues_at : (arrival : ℕ) (e : Entry) → length (issues_at arrival e) ≡ length (carried_by e.outcome)
 length-issues_at arrival e = length-mapped (made_by e arrival) (carried_by e.outcome)
 
--- one more of them behind those so far
+-- one more of them after those so far
 pub issues_more : (old now new xs : List Issuance) (i : ℕ) (o : Option Issuance) → i < length xs → o ≡ slice_get xs i → now ≡ old ++ take i xs → new ≡ now ++ option_to_list o → new ≡ old ++ take (i + 1) xs
 issues_more old now new xs i o lt got before after =
     let next = element xs i lt in

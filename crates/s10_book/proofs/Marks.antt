@@ -261,7 +261,7 @@ turns_outside r is y m ly turns =
     let P : List ℕ → Type 0 = λ l. (l ≡ range_with_len r.first (m - r.first)) ⊎ (l ≡ range_with_len m (r.last + 1 - m) ++ range_with_len r.first (m - r.first)) in
     record { low = turns.low; high = turns.high; shape = subst P (sym (lasts_outside r is y ly)) turns.shape }
 
--- the serials up to the mark, with the one at the mark behind them
+-- the serials up to the mark, with the one at the mark after them
 row_to : (first m : ℕ) → first ≤ m → range_with_len first (m - first) ++ m ∷ [] ≡ range_with_len first (m + 1 - first)
 row_to first m le =
     let e : first + (m - first) ≡ m = omega arith in
@@ -411,7 +411,7 @@ picked_mark g t customer day n is c r legal from there lies =
     let same : from.range ≡ r = one_range (ranges_of g) from.range r c.1 (apart g t legal) from.there there (lies_picked g t customer day n is c legal from) lies in
     sym (ap (λ (y : Id). y.serial) from.picked) ∙ ap (λ (s : Range). pick_of is s) same
 
--- the mark of a range behind what is carried
+-- the mark of a range after what is carried
 abbrev pub marks : Range → ℕ → List (ℕ × Id) → ℕ
 marks r m cs = fold (λ pick c. pick_after r pick c.1) m cs
 
@@ -486,7 +486,7 @@ pick_turned h t e legal may r there =
     let m : ℕ = pick_of (issues_of h) r in
     pick_turns r (issues_of (h ++ e ∷ [])) (marks r (pick_of (issues_of h) r) (carried_by e.outcome)) (turns_call h t e r (pick_of (issues_of h) r) legal may there (all_at_pick h t legal r there))
 
--- after a Draw that is Done it is the next serial, or the first one behind the last
+-- after a Draw that is Done it is the next serial, or the first one after the last
 pub pick_drawn : (h : List Entry) (t : Terms) (e : Entry) → IsLegal h t → MayFollow h t e → (r : Range) → Contains (ranges_of h) r → (day : ℕ) (x : Id) → e.outcome ≡ Drawn day x → IsTrue (lies_in r x)
     → pick_of (issues_of (h ++ e ∷ [])) r ≡ serial_after r x.serial
 pick_drawn h t e legal may r there day x is lies =

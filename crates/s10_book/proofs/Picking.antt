@@ -17,7 +17,7 @@ pub then_same : (o : Option Range) (f g : Range → Option (List Id)) → ((r : 
 then_same None f g same = refl
 then_same (Some r) f g same = same r refl
 
--- the picks of so many Draws in a row from the ranges, each over the issues with those before it
+-- the picks of n Draws in a row from the ranges, each over the issues with those before it
 abbrev pub picks : (Id → Issuance) → ℕ → ℕ → List Range → List Issuance → ℕ → Option (List Id)
 picks made day n rs is zero = Some []
 picks made day n rs is (suc k) =

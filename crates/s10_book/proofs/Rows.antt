@@ -27,7 +27,7 @@ steps_from r m (suc k) = ap (serial_after r) (steps_from r m k)
 lies_mark : (r : Range) (is : List Issuance) (m : ℕ) → Turns r is m → lies_in r (id_at r m) ≡ true
 lies_mark r is m turns = lies_at r m (record { low = turns.low; high = turns.high })
 
--- the mark behind so many of the range's own picks
+-- the mark after n of the range's own picks
 pub turns_with : (r : Range) (is : List Issuance) (m k : ℕ) → Turns r is m → Turns r (with_picks r is k) (serial_after_steps r m k)
 turns_with r is m zero turns = turns
 turns_with r is m (suc k) turns =
@@ -38,7 +38,7 @@ turns_with r is m (suc k) turns =
     let P : ℕ → Type 0 = Turns r (with_picks r (is ++ issue_of (id_at r (pick_of is r)) ∷ []) k) in
     subst P (steps_from r m k) (turns_with r (is ++ issue_of (id_at r (pick_of is r)) ∷ []) (serial_after r m) k next)
 
--- the candidate behind so many is the serial so many behind the pick
+-- the candidate after n is the serial n after the pick
 pub candidate_after_is : (h : List Entry) (t : Terms) (r : Range) (k : ℕ) → IsLegal h t → Contains (ranges_of h) r
     → candidate_after_of h r k ≡ record { serial = serial_after_steps r (pick_of (issues_of h) r) k; issue = last_issue_of h (id_at r (serial_after_steps r (pick_of (issues_of h) r) k)) }
 candidate_after_is h t r k legal there =

@@ -131,7 +131,7 @@ given_at h customer s c day n d y xs first rest zero x at =
 given_at h customer s c day n d y xs first rest (suc j) x at =
     ap (λ (l : List Entry). draw_answer l customer s c day n) (sym (append_assoc h (draw_done customer s c day y ∷ []) (map (draw_done customer s c day) (take j xs)))) ∙ rest j x at
 
--- each identifier of a row is what a single Draw gives behind those before it
+-- each identifier of a row is what a single Draw gives after those before it
 row_singles : (h : List Entry) (customer : ℕ) (s c : ℕ × ℕ) (day n count : ℕ) (ids : List Id) → successive_draws h customer s c day n count ≡ Some ids
     → (k : ℕ) (x : Id) → slice_get ids k ≡ Some x → draw_answer (h ++ map (draw_done customer s c day) (take k ids)) customer s c day n ≡ Drawn day x
 row_singles h customer s c day n zero ids is = λ k x at. let P : List Id → Type 0 = λ l. slice_get l k ≡ Some x in absurd (none-some x (subst P (sym (same_Some [] ids is)) at))
@@ -156,7 +156,7 @@ row_done day [] row ids is = absurd cc
 row_done day (r ∷ rs) None ids is = absurd cc
 row_done day (r ∷ rs) (Some xs) ids is = let same : xs ≡ ids = cc in ap Some same
 
--- each identifier of a larger draw is what a single Draw gives behind those before it
+-- each identifier of a larger draw is what a single Draw gives after those before it
 pub many_singles : (h : List Entry) (customer : ℕ) (s c : ℕ × ℕ) (count day n : ℕ) (ids : List Id) → draw_many_answer h customer s c count day n ≡ DrawnMany day ids
     → (k : ℕ) (x : Id) → slice_get ids k ≡ Some x → draw_answer (h ++ map (draw_done customer s c day) (take k ids)) customer s c day n ≡ Drawn day x
 many_singles h customer s c count day n ids is =

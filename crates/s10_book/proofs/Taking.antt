@@ -34,7 +34,7 @@ pub record Untouched (s : Range) (old is : List Issuance) : Type 0 where
   pub pick : pick_of is s ≡ pick_of old s
   pub last : (x : Id) → lies_in s x ≡ true → last_issuance_of is x ≡ last_issuance_of old x
 
--- a range from which so many picks were taken on the day
+-- a range from which n picks were taken on the day
 pub record Taken (r : Range) (day : ℕ) (old is : List Issuance) (k : ℕ) : Type 0 where
   pub few : k ≤ size_of r
   pub pick : pick_of is r ≡ serial_after_steps r (pick_of old r) k

@@ -58,7 +58,7 @@ all_in_turn : (P : List Issuance → ℕ × Id → Type 0) (Q : ℕ × Id → Ty
 all_in_turn P Q made weaker is [] turn = All-nil Q
 all_in_turn P Q made weaker is (c ∷ cs) turn = All-cons Q c cs (weaker is c turn.0) (all_in_turn P Q made weaker (is ++ made c ∷ []) cs turn.1)
 
--- behind its withdrawal no identifier of a range is issued
+-- after its withdrawal no identifier of a range is issued
 pub none_withdrawn : (h : List Entry) (t : Terms) (e : Entry) → IsLegal h t → MayFollow h t e → (r : Range) → Contains (ranges_of h) r → IsTrue (is_closed h r.num) → All (λ c. ¬ (IsTrue (lies_in r c.1))) (carried_by e.outcome)
 none_withdrawn h t e legal may r there closed =
     let P : List Issuance → ℕ × Id → Type 0 = IsPickedOpen h e.request.customer e.day t.interval in

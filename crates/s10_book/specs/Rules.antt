@@ -51,20 +51,20 @@ abbrev pub then_drawn : Outcome → (Id → Option (List Id)) → Option (List I
 then_drawn (Drawn day x) next = option_map (λ xs. x ∷ xs) (next x)
 then_drawn outcome next = None
 
--- the identifiers of so many single Draws in a row, each behind those before it; None where one of them is not Done
+-- the identifiers of n single Draws in a row, each after those before it; None where one of them is not Done
 abbrev pub successive_draws : List Entry → ℕ → ℕ × ℕ → ℕ × ℕ → ℕ → ℕ → ℕ → Option (List Id)
 successive_draws h customer service country day interval zero = Some []
 successive_draws h customer service country day interval (suc count) =
     then_drawn (draw_answer h customer service country day interval)
     (λ x. successive_draws (h ++ draw_done customer service country day x ∷ []) customer service country day interval count)
 
--- what comes of so many Draws in a row from the ranges: all their identifiers, or none
+-- what comes of n Draws in a row from the ranges: all their identifiers, or none
 abbrev pub outcome_of_draws : ℕ → List Range → Option (List Id) → Outcome
 outcome_of_draws day [] row = NoRange
 outcome_of_draws day (r ∷ rs) None = NoneFree
 outcome_of_draws day (r ∷ rs) (Some ids) = DrawnMany day ids
 
--- the outcome of a DrawMany: that of so many single Draws in a row
+-- the outcome of a DrawMany: that of n single Draws in a row
 abbrev pub draw_many_answer : List Entry → ℕ → ℕ × ℕ → ℕ × ℕ → ℕ → ℕ → ℕ → Outcome
 draw_many_answer h customer service country count day interval =
     outcome_of_draws day (ranges_open h customer service country) (successive_draws h customer service country day interval count)

@@ -54,10 +54,10 @@ pub trait Book {
         ensures unchanged { Unchanged history terms honest self.old self.new }
         ensures answer { honest self.new → IfOk result (λ e. e ≡ find_entry (history self.old) customer number) }
 
-        // Of an entry that is answered the outcome fits the request, whatever is under the book.
+        // Of an entry that is answered the outcome fits the request, even if the store fails.
         ensures fits { IfOk result (λ found. IfSome found (λ e. IsTrue (fits e.request.body e.outcome))) };
 
-    /// Kept call number `at`, counted from 1, if there are so many.
+    /// Kept call number `at`, counted from 1, if it exists.
     fn entry(&mut self, at: u32) -> Result<Option<Entry>, BookFault>
         ensures faults { CountsResult result (faults self.old) (faults self.new) }
         ensures unchanged { Unchanged history terms honest self.old self.new }
@@ -101,7 +101,7 @@ pub trait Book {
         ensures unchanged { Unchanged history terms honest self.old self.new }
         ensures answer { honest self.new → IfOk result (λ c. c ≡ candidate_of (history self.old) range.now) };
 
-    /// The pick of one of the book's ranges behind so many issues of its own successive picks, fewer than it has serials, with
+    /// The pick of one of the book's ranges after n issues of its own successive picks, fewer than it has serials, with
     /// its last issue.
     fn candidate_after(&mut self, range: &Range, issued: u8) -> Result<Candidate, BookFault>
         requires there { honest self.old → Contains (ranges_of (history self.old)) range.now }

@@ -14,7 +14,7 @@ use s10_core::{Country, Id, Service};
 use s10_history::{HolderKey, Range, id_in_range, is_free};
 use s10_wire::{Count, Ids};
 
-// The identifier that the range gives behind so many picks of its own: none where each of its serials is among them, or
+// The identifier that the range gives after n picks of its own: none where each of its serials is among them, or
 // where that one is not free.
 fn free_pick<B: Book>(
     book: &mut B,
@@ -42,8 +42,8 @@ fn free_pick<B: Book>(
     }))
 }
 
-/// The identifiers that so many single Draws of the customer in a row on that day would give, in their order, or `None`
-/// where one of them would give none. They are all that were asked for, whatever is under the book. Nothing is kept.
+/// The identifiers that n single Draws of the customer in a row on that day would give, in their order, or `None`
+/// where one of them would give none. They are all that were asked for, even if the store fails. Nothing is kept.
 /// Refused with Memory or Store where a call of the book was, with the same of the two.
 pub fn successive_draws<B: Book>(
     book: &mut B,

@@ -47,9 +47,9 @@ pub fn few_free()
         → draw_many_answer h customer service country count day t.interval ≡ Outcome.NoneFree → FewFree h customer service country count day t.interval }
 {}
 
-/// A larger draw gives what so many single Draws in a row on its day would give. Where a customer's Draws stand in a legal
-/// history one behind the other, of one day and all of them Done, a DrawMany of so many in their place would have had their
-/// identifiers. And each identifier of a DrawMany is what a single Draw would give behind the Draws of those before it.
+/// A larger draw gives what n single Draws in a row on its day would give. Where a customer's Draws stand in a legal
+/// history one after the other, of one day and all of them Done, a DrawMany of n in their place would have had their
+/// identifiers. And each identifier of a DrawMany is what a single Draw would give after the Draws of those before it.
 pub fn sheets_are_successive_draws()
     ensures drawn { (h es : List Entry) (t : Terms) (customer : ℕ) (service country : ℕ × ℕ) (day : ℕ) (ids : List Id) → IsLegal (h ++ es) t → 1 ≤ length es
         → map without_number es ≡ map (draw_done customer service country day) ids
@@ -65,7 +65,7 @@ pub fn never_twice()
         → e.outcome ≡ Outcome.DrawnMany day ids → AllPairs (λ x y. x ≢ y) ids }
 {}
 
-/// A range that was withdrawn is closed for good: no identifier of it is issued behind that. Its withdrawal changes no
+/// A range that was withdrawn is closed for good: no identifier of it is issued after that. Its withdrawal changes no
 /// answer to a Grant, a Void or a Query, so it bars the serials that it barred, and what was issued from it can be voided
 /// and asked for as before.
 pub fn withdrawn_ranges()
@@ -81,7 +81,7 @@ pub fn withdrawn_ranges()
 {}
 
 /// The pick of a range in a legal history: its first serial as the range is made, after a Done Draw from it the next
-/// serial, or its first one behind its last. After a Done DrawMany it is what the single Draws of it, one by one, would
+/// serial, or its first one after its last. After a Done DrawMany it is what the single Draws of it, one by one, would
 /// leave. A call that issues no identifier of the range leaves it.
 pub fn successive_picks()
     ensures made { (h : List Entry) (t : Terms) (e : Entry) → IsLegal h t → MayFollow h t e → (r : Range)
@@ -98,7 +98,7 @@ pub fn successive_picks()
         → pick_of (issues_of (h ++ e ∷ [])) r ≡ pick_of (issues_of h) r }
 {}
 
-/// In a legal history the candidate of a range behind so many of its own picks is the serial so many behind its pick.
+/// In a legal history the candidate of a range after n of its own picks is the serial n after its pick.
 pub fn successive_candidates()
     ensures { (h : List Entry) (t : Terms) (r : Range) (issued : ℕ) → IsLegal h t → Contains (ranges_of h) r
         → let serial = serial_after_steps r (pick_of (issues_of h) r) issued in let behind : Candidate = record { serial = serial; issue = last_issue_of h (id_at r serial) } in candidate_after_of h r issued ≡ behind }

@@ -93,7 +93,7 @@ fn push_issues(list: &mut Vec<Issuance>, arrival: u32, entry: &Entry)
     }
 }
 
-// The range that a call makes behind so many.
+// The range that a call makes after n.
 fn range_made(count: usize, entry: &Entry) -> Option<Range>
     requires { count < 2 ^ 32 - 1 }
     ensures { result ≡ range_of_grant (count + 1) entry.now.request.body entry.now.outcome }
@@ -101,7 +101,7 @@ fn range_made(count: usize, entry: &Entry) -> Option<Range>
     entry.range_made(count as u32 + 1)
 }
 
-// The pick behind so many of the range's own, with its last issue.
+// The pick after n of the range's own, with its last issue.
 fn candidate_after_in(
     entries: &[Entry],
     issues: &[Issuance],
@@ -251,7 +251,7 @@ impl Book for PlainBook {
     }
 }
 
-// What a book in memory keeps is settled as far as it can be.
+// What a book in memory keeps is committed as far as it can be.
 impl GroupCommit for PlainBook {
     ghost use Rattle.std.proofs.Common.{sym, append-nil};
 

@@ -55,7 +55,7 @@ fn decide_draw<B: Book>(
     }
 }
 
-// The outcome of a DrawMany: the identifiers of so many single Draws in a row, or why there are none.
+// The outcome of a DrawMany: the identifiers of n single Draws in a row, or why there are none.
 fn decide_draw_many<B: Book>(
     book: &mut B,
     customer: u32,

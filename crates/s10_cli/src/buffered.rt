@@ -1,4 +1,4 @@
-//! The output of a job, behind its buffer.
+//! The output of a job, after its buffer.
 ghost use Rattle.std.specs.Prelude.{IfOk};
 ghost use Rattle.std.specs.Io.KnownBytes.{Keeps};
 ghost use Rattle.std.specs.Io.Buffered.{writer_contents};

@@ -111,7 +111,7 @@ one_refusal text CheckDigit (Digit b) x y =
     absurd (y.3 ((x.1 b near).digit y.2))
 one_refusal text CheckDigit CheckDigit x y = refl
 
--- the characters from a place on, so many
+-- the characters from a place on, n
 abbrev characters : List ℕ → ℕ → ℕ → List ℕ
 characters text at zero = []
 characters text at (suc count) = get_or text at 0 ∷ characters text (at + 1) count

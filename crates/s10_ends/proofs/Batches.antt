@@ -1,4 +1,4 @@
--- The parts of a round.
+-- The parts of a batch.
 use Rattle.std.proofs.Common.{◌≡◌, ℕ, ◌<◌, ◌≤◌, List, [], ◌∷◌, ◌++◌, length, length-append, Option, Some, None, Result, Ok, Err, refl, sym, ap, subst, inl, inr, arith}
 use Rattle.std.specs.Prelude.{IsErrAnd}
 use Rattle.s10_link.specs.declared.trace.Trace.{Trace}
@@ -21,7 +21,7 @@ no_push [] x wrong = absurd cc
 no_push (y ∷ xs) x wrong = absurd cc
 
 module _ {B : Type 0} (Handled : B → B → List ℕ → Answer → Type 0) (most : ℕ) (old : Trace × B) where
-  -- so many were taken
+  -- n were taken
   pub taken_all : (new : Trace × B) (taken : List Exchange) → ReceivesAll Handled old taken new → length taken ≡ most → ReceivesBatch Handled most old new taken (Ok tt)
   taken_all new taken takes many = record { handled = new; takes = takes; ends = inl (many, refl); same = refl }
 
@@ -44,7 +44,7 @@ module _ {B : Type 0} (Handled : B → B → List ℕ → Answer → Type 0) (mo
         let here : ReceivesBatch Handled most old new taken (Err fault) = record { handled = between; takes = takes; ends = (few, count_receive.0); same = count_receive.1 } in
         subst P (sym (same_error ended fault passed)) here
 
--- a round has a turn
+-- a batch has a turn
 pub turns_some : (ended : Result (Unit {0}) LinkFault) (answered : List Turn) → 1 ≤ length (turns_of_batch ended answered)
 turns_some (Err fault) answered = omega (arith, length-append answered (Err fault ∷ []))
 turns_some (Ok _) [] = omega arith
@@ -58,12 +58,12 @@ turns_at_most most taken old new (Err fault) answered ends some few many =
 turns_at_most most taken old new (Ok _) [] ends some few many = some
 turns_at_most most taken old new (Ok _) (turn ∷ answered) ends some few many = omega arith
 
--- and so many at most as it may take
+-- and at most n as it may take
 pub turns_few : {B : Type 0} (Handled : B → B → List ℕ → Answer → Type 0) (most : ℕ) (old new : Trace × B) (taken : List Exchange) (ended : Result (Unit {0}) LinkFault) (answered : List Turn)
     → ReceivesBatch Handled most old new taken ended → 1 ≤ most → length taken ≤ most → length answered ≡ length taken → length (turns_of_batch ended answered) ≤ most
 turns_few Handled most old new taken ended answered batch some few many = turns_at_most most taken batch.handled.0 new.0 ended answered batch.ends some few many
 
--- rounds of one datagram at most
+-- batches of one datagram at most
 module _ {B : Type 0} (faults : B → Faults) (honest : B → Type 0) (terms : B → Terms) (history committed : B → List Entry) (day : ℕ) (old between : Trace × B) where
   abbrev Handled : B → B → List ℕ → Answer → Type 0
   Handled before after b answer = Handles faults honest terms history before after day b answer

@@ -87,7 +87,7 @@ has_issue h q day x call =
     let P : Request → Type 0 = λ r. Contains (issues_of h) (record { id = x; day = day; customer = r.customer; number = r.number; arrival = issue.0 }) in
     (issue.0, subst P call.own issue.1)
 
--- the text at a place among texts one behind the other
+-- the text at a place among texts one after the other
 spelled_among : (day : ℕ) (ids : List Id) (place : ℕ) (c : ℕ × Id) → slice_get (map (λ x. (day, x)) ids) place ≡ Some c → All IsId ids → Spells (take 13 (drop (13 * place) (spellings_of ids))) c.1
 spelled_among day [] place c there ok = absurd (none-some c there)
 spelled_among day (x ∷ xs) zero c there ok =

@@ -1,4 +1,4 @@
--- What calls over a near link make of the book behind it.
+-- What calls over a near link make of the book after it.
 use Rattle.std.proofs.Common.{◌≡◌, ◌≢◌, ◌∙◌, refl, sym, ap, subst, ℕ, List, [], ◌∷◌, ◌++◌, Result, Ok, Err, inl, inr, arith}
 use Rattle.std.proofs.lemmas.List.Elements.{All-nil, All-push}
 use Rattle.s10_link.specs.declared.trace.Trace.{Trace}
@@ -89,7 +89,7 @@ module _ {B F N : Type 0} (faults : B → Faults) (honest : B → Type 0) (terms
       let received = still day book batch.takes.handled.1 batch.between.1 taken_led batch.takes.same in
       answered day book batch.between.1 new.1 batch.taken batch.answers.commit_result received batch.answers.settles batch.answers.unasked
 
-  -- with no fault all calls are settled
+  -- with no fault all calls are committed
   abbrev pub Whole : B → Type 0
   Whole book = honest book → faults book ≡ no_faults → committed book ≡ history book
 
@@ -136,7 +136,7 @@ module _ {B F N : Type 0} (faults : B → Faults) (honest : B → Type 0) (terms
     | inr w ↦ subst Whole (sym (ap (λ (s : Server B). book_of s) w.3)) whole
   ]
 
-  -- all its calls are settled after calls over the link, unless there was a fault
+  -- all its calls are committed after calls over the link, unless there was a fault
   pub near_whole : (old new : NearLink B F N) → LeadsTo Step old new → Whole (book_of old.server) → Whole (book_of new.server)
   near_whole old _ none whole = whole
   near_whole old new (more {between = between} led step) whole = stepped_whole between new step (near_whole old between led whole)

@@ -1,4 +1,4 @@
--- The replies of a round stand in the settled calls.
+-- The replies of a batch stand in the committed calls.
 use Rattle.std.proofs.Common.{◌≡◌, ◌≢◌, ◌∙◌, refl, sym, ap, subst, ℕ, Bool, false, List, [], ◌∷◌, ◌++◌, map, Option, Result, Ok, Err, inl, inr}
 use Rattle.std.specs.Prelude.{◌↔◌, IsTrue, All, OnOk}
 use Rattle.std.specs.List.{AllZip}
@@ -31,7 +31,7 @@ use Rattle.s10_ends.specs.Batch.AnswersAll.{none as answered_none, more as answe
 use Rattle.s10_ends.proofs.Whole.{Served-nil, Served-push}
 use Rattle.s10_ends.proofs.Batches.{no_push}
 
--- what bytes ask is settled where the call of their request is
+-- what bytes ask is committed where the call of their request is
 pub own_settled : (committed h : List Entry) (b : List ℕ) (q : Request) (answer : Bool) → Asks b q → (IsTrue answer ↔ IsCommittedCall committed h q.customer q.number) → IsTrue answer ↔ AsksCommitted committed h b
 own_settled committed h b q answer asks decides =
     let P : Request → Type 0 = λ r. IsCommittedCall committed h r.customer r.number in
@@ -48,7 +48,7 @@ taken_answered : (h : List Entry) (day : ℕ) (ts : List Exchange) → AllZip (�
 taken_answered h day [] all = All-nil (IsTakenAnswered h)
 taken_answered h day (t ∷ ts) all = All-cons (IsTakenAnswered h) t ts all.0 (taken_answered h day ts all.1)
 
--- what holds of all and of one behind them
+-- what holds of all and of one after them
 first_of : {X : Type 0} (P : X → Type 0) (xs : List X) (x : X) → All P (xs ++ x ∷ []) → All P xs
 first_of P [] x all = All-nil P
 first_of P (y ∷ ys) x all = All-cons P y ys (All-head P y (ys ++ x ∷ []) all) (first_of P ys x (All-tail P y (ys ++ x ∷ []) all))
@@ -104,7 +104,7 @@ module _ (Honest : Type 0) (committed h : List Entry) (at : Honest) where
       (all_stand commit_result old between ts answered (λ it. done some) (first_of (IsTakenAnswered h) ts next owed) before)
       (turn_stands between new commit_result next.from next.packet next.answer turn (done some) (last_of (IsTakenAnswered h) ts next owed) answers)
 
--- the turns of a round are those of its datagrams, and one in which none came
+-- the turns of a batch are those of its datagrams, and one in which none came
 told : (committed : List Entry) (ended : Result (Unit {0}) LinkFault) (answered : List Turn) → All (IsSentCommitted committed) answered → All (IsSentCommitted committed) (turns_of_batch ended answered)
 told committed (Err fault) answered all = All-push (IsSentCommitted committed) answered (Err fault) all tt
 told committed (Ok _) [] all = All-cons (IsSentCommitted committed) (Ok turns.Quiet) [] tt all
@@ -139,13 +139,13 @@ module _ {B : Type 0} (faults : B → Faults) (honest : B → Type 0) (terms : B
             (Served-push (history old.1) (history between.1) (history new.1) (terms old.1) (packets ts) (answers_of ts) (next.packet, day) next.answer before.served (subst P before.same_terms (one.served h))));
       }
 
-  -- where nothing was taken, or the calls were settled
+  -- where nothing was taken, or the calls were committed
   honest_before : (old new : B) (ts : List Exchange) (commit_result : Result (Unit {0}) BookFault) → (ts ≢ [] → Commits faults honest terms history committed old new commit_result) → (ts ≡ [] → new ≡ old)
       → honest new → honest old × (history new ≡ history old)
   honest_before old new [] commit_result settles same h = (subst honest (same refl) h, ap history (same refl))
   honest_before old new (t ∷ ts) commit_result settles same h = let kept = (settles (λ e. absurd cc)).unchanged in (kept.was_honest h, kept.same_history h)
 
-  -- each reply that a round sent stands in the calls that it left settled
+  -- each reply that a batch sent stands in the calls that it left committed
   pub round_stands : (most : ℕ) (old new : Trace × B) (turns : List Turn) → ServesBatch faults honest terms history committed day most old new turns → honest new.1 → All (IsSentCommitted (committed new.1)) turns
   round_stands most old new turns batch h =
       let before = honest_before batch.between.1 new.1 batch.taken batch.answers.commit_result batch.answers.settles batch.answers.unasked h in
@@ -156,6 +156,6 @@ module _ {B : Type 0} (faults : B → Faults) (honest : B → Type 0) (terms : B
       let all = all_stand (honest new.1) (committed new.1) (history new.1) h batch.answers.commit_result batch.between.0 new.0 batch.taken batch.answered (λ some. (batch.answers.settles some).done h) owed batch.answers.answers in
       subst (λ (l : List Turn). All (IsSentCommitted (committed new.1)) l) (sym batch.are) (told (committed new.1) batch.ended batch.answered all)
 
-  -- and so does the one of a round of one turn
+  -- and so does the one of a batch of one turn
   pub turn_of_round : (old new : Trace × B) (turn : Turn) → ServesBatch faults honest terms history committed day 1 old new (turn ∷ []) → honest new.1 → IsSentCommitted (committed new.1) turn
   turn_of_round old new turn batch h = All-head (IsSentCommitted (committed new.1)) turn [] (round_stands 1 old new (turn ∷ []) batch h)

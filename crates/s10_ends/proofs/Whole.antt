@@ -38,7 +38,7 @@ firsts_at true seen p ps qs here new = here
 firsts_at false seen p ps qs here new =
     ap (λ l. p ∷ l) (new ∙ ap (λ s. first_arrivals (seen ++ p.0 ∷ []) ps ++ first_arrivals s qs) (append_assoc seen (p.0 ∷ []) (asking (first_arrivals (seen ++ p.0 ∷ []) ps))))
 
--- the first ones of two lists, one behind the other
+-- the first ones of two lists, one after the other
 pub first_arrivals-append : (seen : List Request) (ps qs : List (Request × ℕ)) → first_arrivals seen (ps ++ qs) ≡ first_arrivals seen ps ++ first_arrivals (seen ++ asking (first_arrivals seen ps)) qs
 first_arrivals-append seen [] qs = ap (λ s. first_arrivals s qs) (sym (append-nil seen))
 first_arrivals-append seen (p ∷ ps) qs = firsts_at (list_any (same_key p.0) seen) seen p ps qs (first_arrivals-append seen ps qs) (first_arrivals-append (seen ++ p.0 ∷ []) ps qs)

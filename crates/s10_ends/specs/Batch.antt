@@ -1,4 +1,4 @@
--- What a server makes of the datagrams that have come at once: it takes them, settles their calls, and only then replies.
+-- What a server makes of the datagrams that have come at once: it takes them, commits their calls, and only then replies.
 use Rattle.std.specs.Prelude.{◌≡◌, ◌≢◌, ◌⊎◌, ℕ, ⊤, ◌<◌, List, [], ◌∷◌, ◌++◌, length, Some, Result, Ok, Err}
 use Rattle.s10_link.specs.declared.trace.Trace.{Trace}
 use Rattle.s10_link.specs.declared.link_fault.LinkFault.{LinkFault}
@@ -14,18 +14,18 @@ use Rattle.s10_ends.specs.declared.server_turn.ServerTurn.TheVariants as turns
 use Rattle.s10_ends.specs.Served.{IsReplyIn}
 use Rattle.s10_ends.specs.Turn.{Turn, Handles, Commits, Takes, AsksCommitted, Answers}
 
--- datagrams were taken one after another, from a link's trace and the server's book to those behind the last one
+-- datagrams were taken one after another, from a link's trace and the server's book to those after the last one
 pub data ReceivesAll {B : Type 0} (Handled : B → B → List ℕ → Answer → Type 0) : Trace × B → List Exchange → Trace × B → Type 0 where
   none : {at : Trace × B} → ReceivesAll Handled at [] at
   more : {old between new : Trace × B} {taken : List Exchange} {next : Exchange}
       → ReceivesAll Handled old taken between → Takes Handled between new (Ok (Some next)) → ReceivesAll Handled old (taken ++ next ∷ []) new
 
--- why no more were taken: so many had come, nothing more had, or a receive failed
+-- why no more were taken: n had come, nothing more had, or a receive failed
 abbrev pub EndsReceiving : ℕ → List Exchange → Trace → Trace → Result (Unit {0}) LinkFault → Type 0
 EndsReceiving most taken old new (Ok _) = ((length taken ≡ most) × (new ≡ old)) ⊎ (new ≡ after_call old)
 EndsReceiving most taken old new (Err fault) = (length taken < most) × Receives old new (Err fault)
 
--- so many datagrams at most were taken, and no more for that reason
+-- n datagrams at most were taken, and no more for that reason
 pub record ReceivesBatch {B : Type 0} (Handled : B → B → List ℕ → Answer → Type 0) (most : ℕ) (old new : Trace × B) (taken : List Exchange) (ended : Result (Unit {0}) LinkFault) : Type 0 where
   pub handled : Trace × B
   pub takes : ReceivesAll Handled old taken handled
@@ -39,26 +39,26 @@ pub data AnswersAll (Honest : Type 0) (IsCommitted : List ℕ → Type 0) (commi
       → AnswersAll Honest IsCommitted commit_result old taken answered between → Answers Honest IsCommitted between new commit_result next.from next.packet next.answer turn
       → AnswersAll Honest IsCommitted commit_result old (taken ++ next ∷ []) (answered ++ turn ∷ []) new
 
--- the turns of a round: those of the datagrams, and behind them a receive that failed; or that nothing came
+-- the turns of a batch: those of the datagrams, and after them a receive that failed; or that nothing came
 abbrev pub turns_of_batch : Result (Unit {0}) LinkFault → List Turn → List Turn
 turns_of_batch (Err fault) answered = answered ++ Err fault ∷ []
 turns_of_batch (Ok _) [] = Ok turns.Quiet ∷ []
 turns_of_batch (Ok _) (turn ∷ answered) = turn ∷ answered
 
--- a reply that was sent stands in the settled calls
+-- a reply that was sent stands in the committed calls
 abbrev pub IsSentCommitted : List Entry → Turn → Type 0
 IsSentCommitted committed (Ok (turns.Replied to frame)) = IsReplyIn committed frame
 IsSentCommitted committed turn = ⊤
 
 module _ {B : Type 0} (faults : B → Faults) (honest : B → Type 0) (terms : B → Terms) (history committed : B → List Entry) where
-  -- the calls of what was taken were settled, and only then was it answered; where nothing was taken the book is as it was
+  -- the calls of what was taken were committed, and only then was it answered; where nothing was taken the book is as it was
   pub record CommitsAndReplies (old new : Trace × B) (taken : List Exchange) (answered : List Turn) : Type 0 where
     pub commit_result : Result (Unit {0}) BookFault
     pub settles : taken ≢ [] → Commits faults honest terms history committed old.1 new.1 commit_result
     pub unasked : taken ≡ [] → new.1 ≡ old.1
     pub answers : AnswersAll (honest new.1) (AsksCommitted (committed new.1) (history new.1)) commit_result old.0 taken answered new.0
 
-  -- so many datagrams at most were taken and handled on the day, their calls settled, and then they were answered
+  -- n datagrams at most were taken and handled on the day, their calls committed, and then they were answered
   pub record ServesBatch (day most : ℕ) (old new : Trace × B) (turns : List Turn) : Type 0 where
     pub taken : List Exchange
     pub between : Trace × B

@@ -34,12 +34,12 @@ failures_of Send = 1
 failures_of Spent = 0
 failures_of Bind = 0
 
--- each call of the link took a datagram, but for so many
+-- each call of the link took a datagram, but for n
 abbrev pub TookAllBut : Trace → Trace → ℕ → Type 0
 TookAllBut old new n = new.calls + old.received ≡ old.calls + n + new.received
 
--- how the tries ended whose frame was sent: quiet ones when nothing came, full ones after eight datagrams, and so many were cut
--- short, by their reply or by a fault; so many calls of the link failed
+-- how the tries ended whose frame was sent: quiet ones when nothing came, full ones after eight datagrams, and n were cut
+-- short, by their reply or by a fault; n calls of the link failed
 pub record Ended (old new : Trace) (sends cut failed : ℕ) : Type 0 where
   pub quiet : ℕ
   pub full : ℕ
@@ -60,7 +60,7 @@ pub record SentOnly (old new : Trace) (p : Peer × Frame) (n : ℕ) : Type 0 whe
   pub given : 0 < n → new.given ≡ Some p
   pub alike : 0 < n → n ≤ new.alike
 
--- n tries were made, each a send and one to eight receives, of which none failed; so many of them were cut short
+-- n tries were made, each a send and one to eight receives, of which none failed; a given number of them were cut short
 pub record Tried (old new : Trace) (p : Peer × Frame) (n cut : ℕ) : Type 0 where
   pub sent : SentOnly old new p n
   pub ended : Ended old new n cut 0
@@ -68,7 +68,7 @@ pub record Tried (old new : Trace) (p : Peer × Frame) (n cut : ℕ) : Type 0 wh
   pub most : new.calls ≤ old.calls + 9 * n
   pub failures : new.failures ≡ old.failures
 
--- a call of the link was refused with the fault, in one of so many tries
+-- a call of the link was refused with the fault, in one of n tries
 pub record Stopped (old new : Trace) (p : Peer × Frame) (tries : ℕ) (fault : LinkFault) : Type 0 where
   pub sent : (n cut : ℕ) × (n < tries + cut) × IsCut fault cut × SentOnly old new p n × Ended old new n cut (failures_of fault)
   pub most : new.calls ≤ old.calls + 9 * tries
@@ -93,7 +93,7 @@ Calls c c' t t' to body tries (Err (Link q fault)) =
     IsOver c c' body × (q ≡ next_request c body)
     × (frame : Frame) × Asks frame q × Stopped t t' (to, frame) tries fault
 
--- receives of one try: at most eight, with so many failures
+-- receives of one try: at most eight, with n failures
 pub record Heard (old new : Trace) (failed : ℕ) : Type 0 where
   pub most : new.calls ≤ old.calls + 8
   pub failures : new.failures ≡ old.failures + failed

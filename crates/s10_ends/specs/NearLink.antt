@@ -1,4 +1,4 @@
--- What calls make of a near link and of the server behind it.
+-- What calls make of a near link and of the server after it.
 use Rattle.std.specs.Prelude.{◌≡◌, ◌⊎◌, ℕ, List, [], ◌∷◌, All}
 use Rattle.s10_wire.specs.declared.frame.Frame.{Frame}
 use Rattle.s10_link.specs.declared.peer.Peer.{Peer}

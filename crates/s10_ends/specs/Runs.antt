@@ -24,7 +24,7 @@ use Rattle.s10_ends.specs.Served.{Dated}
 abbrev pub dated : Delivery → Dated
 dated d = (d.packet, d.day)
 
--- whether the answer is want of memory
+-- whether the answer is lack of memory
 abbrev pub is_memory : Answer → Bool
 is_memory (Faulted Memory) = true
 is_memory answer = false
@@ -58,7 +58,7 @@ abbrev pub HasIssue : List Entry → Id → ℕ → Request → Type 0
 HasIssue h x day q = (arrival : ℕ) × Contains (issues_of h) (record { id = x; day = day; customer = q.customer; number = q.number; arrival = arrival })
 
 -- the bytes in which a reply to a request of the kind has the text of the identifier that it carries at that place, counted
--- from 0: thirteen for each, behind the request, the outcome byte and the day
+-- from 0: thirteen for each, after the request, the outcome byte and the day
 abbrev pub text_at : List ℕ → Kind → ℕ → List ℕ
 text_at b kind place = take 13 (drop (request_length kind + 5 + 13 * place) b)
 

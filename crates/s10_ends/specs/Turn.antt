@@ -38,14 +38,14 @@ pub record Handles {B : Type 0} (faults : B → Faults) (honest : B → Type 0) 
   pub served : honest new → Served (history old) (terms old) ((b, day) ∷ []) (answer ∷ []) (history new)
   pub unchanged : honest new → UnlessReply answer (history new ≡ history old)
 
--- what settling its calls makes of the server's book
+-- what committing its calls makes of the server's book
 pub record Commits {B : Type 0} (faults : B → Faults) (honest : B → Type 0) (terms : B → Terms) (history committed : B → List Entry) (old new : B) (result : Result (Unit {0}) BookFault) : Type 0 where
   pub counts : CountsResult result (faults old) (faults new)
   pub unchanged : Unchanged history terms honest old new
   pub done : honest new → OnOk result (committed new ≡ history new)
   pub left : honest new → OnErr result (committed new ≡ committed old)
 
--- a receive, and what the server made of the datagram that came: from a link's trace and the server's book to those behind it
+-- a receive, and what the server made of the datagram that came: from a link's trace and the server's book to those after it
 abbrev pub Takes : {B : Type 0} → (B → B → List ℕ → Answer → Type 0) → Trace × B → Trace × B → Result (Option Exchange) LinkFault → Type 0
 Takes Handled old new (Ok None) = (new.0 ≡ after_call old.0) × (new.1 ≡ old.1)
 Takes Handled old new (Ok (Some taken)) = (new.0 ≡ after_datagram old.0 (taken.from, taken.packet)) × Handled old.1 new.1 taken.packet taken.answer
@@ -64,17 +64,17 @@ SendsReply old new to frame turn = (sent : SendResult) × Sends old new (to, fra
 abbrev pub WithholdsReply : Trace → Trace → Peer → BookFault → Turn → Type 0
 WithholdsReply old new to fault turn = (new ≡ old) × (turn ≡ Ok (turns.Uncommitted to fault))
 
--- the settled calls have what the history has under the key of what the bytes ask
+-- the committed calls have what the history has under the key of what the bytes ask
 abbrev pub AsksCommitted : List Entry → List Entry → List ℕ → Type 0
 AsksCommitted committed h b = (q : Request) × Asks b q × IsCommittedCall committed h q.customer q.number
 
 module _ (Honest : Type 0) (IsCommitted : List ℕ → Type 0) where
-  -- a reply to bytes is sent once the calls are settled; where that failed it is sent if its own call is settled, and else held back
+  -- a reply to bytes is sent once the calls are committed; where that failed it is sent if its own call is committed, and else held back
   abbrev pub SendsCommitted : Trace → Trace → Result (Unit {0}) BookFault → Peer → List ℕ → Frame → Turn → Type 0
   SendsCommitted old new (Ok _) to b frame turn = SendsReply old new to frame turn
   SendsCommitted old new (Err fault) to b frame turn = ((Honest → IsCommitted b) × SendsReply old new to frame turn) ⊎ ((Honest → ¬ (IsCommitted b)) × WithholdsReply old new to fault turn)
 
-  -- what the peer of bytes gets, by what became of them, and of the settling
+  -- what the peer of bytes gets, by what became of them, and of the commit
   abbrev pub Answers : Trace → Trace → Result (Unit {0}) BookFault → Peer → List ℕ → Answer → Turn → Type 0
   Answers old new commit_result to b (Reply frame) turn = SendsCommitted old new commit_result to b frame turn
   Answers old new commit_result to b (Dropped fault) turn = (new ≡ old) × (turn ≡ Ok (turns.Dropped to fault))

@@ -1,4 +1,4 @@
-//! One round of a server on a link.
+//! One batch of a server on a link.
 
 ghost use Rattle.std.specs.Prelude.{◌≡◌, ◌≤◌, ◌+◌, [], length, All, IfOk, OnErr, vec_capacity, Ok};
 ghost use Rattle.s10_ends.specs.Server.{book_of};
@@ -13,9 +13,9 @@ use s10_book::GroupCommit;
 use s10_link::{Link, LinkFault};
 use std::alloc::{AllocError, Global};
 
-/// Takes the datagram that comes next and those that have come by then, so many at most, settles their calls at once, and
+/// Takes the datagram that comes next and those that have come by then, at most n, commits their calls at once, and
 /// only then sends the replies, each to the peer that it is owed to. Answers what became of each; where the calls could not be
-/// settled, each reply whose own call is not is held back, and told as Unsettled. Where there is no room for that nothing is done.
+/// committed, each reply whose own call is not is held back, and reported as Uncommitted. Where there is no room for that nothing is done.
 pub fn serve_batch<B: GroupCommit, L: Link>(
     alloc: Global,
     server: &mut Server<B>,
@@ -39,7 +39,7 @@ pub fn serve_batch<B: GroupCommit, L: Link>(
     Ok(turns)
 }
 
-// Settles the calls of what was taken, if anything was, and answers it.
+// Commits the calls of what was taken, if anything was, and answers it.
 fn commit_and_reply<B: GroupCommit, L: Link>(
     server: &mut Server<B>,
     link: &mut L,

@@ -58,7 +58,7 @@ fn handle_packet<B: Book>(server: &mut Server<B>, packet: Packet, day: u32) -> A
     server.handle(packet.bytes(), day)
 }
 
-// Datagrams up to so many: the first that comes in time, and those that have come by then.
+// Datagrams up to n: the first that comes in time, and those that have come by then.
 pub(crate) fn receive_batch<B: Book, L: Link>(
     server: &mut Server<B>,
     link: &mut L,

@@ -13,7 +13,7 @@ use s10_book::{BookFault, GroupCommit};
 use s10_link::{Link, Peer};
 use s10_wire::Frame;
 
-// Answers the peer of a datagram, once its call is settled or could not be.
+// Answers the peer of a datagram, once its call is committed or could not be.
 pub(crate) fn answer<B: GroupCommit, L: Link>(
     link: &mut L,
     server: &Server<B>,
@@ -30,7 +30,7 @@ pub(crate) fn answer<B: GroupCommit, L: Link>(
     }
 }
 
-// Sends a reply back to the peer, if its call is settled.
+// Sends a reply back to the peer, if its call is committed.
 fn send_committed<B: GroupCommit, L: Link>(
     link: &mut L,
     server: &Server<B>,

@@ -161,15 +161,15 @@ impl<B: GroupCommit> Server<B> {
     ghost use Rattle.s10_ends.specs.Server.{book_of};
     ghost use Rattle.s10_ends.specs.Turn.{AsksCommitted, Commits};
 
-    /// Settles the calls of the book, so that their replies may be sent. A fault leaves the history as it was, and the next
-    /// settling takes those calls too.
+    /// Commits the calls of the book, so that their replies may be sent. A fault leaves the history as it was, and the next
+    /// commit takes those calls too.
     pub fn commit(&mut self) -> Result<(), BookFault>
         ensures { Commits B.faults B.honest B.terms B.history B.committed (book_of self.old) (book_of self.new) result }
     {
         self.book.commit()
     }
 
-    /// Whether the bytes ask for a call that is settled, so that its reply may be sent though others could not be.
+    /// Whether the bytes ask for a call that is committed, so that its reply may be sent though others could not be.
     pub fn is_committed(&self, bytes: &[u8]) -> bool
         ensures { B.honest (book_of self.now) → (IsTrue result ↔ AsksCommitted (B.committed (book_of self.now)) (B.history (book_of self.now)) bytes.now) }
     {

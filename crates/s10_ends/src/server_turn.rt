@@ -11,8 +11,8 @@ pub enum ServerTurn {
     Dropped(Peer, WireFault),
     /// The request was not answered, and may be handed in again.
     Faulted(Peer, BookFault),
-    /// The call could not be settled, so its reply was not sent. The request may be handed in again, and gets its reply once
-    /// the call is settled.
+    /// The call could not be committed, so its reply was not sent. The request may be handed in again, and gets its reply once
+    /// the call is committed.
     Uncommitted(Peer, BookFault),
     /// This frame was sent back to the peer.
     Replied(Peer, Frame),

@@ -13,7 +13,7 @@ use s10_link::Link;
 
 /// A round of one datagram at most, for which no room is needed: one receive, and at most one send. Refused with Receive, or
 /// with Spent where the link can count no further receive, which leaves the server as it was; with Send, or with Spent
-/// where the link sends no more, behind a datagram that was handled with a reply.
+/// where the link sends no more, after a datagram that was handled with a reply.
 pub fn serve_one<B: GroupCommit, L: Link>(server: &mut Server<B>, link: &mut L, day: u32) -> Turn
     ensures served { ServesBatch B.faults B.honest B.terms B.history B.committed day 1
         (L.trace_of link.old, book_of server.old) (L.trace_of link.new, book_of server.new) (result ∷ []) }

@@ -37,7 +37,7 @@ impl UdpLink {
     ghost use Rattle.s10_link.specs.Trace.{new_trace};
     ghost use Rattle.s10_link.specs.Link.{Receives};
 
-    /// A socket at this address, where port 0 lets the system pick one. A receive waits so many
+    /// A socket at this address, where port 0 lets the system pick one. A receive waits n
     /// milliseconds at most; 0 is taken as 1. Refused with Bind alone.
     pub fn bind<N: Net>(net: &N, at: Peer, wait_ms: u32) -> Result<UdpLink, LinkFault>
         ensures ok { IfOk result (λ link. link.trace ≡ new_trace) }

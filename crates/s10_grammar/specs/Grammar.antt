@@ -152,7 +152,7 @@ abbrev pub AddsCommand : Result Command AllocError → Result Command AllocError
 AddsCommand old subcommand new = (app : App) (shape : Shape) → IfReads old app → IfOk subcommand (λ built. ReadsAs built shape)
     → IfReads new (with_subcommand app shape)
 
--- how a parse of the words ends: with the matches of the grammar, or with a fault that it gives at them, or for want of memory
+-- how a parse of the words ends: with the matches of the grammar, or with a fault that it gives at them, or for lack of memory
 pub record Parses (words : List Text) (parsed : Result ArgMatches Error) : Type 0 where
   pub own : IfOk parsed (λ matches. rows_of (found_of matches) ≡ matches_of grammar words)
   pub named : IfOk parsed (λ matches. subcommand_rows_of matches ≡ subcommand_of grammar words)

@@ -1,11 +1,11 @@
--- The serials of a range behind one of its own, going round.
+-- The serials of a range after one of its own, wrapping around.
 use Rattle.std.proofs.Common.{◌≡◌, ℕ, zero, suc, ◌+◌, ◌-◌, ◌<◌, ◌≤◌, Option, Some, None, ◌⊎◌, inl, inr, arith}
 use Rattle.std.specs.Option.{unwrap_or, SomeIff}
 use Rattle.std.proofs.lemmas.Bool.{cases_eq, eq-eqb, ne_eqb}
 use Rattle.s10_history.specs.declared.range.Range.{Range}
 use Rattle.s10_history.specs.Issues.{serial_after, serial_after_steps, size_of}
 
--- the serial so many behind the mark, going round
+-- the serial n after the mark, wrapping around
 abbrev pub IsBehind : Range → ℕ → ℕ → ℕ → Type 0
 IsBehind r m k v = ((v ≡ m + k) × (m + k ≤ r.last)) ⊎ ((v + (r.last + 1 - r.first) ≡ m + k) × (r.last < m + k))
 
@@ -34,12 +34,12 @@ behind_apart r m i j u v low high lt few (inl a) (inr b) e = omega (arith, a.0, 
 behind_apart r m i j u v low high lt few (inr a) (inl b) e = omega (arith, a.1, b.1)
 behind_apart r m i j u v low high lt few (inr a) (inr b) e = omega (arith, a.0, b.0, e)
 
--- and the mark comes again behind all of them
+-- and the mark comes again after all of them
 pub behind_round : (r : Range) (m k v : ℕ) → r.first ≤ m → m ≤ r.last → k ≡ size_of r → IsBehind r m k v → v ≡ m
 behind_round r m k v low high e (inl w) = absurd (omega (arith, w.1, e))
 behind_round r m k v low high e (inr w) = omega (arith, w.0, e)
 
--- the serial so many behind, by its number
+-- the serial n after, by its number
 pub behind_low : (r : Range) (m k v : ℕ) → r.first ≤ m → m ≤ r.last → k < size_of r → m + k ≤ r.last → v ≡ m + k → v ≡ serial_after_steps r m k
 behind_low r m k v low high few le is =
     elim (behind r m k low high (omega (arith, few))) [

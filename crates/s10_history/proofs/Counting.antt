@@ -38,7 +38,7 @@ Counted-step p r low n b le is counted =
     ap (λ m. count_by p (range_with_len low m)) long ∙ sum_by-cons (λ s. cond (p s) 1 0) low rest ∙ ap (λ t. cond t 1 0 + count_by p rest) (sym is) in
     omega (arith, counted, split)
 
--- behind the last serial all are counted
+-- after the last serial all are counted
 pub Counted-all : (p : ℕ → Bool) (r : Range) (low n : ℕ) → r.last < low → Counted p r low n → n ≡ count_by p (serials r)
 Counted-all p r low n lt counted =
     let none : r.last + 1 - low ≡ 0 = omega arith in

@@ -30,7 +30,7 @@ pub last_issuance_of-step : (xs : List Issuance) (i : ℕ) (d : Issuance) (x : I
 last_issuance_of-step xs i d x b h e t =
     last_issuance_of-more xs i d x h ∙ ap (λ y. cond (is_of x y) (Some y) (last_issuance_of (take i xs) x)) (sym e) ∙ ap (λ c. cond c (Some d) (last_issuance_of (take i xs) x)) (sym t)
 
--- whether it is free is told by its day alone
+-- whether it is free is decided by its day alone
 pub free_last : (day interval : ℕ) (o : Option Issuance) (f : Issuance → Issue) → ((i : Issuance) → (f i).day ≡ i.day) → is_free_since day interval (option_map (λ (i : Issue). i.day) (option_map f o)) ≡ is_free_since day interval (option_map (λ (i : Issuance). i.day) o)
 free_last day interval None f same = refl
 free_last day interval (Some i) f same = ap (λ d. leb interval (day - d)) (same i)

@@ -45,7 +45,7 @@ pub chosen : {A : Type 0} (b : Bool) (x r : A) (o : Option A) → cond b (Some x
 chosen true x r o h = inl (refl, same_Some x r h)
 chosen false x r o h = inr (refl, h)
 
--- what is found is the first element, or it is found behind it
+-- what is found is the first element, or it is found after it
 pub find_cases : {A : Type 0} (p : A → Bool) (x r : A) (xs : List A) → find p (x ∷ xs) ≡ Some r → ((p x ≡ true) × (x ≡ r)) ⊎ ((p x ≡ false) × (find p xs ≡ Some r))
 find_cases p x r xs h = chosen (p x) x r (find p xs) h
 

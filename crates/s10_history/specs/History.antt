@@ -33,7 +33,7 @@ range_of_grant num (Grant holder service country first last) (Granted n) =
     Some (record { num = num; holder = holder; service = service; country = country; first = first; last = last })
 range_of_grant num body outcome = None
 
--- the range that a call made and those behind it, numbered on from it; where it made none, those behind it alone
+-- the range that a call made and those after it, numbered on from it; where it made none, those after it alone
 abbrev pub then_ranges : Option Range → List Range → List Range → List Range
 then_ranges None unmoved next = unmoved
 then_ranges (Some r) unmoved next = r ∷ next

@@ -51,11 +51,11 @@ voids_by x body outcome = false
 abbrev pub voids : Id → Entry → Bool
 voids x e = voids_by x e.request.body e.outcome
 
--- whether a Done Void of the identifier stands behind call number arrival
+-- whether a Done Void of the identifier follows call number arrival
 abbrev pub voided_after : ℕ → List Entry → Id → Bool
 voided_after arrival h x = list_any (voids x) (drop arrival h)
 
--- whether the identifier is voided: a Done Void of it stands behind its last issue
+-- whether the identifier is voided: a Done Void of it follows its last issue
 abbrev pub is_voided : List Entry → Id → Bool
 is_voided h x = unwrap_or (option_map (λ i. voided_after i.arrival h x) (last_issuance_of (issues_of h) x)) false
 
@@ -95,11 +95,11 @@ serial_issued_earliest r is = option_map (λ i. i.id.serial) (find (λ i. lies_i
 abbrev pub pick_of : List Issuance → Range → ℕ
 pick_of is r = unwrap_or (option_or (least_serial_unissued r is) (serial_issued_earliest r is)) r.first
 
--- the serial that the range gives behind that one: the next, or its first behind its last
+-- the serial that the range gives after that one: the next, or its first after its last
 abbrev pub serial_after : Range → ℕ → ℕ
 serial_after r serial = if serial == r.last then r.first else serial + 1
 
--- the pick of a range behind an issue of the identifier: where it lies in the range, the serial behind its own
+-- the pick of a range after an issue of the identifier: where it lies in the range, the serial after its own
 abbrev pub pick_after : Range → ℕ → Id → ℕ
 pick_after r pick x = if lies_in r x then serial_after r x.serial else pick
 
@@ -116,17 +116,17 @@ is_free is x day interval = is_free_since day interval (option_map (λ i. i.day)
 abbrev pub issue_of : Id → Issuance
 issue_of x = record { id = x; day = 0; customer = 0; number = 0; arrival = 0 }
 
--- the issues, and behind them so many of the range's own successive picks
+-- the issues, and after them n of the range's own successive picks
 abbrev pub with_picks : Range → List Issuance → ℕ → List Issuance
 with_picks r is zero = is
 with_picks r is (suc count) = with_picks r (is ++ issue_of (id_at r (pick_of is r)) ∷ []) count
 
--- the pick of the range behind so many issues of its own successive picks, with its last issue in the history
+-- the pick of the range after n issues of its own successive picks, with its last issue in the history
 abbrev pub candidate_after_of : List Entry → Range → ℕ → Candidate
 candidate_after_of h r issued =
     let serial = pick_of (with_picks r (issues_of h) issued) r in record { serial = serial; issue = last_issue_of h (id_at r serial) }
 
--- the serial so many behind that one
+-- the serial n after that one
 abbrev pub serial_after_steps : Range → ℕ → ℕ → ℕ
 serial_after_steps r serial zero = serial
 serial_after_steps r serial (suc count) = serial_after r (serial_after_steps r serial count)
@@ -135,7 +135,7 @@ serial_after_steps r serial (suc count) = serial_after r (serial_after_steps r s
 abbrev pub size_of : Range → ℕ
 size_of r = r.last + 1 - r.first
 
--- the identifier that the range gives behind so many picks of its own: none where each of its serials is among them, or
+-- the identifier that the range gives after n picks of its own: none where each of its serials is among them, or
 -- where that one is not free on the day
 abbrev pub free_pick_of : List Entry → Range → ℕ → ℕ → ℕ → Option Id
 free_pick_of h r issued day interval =

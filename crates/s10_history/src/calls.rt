@@ -18,7 +18,7 @@ pub fn find_in(entries: &[Entry], customer: u32, number: u32) -> Option<Entry>
         .copied()
 }
 
-/// Call number `at`, counted from 1, if there are so many.
+/// Call number `at`, counted from 1, if it exists.
 pub fn entry_in(entries: &[Entry], at: u32) -> Option<Entry>
     ensures { result ≡ entry_at entries.now at }
 {

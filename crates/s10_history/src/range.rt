@@ -29,7 +29,7 @@ impl Range {
         (self.last.value() + 1).saturating_sub(self.first.value())
     }
 
-    /// The serial that it gives so many behind one of its own, fewer than it has, going round: behind its last serial comes
+    /// The serial that it gives n after one of its own, fewer than it has, wrapping around: after its last serial comes
     /// its first again.
     pub fn serial_after(&self, serial: Serial, count: u8) -> Serial
         ensures { self.now.first ≤ serial → serial ≤ self.now.last → count < size_of self.now → result ≡ serial_after_steps self.now serial count }

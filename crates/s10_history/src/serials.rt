@@ -24,7 +24,7 @@ fn least_unissued(issues: &[Issuance], range: &Range) -> Option<Serial>
     None
 }
 
-// The serial of the first issue in the range that is not issued again behind it.
+// The serial of the first issue in the range that is not issued again after it.
 fn issued_earliest(issues: &[Issuance], range: &Range) -> Option<Serial>
     ensures { result ≡ serial_issued_earliest range.now issues.now }
 {

@@ -114,7 +114,7 @@ module _ {D : Type 0} {g : disk.Ghosts D} where
       })
 
 module _ (S : RattleType) (first : Ghosts S.Denot) where
-  -- a ledger that was made and put away, of which that was said then
+  -- a ledger that was made and closed, of which that was said then
   pub created : (terms : Terms) (was : FileConnection S first) (old between new : Option (List ℕ)) (done told : Result JobStatus WriteFault) (files : Option (ClosedFiles S first)) (link : Option BoundLink) (f : ClosedFiles S first)
       → files ≡ Some f → EndsOver (Create terms) was old between done files link
       → IfOk told (λ status. (status ≡ Done) × Appends between new (codes "created\n")) → HasCreated S first terms old new told files
@@ -129,7 +129,7 @@ module _ (S : RattleType) (first : Ghosts S.Denot) where
         refused = λ gone. absurd cc;
       }
 
-  -- one that was refused, or could not be put away
+  -- one that was refused, or could not be closed
   pub not_created : (terms : Terms) (was : FileConnection S first) (old new : Option (List ℕ)) (result : Result JobStatus WriteFault) (files : Option (ClosedFiles S first)) (link : Option BoundLink)
       → files ≡ None → IsFoundIn (image_at first) was → EndsOver (Create terms) was old new result files link → HasCreated S first terms old new result files
   not_created terms was old new result (Some f) link none found ends = absurd cc

@@ -1,4 +1,4 @@
--- What a loop leaves behind it.
+-- What a loop leaves.
 use Rattle.std.proofs.Common.{◌≡◌, sym, ap, subst, ℕ, List, [], ◌∷◌, ◌++◌, length, length-append, Option, Result, Ok, Err, arith}
 use Rattle.std.proofs.lemmas.List.{nil_from_length}
 use Rattle.std.specs.Prelude.{IfOk}

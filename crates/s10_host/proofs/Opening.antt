@@ -1,4 +1,4 @@
--- What a book says of the connection that it was made in or opened from, and of the files that it is put away in.
+-- What a book says of the connection that it was made in or opened from, and of the files that it is closed in.
 use Rattle.std.proofs.Common.{◌≡◌, ◌≢◌, ◌≤◌, ◌∙◌, ap, refl, sym, subst, arith, List, ◌++◌, append-nil, ℕ, Option, None, Result, Ok, Err}
 use Rattle.std.specs.Prelude.{IsTrue, [], IfOk, IfErr, IfSome}
 use Rattle.sqlite_disk.specs.declared.Disk.{Ghosts}

@@ -14,7 +14,7 @@ use Rattle.s10_jobs.specs.declared.job_status.JobStatus.{JobStatus}
 use Rattle.s10_jobs.specs.declared.job_status.JobStatus.TheVariants.{Done, Failed}
 use Rattle.s10_jobs.specs.Words.{open_fault_words}
 
--- the database is a ledger of so many calls, of this build or of an earlier one
+-- the database is a ledger of n calls, of this build or of an earlier one
 pub record HoldsCalls (db : Database) (count : ℕ) : Type 0 where
   pub terms : Terms
   pub len : ℕ
@@ -22,7 +22,7 @@ pub record HoldsCalls (db : Database) (count : ℕ) : Type 0 where
   pub ledger : IsAnyLedger db terms len day
   pub counted : count ≡ length (history_in db)
 
--- what is found of a database: so many kept calls, or why it is no ledger
+-- what is found of a database: n kept calls, or why it is no ledger
 abbrev pub IsFinding : Database → Result ℕ OpenFault → Type 0
 IsFinding db (Ok count) = HoldsCalls db count
 IsFinding db (Err fault) = IsOpeningRefusal db fault

@@ -73,7 +73,7 @@ module _ {S : Type 0} (g : Ghosts S) where
   IsBookJobRefusal (Report report) was left fault = IsRefusedLeft was left fault
 
 module _ {D : Type 0} {g : disk.Ghosts D} where
-  -- the work was done over a connection, and the ledger is put away in these files, or could not be put away
+  -- the work was done over a connection, and the ledger is closed in these files, or could not be closed
   pub record IsWorkedOver (work : BookJob) (was : Held (FileStore D g)) (old new : Option (List ℕ)) (result : Result JobStatus WriteFault) (files : Option (Files D)) (link : Option BoundLink) : Type 0 where
     pub closed : Held (FileStore D g)
     pub done : Result JobStatus WriteFault

@@ -1,4 +1,4 @@
--- Ledgers in files, as they are made, opened and put away.
+-- Ledgers in files, as they are made, opened and closed.
 use denote.RattleType.{RattleType}
 use Rattle.std.specs.Prelude.{◌≡◌, ◌⊎◌, false, []}
 use Rattle.sqlite_disk.specs.declared.Disk.{Ghosts}

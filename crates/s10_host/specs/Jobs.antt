@@ -40,7 +40,7 @@ ledger_line fault = line_of (codes "ledger") (open_fault_words fault)
 abbrev pub FailsByLedger : (OpenFault → Type 0) → Option (List ℕ) → Option (List ℕ) → JobStatus → Type 0
 FailsByLedger IsFault old new status = (status ≡ Failed) × (fault : OpenFault) × IsFault fault × Appends old new (ledger_line fault)
 
--- it was done so far, and then the ledger could not be put away
+-- it was done so far, and then the ledger could not be closed
 abbrev pub FailsByClosing : Result JobStatus WriteFault → Option (List ℕ) → Option (List ℕ) → Result JobStatus WriteFault → Type 0
 FailsByClosing done between new result = IfOk result (λ status. IsOk done × FailsByLedger (λ fault. fault ≡ Store) between new status)
 
@@ -61,7 +61,7 @@ IsRunOn day old new result looped =
     ⊎ ((day ≡ None) × (looped ≡ None) × IfOk result (λ status. (status ≡ Failed) × Appends old new (codes "clock\n")))
 
 module _ (S : RattleType) (first : Ghosts S.Denot) where
-  -- an empty ledger with these settings was made, and put away in these files
+  -- an empty ledger with these settings was made, and closed in these files
   pub record HasMadeLedger (terms : Terms) (files : ClosedFiles S first) : Type 0 where
     pub book : FileLedger S first
     pub settings : book.terms ≡ terms
@@ -74,14 +74,14 @@ module _ (S : RattleType) (first : Ghosts S.Denot) where
     pub told : IfSome files (λ _. IfOk result (λ status. (status ≡ Done) × Appends old new (codes "created\n")))
     pub refused : files ≡ None → IfOk result (FailsByLedger (IsNotMade S first) old new)
 
-  -- the ledger was served in turns, which are all that this link carried, and put away in these files
+  -- the ledger was served in turns, which are all that this link carried, and closed in these files
   pub record IsServed (opened : FileLedger S first) (day : Option ℕ) (count : ℕ) (old new : Option (List ℕ)) (result : Result JobStatus WriteFault) (link : BoundLink) (files : ClosedFiles S first) : Type 0 where
     pub served : FileLedger S first
     pub turns : Turns over_files day count opened served old new result link
     pub was_honest : IsHonest over_files served → IsHonest over_files opened
     pub away : PutsAway served files
 
-  -- it was served so, and could not be put away
+  -- it was served so, and could not be closed
   pub record IsLost (opened : FileLedger S first) (day : Option ℕ) (count : ℕ) (old new : Option (List ℕ)) (result : Result JobStatus WriteFault) (link : BoundLink) : Type 0 where
     pub served : FileLedger S first
     pub turned : Result JobStatus WriteFault
@@ -103,7 +103,7 @@ module _ (S : RattleType) (first : Ghosts S.Denot) where
       ⊎ (IsPeerText bind × IfOk result (FailsByLedger (IsNotOpened S first) old new))
       ⊎ (IsPeerText bind × (opened : FileLedger S first) × WhereClean (IsFoundBook (image_at first)) opened × IsUnlinked opened old new result files)
 
-  -- it was opened from the files and served; where the closed ones kept what they were given it was honest as it was put away, and so
+  -- it was opened from the files and served; where the closed ones kept what they were given it was honest as it was closed, and so
   -- it was honest as it was opened. Or there is no link, and the line says why
   pub record HasServed (bind : List ℕ) (day : Option ℕ) (count : ℕ) (old new : Option (List ℕ)) (result : Result JobStatus WriteFault) (files : Option (ClosedFiles S first)) (link : Option BoundLink) : Type 0 where
     pub served : IfSome link (λ l. (opened : FileLedger S first) × WhereClean (IsFoundBook (image_at first)) opened
@@ -115,14 +115,14 @@ module _ (S : RattleType) (first : Ghosts S.Denot) where
   Writes report opened reported old new result =
       IsHonest over_files reported → IfOk result (PrintsReport opened.faults reported.faults old new (report_lines report (history_of over_files opened) opened.terms))
 
-  -- and the ledger was put away in these files
+  -- and the ledger was closed in these files
   pub record IsReported (opened : FileLedger S first) (report : Report) (old new : Option (List ℕ)) (result : Result JobStatus WriteFault) (files : ClosedFiles S first) : Type 0 where
     pub reported : FileLedger S first
     pub written : Writes report opened reported old new result
     pub unchanged : Unchanged (λ (b : FileLedger S first). history_of over_files b) (λ b. b.terms) (IsHonest over_files) opened reported
     pub away : PutsAway reported files
 
-  -- or it could not be put away
+  -- or it could not be closed
   pub record IsReportedAndLost (opened : FileLedger S first) (report : Report) (old new : Option (List ℕ)) (result : Result JobStatus WriteFault) : Type 0 where
     pub reported : FileLedger S first
     pub done : Result JobStatus WriteFault

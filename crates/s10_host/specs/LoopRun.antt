@@ -1,4 +1,4 @@
--- What `loop` does over a ledger in memory, and what it leaves behind it.
+-- What `loop` does over a ledger in memory, and what it leaves.
 use Rattle.std.specs.Prelude.{◌≡◌, ◌⊎◌, ℕ, List, [], ◌∷◌, ◌++◌, codes, Option, None, Result, IfOk, IfSome}
 use Rattle.sqlite_trees.specs.declared.memory.MemStore.{MemStore}
 use Rattle.sqlite.specs.Held.{state}
@@ -57,7 +57,7 @@ pub record AreLoopResources (link : LoopLink) (looped : LoopResources) : Type 0 
   pub near : looped.near ≡ link.near
 
 -- the calls are all that a new link carried, of which this is left: what was served on the day is the history of the ledger, but for
--- calls that could not be settled, of which there are none where it had no fault; where
+-- calls that could not be committed, of which there are none where it had no fault; where
 -- the writer did not fail the lines of the calls were written
 pub record IsLoopRun (day : ℕ) (old new : Option (List ℕ)) (result : Result JobStatus WriteFault) (looped : LoopResources) : Type 0 where
   pub begun : LoopLink

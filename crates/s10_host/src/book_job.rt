@@ -29,7 +29,7 @@ use std::io::Write;
 pub enum BookJob {
     /// An empty one with these settings is made. Nothing is written.
     Create(Settings),
-    /// It is served at the address for so many turns, on the day that is given or on those of the clock.
+    /// It is served at the address for n turns, on the day that is given or on those of the clock.
     Serve {
         at: Peer,
         count: u32,

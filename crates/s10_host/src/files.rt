@@ -1,4 +1,4 @@
-//! Ledgers in files, whatever the files held: `S` stands for that.
+//! Ledgers in files, for any initial file contents: `S` stands for that.
 
 ghost use Rattle.std.specs.Prelude.{◌≡◌, false, IfOk, IfErr};
 ghost use Rattle.sqlite_wal.specs.Files.{image_at};
@@ -137,7 +137,7 @@ fn connect<S: Start>(rt: &HostRuntime, path: &str, start: S) -> Result<FileConne
 }
 
 // Says on standard error how large a file is whose opening takes a second or more: the store looks through it first, and
-// tells nobody meanwhile.
+// informs nobody meanwhile.
 fn eprint_size(rt: &HostRuntime, path: &str) {
     let Ok(metadata) = fs::metadata(rt, path) else {
         return;

@@ -1,4 +1,4 @@
-//! What a job leaves behind it.
+//! What a job leaves.
 
 use crate::files::ClosedFiles;
 use crate::loop_resources::LoopResources;

@@ -31,7 +31,7 @@ use sqlite::{Connection, FileStore, Files, Start};
 use sqlite_disk::Disk;
 use std::io::Write;
 
-/// What came of a job, and what it leaves behind it.
+/// What came of a job, and what it leaves.
 type JobEnd<S> = (Result<JobStatus, WriteFault>, JobResources<S>);
 
 /// What came of a task over the files of a ledger, the link that it was served on, and the files, where they were closed.
@@ -41,7 +41,7 @@ type FileJobEnd<D> = (
     Option<Files<D>>,
 );
 
-/// Does a job, and answers how it ended, and what it leaves behind it.
+/// Does a job, and answers how it ended, and what it leaves.
 pub fn run_job<S: Start, W: Write>(
     rt: &HostRuntime,
     job: &Job<'_>,
@@ -211,7 +211,7 @@ fn run_on_file<S: Start, W: Write>(
     }
 }
 
-// A ledger that was worked with is put away whatever came of that. A file that is refused is closed without the log that was made.
+// A ledger that was worked with is closed whatever came of that. A file that is refused is closed without the log that was made.
 // An audit leaves its files as they are: their last commits may stand in the log alone.
 fn run_and_close_file<D: Disk + Drop, W: Write>(
     rt: &HostRuntime,

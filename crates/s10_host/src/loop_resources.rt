@@ -1,4 +1,4 @@
-//! What a loop leaves behind it.
+//! What a loop leaves.
 
 use s10_ends::UdpLink;
 use sqlite::{Connection, MemStore};

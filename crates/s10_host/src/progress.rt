@@ -1,4 +1,4 @@
-//! What standard error is told while the ledger of a file is made or opened.
+//! What standard error shows while the ledger of a file is made or opened.
 
 use crate::book_job::BookJob;
 use crate::ledger_job::LedgerJob;

@@ -56,7 +56,7 @@ still_first : (b : Bool) → cond b Later First ≡ First → b ≡ false
 still_first true is = absurd (let e = is in cc)
 still_first false is = refl
 
--- what a range gives in its first turn, and not behind its last serial in the same call, was never issued
+-- what a range gives in its first turn, and not after its last serial in the same call, was never issued
 pub never_issued : (h : List Entry) (t : Terms) (e : Entry) (place : ℕ) (y : Issuance) (r : Range) → IsLegal h t → MayFollow h t e → slice_get (issues_at (1 + length h) e) place ≡ Some y → Contains (ranges_of h) r → lies_in r y.id ≡ true
     → lap_of (issues_of h) r ≡ First → is_issued (take place (issues_at (1 + length h) e)) (id_at r r.last) ≡ false → is_issued (issues_before place h e) y.id ≡ false
 never_issued h t e place y r legal may at there lies lap none =

@@ -30,7 +30,7 @@ use Rattle.s10_index.specs.RowsFrom.{range_rows_from, last_rows, serial_rows_fro
 
 -- ---- the issues of a history, parted at a call and at an issue of it
 
--- those of the calls from a place on stand behind the others
+-- those of the calls from a place on follow the others
 parted : (a : ℕ) (h : List Entry) (place : ℕ) → (front : List Issuance) × (issues_from a h ≡ front ++ issues_from (a + place) (drop place h))
 parted a h zero = ([], ap (λ n. issues_from n h) (omega arith))
 parted a [] (suc n) = ([], refl)
@@ -47,7 +47,7 @@ from_place h place e at =
     let one : place + 1 ≡ suc place = omega arith in
     drop-cons h place e (slice_get_within h place e at) ∙ ap (λ x. x ∷ drop (suc place) h) (get_or_from_slice_get h place e e at) ∙ ap (λ n. e ∷ drop n h) (sym one)
 
--- the issues of the calls behind one, and before them those of the call from a place on
+-- the issues of the calls after one, and before them those of the call from a place on
 abbrev pub issues_left : List Entry → ℕ → Entry → ℕ → List Issuance
 issues_left h place e at = drop at (issues_at (place + 1) e) ++ issues_from (place + 1 + 1) (drop (place + 1) h)
 
@@ -60,7 +60,7 @@ left_next h place e at i is = ap (λ l. l ++ issues_from (place + 1 + 1) (drop (
 pub left_none : (h : List Entry) (place : ℕ) (e : Entry) (at : ℕ) → length (issues_at (place + 1) e) ≤ at → issues_left h place e at ≡ issues_from (place + 1 + 1) (drop (place + 1) h)
 left_none h place e at past = ap (λ l. l ++ issues_from (place + 1 + 1) (drop (place + 1) h)) (drop_all at (issues_at (place + 1) e) past)
 
--- those of a call from a place on stand behind the others
+-- those of a call from a place on follow the others
 pub parted_at : (h : List Entry) (place : ℕ) (e : Entry) (at : ℕ) → slice_get h place ≡ Some e → (before : List Issuance) × (issues_of h ≡ before ++ issues_left h place e at)
 parted_at h place e at here =
     let front = parted 1 h place in
@@ -81,7 +81,7 @@ last_kept : (p : Issuance → Bool) (o : Option Issuance) (is : List Issuance) (
 last_kept p o [] l e = absurd (none-some l e)
 last_kept p o (x ∷ xs) l e = e
 
--- the last of what stands behind is the last of all
+-- the last of what follows is the last of all
 last_behind : (p : Issuance → Bool) (o : Option Issuance) (front is : List Issuance) (l : Issuance) → last_or None (filter p is) ≡ Some l → last_or o (filter p (front ++ is)) ≡ Some l
 last_behind p o [] is l e = last_kept p o (filter p is) l e
 last_behind p o (x ∷ front) is l e = at (p x) refl (last_behind p (Some x) front is l e) (last_behind p o front is l e)
@@ -90,7 +90,7 @@ last_behind p o (x ∷ front) is l e = at (p x) refl (last_behind p (Some x) fro
     at true does here past = rw does here
     at false fails here past = rw fails past
 
--- what is told of the last issue
+-- what is reported for the last issue
 told_last : (h : List Entry) (x : Id) (l : Issuance) → last_issuance_of (issues_of h) x ≡ Some l → last_issue_of h x ≡ Some (issue_in_history h x l)
 told_last h x l e =
     ap (λ (o : Option Issuance). option_map (λ (i : Issuance). record { day = i.day; voided = unwrap_or (option_map (λ (j : Issuance). voided_after j.arrival h x) o) false; customer = i.customer; number = i.number }) o) e
@@ -105,7 +105,7 @@ pairs_behind : (R : Issuance → Issuance → Type 0) (before : List Issuance) (
 pairs_behind R [] i behind pairs = λ k d lt. pairs 0 (suc k) d (omega arith) (omega arith)
 pairs_behind R (b ∷ bs) i behind pairs = pairs_behind R bs i behind (λ j k d lt lt'. pairs (suc j) (suc k) d (omega arith) (omega arith))
 
--- where the identifier is issued again behind, its last issue is on a later day
+-- where the identifier is issued again after, its last issue is on a later day
 issued_again : (h : List Entry) (t : Terms) (before behind : List Issuance) (i : Issuance) → IsLegal h t → issues_of h ≡ before ++ i ∷ behind → is_issued behind i.id ≡ true
     → (l : Issuance) × (last_issuance_of (issues_of h) i.id ≡ Some l) × (i.day + t.interval ≤ l.day)
 issued_again h t before behind i legal split again =
@@ -160,7 +160,7 @@ own_issue h t before behind i known legal pos split is own = by (is_issued behin
 
 -- ---- the rows so far
 
--- behind the last call there is none
+-- after the last call there is none
 pub none_behind : (h : List Entry) (place : ℕ) → length h ≤ place → serial_rows_from h place ≡ []
 none_behind h place past = ap (λ l. last_rows h (issues_from (place + 1) l)) (drop_all place h past)
 
@@ -173,11 +173,11 @@ pub no_more : {A : Type 0} (o : Option A) → ((x : A) → o ≡ Some x → ⊥)
 no_more None none = refl
 no_more (Some x) none = absurd (none x refl)
 
--- the rows so far are all where no others stand behind
+-- the rows so far are all where no others follow
 pub whole : {A : Type 0} (rows rest all : List A) → rest ≡ [] → rows ++ rest ≡ all → rows ≡ all
 whole rows rest all none before = sym (append-nil rows) ∙ ap (λ l. rows ++ l) (sym none) ∙ before
 
--- the row of a range stands before those of the ranges behind it
+-- the row of a range stands before those of the ranges after it
 pub range_row_next : (r : Ranges) (h : List Entry) (place : ℕ) (range : Range) (mark : Mark) (row : RangeRow) → Mirrors r h → slice_get r.ranges.items place ≡ Some range → slice_get r.marks.items place ≡ Some mark
     → row ≡ range_row mark.serial range → range_rows_from h place ≡ row ∷ range_rows_from h (place + 1)
 range_row_next r h place range mark row m at marked is =

@@ -1,4 +1,4 @@
--- The last issue of an identifier behind one more call.
+-- The last issue of an identifier after one more call.
 use Rattle.std.proofs.Common.{◌≡◌, ◌∙◌, ℕ, zero, suc, ◌+◌, ◌≤◌, Bool, true, false, cond, ◌||◌, List, [], ◌∷◌, ◌++◌, map, Option, Some, None, length, refl, sym, ap, ap₂, subst, arith, append-nil, length-append}
 use Rattle.std.specs.Prelude.{filter, All, slice_get}
 use Rattle.std.specs.List.{list_any, last_or}
@@ -66,13 +66,13 @@ same_voided zero h e x none = list_any-append (voids x) h (e ∷ []) ∙ or_none
 same_voided (suc n) [] e x none = ap (list_any (voids x)) (drop_all n [] (omega arith))
 same_voided (suc n) (d ∷ h) e x none = same_voided n h e x none
 
--- a call that voids an identifier stands behind each call before it
+-- a call that voids an identifier follows each call before it
 now_voided : (arrival : ℕ) (h : List Entry) (e : Entry) (x : Id) → arrival ≤ length h → voids x e ≡ true → voided_after arrival (h ++ e ∷ []) x ≡ true
 now_voided zero h e x le does = list_any-append (voids x) h (e ∷ []) ∙ or_right (list_any (voids x) h) (voids x e || false) (or_left (voids x e) false does)
 now_voided (suc n) [] e x le does = absurd (omega (arith, le))
 now_voided (suc n) (d ∷ h) e x le does = now_voided n h e x (omega (arith, le)) does
 
--- nothing stands behind the last call
+-- nothing follows the last call
 none_behind : (h : List Entry) (e : Entry) (x : Id) → voided_after (1 + length h) (h ++ e ∷ []) x ≡ false
 none_behind h e x = ap (list_any (voids x)) (drop_all (1 + length h) (h ++ e ∷ []) (omega (arith, length-append h (e ∷ []))))
 
@@ -99,7 +99,7 @@ told_same : (h : List Entry) (e : Entry) (x : Id) (o : Option Issuance) → void
 told_same h e x None none = refl
 told_same h e x (Some i) none = let f : Bool → Option Issue = λ b. Some (record { day = i.day; voided = b; customer = i.customer; number = i.number }) in ap f (same_voided i.arrival h e x none)
 
--- a call that voids nothing leaves what is told of the issues before it
+-- a call that voids nothing leaves what is reported for the issues before it
 pub told_before : (h : List Entry) (e : Entry) (x : Id) → ((y : Id) → e.request.body ≡ Void y → e.outcome ≡ Voided → ⊥)
     → option_map (issue_in_history (h ++ e ∷ []) x) (last_issuance_of (issues_of h) x) ≡ option_map (issue_in_history h x) (last_issuance_of (issues_of h) x)
 told_before h e x no_void = told_same h e x (last_issuance_of (issues_of h) x) (none_voided x e.request.body e.outcome no_void)
@@ -113,13 +113,13 @@ last_left h e x no_issue no_void =
     ∙ told_before h e x no_void
     ∙ sym (last_told h x)
 
--- no Void stands behind an issue that the last call made
+-- no Void follows an issue that the last call made
 new_told : (h : List Entry) (e : Entry) (x : Id) (y : Issuance) (b : Bool) (o : Option Issuance) → y.arrival ≡ 1 + length h
     → option_map (issue_in_history (h ++ e ∷ []) x) (cond b (Some y) o) ≡ cond b (Some (as_issue y false)) (option_map (issue_in_history (h ++ e ∷ []) x) o)
 new_told h e x y true o at = ap (λ v. Some (as_issue y v)) (ap (λ n. voided_after n (h ++ e ∷ []) x) at ∙ none_behind h e x)
 new_told h e x y false o at = refl
 
--- what is told of the last issue before the next place of a call
+-- what is reported for the last issue before the next place of a call
 pub told_upto : (h : List Entry) (e : Entry) (x : Id) (place : ℕ) (i : Issuance) → slice_get (issues_at 0 e) place ≡ Some i
     → option_map (issue_in_history (h ++ e ∷ []) x) (last_issuance_of (issues_upto h e (place + 1)) x) ≡ cond (same_id i.id x) (Some (as_issue i false)) (option_map (issue_in_history (h ++ e ∷ []) x) (last_issuance_of (issues_upto h e place) x))
 told_upto h e x place i at =

@@ -1,4 +1,4 @@
--- What a Done Void has behind it.
+-- What a Done Void has after it.
 use Rattle.std.proofs.Common.{◌≡◌, ℕ, Bool, true, false, cond, List, Option, Some, None, ap}
 use Rattle.std.specs.Option.{option_map}
 use Rattle.s10_core.specs.declared.id.Id.{Id}

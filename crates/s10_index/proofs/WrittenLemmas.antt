@@ -26,7 +26,7 @@ closed_rows_more at (d ∷ h) e =
 row_is : (n : ℕ) (w : CallWrite) → w.arrival ≡ n → w.reply ≡ reply_bytes w.entry.request w.entry.outcome → row_written w ≡ call_row n w.entry
 row_is n w p q = cc
 
--- what a call writes behind a history, with its reply, makes the tables into those of the longer one
+-- what a call writes after a history, with its reply, makes the tables into those of the longer one
 pub writes_call : (h : List Entry) (t : Terms) (w : CallWrite) → w.arrival ≡ length h + 1 → w.reply ≡ reply_bytes w.entry.request w.entry.outcome → MakesWrites h w.entry w.ranges.items w.serials.items
     → Writes w (tables_of h t) (tables_of (h ++ w.entry ∷ []) t)
 writes_call h t w at reply makes = record {

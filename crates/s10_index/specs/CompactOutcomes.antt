@@ -28,7 +28,7 @@ outcome_of sheets NoSuchRange = outcomes.NoSuchRange
 outcome_of sheets Closed = outcomes.Closed
 outcome_of sheets NumberReused = outcomes.NumberReused
 
--- the sheet that it names is one of so many
+-- the sheet that it names is one of n
 abbrev pub NamesSheetOf : ℕ → CompactOutcome → Type 0
 NamesSheetOf count (DrawnMany day sheet) = sheet < count
 NamesSheetOf count outcome = ⊤

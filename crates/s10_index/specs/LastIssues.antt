@@ -18,11 +18,11 @@ HasIssues issues h = (x : Id) → IsId x → get same_key issues (id_key x) ≡ 
 abbrev pub as_issue : Issuance → Bool → Issue
 as_issue i voided = record { day = i.day; voided = voided; customer = i.customer; number = i.number }
 
--- what the history tells of an issue of the identifier
+-- what the history says about an issue of the identifier
 abbrev pub issue_in_history : List Entry → Id → Issuance → Issue
 issue_in_history h x i = as_issue i (voided_after i.arrival h x)
 
--- at the key of each identifier the map has what the history tells of the last of these issues that is of it
+-- at the key of each identifier the map has what the history says about the last of these issues that is of it
 abbrev pub HasLast : {S : Type 0} → HashMap (ℕ × ℕ) Issue S → List Entry → List Issuance → Type 0
 HasLast issues h is = (x : Id) → IsId x → get same_key issues (id_key x) ≡ option_map (issue_in_history h x) (last_issuance_of is x)
 

@@ -76,7 +76,7 @@ impl CallIndex {
         find_in(&self.entries, &self.positions, customer, number)
     }
 
-    /// Call number `at`, counted from 1, if there are so many.
+    /// Call number `at`, counted from 1, if it exists.
     pub fn entry(&self, at: u32) -> Option<Entry>
         ensures { result ≡ entry_at self.now.entries.items at }
     {
@@ -119,7 +119,7 @@ impl CallIndex {
         }
     }
 
-    /// The pick of one of its ranges behind so many issues of its own successive picks, fewer than it has serials, with
+    /// The pick of one of its ranges after n issues of its own successive picks, fewer than it has serials, with
     /// its last issue.
     pub fn candidate_after(&self, range: &Range, issued: u8) -> Candidate
         ensures { (h : List Entry) (t : Terms) → IsLegal h t → Indexes self.now h → Contains (ranges_of h) range.now → issued < size_of range.now → result ≡ candidate_after_of h range.now issued }

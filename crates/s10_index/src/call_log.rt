@@ -49,7 +49,7 @@ impl CallLog {
         self.rows.len()
     }
 
-    /// The call at a place, counted from 0, if there are so many.
+    /// The call at a place, counted from 0, if it exists.
     pub fn get(&self, place: usize) -> Option<Entry>
         ensures { result ≡ slice_get self.now.items place }
     {

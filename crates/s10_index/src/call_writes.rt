@@ -1,4 +1,4 @@
-//! The rows that a call makes behind those before it.
+//! The rows that a call makes after those before it.
 
 ghost use Rattle.std.specs.Prelude.{◌≡◌, ◌≢◌, ℕ, ◌+◌, ◌<◌, ◌++◌, ◌∷◌, [], List, length, All, Err, IfErr, IfOk, IsTrue};
 ghost use Rattle.s10_wire.specs.Kind.{fits};
@@ -57,7 +57,7 @@ fn void_writes(alloc: Global, index: &CallIndex, entry: &Entry) -> Result<RowWri
     Ok(made)
 }
 
-// The rows of ranges and of serials that the call makes behind those of the index.
+// The rows of ranges and of serials that the call makes after those of the index.
 fn call_row_writes(
     alloc: Global,
     index: &CallIndex,
@@ -76,7 +76,7 @@ fn call_row_writes(
     }
 }
 
-/// What a call writes behind those of the index. Refused by want of memory, and with Store where the call may not follow them.
+/// What a call writes after those of the index. Refused by lack of memory, and with Store where the call may not follow them.
 pub fn call_write(
     alloc: Global,
     index: &CallIndex,

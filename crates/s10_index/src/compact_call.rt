@@ -16,7 +16,7 @@ pub(crate) struct CompactCall {
 }
 
 impl CompactCall {
-    /// The call in short. Its sheet, if it has one, goes behind the others, where there is room for it.
+    /// The call in short. Its sheet, if it has one, goes after the others, where there is room for it.
     pub(crate) fn of(entry: Entry, sheets: &mut Vec<Ids>) -> CompactCall
         requires room { vec_len sheets.old < vec_capacity sheets.old }
         requires few { length sheets.old.items < 4294967295 }

@@ -30,7 +30,7 @@ pub(crate) enum CompactOutcome {
 }
 
 impl CompactOutcome {
-    /// The outcome in short. Its sheet, if it has one, goes behind the others, where there is room for it.
+    /// The outcome in short. Its sheet, if it has one, goes after the others, where there is room for it.
     pub(crate) fn of(outcome: Outcome, sheets: &mut Vec<Ids>) -> CompactOutcome
         requires room { vec_len sheets.old < vec_capacity sheets.old }
         requires few { length sheets.old.items < 4294967295 }

@@ -218,7 +218,7 @@ impl Book for IndexedBook {
     }
 }
 
-// What a book in memory keeps is settled as far as it can be.
+// What a book in memory keeps is committed as far as it can be.
 impl GroupCommit for IndexedBook {
     ghost use Rattle.std.proofs.Common.{sym, append-nil};
 

@@ -78,7 +78,7 @@ fn issue_writes_at(
     Ok(issue_writes(&range, issued, issuance))
 }
 
-// Adds what the issue at a place makes. Refused by want of memory, and with a fault of the store where the call has no issue
+// Adds what the issue at a place makes. Refused by lack of memory, and with a fault of the store where the call has no issue
 // there or no range has its identifier.
 fn add_issue_writes(
     made: &mut RowWrites,
@@ -100,7 +100,7 @@ fn add_issue_writes(
     made.add_serial(row)
 }
 
-// What the issues of a call that was no Done Grant and no Done Void make, one behind another. Refused by want of memory, and
+// What the issues of a call that was no Done Grant and no Done Void make, one after another. Refused by lack of memory, and
 // with a fault of the store where no range has the identifier of one.
 pub(crate) fn issue_writes_of(
     alloc: Global,

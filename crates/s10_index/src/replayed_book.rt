@@ -19,7 +19,7 @@ pub struct ReplayedBook {
     pub opened: LedgerSummary,
 }
 
-// A book in memory that keeps the calls of the rows, each of them right behind those before it.
+// A book in memory that keeps the calls of the rows, each of them right after those before it.
 fn replay_calls(
     alloc: Global,
     settings: Settings,
@@ -37,7 +37,7 @@ fn replay_calls(
 impl ReplayedBook {
     ghost use Rattle.s10_index.specs.ReplayedBook.{IsReplayedBook};
 
-    /// The book of these calls, each of them right behind those before it. Refused with NotALedger where `head` is not its
+    /// The book of these calls, each of them right after those before it. Refused with NotALedger where `head` is not its
     /// one row, with Schema, with Damaged and the first call that is wrong, and with Memory.
     pub fn of(
         alloc: Global,

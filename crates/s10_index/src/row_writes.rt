@@ -25,7 +25,7 @@ impl RowWrites {
         }
     }
 
-    // Adds what it makes of the ranges next. Refused by want of memory alone.
+    // Adds what it makes of the ranges next. Refused by lack of memory alone.
     pub(crate) fn add_range(&mut self, write: RangeWrite) -> Result<(), BookFault>
         ensures memory { IfErr result (λ f. f ≡ BookFault.Memory) }
         ensures ranges { OnOk result (self.new.ranges.items ≡ self.old.ranges.items ++ write ∷ []) }
@@ -37,7 +37,7 @@ impl RowWrites {
         }
     }
 
-    // Adds what it makes of the serials next. Refused by want of memory alone.
+    // Adds what it makes of the serials next. Refused by lack of memory alone.
     pub(crate) fn add_serial(&mut self, write: SerialWrite) -> Result<(), BookFault>
         ensures memory { IfErr result (λ f. f ≡ BookFault.Memory) }
         ensures ranges { self.new.ranges.items ≡ self.old.ranges.items }

@@ -54,7 +54,7 @@ fn push_rows(
 }
 
 impl IndexedBook {
-    /// The rows of `ranges`, in order of their numbers. Refused by want of memory alone.
+    /// The rows of `ranges`, in order of their numbers. Refused by lack of memory alone.
     pub fn range_rows(&self, alloc: Global) -> Result<Vec<RangeRow>, AllocError>
         ensures { IfOk result (λ rows. rows.items ≡ range_rows self.now.index.entries.items) }
     {
@@ -67,7 +67,7 @@ impl IndexedBook {
         Ok(rows)
     }
 
-    /// The rows of `serials`, in order of the issues that they tell. Refused by want of memory alone.
+    /// The rows of `serials`, in order of the issues that they tell. Refused by lack of memory alone.
     pub fn serial_rows(&self, alloc: Global) -> Result<Vec<SerialRow>, AllocError>
         ensures { IfOk result (λ rows. rows.items ≡ serial_rows self.now.index.entries.items) }
     {
@@ -82,7 +82,7 @@ impl IndexedBook {
         Ok(rows)
     }
 
-    /// The rows of `closed`, in order of the calls that closed them. Refused by want of memory alone.
+    /// The rows of `closed`, in order of the calls that closed them. Refused by lack of memory alone.
     pub fn closed_rows(&self, alloc: Global) -> Result<Vec<ClosedRow>, AllocError>
         ensures { IfOk result (λ rows. rows.items ≡ closed_rows self.now.index.entries.items) }
     {

@@ -63,7 +63,7 @@ deliveries_same : (lines : List (List ℕ)) (line : List ℕ) → delivery_in li
 deliveries_same lines line is =
     filter_map-append delivery_in lines (line ∷ []) ∙ ap (λ (o : Option Dated). deliveries_in lines ++ cons_option o []) is ∙ append-nil (deliveries_in lines)
 
--- so many lines are read and done, of which none is refused, and so many answers are shown; the other lines are still to be read
+-- n lines are read and done, of which none is refused, and n answers are shown; the other lines are still to be read
 pub record Front (h : List Entry) (t : Terms) (bytes rest held now : List ℕ) (done count : ℕ) (h' : List Entry) : Type 0 where
   pub read : List ℕ
   pub parts : bytes ≡ read ++ rest
@@ -284,7 +284,7 @@ ends_unwritten h h' t (Some b) rest None now = tt
 ends_unwritten h h' t (Some b) rest (Some w) None = tt
 ends_unwritten h h' t (Some b) rest (Some w) (Some n) = tt
 
--- behind the last line that an input may have
+-- after the last line that an input may have
 pub ends_last : (h h' : List Entry) (t : Terms) (bytes left rest held now : Option (List ℕ)) (done count : ℕ) → HasReplayed h t bytes left held now done count h' → ReadsByte left rest None → EndsSo h t bytes rest held now (Ok count) h'
 ends_last h h' t bytes left rest held now done count front read =
     ends h h' t bytes left rest held now done count (Ok count) front (λ b l w n is at. let over = at_end left rest l is read in Front-end h h' t b l w n rest done count at over.0 over.1)

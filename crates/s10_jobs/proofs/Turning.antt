@@ -23,7 +23,7 @@ lead_more IsStep old (first ∷ batches) mid new batch (next, begun, rest) step 
 turns_more : (batches : List (List Turn)) (batch : List Turn) → turns_in (batches ++ batch ∷ []) ≡ turns_in batches ++ batch
 turns_more batches batch = sym (flat_map_more (λ (r : List Turn). r) [] batches batch)
 
--- so many turns, with their lines
+-- n turns, with their lines
 pub record HasServed {S : Type 0} (IsStep : S → List Turn → S → Type 0) (old new : S) (held now : Option (List ℕ)) (done : ℕ) : Type 0 where
   pub batches : List (List Turn)
   pub lead : BatchesLead IsStep old batches new

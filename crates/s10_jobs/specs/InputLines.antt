@@ -42,7 +42,7 @@ dated_by (Some day) (Some bytes) = Some (bytes, day)
 dated_by (Some day) None = None
 dated_by None bytes = None
 
--- what stands before a space and behind it
+-- what stands before a space and after it
 abbrev pub parted_at : Option ℕ → List ℕ → Option Dated
 parted_at None text = None
 parted_at (Some at) text = dated_by (day_of_text (take at text)) (bytes_in (drop (at + 1) text))

@@ -15,14 +15,14 @@ use Rattle.s10_jobs.specs.declared.job_status.JobStatus.{JobStatus}
 use Rattle.s10_jobs.specs.declared.job_status.JobStatus.TheVariants.{Done}
 use Rattle.s10_jobs.specs.Words.{replay_fault_line, replay_fault_status}
 
--- what was written behind what the output held is the lines of answers that serve exactly the deliveries of the lines,
+-- what was written after what the output held is the lines of answers that serve exactly the deliveries of the lines,
 -- from the history h to the history h'
 pub record Shows (h : List Entry) (t : Terms) (lines : List (List ℕ)) (held now : List ℕ) (h' : List Entry) : Type 0 where
   pub answers : List Answer
   pub served : Served h t (deliveries_in lines) answers h'
   pub written : now ≡ held ++ shown answers
 
--- the input stopped behind so many lines, of which none is refused, or inside the next one, before that is too long or one too many
+-- the input stopped after n lines, of which none is refused, or inside the next one, before that is too long or one too many
 pub record StopsInLine (bytes : List ℕ) (left : Option (List ℕ)) (done : ℕ) : Type 0 where
   pub read : List ℕ
   pub rest : List ℕ
@@ -32,7 +32,7 @@ pub record StopsInLine (bytes : List ℕ) (left : Option (List ℕ)) (done : ℕ
   pub stopped : BeginsLine (Some rest) left
   pub counted : 1000000 ≤ done → left ≡ Some rest
 
--- how a replay of an input's bytes ends, where so many of them are left
+-- how a replay of an input's bytes ends, where a given number of them are left
 abbrev pub Ends : List Entry → Terms → List ℕ → Option (List ℕ) → List ℕ → List ℕ → Result ℕ ReplayFault → List Entry → Type 0
 Ends h t bytes left held now (Ok count) h' =
     (shows : Shows h t (lines_of bytes) held now h') × NoneRefused (lines_of bytes) × (count ≡ length shows.answers) × (left ≡ Some [])
@@ -47,7 +47,7 @@ Replayed h t bytes left held (Some now) result h' = Ends h t bytes left held now
 Replayed h t bytes left held None (Err Write) h' = ⊤
 Replayed h t bytes left held None result h' = ⊥
 
--- a whole replay is all that is written; behind one that ended early stands the line of what ended it
+-- a whole replay is all that is written; after one that ended early stands the line of what ended it
 abbrev pub ReportsReplay : Result ℕ ReplayFault → Option (List ℕ) → Option (List ℕ) → Result JobStatus WriteFault → Type 0
 ReportsReplay (Ok count) between new result = (result ≡ Ok Done) × (new ≡ between)
 ReportsReplay (Err fault) between new result = IfOk result (λ status. (status ≡ replay_fault_status fault) × Appends between new (replay_fault_line fault))

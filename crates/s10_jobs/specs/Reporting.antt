@@ -19,7 +19,7 @@ abbrev pub report_lines : Report → List Entry → Terms → List (List ℕ)
 report_lines (Ranges day) h t = ranges_report h day t.interval
 report_lines Issues h t = issues_report h
 
--- so many first lines of the report, and the fault of the book that ended it, which the book counted
+-- n first lines of the report, and the fault of the book that ended it, which the book counted
 abbrev pub EndsByBook : Faults → Faults → Option (List ℕ) → Option (List ℕ) → List (List ℕ) → Type 0
 EndsByBook was now old new lines =
     (count : ℕ) × (fault : BookFault) × CountsBookFault fault was now
@@ -29,7 +29,7 @@ EndsByBook was now old new lines =
 abbrev pub EndsByWriter : Faults → Faults → Option (List ℕ) → Type 0
 EndsByWriter was now new = (now ≡ was) × ((before : Option (List ℕ)) × Appends before new (codes "output\n"))
 
--- the whole report where it is done, by the faults that the book had counted before it and has behind it
+-- the whole report where it is done, by the faults that the book had counted before it and has after it
 abbrev pub PrintsReport : Faults → Faults → Option (List ℕ) → Option (List ℕ) → List (List ℕ) → JobStatus → Type 0
 PrintsReport was now old new lines Done = (now ≡ was) × Appends old new (joined lines)
 PrintsReport was now old new lines Refused = ⊥

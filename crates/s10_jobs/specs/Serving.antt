@@ -1,4 +1,4 @@
--- The turns of a server on a link, in rounds one after another.
+-- The turns of a server on a link, in batches one after another.
 use Rattle.std.specs.Prelude.{◌≡◌, ℕ, ◌<◌, ◌≤◌, List, [], ◌∷◌, ◌++◌, length, codes, Option, Some, Result, IfOk}
 use Rattle.std.specs.List.{flat_map}
 use Rattle.std.specs.Io.KnownBytes.{Appends}
@@ -17,17 +17,17 @@ use Rattle.s10_jobs.specs.TurnLines.{turn_line}
 abbrev pub IsDay : Option ℕ → ℕ → Type 0
 IsDay given day = (d : ℕ) → given ≡ Some d → day ≡ d
 
--- one round on such a day, from a link's trace and a server's book to those afterwards
+-- one batch on such a day, from a link's trace and a server's book to those afterwards
 abbrev pub IsBatch : {B : Type 0} → (B → Faults) → (B → Type 0) → (B → Terms) → (B → List Entry) → (B → List Entry) → Option ℕ → Trace × B → List Turn → Trace × B → Type 0
 IsBatch faults honest terms history committed given old turns new =
     (day : ℕ) × IsDay given day × (most : ℕ) × ServesBatch faults honest terms history committed day most old new turns
 
--- the rounds lead from the old state to the new, one after another
+-- the batches lead from the old state to the new, one after another
 unfoldable pub BatchesLead : {S : Type 0} → (S → List Turn → S → Type 0) → S → List (List Turn) → S → Type 0
 BatchesLead IsStep old [] new = new ≡ old
 BatchesLead IsStep old (batch ∷ batches) new = (next : _) × IsStep old batch next × BatchesLead IsStep next batches new
 
--- the turns of rounds, in order
+-- the turns of batches, in order
 abbrev pub turns_in : List (List Turn) → List Turn
 turns_in batches = flat_map (λ batch. batch) batches
 
@@ -38,12 +38,12 @@ PrintsTurns held now turns count Refused = ⊥
 PrintsTurns held now turns count CommandLine = ⊥
 PrintsTurns held now turns count Failed = (length turns < count) × Appends held now (flat_map turn_line turns ++ codes "clock\n")
 
--- one round of at most so many turns, and how many these were; where the writer did not fail their lines were written
+-- one batch of at most n turns, and how many these were; where the writer did not fail their lines were written
 abbrev pub PrintsBatch : (List Turn → Type 0) → ℕ → Option (List ℕ) → Option (List ℕ) → Result ℕ WriteFault → Type 0
 PrintsBatch Is most held now result =
     (batch : List Turn) × Is batch × (length batch ≤ most) × IfOk result (λ done. (done ≡ length batch) × (1 ≤ done) × Appends held now (flat_map turn_line batch))
 
--- so many turns at most, in rounds by such steps; where the writer did not fail their lines were written
+-- n turns at most, in batches by such steps; where the writer did not fail their lines were written
 pub record Serves {S : Type 0} (IsStep : S → List Turn → S → Type 0) (old new : S) (held now : Option (List ℕ)) (count : ℕ) (result : Result JobStatus WriteFault) : Type 0 where
   pub batches : List (List Turn)
   pub lead : BatchesLead IsStep old batches new

@@ -14,7 +14,7 @@ pub const MAX_LINE: usize = 1036;
 pub enum NextLine {
     /// Nothing.
     End,
-    /// A line of so many bytes.
+    /// A line of n bytes.
     Whole(usize),
     /// A line that does not fit.
     Long,

@@ -21,7 +21,7 @@ impl Model for Tries {
 }
 
 impl Tries {
-    /// So many tries, or `None` for 0 and above 100.
+    /// n tries, or `None` for 0 and above 100.
     pub fn new(count: u32) -> Option<Tries>
         ensures { SomeIff result ((1 ≤ count) × (count ≤ 100)) count }
     {

@@ -30,7 +30,7 @@ pub fn write_turn<W: Write>(turn: &Turn, out: &mut W) -> Result<(), WriteFault>
     }
 }
 
-// The line of a request whose call could not be settled.
+// The line of a request whose call could not be committed.
 fn write_uncommitted<W: Write>(fault: BookFault, out: &mut W) -> Result<(), WriteFault>
     ensures { OnOk result (Appends (W.contents out.old) (W.contents out.new) (line_of (codes "uncommitted") (book_fault_words fault))) }
 {

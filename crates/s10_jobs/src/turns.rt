@@ -20,12 +20,12 @@ use std::alloc::Global;
 use std::io::Write;
 use std::time::Clock;
 
-/// How many datagrams are taken in one round at most.
+/// How many datagrams are taken in one batch at most.
 const MAX_BATCH: u32 = 64;
 
-/// So many turns of a server, each with its line, in rounds of the datagrams that have come at once: their calls are settled
-/// together, and only then are the replies sent. The lines of a round are flushed together. Where no day is given the clock
-/// is read before each round, and one that gives no day ends the turns. Standard error has a line for each datagram that
+/// n turns of a server, each with its line, in batches of the datagrams that have come at once: their calls are committed
+/// together, and only then are the replies sent. The lines of a batch are flushed together. Where no day is given the clock
+/// is read before each batch, and one that gives no day ends the turns. Standard error has a line for each datagram that
 /// is dropped, with its sender.
 pub fn serve_turns<R: Clock + Eprint, B: GroupCommit, L: Link, W: Write>(
     rt: &R,
@@ -52,7 +52,7 @@ pub fn serve_turns<R: Clock + Eprint, B: GroupCommit, L: Link, W: Write>(
     Ok(JobStatus::Done)
 }
 
-// One round, with the lines of its turns. Answers how many these are. Where there is no room for a round, one datagram is
+// One batch, with the lines of its turns. Answers how many these are. Where there is no room for a batch, one datagram is
 // taken.
 fn serve_batched<R: Eprint, B: GroupCommit, L: Link, W: Write>(
     rt: &R,

@@ -91,7 +91,7 @@ pub fn write_open_fault<W: Write>(fault: OpenFault, out: &mut W) -> Result<(), W
     }
 }
 
-// The number of a schema behind its name.
+// The number of a schema after its name.
 fn write_schema<W: Write>(number: i64, out: &mut W) -> Result<(), WriteFault>
     ensures { OnOk result (Appends (W.contents out.old) (W.contents out.new) (spaced (codes "schema" ∷ signed_decimal number ∷ []))) }
 {

@@ -1,4 +1,4 @@
--- Whether the call of a key is settled.
+-- Whether the call of a key is committed.
 use Rattle.std.proofs.Common.{◌≡◌, ℕ, suc, ◌↔◌, Bool, true, false, cond, not, ◌||◌, IsTrue, List, [], ◌∷◌, ◌++◌, get_or, Option, Some, None, refl, sym, ap, ◌∙◌, arith}
 use Rattle.std.specs.Prelude.{find, is_some, AllPairs}
 use Rattle.std.specs.List.{list_any}
@@ -48,7 +48,7 @@ alone (Some e) other none = refl
 alone None (Some e) none = absurd (true≢false none)
 alone None None none = refl
 
--- a call of a legal history is settled where no pending one has its key
+-- a call of a legal history is committed where no pending one has its key
 pub settled_unless_pending : (committed pending : List Entry) (t : Terms) (customer number : ℕ) (b : Bool) → IsLegal (committed ++ pending) t → b ≡ list_any (has_key customer number) pending
     → (IsTrue (not b) ↔ IsCommittedCall committed (committed ++ pending) customer number)
 settled_unless_pending committed pending t customer number false legal is =

@@ -103,7 +103,7 @@ found_ledger form db found index it = counted (λ n d. IsAnyLedger db found.sett
     either Whole has = inl (whole_ledger db it.tables found has it.whole)
     either Old has = inr (old_ledger db it.tables found has it.whole)
 
--- want of memory and a fault of the store refuse any database
+-- lack of memory and a fault of the store refuse any database
 pub refused_by_store : (db : Database) (fault : OpenFault) → (fault ≡ Memory) ⊎ (fault ≡ Store) → IsOpeningRefusal db fault
 refused_by_store db fault (inl is) = subst (λ (f : OpenFault). IsOpeningRefusal db f) (sym is) tt
 refused_by_store db fault (inr is) = subst (λ (f : OpenFault). IsOpeningRefusal db f) (sym is) tt

@@ -36,17 +36,17 @@ use Rattle.s10_ledger.specs.Pending.{calls_of, committed_among, HoldsPending, Is
 use Rattle.s10_ledger.proofs.HistoryLemmas.{history_is}
 use Rattle.s10_ledger.proofs.BookLemmas.{same_tables}
 
--- where nothing is pending all calls are settled
+-- where nothing is pending all calls are committed
 pub all_settled : (es : List Entry) → committed_among [] es ≡ es
 all_settled es = let n : length es - 0 ≡ length es = omega arith in rw n (take-length es)
 
--- one more pending call leaves the settled ones
+-- one more pending call leaves the committed ones
 pub settled_push : (ws : List CallWrite) (w : CallWrite) (es : List Entry) (e : Entry) → committed_among (ws ++ w ∷ []) (es ++ e ∷ []) ≡ committed_among ws es
 settled_push ws w es e =
     let n : length (es ++ e ∷ []) - length (ws ++ w ∷ []) ≡ length es - length ws = omega (arith, length-append es (e ∷ []), length-append ws (w ∷ [])) in
     rw n (take-append-le (length es - length ws) es (e ∷ []) (omega arith))
 
--- a call behind those that are written
+-- a call after those that are written
 pub written_push : (ws : List CallWrite) (w : CallWrite) (a b c : Tables) → AreWritten ws a b → Writes w b c → AreWritten (ws ++ w ∷ []) a c
 unfolding AreWritten
 written_push [] w a b c is it = (c, subst (λ (d : Tables). Writes w d c) is it, refl)
@@ -56,7 +56,7 @@ none_written : (a b : Tables) → b ≡ a → AreWritten [] a b
 unfolding AreWritten
 none_written a b is = is
 
--- a history with nothing pending behind it
+-- a history with nothing pending after it
 pub nothing_pending : (db : Database) (t : Terms) (index : CallIndex) → Indexes index (history_in db) → IsLegal (history_in db) t → IsFollowed db t index []
 nothing_pending db t index indexed legal = record {
   indexed = subst (Indexes index) (sym (append-nil (history_in db))) indexed;
@@ -64,7 +64,7 @@ nothing_pending db t index indexed legal = record {
   held = ∣ record { calls = All-nil IsCall; written = none_written _ _ (ap (λ (h : List Entry). tables_of h t) (append-nil (history_in db))) } ∣₁;
 }
 
--- once the pending calls are written the tables stand for the history with them behind
+-- once the pending calls are written the tables stand for the history with them after
 module _ (old new : Database) (t : Terms) (len day : ℕ) (index : CallIndex) (ws : List CallWrite) (was : IsLedger old t len day) (followed : IsFollowed old t index ws)
     (made : (before after : Tables) → AreWritten ws before after → HasTables old before → HasTables new after) where
   all_calls : Holds old t len day → HoldsPending old t ws → All IsCall (history_in old ++ calls_of ws)
@@ -191,7 +191,7 @@ module _ {S : Type 0} (g : Ghosts S) (old new : Held S) (t : Terms) (index : Cal
   same_after_write (Err x) made same emptied left is is_open =
       ap (λ (d : Database). history_in d ++ calls_of now) (same is is_open) ∙ ap (λ (v : List CallWrite). history_in (state g old).now ++ calls_of v) left
 
--- one more call behind those that are held
+-- one more call after those that are held
 module _ (db : Database) (t : Terms) (len day : ℕ) (index after : CallIndex) (ws : List CallWrite) (w : CallWrite) (e : Entry) (was : IsLedger db t len day) (followed : IsFollowed db t index ws)
     (follows : MayFollow (history_in db ++ calls_of ws) t e) (call : w.entry ≡ e) where
   longer : history_in db ++ calls_of (ws ++ w ∷ []) ≡ (history_in db ++ calls_of ws) ++ e ∷ []
@@ -212,7 +212,7 @@ module _ (db : Database) (t : Terms) (len day : ℕ) (index after : CallIndex) (
         }));
   }
 
--- what holding the call behind those of the index writes
+-- what holding the call after those of the index writes
 abbrev pub IsWriteOf : CallIndex → Entry → CallWrite → Type 0
 IsWriteOf index e w = (h : List Entry) (t : Terms) → IsLegal h t → MayFollow h t e → All IsCall h → Indexes index h → IsCall e × Writes w (tables_of h t) (tables_of (h ++ e ∷ []) t)
 

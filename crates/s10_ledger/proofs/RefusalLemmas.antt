@@ -215,7 +215,7 @@ module _ (db : Database) (t : Terms) (limits : AreTerms t) (legal : IsLegal (his
   held_opens Memory refusal = inl refl
   held_opens Store refusal = inr refl
 
--- a ledger, also one of an earlier build, is refused for want of memory or a fault of the store alone
+-- a ledger, also one of an earlier build, is refused for lack of memory or a fault of the store alone
 pub ledger_opens : (db : Database) (t : Terms) (len day : ℕ) → AreTerms t → IsAnyLedger db t len day → (fault : OpenFault) → IsOpeningRefusal db fault → (fault ≡ Memory) ⊎ (fault ≡ Store)
 ledger_opens db t len day limits (inl it) = held_opens db t limits it.legal (∥∥₁_map it.held (λ h. (Whole, h.calls, h.tables)))
 ledger_opens db t len day limits (inr it) = held_opens db t limits it.legal (∥∥₁_map it.held (λ h. (Old, h.calls, h.tables)))

@@ -41,7 +41,7 @@ blob_in (Blob b) = b
 abbrev pub call_from : Row → StoredCall
 call_from v = record { arrival = int_in (column v 0); customer = int_in (column v 1); number = int_in (column v 2); day = int_in (column v 3); reply = blob_in (column v 4) }
 
--- the calls of this and the next arrivals, so many of them
+-- the calls of this and the next arrivals, a given number of them
 abbrev pub in_turn : ℕ → ℕ → List StoredCall → List Entry
 in_turn zero arrival calls = []
 in_turn (suc n) arrival calls = map entry_of (filter (arrives_between (pos arrival) (pos arrival)) calls) ++ in_turn n (arrival + 1) calls
@@ -54,8 +54,8 @@ history_in db = let calls = map call_from (map call_columns (db.trees 1)) in in_
 abbrev pub IsIndexed : {S : Type 0} → Ghosts S → Held S → CallIndex → Type 0
 IsIndexed g conn index = HasCleanDisk (state g conn) → IsTrue (state g conn).is_open → Indexes index (history_in (state g conn).now)
 
--- what a ledger holds: its connection, its settings, how many calls are settled, the day of the last of these, the faults so far,
--- and the calls that are kept and not yet settled
+-- what a ledger holds: its connection, its settings, how many calls are committed, the day of the last of these, the faults so far,
+-- and the calls that are kept and not yet committed
 pub record Ledger (S : Type 0) : Type 0 where
   pub conn : Held S
   pub terms : Terms
@@ -105,11 +105,11 @@ pub record IsOldLedger (db : Database) (t : Terms) (len day : ℕ) : Type 0 wher
 abbrev pub IsAnyLedger : Database → Terms → ℕ → ℕ → Type 0
 IsAnyLedger db t len day = IsLedger db t len day ⊎ IsOldLedger db t len day
 
--- the calls that are settled
+-- the calls that are committed
 abbrev pub committed_of : {S : Type 0} → Ghosts S → Ledger S → List Entry
 committed_of g l = history_in (state g l.conn).now
 
--- the calls that a ledger keeps: behind those that are settled, those that are not
+-- the calls that a ledger keeps: after those that are committed, those that are not
 abbrev pub history_of : {S : Type 0} → Ghosts S → Ledger S → List Entry
 history_of g l = history_in (state g l.conn).now ++ l.pending
 
@@ -120,7 +120,7 @@ pub record IsHonest {S : Type 0} (g : Ghosts S) (l : Ledger S) : Type 0 where
   pub ledger : IsLedger (state g l.conn).now l.terms l.len l.day
   pub legal : IsLegal (history_of g l) l.terms
 
--- these trees hold the ledger with its pending calls behind the others
+-- these trees hold the ledger with its pending calls after the others
 pub record IsCommittedIn {S : Type 0} (g : Ghosts S) (l : Ledger S) (db : Trees) : Type 0 where
   pub history : history_in (record (state g l.conn).now { trees = db }) ≡ history_of g l
   pub ledger : IsLedger (record (state g l.conn).now { trees = db }) l.terms (length (history_of g l)) (day_of (history_of g l))

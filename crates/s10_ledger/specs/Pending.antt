@@ -1,4 +1,4 @@
--- What is kept true of the calls that are kept and not yet settled.
+-- What is kept true of the calls that are kept and not yet committed.
 use Rattle.std.specs.Prelude.{◌≤◌, ◌-◌, Bool, IsTrue, List, ◌++◌, length, map, take, All}
 use Rattle.sqlite_trees.specs.declared.store.Store.{Ghosts}
 use Rattle.sqlite.specs.Effect.{Database}
@@ -27,12 +27,12 @@ calls_of ws = map (λ w. w.entry) ws
 abbrev pub committed_among : List CallWrite → List Entry → List Entry
 committed_among ws es = take (length es - length ws) es
 
--- the pending calls make the tables of the history into those of the history with them behind
+-- the pending calls make the tables of the history into those of the history with them after
 pub record HoldsPending (db : Database) (t : Terms) (ws : List CallWrite) : Type 0 where
   pub calls : All IsCall (calls_of ws)
   pub written : AreWritten ws (tables_of (history_in db) t) (tables_of (history_in db ++ calls_of ws) t)
 
--- the calls held in the process are those of the tables with the pending ones behind them, and a legal history
+-- the calls held in the process are those of the tables with the pending ones after them, and a legal history
 pub record IsFollowed (db : Database) (t : Terms) (index : CallIndex) (ws : List CallWrite) : Type 0 where
   pub indexed : Indexes index (history_in db ++ calls_of ws)
   pub legal : IsLegal (history_in db ++ calls_of ws) t

@@ -10,7 +10,7 @@ use s10_replay::fault_of_book;
 use s10_rows::OpenFault;
 use sqlite::{Error, ErrorCode};
 
-// Want of memory, or a fault of the store.
+// Out of memory, or a fault of the store.
 pub(crate) fn fault_of(error: Error) -> BookFault
     ensures not_full { result ≢ Full }
     ensures memory { (result ≡ BookFault.Memory) ↔ (error ≡ Error.SqliteFailure ErrorCode.OutOfMemory) }

@@ -121,8 +121,8 @@ impl<S: Alter> SqlBook<S> {
     ghost use Rattle.s10_ledger.specs.Refusals.{IsOpeningRefusal};
 
     /// Opens a ledger: all its calls are done again, and every table is compared with what they
-    /// make. Other tables may stand behind its five. The four tables of an earlier build, with
-    /// nothing beside them, are a ledger too: `closed` is made behind them once all is right.
+    /// make. Other tables may follow its five. The four tables of an earlier build, with
+    /// nothing beside them, are a ledger too: `closed` is made after them once all is right.
     /// Refused with NotALedger where the first tables are not declared as a ledger's, another one
     /// refers to them or an index is on them, or `head` is not its one row, with Schema, with Damaged
     /// and the first call that is wrong, or 0 where another row is, with Memory, and with Store where a

@@ -59,7 +59,7 @@ pub(crate) fn commit_calls<S: Alter>(
     }
 }
 
-// Holds the call behind those of the index, where they are fewer than the limit and there is room for it, for what it makes and for
+// Holds the call after those of the index, where they are fewer than the limit and there is room for it, for what it makes and for
 // what it writes.
 pub(crate) fn append_pending(
     alloc: Global,

@@ -20,17 +20,17 @@ use sqlite::{Alter, Connection, MemStore};
 use std::alloc::Global;
 use std::marker::Model;
 
-/// So many calls are pending at most.
+/// n calls are pending at most.
 pub const MAX_PENDING: usize = 64;
 
 /// A book over the tables of a connection. It holds the calls that it keeps in the process, where they are pending until it
-/// settles: then it writes them in one transaction.
+/// commits: then it writes them in one transaction.
 pub struct SqlBook<S: Alter> {
     alloc: Global,
     conn: Connection<S>,
     settings: Settings,
     faults: Faults,
-    // The calls of the tables, and the pending ones behind them.
+    // The calls of the tables, and the pending ones after them.
     index: CallIndex,
     // What the pending calls write.
     pending: Vec<CallWrite>,
@@ -128,7 +128,7 @@ impl<S: Alter> SqlBook<S> {
     }
 
     /// The connection, to look at between two calls: where it is open over a clean disk, what the
-    /// book says of its history holds. Its tables stand for the settled calls.
+    /// book says of its history holds. Its tables stand for the committed calls.
     pub fn connection(&self) -> &Connection<S>
         ensures same { result.now ≡ self.now.conn }
         ensures idle { self.now.conn.in_transaction ≡ false }
@@ -138,7 +138,7 @@ impl<S: Alter> SqlBook<S> {
         &self.conn
     }
 
-    /// The connection, whose tables stand for the settled calls. The pending ones are let go: no server sent a reply to them.
+    /// The connection, whose tables stand for the committed calls. The pending ones are let go: no server sent a reply to them.
     pub fn close(self) -> Connection<S>
         ensures same { result ≡ self.conn }
         ensures idle { result.in_transaction ≡ false }
@@ -216,7 +216,7 @@ impl<S: Alter> SqlBook<S> {
     ghost use Rattle.s10_book.specs.Book.{Unchanged};
     ghost use Rattle.s10_ledger.specs.Ledger.{IsCommittedIn, history_of, committed_of};
 
-    // Asks the connection where it did not answer the last statement, so that nothing is told over a
+    // Asks the connection where it did not answer the last statement, so that nothing is answered over a
     // connection that is shut.
     fn ask_again(&mut self) -> Result<(), BookFault>
         ensures faults { CountsResult result self.old.faults self.new.faults }
@@ -251,7 +251,7 @@ impl<S: Alter> SqlBook<S> {
         counted(&mut self.faults, written)
     }
 
-    // Settles where no more calls may be pending, and else asks the connection as the reads do.
+    // Commits where no more calls may be pending, and else asks the connection as the reads do.
     fn make_room(&mut self) -> Result<(), BookFault>
         ensures faults { CountsResult result self.old.faults self.new.faults }
         ensures unchanged { Unchanged (history_of S.Store) (λ b. b.terms) (IsHonest S.Store) self.old self.new }
@@ -267,7 +267,7 @@ impl<S: Alter> SqlBook<S> {
         self.ask_again()
     }
 
-    // Holds the call behind the others.
+    // Holds the call after the others.
     fn append_call(&mut self, entry: &Entry) -> Result<(), BookFault>
         requires room { length self.old.pending < MAX_PENDING }
         requires follows { IsHonest S.Store self.old → MayFollow (history_of S.Store self.old) self.old.terms entry.now }

@@ -8,7 +8,7 @@ use sqlite_schema::schema::Schema;
 /// Which of a ledger's tables a database has.
 #[derive(Clone, Copy, Debug, PartialEq, Eq)]
 pub(crate) enum TableLayout {
-    /// All five, and maybe others behind them.
+    /// All five, and maybe others after them.
     Whole,
     /// The four of an earlier build, and nothing else.
     Old,

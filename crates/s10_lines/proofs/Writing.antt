@@ -16,7 +16,7 @@ spaced-append [] more = refl
 spaced-append (word ∷ words) more =
     ap (λ (t : List ℕ). 32 ∷ word ++ t) (spaced-append words more) ∙ sym (append_assoc (32 ∷ word) (spaced words) (spaced more))
 
--- more words behind some
+-- more words after some
 pub words_then : (u v w : Option (List ℕ)) (words more : List (List ℕ)) → Appends u v (spaced words) → Appends v w (spaced more) → Appends u w (spaced (words ++ more))
 words_then u v w words more first second =
     let P : List ℕ → Type 0 = λ text. Appends u w text in

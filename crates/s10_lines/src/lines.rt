@@ -55,7 +55,7 @@ fn kind_name(body: &Body) -> &'static [u8]
     }
 }
 
-// A number behind its name.
+// A number after its name.
 fn write_named<W: Write>(name: &[u8], number: u32, out: &mut W) -> Result<(), WriteFault>
     ensures { OnOk result (Appends (W.contents out.old) (W.contents out.new) (spaced (name.now ∷ decimal number ∷ []))) }
 {

@@ -26,7 +26,7 @@ after_failure t = record t { calls = t.calls + 1; failures = t.failures + 1 }
 abbrev pub after_datagram : Trace → Peer × Packet → Trace
 after_datagram t p = record t { calls = t.calls + 1; received = t.received + 1; taken = Some p }
 
--- a call in which this frame was sent to this peer: `alike` goes on where it was the last one sent, and else begins anew
+-- a call in which this frame was sent to this peer: `alike` goes on where it was the last one sent, and else starts over
 pub record IsAfterFrame (old new : Trace) (p : Peer × Frame) : Type 0 where
   pub after : new ≡ record old { calls = old.calls + 1; sends = old.sends + 1; alike = new.alike; given = Some p }
   pub again : old.given ≡ Some p → new.alike ≡ old.alike + 1

@@ -5,7 +5,7 @@ use std::marker::Model;
 /// A datagram that came: its first 512 bytes. Packets of the same bytes are the same packet.
 #[derive(Clone, Copy, Debug, PartialEq, Eq)]
 pub struct Packet {
-    // zeros behind the bytes, so that equal bytes are equal in every field
+    // zeros after the bytes, so that equal bytes are equal in every field
     room: [u8; 512],
     len: usize,
 }
@@ -49,7 +49,7 @@ impl Packet {
     }
 }
 
-/// At most so many of the first bytes.
+/// At most n of the first bytes.
 fn front(bytes: &[u8], most: usize) -> &[u8]
     ensures front { result.now ≡ take most bytes.now }
     ensures bound { length result.now ≤ most }

@@ -48,7 +48,7 @@ impl fmt::Display for Peer {
     }
 }
 
-// The number of one byte that stands before the first separator, and what stands behind it.
+// The number of one byte that stands before the first separator, and what follows it.
 fn octet_before(separator: u8, text: &[u8]) -> Option<(u8, &[u8])>
     requires { ¬ (IsAsciiDigit separator) }
     ensures spelled { IfSome result (λ read. text.now ≡ decimal read.0 ++ separator ∷ read.1.now) }

@@ -44,7 +44,7 @@ turn_at P made is (d ∷ cs) (suc place) c lap at =
     let Q : List Issuance → Type 0 = λ l. P l c in
     subst Q (append_assoc is (made d ∷ []) (map made (take place cs))) (turn_at P made (is ++ made d ∷ []) cs place c lap.1 at)
 
--- what stands at a place of a call that may follow was picked behind the issues before it
+-- what stands at a place of a call that may follow was picked after the issues before it
 pub picked_at : (h : List Entry) (t : Terms) (e : Entry) (place : ℕ) (c : ℕ × Id) → MayFollow h t e → slice_get (carried_by e.outcome) place ≡ Some c
     → IsPicked (ranges_of h) e.request.customer e.day t.interval (issues_upto h e place) c
 picked_at h t e place c may at =

@@ -102,7 +102,7 @@ set_map f g (x ∷ xs) (suc k) v lt here same = ap₂ ◌∷◌ (same 0 x (omega
 abbrev pub first_mark : Range → Mark
 first_mark r = record { serial = r.first; lap = First }
 
--- the ranges and marks behind a Done Grant
+-- the ranges and marks after a Done Grant
 pub grant_ranges : (h : List Entry) (e : Entry) (r : Range) → IsNext h e r → ranges_of (h ++ e ∷ []) ≡ ranges_of h ++ r ∷ []
 grant_ranges h e r next =
     let turned : 1 + length (ranges_of h) ≡ length (ranges_of h) + 1 = omega arith in
@@ -129,7 +129,7 @@ again [] k d lt = absurd (omega arith)
 again (x ∷ xs) zero d lt = refl
 again (x ∷ xs) (suc k) d lt = again xs k d (omega arith)
 
--- where the marks are those behind a call that is no Done Grant, all is as behind it
+-- where the marks are those after a call that is no Done Grant, all is as after it
 pub other_mirrors : (r : Ranges) (h : List Entry) (e : Entry) → ((m : ℕ) → e.outcome ≡ Granted m → ⊥) → MirrorsAt (ranges_of h) (issues_of (h ++ e ∷ [])) r → MirrorsAt (ranges_of (h ++ e ∷ [])) (issues_of (h ++ e ∷ [])) r
 other_mirrors r h e no_grant m =
     let P : List Range → Type 0 = λ rs. MirrorsAt rs (issues_of (h ++ e ∷ [])) r in

@@ -68,7 +68,7 @@ held_between after customer s c r q cs cc fit small large g le lt =
     let letters = one_pair s c r.service r.country cs cc fit.service fit.country both.1 in
     record { above = omega (arith, le, same); holder = sym both.0; service = sym letters.0; country = sym letters.1 }
 
--- what is known of the order before and behind the key of the next number
+-- what is known of the order before and after the key of the next number
 pub record IsCut (rs : List Range) (order : List ℕ) (after customer : ℕ) (s c : ℕ × ℕ) (at key : ℕ) : Type 0 where
   pub sound : AreSound rs
   pub held : IsOrder (key_by Holder) (key_by Holder) rs order
@@ -142,7 +142,7 @@ held_missed rs order after customer s c at key r cut inside is miss =
 other_key : (h p q n m : ℕ) → n < m → n < 4294967296 → m < 4294967296 → h * 4294967296 + m ≡ q * 4294967296 + n → ⊥
 other_key h p q n m lt small large e = omega arith
 
--- behind the place of a new range each key is above its own
+-- after the place of a new range each key is above its own
 pub held_apart : (rs : List Range) (order : List ℕ) (r : Range) (at key : ℕ) → AreSound rs → IsOrder (key_by Holder) (key_by Holder) rs order → length rs < 4294967295 → r.num ≡ length rs + 1
     → key ≡ key_by Holder r → ((j : ℕ) (d : Range) → at ≤ j → j < length order → key ≤ key_by Holder (range_at rs order j d))
     → (j : ℕ) (d : Range) → at ≤ j → j < length order → key_by Holder r < key_by Holder (range_at rs order j d)

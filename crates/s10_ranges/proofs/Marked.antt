@@ -30,7 +30,7 @@ numbered r rs is range sound m there =
 pub mark_above : (r : Ranges) (h : List Entry) (range : Range) → AreSound r.ranges.items → Mirrors r h → Contains (ranges_of h) range → 0 < range.num
 mark_above r h range sound m there = let num = numbered r (ranges_of h) (issues_of h) range sound (made_part r h m) there in omega (arith, num)
 
--- the mark is that behind the issues
+-- the mark is that after the issues
 pub mark_at_issues : (r : Ranges) (rs : List Range) (is : List Issuance) (range : Range) → AreSound r.ranges.items → MirrorsAt rs is r → Contains rs range → slice_get r.marks.items (range.num - 1) ≡ Some (mark_of is range)
 mark_at_issues r rs is range sound m there =
     let num = numbered r rs is range sound m there in

@@ -15,7 +15,7 @@ use Rattle.s10_ranges.proofs.Orders.{rising_low, rising_high}
 use Rattle.s10_ranges.proofs.Found.{none_in_order, first_in_order, find_none, none_found}
 use Rattle.s10_ranges.proofs.Pairs.{one_pair}
 
--- a range that overlaps ends not before the first serial, and begins not behind the last
+-- a range that overlaps ends not before the first serial, and begins not after the last
 pub over_keys : (s c : ℕ × ℕ) (first last : ℕ) (r : Range) → overlaps s c first last r ≡ true → (serial_key s c first ≤ key_by Last r) × (key_by First r ≤ serial_key s c last)
 unfolding serial_key
 over_keys s c first last r hit =
@@ -31,7 +31,7 @@ over_keys s c first last r hit =
 same_first : (x y a b m n : ℕ) → a < 10 ^ 8 → b < 10 ^ 8 → m < 10 ^ 8 → n < 10 ^ 8 → x * 4294967296 + m ≤ y * 4294967296 + a → y * 4294967296 + b ≤ x * 4294967296 + n → x ≡ y
 same_first x y a b m n p q u v le le' = omega arith
 
--- and the other way round
+-- and the other way around
 pub over_from : (s c : ℕ × ℕ) (first last : ℕ) (r : Range) → AreCapitals s → AreCapitals c → IsSerial first → IsSerial last → first ≤ last → IsFitting r
     → serial_key s c first ≤ key_by Last r → key_by First r ≤ serial_key s c last → overlaps s c first last r ≡ true
 unfolding serial_key
@@ -50,7 +50,7 @@ rising_last rs order sound o = rising_high (key_by First) (key_by Last) rs order
 pub rising_first : (rs : List Range) (order : List ℕ) → AreSound rs → IsOrder (key_by First) (key_by Last) rs order → IsRising (key_by First) rs order
 rising_first rs order sound o = rising_low (key_by First) (key_by Last) rs order o (proper_keys rs sound)
 
--- behind the place of a new range each begins behind its end
+-- after the place of a new range each begins after its end
 pub placed_apart : (rs : List Range) (order : List ℕ) (r : Range) (at key : ℕ) → AreSound rs → IsOrder (key_by First) (key_by Last) rs order → IsFitting r → r.first ≤ r.last
     → find (overlaps r.service r.country r.first r.last) rs ≡ None → key ≡ key_by First r
     → ((j : ℕ) (d : Range) → at ≤ j → j < length order → key ≤ key_by Last (range_at rs order j d))
@@ -67,7 +67,7 @@ placed_apart rs order r at key sound placed fit proper apart key_is above j d le
           (over_from r.service r.country r.first r.last old fit.service fit.country fit.first fit.last proper one.fitting (omega (arith, up, key_is)) ge))
     ]
 
--- what is known of the order before, in and behind the ranges that overlap
+-- what is known of the order before, in and after the ranges that overlap
 pub record IsRun (rs : List Range) (order : List ℕ) (s c : ℕ × ℕ) (first last start end low high : ℕ) : Type 0 where
   pub sound : AreSound rs
   pub placed : IsOrder (key_by First) (key_by Last) rs order

@@ -8,7 +8,7 @@ use Rattle.s10_history.specs.declared.range.Range.{Range}
 use Rattle.s10_ranges.specs.Order.{range_at, IsOrder}
 use Rattle.s10_ranges.specs.Sound.{IsSound, AreSound}
 
--- an entry of the order with n at a place: an old one before it, n, or an old one behind it
+-- an entry of the order with n at a place: an old one before it, n, or an old one after it
 abbrev pub Entry : List ℕ → ℕ → ℕ → ℕ → Type 0
 Entry order at n j =
     ((j < at) × (get_or (insert order at n) j 0 ≡ get_or order j 0))

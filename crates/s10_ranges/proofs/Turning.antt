@@ -41,7 +41,7 @@ mark_at serial lap = record { serial = serial; lap = lap }
 pub in_order : (h : List Entry) (t : Terms) (r : Range) → IsLegal h t → Contains (ranges_of h) r → r.first ≤ r.last
 in_order h t r legal there = All-contains (λ s. s.first ≤ s.last) (ranges_of h) r (ordered h t legal) there
 
--- ---- behind an issue in the range
+-- ---- after an issue in the range
 
 turned : (b c : Bool) → cond (b || (c || false)) Later First ≡ cond c Later (cond b Later First)
 turned true true = refl
@@ -67,7 +67,7 @@ pub mark_inside : (r : Range) (is : List Issuance) (y : Issuance) → Turns r is
 mark_inside r is y turns lies at =
     ap₂ mark_at (pick_turns r (is ++ y ∷ []) (serial_after r (pick_of is r)) (turns_inside r is y (pick_of is r) lies at turns) ∙ ap (serial_after r) (sym at)) (turn_inside r is y lies)
 
--- ---- behind an issue outside the range
+-- ---- after an issue outside the range
 
 or_false : (b : Bool) → (b || (false || false)) ≡ b
 or_false true = refl
@@ -99,7 +99,7 @@ at_picks h t e place legal may =
     let y : Issuance = made_by e (1 + length h) c in
     turns_pick r (is ++ y ∷ []) (pick_after r (pick_of is r) c.1, mark_step r is y (pick_of is r) (picked_mark h t e.request.customer e.day t.interval is c r legal picked there) (before r there)))
 
--- ---- behind the Grant of the range
+-- ---- after the Grant of the range
 
 -- each issue lies in a range
 abbrev IsCovered : List Entry → Issuance → Type 0

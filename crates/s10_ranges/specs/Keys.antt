@@ -11,11 +11,11 @@ use Rattle.s10_ranges.specs.declared.sort_key.SortKey.TheVariants.{First, Last, 
 unfoldable pub pair_of : ℕ × ℕ → ℕ × ℕ → ℕ
 pair_of service country = from_be_bytes w32 (letters_of service ++ letters_of country)
 
--- the pair, and behind it the serial
+-- the pair, and after it the serial
 unfoldable pub serial_key : ℕ × ℕ → ℕ × ℕ → ℕ → ℕ
 serial_key service country serial = pair_of service country * 4294967296 + serial
 
--- the holder, behind it the pair, and behind that the number
+-- the holder, after it the pair, and after that the number
 unfoldable pub holder_key : ℕ → ℕ × ℕ → ℕ × ℕ → ℕ → ℕ
 holder_key holder service country num = (holder * 4294967296 + pair_of service country) * 4294967296 + num
 

@@ -15,6 +15,6 @@ lap_of is r = if is_issued is (id_at r r.last) then Later else First
 abbrev pub mark_of : List Issuance → Range → Mark
 mark_of is r = record { serial = pick_of is r; lap = lap_of is r }
 
--- the mark behind a serial that the range gave in that turn
+-- the mark after a serial that the range gave in that turn
 abbrev pub mark_after : Range → Lap → ℕ → Mark
 mark_after r lap serial = record { serial = serial_after r serial; lap = if serial == r.last then Later else lap }

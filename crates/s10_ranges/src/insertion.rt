@@ -13,7 +13,7 @@ use crate::order::first_at;
 use crate::sort_key::SortKey;
 use s10_history::Range;
 
-// Behind all ranges that end before it, and before all others.
+// After all ranges that end before it, and before all others.
 pub(crate) fn index_by_serial(ranges: &[Range], by_serial: &[u32], range: &Range) -> usize
     requires sound { AreSound ranges.now }
     requires placed { IsOrder (key_by First) (key_by Last) ranges.now by_serial.now }
@@ -29,7 +29,7 @@ pub(crate) fn index_by_serial(ranges: &[Range], by_serial: &[u32], range: &Range
     first_at(ranges, by_serial, SortKey::Last, start)
 }
 
-// Behind all ranges of a lower holder, pair or number, and before all others.
+// After all ranges of a lower holder, pair or number, and before all others.
 pub(crate) fn index_by_holder(ranges: &[Range], by_holder: &[u32], range: &Range) -> usize
     requires sound { AreSound ranges.now }
     requires held { IsOrder (key_by Holder) (key_by Holder) ranges.now by_holder.now }

@@ -20,7 +20,7 @@ fn pair_number(service: Service, country: Country) -> u32
     u32::from_be_bytes([s0, s1, c0, c1])
 }
 
-// The pair, and behind it the serial.
+// The pair, and after it the serial.
 pub(crate) fn serial_sort_key(service: Service, country: Country, serial: Serial) -> u128
     ensures value { result ≡ serial_key service country serial }
     ensures service { AreCapitals service }
@@ -31,7 +31,7 @@ pub(crate) fn serial_sort_key(service: Service, country: Country, serial: Serial
     u128::from(pair_number(service, country)) * 4_294_967_296 + u128::from(serial.value())
 }
 
-// The holder, behind it the pair, and behind that the number.
+// The holder, after it the pair, and after that the number.
 pub(crate) fn holder_sort_key(holder: u32, service: Service, country: Country, num: u128) -> u128
     requires { num ≤ 4294967296 }
     ensures value { result ≡ holder_key holder service country num }

@@ -3,6 +3,6 @@
 pub enum Lap {
     /// Never: no serial from the mark on has been issued.
     First,
-    /// Once and more: the range has gone round, and each of its serials has been issued.
+    /// Once and more: the range has wrapped around, and each of its serials has been issued.
     Later,
 }

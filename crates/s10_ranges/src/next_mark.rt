@@ -1,4 +1,4 @@
-//! The mark behind a serial that a range gave.
+//! The mark after a serial that a range gave.
 
 ghost use Rattle.std.specs.Prelude.{◌≡◌, ◌==◌, ◌≤◌, ◌+◌, if◌then◌else◌};
 ghost use Rattle.s10_ranges.specs.Laps.{mark_after};
@@ -8,7 +8,7 @@ use crate::mark::Mark;
 use s10_core::Serial;
 use s10_history::Range;
 
-// The serial behind that one of the range: the next, or the first one behind the last.
+// The serial after that one of the range: the next, or the first one after the last.
 fn serial_after(range: &Range, serial: Serial) -> Serial
     requires { serial ≤ range.now.last }
     ensures { result ≡ (if serial == range.now.last then range.now.first else serial + 1) }
@@ -20,7 +20,7 @@ fn serial_after(range: &Range, serial: Serial) -> Serial
     Serial::new(serial.value() + 1).unwrap_or(range.first)
 }
 
-// The mark behind a serial that the range gave in that turn.
+// The mark after a serial that the range gave in that turn.
 pub(crate) fn next_mark(range: &Range, lap: Lap, serial: Serial) -> Mark
     requires { serial ≤ range.now.last }
     ensures { result ≡ mark_after range.now lap serial }

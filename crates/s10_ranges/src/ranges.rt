@@ -124,7 +124,7 @@ impl Ranges {
         }
     }
 
-    // Sets the mark of the range of the identifier behind its serial: the next, or the first one behind
+    // Sets the mark of the range of the identifier after its serial: the next, or the first one after
     // the last, which begins a later turn. Leaves the marks as they are where it lies in no range.
     fn advance_mark(&mut self, id: &Id)
         ensures ranges { self.new.ranges.items ≡ self.old.ranges.items }
@@ -165,7 +165,7 @@ impl Ranges {
         }
     }
 
-    // Adds the range of a Done Grant, and sets the marks behind each issue of another call.
+    // Adds the range of a Done Grant, and sets the marks after each issue of another call.
     fn follow_made(&mut self, entry: &Entry)
         requires room { HasRoom self.old }
         ensures made { (h : List Entry) (t : Terms) → IsLegal h t → MayFollow h t entry.now → length h < 4294967295 → MirrorsAt (ranges_of h) (issues_of h) self.old
@@ -186,7 +186,7 @@ impl Ranges {
         }
     }
 
-    /// Adds what a kept call makes: the range of a Done Grant, the marks behind each issue of another
+    /// Adds what a kept call makes: the range of a Done Grant, the marks after each issue of another
     /// call, and the range that a Done Withdraw closes. Where the ranges are not those of a legal history
     /// that the call may follow, a range that is not the next one, or overlaps another, is left out.
     pub fn follow(&mut self, entry: &Entry)

@@ -67,7 +67,7 @@ issue_at h t e arrival place y legal may at =
     let found = found_image (made_by e arrival) (slice_get (carried_by e.outcome) place) y (sym (slice_get-map (made_by e arrival) (carried_by e.outcome) place) ∙ at) in
     (found.0, found.2, carried_at h t e place found.0 legal may found.1)
 
--- it moves the pick of the range that has it, to the serial behind its own
+-- it moves the pick of the range that has it, to the serial after its own
 pub pick_moved : (h : List Entry) (t : Terms) (e : Entry) (place : ℕ) (c : ℕ × Id) (r : Range) → IsLegal h t → IsIssueAt h e t.interval place c → Contains (ranges_of h) r
     → pick_of (issues_before place h e ++ made_by e (1 + length h) c ∷ []) r ≡ pick_after r (pick_of (issues_before place h e) r) c.1
 pick_moved h t e place c r legal here there =

@@ -1,4 +1,4 @@
--- The rows that the issues of a call make, one behind another.
+-- The rows that the issues of a call make, one after another.
 use Rattle.std.proofs.Common.{◌≡◌, ℕ, zero, suc, ◌+◌, ◌≤◌, Bool, true, false, not, cond, eqb, ◌&&◌, ◌||◌, pos, List, [], ◌∷◌, ◌++◌, map, length, Option, Some, None, refl, sym, ap, ap₂, ◌∙◌, ◌⊎◌, inl, inr, arith, subst, take, take_all, append-nil}
 use Rattle.std.specs.Prelude.{option_to_list, filter, All, Contains, slice_get, int_le}
 use Rattle.std.specs.List.{list_any, last_or}
@@ -79,7 +79,7 @@ elsewhere h t r s x legal there in' lies other (inr out) = out
 elsewhere h t r s x legal there in' lies other (inl ly) =
     absurd (both_ways (eqb s.num r.num) other (eq-eqb s.num r.num (ap (λ (z : Range). z.num) (one_range (ranges_of h) s r x (apart h t legal) in' there ly lies))))
 
--- the rows of ranges behind one more issue
+-- the rows of ranges after one more issue
 ranges_more : (h : List Entry) (t : Terms) (e : Entry) (place : ℕ) (c : ℕ × Id) (r : Range) → IsLegal h t → IsIssueAt h e t.interval place c → Contains (ranges_of h) r → lies_in r c.1 ≡ true
     → map (marked (pos r.num) (pos (serial_after r c.1.serial))) (map (λ s. range_row (pick_of (issues_before place h e) s) s) (ranges_of h))
     ≡ map (λ s. range_row (pick_of (issues_before place h e ++ made_by e (1 + length h) c ∷ []) s) s) (ranges_of h)
@@ -181,7 +181,7 @@ replaced_row : (h : List Entry) (is : List Issuance) (y : Issuance) (issued : Pr
 replaced_row h is y Never fit right never = ap (λ (l : List SerialRow). l ++ serial_row false y ∷ []) (sym (none_at h is y.id fit right (never refl)))
 replaced_row h is y Before fit right never = refl
 
--- the rows of serials behind one more issue
+-- the rows of serials after one more issue
 serials_more : (h : List Entry) (is : List Issuance) (y : Issuance) (issued : PriorIssue) → All IsIssuance is → IsId y.id → row_in h y ≡ serial_row false y → (issued ≡ Never → is_issued is y.id ≡ false)
     → with_serial (write_of issued (serial_row false y)) (map (row_in h) (last_issues is)) ≡ map (row_in h) (last_issues (is ++ y ∷ []))
 serials_more h is y issued fit right unvoided never =
@@ -193,7 +193,7 @@ serials_more h is y issued fit right unvoided never =
 
 -- ---- the issues of a call
 
--- the issues of a history and of a call behind it have their parts in their ranges
+-- the issues of a history and of a call after it have their parts in their ranges
 before_fit : (h : List Entry) (e : Entry) (place : ℕ) → All IsCall h → IsCall e → All IsIssuance (issues_before place h e) × All IsIssuance (issues_at (1 + length h) e)
 before_fit h e place calls call =
     let own : All IsIssuance (issues_at (1 + length h) e) = issues_at_fit (1 + length h) e call in
@@ -202,7 +202,7 @@ before_fit h e place calls call =
 in_list : {A : Type 0} (xs : List A) (k : ℕ) (x : A) → slice_get xs k ≡ Some x → Contains xs x
 in_list xs k x is = (k, slice_get_within xs k x is, get_or_from_slice_get xs k x x is)
 
--- nothing of a history stands behind its next call
+-- nothing of a history follows its next call
 none_after : (h : List Entry) (y : Issuance) → y.arrival ≡ 1 + length h → voided_after y.arrival h y.id ≡ false
 none_after h y next = ap (list_any (voids y.id)) (drop_all y.arrival h (omega (arith, next)))
 

@@ -19,7 +19,7 @@ last_or-more : {A : Type 0} (o : Option A) (xs : List A) (l : A) → last_or Non
 last_or-more o [] l e = absurd (none-some l e)
 last_or-more o (x ∷ xs) l e = e
 
--- one more issue, which is or isn't issued again behind, and is or isn't of the identifier
+-- one more issue, which is or isn't issued again after, and is or isn't of the identifier
 at_first : (again here : Bool) (p : Issuance → Bool) (i : Issuance) (lasts passed : List Issuance) → p i ≡ here → filter p lasts ≡ option_to_list (last_or None passed)
     → (here ≡ true → again ≡ true → (l : Issuance) × (last_or None passed ≡ Some l)) → (here ≡ true → again ≡ false → passed ≡ [])
     → filter p (cond again lasts (i ∷ lasts)) ≡ option_to_list (last_or None (cond here (i ∷ passed) passed))

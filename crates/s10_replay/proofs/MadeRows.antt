@@ -1,4 +1,4 @@
--- The rows that a call makes behind a history.
+-- The rows that a call makes after a history.
 use Rattle.std.proofs.Common.{◌≡◌, ℕ, zero, suc, ◌+◌, ◌≤◌, Bool, true, false, ◌||◌, List, [], ◌∷◌, ◌++◌, map, length, Option, None, refl, sym, ap, ap₂, ◌∙◌, arith, append-nil, length-append}
 use Rattle.std.specs.Prelude.{option_to_list}
 use Rattle.std.specs.List.{list_any}
@@ -41,13 +41,13 @@ same_voided zero h e x none = list_any-append (voids x) h (e ∷ []) ∙ or_none
 same_voided (suc n) [] e x none = ap (list_any (voids x)) (drop_all n [] (omega arith))
 same_voided (suc n) (d ∷ h) e x none = same_voided n h e x none
 
--- a call that voids an identifier stands behind each call before it
+-- a call that voids an identifier follows each call before it
 pub now_voided : (arrival : ℕ) (h : List Entry) (e : Entry) (x : Id) → arrival ≤ length h → voids x e ≡ true → voided_after arrival (h ++ e ∷ []) x ≡ true
 now_voided zero h e x le does = list_any-append (voids x) h (e ∷ []) ∙ or_right (list_any (voids x) h) (voids x e || false) (or_left (voids x e) false does)
 now_voided (suc n) [] e x le does = absurd (omega (arith, le))
 now_voided (suc n) (d ∷ h) e x le does = now_voided n h e x (omega (arith, le)) does
 
--- nothing stands behind the last call
+-- nothing follows the last call
 pub none_behind : (h : List Entry) (e : Entry) (x : Id) → voided_after (1 + length h) (h ++ e ∷ []) x ≡ false
 none_behind h e x = ap (list_any (voids x)) (drop_all (1 + length h) (h ++ e ∷ []) (omega (arith, length-append h (e ∷ []))))
 

@@ -59,7 +59,7 @@ right_push t xs a right here k row is =
 pub right_none : (t : Terms) → AreRight t []
 right_none t k row is = absurd (none-some row is)
 
--- the row behind the first is right too
+-- the row after the first is right too
 pub right_more : (t : Terms) (rows : List StoredCall) (i : ℕ) (row : StoredCall) → i < length rows → row ≡ get_or rows i row
     → AreRight t (take i rows) → IsRightRow t (kept_of (take i rows)) row → AreRight t (take (i + 1) rows)
 right_more t rows i row within is right here =
@@ -76,7 +76,7 @@ there_at [] i d lt = absurd (omega arith)
 there_at (x ∷ xs) zero d lt = refl
 there_at (x ∷ xs) (suc i) d lt = there_at xs i d (omega arith)
 
--- the row behind the right ones is the first wrong one
+-- the row after the right ones is the first wrong one
 pub first_wrong : (tables : Tables) (t : Terms) (rows : List StoredCall) (i n : ℕ) (row : StoredCall) → tables.calls ≡ rows → IsHead tables.heads (pos 1) t
     → i < length rows → row ≡ get_or rows i row → n ≡ suc i → AreRight t (take i rows) → ¬ IsRightRow t (kept_of (take i rows)) row
     → IsRefusal tables (Damaged n)
@@ -91,7 +91,7 @@ some_there P o x h is = subst (λ p. IfSome p P) is h
 pub none_there : {A : Type 0} (P : Type 0) (o : Option A) → IfNone o P → o ≡ None → P
 none_there P o h is = subst (λ p. IfNone p P) is h
 
--- what is right behind a history is so behind the same one
+-- what is right after a history is so after the same one
 pub right_again : (s t : Terms) (g h : List Entry) (row : StoredCall) → s ≡ t → g ≡ h → IsRightRow s g row → IsRightRow t h row
 right_again s t g h row e f right = subst (λ u. IsRightRow u h row) e (subst (λ l. IsRightRow s l row) f right)
 

@@ -76,7 +76,7 @@ outcome_again (Query id) NotYours ok fit = refl
 outcome_again (Query id) NumberReused ok fit = refl
 outcome_again body o ok fit = absurd cc
 
--- what stands behind the request's bytes
+-- what follows the request's bytes
 behind : (customer number : ℕ) (body : Body) (rest : List ℕ) → drop (request_length (kind_of body)) (datagram 0x80 (asked customer number body) ++ rest) ≡ rest
 behind customer number (Grant h s t f l) rest = refl
 behind customer number (Draw s t) rest = refl

@@ -1,4 +1,4 @@
--- Rows that are the same in whatever order.
+-- Rows that are the same in any order.
 use Rattle.std.proofs.Common.{◌≡◌, List, [], ◌∷◌, length, refl, arith}
 use Rattle.std.proofs.Math.Logic.{∥∥₁_elim}
 use Rattle.std.specs.Coded.{Coded, Coded-set, coded_ℕ, coded_list}

@@ -35,7 +35,7 @@ other_id x y = same_from_decides (same_id x y) (same_id y x) (id_equal x y, id_s
 voids_is : (e : Entry) (x y : Id) → e.request.body ≡ Void x → e.outcome ≡ Voided → voids y e ≡ same_id x y
 voids_is e x y asks done = ap₂ (λ (b : Body) (o : Outcome). voids_by y b o) asks done
 
--- the row of the last issue is made anew as voided
+-- the row of the last issue is made again as voided
 pub void_makes : (h : List Entry) (t : Terms) (e : Entry) (x : Id) (i : Issuance) → IsLegal h t → All IsCall h → IsCall e → e.request.body ≡ Void x → e.outcome ≡ Voided → last_issuance_of (issues_of h) x ≡ Some i
     → MakesWrites h e [] (Again (serial_row true i) ∷ [])
 void_makes h t e x i legal calls call asks done last =

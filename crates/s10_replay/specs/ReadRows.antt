@@ -1,4 +1,4 @@
--- What the rows say that were read, whatever is under them.
+-- What the rows say that were read, even if the store fails.
 use Rattle.std.specs.Prelude.{◌≡◌, ℕ, ◌+◌, ◌-◌, nat_le, pos, Bool, not, length, count_by, List}
 use Rattle.std.specs.Ordering.{int_eq}
 use Rattle.s10_wire.specs.Datagrams.{Replies}
@@ -19,7 +19,7 @@ pub record IsCallOf (row : StoredCall) (e : Entry) : Type 0 where
   pub replies : Replies row.reply e.request e.outcome
   pub day : row.day ≡ pos e.day
 
--- the row tells the issue
+-- the row records the issue
 pub record IsRowOfIssue (row : SerialRow) (i : Issue) : Type 0 where
   pub day : row.day ≡ pos i.day
   pub voided : row.voided ≡ pos (flag i.voided)
@@ -30,7 +30,7 @@ pub record IsRowOfIssue (row : SerialRow) (i : Issue) : Type 0 where
 abbrev pub is_voided_row : SerialRow → Bool
 is_voided_row row = int_eq row.voided (pos 1)
 
--- whether the issue that the row tells is too new for its identifier to be issued on the day
+-- whether the issue that the row records is too new for its identifier to be issued on the day
 abbrev pub is_taken : ℕ → ℕ → SerialRow → Bool
 is_taken day interval row = not (nat_le interval (day - day_in row.day))
 

@@ -15,7 +15,7 @@ day_in (negsuc _) = 0
 abbrev pub entry_of : StoredCall → Entry
 entry_of row = record { request = request_in row.reply; day = day_in row.day; outcome = outcome_in row.reply }
 
--- the row is the next one behind the calls before it: its arrival is the next, its reply decodes, its key columns are those of
+-- the row is the next one after the calls before it: its arrival is the next, its reply decodes, its key columns are those of
 -- the request, its day is a number of 32 bits, and the call may follow (its key is new, its day does not fall, there is room, and
 -- its outcome is that of the rules)
 pub record IsRightRow (t : Terms) (before : List Entry) (row : StoredCall) : Type 0 where
@@ -31,6 +31,6 @@ pub record IsRightRow (t : Terms) (before : List Entry) (row : StoredCall) : Typ
 abbrev pub kept_of : List StoredCall → List Entry
 kept_of rows = map entry_of rows
 
--- each row is right behind those before it
+-- each row is right after those before it
 abbrev pub AreRight : Terms → List StoredCall → Type 0
 AreRight t rows = (k : ℕ) (row : StoredCall) → slice_get rows k ≡ Some row → IsRightRow t (kept_of (take k rows)) row

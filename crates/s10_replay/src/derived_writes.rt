@@ -21,7 +21,7 @@ use s10_history::{Entry, Issuance, Range};
 use s10_rows::{PriorIssue, RangeRow, RangeWrite, SerialRow, SerialWrite};
 use s10_wire::Outcome;
 
-// The write of the mark behind a serial that the range gave.
+// The write of the mark after a serial that the range gave.
 fn mark_write(range: &Range, serial: Serial) -> RangeWrite
     ensures { result ≡ RangeWrite.Mark (pos range.now.num) (pos (serial_after range.now serial)) }
 {
@@ -46,7 +46,7 @@ fn issue_write(issued: PriorIssue, row: SerialRow) -> SerialWrite
     }
 }
 
-/// What an issue of a call makes: the mark behind it, of the range that has its identifier, and its row, which is new where the
+/// What an issue of a call makes: the mark after it, of the range that has its identifier, and its row, which is new where the
 /// identifier was never issued, neither by the calls before nor by this one before that place.
 pub fn issue_writes(
     range: &Range,
@@ -65,7 +65,7 @@ pub fn issue_writes(
     )
 }
 
-/// Before its first issue a call has made no row. Behind its last one it has made all of its rows, where it was no Done Grant
+/// Before its first issue a call has made no row. After its last one it has made all of its rows, where it was no Done Grant
 /// and no Done Void.
 pub fn issue_writes_are_complete()
     ensures none { (h : List Entry) (e : Entry) → IssueWritesMake h e 0 [] [] }

@@ -47,7 +47,7 @@ fn may_follow<B: Book>(book: &mut B, call: &Entry) -> Result<bool, BookFault>
     }
 }
 
-// The call of the row, where it is right behind the book's calls.
+// The call of the row, where it is right after the book's calls.
 fn right_call<B: Book>(book: &mut B, row: &CallRow) -> Result<Option<Entry>, BookFault>
     ensures unchanged { Unchanged B.history B.terms B.honest book.old book.new }
     ensures right { B.honest book.new → IfOk result (λ found. IfSome found (λ e. (e ≡ entry_of row.now) × IsCall e × IsRightRow (B.terms book.old) (B.history book.old) row.now)) }
@@ -67,7 +67,7 @@ fn right_call<B: Book>(book: &mut B, row: &CallRow) -> Result<Option<Entry>, Boo
     }
 }
 
-/// Keeps the calls of the rows in a book without calls, each of them right behind those before it.
+/// Keeps the calls of the rows in a book without calls, each of them right after those before it.
 pub fn replay_rows<B: Book>(book: &mut B, rows: &[CallRow]) -> Result<(), OpenFault>
     ensures was_honest { B.honest book.new → B.honest book.old }
     ensures same_terms { B.honest book.new → B.terms book.new ≡ B.terms book.old }

@@ -1,4 +1,4 @@
-//! Rows are compared, in whatever order they come.
+//! Rows are compared, in any order they come.
 
 ghost use Rattle.std.specs.Prelude.{◌≡◌, ◌↔◌, false, List, IsTrue};
 ghost use Rattle.std.specs.Ordering.{int_cmp, ordering_then, is_eq};

@@ -10,7 +10,7 @@ use crate::column::{flag_in, number_in};
 use s10_history::Issue;
 use s10_rows::SerialRow;
 
-// The issue that the row tells. None where a column of it does not read.
+// The issue that the row records. None where a column of it does not read.
 pub(crate) fn issue_in(row: &SerialRow) -> Option<Issue>
     ensures read { IfSome result (IsRowOfIssue row.now) }
     ensures kept { (voided : Bool) (i : Issuance) → IsIssuance i → row.now ≡ serial_row voided i → result ≡ Some (issue_in_row voided i) }

@@ -55,7 +55,7 @@ next_taken f n (suc k) (x ∷ xs) r h e =
     let on : n + suc k ≡ n + 1 + k = omega arith in
     ap (λ (l : List (List ℕ)). f x ∷ l) (next_taken f (n + 1) k xs r h.1 (ap (λ (m : ℕ). find (λ y. y.num == m) xs) (sym on) ∙ there))
 
--- the issues of some calls and of those behind them
+-- the issues of some calls and of those after them
 pub issues_from-append : (n : ℕ) (xs ys : List Entry) → issues_from n (xs ++ ys) ≡ issues_from n xs ++ issues_from (n + length xs) ys
 issues_from-append n [] ys = let same : n ≡ n + 0 = omega arith in ap (λ (m : ℕ). issues_from m ys) same
 issues_from-append n (x ∷ xs) ys =
@@ -174,7 +174,7 @@ call_written u v w front part all is before written =
     let P : List ℕ → Type 0 = λ text. Appends u w text in
     subst P (sym (ap joined is ∙ flat_map-append (λ (x : List ℕ). x) front part)) (Appends-then u v w (joined front) (joined part) before written)
 
--- some of the lines behind the first ones are the first ones of all, so many more
+-- some of the lines after the first ones are the first ones of all, n more
 cut_within : (all : List (List ℕ)) (m n count : ℕ) (part : List (List ℕ)) → take n all ≡ take m all ++ part → (c : ℕ) × (take c all ≡ take m all ++ take count part)
 cut_within all m n count part is =
     let front : List (List ℕ) = take m all in

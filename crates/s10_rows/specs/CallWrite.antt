@@ -9,7 +9,7 @@ use Rattle.s10_rows.specs.declared.call_write.CallWrite.{CallWrite}
 abbrev pub row_written : CallWrite → StoredCall
 row_written w = record { arrival = pos w.arrival; customer = pos w.entry.request.customer; number = pos w.entry.request.number; day = pos w.entry.day; reply = w.reply }
 
--- the tables behind a call
+-- the tables after a call
 abbrev pub with_call : CallWrite → Tables → Tables
 with_call w tables = record tables {
   calls = tables.calls ++ row_written w ∷ [];

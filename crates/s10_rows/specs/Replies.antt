@@ -21,7 +21,7 @@ pair_in b at = (byte b at, byte b (at + 1))
 abbrev pub id_in : List ℕ → ℕ → Id
 id_in b at = record { service = pair_in b at; serial = number_of (take 8 (drop (at + 2) b)); country = pair_in b (at + 11) }
 
--- so many identifiers, one behind the other
+-- n identifiers, one after the other
 abbrev pub ids_in : ℕ → List ℕ → List Id
 ids_in zero b = []
 ids_in (suc count) b = id_in b 0 ∷ ids_in count (drop 13 b)

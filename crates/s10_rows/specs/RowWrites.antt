@@ -27,22 +27,22 @@ marked num mark r = if has_num num r then record r { mark = mark } else r
 abbrev pub is_at : ℤ → ℤ → SerialRow → Bool
 is_at pair serial r = int_eq r.pair pair && int_eq r.serial serial
 
--- the rows behind one write of a range
+-- the rows after one write of a range
 abbrev pub with_range : RangeWrite → List RangeRow → List RangeRow
 with_range (NewRange row) rows = rows ++ row ∷ []
 with_range (Mark num mark) rows = map (marked num mark) rows
 
--- the rows behind one write of a serial
+-- the rows after one write of a serial
 abbrev pub with_serial : SerialWrite → List SerialRow → List SerialRow
 with_serial (NewSerial row) rows = rows ++ row ∷ []
 with_serial (Again row) rows = filter (λ r. not (is_at row.pair row.serial r)) rows ++ row ∷ []
 
--- the rows behind what a call makes of the ranges, write by write
+-- the rows after what a call makes of the ranges, write by write
 abbrev pub with_ranges : List RangeWrite → List RangeRow → List RangeRow
 with_ranges [] rows = rows
 with_ranges (w ∷ ws) rows = with_ranges ws (with_range w rows)
 
--- the rows behind what a call makes of the serials, write by write
+-- the rows after what a call makes of the serials, write by write
 abbrev pub with_serials : List SerialWrite → List SerialRow → List SerialRow
 with_serials [] rows = rows
 with_serials (w ∷ ws) rows = with_serials ws (with_serial w rows)
@@ -62,17 +62,17 @@ abbrev pub write_of : PriorIssue → SerialRow → SerialWrite
 write_of Never row = NewSerial row
 write_of Before row = Again row
 
--- the issues of a history, and those that the call behind it makes before a place
+-- the issues of a history, and those that the call after it makes before a place
 abbrev pub issues_before : ℕ → List Entry → Entry → List Issuance
 issues_before place h e = issues_of h ++ take place (issues_at (1 + length h) e)
 
--- what the call behind the history issues before a place makes these rows
+-- what the call after the history issues before a place makes these rows
 pub record IssueWritesMake (h : List Entry) (e : Entry) (place : ℕ) (made_ranges : List RangeWrite) (made_serials : List SerialWrite) : Type 0 where
   pub ranges : with_ranges made_ranges (range_rows h) ≡ map (λ r. range_row (pick_of (issues_before place h e) r) r) (ranges_of h)
   pub serials : with_serials made_serials (serial_rows h) ≡ map (λ i. serial_row (voided_after i.arrival h i.id) i) (last_issues (issues_before place h e))
   pub few : FindAtMostOne made_serials (serial_rows h)
 
--- the call behind the history makes these rows
+-- the call after the history makes these rows
 pub record MakesWrites (h : List Entry) (e : Entry) (made_ranges : List RangeWrite) (made_serials : List SerialWrite) : Type 0 where
   pub ranges : HaveSameRows (with_ranges made_ranges (range_rows h)) (range_rows (h ++ e ∷ []))
   pub serials : HaveSameRows (with_serials made_serials (serial_rows h)) (serial_rows (h ++ e ∷ []))

@@ -36,7 +36,7 @@ pub record IsIssuance (i : Issuance) : Type 0 where
   pub customer : i.customer < 2 ^ 32
   pub number : i.number < 2 ^ 32
 
--- the issue that its row tells
+-- the issue that its row records
 abbrev pub issue_in_row : Bool → Issuance → Issue
 issue_in_row voided i = record { day = i.day; voided = voided; customer = i.customer; number = i.number }
 

@@ -27,7 +27,7 @@ pub record Tables : Type 0 where
   pub serials : List SerialRow
   pub closed : List ClosedRow
 
--- the same rows, in whatever order
+-- the same rows, in any order
 abbrev pub HaveSameRows : {R : Type 0} → List R → List R → Type 0
 HaveSameRows rows others = ∥ IsPermutation rows others ∥₁
 

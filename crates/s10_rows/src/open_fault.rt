@@ -17,7 +17,7 @@ pub enum OpenFault {
     /// A table of one of the names is there.
     #[error("not-empty")]
     NotEmpty,
-    /// Want of memory.
+    /// Out of memory.
     #[error("memory")]
     Memory,
     /// A statement failed that should pass.

@@ -1,4 +1,4 @@
--- The five tables of a ledger, as CREATE TABLE makes them in an empty database, each with its tree, and what may stand behind them.
+-- The five tables of a ledger, as CREATE TABLE makes them in an empty database, each with its tree, and what may follow them.
 -- Ledgers of earlier builds have the first four alone.
 use Rattle.std.specs.Prelude.{◌≡◌, true, false, [], ◌∷◌, Some, None, codes, List, ℕ, Bool, not, ◌&&◌, ◌||◌, ◌==◌, drop, slice_index_or}
 use Rattle.std.specs.List.{list_all}
@@ -132,15 +132,15 @@ serials_index = record { name = codes "sqlite_autoindex_serials_1"; tree = 5; ta
 abbrev pub no_schema : Schema
 no_schema = record { tables = []; indexes = []; views = [] }
 
--- the first four tables of a ledger, and others behind them
+-- the first four tables of a ledger, and others after them
 abbrev pub with_others : Schema → Schema
 with_others o = record { tables = head_table ∷ calls_table ∷ ranges_table ∷ serials_table ∷ o.tables; indexes = calls_index ∷ serials_index ∷ o.indexes; views = o.views }
 
--- closed, and others behind it
+-- closed, and others after it
 abbrev pub closed_first : Schema → Schema
 closed_first o = record o { tables = closed_table ∷ o.tables }
 
--- the five tables of a ledger, and others behind them
+-- the five tables of a ledger, and others after them
 abbrev pub with_closed : Schema → Schema
 with_closed o = with_others (closed_first o)
 
@@ -152,11 +152,11 @@ ledger_schema = with_closed no_schema
 abbrev pub four_tables : Schema
 four_tables = with_others no_schema
 
--- what stands behind the first four tables and their two indexes
+-- what follows the first four tables and their two indexes
 abbrev pub others_in : Schema → Schema
 others_in s = record { tables = drop 4 s.tables; indexes = drop 2 s.indexes; views = s.views }
 
--- and what stands behind the first five
+-- and what follows the first five
 abbrev pub others_after_closed : Schema → Schema
 others_after_closed s = record { tables = drop 5 s.tables; indexes = drop 2 s.indexes; views = s.views }
 
@@ -191,7 +191,7 @@ are_apart_from_closed tables = list_all (λ t. not (t.tree == 6) && refer_apart_
 abbrev pub index_apart_from_closed : List Index → Bool
 index_apart_from_closed indexes = list_all (λ i. not (i.table == 6)) indexes
 
--- The schema begins with the five tables of a ledger. No table behind them has a foreign key on `closed` either, and no index is of it.
+-- The schema begins with the five tables of a ledger. No table after them has a foreign key on `closed` either, and no index is of it.
 pub record IsClosedSchema (s : Schema) : Type 0 where
   pub ledger : IsLedgerSchema s
   pub is : s ≡ with_closed (others_after_closed s)

@@ -34,7 +34,7 @@ calls_of-append c [] more = refl
 calls_of-append c (first ∷ bodies) more = ap (λ (calls : List (ClientState × Body)). (c, first) ∷ calls) (calls_of-append (after_call c first) bodies more)
 
 module _ (to : Peer) where
-  -- calls that were done, and others behind them
+  -- calls that were done, and others after them
   AreMadeInTurn-append : (calls more : List (ClientState × Body)) (old mid new : Trace) (status : JobStatus) (text line : List ℕ)
       → AreMadeInTurn to calls old mid Done text → AreMadeInTurn to more mid new status line → AreMadeInTurn to (calls ++ more) old new status (text ++ line)
   AreMadeInTurn-append [] more old mid new status text line (same, done, nothing) others =
@@ -48,7 +48,7 @@ module _ (to : Peer) where
   )
   AreMadeInTurn-append (call ∷ calls) more old mid new status text line (left, between, called, it, inr (undone, same, is, lines)) others = absurd (undone (sym is))
 
-  -- none comes behind one that was not done
+  -- none comes after one that was not done
   AreMadeInTurn-stops : (calls more : List (ClientState × Body)) (old new : Trace) (status : JobStatus) (text : List ℕ)
       → status ≢ Done → AreMadeInTurn to calls old new status text → AreMadeInTurn to (calls ++ more) old new status text
   AreMadeInTurn-stops [] more old new status text undone (same, done, nothing) = absurd (undone done)
@@ -69,7 +69,7 @@ module _ (to : Peer) where
   settled_after c c' old new body (Err (GaveUp q)) it done = absurd cc
   settled_after c c' old new body (Err (Link q fault)) it done = absurd cc
 
-  -- so many calls of a client were done, and what was printed of them
+  -- n calls of a client were done, and what was printed of them
   pub record HasDone (c c' : ClientState) (bodies : List Body) (old new : Trace) (u v : Option (List ℕ)) : Type 0 where
     pub client : c' ≡ after_calls c bodies
     pub printed : Prints u v (AreMadeInTurn to (calls_of c bodies) old new Done)
@@ -115,7 +115,7 @@ module _ (to : Peer) where
       let same = ap (calls_of c) whole ∙ calls_of-append c (bodies ++ body ∷ []) rest in
       subst P (sym same) (it.0, AreMadeInTurn-stops (calls_of c (bodies ++ body ∷ [])) (calls_of (after_calls c (bodies ++ body ∷ [])) rest) t t2 status it.0 undone it.1, it.2)
 
-  -- the post's call, and behind it the customer's
+  -- the post's call, and after it the customer's
   pub all_asked : (calls more all : List (ClientState × Body)) (t t1 t2 : Trace) (u v w : Option (List ℕ)) (r : Result JobStatus WriteFault) → calls ++ more ≡ all
       → Prints u v (AreMadeInTurn to calls t t1 Done) → IfOk r (λ status. Prints v w (AreMadeInTurn to more t1 t2 status)) → IfOk r (λ status. Prints u w (AreMadeInTurn to all t t2 status))
   all_asked calls more all t t1 t2 u v w (Ok status) same (text, done, first) (line, others, second) =

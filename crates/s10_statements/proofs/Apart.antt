@@ -1,4 +1,4 @@
--- What stands behind the tables of a ledger has no part in its writes.
+-- What follows the tables of a ledger has no part in its writes.
 use Rattle.std.proofs.Common.{◌≡◌, ℕ, ◌==◌, Bool, true, false, not, ◌&&◌, ◌||◌, cond, List, [], ◌∷◌, length, Option, Some, None, refl, sym, subst, ◌∙◌}
 use Rattle.std.specs.Prelude.{IfSome, find, filter_map, flat_map, option_map, option_and_then, codes, drop}
 use Rattle.std.specs.List.{list_any, list_all, AllByRecursion}
@@ -38,7 +38,7 @@ is_closed-prop s a b =
 pub is_as_it_was : (s t : Schema) → IsClosedSchema s → t ≡ with_closed (others_after_closed s) → IsClosedSchema t
 is_as_it_was s t has e = subst IsClosedSchema (has.is ∙ sym e) has
 
--- what stands behind closed is apart from the four too
+-- what follows closed is apart from the four too
 pub behind_apart : (s : Schema) → IsClosedSchema s → are_apart (others_after_closed s).tables ≡ true
 behind_apart s has = subst (λ (x : Schema). are_apart (drop 4 x.tables) ≡ true) has.is has.ledger.tables
 
@@ -109,7 +109,7 @@ module _ (tree : ℕ) (whole : Schema) (keys : Keys) (depth : ℕ) (olds news : 
   no_work_in [] all = refl
   no_work_in (t ∷ ts) all = rw (no_work_of t t.references all.0) (no_work_in ts all.1)
 
--- a name that is none of the four is looked up behind them
+-- a name that is none of the four is looked up after them
 past_four : (o : Schema) (ref : Reference) → is_own_name ref.parent ≡ false → find (λ t. same_name t.name ref.parent) (with_others o).tables ≡ find (λ t. same_name t.name ref.parent) o.tables
 past_four o ref other =
     let a = neither (same_name (codes "head") ref.parent) _ other in
@@ -117,7 +117,7 @@ past_four o ref other =
     let c = neither (same_name (codes "ranges") ref.parent) (same_name (codes "serials") ref.parent) b.1 in
     rw (a.0, b.0, c.0, c.1) refl
 
--- and one that is not that of closed either, behind this
+-- and one that is not that of closed either, after this
 past_closed : (o : Schema) (ref : Reference) → is_own_name ref.parent ≡ false → same_name (codes "closed") ref.parent ≡ false
     → find (λ t. same_name t.name ref.parent) (with_closed o).tables ≡ find (λ t. same_name t.name ref.parent) o.tables
 past_closed o ref other fifth = past_four (closed_first o) ref other ∙ rw fifth refl

@@ -28,7 +28,7 @@ written_so db w before after it held = record {
   closed = rw it.closed held.closed;
 }
 
--- of calls the last one comes behind those before it
+-- of calls the last one comes after those before it
 last_written : (ws : List CallWrite) (w : CallWrite) (before after : Tables) → AreWritten (ws ++ w ∷ []) before after → (between : Tables) × AreWritten ws before between × Writes w between after
 unfolding AreWritten
 last_written [] w before after it = (before, refl, subst (Writes w before) (sym it.2) it.1)

@@ -47,7 +47,7 @@ use Rattle.s10_statements.proofs.AddLemmas.{stored_range, zero_three, one_three,
 use Rattle.s10_statements.proofs.IssueLemmas.{length_numbered, length_mapped, one_changed, all_kept}
 use Rattle.s10_statements.proofs.GoneLemmas.{all_moved, all_of_map, all_shown, passing, same_int, has_id, stays}
 
--- the rows that the statement finds, as it puts them back behind their rowids
+-- the rows that the statement finds, as it puts them back after their rowids
 abbrev update_columns : ℤ → Row → Row
 update_columns mark x = column x 0 ∷ column x 0 ∷ Null ∷ column x 2 ∷ column x 3 ∷ column x 4 ∷ column x 5 ∷ Int mark ∷ []
 

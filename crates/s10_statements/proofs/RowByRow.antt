@@ -106,7 +106,7 @@ module _ {S : Type 0} (g : Ghosts S) (sql : List ℕ) (params : Row) (plain : On
   begun_spares survives c has db left =
       first (commits_none sql params (state g old) (with_others (others_in (state g old).now.schema)) has.is (plain (others_in (state g old).now.schema)) db) (survives.crash c db left)
 
--- an answer that came behind what changed nothing
+-- an answer that came after what changed nothing
 shown_before : (sql : List ℕ) (params : Row) (a b c : State) (rows : List Row) → IsPlain (understood b.now.schema sql) → IsUnchanged a b → Shown sql params b c rows → Shown sql params a c rows
 unfolding Shown
 shown_before sql params a b c rows plain same h =
@@ -170,7 +170,7 @@ pub map_snoc : {A B : Type 0} (f : A → B) (xs : List A) (x : A) → map f (xs 
 map_snoc f [] x = refl
 map_snoc f (y ∷ ys) x = ap (λ l. f y ∷ l) (map_snoc f ys x)
 
--- a typed row behind those that are typed
+-- a typed row after those that are typed
 pub map_push : {A B : Type 0} (f : A → B) (xs new : List A) (x : A) (ys : List B) (y : B) → new ≡ xs ++ x ∷ [] → map f xs ≡ ys → f x ≡ y → map f new ≡ ys ++ y ∷ []
 map_push f xs new x ys y e was is = ap (map f) e ∙ map_snoc f xs x ∙ ap (λ l. l ++ f x ∷ []) was ∙ ap (λ z. ys ++ z ∷ []) is
 

@@ -31,7 +31,7 @@ shown_serial r = Int r.pair ∷ Int r.serial ∷ Int r.arrival ∷ Int r.day ∷
 abbrev pub shown_closed : ClosedRow → Row
 shown_closed r = Int r.num ∷ Int r.arrival ∷ []
 
--- the columns of a row of serials that is shown with its rowid behind them
+-- the columns of a row of serials that is shown with its rowid after them
 abbrev pub serial_front : Row → Row
 serial_front v = column v 0 ∷ column v 1 ∷ column v 2 ∷ column v 3 ∷ column v 4 ∷ column v 5 ∷ column v 6 ∷ []
 

@@ -87,7 +87,7 @@ fn insert_head<S: Alter>(tx: &mut Transaction<'_, S>, settings: Settings) -> Res
 }
 
 /// Makes the tables of a ledger with no call in an empty database, in one transaction: all of them, or none. An error is that
-/// of the statement that failed, and `OutOfMemory` is want of memory.
+/// of the statement that failed, and `OutOfMemory` is lack of memory.
 pub fn create_tables<S: Alter>(conn: &mut Connection<S>, settings: Settings) -> Result<(), Error>
     requires idle { conn.old.in_transaction ≡ false }
     ensures settled { IsQuiescent S.Store conn.new }

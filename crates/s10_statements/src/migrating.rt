@@ -11,7 +11,7 @@ ghost use Rattle.s10_statements.specs.ConnectionState.{IsQuiescent, IsClean, IsO
 use crate::creating::{CLOSED, run};
 use sqlite::{Alter, Connection, Error};
 
-/// Makes `closed`, with no row, behind the four tables of an earlier build. An error is that of the statement, and leaves the
+/// Makes `closed`, with no row, after the four tables of an earlier build. An error is that of the statement, and leaves the
 /// four as they are.
 pub fn create_closed<S: Alter>(conn: &mut Connection<S>) -> Result<(), Error>
     requires settled { IsQuiescent S.Store conn.old }

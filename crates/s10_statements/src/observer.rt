@@ -4,7 +4,7 @@ use sqlite::Error;
 
 /// Is told what a ledger's making or opening does not answer: how far it is, and the error of a statement that failed.
 pub trait Observer {
-    /// So many rows of this table were read, of all that it has.
+    /// n rows of this table were read, of all that it has.
     fn rows_read(&mut self, table: &str, rows: u64);
 
     /// A statement failed, which ends the making or the opening.

@@ -67,7 +67,7 @@ impl FromRow for RangeRow {
     }
 }
 
-// The columns of `serials`, which others may stand behind.
+// The columns of `serials`, which others may follow.
 fn serial_columns_in(row: &Row) -> Result<SerialRow, Error>
     ensures { IfOk result (λ serial. shown_serial serial ≡ serial_front row.now) }
 {
@@ -93,7 +93,7 @@ impl FromRow for SerialRow {
     }
 }
 
-// A row of `serials` with its rowid behind the columns.
+// A row of `serials` with its rowid after the columns.
 pub(crate) fn serial_with_rowid_in(row: &Row) -> Result<SerialRow, Error>
     ensures columns { IfOk result (λ serial. shown_serial serial ≡ serial_front row.now) }
     ensures numbered { OnOk result (IsTrue (is_int (column row.now 7))) }

@@ -32,7 +32,7 @@ is_asked b k (Ok q) head len code range rest =
     let whole : drop 4 b ≡ front = rest ∙ ap (λ (t : List ℕ). front ++ t) nothing ∙ append-nil front in
     (range, head ∙ ap (λ (n : Kind). 0x53 ∷ 0x31 ∷ version_of n ∷ (code_of n + 0) ∷ drop 4 b) (sym code) ∙ ap (λ (t : List ℕ). 0x53 ∷ 0x31 ∷ version_of (kind_of q.body) ∷ (code_of (kind_of q.body) + 0) ∷ t) whole)
 
--- the body that stands behind a header, by the code of its kind
+-- the body that follows a header, by the code of its kind
 abbrev pub pair_in : List ℕ → ℕ → ℕ × ℕ
 pair_in b at = (byte b at, byte b (at + 1))
 

@@ -1,4 +1,4 @@
--- What stands behind the outcome byte of a Done reply.
+-- What follows the outcome byte of a Done reply.
 use Rattle.std.proofs.Common.{◌≡◌, ℕ, ◌+◌, ◌*◌, ◌<◌, ◌≤◌, List, ◌∷◌, ◌++◌, length, get_or, drop, sym, ap, subst, ◌∙◌, arith, append_assoc}
 use Rattle.std.proofs.lemmas.List.{drop_more, get_or-drop}
 use Rattle.s10_core.specs.declared.id.Id.{Id}
@@ -12,19 +12,19 @@ use Rattle.s10_wire.specs.Datagrams.{u32_bytes, fields, outcome_bytes, IsU32, Is
 use Rattle.s10_wire.specs.Ids.{AreIds, spellings_of}
 use Rattle.s10_wire.specs.WireFault.{byte, first_refusal, identifier_fields, done_fields}
 
--- the reply to a request with this body is long enough, and begins with the byte of Done behind the request
+-- the reply to a request with this body is long enough, and begins with the byte of Done after the request
 abbrev IsDone : List ℕ → Body → Type 0
 IsDone b body = (done_length (kind_of body) b ≤ length b) × (byte b (request_length (kind_of body)) ≡ 0)
 
--- the outcome stands behind the request
+-- the outcome follows the request
 abbrev Stands : List ℕ → Body → Outcome → Type 0
 Stands b body o = IsOutcome o × (drop (request_length (kind_of body)) b ≡ outcome_bytes o ++ drop (done_length (kind_of body) b) b)
 
--- a byte and what stands behind it
+-- a byte and what follows it
 pub behind_byte : (b tail : List ℕ) (at n : ℕ) → at < length b → byte b at ≡ n → drop (at + 1) b ≡ tail → drop at b ≡ n ∷ tail
 behind_byte b tail at n within is rest = drop_more b at 0 within ∙ ap (λ (x : ℕ). x ∷ drop (at + 1) b) is ∙ ap (λ (l : List ℕ). n ∷ l) rest
 
--- the byte of Done, a day and identifiers, read one behind the other, are all that stands up to there
+-- the byte of Done, a day and identifiers, read one after the other, are all that stands up to there
 behind_done : (b day ids : List ℕ) (at upto : ℕ) → at < length b → byte b at ≡ 0 → drop (at + 1) b ≡ day ++ drop (at + 5) b → drop (at + 5) b ≡ ids ++ drop upto b
     → drop at b ≡ (0 ∷ day ++ ids) ++ drop upto b
 behind_done b day ids at upto lt done day_read ids_read =

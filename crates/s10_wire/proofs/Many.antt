@@ -1,4 +1,4 @@
--- Identifiers one behind the other.
+-- Identifiers one after the other.
 use Rattle.std.proofs.Common.{◌≡◌, ℕ, zero, suc, ◌+◌, ◌-◌, ◌*◌, ◌<◌, ◌≤◌, true, false, List, [], ◌∷◌, ◌++◌, length, get_or, take, drop, set, Option, Some, None, subst, length-take-le, refl, sym, ap, ◌∙◌, arith, append_assoc}
 use Rattle.std.specs.Prelude.{All, SomeIff}
 use Rattle.std.proofs.lemmas.List.{drop-drop, take_more, take_more_set, flat_map_more}
@@ -17,7 +17,7 @@ pub length-spellings : (ids : List Id) → length (spellings_of ids) ≡ 13 * le
 length-spellings [] = refl
 length-spellings (id ∷ ids) = omega (arith, length-spellings ids)
 
--- the identifiers that stand there, so many
+-- the identifiers that stand there, n
 pub ids_in : ℕ → List ℕ → List Id
 ids_in zero b = []
 ids_in (suc count) b = id_in b 0 ∷ ids_in count (drop 13 b)
@@ -43,12 +43,12 @@ identifiers_pass at b (id ∷ ids) rest ok e =
 pub one_more : (ids : List Id) (i : ℕ) (x : Id) → i < length ids → x ≡ get_or ids i x → take (i + 1) ids ≡ take i ids ++ x ∷ []
 one_more ids i x lt e = take_more ids i x lt ∙ ap (λ (y : Id). take i ids ++ y ∷ []) (sym e)
 
--- the texts of one more behind those so far
+-- the texts of one more after those so far
 pub spellings_more : (old now new : List ℕ) (ids more : List Id) (x : Id) → now ≡ old ++ spellings_of ids → new ≡ now ++ spelling_of x → more ≡ ids ++ x ∷ [] → new ≡ old ++ spellings_of more
 spellings_more old now new ids more x before after grown =
     after ∙ ap (λ (l : List ℕ). l ++ spelling_of x) before ∙ flat_map_more spelling_of old ids x ∙ ap (λ (l : List Id). old ++ spellings_of l) (sym grown)
 
--- a first identifier that passes leaves those behind it
+-- a first identifier that passes leaves those after it
 pub passed_one : (at count : ℕ) (b : List ℕ) → 1 ≤ count → is_identifier b at ≡ true → first_refusal (identifier_fields at count b) ≡ first_refusal (identifier_fields (at + 13) (count - 1) b)
 passed_one at zero b some ok = absurd (omega (arith, some))
 passed_one at (suc n) b some ok = let e : suc n - 1 ≡ n = omega arith in rw (ok, e) refl
@@ -83,7 +83,7 @@ pub refused_here : (b : List ℕ) (p at count asked : ℕ) (fault : WireFault) �
 refused_here b p at count asked fault lt is same before err =
     ap Some err.0 ∙ sym (refused_one at (count - p) b (omega (arith, lt)) err.1) ∙ ap (λ (n : ℕ). first_refusal (identifier_fields n (count - p) b)) is ∙ sym before ∙ ap (λ (n : ℕ). first_refusal (identifier_fields 22 n b)) same
 
--- so many identifiers were read
+-- n identifiers were read
 pub read_ids : (b : List ℕ) (room : List Id) (count asked p : ℕ) (result : Option (List Id)) (ids : List Id) → result ≡ Some ids → SomeIff result (IsCount (length (take count room))) (take count room)
     → count ≡ asked → count ≤ 16 → p ≤ count → count ≤ p → length room ≡ 16 → All IsId (take p room) → drop 22 b ≡ spellings_of (take p room) ++ drop (22 + 13 * p) b
     → AreIds ids × (length ids ≡ asked) × (drop 22 b ≡ spellings_of ids ++ drop (22 + 13 * asked) b)

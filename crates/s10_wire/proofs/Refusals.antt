@@ -1,4 +1,4 @@
--- Refusals in order, one list of them behind another.
+-- Refusals in order, one list of them after another.
 use Rattle.std.proofs.Common.{◌≡◌, ◌≢◌, ℕ, Bool, true, false, not, cond, eqb, List, [], ◌∷◌, ◌++◌, Option, Some, None, refl, sym, ap, ◌∙◌}
 use Rattle.s10_wire.specs.declared.wire_fault.WireFault.{WireFault}
 use Rattle.s10_wire.specs.declared.wire_fault.WireFault.TheVariants.{Outcome}
@@ -27,21 +27,21 @@ pub first_decides : (r s : List (Bool × WireFault)) (fault : WireFault) → fir
 first_decides [] s fault found = absurd cc
 first_decides (refusal ∷ r) s fault found = found_before refusal.0 refusal.1 fault r s (first_decides r s fault) found
 
--- behind the header of a request its length and its fields decide
+-- after the header of a request its length and its fields decide
 pub length_decides : (b : List ℕ) (kind : Kind) → None ≡ first_refusal (header_refusals 0 b) → kind_named 0 b ≡ Some kind
     → first_refusal (request_refusals b) ≡ first_refusal (refusals_after_request b kind)
 length_decides b kind passed named =
     second_decides (header_refusals 0 b) (of_kind (kind_named 0 b) (refusals_after_request b)) (sym passed)
     ∙ ap (λ (named : Option Kind). first_refusal (of_kind named (refusals_after_request b))) named
 
--- behind the header of a reply its length and its fields decide
+-- after the header of a reply its length and its fields decide
 pub reply_length_decides : (b : List ℕ) (kind : Kind) → None ≡ first_refusal (header_refusals 0x80 b) → kind_named 0x80 b ≡ Some kind
     → first_refusal (reply_refusals b) ≡ first_refusal (refusals_after_reply b kind)
 reply_length_decides b kind passed named =
     second_decides (header_refusals 0x80 b) (of_kind (kind_named 0x80 b) (refusals_after_reply b)) (sym passed)
     ∙ ap (λ (named : Option Kind). first_refusal (of_kind named (refusals_after_reply b))) named
 
--- behind the header and the length of a reply its fields decide
+-- after the header and the length of a reply its fields decide
 pub fields_decide : (b : List ℕ) (kind : Kind) → None ≡ first_refusal (header_refusals 0x80 b) → kind_named 0x80 b ≡ Some kind → is_reply_long kind b ≡ true
     → first_refusal (reply_refusals b) ≡ first_refusal (request_fields kind b ++ outcome_refusals kind b)
 fields_decide b kind passed named long = reply_length_decides b kind passed named ∙ rw long refl

@@ -27,7 +27,7 @@ use Rattle.std.proofs.lemmas.Bool.{and_from, lt-ltb, le-ltb, eq-eqb, eqb-true}
 use Rattle.s10_wire.proofs.Many.{length-spellings, ids_in, ids_again, identifiers_pass}
 use Rattle.s10_wire.proofs.Asked.{right_fields, same_requests, id_in}
 
--- the outcome that stands behind a request of a kind
+-- the outcome that follows a request of a kind
 code_outcome : ℕ → Outcome
 code_outcome code =
     if code == 1 then NotThePost else if code == 2 then BadGrant else if code == 3 then Overlap
@@ -87,7 +87,7 @@ outcome_again (Withdraw range) Closed ok fit = refl
 outcome_again (Withdraw range) NumberReused ok fit = refl
 outcome_again body o ok fit = absurd cc
 
--- what stands behind the request's bytes
+-- what follows the request's bytes
 behind : (k : ℕ) (mark : ℕ) (q : Request) (rest : List ℕ) → k ≡ request_length (kind_of q.body) → drop k (datagram mark q ++ rest) ≡ rest
 behind k mark q rest e = rw e (behind_body mark q.customer q.number q.body rest)
   where
@@ -115,7 +115,7 @@ one_reply b p q u o rp rq =
 abbrev asked_by : ℕ → ℕ → Body → Request
 asked_by customer number body = record { customer = customer; number = number; body = body }
 
--- the header and the length of a reply are right, and so is what stands behind the request
+-- the header and the length of a reply are right, and so is what follows the request
 reply_behind : (c n : ℕ) (body : Body) (o : Outcome) → IsBody body → IsOutcome o → fits body o ≡ true
     → let b : List ℕ = datagram 0x80 (asked_by c n body) ++ outcome_bytes o in
     (first_refusal (reply_refusals b) ≡ first_refusal (request_fields (kind_of body) b ++ outcome_refusals (kind_of body) b))

@@ -7,7 +7,7 @@ use Rattle.std.proofs.lemmas.Slice.{take-put_mid, drop-put_mid}
 use borrow.Rule.Slice.PartMut.{put_mid}
 use Rattle.s10_wire.specs.Padding.{zero_padded, IsZeroPadded}
 
--- bytes with zeros behind them are the bytes of their room
+-- bytes with zeros after them are the bytes of their room
 pub front_is : (size : ℕ) (room : List ℕ) (len : ℕ) (bytes : List ℕ) → len ≡ length bytes → room ≡ zero_padded size bytes → take len room ≡ bytes
 front_is size room len bytes long rest = ap₂ take long rest ∙ take-append_seam bytes (replicate (size - length bytes) 0)
 
@@ -26,7 +26,7 @@ fill_roomed size len front bytes long few same =
 pub one_front : (size : ℕ) (a b : List ℕ) → zero_padded size a ≡ zero_padded size b → length a ≡ length b → a ≡ b
 one_front size a b rooms lens = sym (front_is size (zero_padded size a) (length a) a refl refl) ∙ front_is size (zero_padded size a) (length a) b lens rooms
 
--- the room once bytes were written behind those that it held
+-- the room once bytes were written after those that it held
 pub put_is : (size : ℕ) (room : List ℕ) (len k : ℕ) (ys bytes : List ℕ) → IsZeroPadded size room len → len + length bytes ≤ size → k ≡ length bytes → ys ≡ bytes
     → put_mid len k room ys ≡ zero_padded size (take len room ++ bytes)
 put_is size room len k ys bytes is fits count same =

@@ -18,7 +18,7 @@ use Rattle.s10_wire.specs.Kind.{kind_of, code_of, version_of, fits}
 abbrev pub u32_bytes : ℕ → List ℕ
 u32_bytes n = to_be_bytes w32 n
 
--- what a request has behind its header
+-- what a request has after its header
 abbrev pub fields : Body → List ℕ
 fields (Grant holder service country first last) =
     u32_bytes holder ++ letters_of service ++ letters_of country ++ u32_bytes first ++ u32_bytes last
@@ -75,7 +75,7 @@ status_bytes Never = 1 ∷ u32_bytes 0
 status_bytes (Issued day) = 2 ∷ u32_bytes day
 status_bytes (StatusVoided day) = 3 ∷ u32_bytes day
 
--- the outcome byte and what a Done reply has behind it
+-- the outcome byte and what a Done reply has after it
 abbrev pub outcome_bytes : Outcome → List ℕ
 outcome_bytes (Granted range) = 0 ∷ u32_bytes range
 outcome_bytes (Drawn day id) = 0 ∷ u32_bytes day ++ spelling_of id
@@ -95,7 +95,7 @@ outcome_bytes NoSuchRange = 10 ∷ []
 outcome_bytes Closed = 11 ∷ []
 outcome_bytes NumberReused = 9 ∷ []
 
--- the bytes are the datagram of the reply: the outcome fits, and it stands behind the request
+-- the bytes are the datagram of the reply: the outcome fits, and it follows the request
 abbrev pub Replies : List ℕ → Request → Outcome → Type 0
 Replies b q o =
     IsRequest q × IsOutcome o × IsTrue (fits q.body o) × (b ≡ datagram 0x80 q ++ outcome_bytes o)

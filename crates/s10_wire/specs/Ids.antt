@@ -8,7 +8,7 @@ use Rattle.s10_core.specs.Id.{IsId, spelling_of}
 abbrev pub IsCount : ℕ → Type 0
 IsCount n = (1 ≤ n) × (n ≤ 16)
 
--- the identifiers are so many, and their parts are in their ranges
+-- the identifiers are n, and their parts are in their ranges
 abbrev pub AreIds : List Id → Type 0
 AreIds ids = IsCount (length ids) × All IsId ids
 
@@ -21,12 +21,12 @@ first_id (id ∷ ids) = id
 abbrev pub zero_padded : List Id → List Id
 zero_padded ids = ids ++ replicate (16 - length ids) (first_id ids)
 
--- the room holds so many
+-- the room holds n
 pub record AreZeroPadded (room : List Id) (len : ℕ) : Type 0 where
   pub count : IsCount len
   pub long : length (take len room) ≡ len
   pub rest : room ≡ zero_padded (take len room)
 
--- their texts, one behind the other
+-- their texts, one after the other
 abbrev pub spellings_of : List Id → List ℕ
 spellings_of ids = flat_map spelling_of ids

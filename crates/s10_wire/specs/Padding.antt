@@ -5,7 +5,7 @@ use Rattle.std.specs.Prelude.{◌≡◌, ℕ, ◌-◌, ◌≤◌, List, ◌++◌
 abbrev pub zero_padded : ℕ → List ℕ → List ℕ
 zero_padded size bytes = bytes ++ replicate (size - length bytes) 0
 
--- the room of that size holds so many bytes
+-- the room of that size holds n bytes
 pub record IsZeroPadded (size : ℕ) (room : List ℕ) (len : ℕ) : Type 0 where
   pub few : len ≤ size
   pub long : length (take len room) ≡ len

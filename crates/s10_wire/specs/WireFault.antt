@@ -10,7 +10,7 @@ use Rattle.s10_wire.specs.declared.kind.Kind.{Kind}
 use Rattle.s10_wire.specs.declared.kind.Kind.TheVariants.{Grant, Draw, Void, Query, DrawMany, Withdraw}
 use Rattle.s10_wire.specs.Kind.{kind_of_codes, request_length, is_reply_long}
 
--- of refusals in order, each behind its condition, the first whose condition holds
+-- of refusals in order, each after its condition, the first whose condition holds
 abbrev pub first_refusal : List (Bool × WireFault) → Option WireFault
 first_refusal [] = None
 first_refusal (refusal ∷ more) = if refusal.0 then Some refusal.1 else first_refusal more
@@ -61,7 +61,7 @@ header_refusals mark b =
     ∷ (not (byte b 2 == 1 || byte b 2 == 2), Version)
     ∷ (is_none (kind_named mark b), KindFault) ∷ []
 
--- the refusals behind a header, by the kind that it names
+-- the refusals after a header, by the kind that it names
 abbrev pub of_kind : Option Kind → (Kind → List (Bool × WireFault)) → List (Bool × WireFault)
 of_kind None refusals = []
 of_kind (Some kind) refusals = refusals kind
@@ -78,12 +78,12 @@ request_fields DrawMany b =
     (not (are_letters b 12), Field 12) ∷ (not (are_letters b 14), Field 14) ∷ (not (is_count (byte b 16)), Field 16) ∷ []
 request_fields Withdraw b = []
 
--- so many identifiers one behind the other, from an offset on
+-- n identifiers one after the other, from an offset on
 abbrev pub identifier_fields : ℕ → ℕ → List ℕ → List (Bool × WireFault)
 identifier_fields at zero b = []
 identifier_fields at (suc count) b = (not (is_identifier b at), Field at) ∷ identifier_fields (at + 13) count b
 
--- the fields behind the outcome byte of a Done reply that can be wrong, from left to right
+-- the fields after the outcome byte of a Done reply that can be wrong, from left to right
 abbrev pub done_fields : Kind → List ℕ → List (Bool × WireFault)
 done_fields Grant b = []
 done_fields Draw b = (not (is_identifier b 21), Field 21) ∷ []
@@ -102,13 +102,13 @@ code_fits Query code = code == 0 || code == 6 || code == 9
 code_fits DrawMany code = code == 0 || code == 4 || code == 5 || code == 9
 code_fits Withdraw code = code == 0 || code == 1 || code == 9 || code == 10 || code == 11
 
--- the refusals of the outcome byte, and of the fields behind it
+-- the refusals of the outcome byte, and of the fields after it
 abbrev pub outcome_refusals : Kind → List ℕ → List (Bool × WireFault)
 outcome_refusals kind b =
     let code = byte b (request_length kind) in
     if code == 0 then done_fields kind b else (not (code_fits kind code), Outcome) ∷ []
 
--- the refusals of a request of this kind, behind its header
+-- the refusals of a request of this kind, after its header
 abbrev pub refusals_after_request : List ℕ → Kind → List (Bool × WireFault)
 refusals_after_request b kind = (not (length b == request_length kind), Length) ∷ request_fields kind b
 
@@ -116,7 +116,7 @@ refusals_after_request b kind = (not (length b == request_length kind), Length) 
 abbrev pub request_refusals : List ℕ → List (Bool × WireFault)
 request_refusals b = header_refusals 0 b ++ of_kind (kind_named 0 b) (refusals_after_request b)
 
--- the refusals of a reply of this kind, behind its header
+-- the refusals of a reply of this kind, after its header
 abbrev pub refusals_after_reply : List ℕ → Kind → List (Bool × WireFault)
 refusals_after_reply b kind =
     (not (is_reply_long kind b), Length) ∷ (request_fields kind b ++ outcome_refusals kind b)

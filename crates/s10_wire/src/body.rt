@@ -26,7 +26,7 @@ pub enum Body {
     Query {
         id: Id,
     },
-    /// A customer asks for so many identifiers of this service and country, all of them or none.
+    /// A customer asks for n identifiers of this service and country, all of them or none.
     DrawMany {
         service: Service,
         country: Country,

@@ -126,7 +126,7 @@ pub fn encode_request(request: &Request) -> Frame
     request_frame(request, 0)
 }
 
-/// A code and a number behind it.
+/// A code and a number after it.
 fn put_coded(frame: &mut Frame, code: u8, number: u32)
     requires { length frame.old ≤ 128 }
     ensures bytes { frame.new ≡ frame.old ++ code ∷ u32_bytes number }
@@ -178,7 +178,7 @@ fn put_drawn_many(frame: &mut Frame, day: u32, ids: &Ids)
     put_ids(frame, ids.as_slice());
 }
 
-/// The outcome byte, and what stands behind it.
+/// The outcome byte, and what follows it.
 fn put_outcome(frame: &mut Frame, outcome: &Outcome)
     requires { length frame.old ≤ 28 }
     ensures bytes { frame.new ≡ frame.old ++ outcome_bytes outcome.now }

@@ -3,7 +3,7 @@ use std::marker::Model;
 /// A datagram to be sent: at most 256 bytes. Frames of the same bytes are the same frame.
 #[derive(Clone, Copy, Debug, PartialEq, Eq)]
 pub struct Frame {
-    // zeros behind the bytes, so that equal bytes are equal in every field
+    // zeros after the bytes, so that equal bytes are equal in every field
     room: [u8; 256],
     len: usize,
 }

@@ -10,7 +10,7 @@ const MOST: usize = 16;
 /// The identifiers of a sheet of labels, in order: 1 to 16 of them. The same identifiers in the same order are equal.
 #[derive(Clone, Copy, Debug, PartialEq, Eq)]
 pub struct Ids {
-    // behind the identifiers the first of them again, so that equal lists are equal in every field
+    // after the identifiers the first of them again, so that equal lists are equal in every field
     room: [Id; MOST],
     len: usize,
 }

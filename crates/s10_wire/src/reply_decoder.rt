@@ -40,7 +40,7 @@ fn status_at(bytes: &[u8]) -> Result<Status, WireFault>
     }
 }
 
-/// The identifiers, so many, that stand one behind the other from byte 22 on.
+/// The identifiers, n, that stand one after the other from byte 22 on.
 fn ids_at(bytes: &[u8], count: Count) -> Result<Ids, WireFault>
     requires { 22 + 13 * count ≤ length bytes.now }
     ensures read { IfOk result (λ ids. AreIds ids × (length ids ≡ count) × (drop 22 bytes.now ≡ spellings_of ids ++ drop (22 + 13 * count) bytes.now)) }
@@ -54,7 +54,7 @@ fn ids_at(bytes: &[u8], count: Count) -> Result<Ids, WireFault>
     Ok(Ids::new(&room[..count]).unwrap())
 }
 
-/// What was done, where the outcome byte behind the request is 0.
+/// What was done, where the outcome byte after the request is 0.
 fn done_at(body: &Body, bytes: &[u8]) -> Result<Outcome, WireFault>
     requires long { done_length (kind_of body.now) bytes.now ≤ length bytes.now }
     requires done { slice_index bytes.now (request_length (kind_of body.now)) ≡ 0 }
@@ -112,7 +112,7 @@ fn refusal_of(body: &Body, code: u8) -> Result<Outcome, WireFault>
     }
 }
 
-/// The outcome behind the request.
+/// The outcome after the request.
 fn outcome_at(body: &Body, bytes: &[u8]) -> Result<Outcome, WireFault>
     requires long { IsTrue (is_reply_long (kind_of body.now) bytes.now) }
     requires begins { drop 12 bytes.now ≡ fields body.now ++ drop (request_length (kind_of body.now)) bytes.now }
@@ -143,7 +143,7 @@ fn reply_of(bytes: &[u8]) -> Result<Reply, WireFault>
     Ok(Reply::of(request, outcome))
 }
 
-/// Reads a reply. The whole datagram is read: bytes behind it are refused.
+/// Reads a reply. The whole datagram is read: bytes after it are refused.
 pub fn decode_reply(bytes: &[u8]) -> Result<Reply, WireFault>
     // What is read is what the bytes reply.
     ensures found { IfOk result (λ reply. Replies bytes.now (request_of reply) (outcome_of reply)) }

@@ -132,7 +132,7 @@ fn request_of(bytes: &[u8]) -> Result<Request, WireFault>
     request_at(kind, bytes)
 }
 
-/// Reads a request. The whole datagram is read: bytes behind it are refused.
+/// Reads a request. The whole datagram is read: bytes after it are refused.
 pub fn decode_request(bytes: &[u8]) -> Result<Request, WireFault>
     // What is read is what the bytes ask.
     ensures found { IfOk result (Asks bytes.now) }

@@ -16,7 +16,7 @@ pub fn reachable_worlds()
     ensures kept { (t : Terms) (w w' : WorldState) (events : List Event) → IsStart w → IsLegal w.history t → Steps t w events w' → KeepsPromises w'.history t }
     // What was accepted agrees with the history.
     ensures agree { (t : Terms) (w w' : WorldState) (events : List Event) → IsStart w → Steps t w events w' → Agrees w' }
-    // Each submitted request was executed at most once, and its reply tells whether it was.
+    // Each submitted request was executed at most once, and its reply says whether it was.
     ensures once { (t : Terms) (w w' : WorldState) (events : List Event) → IsStart w → IsLegal w.history t → Steps t w events w' → IsAtMostOnce w' }
     // Where no two clients of one customer had a number in common, no two calls share a request, and no identifier is
     // accepted twice within the interval.

@@ -165,7 +165,7 @@ const RANGE_AFTER_RANGE: &'static [Step] = &[
     (7, 2, Draw, 20000, NoneFree),
 ];
 
-/// A sheet of sixteen, and one that goes round.
+/// A sheet of sixteen, and one that wraps around.
 const SHEET_OF_SIXTEEN: &'static [Step] = &[
     (0, 1, Grant(7, 0, 15), 20000, Granted(1)),
     (7, 1, Draw, 20000, Drawn(20000, 0)),

@@ -18,7 +18,7 @@ pub enum Asked {
     GrantOfRb(u32, u32, u32),
     Draw,
     DrawOfRb,
-    /// For so many identifiers.
+    /// For n identifiers.
     DrawMany(u8),
     Void(u32),
     Query(u32),
@@ -126,7 +126,7 @@ pub(crate) fn serial(value: u32) -> Serial {
     Serial::new(value.min(99_999_999)).unwrap()
 }
 
-/// So many, or the nearest that a sheet may have.
+/// n, or the nearest that a sheet may have.
 pub(crate) fn sheet(count: u8) -> Count {
     Count::new(count.clamp(1, 16)).unwrap()
 }
@@ -220,7 +220,7 @@ pub(crate) fn answer<B: Book>(
     Ok(outcome)
 }
 
-/// The place behind a run of serials of RA GB that stands at this place among the identifiers, or
+/// The place after a run of serials of RA GB that stands at this place among the identifiers, or
 /// `None` where it does not stand there.
 fn behind_run(ids: &Ids, place: usize, run: Run) -> Option<usize> {
     let mut at = place;

@@ -23,7 +23,7 @@ pub(crate) fn indexed_book(alloc: Global) -> IndexedBook {
     IndexedBook::new(alloc, settings())
 }
 
-/// The reports of the ranges on a day and of the issues, one behind the other.
+/// The reports of the ranges on a day and of the issues, one after the other.
 fn reports<B: Book>(alloc: Global, book: &mut B, day: u32) -> Result<Vec<u8>, ReportFault> {
     let mut out = Vec::new(alloc);
     write_ranges(book, day, &mut out)?;

@@ -64,7 +64,7 @@ fn failures_made_good<B: Book + Drop>(mut book: B, steps: &[Step]) -> Option<u32
     }
 }
 
-/// Whether the steps make so many calls of the book: each of them fails in turn, and the next is never made.
+/// Whether the steps make n calls of the book: each of them fails in turn, and the next is never made.
 fn make(alloc: Global, steps: &[Step], calls: u64) -> bool {
     for at in 0..=calls {
         let failures = failures_made_good(failing_book(alloc, at), steps);
@@ -75,7 +75,7 @@ fn make(alloc: Global, steps: &[Step], calls: u64) -> bool {
     true
 }
 
-/// Each row's steps make so many calls of the book.
+/// Each row's steps make n calls of the book.
 fn all_make<R: Abort + AllocGlobal>(rt: &R, rows: &[(&[Step], u64)]) {
     for (steps, calls) in rows {
         assert!(rt; make(rt.alloc(), steps, *calls));

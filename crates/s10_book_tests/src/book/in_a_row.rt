@@ -11,7 +11,7 @@ use std::process::Abort;
 /// Who asks, for how many and on which day, and the serials of RA GB that are given.
 type Row = (u32, u8, u32, Option<&'static [u32]>);
 
-/// Whether these identifiers are what so many single Draws give, kept one after another.
+/// Whether these identifiers are what n single Draws give, kept one after another.
 fn are_single_draws<B: Book>(book: &mut B, row: &Row, ids: &Option<Ids>) -> bool {
     let (customer, count, day, _) = *row;
     for place in 0..count {
@@ -111,7 +111,7 @@ fn a_sheet_goes_on_in_the_next_range(rt: HostRuntime) {
     are_right(&rt, THREE_GRANTS, SHEETS_OF_TWO_RANGES);
 }
 
-/// Sheets that go on behind a closed range.
+/// Sheets that go on after a closed range.
 const SHEETS_OVER_A_CLOSED_RANGE: &'static [Row] = &[
     (7, 3, 20000, Some(&[0, 1, 2])),
     (7, 5, 20000, Some(&[0, 1, 2, 8, 9])),

@@ -15,7 +15,7 @@ fn are_numbered(rt: &impl Abort, ranges: &Ranges) {
     }
 }
 
-/// The next open range of RA GB of the customer behind that number is the one of the wanted number, 0 for none.
+/// The next open range of RA GB of the customer after that number is the one of the wanted number, 0 for none.
 fn has_next(rt: &impl Abort, ranges: &Ranges, customer: u32, after: u32, want: u32) {
     let ra = service(rt, *b"RA");
     let gb = country(rt, *b"GB");
@@ -23,7 +23,7 @@ fn has_next(rt: &impl Abort, ranges: &Ranges, customer: u32, after: u32, want: u
     same(rt, &(customer, after), &found, &numbered(rt, want));
 }
 
-/// Customers, the number behind which a range is looked for, and the wanted number.
+/// Customers, the number after which a range is looked for, and the wanted number.
 fn have_next(rt: &impl Abort, ranges: &Ranges, wanted: &[(u32, u32, u32)]) {
     for (customer, after, want) in wanted {
         has_next(rt, ranges, *customer, *after, *want);

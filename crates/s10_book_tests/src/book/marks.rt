@@ -32,7 +32,7 @@ fn new_range_is_marked_at_its_first_serial(rt: HostRuntime) {
     assert!(rt; ranges.mark(8).is_none());
 }
 
-/// Each drawn serial, the number of its range, and the mark behind it: past the last serial it is the first again, and the range
+/// Each drawn serial, the number of its range, and the mark after it: past the last serial it is the first again, and the range
 /// stays in a later turn.
 const DRAWN: &[(u32, u32, u32, Lap)] = &[
     (10, 2, 11, Lap::First),

@@ -10,7 +10,7 @@ use s10_wire::{Outcome, Request};
 
 const ROUNDS: u32 = 60;
 
-// Of each turn of a round, what is added to ten times the round for the number of its call: turn 8 is turn 3 again, and turn 11
+// Of each turn of a batch, what is added to ten times the batch for the number of its call: turn 8 is turn 3 again, and turn 11
 // has the number of turn 4.
 const NUMBERS: [u32; 12] = [0, 1, 2, 3, 4, 5, 6, 7, 3, 8, 9, 4];
 
@@ -76,7 +76,7 @@ fn kind(outcome: &Outcome) -> usize
     }
 }
 
-// The days rise by five in four rounds; one call of each round is handed in on an earlier day.
+// The days rise by five in four batches; one call of each batch is handed in on an earlier day.
 fn day(round: u32, lap: usize) -> u32
     requires { round ≤ 1000 }
 {
@@ -108,7 +108,7 @@ fn turn_is_alike<A: Book, B: Book>(
     }
 }
 
-// Whether both books answer the twelve calls of the round alike; the kinds of their answers are noted.
+// Whether both books answer the twelve calls of the batch alike; the kinds of their answers are noted.
 fn round_is_alike<A: Book, B: Book>(
     one: &mut A,
     other: &mut B,
@@ -127,7 +127,7 @@ fn round_is_alike<A: Book, B: Book>(
     true
 }
 
-// How many of the rounds both books answer alike, one after another, and which kinds of answers came.
+// How many of the batches both books answer alike, one after another, and which kinds of answers came.
 fn rounds_alike<A: Book, B: Book>(one: &mut A, other: &mut B) -> (u32, [bool; 17]) {
     let mut seen = [false; 17];
     for round in 0..ROUNDS {

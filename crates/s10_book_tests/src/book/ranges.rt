@@ -15,7 +15,7 @@ fn range(first: u32, last: u32) -> Range {
     }
 }
 
-/// The serial so many behind that one, where a range has that one and more serials than so many.
+/// The serial n after that one, where a range has that one and more serials than n.
 fn behind(first: u32, last: u32, from: u32, count: u8) -> Option<u32> {
     let range = range(first, last);
     let from = serial(from);
@@ -42,7 +42,7 @@ fn a_range_has_its_last_serial_too(rt: HostRuntime) {
     }
 }
 
-/// The first serial of a range, its last one, one of them, so many, and the serial that stands so many behind that one.
+/// The first serial of a range, its last one, one of them, n, and the serial that stands n after that one.
 const BEHIND: &[(u32, u32, u32, u8, u32)] = &[
     (5, 5, 5, 0, 5),
     (4, 6, 4, 0, 4),

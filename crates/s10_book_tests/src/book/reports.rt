@@ -111,7 +111,7 @@ fn a_sheet_has_a_line_for_each_identifier(rt: HostRuntime) {
     are_reported(&rt, "two sheets", TWO_SHEETS, SHEETS_REPORTS);
 }
 
-/// A range is closed, and another granted behind it.
+/// A range is closed, and another granted after it.
 const CLOSED_RANGE: &'static [Step] = &[
     OPENING,
     (7, 1, Draw, 20000, Drawn(20000, 0)),
@@ -155,7 +155,7 @@ fn first_passed_over<R: Abort + AllocGlobal>(rt: &R, day: Option<u32>, whole: &[
     100
 }
 
-// The report of issues makes so many calls of the book, and that of ranges.
+// The report of issues makes n calls of the book, and that of ranges.
 #[test]
 fn a_book_that_fails_leaves_whole_lines(rt: HostRuntime) {
     same(&rt, &"issues", &first_passed_over(&rt, None, ISSUES), &14);

@@ -29,7 +29,7 @@ enum Question {
     GroupCommit,
     /// What a Draw would be given: the customer's range is looked for, and its candidate.
     Candidate,
-    /// What a sheet of one label would be given: the customer's range is looked for, and its pick behind none.
+    /// What a sheet of one label would be given: the customer's range is looked for, and its pick after none.
     Sheet,
     /// The report of the ranges: range 1 is looked for, its usage, and whether it is closed.
     Usage,
@@ -184,7 +184,7 @@ fn refused_at<R: Abort + AllocGlobal>(rt: &R, question: Question, at: u64) -> Op
     refused(rt.alloc(), TripBook::new(inner, at), question)
 }
 
-/// The first call, counted from 0, that is not refused in turn, if any, where a question of the kind makes so many: a book that
+/// The first call, counted from 0, that is not refused in turn, if any, where a question of the kind makes n: a book that
 /// fails at one of its calls refuses that one of the questions that makes it.
 fn first_passed_over<R: Abort + AllocGlobal>(
     rt: &R,

@@ -185,7 +185,7 @@ fn has_closed<B: Book>(book: &mut B, num: u32, closed: bool) -> bool {
     book.closed(num) == Ok(closed)
 }
 
-/// Whether the next open range of customer 7 behind that one has this number.
+/// Whether the next open range of customer 7 after that one has this number.
 fn has_open<B: Book>(book: &mut B, after: u32, num: Option<u32>) -> bool {
     let held = HolderKey {
         holder: 7,
@@ -209,7 +209,7 @@ fn are_closed_as_told<B: Book>(rt: &impl Abort, book: &mut B) {
     }
 }
 
-/// Numbers of ranges, and that of the next open one behind each.
+/// Numbers of ranges, and that of the next open one after each.
 const NEXT: &[(u32, Option<u32>)] = &[(0, Some(1)), (1, Some(3)), (2, Some(3)), (3, None)];
 
 fn open_ranges_are_next<B: Book>(rt: &impl Abort, book: &mut B) {

@@ -118,7 +118,7 @@ fn changes_read(rt: &impl Abort, bytes: &mut [u8], is_reply: bool) -> u32 {
     count
 }
 
-/// So many of all changes of one byte of these are still read, as a reply or as a request.
+/// n of all changes of one byte of these are still read, as a reply or as a request.
 fn change(rt: &impl Abort, bytes: &mut [u8], is_reply: bool, wanted: u32) {
     let read = changes_read(rt, bytes, is_reply);
     same(rt, &&*bytes, &read, &wanted);

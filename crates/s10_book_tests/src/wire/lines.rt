@@ -185,7 +185,7 @@ const REPLY_LINES: &'static [(Call, Came, &'static [u8])] = &[
     ),
 ];
 
-// A table is proved anew wherever it is named, so this one is named once.
+// A table is proved again wherever it is named, so this one is named once.
 fn reply_lines() -> &'static [(Call, Came, &'static [u8])] {
     REPLY_LINES
 }
@@ -214,7 +214,7 @@ fn each_outcome_of_each_kind_has_its_line(rt: HostRuntime) {
     }
 }
 
-/// Whether a writer that failed has got the line up to there, and nothing behind it.
+/// Whether a writer that failed has got the line up to there, and nothing after it.
 fn is_cut(answer: Result<(), WriteFault>, out: &Hiccup, line: &[u8], room: usize) -> bool {
     room < line.len() && answer == Err(WriteFault) && out.bytes.as_slice() == &line[..room]
 }

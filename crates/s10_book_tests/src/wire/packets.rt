@@ -14,7 +14,7 @@ const LENGTHS: &[(usize, usize)] = &[
     (600, 512),
 ];
 
-/// The packet of the first so many bytes has the first of them that are kept.
+/// The packet of the first n bytes has the first of them that are kept.
 fn keeps(rt: &impl Abort, datagram: &[u8; 600], len: usize, kept: usize) {
     let packet = Packet::new(&datagram[..len.min(600)]);
     same(rt, &len, &packet.bytes(), &&datagram[..kept.min(600)]);
@@ -31,7 +31,7 @@ fn a_packet_keeps_512_bytes(rt: HostRuntime) {
     }
 }
 
-/// Whether the packets of so many bytes, and of so many, are equal. The bytes are all the same, but for one of the second packet
+/// Whether the packets of n bytes, and of n, are equal. The bytes are all the same, but for one of the second packet
 /// where it has that many.
 fn are_equal(byte: u8, one: usize, other: usize, changed: usize) -> bool {
     let bytes = [byte; 600];

@@ -126,7 +126,7 @@ fn six_sends(alloc: Global) -> Result<ScriptLink, AllocError> {
     ScriptLink::new(alloc, Vec::new(alloc), vec![in alloc; true; 6]?)
 }
 
-/// Where Draws are sent to in turn, their numbers, and how many sends were alike then, one behind another.
+/// Where Draws are sent to in turn, their numbers, and how many sends were alike then, one after another.
 const ALIKE: &[(Peer, u32, u64)] = &[
     (FAR, 1, 1),
     (FAR, 1, 2),

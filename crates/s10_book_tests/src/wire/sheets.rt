@@ -23,7 +23,7 @@ fn seventeen(rt: &impl Abort) -> [Id; 17] {
     ids
 }
 
-/// The sheet of the first of these identifiers, so many as there shall be.
+/// The sheet of the first of these identifiers, n as there shall be.
 fn sheet(ids: &[Id], labels: usize) -> Option<Ids> {
     if labels <= ids.len() {
         Ids::new(&ids[..labels])

@@ -91,7 +91,7 @@ const REQUESTS: &'static [Vector] = &[
     ),
 ];
 
-// A table is proved anew wherever it is named, so each of the two is named once.
+// A table is proved again wherever it is named, so each of the two is named once.
 pub(crate) fn requests() -> &'static [Vector] {
     REQUESTS
 }

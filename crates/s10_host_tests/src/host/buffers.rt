@@ -12,7 +12,7 @@ const REGISTERED: &str = "RA473124829US valid registered\n";
 
 const NOTHING: &[u8] = b"";
 
-/// The status of a check over this output, and the output behind it. None where it is not written out.
+/// The status of a check over this output, and the output after it. None where it is not written out.
 fn checked<R: Eprint + AllocGlobal, W: Write + Drop>(rt: &R, output: W) -> Option<(Option<u8>, W)> {
     run_buffered(rt, CHECK, NOTHING, output).ok()
 }

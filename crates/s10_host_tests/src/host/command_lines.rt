@@ -372,7 +372,7 @@ const WITHDRAWALS: &[Case] = &[
         0,
         "reply withdraw customer 0 number 2 1 closed\n",
     ),
-    // What a withdrawal never comes to: an overlap, and a code behind the last one.
+    // What a withdrawal never comes to: an overlap, and a code after the last one.
     (
         &["s10", "show", "5331028600000000000000020000000103"],
         1,
@@ -458,7 +458,7 @@ fn show_reads_two_digits_for_each_byte(rt: HostRuntime) {
     run_cases(&rt, WRONG_DIGITS);
 }
 
-/// Whether so many bytes 0 are refused with this line.
+/// Whether n bytes 0 are refused with this line.
 fn are_refused_to_be_shown<R: Eprint + AllocGlobal>(rt: &R, count: usize, line: &str) -> bool {
     let Ok(digits) = "00".repeat(rt.alloc(), count) else {
         return false;

@@ -101,7 +101,7 @@ fn is_worked<B: Book>(alloc: Global, server: &mut Server<B>) -> bool {
     }
 }
 
-/// Whether a server over this book does, and the book, whose calls are settled.
+/// Whether a server over this book does, and the book, whose calls are committed.
 fn hand_in<B: GroupCommit>(alloc: Global, book: B) -> (bool, B) {
     let mut server = Server::new(book);
     let is_same = is_worked(alloc, &mut server);
@@ -115,7 +115,7 @@ fn gives_nine_replies<B: GroupCommit + Drop>(alloc: Global, book: B) -> bool {
     is_same
 }
 
-/// Whether the two reports of a book, one behind the other, are as worked by hand.
+/// Whether the two reports of a book, one after the other, are as worked by hand.
 fn are_as_worked<B: Book>(alloc: Global, book: &mut B) -> bool {
     let mut out = Vec::new(alloc);
     write_ranges(book, 20_030, &mut out) == Ok(())
@@ -123,14 +123,14 @@ fn are_as_worked<B: Book>(alloc: Global, book: &mut B) -> bool {
         && out.as_slice() == REPORTS.as_bytes()
 }
 
-/// The book behind the nine calls. Says whether it gave the nine replies, and whether its reports are then as worked by hand.
+/// The book after the nine calls. Says whether it gave the nine replies, and whether its reports are then as worked by hand.
 fn reported<B: GroupCommit>(alloc: Global, book: B, said: &mut (bool, bool)) -> B {
     let (is_same, mut book) = hand_in(alloc, book);
     *said = (is_same, are_as_worked(alloc, &mut book));
     book
 }
 
-/// The tables of a new ledger behind the nine calls, and whether it gave the replies and its reports are as worked by hand.
+/// The tables of a new ledger after the nine calls, and whether it gave the replies and its reports are as worked by hand.
 fn worked<R: Abort + AllocGlobal>(rt: &R) -> (Connection<MemStore>, (bool, bool)) {
     let mut said = (false, false);
     let book = reported(rt.alloc(), ledger(rt, settings()), &mut said);
@@ -157,7 +157,7 @@ fn worked_ledger<R: Abort + AllocGlobal>(rt: &R) -> Option<Connection<MemStore>>
     Some(tables)
 }
 
-/// Tables behind one change.
+/// Tables after one change.
 fn changed<S: Alter + Drop>(ledger: Option<Connection<S>>, change: &str) -> Option<Connection<S>> {
     let mut connection = ledger?;
     connection.execute(change, &[]).ok()?;
@@ -209,7 +209,7 @@ fn database_without_tables_is_no_ledger(rt: HostRuntime) {
     assert!(rt; is_audited(&rt, bare, JobStatus::Failed, "ledger not-a-ledger\n"));
 }
 
-/// A change of the tables, and the line of an audit behind it.
+/// A change of the tables, and the line of an audit after it.
 const CHANGES: &[(&str, &str)] = &[
     ("UPDATE head SET schema = 2", "ledger schema 2\n"),
     ("UPDATE head SET interval = 0", "ledger not-a-ledger\n"),
@@ -265,7 +265,7 @@ const CHANGES: &[(&str, &str)] = &[
     ("INSERT INTO closed VALUES (1, 9)", "ledger damaged 0\n"),
 ];
 
-/// Whether an audit behind the change fails with this line.
+/// Whether an audit after the change fails with this line.
 fn is_found<R: Abort + AllocGlobal>(rt: &R, change: &str, line: &str) -> bool {
     let ledger = changed(worked_ledger(rt), change);
     is_audited(rt, ledger, JobStatus::Failed, line)

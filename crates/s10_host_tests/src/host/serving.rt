@@ -16,7 +16,7 @@ const ANY: Peer = Peer {
     port: 0,
 };
 
-/// What came of so many turns of a new server at the address.
+/// What came of n turns of a new server at the address.
 fn served_at<R: Net + Clock + Eprint + AllocGlobal, W: Write>(
     rt: &R,
     at: Peer,
@@ -28,7 +28,7 @@ fn served_at<R: Net + Clock + Eprint + AllocGlobal, W: Write>(
     served
 }
 
-/// Whether so many turns of a new server at the address have this status and print this text.
+/// Whether n turns of a new server at the address have this status and print this text.
 fn is_served_at<R: Net + Clock + Eprint + AllocGlobal>(
     rt: &R,
     at: Peer,

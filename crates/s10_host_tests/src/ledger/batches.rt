@@ -1,4 +1,4 @@
-//! Rounds of a server over a ledger that could not be settled once.
+//! Batches of a server over a ledger that could not be committed once.
 
 use crate::expect::same;
 use crate::ledger::calls::{ledger, settings};
@@ -21,7 +21,7 @@ const OTHER: Peer = Peer {
 // The post's first Grant: range 1 for customer 7, RA GB 0 to 2.
 const GRANT: &[u8] = b"S1\x01\x01\0\0\0\0\0\0\0\x01\0\0\0\x07RAGB\0\0\0\0\0\0\0\x02";
 
-// A datagram that comes, whose reply is held back where the settling fails if its call is new, and is sent in a round behind that.
+// A datagram that comes, whose reply is held back where the commit fails if its call is new, and is sent in a batch after that.
 struct Case {
     from: Peer,
     request: &'static [u8],
@@ -29,7 +29,7 @@ struct Case {
     is_new: bool,
 }
 
-// Customer 7's first three Draws, of which the first is settled before.
+// Customer 7's first three Draws, of which the first is committed before.
 const FIRST: &Case = &Case {
     from: OTHER,
     request: b"S1\x01\x02\0\0\0\x07\0\0\0\x01RAGB",
@@ -60,7 +60,7 @@ fn link(alloc: Global, cases: (&Case, &Case)) -> Result<ScriptLink, AllocError> 
     ScriptLink::new(alloc, receipts, [true; 4].to_vec(alloc)?)
 }
 
-// The book once it settled the Grant and the first Draw.
+// The book once it committed the Grant and the first Draw.
 fn committed<B: GroupCommit>(book: B) -> B {
     let mut server = Server::new(book);
     let _ = server.handle(GRANT, 20_000);
@@ -69,7 +69,7 @@ fn committed<B: GroupCommit>(book: B) -> B {
     server.into_book()
 }
 
-// Whether a turn is that of a datagram, where the settling fails or behind that.
+// Whether a turn is that of a datagram, where the commit fails or after that.
 fn is_turn(turn: &Turn, case: &Case, fails: bool) -> bool {
     let is_held = fails && case.is_new;
     match turn {
@@ -83,7 +83,7 @@ fn is_turn(turn: &Turn, case: &Case, fails: bool) -> bool {
     }
 }
 
-// Whether a round over both datagrams, or else a turn over the first, ends so.
+// Whether a batch over both datagrams, or else a turn over the first, ends so.
 fn ends<B: GroupCommit>(
     alloc: Global,
     server: &mut Server<B>,
@@ -106,7 +106,7 @@ fn ends<B: GroupCommit>(
     }
 }
 
-// Whether a round or turn over a book ends as where the settling fails, and whether the next one over the same sends all replies;
+// Whether a batch or turn over a book ends as where the commit fails, and whether the next one over the same sends all replies;
 // and the book.
 fn ends_over<B: GroupCommit>(
     alloc: Global,
@@ -123,7 +123,7 @@ fn ends_over<B: GroupCommit>(
     (server.into_book(), [at_first, then])
 }
 
-// The same over a book whose call with this number fails, behind those that are settled.
+// The same over a book whose call with this number fails, after those that are committed.
 fn ends_tripping<B: GroupCommit>(
     alloc: Global,
     book: B,
@@ -136,7 +136,7 @@ fn ends_tripping<B: GroupCommit>(
     (book.into_inner(), ends)
 }
 
-// At how many calls of the book the replies wait for a settling. None where one is not sent then.
+// At how many calls of the book the replies wait for a commit. None where one is not sent then.
 fn waits<R: Abort + AllocGlobal>(rt: &R, cases: (&Case, &Case), in_round: bool) -> Option<u32> {
     let mut count: u32 = 0;
     for at in 0..20u64 {
@@ -151,7 +151,7 @@ fn waits<R: Abort + AllocGlobal>(rt: &R, cases: (&Case, &Case), in_round: bool) 
     Some(count)
 }
 
-// Each call of the book fails in turn; one of them is the settling.
+// Each call of the book fails in turn; one of them is the commit.
 fn wait_once<R: Abort + AllocGlobal>(rt: &R, first: &Case, second: &Case) {
     let found = (
         waits(rt, (first, second), true),

@@ -28,7 +28,7 @@ pub(crate) enum Read {
     Entry(u32, bool),
     /// The range with this number: the first, or none.
     Range(u32, bool),
-    /// The range of this holder behind that number: the first, or none.
+    /// The range of this holder after that number: the first, or none.
     NextRange(u32, u32, bool),
     /// The range over the serials from one to the other: the first, or none.
     Covering(u32, u32, bool),
@@ -43,7 +43,7 @@ pub(crate) enum Read {
 /// Nothing is read.
 const UNREAD: &'static [Read] = &[];
 
-/// What is found of a book behind steps: the places of the first step that was not answered as its row says, and of the first that
+/// What is found of a book after steps: the places of the first step that was not answered as its row says, and of the first that
 /// is not read so; how many calls there are, the day of the last, and the settings.
 pub(crate) type Found = (Option<usize>, Option<usize>, u32, u32, Settings);
 
@@ -85,7 +85,7 @@ pub(crate) fn first_unlike_of<R: Abort + AllocGlobal>(
     (unlike, closed(book))
 }
 
-/// The connection of a ledger behind these steps, which it and a book in memory answer, and are read then, as the rows say.
+/// The connection of a ledger after these steps, which it and a book in memory answer, and are read then, as the rows say.
 fn both_after<R: Abort + AllocGlobal>(
     rt: &R,
     name: &str,
@@ -304,7 +304,7 @@ fn is_first(found: &Result<Option<Range>, BookFault>, is_there: bool) -> bool {
     *found == Ok(first_range(is_there))
 }
 
-/// Whether the range that a holder has behind that number is the first, or none.
+/// Whether the range that a holder has after that number is the first, or none.
 fn has_behind<B: Book>(book: &mut B, holder: u32, after: u32, is_there: bool) -> bool {
     let held = HolderKey {
         holder,
@@ -405,14 +405,14 @@ const THREE_FREE: Usage = Usage {
     free: 3,
 };
 
-/// What is read behind six calls.
+/// What is read after six calls.
 const SIX_CALLS_READ: &'static [Read] = &[
     Read::LastIssue(1, Some(VOIDED)),
     Read::Usage(20000, ONE_VOIDED),
     Read::Candidate(0, FIRST),
 ];
 
-/// What is read behind nine calls.
+/// What is read after nine calls.
 const NINE_CALLS_READ: &'static [Read] = &[
     Read::Find(7, 5, true),
     Read::Find(5, 7, false),

@@ -188,7 +188,7 @@ pub(crate) fn ledger<R: Abort + AllocGlobal>(rt: &R, settings: Settings) -> SqlB
     }
 }
 
-/// The connection of a ledger, once its calls are settled.
+/// The connection of a ledger, once its calls are committed.
 pub(crate) fn closed(mut book: SqlBook<MemStore>) -> Connection<MemStore> {
     let _ = book.commit();
     book.close()

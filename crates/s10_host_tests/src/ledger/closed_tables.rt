@@ -46,7 +46,7 @@ fn damaged(tables: (usize, bool)) -> Result<Option<Left>, Error> {
     Ok(Some((Err(OpenFault::Damaged(0)), true, tables, Ok(None))))
 }
 
-/// A damage, and the tables behind it.
+/// A damage, and the tables after it.
 const DAMAGES: &[(&str, (usize, bool))] = &[
     ("DROP TABLE closed", INCOMPLETE),
     ("DELETE FROM closed", COMPLETE),

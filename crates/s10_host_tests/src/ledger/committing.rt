@@ -1,4 +1,4 @@
-//! Calls that are pending, and their settling.
+//! Calls that are pending, and their commit.
 
 use crate::expect::same;
 use crate::ledger::books::first_unlike_in;
@@ -26,7 +26,7 @@ fn first_refused<B: Book>(book: &mut B, numbers: Range<u32>) -> Option<u32> {
     None
 }
 
-/// Whether the book keeps a Grant, and so many Draws behind it.
+/// Whether the book keeps a Grant, and n Draws after it.
 fn keeps<B: Book>(book: &mut B, draws: u32) -> bool {
     first_unlike(book, GRANT).is_none() && first_refused(book, 0..draws).is_none()
 }
@@ -47,14 +47,14 @@ fn calls_found(alloc: Global, book: SqlBook<MemStore>) -> Option<u32> {
     }
 }
 
-/// Whether the calls are kept and settled, and how many are found then.
+/// Whether the calls are kept and committed, and how many are found then.
 fn committed<R: Abort + AllocGlobal>(rt: &R, draws: u32) -> (bool, Option<u32>) {
     let (mut book, is_kept) = kept(rt, draws);
     let is_committed = book.commit().is_ok();
     (is_kept && is_committed, calls_found(rt.alloc(), book))
 }
 
-/// Draws behind a Grant, and how many calls are settled.
+/// Draws after a Grant, and how many calls are committed.
 const SETTLED_CALLS: &[(u32, u32)] = &[(0, 1), (1, 2), (63, 64), (64, 65)];
 
 #[test]
@@ -64,13 +64,13 @@ fn committed_calls_are_found_after_reopening(rt: HostRuntime) {
     }
 }
 
-/// Whether the calls are kept, and how many are found where nobody settles them.
+/// Whether the calls are kept, and how many are found where nobody commits them.
 fn uncommitted<R: Abort + AllocGlobal>(rt: &R, draws: u32) -> (bool, Option<u32>) {
     let (book, is_kept) = kept(rt, draws);
     (is_kept, calls_found(rt.alloc(), book))
 }
 
-/// Draws behind a Grant, and how many calls were settled to make room.
+/// Draws after a Grant, and how many calls were committed to make room.
 const FULL_ROUNDS: &[(u32, u32)] = &[(0, 0), (1, 0), (63, 0), (64, 64), (127, 64), (128, 128)];
 
 #[test]
@@ -96,14 +96,14 @@ fn a_pending_call_is_found(rt: HostRuntime) {
     same(&rt, &"repeated", &repeated(&rt), &(true, 4, Some(0)));
 }
 
-/// What is told of a settling: which of four calls are settled before it, what it answers, which are settled behind it, and how many
+/// What is reported for a commit: which of four calls are committed before it, what it answers, which are committed after it, and how many
 /// calls the book has then.
 pub(crate) type Told = ([bool; 4], Result<(), BookFault>, [bool; 4], u32);
 
-/// The third call is settled by the settling alone.
+/// The third call is committed by the commit alone.
 pub(crate) const SETTLED: Told = ([true, true, false, true], Ok(()), [true; 4], 5);
 
-/// The settling fails, and what was pending stays so.
+/// The commit fails, and what was pending stays so.
 pub(crate) const UNSETTLED: Told = (
     [true, true, false, true],
     Err(BookFault::Store),
@@ -111,7 +111,7 @@ pub(crate) const UNSETTLED: Told = (
     5,
 );
 
-/// Whether the calls of these keys are settled. The last is the key of no call.
+/// Whether the calls of these keys are committed. The last is the key of no call.
 fn settled_keys<B: GroupCommit>(book: &B) -> [bool; 4] {
     [
         book.is_committed(0, 1),
@@ -123,7 +123,7 @@ fn settled_keys<B: GroupCommit>(book: &B) -> [bool; 4] {
 
 const GRANT_OF_TEN: &'static [Step] = &[(0, 1, Asked::Grant(7, 0, 9), 20000, Answered::Granted(1))];
 
-/// Whether the book settles a Grant and a Draw, and keeps three Draws behind them.
+/// Whether the book commits a Grant and a Draw, and keeps three Draws after them.
 fn keeps_three<B: GroupCommit>(book: &mut B) -> bool {
     first_unlike(book, GRANT_OF_TEN).is_none()
         && first_refused(book, 1..2).is_none()
@@ -131,7 +131,7 @@ fn keeps_three<B: GroupCommit>(book: &mut B) -> bool {
         && first_refused(book, 2..5).is_none()
 }
 
-/// What is told of a settling behind three more calls than are settled. None where the first two are not settled.
+/// What is reported for a commit after three more calls than are committed. None where the first two are not committed.
 fn settles_three<B: GroupCommit>(book: &mut B) -> Option<Told> {
     if !keeps_three(book) {
         return None;

@@ -96,7 +96,7 @@ fn a_closed_range_is_kept_with_the_arrival_of_its_withdrawal(rt: HostRuntime) {
     }
 }
 
-/// Each drawn serial, its arrival, day and request number, and the mark behind it.
+/// Each drawn serial, its arrival, day and request number, and the mark after it.
 const DRAWN: &[(u32, u32, u32, u32, i64)] = &[
     (0, 2, 20000, 1, 1),
     (1, 3, 20000, 2, 2),

@@ -24,7 +24,7 @@ const GRANTED: &'static [Shown] = &[
     ("SELECT mark FROM ranges", 1, &[0]),
 ];
 
-/// A row for each serial that was drawn, and one range whose mark is behind them.
+/// A row for each serial that was drawn, and one range whose mark is after them.
 const DRAWN: &'static [Shown] = &[
     ("SELECT count(*) FROM serials", 1, &[10_000]),
     ("SELECT mark FROM ranges", 1, &[10_000]),

@@ -93,7 +93,7 @@ fn ranges_are_alike<A: Book, B: Book>(one: &mut A, other: &mut B, ranges: u32) -
     true
 }
 
-// The ledger, settled, closed and opened again.
+// The ledger, committed, closed and opened again.
 fn opened_again<R: Abort + AllocGlobal>(rt: &R, mut book: SqlBook<MemStore>) -> SqlBook<MemStore> {
     let _ = book.commit();
     match SqlBook::open(rt.alloc(), book.close(), &mut NoObserver) {

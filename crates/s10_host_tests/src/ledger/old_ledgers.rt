@@ -68,7 +68,7 @@ fn a_damaged_ledger_gets_no_table_of_closed_ranges(rt: HostRuntime) {
     }
 }
 
-/// The ledger in a connection, behind these steps. None where it does not open.
+/// The ledger in a connection, after these steps. None where it does not open.
 fn served<R: Abort + AllocGlobal>(
     rt: &R,
     conn: Connection<MemStore>,
@@ -93,7 +93,7 @@ fn served<R: Abort + AllocGlobal>(
     }
 }
 
-/// A Draw, a withdrawal and a Draw behind the nine calls, and two of them once more.
+/// A Draw, a withdrawal and a Draw after the nine calls, and two of them once more.
 const LATER_CALLS: &'static [Step] = &[
     (7, 9, Draw, 20030, Drawn(20030, 2)),
     (0, 2, Withdraw(1), 20031, Withdrawn),

@@ -147,7 +147,7 @@ fn schema_of_a_ledger_is_known(rt: HostRuntime) {
     }
 }
 
-/// What is made behind the tables of a ledger, and what is found.
+/// What is made after the tables of a ledger, and what is found.
 const CASES: &[Change] = &[
     (HEAD, WHOLE),
     ("", NO_LEDGER),
@@ -185,7 +185,7 @@ const CASES: &[Change] = &[
         "INSERT INTO head (one, schema, interval, cap) VALUES (1, 1, 30, 100); CREATE INDEX by_arrival ON closed (arrival)",
         NO_LEDGER,
     ),
-    // The table of closed ranges behind one of the office's own.
+    // The table of closed ranges after one of the office's own.
     (
         "INSERT INTO head (one, schema, interval, cap) VALUES (1, 1, 30, 100); DROP TABLE closed; CREATE TABLE note (n INTEGER NOT NULL) STRICT; CREATE TABLE closed (num INTEGER NOT NULL PRIMARY KEY, arrival INTEGER NOT NULL) STRICT",
         NO_LEDGER,

@@ -55,7 +55,7 @@ const GOING_ROUND: Step = (
 /// Sheets from one range of three serials, until the thirtieth day.
 const FIRST_ROUND: &[Step] = &[GRANT, SHEET, SHEET, NONE_FREE, THIRD_SERIAL];
 
-/// The same, and on that day, on which it goes round.
+/// The same, and on that day, on which it wraps around.
 const ONE_RANGE: &[Step] = &[
     GRANT,
     SHEET,
@@ -258,7 +258,7 @@ fn deliveries_on(
     Ok(deliveries)
 }
 
-/// What replies say from the byte of that place on, one behind the other.
+/// What replies say from the byte of that place on, one after the other.
 fn texts_of(alloc: Global, answers: &[Answer], from: usize) -> Result<Vec<u8>, AllocError> {
     let mut text = Vec::new(alloc);
     for answer in answers {
@@ -284,7 +284,7 @@ fn text_from<B: Book>(
     texts_of(alloc, &answers, from)
 }
 
-/// The same over a book that gets them on that day behind those steps; and the book.
+/// The same over a book that gets them on that day after those steps; and the book.
 fn text_behind<B: Book>(
     alloc: Global,
     book: B,
@@ -313,7 +313,7 @@ fn told<R: Abort + AllocGlobal>(
     text
 }
 
-/// Whether a sheet behind those steps has the identifiers that so many Draws have in its place.
+/// Whether a sheet after those steps has the identifiers that n Draws have in its place.
 fn is_as_draws<R: Abort + AllocGlobal>(
     rt: &R,
     steps: &[Step],

@@ -1,5 +1,5 @@
 //! Ledgers over files that stop at one of their calls: one of the build that had no table of closed ranges is opened, and a new
-//! one settles its calls.
+//! one commits its calls.
 
 use crate::expect::same;
 use crate::ledger::calls::settings;
@@ -19,7 +19,7 @@ enum Ended {
     /// The files are no database.
     Unconnected,
     Refused(OpenFault),
-    /// With so many calls, and a table of closed ranges.
+    /// With n calls, and a table of closed ranges.
     Found(u32),
     Incomplete,
 }
@@ -50,7 +50,7 @@ enum Act {
     Fill,
     /// Its ledger is opened.
     Open(Global),
-    /// A new ledger with these settings settles three calls.
+    /// A new ledger with these settings commits three calls.
     GroupCommit(Global, Settings),
 }
 
@@ -71,7 +71,7 @@ fn copied(alloc: Global, files: &Files<Fuse<Memory>>, stops: Stops) -> Option<Fi
     Some(Files { log, db })
 }
 
-/// What is found of a connection whose ledger has so many calls.
+/// What is found of a connection whose ledger has n calls.
 fn ending_of<S: Alter>(conn: &Connection<S>, calls: u32) -> Ended {
     if conn.schema().table_named(b"closed").is_some() {
         Ended::Found(calls)
@@ -105,7 +105,7 @@ fn ledger_filled<S: Alter + Drop>(mut conn: Connection<S>) -> (Ended, Connection
     (ended, conn)
 }
 
-/// What is found of a connection in which this is done, what is told of a settling in it, and its store.
+/// What is found of a connection in which this is done, what is reported for a commit in it, and its store.
 fn done<S: Alter + Drop>(conn: Connection<S>, act: Act) -> (Ended, Option<Told>, S) {
     match act {
         Act::Fill => {
@@ -201,7 +201,7 @@ fn stopped(alloc: Global, old: &Files<Fuse<Memory>>, stops: Stops) -> Option<(En
 }
 
 /// At how many calls of one file the ledger is refused for want of its store, before it opens with no stop met. None where it is
-/// refused for another reason, or is not found whole behind a stop.
+/// refused for another reason, or is not found whole after a stop.
 fn refused(
     alloc: Global,
     old: &Files<Fuse<Memory>>,
@@ -254,8 +254,8 @@ fn settled_until(alloc: Global, settings: Settings, at: u64) -> Option<(Option<T
     Some((told, again(alloc, &files)?))
 }
 
-/// At how many calls of the log the settling fails, before it passes. None where a settled call is lost, or a call that was not is
-/// told as settled or is found without the others.
+/// At how many calls of the log the commit fails, before it passes. None where a committed call is lost, or a call that was not is
+/// reported as committed or is found without the others.
 fn failed_settlings(alloc: Global, settings: Settings) -> Option<u32> {
     let mut count: u32 = 0;
     for at in 0..1000u64 {

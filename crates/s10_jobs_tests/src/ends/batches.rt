@@ -1,4 +1,4 @@
-//! Rounds of a server over links that follow a script.
+//! Batches of a server over links that follow a script.
 
 use crate::ends::answered::{Ends, is_as_told};
 use crate::ends::fixtures::{
@@ -26,7 +26,7 @@ const OTHER: Peer = Peer {
 /// A round: how many datagrams it takes at most, what its turns end in, and how many replies were sent by then.
 type Round = (u32, &'static [Ends], usize);
 
-/// What the receives and the sends of a link meet, the rounds over it, the replies that they send, and how often they call it.
+/// What the receives and the sends of a link meet, the batches over it, the replies that they send, and how often they call it.
 #[derive(Clone, Copy)]
 struct Script {
     receipts: &'static [Meets],
@@ -66,7 +66,7 @@ fn are_as_told(turns: &[Turn], told: &[Ends]) -> bool {
     true
 }
 
-/// Whether a round goes as told.
+/// Whether a batch goes as scripted.
 fn serves<B: GroupCommit>(
     alloc: Global,
     server: &mut Server<B>,
@@ -83,7 +83,7 @@ fn serves<B: GroupCommit>(
     }
 }
 
-/// Whether a server goes through the rounds of a script as told, one after another, and so do its replies and calls.
+/// Whether a server goes through the batches of a script as told, one after another, and so do its replies and calls.
 fn goes_through<B: GroupCommit>(alloc: Global, server: &mut Server<B>, script: &Script) -> bool {
     let Ok(mut link) = link_of(alloc, script.receipts, script.sends) else {
         return false;
@@ -96,13 +96,13 @@ fn goes_through<B: GroupCommit>(alloc: Global, server: &mut Server<B>, script: &
     has_sent(&link, script.replies) && link.trace().calls == script.calls
 }
 
-/// Whether a script goes as told over an empty book, which then has so many calls.
+/// Whether a script goes as scripted over an empty book, which then has n calls.
 fn leaves(alloc: Global, script: &Script, calls: u32) -> bool {
     let mut server = new_server(alloc, 100);
     goes_through(alloc, &mut server, script) && server.book().len() == calls
 }
 
-/// All five in one round.
+/// All five in one batch.
 const ONE_ROUND: Script = Script {
     receipts: FIVE_RECEIPTS,
     sends: &[true; 4],
@@ -183,7 +183,7 @@ fn a_failed_receive_is_reported_after_the_datagrams(rt: HostRuntime) {
     assert!(rt; leaves(rt.alloc(), &FAILED_RECEIVE, 2));
 }
 
-/// Rounds over no receipt, over a receive that meets nothing, and over one that fails.
+/// Batches over no receipt, over a receive that meets nothing, and over one that fails.
 const LONE_ROUNDS: &'static [Script] = &[
     Script {
         receipts: &[],
@@ -239,7 +239,7 @@ fn a_failed_send_leaves_the_other_replies(rt: HostRuntime) {
     assert!(rt; leaves(rt.alloc(), &FAILED_SENDS, 3));
 }
 
-/// Two Draws in one round, with their replies.
+/// Two Draws in one batch, with their replies.
 const TWO_DRAWS: Script = Script {
     receipts: &[Meets::Bytes(PEER, DRAW), Meets::Bytes(OTHER, SECOND_DRAW)],
     sends: &[true; 2],
@@ -255,7 +255,7 @@ const TWO_DRAWS: Script = Script {
     calls: 4,
 };
 
-/// Whether a round over two Draws sends both replies, and how a settling behind it fails.
+/// Whether a batch over two Draws sends both replies, and how a commit after it fails.
 fn sent_then_settled<B: GroupCommit + Drop>(alloc: Global, book: B) -> (bool, Option<BookFault>) {
     let mut server = Server::new(book);
     let is_sent = goes_through(alloc, &mut server, &TWO_DRAWS);
@@ -268,7 +268,7 @@ fn served_then_settled(alloc: Global, at: u64) -> (bool, Option<BookFault>) {
     sent_then_settled(alloc, TripBook::new(book, at))
 }
 
-/// How many rounds do not send both replies, where a call of the book fails, each in turn.
+/// How many batches do not send both replies, where a call of the book fails, each in turn.
 fn faulted_rounds(alloc: Global) -> u64 {
     let mut faulted: u64 = 0;
     for at in 0..20u64 {
@@ -279,8 +279,8 @@ fn faulted_rounds(alloc: Global) -> u64 {
     faulted
 }
 
-// All calls of a book in memory are settled. Its call behind those of the Draws is the settling of the round, and the next one the
-// settling behind it: both replies are sent where either fails.
+// All calls of a book in memory are committed. Its call after those of the Draws is the commit of the batch, and the next one the
+// commit after it: both replies are sent where either fails.
 #[test]
 fn committed_calls_are_answered_though_a_commit_fails(rt: HostRuntime) {
     let own = faulted_rounds(rt.alloc());

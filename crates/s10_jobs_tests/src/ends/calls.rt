@@ -92,7 +92,7 @@ struct Unanswered {
     received: u64,
 }
 
-/// Whether a call fails as told, and the next request has the next number.
+/// Whether a call fails as scripted, and the next request has the next number.
 fn is_unanswered(alloc: Global, told: &Unanswered) -> bool {
     let Ok(mut link) = link_of(alloc, told.receipts, told.sends) else {
         return false;

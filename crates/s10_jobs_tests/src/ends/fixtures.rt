@@ -16,7 +16,7 @@ pub const ANY_PORT: Peer = Peer {
     port: 0,
 };
 
-/// A link of a socket of this machine, which waits so many milliseconds in a receive.
+/// A link of a socket of this machine, which waits n milliseconds in a receive.
 pub(crate) fn bound<R: Abort + Net>(rt: &R, wait_ms: u32) -> UdpLink {
     UdpLink::bind(rt, ANY_PORT, wait_ms).expect(rt, "a socket")
 }
@@ -112,7 +112,7 @@ pub(crate) fn has_sent(link: &ScriptLink, sent: &[Sent]) -> bool {
     true
 }
 
-/// Whether the client's next call, in so many tries, is answered by this datagram.
+/// Whether the client's next call, in n tries, is answered by this datagram.
 pub(crate) fn is_answered<L: Link>(
     client: &mut Client,
     link: &mut L,

@@ -40,7 +40,7 @@ fn nothing_comes<L: Link>(link: &mut L) -> bool {
     link.receive() == Ok(None)
 }
 
-/// Customer 7's Draws with the numbers 1 to 3 come, and nothing behind them.
+/// Customer 7's Draws with the numbers 1 to 3 come, and nothing after them.
 fn three_draws_come<L: Link>(rt: &impl Abort, link: &mut L, from: Peer) {
     for number in 1..4u32 {
         holds_at(rt, number as usize, has_come(link, from, number));
@@ -73,13 +73,13 @@ fn a_client_that_gets_each_datagram_twice_sends_each_frame_once(rt: HostRuntime)
     three_draws_come(&rt, &mut far, here);
 }
 
-/// Whether a socket is set to wait so many milliseconds in a receive.
+/// Whether a socket is set to wait n milliseconds in a receive.
 fn waits(socket: &UdpSocket, wait_ms: u64) -> bool {
     let wait = Some(Duration::from_millis(wait_ms));
     socket.set_read_timeout(wait).is_ok()
 }
 
-/// A socket of this machine that waits so many milliseconds in a receive.
+/// A socket of this machine that waits n milliseconds in a receive.
 fn raw_socket<R: Abort + Net>(rt: &R, wait_ms: u64) -> UdpSocket {
     let any = SocketAddr::V4(SocketAddrV4::new(Ipv4Addr::LOCALHOST, 0));
     let socket = UdpSocket::bind(rt, any).expect(rt, "a socket");
@@ -98,7 +98,7 @@ fn peer_of(socket: &UdpSocket) -> Option<Peer> {
     }
 }
 
-/// The first Grant with a byte behind it.
+/// The first Grant with a byte after it.
 const LONGER_GRANT: [u8; 29] = *b"S1\x01\x01\0\0\0\0\0\0\0\x01\0\0\0\x07RAGB\0\0\0\0\0\0\0\x02\0";
 
 /// Whether all bytes are sent to a port of this machine.

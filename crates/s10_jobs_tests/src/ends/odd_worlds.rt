@@ -74,7 +74,7 @@ fn is_as_expected<B: Book>(world: &World<B>, expected: &Expected<'_>) -> bool {
         && world.server().book().len() == expected.calls
 }
 
-/// Whether what happens over a book with room for so many calls comes to this.
+/// Whether what happens over a book with room for n calls comes to this.
 pub(crate) fn comes_to(
     alloc: Global,
     limit: u32,

@@ -67,7 +67,7 @@ fn has_its_history(alloc: Global, world: World<PlainBook>, events: &[Event]) -> 
 }
 
 // checks/refused_memory.sh refuses each request for memory in turn; without it none is refused. What
-// was refused is as if it had not come: the event that wanted memory and those behind it, or else
+// was refused is as if it had not come: the event that wanted memory and those after it, or else
 // the delivery that the book had no memory for.
 #[test]
 fn a_refused_request_for_memory_leaves_a_run_of_the_other_events(rt: HostRuntime) {

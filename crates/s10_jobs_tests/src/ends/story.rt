@@ -87,7 +87,7 @@ fn event(happens: Happens) -> Event {
     }
 }
 
-/// The events of what happens, and others behind them.
+/// The events of what happens, and others after them.
 pub(crate) fn events_of(story: &[Happens]) -> [Event; MOST] {
     let mut events = [Event::Resend { client: 0 }; MOST];
     for at in 0..story.len().min(MOST) {

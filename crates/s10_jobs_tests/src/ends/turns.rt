@@ -40,7 +40,7 @@ struct Script {
     calls: u32,
 }
 
-/// The turns of a server over a script go as told.
+/// The turns of a server over a script go as scripted.
 fn go_as_told<B: GroupCommit + Drop>(
     rt: &impl Abort,
     alloc: Global,

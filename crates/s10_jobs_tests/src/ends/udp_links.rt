@@ -71,7 +71,7 @@ fn takes_what_has_come(
         && passes(from, to, frame, packet)
 }
 
-/// Whether the link counts so many calls, and so many datagrams received.
+/// Whether the link counts n calls, and n datagrams received.
 fn has_received(link: &UdpLink, calls: u64, received: u64) -> bool {
     let trace = link.trace();
     trace.calls == calls && trace.received == received
@@ -88,7 +88,7 @@ fn what_has_arrived_is_received_without_waiting(rt: HostRuntime) {
     assert!(rt; has_received(&far, 4, 2));
 }
 
-/// Whether a receive that waits so many milliseconds answers that nothing came.
+/// Whether a receive that waits n milliseconds answers that nothing came.
 fn hears_nothing<R: Abort + Net>(rt: &R, wait_ms: u32) -> bool {
     let mut link = bound(rt, wait_ms);
     link.receive() == Ok(None) && link.trace().calls == 1 && link.trace().failures == 0

@@ -31,7 +31,7 @@ fn draw() -> Body {
     }
 }
 
-/// Whether a call in so many tries has this status and prints this line.
+/// Whether a call in n tries has this status and prints this line.
 fn is_told<L: Link>(
     alloc: Global,
     client: &mut Client,

@@ -4,7 +4,7 @@ use std::alloc::Global;
 use std::io;
 use std::io::Write;
 
-/// A writer that takes so many bytes, then fails once, and from then on takes all.
+/// A writer that takes n bytes, then fails once, and from then on takes all.
 #[derive(Drop)]
 pub struct Hiccup {
     pub bytes: Vec<u8>,

@@ -9,7 +9,7 @@ use std::alloc::Global;
 use std::io;
 use std::io::{Read, Write};
 
-/// A day and no bytes: what stands behind the empty lines.
+/// A day and no bytes: what follows the empty lines.
 const LAST: &[u8] = b"1 \n";
 
 /// A reader that makes empty lines as they are read, and then has these bytes.
@@ -49,7 +49,7 @@ impl Write for Counting {
     }
 }
 
-/// Whether a replay of so many empty lines and the last one has this answer, writes so many lines and leaves so many
+/// Whether a replay of n empty lines and the last one has this answer, writes n lines and leaves n
 /// bytes unread.
 fn is_replayed(
     alloc: Global,
@@ -66,7 +66,7 @@ fn is_replayed(
     answer == want && output.lines == written && input.last.len() == left
 }
 
-/// Empty lines, the answer behind them, the lines written, and the bytes left.
+/// Empty lines, the answer after them, the lines written, and the bytes left.
 const LONG_INPUTS: &[(u32, Result<u32, ReplayFault>, u32, usize)] = &[
     (999_999, Ok(1), 1, 0),
     (1_000_000, Err(ReplayFault::Line(1_000_001)), 0, 2),

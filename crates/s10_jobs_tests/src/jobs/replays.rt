@@ -190,7 +190,7 @@ fn digits_of_both_cases_are_read_and_small_ones_written(rt: HostRuntime) {
     assert!(rt; is_replayed);
 }
 
-/// Whether the longest line, a day of ten digits and 512 bytes, is read whole where it has so many bytes with its end.
+/// Whether the longest line, a day of ten digits and 512 bytes, is read whole where it has n bytes with its end.
 fn is_read_whole(alloc: Global, len: usize) -> bool {
     let mut line = [b'0'; 1037];
     line[5] = b'2';
@@ -263,7 +263,7 @@ impl Read for Failing<'_> {
     }
 }
 
-/// A writer with room for so many bytes.
+/// A writer with room for n bytes.
 #[derive(Drop)]
 struct Narrow {
     room: usize,
@@ -295,8 +295,8 @@ fn is_read_until(alloc: Global, bytes: &[u8], want: ReplayFault, text: &str) -> 
 
 const SHORT: &str = "dropped short\n";
 
-/// Bytes of an input, and what a replay of them answers where the input ends behind them, and where it fails there.
-/// Behind a line that is refused nothing is read, so the two are one there.
+/// Bytes of an input, and what a replay of them answers where the input ends after them, and where it fails there.
+/// After a line that is refused nothing is read, so the two are one there.
 type Stop = (
     &'static [u8],
     Result<u32, ReplayFault>,
@@ -343,7 +343,7 @@ const STOPS: &[Stop] = &[
     ),
 ];
 
-/// Whether a replay of an input that ends behind these bytes, and of one that fails there, answers so.
+/// Whether a replay of an input that ends after these bytes, and of one that fails there, answers so.
 fn stops_there(
     alloc: Global,
     bytes: &[u8],
@@ -373,7 +373,7 @@ fn is_run_until(alloc: Global, bytes: &[u8], want: JobStatus, text: &str) -> boo
     is_text(output, text.as_bytes()) && status == Ok(want)
 }
 
-/// Bytes of an input that fails behind them, and the status and the text of its replay.
+/// Bytes of an input that fails after them, and the status and the text of its replay.
 const UNREADABLE: &[(&[u8], JobStatus, &str)] = &[
     (b"20000 \n", JobStatus::Failed, "dropped short\ninput\n"),
     (

@@ -3,7 +3,7 @@
 use crate::expect::holds;
 use s10_jobs::Tries;
 
-/// The number of so many tries.
+/// The number of n tries.
 fn counted(count: u32) -> Option<u32> {
     let tries = Tries::new(count)?;
     Some(tries.count())

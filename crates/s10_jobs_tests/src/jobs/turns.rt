@@ -67,7 +67,7 @@ impl Clock for Listening {
     }
 }
 
-/// Writes a value behind what was told.
+/// Writes a value after what was told.
 fn tell<D: Display + Drop>(told: &mut Vec<u8>, value: D) -> io::Result<()> {
     write!(told, "{value}")
 }
@@ -118,7 +118,7 @@ replied 533101820000000700000001524147420000004e2052413030303030303030354742
 faulted full
 ";
 
-/// The first so many lines of a text.
+/// The first n lines of a text.
 fn first_lines(text: &[u8], count: u32) -> &[u8] {
     let mut left = count;
     for (at, byte) in text.iter().enumerate() {
@@ -197,7 +197,7 @@ fn are_served<R: Clock + Eprint>(rt: &R, alloc: Global, turns: &Turns<'_>) -> bo
     come_to(rt, alloc, &mut server, &mut link, turns) && server.book().len() == turns.calls
 }
 
-/// So many turns on the link of the seven, which have the first of the lines, and leave so many calls.
+/// n turns on the link of the seven, which have the first of the lines, and leave n calls.
 fn first_turns(count: u32, batches: u32, calls: u32) -> Turns<'static> {
     Turns {
         receipts: SEVEN,
@@ -211,7 +211,7 @@ fn first_turns(count: u32, batches: u32, calls: u32) -> Turns<'static> {
     }
 }
 
-/// Turns, the rounds that they are, and the calls of the book then. A grant is the first turn, and a draw whose reply
+/// Turns, the batches that they are, and the calls of the book then. A grant is the first turn, and a draw whose reply
 /// is not sent the fifth. The last four come together.
 const TURNS: &[(u32, u32, u32)] = &[
     (0, 0, 0),
@@ -232,7 +232,7 @@ fn each_turn_has_its_line(rt: HostRuntime) {
     }
 }
 
-/// A grant and a draw in one round, on a day that a clock gives.
+/// A grant and a draw in one batch, on a day that a clock gives.
 const TWO_TURNS: Turns<'static> = Turns {
     receipts: &[Meets::Bytes(PEER, GRANT), Meets::Bytes(PEER, DRAW)],
     sends: &[true, true],
@@ -277,7 +277,7 @@ link receive
 dropped short
 ";
 
-/// Whether so many turns on the link of the two ends have the first of the lines, and standard error is told this.
+/// Whether n turns on the link of the two ends have the first of the lines, and standard error shows this.
 fn are_told(alloc: Global, count: u32, batches: u32, told: &str) -> bool {
     let rt = Listening {
         told: RefCell::new(Vec::new(alloc)),
@@ -295,7 +295,7 @@ fn are_told(alloc: Global, count: u32, batches: u32, told: &str) -> bool {
     are_served(&rt, alloc, &turns) && rt.told.into_inner().as_slice() == told.as_bytes()
 }
 
-/// Turns, the rounds that they are, and what standard error is told.
+/// Turns, the batches that they are, and what standard error shows.
 const TOLD: &[(u32, u32, &str)] = &[
     (1, 1, ""),
     (2, 2, "dropped from 10.0.0.8:40123\n"),
@@ -341,7 +341,7 @@ fn a_clock_that_gives_no_day_ends_the_turns(rt: HostRuntime) {
     assert!(rt; are_served(&Standing(None), rt.alloc(), &DAYLESS));
 }
 
-/// Whether this is the day of a clock that has stood still for so many seconds since 1970, where
+/// Whether this is the day of a clock that has stood still for n seconds since 1970, where
 /// none is given.
 fn is_day_after(seconds: u64, day: Option<u32>) -> bool {
     let clock = Standing(Some(Duration::from_secs(seconds)));

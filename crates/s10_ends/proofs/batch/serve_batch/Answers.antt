@@ -12,7 +12,7 @@ one_more_fits most fits = omega arith
 room_for : (most capacity : ℕ) (taken now : List Exchange) → now ≡ taken → length taken ≤ most → most + 1 ≤ capacity → length now ≤ capacity
 room_for most capacity taken now same few room = omega (arith, ap length same)
 
--- and one more has it behind them
+-- and one more has it after them
 room_behind : (most before capacity turns : ℕ) (taken now : List Exchange) → now ≡ taken → length taken ≤ most → most + 1 ≤ before → turns ≡ length now → capacity ≡ before → turns + 1 ≤ capacity
 room_behind most before capacity turns taken now same few room many kept = omega (arith, ap length same)
 
