@@ -26,7 +26,7 @@ use std::process::ExitCode;
 fn main(rt: HostRuntime) -> ExitCode {
     let status = match run(&rt) {
         Ok(status) => status,
-        Err(error) => tell(&rt, &error) as u8,
+        Err(error) => eprint_error(&rt, &error) as u8,
     };
     ExitCode::from(status)
 }
@@ -68,7 +68,7 @@ fn run_words<S: Start, W: AsStr, O: Write + Drop>(
 }
 
 // Says why there is no more output.
-fn tell<R: Print + Eprint>(rt: &R, error: &io::Error) -> JobStatus
+fn eprint_error<R: Print + Eprint>(rt: &R, error: &io::Error) -> JobStatus
     ensures words { error_kind error.now ≡ InvalidData → result ≡ CommandLine }
     ensures other { error_kind error.now ≢ InvalidData → result ≡ Failed }
 {

@@ -15,9 +15,9 @@ abbrev pub told_of : ℕ → Option (List Id) → Outcome
 told_of day None = NoneFree
 told_of day (Some ids) = DrawnMany day ids
 
-told_behind : (day : ℕ) (r : Range) (rs : List Range) (row : Option (List Id)) → outcome_of_draws day (r ∷ rs) row ≡ told_of day row
-told_behind day r rs None = refl
-told_behind day r rs (Some ids) = refl
+told_after : (day : ℕ) (r : Range) (rs : List Range) (row : Option (List Id)) → outcome_of_draws day (r ∷ rs) row ≡ told_of day row
+told_after day r rs None = refl
+told_after day r rs (Some ids) = refl
 
 -- the customer holds such a range
 pub many_told : (h : List Entry) (customer : ℕ) (s c : ℕ × ℕ) (count day n : ℕ) (o : Option Range) (row : Option (List Id)) → is_some o ≡ true → o ≡ find (above (is_open h customer s c) 0) (ranges_of h)
@@ -28,7 +28,7 @@ many_told h customer s c count day n (Some r) row some found e =
     let held : ranges_open h customer s c ≡ r ∷ filter (above (is_open h customer s c) r.num) (ranges_of h) =
     sym (filter_above (is_open h customer s c) 0 1 (ranges_of h) (omega arith) (numbered 1 h)) ∙ next_above (is_open h customer s c) 0 1 (ranges_of h) r (numbered 1 h) (sym found) in
     sym (ap (λ (l : List Range). outcome_of_draws day l (successive_draws h customer s c day n count)) held
-    ∙ told_behind day r (filter (above (is_open h customer s c) r.num) (ranges_of h)) (successive_draws h customer s c day n count) ∙ ap (told_of day) (sym e))
+    ∙ told_after day r (filter (above (is_open h customer s c) r.num) (ranges_of h)) (successive_draws h customer s c day n count) ∙ ap (told_of day) (sym e))
 
 -- the customer holds none
 pub many_nowhere : (h : List Entry) (customer : ℕ) (s c : ℕ × ℕ) (count day n : ℕ) (o : Option Range) → is_some o ≡ false → o ≡ find (above (is_open h customer s c) 0) (ranges_of h) → NoRange ≡ draw_many_answer h customer s c count day n

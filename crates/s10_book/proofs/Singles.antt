@@ -67,9 +67,9 @@ answer_alike g m customer s c day n same_open alike =
 draw_issues : (g : List Entry) (e : Entry) (customer : ℕ) (s c : ℕ × ℕ) (day : ℕ) (x : Id) → without_number e ≡ draw_done customer s c day x → issues_of (g ++ e ∷ []) ≡ issues_of g ++ made_by e (1 + length g) (day, x) ∷ []
 draw_issues g e customer s c day x is = issues_from-push 1 g e ∙ ap (λ (f : Entry). issues_of g ++ map (made_by e (1 + length g)) (carried_by f.outcome)) is
 
-call_behind : (g : List Entry) (e : Entry) (es : List Entry) → slice_get (g ++ e ∷ es) (length g) ≡ Some e
-call_behind [] e es = refl
-call_behind (x ∷ g) e es = call_behind g e es
+call_after : (g : List Entry) (e : Entry) (es : List Entry) → slice_get (g ++ e ∷ es) (length g) ≡ Some e
+call_after [] e es = refl
+call_after (x ∷ g) e es = call_after g e es
 
 calls_before : (g es : List Entry) → take (length g) (g ++ es) ≡ g
 calls_before [] es = refl
@@ -78,7 +78,7 @@ calls_before (x ∷ g) es = ap (λ (l : List Entry). x ∷ l) (calls_before g es
 -- what a Done Draw of a legal history says of the rule
 draw_told : (g : List Entry) (e : Entry) (es : List Entry) (t : Terms) (customer : ℕ) (s c : ℕ × ℕ) (day : ℕ) (x : Id) → IsLegal (g ++ e ∷ es) t → without_number e ≡ draw_done customer s c day x → Drawn day x ≡ draw_answer g customer s c day t.interval
 draw_told g e es t customer s c day x legal is =
-    sym (ap (λ (f : Entry). f.outcome) is) ∙ legal.right (length g) e (call_behind g e es)
+    sym (ap (λ (f : Entry). f.outcome) is) ∙ legal.right (length g) e (call_after g e es)
     ∙ ap (λ (l : List Entry). answer_of l e.request e.day t.interval) (calls_before g (e ∷ es))
     ∙ ap (λ (f : Entry). body_answer g f.request.customer f.request.body f.day t.interval) is
 

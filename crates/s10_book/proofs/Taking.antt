@@ -25,7 +25,7 @@ use Rattle.s10_book.proofs.Spaced.{id_itself}
 use Rattle.s10_history.proofs.Issued.{free_last}
 use Rattle.s10_book.proofs.Marks.{Turns, pick_turns, turns_inside, all_at_pick}
 use Rattle.s10_book.proofs.Alike.{alike_itself, row_is}
-use Rattle.s10_history.proofs.After.{IsBehind, behind, behind_within, behind_apart, behind_round}
+use Rattle.s10_history.proofs.After.{IsAfterSteps, behind, after_within, after_apart, after_lap}
 use Rattle.s10_book.proofs.Rows.{candidate_after_is, Ready, outside_other, ready_next, pick_outside, last_other, last_outside, picks_here, picks_past}
 use Rattle.s10_book.proofs.Picking.{picks}
 
@@ -66,7 +66,7 @@ taken_none r day old is in' un = record {
   few = omega arith;
   pick = un.pick;
   left = λ j le lt. un.last (id_at r (serial_after_steps r (pick_of old r) j))
-      (let w = behind_within r (pick_of old r) j (serial_after_steps r (pick_of old r) j) in'.0 in'.1 (omega arith) (behind r (pick_of old r) j in'.0 in'.1 (omega arith)) in
+      (let w = after_within r (pick_of old r) j (serial_after_steps r (pick_of old r) j) in'.0 in'.1 (omega arith) (behind r (pick_of old r) j in'.0 in'.1 (omega arith)) in
       lies_at r (serial_after_steps r (pick_of old r) j) (record { low = w.0; high = w.1 }));
   first = λ lt. absurd (omega (arith, lt));
 }
@@ -104,9 +104,9 @@ at_first rs p made day n old count r given found =
 one_more : (made : Id → Issuance) (old : List Issuance) (taken : List Id) (x : Id) → old ++ map made taken ++ made x ∷ [] ≡ old ++ map made (taken ++ x ∷ [])
 one_more made old taken x = append_assoc old (map made taken) (made x ∷ []) ∙ ap (λ (l : List Issuance). old ++ l) (sym (map-append made taken (x ∷ [])))
 
-behind_one : (taken : List Id) (x : Id) (o : Option (List Id)) → option_map (λ xs. taken ++ xs) (option_map (λ xs. x ∷ xs) o) ≡ option_map (λ xs. (taken ++ x ∷ []) ++ xs) o
-behind_one taken x None = refl
-behind_one taken x (Some xs) = ap Some (sym (append_assoc taken (x ∷ []) xs))
+after_one : (taken : List Id) (x : Id) (o : Option (List Id)) → option_map (λ xs. taken ++ xs) (option_map (λ xs. x ∷ xs) o) ≡ option_map (λ xs. (taken ++ x ∷ []) ++ xs) o
+after_one taken x None = refl
+after_one taken x (Some xs) = ap Some (sym (append_assoc taken (x ∷ []) xs))
 
 pub last_here : (is : List Issuance) (y : Issuance) (x : Id) → y.id ≡ x → last_issuance_of (is ++ y ∷ []) x ≡ Some y
 last_here is y x e =
@@ -116,7 +116,7 @@ last_here is y x e =
 taken_more : (r : Range) (day : ℕ) (old is : List Issuance) (k : ℕ) (y : Issuance) → Turns r old (pick_of old r) → Turns r is (pick_of is r) → k < size_of r → y.id ≡ id_at r (pick_of is r) → y.day ≡ day → Taken r day old is k → Taken r day old (is ++ y ∷ []) (suc k)
 taken_more r day old is k y before now lt e on own =
     let m : ℕ = pick_of old r in
-    let at : (j : ℕ) → j ≤ size_of r → IsBehind r (pick_of old r) j (serial_after_steps r (pick_of old r) j) = λ j le. behind r (pick_of old r) j before.low before.high le in
+    let at : (j : ℕ) → j ≤ size_of r → IsAfterSteps r (pick_of old r) j (serial_after_steps r (pick_of old r) j) = λ j le. behind r (pick_of old r) j before.low before.high le in
     let serial : y.id.serial ≡ serial_after_steps r (pick_of old r) k = ap (λ (x : Id). x.serial) e ∙ own.pick in
     let lies : lies_in r y.id ≡ true = (let P : Id → Type 0 = λ x. lies_in r x ≡ true in subst P (sym e) (lies_at r (pick_of is r) (record { low = now.low; high = now.high }))) in
     record {
@@ -124,14 +124,14 @@ taken_more r day old is k y before now lt e on own =
       pick = pick_turns r (is ++ y ∷ []) (serial_after r (pick_of is r)) (turns_inside r is y (pick_of is r) lies (ap (λ (x : Id). x.serial) e) now) ∙ ap (serial_after r) own.pick;
       left = λ j le few.
           last_other is y (id_at r (serial_after_steps r (pick_of old r) j))
-          (λ same. behind_apart r (pick_of old r) k j _ _ before.low before.high (omega (arith, le)) few (at k (omega (arith, lt))) (at j (omega (arith, few))) (sym serial ∙ ap (λ (x : Id). x.serial) same))
+          (λ same. after_apart r (pick_of old r) k j _ _ before.low before.high (omega (arith, le)) few (at k (omega (arith, lt))) (at j (omega (arith, few))) (sym serial ∙ ap (λ (x : Id). x.serial) same))
           ∙ own.left j (omega (arith, le)) few;
       first = λ _. elim (cases_lt 0 k) [
         | inl pos ↦
             let old_first = own.first pos in (
               old_first.0,
               last_other is y (id_at r (pick_of old r))
-                  (λ same. behind_apart r (pick_of old r) 0 k _ _ before.low before.high pos lt (at 0 (omega arith)) (at k (omega (arith, lt))) (sym (ap (λ (x : Id). x.serial) same) ∙ serial))
+                  (λ same. after_apart r (pick_of old r) 0 k _ _ before.low before.high pos lt (at 0 (omega arith)) (at k (omega (arith, lt))) (sym (ap (λ (x : Id). x.serial) same) ∙ serial))
                   ∙ old_first.1,
               old_first.2,
             )
@@ -179,7 +179,7 @@ at_pick rs p made day n old count r k taken x given lt few e free at =
           subst U grown (untouched_still rs r s old (old ++ map made taken) (made x) given.pairs at.ready at.there in_s up id (at.others s in_s up));
       few = omega (arith, few, length-append taken (x ∷ []));
       some = at.some;
-      whole = at.whole ∙ ap (option_map (λ xs. taken ++ xs)) here ∙ behind_one taken x _;
+      whole = at.whole ∙ ap (option_map (λ xs. taken ++ xs)) here ∙ after_one taken x _;
     }
 
 -- what stands above a range in the list is not that range
@@ -251,7 +251,7 @@ at_round rs p made day n old count r k taken given all at =
     let turns = given.ready r at.there in
     let whole : k ≡ size_of r = omega (arith, all, at.own.few) in
     let first = at.own.first (omega (arith, all, turns.low, turns.high)) in
-    let round : serial_after_steps r (pick_of old r) k ≡ pick_of old r = behind_round r (pick_of old r) k _ turns.low turns.high whole (behind r (pick_of old r) k turns.low turns.high at.own.few) in
+    let round : serial_after_steps r (pick_of old r) k ≡ pick_of old r = after_lap r (pick_of old r) k _ turns.low turns.high whole (behind r (pick_of old r) k turns.low turns.high at.own.few) in
     ap (λ v. is_free_since day n (option_map (λ (i : Issuance). i.day) (last_issuance_of (old ++ map made taken) (id_at r v)))) (at.own.pick ∙ round)
     ∙ ap (λ o. is_free_since day n (option_map (λ (i : Issuance). i.day) o)) first.1
     ∙ not_free first.0.day first.2

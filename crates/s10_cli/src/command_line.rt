@@ -37,7 +37,7 @@ pub fn run_line<R: Eprint + AllocGlobal, S: AsStr, I: Read, O: Write>(
             let done = run_subcommand(rt.alloc(), &matches, input, output)?;
             Some(status_of(done))
         }
-        Err(error) => Some(status_of(tell(rt, &error, output))),
+        Err(error) => Some(status_of(report_fault(rt, &error, output))),
     }
 }
 
@@ -129,7 +129,7 @@ fn value_of<'a>(found: &ArgMatches<'a>, id: &str) -> &'a str
 }
 
 // Prints help, the version or a fault of the command line.
-fn tell<R: Eprint, O: Write>(rt: &R, error: &Error, output: &mut O) -> Result<JobStatus, WriteFault>
+fn report_fault<R: Eprint, O: Write>(rt: &R, error: &Error, output: &mut O) -> Result<JobStatus, WriteFault>
     ensures { IsFaultPrinted (kind_of error.now) (O.contents output.old) (O.contents output.new) result }
 {
     if matches!(error.kind(), ErrorKind::OutOfMemory) {

@@ -76,7 +76,7 @@ module _ {B : Type 0} (faults : B → Faults) (honest : B → Type 0) (terms : B
     ended = ended;
     takes = takes;
     answered = [];
-    answers = record { commit_result = Ok tt; settles = λ some. absurd (some refl); unasked = λ it. refl; answers = answered_none };
+    answers = record { commit_result = Ok tt; commits = λ some. absurd (some refl); unasked = λ it. refl; answers = answered_none };
     are = are;
   }
 
@@ -90,12 +90,12 @@ module _ {B : Type 0} (faults : B → Faults) (honest : B → Type 0) (terms : B
   pub one_served : (new : Trace × B) (found : Option Exchange) (taken : Exchange) (commit_result : Result (Unit {0}) BookFault) (turn : Turn) → Takes Handled old between (Ok found) → found ≡ Some taken
       → Commits faults honest terms history committed between.1 new.1 commit_result
       → Answers (honest new.1) (AsksCommitted (committed new.1) (history new.1)) between.0 new.0 commit_result taken.from taken.packet taken.answer turn → ServesBatch faults honest terms history committed day 1 old new (turn ∷ [])
-  one_served new found taken commit_result turn count_receive is settles answers = record {
+  one_served new found taken commit_result turn count_receive is commits answers = record {
     taken = taken ∷ [];
     between = between;
     ended = Ok tt;
     takes = taken_all Handled 1 old between (taken ∷ []) (one_more Handled 1 old old [] taken_none between found taken count_receive is) refl;
     answered = turn ∷ [];
-    answers = record { commit_result = commit_result; settles = λ some. settles; unasked = λ none. absurd cc; answers = answered_more taken turn answered_none answers };
+    answers = record { commit_result = commit_result; commits = λ some. commits; unasked = λ none. absurd cc; answers = answered_more taken turn answered_none answers };
     are = refl;
   }

@@ -71,23 +71,23 @@ module _ {B F N : Type 0} (faults : B → Faults) (honest : B → Type 0) (terms
   taken day book old _ _ led taken_none = led
   taken day book old new _ led (taken_more {between = between} {next = next} takes count_receive) = handled day book between.1 new.1 next.packet next.answer (taken day book old between _ led takes) count_receive.1
 
-  settled_on : (day : ℕ) (old between new : B) (commit_result : Result (Unit {0}) BookFault) → LedOn day old between → Commits faults honest terms history committed between new commit_result → LedOn day old new
-  settled_on day old between new commit_result led settles = record {
-    was_honest = λ h. led.was_honest (settles.unchanged.was_honest h);
-    same_terms = λ h. settles.unchanged.same_terms h ∙ led.same_terms (settles.unchanged.was_honest h);
-    served = λ h. subst (λ (l : List Entry). ServedOn day (history old) (terms old) l) (sym (settles.unchanged.same_history h)) (led.served (settles.unchanged.was_honest h));
+  committed_on : (day : ℕ) (old between new : B) (commit_result : Result (Unit {0}) BookFault) → LedOn day old between → Commits faults honest terms history committed between new commit_result → LedOn day old new
+  committed_on day old between new commit_result led commits = record {
+    was_honest = λ h. led.was_honest (commits.unchanged.was_honest h);
+    same_terms = λ h. commits.unchanged.same_terms h ∙ led.same_terms (commits.unchanged.was_honest h);
+    served = λ h. subst (λ (l : List Entry). ServedOn day (history old) (terms old) l) (sym (commits.unchanged.same_history h)) (led.served (commits.unchanged.was_honest h));
   }
 
   answered : (day : ℕ) (old between new : B) (ts : List Exchange) (commit_result : Result (Unit {0}) BookFault) → LedOn day old between
       → (ts ≢ [] → Commits faults honest terms history committed between new commit_result) → (ts ≡ [] → new ≡ between) → LedOn day old new
-  answered day old between new [] commit_result led settles unasked = still day old between new led (unasked refl)
-  answered day old between new (t ∷ ts) commit_result led settles unasked = settled_on day old between new commit_result led (settles (λ e. absurd cc))
+  answered day old between new [] commit_result led commits unasked = still day old between new led (unasked refl)
+  answered day old between new (t ∷ ts) commit_result led commits unasked = committed_on day old between new commit_result led (commits (λ e. absurd cc))
 
   served : (day most : ℕ) (book : B) (old new : Trace × B) (turns : List Turn) → LedOn day book old.1 → ServesBatch faults honest terms history committed day most old new turns → LedOn day book new.1
   served day most book old new turns led batch =
       let taken_led = taken day book old batch.takes.handled batch.taken led batch.takes.takes in
       let received = still day book batch.takes.handled.1 batch.between.1 taken_led batch.takes.same in
-      answered day book batch.between.1 new.1 batch.taken batch.answers.commit_result received batch.answers.settles batch.answers.unasked
+      answered day book batch.between.1 new.1 batch.taken batch.answers.commit_result received batch.answers.commits batch.answers.unasked
 
   -- with no fault all calls are committed
   abbrev pub Whole : B → Type 0
@@ -97,19 +97,19 @@ module _ {B F N : Type 0} (faults : B → Faults) (honest : B → Type 0) (terms
   none_taken Handled old _ _ taken_none is = refl
   none_taken Handled old new _ (taken_more {taken = ts} {next = next} takes count_receive) is = absurd (no_push ts next is)
 
-  settled_whole : (between new : B) (commit_result : Result (Unit {0}) BookFault) → Commits faults honest terms history committed between new commit_result → Whole new
-  settled_whole between new (Ok _) settles = λ h at. settles.done h
-  settled_whole between new (Err fault) settles = λ h at. absurd (counted fault (faults between) (faults new) settles.counts at)
+  committed_whole : (between new : B) (commit_result : Result (Unit {0}) BookFault) → Commits faults honest terms history committed between new commit_result → Whole new
+  committed_whole between new (Ok _) commits = λ h at. commits.done h
+  committed_whole between new (Err fault) commits = λ h at. absurd (counted fault (faults between) (faults new) commits.counts at)
 
   answered_whole : (old between new : B) (ts : List Exchange) (commit_result : Result (Unit {0}) BookFault) → (ts ≡ [] → between ≡ old) → Whole old
       → (ts ≢ [] → Commits faults honest terms history committed between new commit_result) → (ts ≡ [] → new ≡ between) → Whole new
-  answered_whole old between new [] commit_result same whole settles unasked = subst Whole (sym (unasked refl ∙ same refl)) whole
-  answered_whole old between new (t ∷ ts) commit_result same whole settles unasked = settled_whole between new commit_result (settles (λ e. absurd cc))
+  answered_whole old between new [] commit_result same whole commits unasked = subst Whole (sym (unasked refl ∙ same refl)) whole
+  answered_whole old between new (t ∷ ts) commit_result same whole commits unasked = committed_whole between new commit_result (commits (λ e. absurd cc))
 
-  round_whole : (day most : ℕ) (old new : Trace × B) (turns : List Turn) → ServesBatch faults honest terms history committed day most old new turns → Whole old.1 → Whole new.1
-  round_whole day most old new turns batch whole =
+  batch_whole : (day most : ℕ) (old new : Trace × B) (turns : List Turn) → ServesBatch faults honest terms history committed day most old new turns → Whole old.1 → Whole new.1
+  batch_whole day most old new turns batch whole =
       answered_whole old.1 batch.between.1 new.1 batch.taken batch.answers.commit_result
-      (λ is. batch.takes.same ∙ ap (λ (s : Trace × B). s.1) (none_taken _ old batch.takes.handled batch.taken batch.takes.takes is)) whole batch.answers.settles batch.answers.unasked
+      (λ is. batch.takes.same ∙ ap (λ (s : Trace × B). s.1) (none_taken _ old batch.takes.handled batch.taken batch.takes.takes is)) whole batch.answers.commits batch.answers.unasked
 
   abbrev Step : NearLink B F N → NearLink B F N → Type 0
   Step = IsNearStep faults honest terms history committed far near
@@ -132,7 +132,7 @@ module _ {B F N : Type 0} (faults : B → Faults) (honest : B → Type 0) (terms
 
   stepped_whole : (old new : NearLink B F N) → Step old new → Whole (book_of old.server) → Whole (book_of new.server)
   stepped_whole old new step whole = elim step.call [
-    | inl w ↦ round_whole old.day 1 (far old.far, book_of old.server) (far new.far, book_of new.server) (w.0 ∷ []) w.2 whole
+    | inl w ↦ batch_whole old.day 1 (far old.far, book_of old.server) (far new.far, book_of new.server) (w.0 ∷ []) w.2 whole
     | inr w ↦ subst Whole (sym (ap (λ (s : Server B). book_of s) w.3)) whole
   ]
 

@@ -32,13 +32,13 @@ use Rattle.s10_ends.proofs.Whole.{Served-nil, Served-push}
 use Rattle.s10_ends.proofs.Batches.{no_push}
 
 -- what bytes ask is committed where the call of their request is
-pub own_settled : (committed h : List Entry) (b : List ℕ) (q : Request) (answer : Bool) → Asks b q → (IsTrue answer ↔ IsCommittedCall committed h q.customer q.number) → IsTrue answer ↔ AsksCommitted committed h b
-own_settled committed h b q answer asks decides =
+pub own_committed : (committed h : List Entry) (b : List ℕ) (q : Request) (answer : Bool) → Asks b q → (IsTrue answer ↔ IsCommittedCall committed h q.customer q.number) → IsTrue answer ↔ AsksCommitted committed h b
+own_committed committed h b q answer asks decides =
     let P : Request → Type 0 = λ r. IsCommittedCall committed h r.customer r.number in
     (λ is. (q, asks, decides.0 is), λ own. decides.1 (subst P (one_request b own.0 q own.1 asks) own.2))
 
-pub nothing_settled : (committed h : List Entry) (b : List ℕ) → AskNothing b → IsTrue false ↔ AsksCommitted committed h b
-nothing_settled committed h b nothing = (λ is. absurd (false≢true is), λ own. absurd (nothing own.0 own.1))
+pub nothing_committed : (committed h : List Entry) (b : List ℕ) → AskNothing b → IsTrue false ↔ AsksCommitted committed h b
+nothing_committed committed h b nothing = (λ is. absurd (false≢true is), λ own. absurd (nothing own.0 own.1))
 
 -- a datagram that was answered as the calls owe it
 abbrev IsTakenAnswered : List Entry → Exchange → Type 0
@@ -142,20 +142,20 @@ module _ {B : Type 0} (faults : B → Faults) (honest : B → Type 0) (terms : B
   -- where nothing was taken, or the calls were committed
   honest_before : (old new : B) (ts : List Exchange) (commit_result : Result (Unit {0}) BookFault) → (ts ≢ [] → Commits faults honest terms history committed old new commit_result) → (ts ≡ [] → new ≡ old)
       → honest new → honest old × (history new ≡ history old)
-  honest_before old new [] commit_result settles same h = (subst honest (same refl) h, ap history (same refl))
-  honest_before old new (t ∷ ts) commit_result settles same h = let kept = (settles (λ e. absurd cc)).unchanged in (kept.was_honest h, kept.same_history h)
+  honest_before old new [] commit_result commits same h = (subst honest (same refl) h, ap history (same refl))
+  honest_before old new (t ∷ ts) commit_result commits same h = let kept = (commits (λ e. absurd cc)).unchanged in (kept.was_honest h, kept.same_history h)
 
   -- each reply that a batch sent stands in the calls that it left committed
-  pub round_stands : (most : ℕ) (old new : Trace × B) (turns : List Turn) → ServesBatch faults honest terms history committed day most old new turns → honest new.1 → All (IsSentCommitted (committed new.1)) turns
-  round_stands most old new turns batch h =
-      let before = honest_before batch.between.1 new.1 batch.taken batch.answers.commit_result batch.answers.settles batch.answers.unasked h in
+  pub batch_stands : (most : ℕ) (old new : Trace × B) (turns : List Turn) → ServesBatch faults honest terms history committed day most old new turns → honest new.1 → All (IsSentCommitted (committed new.1)) turns
+  batch_stands most old new turns batch h =
+      let before = honest_before batch.between.1 new.1 batch.taken batch.answers.commit_result batch.answers.commits batch.answers.unasked h in
       let same = ap history batch.takes.same in
       let served = (serves_taken old batch.takes.handled batch.taken batch.takes.takes (subst honest batch.takes.same before.0)).served in
       let P : List Entry → Type 0 = λ l. All (IsTakenAnswered l) batch.taken in
       let owed = subst P (sym (before.1 ∙ same)) (taken_answered (history batch.takes.handled.1) day batch.taken served.answered) in
-      let all = all_stand (honest new.1) (committed new.1) (history new.1) h batch.answers.commit_result batch.between.0 new.0 batch.taken batch.answered (λ some. (batch.answers.settles some).done h) owed batch.answers.answers in
+      let all = all_stand (honest new.1) (committed new.1) (history new.1) h batch.answers.commit_result batch.between.0 new.0 batch.taken batch.answered (λ some. (batch.answers.commits some).done h) owed batch.answers.answers in
       subst (λ (l : List Turn). All (IsSentCommitted (committed new.1)) l) (sym batch.are) (told (committed new.1) batch.ended batch.answered all)
 
   -- and so does the one of a batch of one turn
-  pub turn_of_round : (old new : Trace × B) (turn : Turn) → ServesBatch faults honest terms history committed day 1 old new (turn ∷ []) → honest new.1 → IsSentCommitted (committed new.1) turn
-  turn_of_round old new turn batch h = All-head (IsSentCommitted (committed new.1)) turn [] (round_stands 1 old new (turn ∷ []) batch h)
+  pub turn_of_batch : (old new : Trace × B) (turn : Turn) → ServesBatch faults honest terms history committed day 1 old new (turn ∷ []) → honest new.1 → IsSentCommitted (committed new.1) turn
+  turn_of_batch old new turn batch h = All-head (IsSentCommitted (committed new.1)) turn [] (batch_stands 1 old new (turn ∷ []) batch h)

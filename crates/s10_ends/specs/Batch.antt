@@ -54,7 +54,7 @@ module _ {B : Type 0} (faults : B → Faults) (honest : B → Type 0) (terms : B
   -- the calls of what was taken were committed, and only then was it answered; where nothing was taken the book is as it was
   pub record CommitsAndReplies (old new : Trace × B) (taken : List Exchange) (answered : List Turn) : Type 0 where
     pub commit_result : Result (Unit {0}) BookFault
-    pub settles : taken ≢ [] → Commits faults honest terms history committed old.1 new.1 commit_result
+    pub commits : taken ≢ [] → Commits faults honest terms history committed old.1 new.1 commit_result
     pub unasked : taken ≡ [] → new.1 ≡ old.1
     pub answers : AnswersAll (honest new.1) (AsksCommitted (committed new.1) (history new.1)) commit_result old.0 taken answered new.0
 

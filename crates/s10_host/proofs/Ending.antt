@@ -41,7 +41,7 @@ use Rattle.s10_host.specs.declared.ledger_job.LedgerJob.{LedgerJob}
 use Rattle.s10_host.specs.declared.ledger_job.LedgerJob.TheVariants.{BookJob as AsksFor, Audit}
 use Rattle.s10_host.specs.BookJobs.{IsBookJobRefusal, EndsOver, EndsIn}
 use Rattle.s10_host.proofs.Opening.{empty_book, found_book, put_away}
-use Rattle.s10_host.proofs.Backwards.{before_rounds}
+use Rattle.s10_host.proofs.Backwards.{before_batches}
 
 -- a task is one work
 pub asked_alike : (task : LedgerJob) (work same : BookJob) → task ≡ AsksFor work → task ≡ AsksFor same → work ≡ same
@@ -58,9 +58,9 @@ fails_by IsFault fault old new (Ok status) is (failed, written) = (failed, fault
 fails_by IsFault fault old new (Err e) is says = tt
 
 -- the same of what was handed on
-pub fails_as : (IsFault : OpenFault → Type 0) (fault : OpenFault) (old new : Option (List ℕ)) (told result : Result JobStatus WriteFault) → IsFault fault
-    → IfOk told (λ status. (status ≡ Failed) × Appends old new (ledger_line fault)) → result ≡ told → IfOk result (FailsByLedger IsFault old new)
-fails_as IsFault fault old new told result is says same = subst (λ r. IfOk r (FailsByLedger IsFault old new)) (sym same) (fails_by IsFault fault old new told is says)
+pub fails_as : (IsFault : OpenFault → Type 0) (fault : OpenFault) (old new : Option (List ℕ)) (printed result : Result JobStatus WriteFault) → IsFault fault
+    → IfOk printed (λ status. (status ≡ Failed) × Appends old new (ledger_line fault)) → result ≡ printed → IfOk result (FailsByLedger IsFault old new)
+fails_as IsFault fault old new printed result is says same = subst (λ r. IfOk r (FailsByLedger IsFault old new)) (sym same) (fails_by IsFault fault old new printed is says)
 
 -- a fault of this kind is one of that kind
 fails_weaker : (Is Was : OpenFault → Type 0) → ((fault : OpenFault) → Is fault → Was fault) → (done : Result JobStatus WriteFault) (old new : Option (List ℕ)) (r : Result JobStatus WriteFault)
@@ -99,33 +99,33 @@ module _ {D : Type 0} {g : disk.Ghosts D} where
   kept_copied closed put None done result new last copied kept = tt
   kept_copied closed put (Some f) done result new last copied (is, same, still) = (subst (λ r. IfOk r (Copies closed)) is copied, same, still)
 
-  pub refused_over : (work : BookJob) (was left : Held (FileStore D g)) (old between new : Option (List ℕ)) (fault named : OpenFault) (told result : Result JobStatus WriteFault) (files : Option (Files D)) (link : Option BoundLink)
-      → IsBookJobRefusal over_files work was left fault → named ≡ fault → between ≡ old → IfOk told (λ status. (status ≡ Failed) × Appends between new (ledger_line named))
-      → result ≡ told → files ≡ None → link ≡ None → EndsOver work was old new result files link
-  refused_over work was left old between new fault named told result files link refusal is still says same no_files no_link =
+  pub refused_over : (work : BookJob) (was left : Held (FileStore D g)) (old between new : Option (List ℕ)) (fault named : OpenFault) (printed result : Result JobStatus WriteFault) (files : Option (Files D)) (link : Option BoundLink)
+      → IsBookJobRefusal over_files work was left fault → named ≡ fault → between ≡ old → IfOk printed (λ status. (status ≡ Failed) × Appends between new (ledger_line named))
+      → result ≡ printed → files ≡ None → link ≡ None → EndsOver work was old new result files link
+  refused_over work was left old between new fault named printed result files link refusal is still says same no_files no_link =
       let Told : Option (List ℕ) → OpenFault → Result JobStatus WriteFault → Type 0 = λ text f r. IfOk r (λ status. (status ≡ Failed) × Appends text new (ledger_line f)) in
       inr (record {
         fault = fault;
         left = left;
         refusal = refusal;
-        told = subst (λ text. Told text fault result) still (subst (λ f. Told between f result) is (subst (λ r. Told between named r) (sym same) says));
+        printed = subst (λ text. Told text fault result) still (subst (λ f. Told between f result) is (subst (λ r. Told between named r) (sym same) says));
         no_files = no_files;
         no_link = no_link;
       })
 
 module _ (S : RattleType) (first : Ghosts S.Denot) where
   -- a ledger that was made and closed, of which that was said then
-  pub created : (terms : Terms) (was : FileConnection S first) (old between new : Option (List ℕ)) (done told : Result JobStatus WriteFault) (files : Option (ClosedFiles S first)) (link : Option BoundLink) (f : ClosedFiles S first)
+  pub created : (terms : Terms) (was : FileConnection S first) (old between new : Option (List ℕ)) (done printed : Result JobStatus WriteFault) (files : Option (ClosedFiles S first)) (link : Option BoundLink) (f : ClosedFiles S first)
       → files ≡ Some f → EndsOver (Create terms) was old between done files link
-      → IfOk told (λ status. (status ≡ Done) × Appends between new (codes "created\n")) → HasCreated S first terms old new told files
-  created terms was old between new done told None link f is ends written = absurd cc
-  created terms was old between new done told (Some g) link f is (inr refused) written = absurd (let none = refused.no_files in cc)
-  created terms was old between new done told (Some g) link f is (inl over) written =
+      → IfOk printed (λ status. (status ≡ Done) × Appends between new (codes "created\n")) → HasCreated S first terms old new printed files
+  created terms was old between new done printed None link f is ends written = absurd cc
+  created terms was old between new done printed (Some g) link f is (inr refused) written = absurd (let none = refused.no_files in cc)
+  created terms was old between new done printed (Some g) link f is (inl over) written =
       let (book, new_book, put, result, still, none) = over.worked in
       let (copies, same, last) = over.kept in
       record {
         made = record { book = book; settings = new_book.settings; empty = empty_book terms book new_book; away = put_away book over.closed g put copies };
-        told = subst (λ text. IfOk told (λ status. (status ≡ Done) × Appends text new (codes "created\n"))) (last ∙ still) written;
+        printed = subst (λ text. IfOk printed (λ status. (status ≡ Done) × Appends text new (codes "created\n"))) (last ∙ still) written;
         refused = λ gone. absurd cc;
       }
 
@@ -135,25 +135,25 @@ module _ (S : RattleType) (first : Ghosts S.Denot) where
   not_created terms was old new result (Some f) link none found ends = absurd cc
   not_created terms was old new result None link none found (inr refused) = record {
     made = tt;
-    told = tt;
-    refused = λ _. fails_by (IsNotMade S first) refused.fault old new result (inr (record { was = was; found = found; refusal = refused.refusal })) refused.told;
+    printed = tt;
+    refused = λ _. fails_by (IsNotMade S first) refused.fault old new result (inr (record { was = was; found = found; refusal = refused.refusal })) refused.printed;
   }
   not_created terms was old new result None link none found (inl over) =
       let (book, new_book, put, done, still, no_link) = over.worked in
       record {
         made = tt;
-        told = tt;
+        printed = tt;
         refused = λ _. fails_weaker (λ fault. fault ≡ Store) (IsNotMade S first) (λ fault is. inl (inr is)) over.done old new result
             (subst (λ text. FailsByClosing over.done text new result) still (over.lost refl));
       }
 
   -- and one whose file could not be opened
-  pub not_connected : (terms : Terms) (fault : OpenFault) (old new : Option (List ℕ)) (told result : Result JobStatus WriteFault) (files : Option (ClosedFiles S first))
-      → IsFileFault fault → IfOk told (λ status. (status ≡ Failed) × Appends old new (ledger_line fault)) → result ≡ told → files ≡ None → HasCreated S first terms old new result files
-  not_connected terms fault old new told result (Some f) is says same none = absurd cc
-  not_connected terms fault old new told result None is says same none = record {
+  pub not_connected : (terms : Terms) (fault : OpenFault) (old new : Option (List ℕ)) (printed result : Result JobStatus WriteFault) (files : Option (ClosedFiles S first))
+      → IsFileFault fault → IfOk printed (λ status. (status ≡ Failed) × Appends old new (ledger_line fault)) → result ≡ printed → files ≡ None → HasCreated S first terms old new result files
+  not_connected terms fault old new printed result (Some f) is says same none = absurd cc
+  not_connected terms fault old new printed result None is says same none = record {
     made = tt;
-    told = tt;
+    printed = tt;
     refused = λ _. fails_by (IsNotMade S first) fault old new result (inl is) (subst (λ r. IfOk r (λ status. (status ≡ Failed) × Appends old new (ledger_line fault))) (sym same) says);
   }
 
@@ -161,12 +161,12 @@ module _ (S : RattleType) (first : Ghosts S.Denot) where
   absent_or_refused : (old new : Option (List ℕ)) (result : Result JobStatus WriteFault) → IfOk result (FailsByLedger (IsAbsenceOr IsFileFault) old new) → IfOk result (FailsByLedger (IsNotOpened S first) old new)
   absent_or_refused old new (Ok status) (failed, fault, inl absent, written) = (failed, fault, inl absent, written)
   absent_or_refused old new (Ok status) (failed, fault, inr is, written) = (failed, fault, inr (inl is), written)
-  absent_or_refused old new (Err e) told = tt
+  absent_or_refused old new (Err e) printed = tt
 
   was_honest : (day : Option ℕ) (count : ℕ) (old new : Option (List ℕ)) (opened after : FileLedger S first) (result : Result JobStatus WriteFault) (link : BoundLink)
       → Turns over_files day count opened after old new result link → IsHonest over_files after → IsHonest over_files opened
   was_honest day count old new opened after result link turns =
-      before_rounds (λ (b : FileLedger S first). b.faults) (IsHonest over_files) (λ b. b.terms) (history_of over_files) (committed_of over_files) day
+      before_batches (λ (b : FileLedger S first). b.faults) (IsHonest over_files) (λ b. b.terms) (history_of over_files) (committed_of over_files) day
       (new_trace, opened) (link.trace, after) turns.batches turns.lead
 
   served_away : (day : Option ℕ) (count : ℕ) (old new last : Option (List ℕ)) (opened served : FileLedger S first) (closed : FileConnection S first) (done result : Result JobStatus WriteFault)
@@ -183,28 +183,28 @@ module _ (S : RattleType) (first : Ghosts S.Denot) where
   unlinked_kept : (old new last : Option (List ℕ)) (done result : Result JobStatus WriteFault)
       → IfOk done (λ status. (status ≡ Failed) × Appends old new (line_of (codes "link") (codes "bind" ∷ []))) → result ≡ done → last ≡ new
       → IfOk result (λ status. (status ≡ Failed) × Appends old last (line_of (codes "link") (codes "bind" ∷ [])))
-  unlinked_kept old new last done result told same still =
+  unlinked_kept old new last done result printed same still =
       let Told : Result JobStatus WriteFault → Option (List ℕ) → Type 0 = λ r text. IfOk r (λ status. (status ≡ Failed) × Appends old text (line_of (codes "link") (codes "bind" ∷ []))) in
-      subst (λ text. Told result text) (sym still) (subst (λ r. Told r new) (sym same) told)
+      subst (λ text. Told result text) (sym still) (subst (λ r. Told r new) (sym same) printed)
 
   unlinked_lost : (old new last : Option (List ℕ)) (done result : Result JobStatus WriteFault)
       → IfOk done (λ status. (status ≡ Failed) × Appends old new (line_of (codes "link") (codes "bind" ∷ [])))
       → IfOk result (λ status. IsOk done × FailsByLedger (λ fault. fault ≡ Store) new last status)
       → IfOk result (λ status. (status ≡ Failed) × Appends old last (line_of (codes "link") (codes "bind" ∷ []) ++ ledger_line Store))
-  unlinked_lost old new last (Ok status) (Ok other) told (well, (failed, fault, is, written)) =
-      (failed, Appends-trans old new last (line_of (codes "link") (codes "bind" ∷ [])) (ledger_line Store) told.1 (subst (λ f. Appends new last (ledger_line f)) is written))
-  unlinked_lost old new last (Err e) (Ok other) told (well, rest) = absurd (let one = well in cc)
-  unlinked_lost old new last done (Err e) told says = tt
+  unlinked_lost old new last (Ok status) (Ok other) printed (well, (failed, fault, is, written)) =
+      (failed, Appends-trans old new last (line_of (codes "link") (codes "bind" ∷ [])) (ledger_line Store) printed.1 (subst (λ f. Appends new last (ledger_line f)) is written))
+  unlinked_lost old new last (Err e) (Ok other) printed (well, rest) = absurd (let one = well in cc)
+  unlinked_lost old new last done (Err e) printed says = tt
 
   unlinked : (old new last : Option (List ℕ)) (opened after : FileLedger S first) (closed : FileConnection S first) (done result : Result JobStatus WriteFault) (files : Option (ClosedFiles S first))
       → IsUnbound opened after old new done → IsClosedAs over_files after closed
       → IfSome files (λ f. Copies closed f × (result ≡ done) × (last ≡ new)) → (files ≡ None → FailsByClosing done new last result) → IsUnlinked S first opened old last result files
   unlinked old new last opened after closed done result None unbound put kept lost =
-      record { away = tt; told = tt; lost = λ none. unlinked_lost old new last done result unbound.1 (lost none) }
+      record { away = tt; printed = tt; lost = λ none. unlinked_lost old new last done result unbound.1 (lost none) }
   unlinked old new last opened after closed done result (Some f) unbound put (copies, same, still) lost =
       record {
         away = subst (λ b. PutsAway b f) unbound.0 (put_away after closed f put copies);
-        told = unlinked_kept old new last done result unbound.1 same still;
+        printed = unlinked_kept old new last done result unbound.1 same still;
         lost = λ none. absurd (let one : Some f ≡ None = none in cc);
       }
 
@@ -213,7 +213,7 @@ module _ (S : RattleType) (first : Ghosts S.Denot) where
       → IsPeerText bind → IsFoundIn (image_at first) was → EndsOver (Serve at count day) was old new result files link → HasServed S first bind day count old new result files link
   served_over bind at day count was old new result files None text found (inr refused) = record {
     served = tt;
-    unlinked = λ _. inr (inl (text, fails_by (IsNotOpened S first) refused.fault old new result (inr (inr (record { was = was; found = found; left = refused.left; refusal = refused.refusal }))) refused.told));
+    unlinked = λ _. inr (inl (text, fails_by (IsNotOpened S first) refused.fault old new result (inr (inr (record { was = was; found = found; left = refused.left; refusal = refused.refusal }))) refused.printed));
   }
   served_over bind at day count was old new result files (Some l) text found (inr refused) = absurd (let none = refused.no_link in cc)
   served_over bind at day count was old new result files None text found (inl over) =
@@ -240,17 +240,17 @@ module _ (S : RattleType) (first : Ghosts S.Denot) where
             between = over.between;
             turns = turns;
             was_honest = was_honest day count old over.between opened served over.done l turns;
-            told = over.lost none;
+            printed = over.lost none;
           },
         );
         unlinked = λ none. absurd cc;
       }
 
   -- an address that does not read
-  pub no_peer : (bind text : List ℕ) (day : Option ℕ) (count : ℕ) (old new : Option (List ℕ)) (told result : Result JobStatus WriteFault) (files : Option (ClosedFiles S first)) (link : Option BoundLink) (made : Option Peer)
-      → made ≡ None → ((p : Peer) → SpellsPeer text p → made ≡ Some p) → text ≡ bind → IfOk told (λ status. (status ≡ Refused) × Appends old new (refused_line (codes "peer" ∷ [])))
-      → result ≡ told → link ≡ None → HasServed S first bind day count old new result files link
-  no_peer bind text day count old new told result files link made none read same says is gone = subst (HasServed S first bind day count old new result files) (sym gone) (record {
+  pub no_peer : (bind text : List ℕ) (day : Option ℕ) (count : ℕ) (old new : Option (List ℕ)) (printed result : Result JobStatus WriteFault) (files : Option (ClosedFiles S first)) (link : Option BoundLink) (made : Option Peer)
+      → made ≡ None → ((p : Peer) → SpellsPeer text p → made ≡ Some p) → text ≡ bind → IfOk printed (λ status. (status ≡ Refused) × Appends old new (refused_line (codes "peer" ∷ [])))
+      → result ≡ printed → link ≡ None → HasServed S first bind day count old new result files link
+  no_peer bind text day count old new printed result files link made none read same says is gone = subst (HasServed S first bind day count old new result files) (sym gone) (record {
     served = tt;
     unlinked = λ _. inl (
       λ peer. absurd (let some = read peer.0 (subst (λ t. SpellsPeer t peer.0) (sym same) peer.1) in cc),
@@ -261,15 +261,15 @@ module _ (S : RattleType) (first : Ghosts S.Denot) where
   pub served_in : (bind : List ℕ) (at : Peer) (day : Option ℕ) (count : ℕ) (old new : Option (List ℕ)) (result : Result JobStatus WriteFault) (files : Option (ClosedFiles S first)) (link : Option BoundLink)
       → IsPeerText bind → EndsIn S first (Serve at count day) old new result files link → HasServed S first bind day count old new result files link
   served_in bind at day count old new result files link text (inl (was, found, ends)) = served_over bind at day count was old new result files link text found ends
-  served_in bind at day count old new result files None text (inr (told, no_files, no_link)) =
-      record { served = tt; unlinked = λ _. inr (inl (text, absent_or_refused old new result told)) }
-  served_in bind at day count old new result files (Some l) text (inr (told, no_files, no_link)) = absurd (let none = no_link in cc)
+  served_in bind at day count old new result files None text (inr (printed, no_files, no_link)) =
+      record { served = tt; unlinked = λ _. inr (inl (text, absent_or_refused old new result printed)) }
+  served_in bind at day count old new result files (Some l) text (inr (printed, no_files, no_link)) = absurd (let none = no_link in cc)
 
-  pub no_day : (is_of_issues : Bool) (day : Option ℕ) (old new : Option (List ℕ)) (told result : Result JobStatus WriteFault) (files : Option (ClosedFiles S first))
-      → (is_of_issues ≡ false) × (day ≡ None) → IfOk told (λ status. (status ≡ Failed) × Appends old new (codes "clock\n")) → result ≡ told → files ≡ None
+  pub no_day : (is_of_issues : Bool) (day : Option ℕ) (old new : Option (List ℕ)) (printed result : Result JobStatus WriteFault) (files : Option (ClosedFiles S first))
+      → (is_of_issues ≡ false) × (day ≡ None) → IfOk printed (λ status. (status ≡ Failed) × Appends old new (codes "clock\n")) → result ≡ printed → files ≡ None
       → HasReported S first is_of_issues day old new result files
-  no_day is_of_issues day old new told result (Some f) none says same gone = absurd cc
-  no_day is_of_issues day old new told result None none says same gone =
+  no_day is_of_issues day old new printed result (Some f) none says same gone = absurd cc
+  no_day is_of_issues day old new printed result None none says same gone =
       record { reported = tt; unreported = λ _. inl (inl (none.0, none.1, subst (λ r. IfOk r (λ status. (status ≡ Failed) × Appends old new (codes "clock\n"))) (sym same) says)) }
 
   reported_away : (old new last : Option (List ℕ)) (report : Report) (opened after : FileLedger S first) (closed : FileConnection S first) (done result : Result JobStatus WriteFault) (files : Option (ClosedFiles S first))
@@ -287,7 +287,7 @@ module _ (S : RattleType) (first : Ghosts S.Denot) where
       → IsAskedFor is_of_issues day report → IsFoundIn (image_at first) was → EndsOver (ReportOn report) was old new result files link → HasReported S first is_of_issues day old new result files
   reported_over is_of_issues day report was old new result None link asked found (inr refused) = record {
     reported = tt;
-    unreported = λ _. inl (inr (fails_by (IsNotOpened S first) refused.fault old new result (inr (inr (record { was = was; found = found; left = refused.left; refusal = refused.refusal }))) refused.told));
+    unreported = λ _. inl (inr (fails_by (IsNotOpened S first) refused.fault old new result (inr (inr (record { was = was; found = found; left = refused.left; refusal = refused.refusal }))) refused.printed));
   }
   reported_over is_of_issues day report was old new result (Some f) link asked found (inr refused) = absurd (let none = refused.no_files in cc)
   reported_over is_of_issues day report was old new result None link asked found (inl over) =
@@ -299,7 +299,7 @@ module _ (S : RattleType) (first : Ghosts S.Denot) where
           asked,
           opened,
           found_book (image_at first) was opened found opening,
-          record { reported = reported; done = over.done; between = over.between; written = written; told = over.lost gone },
+          record { reported = reported; done = over.done; between = over.between; written = written; printed = over.lost gone },
         );
       }
   reported_over is_of_issues day report was old new result (Some f) link asked found (inl over) =
@@ -318,9 +318,9 @@ module _ (S : RattleType) (first : Ghosts S.Denot) where
   pub reported_in : (is_of_issues : Bool) (day : Option ℕ) (report : Report) (old new : Option (List ℕ)) (result : Result JobStatus WriteFault) (files : Option (ClosedFiles S first)) (link : Option BoundLink)
       → IsAskedFor is_of_issues day report → EndsIn S first (ReportOn report) old new result files link → HasReported S first is_of_issues day old new result files
   reported_in is_of_issues day report old new result files link asked (inl (was, found, ends)) = reported_over is_of_issues day report was old new result files link asked found ends
-  reported_in is_of_issues day report old new result None link asked (inr (told, no_files, no_link)) =
-      record { reported = tt; unreported = λ _. inl (inr (absent_or_refused old new result told)) }
-  reported_in is_of_issues day report old new result (Some f) link asked (inr (told, no_files, no_link)) = absurd (let none = no_files in cc)
+  reported_in is_of_issues day report old new result None link asked (inr (printed, no_files, no_link)) =
+      record { reported = tt; unreported = λ _. inl (inr (absent_or_refused old new result printed)) }
+  reported_in is_of_issues day report old new result (Some f) link asked (inr (printed, no_files, no_link)) = absurd (let none = no_files in cc)
 
   -- an audit that left these files
   pub audited_in : (was left : FileConnection S first) (finding : Result ℕ OpenFault) (old new : Option (List ℕ)) (result : Result JobStatus WriteFault) (files : Option (ClosedFiles S first)) (f : ClosedFiles S first)
@@ -332,11 +332,11 @@ module _ (S : RattleType) (first : Ghosts S.Denot) where
   })
 
   -- and one of a file that could not be opened
-  pub not_audited : (fault : OpenFault) (old new : Option (List ℕ)) (told result : Result JobStatus WriteFault) (files : Option (ClosedFiles S first))
-      → IsAbsenceOr IsFileFault fault → IfOk told (λ status. (status ≡ Failed) × Appends old new (ledger_line fault)) → result ≡ told → files ≡ None → HasAudited S first old new result files
-  not_audited fault old new told result files is says same none = subst (HasAudited S first old new result) (sym none) (record {
+  pub not_audited : (fault : OpenFault) (old new : Option (List ℕ)) (printed result : Result JobStatus WriteFault) (files : Option (ClosedFiles S first))
+      → IsAbsenceOr IsFileFault fault → IfOk printed (λ status. (status ≡ Failed) × Appends old new (ledger_line fault)) → result ≡ printed → files ≡ None → HasAudited S first old new result files
+  not_audited fault old new printed result files is says same none = subst (HasAudited S first old new result) (sym none) (record {
     audited = tt;
-    refused = λ _. fails_as (IsAbsenceOr IsFileFault) fault old new told result is says same;
+    refused = λ _. fails_as (IsAbsenceOr IsFileFault) fault old new printed result is says same;
   })
 
   -- the same of what was handed on

@@ -87,7 +87,7 @@ module _ {D : Type 0} {g : disk.Ghosts D} where
     pub fault : OpenFault
     pub left : Held (FileStore D g)
     pub refusal : IsBookJobRefusal over_files work was left fault
-    pub told : IfOk result (λ status. (status ≡ Failed) × Appends old new (ledger_line fault))
+    pub printed : IfOk result (λ status. (status ≡ Failed) × Appends old new (ledger_line fault))
     pub no_files : files ≡ None
     pub no_link : link ≡ None
 

@@ -71,7 +71,7 @@ module _ (S : RattleType) (first : Ghosts S.Denot) where
   -- such a ledger was made, and only then that was said; or the line says why there is none
   pub record HasCreated (terms : Terms) (old new : Option (List ℕ)) (result : Result JobStatus WriteFault) (files : Option (ClosedFiles S first)) : Type 0 where
     pub made : IfSome files (HasMadeLedger terms)
-    pub told : IfSome files (λ _. IfOk result (λ status. (status ≡ Done) × Appends old new (codes "created\n")))
+    pub printed : IfSome files (λ _. IfOk result (λ status. (status ≡ Done) × Appends old new (codes "created\n")))
     pub refused : files ≡ None → IfOk result (FailsByLedger (IsNotMade S first) old new)
 
   -- the ledger was served in turns, which are all that this link carried, and closed in these files
@@ -88,12 +88,12 @@ module _ (S : RattleType) (first : Ghosts S.Denot) where
     pub between : Option (List ℕ)
     pub turns : Turns over_files day count opened served old between turned link
     pub was_honest : IsHonest over_files served → IsHonest over_files opened
-    pub told : FailsByClosing turned between new result
+    pub printed : FailsByClosing turned between new result
 
   -- it was opened, and its address could not be had
   pub record IsUnlinked (opened : FileLedger S first) (old new : Option (List ℕ)) (result : Result JobStatus WriteFault) (files : Option (ClosedFiles S first)) : Type 0 where
     pub away : IfSome files (PutsAway opened)
-    pub told : IfSome files (λ _. IfOk result (λ status. (status ≡ Failed) × Appends old new (line_of (codes "link") (codes "bind" ∷ []))))
+    pub printed : IfSome files (λ _. IfOk result (λ status. (status ≡ Failed) × Appends old new (line_of (codes "link") (codes "bind" ∷ []))))
     pub lost : files ≡ None → IfOk result (λ status. (status ≡ Failed) × Appends old new (line_of (codes "link") (codes "bind" ∷ []) ++ ledger_line Store))
 
   -- what comes before the turns, in this order: the address reads, the ledger is opened, the address is had
@@ -128,7 +128,7 @@ module _ (S : RattleType) (first : Ghosts S.Denot) where
     pub done : Result JobStatus WriteFault
     pub between : Option (List ℕ)
     pub written : Writes report opened reported old between done
-    pub told : FailsByClosing done between new result
+    pub printed : FailsByClosing done between new result
 
   -- what comes before the report, in this order: the clock gives a day where none was given, the ledger is opened
   abbrev pub HasNoReport : Bool → Option ℕ → Option (List ℕ) → Option (List ℕ) → Result JobStatus WriteFault → Type 0

@@ -82,9 +82,9 @@ last_kept p o [] l e = absurd (none-some l e)
 last_kept p o (x ∷ xs) l e = e
 
 -- the last of what follows is the last of all
-last_behind : (p : Issuance → Bool) (o : Option Issuance) (front is : List Issuance) (l : Issuance) → last_or None (filter p is) ≡ Some l → last_or o (filter p (front ++ is)) ≡ Some l
-last_behind p o [] is l e = last_kept p o (filter p is) l e
-last_behind p o (x ∷ front) is l e = at (p x) refl (last_behind p (Some x) front is l e) (last_behind p o front is l e)
+last_after : (p : Issuance → Bool) (o : Option Issuance) (front is : List Issuance) (l : Issuance) → last_or None (filter p is) ≡ Some l → last_or o (filter p (front ++ is)) ≡ Some l
+last_after p o [] is l e = last_kept p o (filter p is) l e
+last_after p o (x ∷ front) is l e = at (p x) refl (last_after p (Some x) front is l e) (last_after p o front is l e)
   where
     at : (b : Bool) → p x ≡ b → last_or (Some x) (filter p (front ++ is)) ≡ Some l → last_or o (filter p (front ++ is)) ≡ Some l → last_or o (filter p ((x ∷ front) ++ is)) ≡ Some l
     at true does here past = rw does here
@@ -99,11 +99,11 @@ last_from : (h : List Entry) (before behind : List Issuance) (i l : Issuance) �
 last_from h before behind i l split last =
     let own : is_of i.id i ≡ true = id_same i.id i.id refl in
     let alone : last_or None (filter (is_of i.id) (i ∷ behind)) ≡ Some l = rw own last in
-    ap (λ is. last_issuance_of is i.id) split ∙ last_behind (is_of i.id) None before (i ∷ behind) l alone
+    ap (λ is. last_issuance_of is i.id) split ∙ last_after (is_of i.id) None before (i ∷ behind) l alone
 
-pairs_behind : (R : Issuance → Issuance → Type 0) (before : List Issuance) (i : Issuance) (behind : List Issuance) → AllPairs R (before ++ i ∷ behind) → All (R i) behind
-pairs_behind R [] i behind pairs = λ k d lt. pairs 0 (suc k) d (omega arith) (omega arith)
-pairs_behind R (b ∷ bs) i behind pairs = pairs_behind R bs i behind (λ j k d lt lt'. pairs (suc j) (suc k) d (omega arith) (omega arith))
+pairs_after : (R : Issuance → Issuance → Type 0) (before : List Issuance) (i : Issuance) (behind : List Issuance) → AllPairs R (before ++ i ∷ behind) → All (R i) behind
+pairs_after R [] i behind pairs = λ k d lt. pairs 0 (suc k) d (omega arith) (omega arith)
+pairs_after R (b ∷ bs) i behind pairs = pairs_after R bs i behind (λ j k d lt lt'. pairs (suc j) (suc k) d (omega arith) (omega arith))
 
 -- where the identifier is issued again after, its last issue is on a later day
 issued_again : (h : List Entry) (t : Terms) (before behind : List Issuance) (i : Issuance) → IsLegal h t → issues_of h ≡ before ++ i ∷ behind → is_issued behind i.id ≡ true
@@ -111,7 +111,7 @@ issued_again : (h : List Entry) (t : Terms) (before behind : List Issuance) (i :
 issued_again h t before behind i legal split again =
     let l = issued_latest behind i.id again in
     let R : Issuance → Issuance → Type 0 = λ j k. j.id ≡ k.id → j.day + t.interval ≤ k.day in
-    let later : All (R i) behind = pairs_behind R before i behind (subst (AllPairs R) split (sound h t legal).spaced) in
+    let later : All (R i) behind = pairs_after R before i behind (subst (AllPairs R) split (sound h t legal).spaced) in
     let last = last_passes (R i) i.id behind l.0 later l.1 in (
       l.0,
       last_from h before behind i l.0 split (last_kept (is_of i.id) (Some i) (filter (is_of i.id) behind) l.0 l.1),
@@ -161,8 +161,8 @@ own_issue h t before behind i known legal pos split is own = by (is_issued behin
 -- ---- the rows so far
 
 -- after the last call there is none
-pub none_behind : (h : List Entry) (place : ℕ) → length h ≤ place → serial_rows_from h place ≡ []
-none_behind h place past = ap (λ l. last_rows h (issues_from (place + 1) l)) (drop_all place h past)
+pub none_after : (h : List Entry) (place : ℕ) → length h ≤ place → serial_rows_from h place ≡ []
+none_after h place past = ap (λ l. last_rows h (issues_from (place + 1) l)) (drop_all place h past)
 
 -- the rows so far, and those that one step makes
 pub grown : {A : Type 0} (rows new made next now all : List A) → made ++ next ≡ now → rows ++ now ≡ all → new ≡ rows ++ made → new ++ next ≡ all

@@ -5,7 +5,7 @@ pub mod Recording
 pub mod Inserting
 pub mod Reserving
 pub mod LastRows
-pub mod RemadeLemmas
+pub mod ReplayedBookLemmas
 pub mod Earlier
 pub mod IssueLemmas
 pub mod Voiding

@@ -64,9 +64,9 @@ place_same p [] i e fails = rw fails refl
 place_same p (x ∷ xs) i e fails = ap (cond (p x) (Some i)) (place_same p xs (i + 1) e fails)
 
 -- the place of a key after a call with a new key
-pub place_behind : (h : List Entry) (e : Entry) (customer number place : ℕ) (o : Option ℕ) → find_entry h e.request.customer e.request.number ≡ None → place ≡ length h
+pub place_after : (h : List Entry) (e : Entry) (customer number place : ℕ) (o : Option ℕ) → find_entry h e.request.customer e.request.number ≡ None → place ≡ length h
     → o ≡ position_from (has_key customer number) 0 h → cond (has_key customer number e) (Some place) o ≡ position_from (has_key customer number) 0 (h ++ e ∷ [])
-place_behind h e customer number place o new is old = at (has_key customer number e) refl
+place_after h e customer number place o new is old = at (has_key customer number e) refl
   where
     at : (b : Bool) → has_key customer number e ≡ b → cond b (Some place) o ≡ position_from (has_key customer number) 0 (h ++ e ∷ [])
     at true same =

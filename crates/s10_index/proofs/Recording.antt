@@ -73,8 +73,8 @@ now_voided (suc n) [] e x le does = absurd (omega (arith, le))
 now_voided (suc n) (d ∷ h) e x le does = now_voided n h e x (omega (arith, le)) does
 
 -- nothing follows the last call
-none_behind : (h : List Entry) (e : Entry) (x : Id) → voided_after (1 + length h) (h ++ e ∷ []) x ≡ false
-none_behind h e x = ap (list_any (voids x)) (drop_all (1 + length h) (h ++ e ∷ []) (omega (arith, length-append h (e ∷ []))))
+none_after : (h : List Entry) (e : Entry) (x : Id) → voided_after (1 + length h) (h ++ e ∷ []) x ≡ false
+none_after h e x = ap (list_any (voids x)) (drop_all (1 + length h) (h ++ e ∷ []) (omega (arith, length-append h (e ∷ []))))
 
 none_voided : (x : Id) (b : Body) (o : Outcome) → ((y : Id) → b ≡ Void y → o ≡ Voided → ⊥) → voids_by x b o ≡ false
 none_voided x (Void id) Voided other = absurd (other id refl refl)
@@ -116,7 +116,7 @@ last_left h e x no_issue no_void =
 -- no Void follows an issue that the last call made
 new_told : (h : List Entry) (e : Entry) (x : Id) (y : Issuance) (b : Bool) (o : Option Issuance) → y.arrival ≡ 1 + length h
     → option_map (issue_in_history (h ++ e ∷ []) x) (cond b (Some y) o) ≡ cond b (Some (as_issue y false)) (option_map (issue_in_history (h ++ e ∷ []) x) o)
-new_told h e x y true o at = ap (λ v. Some (as_issue y v)) (ap (λ n. voided_after n (h ++ e ∷ []) x) at ∙ none_behind h e x)
+new_told h e x y true o at = ap (λ v. Some (as_issue y v)) (ap (λ n. voided_after n (h ++ e ∷ []) x) at ∙ none_after h e x)
 new_told h e x y false o at = refl
 
 -- what is reported for the last issue before the next place of a call

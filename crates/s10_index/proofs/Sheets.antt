@@ -23,10 +23,10 @@ same_calls : (sheets more : List (List Id)) (rows : List CompactCall) → All (�
 same_calls sheets more [] there = refl
 same_calls sheets more (row ∷ rows) there =
     let Named : CompactCall → Type 0 = λ r. NamesSheetOf (length sheets) r.outcome in
-    let told : Outcome → Entry = λ o. record { request = row.request; day = row.day; outcome = o } in
-    ap₂ (λ (e : Entry) (es : List Entry). e ∷ es) (ap told (same_outcome sheets more row.outcome (All-head Named row rows there))) (same_calls sheets more rows (All-tail Named row rows there))
+    let restored : Outcome → Entry = λ o. record { request = row.request; day = row.day; outcome = o } in
+    ap₂ (λ (e : Entry) (es : List Entry). e ∷ es) (ap restored (same_outcome sheets more row.outcome (All-head Named row rows there))) (same_calls sheets more rows (All-tail Named row rows there))
 
--- one more call, told in short over its own sheet too
+-- one more call, restored in short over its own sheet too
 pub calls-push : (old more new : List (List Id)) (rows all : List CompactCall) (row : CompactCall) (e : Entry) → new ≡ old ++ more → all ≡ rows ++ row ∷ [] → All (λ r. NamesSheetOf (length old) r.outcome) rows
     → entry_of new row ≡ e → map (entry_of new) all ≡ map (entry_of old) rows ++ e ∷ []
 calls-push old more new rows all row e grown longer there is =

@@ -21,7 +21,7 @@ impl CompactCall {
         requires room { vec_len sheets.old < vec_capacity sheets.old }
         requires few { length sheets.old.items < 4294967295 }
         ensures sheets { sheets.new.items ≡ sheets.old.items ++ sheet_of entry.outcome }
-        ensures told { entry_of sheets.new.items result ≡ entry }
+        ensures restored { entry_of sheets.new.items result ≡ entry }
         ensures named { NamesSheetOf (length sheets.new.items) result.outcome }
     {
         CompactCall {

@@ -35,7 +35,7 @@ impl CompactOutcome {
         requires room { vec_len sheets.old < vec_capacity sheets.old }
         requires few { length sheets.old.items < 4294967295 }
         ensures sheets { sheets.new.items ≡ sheets.old.items ++ sheet_of outcome }
-        ensures told { outcome_of sheets.new.items result ≡ outcome }
+        ensures restored { outcome_of sheets.new.items result ≡ outcome }
         ensures named { NamesSheetOf (length sheets.new.items) result }
     {
         match outcome {

@@ -12,7 +12,7 @@ use s10_replay::{replay_rows, settings_in};
 use s10_rows::{CallRow, HeadRow, LedgerSummary, OpenFault};
 use std::alloc::Global;
 
-/// A book in memory of a ledger's calls, and what is to be told of them.
+/// A book in memory of a ledger's calls, and what is to be restored of them.
 #[derive(Drop)]
 pub struct ReplayedBook {
     pub book: IndexedBook,

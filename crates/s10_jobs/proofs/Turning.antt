@@ -35,8 +35,8 @@ unfolding BatchesLead
 none_served IsStep s held = record { batches = []; lead = refl; many = refl; written = Appends-nil held }
 
 module _ {S : Type 0} (IsStep : S → List Turn → S → Type 0) (old mid new : S) (held before now : Option (List ℕ)) (done count : ℕ) (served : HasServed IsStep old mid held before done) where
-  round_more : (batch : List Turn) → IsStep mid batch new → Appends before now (flat_map turn_line batch) → HasServed IsStep old new held now (done + length batch)
-  round_more batch step lines = record {
+  batch_more : (batch : List Turn) → IsStep mid batch new → Appends before now (flat_map turn_line batch) → HasServed IsStep old new held now (done + length batch)
+  batch_more batch step lines = record {
     batches = served.batches ++ batch ∷ [];
     lead = lead_more IsStep old served.batches mid new batch served.lead step;
     many = ap length (turns_more served.batches batch) ∙ omega (arith, length-append (turns_in served.batches) batch, served.many);
@@ -45,19 +45,19 @@ module _ {S : Type 0} (IsStep : S → List Turn → S → Type 0) (old mid new :
   }
 
   -- one more round, whose lines were written
-  pub round_served : (Is : List Turn → Type 0) (most turns : ℕ) → ((batch : List Turn) → Is batch → IsStep mid batch new) → PrintsBatch Is most before now (Ok turns) → HasServed IsStep old new held now (done + turns)
-  round_served Is most turns step (batch, is, few, (many, some, lines)) = subst (λ n. HasServed IsStep old new held now (done + n)) (sym many) (round_more batch (step batch is) lines)
+  pub batch_served : (Is : List Turn → Type 0) (most turns : ℕ) → ((batch : List Turn) → Is batch → IsStep mid batch new) → PrintsBatch Is most before now (Ok turns) → HasServed IsStep old new held now (done + turns)
+  batch_served Is most turns step (batch, is, few, (many, some, lines)) = subst (λ n. HasServed IsStep old new held now (done + n)) (sym many) (batch_more batch (step batch is) lines)
 
   -- one more round, whose lines were not
-  pub round_unshown : (Is : List Turn → Type 0) (most : ℕ) (shown : Result ℕ WriteFault) (result : Result JobStatus WriteFault) (IsFault : WriteFault → Type 0) → IsErrAnd result IsFault → ((batch : List Turn) → Is batch → IsStep mid batch new)
+  pub batch_unprinted : (Is : List Turn → Type 0) (most : ℕ) (shown : Result ℕ WriteFault) (result : Result JobStatus WriteFault) (IsFault : WriteFault → Type 0) → IsErrAnd result IsFault → ((batch : List Turn) → Is batch → IsStep mid batch new)
       → done + most ≤ count → PrintsBatch Is most before now shown → Serves IsStep old new held now count result
-  round_unshown Is most shown (Err fault) IsFault failed step room (batch, is, few, lines) = record {
+  batch_unprinted Is most shown (Err fault) IsFault failed step room (batch, is, few, lines) = record {
     batches = served.batches ++ batch ∷ [];
     lead = lead_more IsStep old served.batches mid new batch served.lead (step batch is);
     few = omega (arith, ap length (turns_more served.batches batch), length-append (turns_in served.batches) batch, served.many, few, room);
     shows = tt;
   }
-  round_unshown Is most shown (Ok status) IsFault failed step room batch = absurd failed
+  batch_unprinted Is most shown (Ok status) IsFault failed step room batch = absurd failed
 
 -- the day of a turn is the day that was given
 pub given_day : (given found : Option ℕ) (day : ℕ) → (given ≢ None → found ≡ given) → found ≡ Some day → IsDay given day

@@ -27,7 +27,7 @@ pub record StopsInLine (bytes : List ℕ) (left : Option (List ℕ)) (done : ℕ
   pub read : List ℕ
   pub rest : List ℕ
   pub parts : bytes ≡ read ++ rest
-  pub behind : lines_of rest ≡ drop done (lines_of bytes)
+  pub unread_lines : lines_of rest ≡ drop done (lines_of bytes)
   pub none_refused : NoneRefused (take done (lines_of bytes))
   pub stopped : BeginsLine (Some rest) left
   pub counted : 1000000 ≤ done → left ≡ Some rest

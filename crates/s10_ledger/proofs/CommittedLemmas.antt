@@ -49,13 +49,13 @@ alone None (Some e) none = absurd (true≢false none)
 alone None None none = refl
 
 -- a call of a legal history is committed where no pending one has its key
-pub settled_unless_pending : (committed pending : List Entry) (t : Terms) (customer number : ℕ) (b : Bool) → IsLegal (committed ++ pending) t → b ≡ list_any (has_key customer number) pending
+pub committed_unless_pending : (committed pending : List Entry) (t : Terms) (customer number : ℕ) (b : Bool) → IsLegal (committed ++ pending) t → b ≡ list_any (has_key customer number) pending
     → (IsTrue (not b) ↔ IsCommittedCall committed (committed ++ pending) customer number)
-settled_unless_pending committed pending t customer number false legal is =
+committed_unless_pending committed pending t customer number false legal is =
     let key = has_key customer number in
     let none : is_some (find key pending) ≡ false = sym (is ∙ found_if_any customer number pending) in
     (λ _. alone (find key committed) (find key pending) none ∙ sym (find-append key committed pending), λ _. refl)
-settled_unless_pending committed pending t customer number true legal is =
+committed_unless_pending committed pending t customer number true legal is =
     let key = has_key customer number in
     let before : list_any key committed ≡ false = not_before customer number committed pending legal.distinct (sym is) in
     let all : list_any key (committed ++ pending) ≡ true = list_any-append key committed pending ∙ or_right (list_any key committed) (list_any key pending) (sym is) in (

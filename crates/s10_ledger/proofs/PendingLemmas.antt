@@ -37,12 +37,12 @@ use Rattle.s10_ledger.proofs.HistoryLemmas.{history_is}
 use Rattle.s10_ledger.proofs.BookLemmas.{same_tables}
 
 -- where nothing is pending all calls are committed
-pub all_settled : (es : List Entry) → committed_among [] es ≡ es
-all_settled es = let n : length es - 0 ≡ length es = omega arith in rw n (take-length es)
+pub all_committed : (es : List Entry) → committed_among [] es ≡ es
+all_committed es = let n : length es - 0 ≡ length es = omega arith in rw n (take-length es)
 
 -- one more pending call leaves the committed ones
-pub settled_push : (ws : List CallWrite) (w : CallWrite) (es : List Entry) (e : Entry) → committed_among (ws ++ w ∷ []) (es ++ e ∷ []) ≡ committed_among ws es
-settled_push ws w es e =
+pub committed_push : (ws : List CallWrite) (w : CallWrite) (es : List Entry) (e : Entry) → committed_among (ws ++ w ∷ []) (es ++ e ∷ []) ≡ committed_among ws es
+committed_push ws w es e =
     let n : length (es ++ e ∷ []) - length (ws ++ w ∷ []) ≡ length es - length ws = omega (arith, length-append es (e ∷ []), length-append ws (w ∷ [])) in
     rw n (take-append-le (length es - length ws) es (e ∷ []) (omega arith))
 
@@ -117,7 +117,7 @@ sound_at_first g conn t index ws answered none few settled opened ledger indexed
   few_pending = omega arith;
   settled = settled;
   opened = λ so clean. opened clean;
-  ledger = λ clean is_open. subst (λ (es : List Entry). IsLedger (state g conn).now t (length es) (day_of es)) (sym (all_settled index.entries.items)) (ledger clean is_open);
+  ledger = λ clean is_open. subst (λ (es : List Entry). IsLedger (state g conn).now t (length es) (day_of es)) (sym (all_committed index.entries.items)) (ledger clean is_open);
   followed = λ clean is_open. nothing_pending (state g conn).now t index (indexed clean is_open) (ledger clean is_open).legal;
 })
 
@@ -128,7 +128,7 @@ ledger_at_first conn t index ws faults nothing memory store =
     let counted : (m s : ℕ) → m ≡ 0 → s ≡ 0 → ledger_of conn t index [] (record { memory = m; store = s }) ≡ ledger_of conn t index [] no_faults = λ m s p q. rw (p, q) refl in
     subst (λ (v : List CallWrite). ledger_of conn t index v faults ≡ record { conn = conn; terms = t; len = length index.entries.items; day = day_of index.entries.items; faults = no_faults; pending = [] }) (sym nothing)
     (counted faults.memory faults.store memory store
-    ∙ ap (λ (es : List Entry). record { conn = conn; terms = t; len = length es; day = day_of es; faults = no_faults; pending = [] }) (all_settled index.entries.items))
+    ∙ ap (λ (es : List Entry). record { conn = conn; terms = t; len = length es; day = day_of es; faults = no_faults; pending = [] }) (all_committed index.entries.items))
 
 -- after a read
 pub sound_after_read : {S : Type 0} (g : Ghosts S) (old new : Held S) (t : Terms) (index : CallIndex) (ws : List CallWrite) (before after : Bool) → IsSound g old t index ws before → LeavesTables g old new
@@ -161,7 +161,7 @@ module _ {S : Type 0} (g : Ghosts S) (old new : Held S) (t : Terms) (index : Cal
     opened = opened;
     ledger = λ is is_open.
         let followed = sound.followed (was_clean is) (was_open is is_open) in
-        let all = all_settled index.entries.items ∙ followed.indexed.calls in
+        let all = all_committed index.entries.items ∙ followed.indexed.calls in
         written_ledger (state g old).now (state g new).now t _ _ index ws (sound.ledger (was_clean is) (was_open is is_open)) followed (made is) _ _ (ap length all) (ap day_of all);
     followed = λ is is_open. written_followed (state g old).now (state g new).now t _ _ index ws (sound.ledger (was_clean is) (was_open is is_open)) (sound.followed (was_clean is) (was_open is is_open)) (made is);
   }
@@ -229,7 +229,7 @@ module _ {S : Type 0} (g : Ghosts S) (conn : Held S) (t : Terms) (index after : 
   sound_held : (w : CallWrite) → w.entry ≡ e → after.entries.items ≡ index.entries.items ++ e ∷ [] → IsWriteOf index e w
       → ((h : List Entry) (u : Terms) → IsLegal h u → MayFollow h u e → Indexes index h → Indexes after (h ++ e ∷ [])) → IsSound g conn t after (ws ++ w ∷ []) answered
   sound_held w call calls writes indexed =
-      let same = ap (committed_among (ws ++ w ∷ [])) calls ∙ settled_push ws w index.entries.items e in
+      let same = ap (committed_among (ws ++ w ∷ [])) calls ∙ committed_push ws w index.entries.items e in
       record {
         few = few sound.few;
         few_pending = omega (arith, length-append ws (w ∷ []));

@@ -45,9 +45,9 @@ pub number_parsed : {E : Type 0} → (bs : List ℕ) (r : Result ℕ E) → Pars
 number_parsed bs r parses n h is = ap result_ok (parse-decimal 16 n bs r h (wide n h) is parses)
 
 -- the first separator after a number
-pub position_behind : (n : ℕ) (rest : List ℕ) (sep : ℕ) → n < 2 ^ 16 → ¬ (IsAsciiDigit sep)
+pub position_after : (n : ℕ) (rest : List ℕ) (sep : ℕ) → n < 2 ^ 16 → ¬ (IsAsciiDigit sep)
     → position (λ b. b == sep) (decimal n ++ sep ∷ rest) ≡ Some (length (decimal n))
-position_behind n rest sep h other =
+position_after n rest sep h other =
     let ds : List ℕ = decimal n in
     let whole : List ℕ = ds ++ sep ∷ rest in
     let all : AllDigits 10 ds = (decimal_is_IsNumeral n (wide n h)).0.1 in
@@ -76,18 +76,18 @@ stands_at_position sep xs at found = found_at (nat_lt (position_or_len p xs) (le
     found_at false low is = absurd cc
 
 -- a number before a separator is what stands before the separator's place
-pub cut_behind : (xs : List ℕ) (at n : ℕ) (rest : List ℕ) (sep : ℕ) → n < 2 ^ 16 → ¬ (IsAsciiDigit sep) → xs ≡ decimal n ++ sep ∷ rest
+pub cut_after : (xs : List ℕ) (at n : ℕ) (rest : List ℕ) (sep : ℕ) → n < 2 ^ 16 → ¬ (IsAsciiDigit sep) → xs ≡ decimal n ++ sep ∷ rest
     → Some at ≡ position (λ b. b == sep) xs → (take at xs ≡ decimal n) × (drop (at + 1) xs ≡ rest)
-cut_behind xs at n rest sep h other is found =
+cut_after xs at n rest sep h other is found =
     let ds : List ℕ = decimal n in
-    let place : at ≡ length ds = same_Some at (length ds) (found ∙ ap (position (λ b. b == sep)) is ∙ position_behind n rest sep h other) in
+    let place : at ≡ length ds = same_Some at (length ds) (found ∙ ap (position (λ b. b == sep)) is ∙ position_after n rest sep h other) in
     let front : take at xs ≡ ds = rw (place, is) (take-append_seam ds (sep ∷ rest)) in
     (front, rw (place, is) (drop-append-add ds (sep ∷ rest) 1))
 
 -- and has such a place
-pub place_behind : (xs : List ℕ) (n : ℕ) (rest : List ℕ) (sep : ℕ) → n < 2 ^ 16 → ¬ (IsAsciiDigit sep) → xs ≡ decimal n ++ sep ∷ rest
+pub place_after : (xs : List ℕ) (n : ℕ) (rest : List ℕ) (sep : ℕ) → n < 2 ^ 16 → ¬ (IsAsciiDigit sep) → xs ≡ decimal n ++ sep ∷ rest
     → None ≡ position (λ b. b == sep) xs → ⊥
-place_behind xs n rest sep h other is found = none-some _ (found ∙ ap (position (λ b. b == sep)) is ∙ position_behind n rest sep h other)
+place_after xs n rest sep h other is found = none-some _ (found ∙ ap (position (λ b. b == sep)) is ∙ position_after n rest sep h other)
 
 -- what holds of a result holds of the value that is taken from it
 pub taken : {A E : Type 0} → (r : Result A E) (P : A → Type 0) (Q : E → Type 0) (x : A) → MatchResult r P Q → Some x ≡ result_ok r → P x

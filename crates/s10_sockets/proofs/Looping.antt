@@ -63,11 +63,11 @@ module _ (to : Peer) where
   asked_one c c' old new body called CommandLine it is = (c', new, called, it, inr (λ done. absurd cc, refl, sym is, refl))
   asked_one c c' old new body called Failed it is = (c', new, called, it, inr (λ done. absurd cc, refl, sym is, refl))
 
-  settled_after : (c c' : ClientState) (old new : Trace) (body : Body) (called : Result Reply CallFault) → Calls c c' old new to body 5 called → asked_status called ≡ Done → c' ≡ after_call c body
-  settled_after c c' old new body (Ok reply) it done = it.0.client
-  settled_after c c' old new body (Err (Submit fault)) it done = absurd cc
-  settled_after c c' old new body (Err (GaveUp q)) it done = absurd cc
-  settled_after c c' old new body (Err (Link q fault)) it done = absurd cc
+  idle_after : (c c' : ClientState) (old new : Trace) (body : Body) (called : Result Reply CallFault) → Calls c c' old new to body 5 called → asked_status called ≡ Done → c' ≡ after_call c body
+  idle_after c c' old new body (Ok reply) it done = it.0.client
+  idle_after c c' old new body (Err (Submit fault)) it done = absurd cc
+  idle_after c c' old new body (Err (GaveUp q)) it done = absurd cc
+  idle_after c c' old new body (Err (Link q fault)) it done = absurd cc
 
   -- n calls of a client were done, and what was printed of them
   pub record HasDone (c c' : ClientState) (bodies : List Body) (old new : Trace) (u v : Option (List ℕ)) : Type 0 where
@@ -97,7 +97,7 @@ module _ (to : Peer) where
       → r ≡ Ok status → status ≡ Done → HasDone c c1 bodies t t1 u v → Asked c1 c2 t1 t2 body v w r → HasDone c c2 (bodies ++ body ∷ []) t t2 u w
   one_done c c1 c2 t t1 t2 bodies body u v w (Ok other) status is done before asked =
       let same : other ≡ status = cc in
-      let over = settled_after c1 c2 t1 t2 body asked.0 asked.1 (sym asked.2.0 ∙ same ∙ done) in
+      let over = idle_after c1 c2 t1 t2 body asked.0 asked.1 (sym asked.2.0 ∙ same ∙ done) in
       let P : JobStatus → Type 0 = λ s. Prints u w (AreMadeInTurn to (calls_of c (bodies ++ body ∷ [])) t t2 s) in
       record {
         client = over ∙ ap (λ c. after_call c body) before.client ∙ sym (after_calls-push c bodies body);

@@ -22,7 +22,7 @@ use Rattle.s10_rows.specs.Tables.{Tables}
 use Rattle.s10_statements.specs.Shown.{HasTables, HasIntegerRowid, shown_range, range_columns, shown_serial, serial_columns}
 use Rattle.s10_statements.specs.Statements.{insert_range_sql, insert_serial_sql}
 use Rattle.s10_statements.proofs.WriteTexts.{grant_terms, grant_is, grant_plain, issue_terms, issue_is, issue_plain}
-use Rattle.s10_statements.proofs.Apart.{no_works, not_ranges, not_serials, is_as_it_was, behind_apart}
+use Rattle.s10_statements.proofs.Apart.{no_works, not_ranges, not_serials, is_as_it_was, after_apart}
 use Rattle.s10_statements.proofs.PutLemmas.{cast_int, cast_null, went, same_value, put_fresh, one_fresh}
 use Rattle.s10_statements.proofs.GoneLemmas.{all_moved}
 use Rattle.s10_statements.proofs.KeepLemmas.{one_more}
@@ -75,7 +75,7 @@ adds_range old new r count tables held h =
     let written = went (went given.2).2 in
     let counted = went written.2 in
     let trees : done.0.trees ≡ written.0 = ap (λ (it : Written). it.trees) (same_value counted.2) ∙ same_value counted.1 in
-    let applied = one_step (with_closed o) _ db written.0 (edit_of db ranges_table [] Chosen 0 given.0) (no_works 3 not_ranges (closed_first o) (behind_apart old.now.schema held.schema) (mode_of old).keys 0 [] (edit_of db ranges_table [] Chosen 0 given.0).news) written.1 in
+    let applied = one_step (with_closed o) _ db written.0 (edit_of db ranges_table [] Chosen 0 given.0) (no_works 3 not_ranges (closed_first o) (after_apart old.now.schema held.schema) (mode_of old).keys 0 [] (edit_of db ranges_table [] Chosen 0 given.0).news) written.1 in
     let news : (edit_of db ranges_table [] Chosen 0 given.0).news ≡ stored_range r ∷ [] = ap (λ all. (edit_of db ranges_table [] Chosen 0 all).news) given.1.1 ∙ rw (cast_int, cast_null, cast_int, cast_int, cast_int, cast_int, cast_int) in
     let fresh : are_fresh (db 3) (stored_range r ∷ []) ≡ true = subst (λ n. are_fresh (db 3) n ≡ true) news applied.fresh in
     let edit : edited db (edit_of db ranges_table [] Chosen 0 given.0) ≡ put_row (stored_range r) (db 3) = ap (λ all. edited db (edit_of db ranges_table [] Chosen 0 all)) given.1.1 ∙ rw (cast_int, cast_null, cast_int, cast_int, cast_int, cast_int, cast_int) in
@@ -108,7 +108,7 @@ adds_serial old new r count tables held h =
     let counted = went written.2 in
     let trees : done.0.trees ≡ written.0 = ap (λ (it : Written). it.trees) (same_value counted.2) ∙ same_value counted.1 in
     let row : Row = stored_serial (next_rowid (db 4)) r in
-    let applied = one_step (with_closed o) _ db written.0 (edit_of db serials_table [] Chosen 0 given.0) (no_works 4 not_serials (closed_first o) (behind_apart old.now.schema held.schema) (mode_of old).keys 0 [] (edit_of db serials_table [] Chosen 0 given.0).news) written.1 in
+    let applied = one_step (with_closed o) _ db written.0 (edit_of db serials_table [] Chosen 0 given.0) (no_works 4 not_serials (closed_first o) (after_apart old.now.schema held.schema) (mode_of old).keys 0 [] (edit_of db serials_table [] Chosen 0 given.0).news) written.1 in
     let news : (edit_of db serials_table [] Chosen 0 given.0).news ≡ row ∷ [] = ap (λ all. (edit_of db serials_table [] Chosen 0 all).news) given.1.1 ∙ rw (cast_null, cast_int, cast_int, cast_int, cast_int, cast_int, cast_int, cast_int) in
     let fresh : are_fresh (db 4) (row ∷ []) ≡ true = subst (λ n. are_fresh (db 4) n ≡ true) news applied.fresh in
     let edit : edited db (edit_of db serials_table [] Chosen 0 given.0) ≡ put_row row (db 4) = ap (λ all. edited db (edit_of db serials_table [] Chosen 0 all)) given.1.1 ∙ rw (cast_null, cast_int, cast_int, cast_int, cast_int, cast_int, cast_int, cast_int) in

@@ -39,8 +39,8 @@ pub is_as_it_was : (s t : Schema) → IsClosedSchema s → t ≡ with_closed (ot
 is_as_it_was s t has e = subst IsClosedSchema (has.is ∙ sym e) has
 
 -- what follows closed is apart from the four too
-pub behind_apart : (s : Schema) → IsClosedSchema s → are_apart (others_after_closed s).tables ≡ true
-behind_apart s has = subst (λ (x : Schema). are_apart (drop 4 x.tables) ≡ true) has.is has.ledger.tables
+pub after_apart : (s : Schema) → IsClosedSchema s → are_apart (others_after_closed s).tables ≡ true
+after_apart s has = subst (λ (x : Schema). are_apart (drop 4 x.tables) ≡ true) has.is has.ledger.tables
 
 not_true : (b : Bool) → not b ≡ true → b ≡ false
 not_true true h = absurd (let e = h in cc)

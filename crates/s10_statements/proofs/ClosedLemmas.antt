@@ -21,7 +21,7 @@ use Rattle.s10_rows.specs.Tables.{Tables}
 use Rattle.s10_statements.specs.Shown.{HasTables, shown_closed, closed_columns}
 use Rattle.s10_statements.specs.Statements.{insert_closed_sql}
 use Rattle.s10_statements.proofs.WriteTexts.{close_terms, close_is, close_plain}
-use Rattle.s10_statements.proofs.Apart.{no_works_closed, behind_apart, is_as_it_was}
+use Rattle.s10_statements.proofs.Apart.{no_works_closed, after_apart, is_as_it_was}
 use Rattle.s10_statements.proofs.PutLemmas.{cast_int, cast_null, went, same_value, put_fresh, one_fresh}
 use Rattle.s10_statements.proofs.KeepLemmas.{one_more}
 
@@ -57,7 +57,7 @@ closes old new r count tables held h =
     let written = went (went given.2).2 in
     let counted = went written.2 in
     let trees : done.0.trees ≡ written.0 = ap (λ (it : Written). it.trees) (same_value counted.2) ∙ same_value counted.1 in
-    let applied = one_step (with_closed o) _ db written.0 (edit_of db closed_table [] Chosen 0 given.0) (no_works_closed o (behind_apart old.now.schema held.schema) held.schema.tables (mode_of old).keys 0 [] (edit_of db closed_table [] Chosen 0 given.0).news) written.1 in
+    let applied = one_step (with_closed o) _ db written.0 (edit_of db closed_table [] Chosen 0 given.0) (no_works_closed o (after_apart old.now.schema held.schema) held.schema.tables (mode_of old).keys 0 [] (edit_of db closed_table [] Chosen 0 given.0).news) written.1 in
     let news : (edit_of db closed_table [] Chosen 0 given.0).news ≡ stored r ∷ [] = ap (λ all. (edit_of db closed_table [] Chosen 0 all).news) given.1.1 ∙ rw (cast_int, cast_null, cast_int) in
     let fresh : are_fresh (db 6) (stored r ∷ []) ≡ true = subst (λ n. are_fresh (db 6) n ≡ true) news applied.fresh in
     let edit : edited db (edit_of db closed_table [] Chosen 0 given.0) ≡ put_row (stored r) (db 6) = ap (λ all. edited db (edit_of db closed_table [] Chosen 0 all)) given.1.1 ∙ rw (cast_int, cast_null, cast_int) in

@@ -25,7 +25,7 @@ use Rattle.s10_rows.specs.Tables.{Tables, head_row}
 use Rattle.s10_statements.specs.Shown.{HasTables, shown_head, head_columns}
 use Rattle.s10_statements.specs.Statements.{insert_head_sql}
 use Rattle.s10_statements.proofs.KeepLemmas.{one_more}
-use Rattle.s10_statements.proofs.Apart.{no_works, not_head, is_as_it_was, behind_apart}
+use Rattle.s10_statements.proofs.Apart.{no_works, not_head, is_as_it_was, after_apart}
 use Rattle.s10_statements.proofs.PutLemmas.{cast_int, cast_null, went, same_value, put_fresh, one_fresh}
 
 abbrev settings_terms : List Term
@@ -74,7 +74,7 @@ begins old new t count tables held h =
     let written = went (went given.2).2 in
     let counted = went written.2 in
     let trees : done.0.trees ≡ written.0 = ap (λ (it : Written). it.trees) (same_value counted.2) ∙ same_value counted.1 in
-    let applied = one_step (with_closed o) _ db written.0 (edit_of db head_table [] Chosen 0 given.0) (no_works 0 not_head (closed_first o) (behind_apart old.now.schema held.schema) (mode_of old).keys 0 [] (edit_of db head_table [] Chosen 0 given.0).news) written.1 in
+    let applied = one_step (with_closed o) _ db written.0 (edit_of db head_table [] Chosen 0 given.0) (no_works 0 not_head (closed_first o) (after_apart old.now.schema held.schema) (mode_of old).keys 0 [] (edit_of db head_table [] Chosen 0 given.0).news) written.1 in
     let news : (edit_of db head_table [] Chosen 0 given.0).news ≡ stored t ∷ [] = ap (λ all. (edit_of db head_table [] Chosen 0 all).news) given.1.1 ∙ rw (cast_int, cast_null, cast_int, cast_int) in
     let fresh : are_fresh (db 0) (stored t ∷ []) ≡ true = subst (λ n. are_fresh (db 0) n ≡ true) news applied.fresh in
     let edit : edited db (edit_of db head_table [] Chosen 0 given.0) ≡ put_row (stored t) (db 0) = ap (λ all. edited db (edit_of db head_table [] Chosen 0 all)) given.1.1 ∙ rw (cast_int, cast_null, cast_int, cast_int) in

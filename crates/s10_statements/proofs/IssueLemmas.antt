@@ -50,7 +50,7 @@ use Rattle.s10_rows.specs.RowWrites.{is_at, with_serial}
 use Rattle.s10_statements.specs.Shown.{HasTables, shown_serial, serial_columns, HasIntegerRowid}
 use Rattle.s10_statements.specs.Statements.{upsert_serial_sql}
 use Rattle.s10_statements.proofs.WriteTexts.{issue_terms, again_is, again_plain, issue_upsert, update_query}
-use Rattle.s10_statements.proofs.Apart.{no_works, none_shares, not_serials, is_as_it_was, behind_apart}
+use Rattle.s10_statements.proofs.Apart.{no_works, none_shares, not_serials, is_as_it_was, after_apart}
 use Rattle.s10_statements.proofs.ReadLemmas.{filter_each, kept_are, rows_are}
 use Rattle.s10_statements.proofs.PutLemmas.{cast_int, cast_null, went, same_value, put_fresh, one_fresh}
 use Rattle.s10_statements.proofs.KeepLemmas.{one_more}
@@ -382,7 +382,7 @@ issues old new r tables held few h =
     let text = statement_of upsert_serial_sql (understood (with_closed o) upsert_serial_sql) in
     let does = subst (λ s. Does old.step_limit (mode_of old) params (record old.now { schema = s }) text None command (Ok (w.tally, new.now))) has w.changed in
     let it : IsPermutation (map shown_serial tables.serials) (map serial_columns (old.now.trees 4)) → Upserted old.now.trees new.now.trees r =
-    λ p. (does_issue o (behind_apart old.now.schema held.schema) held.schema.ledger.indexes old.step_limit (mode_of old) old.now.trees r text w.tally new.now refl (one_changed w.tally.rows w.counted) (all_ids (old.now.trees 4) held.numbered)
+    λ p. (does_issue o (after_apart old.now.schema held.schema) held.schema.ledger.indexes old.step_limit (mode_of old) old.now.trees r text w.tally new.now refl (one_changed w.tally.rows w.counted) (all_ids (old.now.trees 4) held.numbered)
     (shown_rows tables.serials (old.now.trees 4) p) (few_keyed tables.serials r (old.now.trees 4) p few) does).1 in
     record {
       schema = is_as_it_was old.now.schema new.now.schema held.schema (issue_schema o old.step_limit (mode_of old) old.now.trees r text w.tally new.now does);

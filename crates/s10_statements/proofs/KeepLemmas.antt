@@ -22,7 +22,7 @@ use Rattle.s10_rows.specs.Tables.{Tables}
 use Rattle.s10_statements.specs.Shown.{HasTables, shown_call, call_columns}
 use Rattle.s10_statements.specs.Statements.{insert_call_sql}
 use Rattle.s10_statements.proofs.WriteTexts.{keep_terms, keep_is, keep_plain}
-use Rattle.s10_statements.proofs.Apart.{no_works, not_calls, is_as_it_was, behind_apart}
+use Rattle.s10_statements.proofs.Apart.{no_works, not_calls, is_as_it_was, after_apart}
 use Rattle.s10_statements.proofs.PutLemmas.{cast_int, cast_null, went, same_value, put_fresh, one_fresh}
 
 -- a call as its row is stored
@@ -65,7 +65,7 @@ keeps old new call count tables held h =
     let written = went (went given.2).2 in
     let counted = went written.2 in
     let trees : done.0.trees ≡ written.0 = ap (λ (it : Written). it.trees) (same_value counted.2) ∙ same_value counted.1 in
-    let applied = one_step (with_closed o) _ db written.0 (edit_of db calls_table [] Chosen 0 given.0) (no_works 1 not_calls (closed_first o) (behind_apart old.now.schema held.schema) (mode_of old).keys 0 [] (edit_of db calls_table [] Chosen 0 given.0).news) written.1 in
+    let applied = one_step (with_closed o) _ db written.0 (edit_of db calls_table [] Chosen 0 given.0) (no_works 1 not_calls (closed_first o) (after_apart old.now.schema held.schema) (mode_of old).keys 0 [] (edit_of db calls_table [] Chosen 0 given.0).news) written.1 in
     let news : (edit_of db calls_table [] Chosen 0 given.0).news ≡ stored call ∷ [] = ap (λ all. (edit_of db calls_table [] Chosen 0 all).news) given.1.1 ∙ rw (cast_int, cast_null, cast_int, cast_int, cast_int) in
     let fresh : are_fresh (db 1) (stored call ∷ []) ≡ true = subst (λ n. are_fresh (db 1) n ≡ true) news applied.fresh in
     let edit : edited db (edit_of db calls_table [] Chosen 0 given.0) ≡ put_row (stored call) (db 1) = ap (λ all. edited db (edit_of db calls_table [] Chosen 0 all)) given.1.1 ∙ rw (cast_int, cast_null, cast_int, cast_int, cast_int) in

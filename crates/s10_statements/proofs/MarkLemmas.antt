@@ -40,7 +40,7 @@ use Rattle.s10_rows.proofs.Replaced.{map_twice, same_images, rest_same}
 use Rattle.s10_statements.specs.Shown.{HasTables, shown_range, range_columns, HasIntegerRowid}
 use Rattle.s10_statements.specs.Statements.{update_mark_sql}
 use Rattle.s10_statements.proofs.WriteTexts.{mark_query, mark_is, mark_plain}
-use Rattle.s10_statements.proofs.Apart.{no_works, not_ranges, is_as_it_was, behind_apart}
+use Rattle.s10_statements.proofs.Apart.{no_works, not_ranges, is_as_it_was, after_apart}
 use Rattle.s10_statements.proofs.ReadLemmas.{kept_are, rows_are}
 use Rattle.s10_statements.proofs.PutLemmas.{cast_int, cast_null, went, same_value, put_fresh, one_fresh}
 use Rattle.s10_statements.proofs.AddLemmas.{stored_range, zero_three, one_three, four_three, six_three}
@@ -218,7 +218,7 @@ marks old new num mark tables held h =
     let one_row : length done.0.rows ≡ 1 = cc in
     let it : IsPermutation (map shown_range tables.ranges) (map range_columns (old.now.trees 3)) → Marked old.now.trees new.now.trees num mark =
     λ p. subst (λ (n : Trees). Marked old.now.trees n num mark) (sym (ap (λ (d : Database). d.trees) now))
-    (updated o (behind_apart old.now.schema held.schema) old.step_limit num mark old.now.trees (range_ids tables.ranges (old.now.trees 3) p) done.0 done.1 one_row) in
+    (updated o (after_apart old.now.schema held.schema) old.step_limit num mark old.now.trees (range_ids tables.ranges (old.now.trees 3) p) done.0 done.1 one_row) in
     record {
       schema = is_as_it_was old.now.schema new.now.schema held.schema (ap (λ (d : Database). d.schema) now);
       heads = ∥∥₁_elim held.ranges ∥∥₁_prop (λ p. rw (it p).head held.heads);

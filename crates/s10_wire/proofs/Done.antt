@@ -21,13 +21,13 @@ abbrev Stands : List ℕ → Body → Outcome → Type 0
 Stands b body o = IsOutcome o × (drop (request_length (kind_of body)) b ≡ outcome_bytes o ++ drop (done_length (kind_of body) b) b)
 
 -- a byte and what follows it
-pub behind_byte : (b tail : List ℕ) (at n : ℕ) → at < length b → byte b at ≡ n → drop (at + 1) b ≡ tail → drop at b ≡ n ∷ tail
-behind_byte b tail at n within is rest = drop_more b at 0 within ∙ ap (λ (x : ℕ). x ∷ drop (at + 1) b) is ∙ ap (λ (l : List ℕ). n ∷ l) rest
+pub after_byte : (b tail : List ℕ) (at n : ℕ) → at < length b → byte b at ≡ n → drop (at + 1) b ≡ tail → drop at b ≡ n ∷ tail
+after_byte b tail at n within is rest = drop_more b at 0 within ∙ ap (λ (x : ℕ). x ∷ drop (at + 1) b) is ∙ ap (λ (l : List ℕ). n ∷ l) rest
 
 -- the byte of Done, a day and identifiers, read one after the other, are all that stands up to there
-behind_done : (b day ids : List ℕ) (at upto : ℕ) → at < length b → byte b at ≡ 0 → drop (at + 1) b ≡ day ++ drop (at + 5) b → drop (at + 5) b ≡ ids ++ drop upto b
+after_done : (b day ids : List ℕ) (at upto : ℕ) → at < length b → byte b at ≡ 0 → drop (at + 1) b ≡ day ++ drop (at + 5) b → drop (at + 5) b ≡ ids ++ drop upto b
     → drop at b ≡ (0 ∷ day ++ ids) ++ drop upto b
-behind_done b day ids at upto lt done day_read ids_read =
+after_done b day ids at upto lt done day_read ids_read =
     drop_more b at 0 lt
     ∙ ap (λ (n : ℕ). n ∷ drop (at + 1) b) done
     ∙ ap (λ (l : List ℕ). 0 ∷ l) (day_read ∙ ap (λ (l : List ℕ). day ++ l) ids_read ∙ sym (append_assoc day ids (drop upto b)))
@@ -37,7 +37,7 @@ pub drawn_read : (b : List ℕ) (body : Body) (service country : ℕ × ℕ) (da
     → Stands b body (Drawn day id)
 drawn_read b body service country day id is done fits day_read id_read =
     let P : Body → Type 0 = λ (x : Body). IsDone b x → Stands b x (Drawn day id) in
-    subst P (sym is) (λ here. ((fits, id_read.0), behind_done b (u32_bytes day) (spelling_of id) 16 34 (omega (arith, here.0)) here.1 day_read id_read.1)) done
+    subst P (sym is) (λ here. ((fits, id_read.0), after_done b (u32_bytes day) (spelling_of id) 16 34 (omega (arith, here.0)) here.1 day_read id_read.1)) done
 
 -- how many identifiers are asked for, in the request
 pub asked_count : (b : List ℕ) (service country : ℕ × ℕ) (count : ℕ) → drop 12 b ≡ fields (DrawMany service country count) ++ drop 17 b → count ≡ byte b 16
@@ -51,7 +51,7 @@ drawn_many_read b body service country count day ids is done begins fits day_rea
     subst P (sym is) (λ here starts.
     let asked : count ≡ byte b 16 = asked_count b service country count starts in
     let read : drop 22 b ≡ spellings_of ids ++ drop (22 + 13 * byte b 16) b = ids_read.2 ∙ ap (λ (n : ℕ). spellings_of ids ++ drop (22 + 13 * n) b) asked in
-    ((fits, ids_read.0), behind_done b (u32_bytes day) (spellings_of ids) 17 (22 + 13 * byte b 16) (omega (arith, here.0)) here.1 day_read read)) done begins
+    ((fits, ids_read.0), after_done b (u32_bytes day) (spellings_of ids) 17 (22 + 13 * byte b 16) (omega (arith, here.0)) here.1 day_read read)) done begins
 
 -- the first identifier that is refused, of as many as the request asks for, is the first field of a Done sheet that is
 pub many_refused : (b : List ℕ) (body : Body) (service country : ℕ × ℕ) (count : ℕ) → body ≡ DrawMany service country count → drop 12 b ≡ fields body ++ drop (request_length (kind_of body)) b

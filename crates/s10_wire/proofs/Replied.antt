@@ -89,15 +89,15 @@ outcome_again body o ok fit = absurd cc
 
 -- what follows the request's bytes
 behind : (k : ℕ) (mark : ℕ) (q : Request) (rest : List ℕ) → k ≡ request_length (kind_of q.body) → drop k (datagram mark q ++ rest) ≡ rest
-behind k mark q rest e = rw e (behind_body mark q.customer q.number q.body rest)
+behind k mark q rest e = rw e (after_body mark q.customer q.number q.body rest)
   where
-    behind_body : (mark customer number : ℕ) (body : Body) (rest : List ℕ) → drop (request_length (kind_of body)) (datagram mark (record { customer = customer; number = number; body = body }) ++ rest) ≡ rest
-    behind_body mark customer number (Grant holder service country first last) rest = refl
-    behind_body mark customer number (Draw service country) rest = refl
-    behind_body mark customer number (Void id) rest = refl
-    behind_body mark customer number (Query id) rest = refl
-    behind_body mark customer number (DrawMany service country count) rest = refl
-    behind_body mark customer number (Withdraw range) rest = refl
+    after_body : (mark customer number : ℕ) (body : Body) (rest : List ℕ) → drop (request_length (kind_of body)) (datagram mark (record { customer = customer; number = number; body = body }) ++ rest) ≡ rest
+    after_body mark customer number (Grant holder service country first last) rest = refl
+    after_body mark customer number (Draw service country) rest = refl
+    after_body mark customer number (Void id) rest = refl
+    after_body mark customer number (Query id) rest = refl
+    after_body mark customer number (DrawMany service country count) rest = refl
+    after_body mark customer number (Withdraw range) rest = refl
 
 -- one reply for each datagram
 pub one_reply : (b : List ℕ) (p q : Request) (u o : Outcome) → Replies b p u → Replies b q o → (p ≡ q) × (u ≡ o)
@@ -116,31 +116,31 @@ abbrev asked_by : ℕ → ℕ → Body → Request
 asked_by customer number body = record { customer = customer; number = number; body = body }
 
 -- the header and the length of a reply are right, and so is what follows the request
-reply_behind : (c n : ℕ) (body : Body) (o : Outcome) → IsBody body → IsOutcome o → fits body o ≡ true
+reply_after : (c n : ℕ) (body : Body) (o : Outcome) → IsBody body → IsOutcome o → fits body o ≡ true
     → let b : List ℕ = datagram 0x80 (asked_by c n body) ++ outcome_bytes o in
     (first_refusal (reply_refusals b) ≡ first_refusal (request_fields (kind_of body) b ++ outcome_refusals (kind_of body) b))
     × (first_refusal (outcome_refusals (kind_of body) b) ≡ None)
-reply_behind c n (Grant h s t f l) (Granted range) ok out fit = (refl, refl)
-reply_behind c n (Draw s t) (Drawn day id) ok out fit = (refl, rw (spelling_passes id out.1) refl)
-reply_behind c n (Void asked) Voided ok out fit = (refl, refl)
-reply_behind c n (Query asked) (Told statuses.Unknown) ok out fit = (refl, refl)
-reply_behind c n (Query asked) (Told statuses.Never) ok out fit = (refl, refl)
-reply_behind c n (Query asked) (Told (statuses.Issued day)) ok out fit = (refl, refl)
-reply_behind c n (Query asked) (Told (statuses.Voided day)) ok out fit = (refl, refl)
-reply_behind c n (Grant h s t f l) NotThePost ok out fit = (refl, refl)
-reply_behind c n (Grant h s t f l) BadGrant ok out fit = (refl, refl)
-reply_behind c n (Grant h s t f l) Overlap ok out fit = (refl, refl)
-reply_behind c n (Grant h s t f l) NumberReused ok out fit = (refl, refl)
-reply_behind c n (Draw s t) NoRange ok out fit = (refl, refl)
-reply_behind c n (Draw s t) NoneFree ok out fit = (refl, refl)
-reply_behind c n (Draw s t) NumberReused ok out fit = (refl, refl)
-reply_behind c n (Void asked) NotYours ok out fit = (refl, refl)
-reply_behind c n (Void asked) NotIssued ok out fit = (refl, refl)
-reply_behind c n (Void asked) AlreadyVoid ok out fit = (refl, refl)
-reply_behind c n (Void asked) NumberReused ok out fit = (refl, refl)
-reply_behind c n (Query asked) NotYours ok out fit = (refl, refl)
-reply_behind c n (Query asked) NumberReused ok out fit = (refl, refl)
-reply_behind c n (DrawMany s t count) (DrawnMany day ids) ok out fit =
+reply_after c n (Grant h s t f l) (Granted range) ok out fit = (refl, refl)
+reply_after c n (Draw s t) (Drawn day id) ok out fit = (refl, rw (spelling_passes id out.1) refl)
+reply_after c n (Void asked) Voided ok out fit = (refl, refl)
+reply_after c n (Query asked) (Told statuses.Unknown) ok out fit = (refl, refl)
+reply_after c n (Query asked) (Told statuses.Never) ok out fit = (refl, refl)
+reply_after c n (Query asked) (Told (statuses.Issued day)) ok out fit = (refl, refl)
+reply_after c n (Query asked) (Told (statuses.Voided day)) ok out fit = (refl, refl)
+reply_after c n (Grant h s t f l) NotThePost ok out fit = (refl, refl)
+reply_after c n (Grant h s t f l) BadGrant ok out fit = (refl, refl)
+reply_after c n (Grant h s t f l) Overlap ok out fit = (refl, refl)
+reply_after c n (Grant h s t f l) NumberReused ok out fit = (refl, refl)
+reply_after c n (Draw s t) NoRange ok out fit = (refl, refl)
+reply_after c n (Draw s t) NoneFree ok out fit = (refl, refl)
+reply_after c n (Draw s t) NumberReused ok out fit = (refl, refl)
+reply_after c n (Void asked) NotYours ok out fit = (refl, refl)
+reply_after c n (Void asked) NotIssued ok out fit = (refl, refl)
+reply_after c n (Void asked) AlreadyVoid ok out fit = (refl, refl)
+reply_after c n (Void asked) NumberReused ok out fit = (refl, refl)
+reply_after c n (Query asked) NotYours ok out fit = (refl, refl)
+reply_after c n (Query asked) NumberReused ok out fit = (refl, refl)
+reply_after c n (DrawMany s t count) (DrawnMany day ids) ok out fit =
     let b : List ℕ = datagram 0x80 (asked_by c n (DrawMany s t count)) ++ outcome_bytes (DrawnMany day ids) in
     let same : length ids ≡ count = eqb-true (length ids) count fit in
     let long : length (spellings_of ids) ≡ 13 * count = length-spellings ids ∙ ap (λ (k : ℕ). 13 * k) same in
@@ -150,22 +150,22 @@ reply_behind c n (DrawMany s t count) (DrawnMany day ids) ok out fit =
     let said : is_reply_long kinds.DrawMany b ≡ true =
     and_from (ltb 17 (length b)) (eqb (length b) (22 + 13 * count)) (lt-ltb 17 (length b) (omega arith)) (eq-eqb (length b) (22 + 13 * count) (omega (arith, long))) in
     (fields_decide b kinds.DrawMany header refl said, right)
-reply_behind c n (DrawMany s t count) NoRange ok out fit = (refl, refl)
-reply_behind c n (DrawMany s t count) NoneFree ok out fit = (refl, refl)
-reply_behind c n (DrawMany s t count) NumberReused ok out fit = (refl, refl)
-reply_behind c n (Withdraw range) Withdrawn ok out fit = (refl, refl)
-reply_behind c n (Withdraw range) NotThePost ok out fit = (refl, refl)
-reply_behind c n (Withdraw range) NoSuchRange ok out fit = (refl, refl)
-reply_behind c n (Withdraw range) Closed ok out fit = (refl, refl)
-reply_behind c n (Withdraw range) NumberReused ok out fit = (refl, refl)
-reply_behind c n body o ok out fit = absurd cc
+reply_after c n (DrawMany s t count) NoRange ok out fit = (refl, refl)
+reply_after c n (DrawMany s t count) NoneFree ok out fit = (refl, refl)
+reply_after c n (DrawMany s t count) NumberReused ok out fit = (refl, refl)
+reply_after c n (Withdraw range) Withdrawn ok out fit = (refl, refl)
+reply_after c n (Withdraw range) NotThePost ok out fit = (refl, refl)
+reply_after c n (Withdraw range) NoSuchRange ok out fit = (refl, refl)
+reply_after c n (Withdraw range) Closed ok out fit = (refl, refl)
+reply_after c n (Withdraw range) NumberReused ok out fit = (refl, refl)
+reply_after c n body o ok out fit = absurd cc
 
 -- a reply of given parts isn't refused
 reply_right : (c n : ℕ) (body : Body) (o : Outcome) → IsBody body → IsOutcome o → fits body o ≡ true
     → first_refusal (reply_refusals (datagram 0x80 (asked_by c n body) ++ outcome_bytes o)) ≡ None
 reply_right c n body o ok out fit =
     let b : List ℕ = datagram 0x80 (asked_by c n body) ++ outcome_bytes o in
-    let right = reply_behind c n body o ok out fit in
+    let right = reply_after c n body o ok out fit in
     right.0 ∙ second_decides (request_fields (kind_of body) b) (outcome_refusals (kind_of body) b) (right_fields 0x80 c n body (outcome_bytes o) ok) ∙ right.1
 
 pub reply_unrefused : (b : List ℕ) (q : Request) (o : Outcome) → Replies b q o → first_refusal (reply_refusals b) ≡ None

@@ -110,15 +110,15 @@ sound_submit_by w k body None there sound = sound
 sound_submit_by w k body (Some c) there sound = submit_at w k c body (submit_fault c) there refl sound
 
 -- what is pending at another place
-awaited_settled : (w : WorldState) (k j : ℕ) (c x : ClientState) (p : Request) → IsSoundWorld w → slice_get (slice_set w.clients k (without_pending c)) j ≡ Some x → x.pending ≡ Some p
+awaited_idle : (w : WorldState) (k j : ℕ) (c x : ClientState) (p : Request) → IsSoundWorld w → slice_get (slice_set w.clients k (without_pending c)) j ≡ Some x → x.pending ≡ Some p
     → (j ≢ k) × IsAwaited w j x p
-awaited_settled w k j c x p sound is pending = elim (after_set w.clients k (without_pending c) j x is) [
+awaited_idle w k j c x p sound is pending = elim (after_set w.clients k (without_pending c) j x is) [
   | inl e ↦ absurd (none-some p (sym (ap (λ (y : ClientState). y.pending) e.1) ∙ pending))
   | inr e ↦ (e.0, sound.awaited j x p e.1 pending)
 ]
 
-settled_taken : (w : WorldState) (k : ℕ) (c : ClientState) → IsSoundWorld w → slice_get w.clients k ≡ Some c → All (IsOfClient (slice_set w.clients k (without_pending c))) w.submitted
-settled_taken w k c sound there =
+idle_taken : (w : WorldState) (k : ℕ) (c : ClientState) → IsSoundWorld w → slice_get w.clients k ≡ Some c → All (IsOfClient (slice_set w.clients k (without_pending c))) w.submitted
+idle_taken w k c sound there =
     All-weaker (IsOfClient w.clients) (IsOfClient (slice_set w.clients k (without_pending c))) (λ s. of_client_later w.clients k c (without_pending c) s there (refl, refl, refl, omega arith)) w.submitted sound.taken
 
 sound_give_up_by : (w : WorldState) (k : ℕ) (client : Option ClientState) → slice_get w.clients k ≡ client → IsSoundWorld w → IsSoundWorld (after_give_up_by w k client)
@@ -126,9 +126,9 @@ sound_give_up_by w k None there sound = sound
 sound_give_up_by w k (Some c) there sound =
     record {
       replied = sound.replied;
-      taken = settled_taken w k c sound there;
+      taken = idle_taken w k c sound there;
       in_turn = sound.in_turn;
-      awaited = λ j x p is pending. (awaited_settled w k j c x p sound is pending).1;
+      awaited = λ j x p is pending. (awaited_idle w k j c x p sound is pending).1;
       submitted = sound.submitted;
       accepted_in_turn = sound.accepted_in_turn;
       given = sound.given;
@@ -213,10 +213,10 @@ sound_accept w k c q o there pending gives sound =
     let mine = sound.awaited k c q there pending in
     record {
       replied = sound.replied;
-      taken = settled_taken w k c sound there;
+      taken = idle_taken w k c sound there;
       in_turn = sound.in_turn;
       awaited = λ j x p is waits.
-          let was = awaited_settled w k j c x p sound is waits in
+          let was = awaited_idle w k j c x p sound is waits in
           (was.1.0, was.1.1, All-push (λ y. y.client ≡ j → y.request.number < p.number) w.accepted a was.1.2 (λ e. absurd (was.0 (sym e))));
       submitted = All-push (λ y. Contains w.submitted (y.client, y.request)) w.accepted a sound.submitted mine.0;
       accepted_in_turn = all_pairs_push (λ x y. x.client ≡ y.client → x.request.number < y.request.number) w.accepted a sound.accepted_in_turn

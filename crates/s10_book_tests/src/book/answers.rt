@@ -183,7 +183,7 @@ const LARGER_DRAWS: &'static [(&'static str, &'static [Step])] = &[
         RANGE_AFTER_RANGE,
     ),
     (
-        "a sheet of sixteen, and one that goes round",
+        "a sheet of sixteen, and one that goes pass",
         SHEET_OF_SIXTEEN,
     ),
 ];

@@ -222,7 +222,7 @@ pub(crate) fn answer<B: Book>(
 
 /// The place after a run of serials of RA GB that stands at this place among the identifiers, or
 /// `None` where it does not stand there.
-fn behind_run(ids: &Ids, place: usize, run: Run) -> Option<usize> {
+fn after_run(ids: &Ids, place: usize, run: Run) -> Option<usize> {
     let mut at = place;
     for value in run.0..run.1 {
         if ids.get(at) != Some(id(value)) {
@@ -235,8 +235,8 @@ fn behind_run(ids: &Ids, place: usize, run: Run) -> Option<usize> {
 
 /// Whether these are the identifiers of RA GB with the serials of one run, and then of another.
 fn are_runs(ids: &Ids, first: Run, second: Run) -> bool {
-    match behind_run(ids, 0, first) {
-        Some(middle) => behind_run(ids, middle, second) == Some(ids.len()),
+    match after_run(ids, 0, first) {
+        Some(middle) => after_run(ids, middle, second) == Some(ids.len()),
         None => false,
     }
 }

@@ -8,25 +8,25 @@ use crate::expect::same;
 use s10_book::Book;
 use s10_wire::{Outcome, Request};
 
-const ROUNDS: u32 = 60;
+const PASSES: u32 = 60;
 
 // Of each turn of a batch, what is added to ten times the batch for the number of its call: turn 8 is turn 3 again, and turn 11
 // has the number of turn 4.
 const NUMBERS: [u32; 12] = [0, 1, 2, 3, 4, 5, 6, 7, 3, 8, 9, 4];
 
 // The customers 1 to 4 draw in turn; the others are the post, holders of a slot, and any.
-fn customer(round: u32, lap: usize) -> u32
-    requires { round ≤ 1000 }
+fn customer(pass: u32, lap: usize) -> u32
+    requires { pass ≤ 1000 }
 {
     match lap {
-        1 => 1 + (round + 1) % 4,
-        2 => 1 + (round + 2) % 4,
-        3 | 8 | 9 => 1 + (round + 3) % 4,
+        1 => 1 + (pass + 1) % 4,
+        2 => 1 + (pass + 2) % 4,
+        3 | 8 | 9 => 1 + (pass + 3) % 4,
         // The holder of the slot of the serial.
-        4 | 11 => 1 + round * 5 % 12 % 3,
-        5 => 1 + round % 4,
-        6 => round % 2,
-        10 => u32::from(round % 4 == 1),
+        4 | 11 => 1 + pass * 5 % 12 % 3,
+        5 => 1 + pass % 4,
+        6 => pass % 2,
+        10 => u32::from(pass % 4 == 1),
         _ => 0,
     }
 }
@@ -35,19 +35,19 @@ fn customer(round: u32, lap: usize) -> u32
 // a Void and a Query of a serial of the slots in turn; a Grant that is not the post's, or has its first serial above its last; a
 // Query of the post; a sheet of two; and four Withdraws of a range, the second by customer 1, and then of the next one, from a
 // number that no range has on. The others are Draws.
-fn asked(round: u32, lap: usize) -> Asked
-    requires { round ≤ 1000 }
+fn asked(pass: u32, lap: usize) -> Asked
+    requires { pass ≤ 1000 }
 {
-    let slot = round % 12;
-    let serial = 4 * (round * 5 % 12) + round % 3;
+    let slot = pass % 12;
+    let serial = 4 * (pass * 5 % 12) + pass % 3;
     match lap {
         0 => Asked::Grant(1 + slot % 3, 4 * slot, 4 * slot + 2),
         4 => Asked::Void(serial),
         5 => Asked::Query(serial),
         6 => Asked::Grant(1, 50, 49),
-        7 => Asked::Query(round),
+        7 => Asked::Query(pass),
         9 => Asked::DrawMany(2),
-        10 => Asked::Withdraw(round / 4),
+        10 => Asked::Withdraw(pass / 4),
         _ => Asked::Draw,
     }
 }
@@ -77,13 +77,13 @@ fn kind(outcome: &Outcome) -> usize
 }
 
 // The days rise by five in four batches; one call of each batch is handed in on an earlier day.
-fn day(round: u32, lap: usize) -> u32
-    requires { round ≤ 1000 }
+fn day(pass: u32, lap: usize) -> u32
+    requires { pass ≤ 1000 }
 {
     if lap == 2 {
         19_000
     } else {
-        20_000 + round * 5 / 4
+        20_000 + pass * 5 / 4
     }
 }
 
@@ -109,18 +109,18 @@ fn turn_is_alike<A: Book, B: Book>(
 }
 
 // Whether both books answer the twelve calls of the batch alike; the kinds of their answers are noted.
-fn round_is_alike<A: Book, B: Book>(
+fn pass_agrees<A: Book, B: Book>(
     one: &mut A,
     other: &mut B,
-    round: u32,
+    pass: u32,
     seen: &mut [bool; 17],
 ) -> bool
-    requires { round ≤ 1000 }
+    requires { pass ≤ 1000 }
 {
     for (lap, number) in NUMBERS.iter().enumerate() {
-        let number = number.saturating_add(10 * round);
-        let request = request(customer(round, lap), number, asked(round, lap));
-        if !turn_is_alike(one, other, &request, day(round, lap), seen) {
+        let number = number.saturating_add(10 * pass);
+        let request = request(customer(pass, lap), number, asked(pass, lap));
+        if !turn_is_alike(one, other, &request, day(pass, lap), seen) {
             return false;
         }
     }
@@ -128,21 +128,21 @@ fn round_is_alike<A: Book, B: Book>(
 }
 
 // How many of the batches both books answer alike, one after another, and which kinds of answers came.
-fn rounds_alike<A: Book, B: Book>(one: &mut A, other: &mut B) -> (u32, [bool; 17]) {
+fn passes_agree<A: Book, B: Book>(one: &mut A, other: &mut B) -> (u32, [bool; 17]) {
     let mut seen = [false; 17];
-    for round in 0..ROUNDS {
-        if !round_is_alike(one, other, round, &mut seen) {
-            return (round, seen);
+    for pass in 0..PASSES {
+        if !pass_agrees(one, other, pass, &mut seen) {
+            return (pass, seen);
         }
     }
-    (ROUNDS, seen)
+    (PASSES, seen)
 }
 
 #[test]
 fn both_books_answer_mixed_calls_alike(rt: HostRuntime) {
     let mut plain = plain_book(rt.alloc());
     let mut indexed = indexed_book(rt.alloc());
-    let alike = rounds_alike(&mut plain, &mut indexed);
-    same(&rt, &"rounds", &alike, &(ROUNDS, [true; 17]));
-    are_alike(&rt, plain, indexed, 12 * ROUNDS, &[20_100]);
+    let alike = passes_agree(&mut plain, &mut indexed);
+    same(&rt, &"rounds", &alike, &(PASSES, [true; 17]));
+    are_alike(&rt, plain, indexed, 12 * PASSES, &[20_100]);
 }

@@ -31,7 +31,7 @@ fn nine_calls_are_answered_as_worked_by_hand(rt: HostRuntime) {
 }
 
 /// What the post is told of each serial on day 20030.
-const TOLD: &[Step] = &[
+const REPORTED: &[Step] = &[
     (
         0,
         100,
@@ -63,14 +63,14 @@ const TOLD: &[Step] = &[
 ];
 
 /// What the nine calls of a new book come to, and the first serial of which the post is told otherwise then, if any.
-fn told_after_nine_calls<B: Book + Drop>(mut book: B) -> ((Option<usize>, u32), Option<usize>) {
+fn reported_after_nine_calls<B: Book + Drop>(mut book: B) -> ((Option<usize>, u32), Option<usize>) {
     let found = nine_calls_of(&mut book);
-    (found, first_unlike(&mut book, TOLD))
+    (found, first_unlike(&mut book, REPORTED))
 }
 
 #[test]
 fn the_last_issue_of_each_serial_is_reported(rt: HostRuntime) {
-    let found = told_after_nine_calls(indexed_book(rt.alloc()));
+    let found = reported_after_nine_calls(indexed_book(rt.alloc()));
     same(&rt, &"serial", &found, &((None, 9), None));
 }
 

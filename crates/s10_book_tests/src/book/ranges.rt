@@ -43,7 +43,7 @@ fn a_range_has_its_last_serial_too(rt: HostRuntime) {
 }
 
 /// The first serial of a range, its last one, one of them, n, and the serial that stands n after that one.
-const BEHIND: &[(u32, u32, u32, u8, u32)] = &[
+const AFTER: &[(u32, u32, u32, u8, u32)] = &[
     (5, 5, 5, 0, 5),
     (4, 6, 4, 0, 4),
     (4, 6, 4, 1, 5),
@@ -62,7 +62,7 @@ const BEHIND: &[(u32, u32, u32, u8, u32)] = &[
 
 #[test]
 fn after_its_last_serial_a_range_gives_its_first(rt: HostRuntime) {
-    for (first, last, from, count, serial) in BEHIND {
+    for (first, last, from, count, serial) in AFTER {
         let found = behind(*first, *last, *from, *count);
         same(&rt, &(first, last, from, count), &found, &Some(*serial));
     }

@@ -99,7 +99,7 @@ const OTHER_RANGES: &'static [Step] = &[
     (8, 2, DrawMany(2), 20000, DrawnMany(20000, (5, 7), (0, 0))),
 ];
 
-const BEHIND_A_WITHDRAWAL: &'static [(&'static str, &'static [Step])] = &[
+const AFTER_A_WITHDRAWAL: &'static [(&'static str, &'static [Step])] = &[
     (
         "what it gave is voided and told of as before",
         VOIDED_AS_BEFORE,
@@ -112,7 +112,7 @@ const BEHIND_A_WITHDRAWAL: &'static [(&'static str, &'static [Step])] = &[
 
 #[test]
 fn a_closed_range_gives_no_more_identifiers(rt: HostRuntime) {
-    all_are_answered(&rt, BEHIND_A_WITHDRAWAL);
+    all_are_answered(&rt, AFTER_A_WITHDRAWAL);
 }
 
 /// None is free where an open range has none, and there is no range where all are closed.
@@ -203,7 +203,7 @@ fn has_over<B: Book>(book: &mut B, value: u32, num: Option<u32>) -> bool {
 /// Numbers of ranges, and whether they are closed.
 const CLOSED: &[(u32, bool)] = &[(0, false), (1, false), (2, true), (3, false), (4, false)];
 
-fn are_closed_as_told<B: Book>(rt: &impl Abort, book: &mut B) {
+fn are_closed_as_reported<B: Book>(rt: &impl Abort, book: &mut B) {
     for (num, closed) in CLOSED {
         assert!(rt; has_closed(book, *num, *closed));
     }
@@ -229,7 +229,7 @@ fn all_ranges_are_over_their_serials<B: Book>(rt: &impl Abort, book: &mut B) {
 
 /// The second of the book's three ranges is closed: a Draw alone passes over it.
 fn second_is_closed<B: Book + Drop>(rt: &impl Abort, mut book: B) {
-    are_closed_as_told(rt, &mut book);
+    are_closed_as_reported(rt, &mut book);
     open_ranges_are_next(rt, &mut book);
     all_ranges_are_over_their_serials(rt, &mut book);
 }

@@ -6,7 +6,7 @@ use s10_wire::{Frame, encode_reply, encode_request};
 use std::process::Abort;
 
 /// The frame is that of each request with these bytes, and of no other.
-fn is_told_by_its_bytes(rt: &impl Abort, frame: &Frame, bytes: &[u8]) {
+fn is_known_by_its_bytes(rt: &impl Abort, frame: &Frame, bytes: &[u8]) {
     for (other, call) in requests() {
         let is_frame = *frame == encode_request(&request(rt, call));
         same(rt, &bytes, &is_frame, &(bytes == *other));
@@ -16,7 +16,7 @@ fn is_told_by_its_bytes(rt: &impl Abort, frame: &Frame, bytes: &[u8]) {
 #[test]
 fn requests_have_equal_frames_where_their_bytes_are_equal(rt: HostRuntime) {
     for (bytes, call) in requests() {
-        is_told_by_its_bytes(&rt, &encode_request(&request(&rt, call)), bytes);
+        is_known_by_its_bytes(&rt, &encode_request(&request(&rt, call)), bytes);
     }
 }
 
@@ -24,6 +24,6 @@ fn requests_have_equal_frames_where_their_bytes_are_equal(rt: HostRuntime) {
 fn no_reply_has_the_frame_of_a_request(rt: HostRuntime) {
     for (bytes, call, came) in replies() {
         let frame = encode_reply(&reply(&rt, bytes, call, came));
-        is_told_by_its_bytes(&rt, &frame, bytes);
+        is_known_by_its_bytes(&rt, &frame, bytes);
     }
 }

@@ -106,7 +106,7 @@ fn answer_of<R: Net + Eprint, W: Write>(
 }
 
 /// Whether a question has this status and prints this line, on a writer that takes it alone.
-fn is_told<R: Net + Eprint + AllocGlobal>(
+fn is_reported<R: Net + Eprint + AllocGlobal>(
     rt: &R,
     question: &Question<'_>,
     status: JobStatus,
@@ -119,7 +119,7 @@ fn is_told<R: Net + Eprint + AllocGlobal>(
 }
 
 /// The same of the first question of the customer or the post.
-fn asked_is_told<R: Net + Eprint + AllocGlobal>(
+fn asked_is_reported<R: Net + Eprint + AllocGlobal>(
     rt: &R,
     to: &str,
     asked: Asked,
@@ -138,12 +138,12 @@ fn asked_is_told<R: Net + Eprint + AllocGlobal>(
         body,
         tries: Tries::new(1).unwrap(),
     };
-    is_told(rt, &question, status, line)
+    is_reported(rt, &question, status, line)
 }
 
 #[test]
 fn what_is_not_asked_has_its_line(rt: HostRuntime) {
     for (at, (to, asked, status, line)) in CASES.iter().enumerate() {
-        holds(&rt, &at, asked_is_told(&rt, to, *asked, *status, line));
+        holds(&rt, &at, asked_is_reported(&rt, to, *asked, *status, line));
     }
 }

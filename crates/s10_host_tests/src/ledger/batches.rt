@@ -89,11 +89,11 @@ fn ends<B: GroupCommit>(
     server: &mut Server<B>,
     link: &mut ScriptLink,
     cases: (&Case, &Case),
-    in_round: bool,
+    in_batch: bool,
     fails: bool,
 ) -> bool {
     let (first, second) = cases;
-    if !in_round {
+    if !in_batch {
         return is_turn(&serve_one(server, link, 20_000), first, fails);
     }
     match serve_batch(alloc, server, link, 20_000, 2) {
@@ -112,14 +112,14 @@ fn ends_over<B: GroupCommit>(
     alloc: Global,
     book: B,
     cases: (&Case, &Case),
-    in_round: bool,
+    in_batch: bool,
 ) -> (B, [bool; 2]) {
     let Ok(mut link) = link(alloc, cases) else {
         return (book, [false; 2]);
     };
     let mut server = Server::new(book);
-    let at_first = ends(alloc, &mut server, &mut link, cases, in_round, true);
-    let then = ends(alloc, &mut server, &mut link, cases, in_round, false);
+    let at_first = ends(alloc, &mut server, &mut link, cases, in_batch, true);
+    let then = ends(alloc, &mut server, &mut link, cases, in_batch, false);
     (server.into_book(), [at_first, then])
 }
 
@@ -129,19 +129,19 @@ fn ends_tripping<B: GroupCommit>(
     book: B,
     at: u64,
     cases: (&Case, &Case),
-    in_round: bool,
+    in_batch: bool,
 ) -> (B, [bool; 2]) {
     let book = TripBook::new(committed(book), at);
-    let (book, ends) = ends_over(alloc, book, cases, in_round);
+    let (book, ends) = ends_over(alloc, book, cases, in_batch);
     (book.into_inner(), ends)
 }
 
 // At how many calls of the book the replies wait for a commit. None where one is not sent then.
-fn waits<R: Abort + AllocGlobal>(rt: &R, cases: (&Case, &Case), in_round: bool) -> Option<u32> {
+fn waits<R: Abort + AllocGlobal>(rt: &R, cases: (&Case, &Case), in_batch: bool) -> Option<u32> {
     let mut count: u32 = 0;
     for at in 0..20u64 {
         let ledger = ledger(rt, settings(rt, 1000));
-        let (ledger, [at_first, then]) = ends_tripping(rt.alloc(), ledger, at, cases, in_round);
+        let (ledger, [at_first, then]) = ends_tripping(rt.alloc(), ledger, at, cases, in_batch);
         let _ = ledger.close();
         if at_first && !then {
             return None;

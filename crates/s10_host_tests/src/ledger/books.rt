@@ -305,7 +305,7 @@ fn is_first(found: &Result<Option<Range>, BookFault>, is_there: bool) -> bool {
 }
 
 /// Whether the range that a holder has after that number is the first, or none.
-fn has_behind<B: Book>(book: &mut B, holder: u32, after: u32, is_there: bool) -> bool {
+fn has_after<B: Book>(book: &mut B, holder: u32, after: u32, is_there: bool) -> bool {
     let held = HolderKey {
         holder,
         service: ra(),
@@ -341,7 +341,7 @@ fn is_as_read<B: Book>(book: &mut B, read: Read) -> bool {
         Read::Find(customer, number, is_there) => is_sixth(&book.find(customer, number), is_there),
         Read::Entry(at, is_there) => is_sixth(&book.entry(at), is_there),
         Read::Range(number, is_there) => is_first(&book.range(number), is_there),
-        Read::NextRange(holder, after, is_there) => has_behind(book, holder, after, is_there),
+        Read::NextRange(holder, after, is_there) => has_after(book, holder, after, is_there),
         Read::Covering(first, last, is_there) => has_over(book, first, last, is_there),
         Read::LastIssue(value, issue) => book.last_issue(&id(value)) == Ok(issue),
         Read::Candidate(value, issue) => gives_next(book, value, issue),

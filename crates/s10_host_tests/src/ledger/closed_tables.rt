@@ -5,7 +5,7 @@ use crate::ledger::books::tables_after;
 use crate::ledger::calls::Answered::{Granted, Withdrawn};
 use crate::ledger::calls::Asked::{Grant, Withdraw};
 use crate::ledger::calls::{OPENING, Step, whole};
-use crate::ledger::rows::{COMPLETE, INCOMPLETE, Left, left_behind};
+use crate::ledger::rows::{COMPLETE, INCOMPLETE, Left, tables_left};
 use crate::ledger::tables::{HEAD, NINE_CALLS, TABLES, database, run_batches};
 use s10_ledger::OpenFault;
 use sqlite::{Connection, Error, MemStore};
@@ -36,7 +36,7 @@ fn withdrawn_ledger(alloc: Global) -> Result<Connection<MemStore>, Error> {
 
 #[test]
 fn a_ledger_with_a_closed_range_opens(rt: HostRuntime) {
-    let found = left_behind(rt.alloc(), withdrawn_ledger(rt.alloc()), &[], &[]);
+    let found = tables_left(rt.alloc(), withdrawn_ledger(rt.alloc()), &[], &[]);
     let wanted = (Ok(whole(3, 20000)), true, COMPLETE, Ok(None));
     same(&rt, &"withdrawn", &found, &Ok(Some(wanted)));
 }
@@ -66,11 +66,11 @@ const DAMAGES: &[(&str, (usize, bool))] = &[
 fn each_closed_range_is_compared(rt: HostRuntime) {
     for (damage, tables) in DAMAGES {
         let conn = withdrawn_ledger(rt.alloc());
-        let found = left_behind(rt.alloc(), conn, &[damage], &[]);
+        let found = tables_left(rt.alloc(), conn, &[damage], &[]);
         same(&rt, damage, &found, &damaged(*tables));
     }
     let damage = "INSERT INTO closed (num, arrival) VALUES (1, 9)";
-    let found = left_behind(rt.alloc(), database(rt.alloc(), NINE_CALLS), &[damage], &[]);
+    let found = tables_left(rt.alloc(), database(rt.alloc(), NINE_CALLS), &[damage], &[]);
     same(&rt, &damage, &found, &damaged(COMPLETE));
 }
 
@@ -85,11 +85,11 @@ const BOTH_CLOSED: &'static [Step] = &[
 #[test]
 fn ranges_are_closed_in_any_order(rt: HostRuntime) {
     let conn = tables_after(&rt, "both ranges", BOTH_CLOSED);
-    let found = left_behind(rt.alloc(), Ok(conn), &[], &[]);
+    let found = tables_left(rt.alloc(), Ok(conn), &[], &[]);
     let wanted = (Ok(whole(4, 20000)), true, COMPLETE, Ok(None));
     same(&rt, &"both ranges", &found, &Ok(Some(wanted)));
     let conn = tables_after(&rt, "both ranges", BOTH_CLOSED);
     let damage = "UPDATE closed SET arrival = 7 - arrival";
-    let found = left_behind(rt.alloc(), Ok(conn), &[damage], &[]);
+    let found = tables_left(rt.alloc(), Ok(conn), &[damage], &[]);
     same(&rt, &damage, &found, &damaged(COMPLETE));
 }

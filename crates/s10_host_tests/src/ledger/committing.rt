@@ -55,11 +55,11 @@ fn committed<R: Abort + AllocGlobal>(rt: &R, draws: u32) -> (bool, Option<u32>) 
 }
 
 /// Draws after a Grant, and how many calls are committed.
-const SETTLED_CALLS: &[(u32, u32)] = &[(0, 1), (1, 2), (63, 64), (64, 65)];
+const COMMITTED_CALLS: &[(u32, u32)] = &[(0, 1), (1, 2), (63, 64), (64, 65)];
 
 #[test]
 fn committed_calls_are_found_after_reopening(rt: HostRuntime) {
-    for (draws, calls) in SETTLED_CALLS {
+    for (draws, calls) in COMMITTED_CALLS {
         same(&rt, draws, &committed(&rt, *draws), &(true, Some(*calls)));
     }
 }
@@ -71,11 +71,11 @@ fn uncommitted<R: Abort + AllocGlobal>(rt: &R, draws: u32) -> (bool, Option<u32>
 }
 
 /// Draws after a Grant, and how many calls were committed to make room.
-const FULL_ROUNDS: &[(u32, u32)] = &[(0, 0), (1, 0), (63, 0), (64, 64), (127, 64), (128, 128)];
+const FULL_BATCHES: &[(u32, u32)] = &[(0, 0), (1, 0), (63, 0), (64, 64), (127, 64), (128, 128)];
 
 #[test]
 fn pending_calls_are_committed_by_the_first_beyond_the_maximum(rt: HostRuntime) {
-    for (draws, calls) in FULL_ROUNDS {
+    for (draws, calls) in FULL_BATCHES {
         same(&rt, draws, &uncommitted(&rt, *draws), &(true, Some(*calls)));
     }
 }
@@ -101,10 +101,10 @@ fn a_pending_call_is_found(rt: HostRuntime) {
 pub(crate) type Told = ([bool; 4], Result<(), BookFault>, [bool; 4], u32);
 
 /// The third call is committed by the commit alone.
-pub(crate) const SETTLED: Told = ([true, true, false, true], Ok(()), [true; 4], 5);
+pub(crate) const COMMITTED: Told = ([true, true, false, true], Ok(()), [true; 4], 5);
 
 /// The commit fails, and what was pending stays so.
-pub(crate) const UNSETTLED: Told = (
+pub(crate) const UNCOMMITTED: Told = (
     [true, true, false, true],
     Err(BookFault::Store),
     [true, true, false, true],
@@ -112,7 +112,7 @@ pub(crate) const UNSETTLED: Told = (
 );
 
 /// Whether the calls of these keys are committed. The last is the key of no call.
-fn settled_keys<B: GroupCommit>(book: &B) -> [bool; 4] {
+fn committed_keys<B: GroupCommit>(book: &B) -> [bool; 4] {
     [
         book.is_committed(0, 1),
         book.is_committed(7, 1),
@@ -132,17 +132,17 @@ fn keeps_three<B: GroupCommit>(book: &mut B) -> bool {
 }
 
 /// What is reported for a commit after three more calls than are committed. None where the first two are not committed.
-fn settles_three<B: GroupCommit>(book: &mut B) -> Option<Told> {
+fn commits_three<B: GroupCommit>(book: &mut B) -> Option<Told> {
     if !keeps_three(book) {
         return None;
     }
-    let before = settled_keys(book);
+    let before = committed_keys(book);
     let answer = book.commit();
-    Some((before, answer, settled_keys(book), book.len()))
+    Some((before, answer, committed_keys(book), book.len()))
 }
 
 /// The same of a new ledger in this connection, which is handed back. None where it is not made.
-pub(crate) fn settles_three_in<S: Alter>(
+pub(crate) fn commits_three_in<S: Alter>(
     alloc: Global,
     settings: Settings,
     conn: Connection<S>,
@@ -151,7 +151,7 @@ pub(crate) fn settles_three_in<S: Alter>(
         return (None, conn);
     }
     match SqlBook::create(alloc, conn, settings, &mut NoObserver) {
-        Ok(mut book) => (settles_three(&mut book), book.close()),
+        Ok(mut book) => (commits_three(&mut book), book.close()),
         Err(
             Refused {
                 fault: _,
@@ -162,13 +162,13 @@ pub(crate) fn settles_three_in<S: Alter>(
 }
 
 /// The same of a ledger in memory.
-fn told_in_memory(alloc: Global, settings: Settings) -> Option<Told> {
+fn reported_in_memory(alloc: Global, settings: Settings) -> Option<Told> {
     let conn = Connection::open_in_memory(alloc).ok()?;
-    let (told, _conn) = settles_three_in(alloc, settings, conn);
+    let (told, _conn) = commits_three_in(alloc, settings, conn);
     told
 }
 
 #[test]
 fn a_call_is_committed_after_a_commit(rt: HostRuntime) {
-    assert!(rt; told_in_memory(rt.alloc(), settings(&rt, 100)) == Some(SETTLED));
+    assert!(rt; reported_in_memory(rt.alloc(), settings(&rt, 100)) == Some(COMMITTED));
 }

@@ -162,14 +162,14 @@ fn ranges_of_many_holders_are_answered_alike(rt: HostRuntime) {
 const BEFORE: &[Part] = &[Part::Grants, Part::Draws(500)];
 
 // The same ranges, and Grants that overlap them.
-const BEHIND: &[Part] = &[Part::Ranges, Part::Overlaps, Part::Length];
+const AFTER: &[Part] = &[Part::Ranges, Part::Overlaps, Part::Length];
 
 #[test]
 fn ranges_are_found_as_before_once_the_ledger_is_opened_again(rt: HostRuntime) {
     let (mut plain, mut tables) = new_books(&rt);
     let before = both_alike(&mut plain, &mut tables, BEFORE);
     let mut opened = opened_again(&rt, tables);
-    let behind = both_alike(&mut plain, &mut opened, BEHIND);
+    let behind = both_alike(&mut plain, &mut opened, AFTER);
     let _ = closed(opened);
     same(&rt, &"before, behind", &(before, behind), &(true, true));
 }

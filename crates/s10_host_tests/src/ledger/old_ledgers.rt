@@ -7,7 +7,7 @@ use crate::ledger::calls::Asked::{Draw, Withdraw};
 use crate::ledger::calls::{NINE_CALLS, Step, closed, whole};
 use crate::ledger::creating::nine_kept;
 use crate::ledger::rows::{
-    CLOSED, COMPLETE, INCOMPLETE, Left, NONE_CLOSED, Shown, left, left_behind,
+    CLOSED, COMPLETE, INCOMPLETE, Left, NONE_CLOSED, Shown, left, tables_left,
 };
 use crate::ledger::tables::{OLD_LEDGER, database};
 use s10_ledger::{NoObserver, OpenFault, Refused, SqlBook};
@@ -23,7 +23,7 @@ const NOTE: &'static str =
 
 /// What is left of an old ledger that is changed so.
 fn left_of_old(alloc: Global, changes: &[&str], shown: &[Shown]) -> Result<Option<Left>, Error> {
-    left_behind(alloc, database(alloc, &OLD_LEDGER), changes, shown)
+    tables_left(alloc, database(alloc, &OLD_LEDGER), changes, shown)
 }
 
 /// What is left of nine calls as this build keeps them that are changed so.
@@ -32,7 +32,7 @@ fn left_of_kept<R: Abort + AllocGlobal>(
     changes: &[&str],
     shown: &[Shown],
 ) -> Result<Option<Left>, Error> {
-    left_behind(rt.alloc(), Ok(nine_kept(rt)), changes, shown)
+    tables_left(rt.alloc(), Ok(nine_kept(rt)), changes, shown)
 }
 
 #[test]

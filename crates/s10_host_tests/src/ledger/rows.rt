@@ -55,7 +55,7 @@ pub(crate) fn left(alloc: Global, conn: Connection<MemStore>, shown: &[Shown]) -
 }
 
 /// The same of a database that is changed so before.
-pub(crate) fn left_behind(
+pub(crate) fn tables_left(
     alloc: Global,
     conn: Result<Connection<MemStore>, Error>,
     changes: &[&str],

@@ -44,7 +44,7 @@ const THIRD_SERIAL: Step = (
     Want::Reply(b"S1\x01\x82\0\0\0\x07\0\0\0\x03RAGB\0\0\0\x4e\x20RA000000028GB"),
 );
 
-const GOING_ROUND: Step = (
+const WRAPPING: Step = (
     20_030,
     b"S1\x02\x05\0\0\0\x07\0\0\0\x04RAGB\x03",
     Want::Reply(
@@ -53,7 +53,7 @@ const GOING_ROUND: Step = (
 );
 
 /// Sheets from one range of three serials, until the thirtieth day.
-const FIRST_ROUND: &[Step] = &[GRANT, SHEET, SHEET, NONE_FREE, THIRD_SERIAL];
+const FIRST_BATCH: &[Step] = &[GRANT, SHEET, SHEET, NONE_FREE, THIRD_SERIAL];
 
 /// The same, and on that day, on which it wraps around.
 const ONE_RANGE: &[Step] = &[
@@ -62,7 +62,7 @@ const ONE_RANGE: &[Step] = &[
     SHEET,
     NONE_FREE,
     THIRD_SERIAL,
-    GOING_ROUND,
+    WRAPPING,
     (
         20_030,
         b"S1\x02\x05\0\0\0\x07\0\0\0\x05RAGB\x01",
@@ -187,10 +187,10 @@ fn is_left<B: Book>(alloc: Global, book: &mut B, left: Option<Left>) -> bool {
 }
 
 /// Which of the steps a book answers otherwise than wanted, and whether it is left so then.
-type Behind = (Result<Option<usize>, AllocError>, bool);
+type After = (Result<Option<usize>, AllocError>, bool);
 
 /// That, and the book.
-fn behind<B: Book>(alloc: Global, book: B, steps: &[Step], left: Option<Left>) -> (B, Behind) {
+fn behind<B: Book>(alloc: Global, book: B, steps: &[Step], left: Option<Left>) -> (B, After) {
     let mut server = Server::new(book);
     let unlike = first_unlike(alloc, &mut server, steps);
     let mut book = server.into_book();
@@ -285,7 +285,7 @@ fn text_from<B: Book>(
 }
 
 /// The same over a book that gets them on that day after those steps; and the book.
-fn text_behind<B: Book>(
+fn text_after<B: Book>(
     alloc: Global,
     book: B,
     steps: &[Step],
@@ -308,7 +308,7 @@ fn told<R: Abort + AllocGlobal>(
     from: usize,
 ) -> Result<Vec<u8>, AllocError> {
     let ledger = ledger(rt, settings(rt, 100));
-    let (ledger, text) = text_behind(rt.alloc(), ledger, steps, day, datagrams, from);
+    let (ledger, text) = text_after(rt.alloc(), ledger, steps, day, datagrams, from);
     let _ = closed(ledger);
     text
 }
@@ -332,12 +332,12 @@ fn is_as_draws<R: Abort + AllocGlobal>(
 
 #[test]
 fn a_sheet_of_n_has_the_identifiers_of_n_draws(rt: HostRuntime) {
-    let is_round = is_as_draws(&rt, FIRST_ROUND, GOING_ROUND, THREE_DRAWS);
+    let is_batch = is_as_draws(&rt, FIRST_BATCH, WRAPPING, THREE_DRAWS);
     let is_of_both = is_as_draws(&rt, TWO_GRANTS, OF_BOTH, FIVE_DRAWS);
     same(
         &rt,
         &"going round, two ranges",
-        &(is_round, is_of_both),
+        &(is_batch, is_of_both),
         &(true, true),
     );
 }

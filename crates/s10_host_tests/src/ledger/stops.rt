@@ -3,7 +3,7 @@
 
 use crate::expect::same;
 use crate::ledger::calls::settings;
-use crate::ledger::committing::{SETTLED, Told, UNSETTLED, settles_three_in};
+use crate::ledger::committing::{COMMITTED, Told, UNCOMMITTED, commits_three_in};
 use crate::ledger::tables::{OLD_LEDGER, run_batches};
 use s10_book::Book;
 use s10_history::Settings;
@@ -117,7 +117,7 @@ fn done<S: Alter + Drop>(conn: Connection<S>, act: Act) -> (Ended, Option<Told>,
             (ended, None, conn.into_store())
         }
         Act::GroupCommit(alloc, settings) => {
-            let (told, conn) = settles_three_in(alloc, settings, conn);
+            let (told, conn) = commits_three_in(alloc, settings, conn);
             (Ended::Unconnected, told, conn.into_store())
         }
     }
@@ -244,7 +244,7 @@ fn a_ledger_whose_completion_stopped_is_whole(rt: HostRuntime) {
 
 /// What is told over empty files where the log stops at one of its calls, and what is found then over whole files with what was
 /// synced alone.
-fn settled_until(alloc: Global, settings: Settings, at: u64) -> Option<(Option<Told>, Ended)> {
+fn committed_until(alloc: Global, settings: Settings, at: u64) -> Option<(Option<Told>, Ended)> {
     let log = Fuse::new(Memory::new(alloc), at);
     let db = Fuse::new(Memory::new(alloc), NEVER);
     let commit = Act::GroupCommit(alloc, settings);
@@ -256,13 +256,13 @@ fn settled_until(alloc: Global, settings: Settings, at: u64) -> Option<(Option<T
 
 /// At how many calls of the log the commit fails, before it passes. None where a committed call is lost, or a call that was not is
 /// reported as committed or is found without the others.
-fn failed_settlings(alloc: Global, settings: Settings) -> Option<u32> {
+fn failed_commits(alloc: Global, settings: Settings) -> Option<u32> {
     let mut count: u32 = 0;
     for at in 0..1000u64 {
-        match settled_until(alloc, settings, at)? {
+        match committed_until(alloc, settings, at)? {
             (None, _) => {}
-            (Some(told), Ended::Found(5)) if told == SETTLED => return Some(count),
-            (Some(told), Ended::Found(2 | 5)) if told == UNSETTLED => {
+            (Some(told), Ended::Found(5)) if told == COMMITTED => return Some(count),
+            (Some(told), Ended::Found(2 | 5)) if told == UNCOMMITTED => {
                 count = count.saturating_add(1);
             }
             (Some(_), _) => return None,
@@ -273,6 +273,6 @@ fn failed_settlings(alloc: Global, settings: Settings) -> Option<u32> {
 
 #[test]
 fn a_failed_commit_commits_no_call(rt: HostRuntime) {
-    let failed = failed_settlings(rt.alloc(), settings(&rt, 100));
+    let failed = failed_commits(rt.alloc(), settings(&rt, 100));
     assert!(rt; failed.is_some_and(|count| 0 < count), "{failed:?}");
 }

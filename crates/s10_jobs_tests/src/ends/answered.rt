@@ -33,7 +33,7 @@ fn has_ended(turn: &ServerTurn, ends: &Ends) -> bool {
 }
 
 /// Whether a turn ends so.
-pub(crate) fn is_as_told(turn: &Turn, ends: &Ends) -> bool {
+pub(crate) fn is_as_wanted_reply(turn: &Turn, ends: &Ends) -> bool {
     match (turn, ends) {
         (Ok(turn), _) => has_ended(turn, ends),
         (Err(fault), Ends::Failed(failure)) => fault == failure,

@@ -1,6 +1,6 @@
 //! Batches of a server over links that follow a script.
 
-use crate::ends::answered::{Ends, is_as_told};
+use crate::ends::answered::{Ends, is_as_wanted_reply};
 use crate::ends::fixtures::{
     DRAW, DRAWN, GRANT, GRANTED, SECOND_DRAW, SECOND_DRAWN, Sent, granted_server, has_sent,
     new_server,
@@ -24,14 +24,14 @@ const OTHER: Peer = Peer {
 };
 
 /// A round: how many datagrams it takes at most, what its turns end in, and how many replies were sent by then.
-type Round = (u32, &'static [Ends], usize);
+type Batch = (u32, &'static [Ends], usize);
 
 /// What the receives and the sends of a link meet, the batches over it, the replies that they send, and how often they call it.
 #[derive(Clone, Copy)]
 struct Script {
     receipts: &'static [Meets],
     sends: &'static [bool],
-    batches: &'static [Round],
+    batches: &'static [Batch],
     replies: &'static [Sent],
     calls: u64,
 }
@@ -54,12 +54,12 @@ const FOUR_REPLIES: &'static [Sent] = &[
 ];
 
 /// Whether turns end so, one by one.
-fn are_as_told(turns: &[Turn], told: &[Ends]) -> bool {
+fn are_as_reported(turns: &[Turn], told: &[Ends]) -> bool {
     if turns.len() != told.len() {
         return false;
     }
     for at in 0..turns.len() {
-        if !is_as_told(&turns[at], &told[at]) {
+        if !is_as_wanted_reply(&turns[at], &told[at]) {
             return false;
         }
     }
@@ -71,14 +71,14 @@ fn serves<B: GroupCommit>(
     alloc: Global,
     server: &mut Server<B>,
     link: &mut ScriptLink,
-    batch: &Round,
+    batch: &Batch,
 ) -> bool {
     let (most, told, sent) = *batch;
     if most < 1 {
         return false;
     }
     match serve_batch(alloc, server, link, 20_000, most) {
-        Ok(turns) => are_as_told(&turns, told) && link.log().len() == sent,
+        Ok(turns) => are_as_reported(&turns, told) && link.log().len() == sent,
         Err(_) => false,
     }
 }
@@ -103,7 +103,7 @@ fn leaves(alloc: Global, script: &Script, calls: u32) -> bool {
 }
 
 /// All five in one batch.
-const ONE_ROUND: Script = Script {
+const ONE_BATCH: Script = Script {
     receipts: FIVE_RECEIPTS,
     sends: &[true; 4],
     batches: &[(
@@ -123,11 +123,11 @@ const ONE_ROUND: Script = Script {
 
 #[test]
 fn each_reply_goes_to_its_peer_in_turn(rt: HostRuntime) {
-    assert!(rt; leaves(rt.alloc(), &ONE_ROUND, 3));
+    assert!(rt; leaves(rt.alloc(), &ONE_BATCH, 3));
 }
 
 /// Two at a time.
-const THREE_ROUNDS: Script = Script {
+const THREE_BATCHES: Script = Script {
     receipts: FIVE_RECEIPTS,
     sends: &[true; 4],
     batches: &[
@@ -152,7 +152,7 @@ const THREE_ROUNDS: Script = Script {
 
 #[test]
 fn a_batch_leaves_the_rest_for_the_next(rt: HostRuntime) {
-    assert!(rt; leaves(rt.alloc(), &THREE_ROUNDS, 3));
+    assert!(rt; leaves(rt.alloc(), &THREE_BATCHES, 3));
 }
 
 /// A receive that fails between a Grant and a Draw.
@@ -184,7 +184,7 @@ fn a_failed_receive_is_reported_after_the_datagrams(rt: HostRuntime) {
 }
 
 /// Batches over no receipt, over a receive that meets nothing, and over one that fails.
-const LONE_ROUNDS: &'static [Script] = &[
+const LONE_BATCHES: &'static [Script] = &[
     Script {
         receipts: &[],
         sends: &[],
@@ -210,7 +210,7 @@ const LONE_ROUNDS: &'static [Script] = &[
 
 #[test]
 fn a_batch_without_a_datagram_is_one_turn(rt: HostRuntime) {
-    for (at, script) in LONE_ROUNDS.iter().enumerate() {
+    for (at, script) in LONE_BATCHES.iter().enumerate() {
         holds_at(&rt, at, leaves(rt.alloc(), script, 0));
     }
 }
@@ -256,23 +256,23 @@ const TWO_DRAWS: Script = Script {
 };
 
 /// Whether a batch over two Draws sends both replies, and how a commit after it fails.
-fn sent_then_settled<B: GroupCommit + Drop>(alloc: Global, book: B) -> (bool, Option<BookFault>) {
+fn sent_then_committed<B: GroupCommit + Drop>(alloc: Global, book: B) -> (bool, Option<BookFault>) {
     let mut server = Server::new(book);
     let is_sent = goes_through(alloc, &mut server, &TWO_DRAWS);
     (is_sent, server.commit().err())
 }
 
 /// The same where a book that has the first Grant fails at one of its calls from then on.
-fn served_then_settled(alloc: Global, at: u64) -> (bool, Option<BookFault>) {
+fn served_then_committed(alloc: Global, at: u64) -> (bool, Option<BookFault>) {
     let book = granted_server(alloc, 100).into_book();
-    sent_then_settled(alloc, TripBook::new(book, at))
+    sent_then_committed(alloc, TripBook::new(book, at))
 }
 
 /// How many batches do not send both replies, where a call of the book fails, each in turn.
-fn faulted_rounds(alloc: Global) -> u64 {
+fn faulted_batches(alloc: Global) -> u64 {
     let mut faulted: u64 = 0;
     for at in 0..20u64 {
-        if !served_then_settled(alloc, at).0 {
+        if !served_then_committed(alloc, at).0 {
             faulted = faulted.saturating_add(1);
         }
     }
@@ -283,8 +283,8 @@ fn faulted_rounds(alloc: Global) -> u64 {
 // commit after it: both replies are sent where either fails.
 #[test]
 fn committed_calls_are_answered_though_a_commit_fails(rt: HostRuntime) {
-    let own = faulted_rounds(rt.alloc());
+    let own = faulted_batches(rt.alloc());
     let next = own.saturating_add(1);
-    assert!(rt; served_then_settled(rt.alloc(), own) == (true, None));
-    assert!(rt; served_then_settled(rt.alloc(), next) == (true, Some(BookFault::Store)));
+    assert!(rt; served_then_committed(rt.alloc(), own) == (true, None));
+    assert!(rt; served_then_committed(rt.alloc(), next) == (true, Some(BookFault::Store)));
 }

@@ -1,6 +1,6 @@
 //! Turns of a server over links that follow a script.
 
-use crate::ends::answered::{Ends, is_as_told};
+use crate::ends::answered::{Ends, is_as_wanted_reply};
 use crate::ends::fixtures::{
     DRAW, DRAWN, GRANT, GRANTED, SECOND_DRAW, SECOND_DRAWN, Sent, granted_server, has_sent,
     new_server,
@@ -26,7 +26,7 @@ const OTHER: Peer = Peer {
 
 /// Whether the next turn of a server ends so.
 fn serves<B: GroupCommit, L: Link>(server: &mut Server<B>, link: &mut L, ends: &Ends) -> bool {
-    is_as_told(&serve_one(server, link, 20_000), ends)
+    is_as_wanted_reply(&serve_one(server, link, 20_000), ends)
 }
 
 /// What the receives and the sends of a link meet, what the turns over it end in, and what it sends.
@@ -41,7 +41,7 @@ struct Script {
 }
 
 /// The turns of a server over a script go as scripted.
-fn go_as_told<B: GroupCommit + Drop>(
+fn go_as_scripted<B: GroupCommit + Drop>(
     rt: &impl Abort,
     alloc: Global,
     mut server: Server<B>,
@@ -69,7 +69,7 @@ const UNSENT: Script = Script {
 #[test]
 fn reply_that_was_not_sent_is_kept(rt: HostRuntime) {
     let server = granted_server(rt.alloc(), 100);
-    go_as_told(&rt, rt.alloc(), server, &UNSENT);
+    go_as_scripted(&rt, rt.alloc(), server, &UNSENT);
 }
 
 /// Nothing, two datagrams that ask nothing, a new Draw where the book is full, and the first Grant again.
@@ -97,7 +97,7 @@ const UNANSWERED: Script = Script {
 #[test]
 fn turns_without_a_reply(rt: HostRuntime) {
     let server = granted_server(rt.alloc(), 1);
-    go_as_told(&rt, rt.alloc(), server, &UNANSWERED);
+    go_as_scripted(&rt, rt.alloc(), server, &UNANSWERED);
 }
 
 /// Customer 7's next Draws, with their replies on day 20000.

@@ -70,7 +70,7 @@ fn holds<B: Book>(book: &mut B, at: u32, request: &[u8], reply: &[u8]) -> bool {
 }
 
 /// The lists of a world are those of the story.
-fn are_told<B: Book>(rt: &impl Abort, world: &World<B>) {
+fn are_reported<B: Book>(rt: &impl Abort, world: &World<B>) {
     assert!(rt; are_submitted(world.submitted(), SUBMITTED));
     assert!(rt; are_accepted(world.accepted(), ACCEPTED));
     assert!(rt; are_frames(world.asked(), ASKED));
@@ -90,7 +90,7 @@ fn each_call_is_executed_once_and_answered_to_its_own_client(rt: HostRuntime) {
     let Some(world) = world_after(rt.alloc(), empty_book(rt.alloc(), 100), STORY) else {
         panic!(rt; "the story");
     };
-    are_told(&rt, &world);
+    are_reported(&rt, &world);
     are_held(&rt, &mut world.into_server().into_book());
 }
 

@@ -32,7 +32,7 @@ fn draw() -> Body {
 }
 
 /// Whether a call in n tries has this status and prints this line.
-fn is_told<L: Link>(
+fn is_reported<L: Link>(
     alloc: Global,
     client: &mut Client,
     link: &mut L,
@@ -63,8 +63,8 @@ fn is_asked_once(
     };
     let mut client = Client::new(7, 1, 1).unwrap();
     let then = JobStatus::CommandLine;
-    is_told(alloc, &mut client, &mut link, draw(), 2, status, line)
-        && is_told(alloc, &mut client, &mut link, draw(), 2, then, "")
+    is_reported(alloc, &mut client, &mut link, draw(), 2, status, line)
+        && is_reported(alloc, &mut client, &mut link, draw(), 2, then, "")
 }
 
 /// Which sends succeed, and what is printed.
@@ -134,7 +134,7 @@ fn is_withdrawn(alloc: Global, reply: &'static [u8], status: JobStatus, line: &s
     };
     let mut client = Client::new(0, 2, 2).unwrap();
     let body = Body::Withdraw { range: 1 };
-    is_told(alloc, &mut client, &mut link, body, 1, status, line) && has_sent(&link, WITHDRAW)
+    is_reported(alloc, &mut client, &mut link, body, 1, status, line) && has_sent(&link, WITHDRAW)
 }
 
 /// Replies to it, and what is printed of them.

@@ -139,7 +139,7 @@ fn written<W: Write>(alloc: Global, out: &mut W) -> Result<JobStatus, WriteFault
 }
 
 /// Whether a report whose first bytes are refused ends with a line that says so.
-fn is_told_to_have_ended(alloc: Global) -> bool {
+fn is_reported_as_ended(alloc: Global) -> bool {
     let mut out = Hiccup::new(alloc, 0);
     let told = written(alloc, &mut out);
     is_text(out.bytes, b"output\n") && told == Ok(JobStatus::Failed)
@@ -147,6 +147,6 @@ fn is_told_to_have_ended(alloc: Global) -> bool {
 
 #[test]
 fn a_writer_that_fails_ends_a_report(rt: HostRuntime) {
-    assert!(rt; is_told_to_have_ended(rt.alloc()));
+    assert!(rt; is_reported_as_ended(rt.alloc()));
     assert!(rt; written(rt.alloc(), &mut Refusing) == Err(WriteFault));
 }

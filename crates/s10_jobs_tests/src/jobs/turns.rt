@@ -278,7 +278,7 @@ dropped short
 ";
 
 /// Whether n turns on the link of the two ends have the first of the lines, and standard error shows this.
-fn are_told(alloc: Global, count: u32, batches: u32, told: &str) -> bool {
+fn are_reported(alloc: Global, count: u32, batches: u32, told: &str) -> bool {
     let rt = Listening {
         told: RefCell::new(Vec::new(alloc)),
     };
@@ -296,7 +296,7 @@ fn are_told(alloc: Global, count: u32, batches: u32, told: &str) -> bool {
 }
 
 /// Turns, the batches that they are, and what standard error shows.
-const TOLD: &[(u32, u32, &str)] = &[
+const REPORTED: &[(u32, u32, &str)] = &[
     (1, 1, ""),
     (2, 2, "dropped from 10.0.0.8:40123\n"),
     (3, 2, "dropped from 10.0.0.8:40123\n"),
@@ -314,8 +314,8 @@ const TOLD: &[(u32, u32, &str)] = &[
 
 #[test]
 fn senders_of_dropped_datagrams_go_to_standard_error(rt: HostRuntime) {
-    for (count, batches, told) in TOLD {
-        holds(&rt, count, are_told(rt.alloc(), *count, *batches, told));
+    for (count, batches, told) in REPORTED {
+        holds(&rt, count, are_reported(rt.alloc(), *count, *batches, told));
     }
 }
 

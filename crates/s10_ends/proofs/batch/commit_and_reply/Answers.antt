@@ -12,7 +12,7 @@ returns-then-is_empty-clause-answered g c =
     let empty : c.args.taken.now ≡ [] = is_nil c.args.taken.now c.is_empty.result c.is_empty.ensures c.if-is_empty.true in
     record {
       commit_result = Ok tt;
-      settles = λ some. absurd (some empty);
+      commits = λ some. absurd (some empty);
       unasked = λ it. refl;
       answers = rw (empty, c.requires.none) none;
     }

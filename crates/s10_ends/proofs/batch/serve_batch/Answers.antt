@@ -2,7 +2,7 @@ use Rattle.std.proofs.Common.{◌≡◌, ℕ, ◌+◌, ◌≤◌, List, length, 
 use Rattle.std.proofs.lemmas.Result.{err_from_is_err_and}
 use Rattle.s10_ends.specs.declared.exchange.Exchange.{Exchange}
 use Rattle.s10_ends.proofs.Batches.{turns_some, turns_few}
-use Rattle.s10_ends.proofs.Standing.{round_stands}
+use Rattle.s10_ends.proofs.Standing.{batch_stands}
 use Rattle.s10_ends.proofs.batch.serve_batch.Goals as goal
 
 one_more_fits : (most : ℕ) → Fits w32 most → Fits w64 (most + 1)
@@ -13,8 +13,8 @@ room_for : (most capacity : ℕ) (taken now : List Exchange) → now ≡ taken �
 room_for most capacity taken now same few room = omega (arith, ap length same)
 
 -- and one more has it after them
-room_behind : (most before capacity turns : ℕ) (taken now : List Exchange) → now ≡ taken → length taken ≤ most → most + 1 ≤ before → turns ≡ length now → capacity ≡ before → turns + 1 ≤ capacity
-room_behind most before capacity turns taken now same few room many kept = omega (arith, ap length same)
+room_after : (most before capacity turns : ℕ) (taken now : List Exchange) → now ≡ taken → length taken ≤ most → most + 1 ≤ before → turns ≡ length now → capacity ≡ before → turns + 1 ≤ capacity
+room_after most before capacity turns taken now same few room many kept = omega (arith, ap length same)
 
 pub overflow_add-most : goal.overflow_add-most
 overflow_add-most g c = one_more_fits c.args.most c.ranges.most
@@ -35,7 +35,7 @@ pub commit_and_reply-requires-clause-room : goal.commit_and_reply-requires-claus
 commit_and_reply-requires-clause-room g c = room_for c.args.most _ _ _ c.deref.ensures.value c.receive_batch-ended.ensures.few c.in_ok-turns.ensures.capacity
 
 pub push_end-requires : goal.push_end-requires
-push_end-requires g c = room_behind c.args.most _ _ _ _ _ c.deref.ensures.value c.receive_batch-ended.ensures.few c.in_ok-turns.ensures.capacity c.commit_and_reply.ensures.many c.commit_and_reply.ensures.capacity
+push_end-requires g c = room_after c.args.most _ _ _ _ _ c.deref.ensures.value c.receive_batch-ended.ensures.few c.in_ok-turns.ensures.capacity c.commit_and_reply.ensures.many c.commit_and_reply.ensures.capacity
 
 pub returns-clause-some : goal.returns-clause-some
 returns-clause-some g c = rw c.push_end.ensures (turns_some c.receive_batch-ended.result c.commit_and_reply.new.turns.items)
@@ -55,7 +55,7 @@ returns-clause-served g c = record {
 }
 
 pub returns-clause-stands : goal.returns-clause-stands
-returns-clause-stands g c = round_stands _ _ _ _ _ c.args.day c.args.most _ _ _ (returns-clause-served g c)
+returns-clause-stands g c = batch_stands _ _ _ _ _ c.args.day c.args.most _ _ _ (returns-clause-served g c)
 
 pub returns-in_err-taken-clause-served : goal.returns-in_err-taken-clause-served
 returns-in_err-taken-clause-served g c = rw (err_from_is_err_and c.from_residual.result c.from_residual.ensures.1).1 tt

@@ -1,6 +1,6 @@
 use Rattle.std.proofs.Common.{rules, arith}
 use Rattle.s10_jobs.specs.Serving.{IsBatch}
-use Rattle.s10_jobs.proofs.Turning.{none_served, round_served, round_unshown, given_day}
+use Rattle.s10_jobs.proofs.Turning.{none_served, batch_served, batch_unprinted, given_day}
 use Rattle.s10_jobs.proofs.turns.serve_turns.Goals as goal
 
 pub loop-done-init : goal.loop-done-init
@@ -11,7 +11,7 @@ loop-done-init g c = record {
 
 pub returns-in_err-done-clause-turns : goal.returns-in_err-done-clause-turns
 returns-in_err-done-clause-turns g c =
-    round_unshown (IsBatch g.B.Book.faults g.B.Book.honest g.B.Book.terms g.B.Book.history g.B.GroupCommit.committed c.args.day)
+    batch_unprinted (IsBatch g.B.Book.faults g.B.Book.honest g.B.Book.terms g.B.Book.history g.B.GroupCommit.committed c.args.day)
     (g.L.Link.trace_of c.args.link.now, c.args.server.now.book) (g.L.Link.trace_of c.loop-done.link, c.loop-done.server.book) (g.L.Link.trace_of c.serve_batched.new.link, c.serve_batched.new.server.book)
     (g.W.Write.contents c.args.out.now) (g.W.Write.contents c.loop-done.out) (g.W.Write.contents c.serve_batched.new.out) c.loop-done.done c.args.count c.loop-done.invariant.served
     _ c.min-most.result c.serve_batched.result c.from_residual.result _ c.from_residual.ensures.1
@@ -23,7 +23,7 @@ loop-done-preserved g c =
     let shown = c.in_ok-done.ensures in
     record {
       few = let few = c.min-most.ensures in let test = c.loop-done-test.true in let short = shown.2 in let many = shown.3.0 in grind arith;
-      served = round_served (IsBatch g.B.Book.faults g.B.Book.honest g.B.Book.terms g.B.Book.history g.B.GroupCommit.committed c.args.day)
+      served = batch_served (IsBatch g.B.Book.faults g.B.Book.honest g.B.Book.terms g.B.Book.history g.B.GroupCommit.committed c.args.day)
           (g.L.Link.trace_of c.args.link.now, c.args.server.now.book) (g.L.Link.trace_of c.loop-done.link, c.loop-done.server.book) (g.L.Link.trace_of c.serve_batched.new.link, c.serve_batched.new.server.book)
           (g.W.Write.contents c.args.out.now) (g.W.Write.contents c.loop-done.out) (g.W.Write.contents c.serve_batched.new.out) c.loop-done.done c.args.count c.loop-done.invariant.served
           _ c.min-most.result c.in_ok-done.field-0

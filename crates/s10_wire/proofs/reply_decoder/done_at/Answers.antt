@@ -3,7 +3,7 @@ use Rattle.std.proofs.lemmas.Bool.{eq-eqb}
 use Rattle.std.proofs.lemmas.Result.{err_from_is_err_and}
 use Rattle.s10_wire.specs.declared.wire_fault.WireFault.TheVariants.{Field}
 use Rattle.s10_wire.specs.WireFault.{byte}
-use Rattle.s10_wire.proofs.Done.{behind_byte, asked_count, drawn_read, drawn_many_read, many_refused}
+use Rattle.s10_wire.proofs.Done.{after_byte, asked_count, drawn_read, drawn_many_read, many_refused}
 use Rattle.s10_wire.proofs.reply_decoder.done_at.Goals as goal
 
 pub number_at-requires : goal.number_at-requires
@@ -38,7 +38,7 @@ returns-in-Grant-clause-read c =
     let b = c.args.bytes.now in
     let long : 33 ≤ length b = rw c.in-Grant.is at c.requires.long in
     let done : byte b 28 ≡ 0 = rw c.in-Grant.is at c.requires.done in
-    (c.number_at.type_inv, rw c.in-Grant.is (behind_byte b _ 28 0 (omega (arith, long)) done c.number_at.ensures.read))
+    (c.number_at.type_inv, rw c.in-Grant.is (after_byte b _ 28 0 (omega (arith, long)) done c.number_at.ensures.read))
 
 pub returns-in-Grant-clause-refused : goal.returns-in-Grant-clause-refused
 returns-in-Grant-clause-refused c = rw c.in-Grant.is refl
@@ -51,7 +51,7 @@ returns-in-Void-clause-read c =
     let b = c.args.bytes.now in
     let long : 26 ≤ length b = rw c.in-Void.is at c.requires.long in
     let done : byte b 25 ≡ 0 = rw c.in-Void.is at c.requires.done in
-    (tt, rw c.in-Void.is (behind_byte b _ 25 0 long done refl))
+    (tt, rw c.in-Void.is (after_byte b _ 25 0 long done refl))
 
 pub returns-in-Void-clause-refused : goal.returns-in-Void-clause-refused
 returns-in-Void-clause-refused c = rw c.in-Void.is refl
@@ -64,7 +64,7 @@ returns-in-Withdraw-clause-read c =
     let b = c.args.bytes.now in
     let long : 17 ≤ length b = rw c.in-Withdraw.is at c.requires.long in
     let done : byte b 16 ≡ 0 = rw c.in-Withdraw.is at c.requires.done in
-    (tt, rw c.in-Withdraw.is (behind_byte b _ 16 0 long done refl))
+    (tt, rw c.in-Withdraw.is (after_byte b _ 16 0 long done refl))
 
 pub returns-in-Withdraw-clause-refused : goal.returns-in-Withdraw-clause-refused
 returns-in-Withdraw-clause-refused c = rw c.in-Withdraw.is refl
@@ -99,7 +99,7 @@ returns-in_ok-status-in-Query-clause-read c =
     let b = c.args.bytes.now in
     let long : 31 ≤ length b = rw c.in-Query.is at c.requires.long in
     let done : byte b 25 ≡ 0 = rw c.in-Query.is at c.requires.done in
-    (c.in_ok-status-in-Query.ensures.read.0, rw c.in-Query.is (behind_byte b _ 25 0 (omega (arith, long)) done c.in_ok-status-in-Query.ensures.read.1))
+    (c.in_ok-status-in-Query.ensures.read.0, rw c.in-Query.is (after_byte b _ 25 0 (omega (arith, long)) done c.in_ok-status-in-Query.ensures.read.1))
 
 pub returns-in_ok-status-in-Query-clause-refused : goal.returns-in_ok-status-in-Query-clause-refused
 returns-in_ok-status-in-Query-clause-refused c = rw c.in-Query.is c.in_ok-status-in-Query.ensures.refused

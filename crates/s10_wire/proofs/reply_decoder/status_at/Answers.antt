@@ -6,7 +6,7 @@ use Rattle.s10_wire.specs.declared.wire_fault.WireFault.{WireFault}
 use Rattle.s10_wire.specs.declared.wire_fault.WireFault.TheVariants.{Field}
 use Rattle.s10_wire.specs.Datagrams.{u32_bytes}
 use Rattle.s10_wire.specs.WireFault.{byte, number, first_refusal, done_fields}
-use Rattle.s10_wire.proofs.Done.{behind_byte}
+use Rattle.s10_wire.proofs.Done.{after_byte}
 use Rattle.s10_wire.proofs.reply_decoder.status_at.Goals as goal
 
 -- what is refused of a status and its day
@@ -29,7 +29,7 @@ number_at-day-requires c = c.requires
 pub returns-in-0-clause-read : goal.returns-in-0-clause-read
 returns-in-0-clause-read c =
     let b = c.args.bytes.now in
-    (tt, behind_byte b _ 26 0 (omega arith) c.in-0.is (c.number_at-day.ensures.read ∙ ap (λ (n : ℕ). u32_bytes n ++ drop 31 b) c.if-day-eq0.true))
+    (tt, after_byte b _ 26 0 (omega arith) c.in-0.is (c.number_at-day.ensures.read ∙ ap (λ (n : ℕ). u32_bytes n ++ drop 31 b) c.if-day-eq0.true))
 
 pub returns-in-0-clause-refused : goal.returns-in-0-clause-refused
 returns-in-0-clause-refused c = stands_refused c.args.bytes.now 0 0 c.in-0.is (sym c.if-day-eq0.true ∙ c.number_at-day.ensures.value)
@@ -37,19 +37,19 @@ returns-in-0-clause-refused c = stands_refused c.args.bytes.now 0 0 c.in-0.is (s
 pub returns-in-1-clause-read : goal.returns-in-1-clause-read
 returns-in-1-clause-read c =
     let b = c.args.bytes.now in
-    (tt, behind_byte b _ 26 1 (omega arith) c.in-1.is (c.number_at-day.ensures.read ∙ ap (λ (n : ℕ). u32_bytes n ++ drop 31 b) c.if-day-eq0-2.true))
+    (tt, after_byte b _ 26 1 (omega arith) c.in-1.is (c.number_at-day.ensures.read ∙ ap (λ (n : ℕ). u32_bytes n ++ drop 31 b) c.if-day-eq0-2.true))
 
 pub returns-in-1-clause-refused : goal.returns-in-1-clause-refused
 returns-in-1-clause-refused c = stands_refused c.args.bytes.now 1 0 c.in-1.is (sym c.if-day-eq0-2.true ∙ c.number_at-day.ensures.value)
 
 pub returns-in-2-clause-read : goal.returns-in-2-clause-read
-returns-in-2-clause-read c = (c.number_at-day.type_inv, behind_byte c.args.bytes.now _ 26 2 (omega arith) c.in-2.is c.number_at-day.ensures.read)
+returns-in-2-clause-read c = (c.number_at-day.type_inv, after_byte c.args.bytes.now _ 26 2 (omega arith) c.in-2.is c.number_at-day.ensures.read)
 
 pub returns-in-2-clause-refused : goal.returns-in-2-clause-refused
 returns-in-2-clause-refused c = stands_refused c.args.bytes.now 2 c.number_at-day.result c.in-2.is c.number_at-day.ensures.value
 
 pub returns-in-3-clause-read : goal.returns-in-3-clause-read
-returns-in-3-clause-read c = (c.number_at-day.type_inv, behind_byte c.args.bytes.now _ 26 3 (omega arith) c.in-3.is c.number_at-day.ensures.read)
+returns-in-3-clause-read c = (c.number_at-day.type_inv, after_byte c.args.bytes.now _ 26 3 (omega arith) c.in-3.is c.number_at-day.ensures.read)
 
 pub returns-in-3-clause-refused : goal.returns-in-3-clause-refused
 returns-in-3-clause-refused c = stands_refused c.args.bytes.now 3 c.number_at-day.result c.in-3.is c.number_at-day.ensures.value

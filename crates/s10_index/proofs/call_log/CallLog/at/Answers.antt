@@ -23,10 +23,10 @@ pub returns : goal.returns
 returns c =
     let inside = c.self.inside in
     let row = c.index.result.now in
-    let told = entry_of inside.sheets.items in
+    let restored = entry_of inside.sheets.items in
     let within : c.args.place < length inside.rows.items =
-    omega (arith, c.requires, ap (λ (calls : CallList). length calls.items) c.self.view_is, length-map inside.rows.items told) in
+    omega (arith, c.requires, ap (λ (calls : CallList). length calls.items) c.self.view_is, length-map inside.rows.items restored) in
     ap (λ (calls : CallList). slice_get calls.items c.args.place) (sym c.self.view_is)
-    ∙ slice_get-map told inside.rows.items c.args.place
-    ∙ ap (option_map told) (slice_get_read inside.rows.items (length inside.rows.items) c.args.place row refl within c.index.ensures)
+    ∙ slice_get-map restored inside.rows.items c.args.place
+    ∙ ap (option_map restored) (slice_get_read inside.rows.items (length inside.rows.items) c.args.place row refl within c.index.ensures)
     ∙ ap Some (ap (λ (sheets : List (List Id)). entry_of sheets row) (sym c.deref.ensures.value) ∙ sym c.expand.ensures)

@@ -19,5 +19,5 @@ returns c =
     let e = c.args.entry in
     let was = c.self.inside in
     calls-push was.sheets.items (sheet_of e.outcome) c.of-row.new.sheets.items was.rows.items c.push_item.new.list.items c.of-row.result e
-    c.of-row.ensures.sheets c.push_item.ensures c.self.invariant.0 c.of-row.ensures.told
+    c.of-row.ensures.sheets c.push_item.ensures c.self.invariant.0 c.of-row.ensures.restored
     ∙ ap (λ (calls : CallList). calls.items ++ e ∷ []) c.self.view_is

@@ -4,7 +4,7 @@ use Rattle.s10_rows.specs.declared.serial_row.SerialRow.{SerialRow}
 use Rattle.s10_rows.specs.Tables.{serial_rows}
 use Rattle.s10_history.specs.Settings.{Terms}
 use Rattle.s10_index.specs.RowsFrom.{serial_rows_from}
-use Rattle.s10_index.proofs.LastRows.{none_behind, whole}
+use Rattle.s10_index.proofs.LastRows.{none_after, whole}
 use Rattle.s10_index.proofs.indexed_book.IndexedBook.serial_rows.Goals as goal
 
 pub loop-place-init : goal.loop-place-init
@@ -23,4 +23,4 @@ pub returns : goal.returns
 returns c =
     let h = c.args.self.now.index.entries.items in
     let past : length h ≤ c.loop-place.place = omega (arith, c.loop-place-test.false, c.len-len.ensures.answer tt) in
-    whole c.loop-place.rows.items (serial_rows_from h c.loop-place.place) (serial_rows h) (none_behind h c.loop-place.place past) c.loop-place.invariant
+    whole c.loop-place.rows.items (serial_rows_from h c.loop-place.place) (serial_rows h) (none_after h c.loop-place.place past) c.loop-place.invariant

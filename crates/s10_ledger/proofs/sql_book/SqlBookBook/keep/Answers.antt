@@ -17,11 +17,11 @@ follows_still : {S : Type 0} (g : Ghosts S) (old mid : Ledger S) (e : Entry) →
 follows_still g old mid e unchanged may honest = rw (unchanged.same_history honest, unchanged.same_terms honest) (may (unchanged.was_honest honest))
 
 module _ {S : Type 0} (g : Ghosts S) (old mid new : Ledger S) (e : Entry) (same : new.conn ≡ mid.conn) where
-  held_behind : {T E : Type 0} (r : Result T E) → OnOk r (new.pending ≡ mid.pending ++ e ∷ []) → history_of g mid ≡ history_of g old → OnOk r (history_of g new ≡ history_of g old ++ e ∷ [])
-  held_behind (Ok x) held kept =
+  held_after : {T E : Type 0} (r : Result T E) → OnOk r (new.pending ≡ mid.pending ++ e ∷ []) → history_of g mid ≡ history_of g old → OnOk r (history_of g new ≡ history_of g old ++ e ∷ [])
+  held_after (Ok x) held kept =
       ap (λ (c : Held S). history_in (state g c).now ++ new.pending) same ∙ ap (λ (p : List Entry). history_in (state g mid.conn).now ++ p) held
       ∙ sym (append_assoc (history_in (state g mid.conn).now) mid.pending (e ∷ [])) ∙ ap (λ (h : List Entry). h ++ e ∷ []) kept
-  held_behind (Err x) held kept = tt
+  held_after (Err x) held kept = tt
 
   not_held : {T E : Type 0} (r : Result T E) → OnErr r (new.pending ≡ mid.pending) → history_of g mid ≡ history_of g old → OnErr r (history_of g new ≡ history_of g old)
   not_held (Ok x) left kept = tt
@@ -79,7 +79,7 @@ returns-clause-crash g c = rw c.append_call.ensures.same_conn c.in_default.ensur
 
 pub returns-clause-ok : goal.returns-clause-ok
 returns-clause-ok g c = λ honest.
-    held_behind g.S.Store c.args.self.now c.make_room.new.self c.append_call.new.self c.args.entry c.append_call.ensures.same_conn c.append_call.result c.append_call.ensures.ok (c.in_default.ensures.unchanged.same_history (c.append_call.ensures.was_honest honest))
+    held_after g.S.Store c.args.self.now c.make_room.new.self c.append_call.new.self c.args.entry c.append_call.ensures.same_conn c.append_call.result c.append_call.ensures.ok (c.in_default.ensures.unchanged.same_history (c.append_call.ensures.was_honest honest))
 
 pub returns-clause-err : goal.returns-clause-err
 returns-clause-err g c = λ honest.

@@ -19,9 +19,9 @@ given_err (Err x) P p = p
 no_calls : (ws : List CallWrite) (n : ℕ) → (n == 0) ≡ true → length ws ≡ n → calls_of ws ≡ []
 no_calls ws n empty is = ap calls_of (nil_from_length ws (is ∙ eqb-true n 0 empty))
 
-all_are_settled : {S : Type 0} (g : Ghosts S) (book : Ledger S) {T E : Type 0} (r : Result T E) → OnOk r (book.pending ≡ []) → OnOk r (committed_of g book ≡ history_of g book)
-all_are_settled g book (Ok x) none = rw none (sym (append-nil (committed_of g book)))
-all_are_settled g book (Err x) none = tt
+all_are_committed : {S : Type 0} (g : Ghosts S) (book : Ledger S) {T E : Type 0} (r : Result T E) → OnOk r (book.pending ≡ []) → OnOk r (committed_of g book ≡ history_of g book)
+all_are_committed g book (Ok x) none = rw none (sym (append-nil (committed_of g book)))
+all_are_committed g book (Err x) none = tt
 
 pub returns-then-is_empty-clause-faults : goal.returns-then-is_empty-clause-faults
 returns-then-is_empty-clause-faults g c = c.ask_again.ensures.faults
@@ -66,4 +66,4 @@ pub returns-then-is_empty-clause-crash : goal.returns-then-is_empty-clause-crash
 returns-then-is_empty-clause-crash g c = λ honest clean db left. inl (c.ask_again.ensures.spares honest clean db left)
 
 pub returns-clause-done : goal.returns-clause-done
-returns-clause-done g c = λ honest. all_are_settled g.S.Store c.commit_pending.new.self c.commit_pending.result c.commit_pending.ensures.none_pending
+returns-clause-done g c = λ honest. all_are_committed g.S.Store c.commit_pending.new.self c.commit_pending.result c.commit_pending.ensures.none_pending
