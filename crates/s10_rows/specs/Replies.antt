@@ -43,7 +43,7 @@ request_in b = record { customer = number b 4; number = number b 8; body = body_
 abbrev pub status_in : ℕ → ℕ → Status
 status_in code day =
     if code == 0 then statuses.Unknown else if code == 1 then statuses.Never
-    else if code == 2 then statuses.PriorIssue day else statuses.Voided day
+    else if code == 2 then statuses.Issued day else statuses.Voided day
 
 abbrev pub done_in : Kind → List ℕ → Outcome
 done_in kinds.Grant rest = Granted (number rest 1)
