@@ -10,6 +10,7 @@ no_more None = refl
 no_more (Some held) = ap (λ (bytes : List ℕ). Some bytes) (append-nil held)
 
 -- what it was given is there, and nothing waits
-pub new_writer : {T A : Type 0} (contents : T → Option (List ℕ)) (writer : BufWriter T A) (inner : T) → writer_inner writer ≡ inner → writer_buffer writer ≡ []
+pub new_writer : {T A : Type 0} (contents : T → Option (List ℕ)) (writer : BufWriter T A)
+    (inner : T) → writer_inner writer ≡ inner → writer_buffer writer ≡ []
     → writer_contents contents writer ≡ contents inner
 new_writer contents writer inner is empty = rw (empty, is) (no_more (contents inner))

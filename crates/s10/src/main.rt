@@ -50,9 +50,11 @@ fn run_words<S: Start, W: AsStr, O: Write + Drop>(
     start: S,
     output: O,
 ) -> io::Result<(u8, O, JobResources<S>)>
-    ensures { IfOk result (λ ended. (job : Job) × (done : Result JobStatus WriteFault) × (printed : Option (List ℕ))
+    ensures { IfOk result (λ ended. (job : Job) × (done : Result JobStatus WriteFault)
+        × (printed : Option (List ℕ))
         × AsksInWords (map W.text words.now) job
-        × HasEnded S.row S.Start job (O.contents output) printed done ended.2.files ended.2.link ended.2.looped
+        × HasEnded S.row S.Start job (O.contents output) printed done ended.2.files ended.2.link
+        ended.2.looped
         × Keeps printed (O.contents ended.1) × (ended.0 ≡ exit_status done)) }
 {
     let Ok(Some(job)) = parse_job(rt.alloc(), words) else {

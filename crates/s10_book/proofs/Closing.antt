@@ -1,10 +1,12 @@
 -- Which calls leave the open ranges as they are.
-use Rattle.std.proofs.Common.{◌≡◌, ℕ, ◌+◌, Bool, true, false, not, ◌&&◌, ◌||◌, List, [], ◌∷◌, ◌++◌, length, refl, ap, ◌∙◌, append-nil}
+use Rattle.std.proofs.Common.{◌≡◌, ℕ, ◌+◌, Bool, true, false, not, ◌&&◌, ◌||◌, List, [], ◌∷◌, ◌++◌}
+use Rattle.std.proofs.Common.{length, refl, ap, ◌∙◌, append-nil}
 use Rattle.std.specs.Prelude.{filter, option_to_list}
 use Rattle.std.proofs.lemmas.List.Folds.{list_any-append}
 use Rattle.s10_core.specs.declared.id.Id.{Id}
 use Rattle.s10_history.specs.declared.entry.Entry.{Entry}
-use Rattle.s10_history.specs.History.{ranges_of, range_of_grant, withdraws, is_closed, is_held, is_open, ranges_open}
+use Rattle.s10_history.specs.History.{ranges_of, range_of_grant, withdraws, is_closed, is_held}
+use Rattle.s10_history.specs.History.{is_open, ranges_open}
 use Rattle.s10_book.specs.Rules.{draw_done}
 use Rattle.s10_book.specs.Promises.{without_number}
 use Rattle.s10_history.proofs.Push.{ranges_from-push}
@@ -14,23 +16,33 @@ or_false true = refl
 or_false false = refl
 
 -- a call that withdraws no range closes none
-pub closed_push : (h : List Entry) (e : Entry) (num : ℕ) → withdraws num e.request.body e.outcome ≡ false → is_closed (h ++ e ∷ []) num ≡ is_closed h num
+pub closed_push : (h : List Entry) (e : Entry) (num : ℕ) → withdraws num e.request.body e.outcome
+    ≡ false → is_closed (h ++ e ∷ []) num ≡ is_closed h num
 closed_push h e num none =
     list_any-append (λ (f : Entry). withdraws num f.request.body f.outcome) h (e ∷ [])
     ∙ ap (λ (b : Bool). is_closed h num || (b || false)) none ∙ or_false (is_closed h num)
 
-pub filter_same : {A : Type 0} (p q : A → Bool) (xs : List A) → ((x : A) → p x ≡ q x) → filter p xs ≡ filter q xs
+pub filter_same : {A : Type 0} (p q : A → Bool) (xs : List A) → ((x : A) → p x ≡ q x)
+    → filter p xs ≡ filter q xs
 filter_same p q [] same = refl
 filter_same p q (x ∷ xs) same = rw (same x, filter_same p q xs same) refl
 
 -- a Done Draw makes no range
-pub draw_ranges : (g : List Entry) (e : Entry) (customer : ℕ) (s c : ℕ × ℕ) (day : ℕ) (x : Id) → without_number e ≡ draw_done customer s c day x → ranges_of (g ++ e ∷ []) ≡ ranges_of g
+pub draw_ranges : (g : List Entry) (e : Entry) (customer : ℕ) (s c : ℕ × ℕ) (day : ℕ) (x : Id)
+    → without_number e ≡ draw_done customer s c day x → ranges_of (g ++ e ∷ []) ≡ ranges_of g
 draw_ranges g e customer s c day x is =
-    ranges_from-push 1 g e ∙ ap (λ (f : Entry). ranges_of g ++ option_to_list (range_of_grant (1 + length (ranges_of g)) f.request.body f.outcome)) is ∙ append-nil (ranges_of g)
+    ranges_from-push 1 g e
+    ∙ ap (λ (f : Entry). ranges_of g ++ option_to_list
+    (range_of_grant (1 + length (ranges_of g)) f.request.body f.outcome)) is
+    ∙ append-nil (ranges_of g)
 
 -- and closes none
-pub draw_open : (g : List Entry) (e : Entry) (customer : ℕ) (s c : ℕ × ℕ) (day : ℕ) (x : Id) → without_number e ≡ draw_done customer s c day x → ranges_open (g ++ e ∷ []) customer s c ≡ ranges_open g customer s c
+pub draw_open : (g : List Entry) (e : Entry) (customer : ℕ) (s c : ℕ × ℕ) (day : ℕ) (x : Id)
+    → without_number e ≡ draw_done customer s c day x → ranges_open (g ++ e ∷ []) customer s c
+    ≡ ranges_open g customer s c
 draw_open g e customer s c day x is =
-    filter_same (is_open (g ++ e ∷ []) customer s c) (is_open g customer s c) (ranges_of (g ++ e ∷ []))
-    (λ r. ap (λ (b : Bool). is_held customer s c r && not b) (closed_push g e r.num (ap (λ (f : Entry). withdraws r.num f.request.body f.outcome) is)))
+    filter_same (is_open (g ++ e ∷ []) customer s c) (is_open g customer s c)
+    (ranges_of (g ++ e ∷ []))
+    (λ r. ap (λ (b : Bool). is_held customer s c r && not b)
+    (closed_push g e r.num (ap (λ (f : Entry). withdraws r.num f.request.body f.outcome) is)))
     ∙ ap (filter (is_open g customer s c)) (draw_ranges g e customer s c day x is)

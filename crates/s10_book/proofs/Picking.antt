@@ -13,7 +13,8 @@ abbrev pub then_found : Option Range → (Range → Option (List Id)) → Option
 then_found None next = None
 then_found (Some r) next = next r
 
-pub then_same : (o : Option Range) (f g : Range → Option (List Id)) → ((r : Range) → o ≡ Some r → f r ≡ g r) → then_found o f ≡ then_found o g
+pub then_same : (o : Option Range) (f g : Range → Option (List Id))
+    → ((r : Range) → o ≡ Some r → f r ≡ g r) → then_found o f ≡ then_found o g
 then_same None f g same = refl
 then_same (Some r) f g same = same r refl
 
@@ -21,4 +22,6 @@ then_same (Some r) f g same = same r refl
 abbrev pub picks : (Id → Issuance) → ℕ → ℕ → List Range → List Issuance → ℕ → Option (List Id)
 picks made day n rs is zero = Some []
 picks made day n rs is (suc k) =
-    then_found (find (has_free_pick is day n) rs) (λ r. option_map (λ xs. id_at r (pick_of is r) ∷ xs) (picks made day n rs (is ++ made (id_at r (pick_of is r)) ∷ []) k))
+    then_found (find (has_free_pick is day n) rs)
+    (λ r. option_map (λ xs. id_at r (pick_of is r) ∷ xs)
+    (picks made day n rs (is ++ made (id_at r (pick_of is r)) ∷ []) k))

@@ -1,5 +1,7 @@
 -- One more call at the end of a legal history.
-use Rattle.std.proofs.Common.{◌≡◌, ℕ, zero, suc, ◌≤◌, Bool, true, false, cond, eqb, List, [], ◌∷◌, ◌++◌, Some, None, refl, sym, ap, ◌⊎◌, inl, inr, arith, get_or, take, length-append}
+use Rattle.std.proofs.Common.{◌≡◌, ℕ, zero, suc, ◌≤◌, Bool, true, false, cond, eqb, List, [], ◌∷◌}
+use Rattle.std.proofs.Common.{◌++◌, Some, None, refl, sym, ap, ◌⊎◌, inl, inr, arith, get_or, take}
+use Rattle.std.proofs.Common.{length-append}
 use Rattle.std.specs.Prelude.{find, fold, All, AllPairs, IsTrue, slice_get}
 use Rattle.std.proofs.lemmas.Bool.{both_ways, eqb-true, and_parts, eq-eqb, and_from}
 use Rattle.std.proofs.lemmas.Option.{none-some, same_Some}
@@ -11,16 +13,25 @@ use Rattle.s10_history.specs.History.{has_key, day_of}
 use Rattle.s10_book.specs.Rules.{IsLegal, MayFollow}
 
 -- the day of each call is at most that of the last
-days_below : (a : ℕ) (xs : List Entry) → AllPairs (λ d e. d.day ≤ e.day) xs → All (λ e. a ≤ e.day) xs → (a ≤ fold (λ d e. e.day) a xs) × All (λ e. e.day ≤ fold (λ d e. e.day) a xs) xs
+days_below : (a : ℕ) (xs : List Entry) → AllPairs (λ d e. d.day ≤ e.day) xs
+    → All (λ e. a ≤ e.day) xs → (a ≤ fold (λ d e. e.day) a xs)
+    × All (λ e. e.day ≤ fold (λ d e. e.day) a xs) xs
 days_below a [] pairs from = (omega arith, All-nil (λ e. e.day ≤ a))
 days_below a (x ∷ xs) pairs from =
-    let tail : AllPairs (λ d e. d.day ≤ e.day) xs = λ i j d lt in'. pairs (suc i) (suc j) d (omega arith) (omega arith) in
-    let first : All (λ e. x.day ≤ e.day) xs = λ k d lt. pairs 0 (suc k) d (omega arith) (omega arith) in
+    let tail : AllPairs (λ d e. d.day ≤ e.day) xs = λ i j d lt in'. pairs (suc i) (suc j) d
+    (omega arith) (omega arith) in
+    let first : All (λ e. x.day ≤ e.day) xs = λ k d lt. pairs 0 (suc k) d (omega arith)
+    (omega arith) in
     let below = days_below x.day xs tail first in
-    let up : a ≤ x.day = from 0 x (omega arith) in
-    (omega (arith, below.0), All-cons (λ e. e.day ≤ fold (λ d e. e.day) x.day xs) x xs below.0 below.1)
+    let up : a ≤ x.day = from 0 x (omega arith) in (
+      omega (arith, below.0),
+      All-cons (λ e. e.day ≤ fold (λ d e. e.day) x.day xs) x xs below.0
+          below.1,
+    )
 
-none_at : (p : Entry → Bool) (x : Entry) (xs : List Entry) (b : Bool) → p x ≡ b → cond b (Some x) (find p xs) ≡ None → (find p xs ≡ None → All (λ e. p e ≡ false) xs) → All (λ e. p e ≡ false) (x ∷ xs)
+none_at : (p : Entry → Bool) (x : Entry) (xs : List Entry) (b : Bool) → p x ≡ b
+    → cond b (Some x) (find p xs) ≡ None → (find p xs ≡ None → All (λ e. p e ≡ false) xs)
+    → All (λ e. p e ≡ false) (x ∷ xs)
 none_at p x xs true e none rest = absurd (none-some x (sym none))
 none_at p x xs false e none rest = All-cons (λ y. p y ≡ false) x xs e (rest none)
 
@@ -30,17 +41,22 @@ none_kept p [] none = All-nil (λ e. p e ≡ false)
 none_kept p (x ∷ xs) none = none_at p x xs (p x) refl none (none_kept p xs)
 
 -- whether two calls have one key is the same in both orders
-keys_turned : (d e : Entry) → has_key e.request.customer e.request.number d ≡ false → ¬ (IsTrue (has_key d.request.customer d.request.number e))
+keys_turned : (d e : Entry) → has_key e.request.customer e.request.number d ≡ false
+    → ¬ (IsTrue (has_key d.request.customer d.request.number e))
 keys_turned d e other same =
-    let both = and_parts (eqb e.request.customer d.request.customer) (eqb e.request.number d.request.number) same in
+    let both = and_parts (eqb e.request.customer d.request.customer)
+    (eqb e.request.number d.request.number) same in
     both_ways (has_key e.request.customer e.request.number d) other
     (and_from (eqb d.request.customer e.request.customer) (eqb d.request.number e.request.number)
-    (eq-eqb d.request.customer e.request.customer (sym (eqb-true e.request.customer d.request.customer both.0)))
-    (eq-eqb d.request.number e.request.number (sym (eqb-true e.request.number d.request.number both.1))))
+    (eq-eqb d.request.customer e.request.customer
+    (sym (eqb-true e.request.customer d.request.customer both.0)))
+    (eq-eqb d.request.number e.request.number
+    (sym (eqb-true e.request.number d.request.number both.1))))
 
 -- the call at a place is one of those before the last, or the last
 place_cases : (h : List Entry) (e : Entry) (k : ℕ) (x : Entry) → slice_get (h ++ e ∷ []) k ≡ Some x
-    → ((slice_get h k ≡ Some x) × (take k (h ++ e ∷ []) ≡ take k h)) ⊎ ((x ≡ e) × (take k (h ++ e ∷ []) ≡ h))
+    → ((slice_get h k ≡ Some x) × (take k (h ++ e ∷ []) ≡ take k h))
+    ⊎ ((x ≡ e) × (take k (h ++ e ∷ []) ≡ h))
 place_cases [] e zero x is = inr (sym (same_Some e x is), refl)
 place_cases [] e (suc k) x is = absurd (none-some x is)
 place_cases (y ∷ ys) e zero x is = inl (is, refl)
@@ -51,12 +67,17 @@ place_cases (y ∷ ys) e (suc k) x is =
     ]
 
 -- a history stays legal under a call that may follow it
-pub IsLegal-push : (h : List Entry) (t : Terms) (e : Entry) → IsLegal h t → MayFollow h t e → IsLegal (h ++ e ∷ []) t
+pub IsLegal-push : (h : List Entry) (t : Terms) (e : Entry) → IsLegal h t → MayFollow h t e
+    → IsLegal (h ++ e ∷ []) t
 IsLegal-push h t e legal may = record {
-  distinct = all_pairs_push (λ d f. ¬ (IsTrue (has_key d.request.customer d.request.number f))) h e legal.distinct
-      (λ k d lt. keys_turned (get_or h k d) e (none_kept (has_key e.request.customer e.request.number) h may.new_key k d lt));
+  distinct = all_pairs_push (λ d f. ¬ (IsTrue (has_key d.request.customer d.request.number f))) h e
+      legal.distinct
+      (λ k d lt. keys_turned (get_or h k d) e
+      (none_kept (has_key e.request.customer e.request.number) h may.new_key k d lt));
   in_order = all_pairs_push (λ d f. d.day ≤ f.day) h e legal.in_order
-      (λ k d lt. let below : (get_or h k d).day ≤ day_of h = (days_below 0 h legal.in_order (λ i f lt'. omega arith)).1 k d lt in omega (arith, may.in_order));
+      (λ k d lt. let below : (get_or h k d).day
+      ≤ day_of h = (days_below 0 h legal.in_order (λ i f lt'. omega arith)).1 k d lt in
+      omega (arith, may.in_order));
   few = omega (arith, may.room, length-append h (e ∷ []));
   right = λ k x is. elim (place_cases h e k x is) [
     | inl w ↦ rw w.1 (legal.right k x w.0)

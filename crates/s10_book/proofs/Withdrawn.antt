@@ -1,5 +1,7 @@
 -- What a withdrawn range gives, and what its withdrawal leaves as it was.
-use Rattle.std.proofs.Common.{◌≡◌, ℕ, zero, suc, ◌+◌, Bool, true, false, not, ◌||◌, cond, eqb, ltb, List, [], ◌∷◌, ◌++◌, map, length, Option, Some, None, refl, sym, ap, ap₂, ◌∙◌, arith, subst, append-nil}
+use Rattle.std.proofs.Common.{◌≡◌, ℕ, zero, suc, ◌+◌, Bool, true, false, not, ◌||◌, cond, eqb, ltb}
+use Rattle.std.proofs.Common.{List, [], ◌∷◌, ◌++◌, map, length, Option, Some, None, refl, sym, ap}
+use Rattle.std.proofs.Common.{ap₂, ◌∙◌, arith, subst, append-nil}
 use Rattle.std.specs.Prelude.{find, All, Contains, IsTrue, option_to_list}
 use Rattle.std.specs.List.{list_any}
 use Rattle.std.specs.Option.{option_map, unwrap_or}
@@ -12,15 +14,20 @@ use Rattle.s10_wire.specs.declared.body.Body.{Body}
 use Rattle.s10_wire.specs.declared.body.Body.TheVariants.{Withdraw}
 use Rattle.s10_wire.specs.declared.status.Status.TheVariants.{Unknown}
 use Rattle.s10_wire.specs.declared.outcome.Outcome.{Outcome}
-use Rattle.s10_wire.specs.declared.outcome.Outcome.TheVariants.{Granted, Told, Withdrawn, NotThePost, BadGrant, Overlap, NotYours}
+use Rattle.s10_wire.specs.declared.outcome.Outcome.TheVariants.{Granted, Told, Withdrawn}
+use Rattle.s10_wire.specs.declared.outcome.Outcome.TheVariants.{NotThePost, BadGrant, Overlap}
+use Rattle.s10_wire.specs.declared.outcome.Outcome.TheVariants.{NotYours}
 use Rattle.s10_history.specs.declared.entry.Entry.{Entry}
 use Rattle.s10_history.specs.declared.issue.Issue.{Issue}
 use Rattle.s10_history.specs.declared.range.Range.{Range}
 use Rattle.s10_history.specs.declared.issuance.Issuance.{Issuance}
 use Rattle.s10_history.specs.Settings.{Terms}
-use Rattle.s10_history.specs.History.{ranges_of, range_of_grant, lies_in, is_own, overlaps, withdraws, is_closed, is_held, is_open, ranges_open}
-use Rattle.s10_history.specs.Issues.{issues_of, carried_by, last_issuance_of, last_issue_of, voids, voids_by, voided_after, id_at, pick_of}
-use Rattle.s10_book.specs.Rules.{IsLegal, MayFollow, body_answer, has_free_pick, grant_answer, void_answer, void_issue, query_answer, status_of_issue}
+use Rattle.s10_history.specs.History.{ranges_of, range_of_grant, lies_in, is_own, overlaps}
+use Rattle.s10_history.specs.History.{withdraws, is_closed, is_held, is_open, ranges_open}
+use Rattle.s10_history.specs.Issues.{issues_of, carried_by, last_issuance_of, last_issue_of, voids}
+use Rattle.s10_history.specs.Issues.{voids_by, voided_after, id_at, pick_of}
+use Rattle.s10_book.specs.Rules.{IsLegal, MayFollow, body_answer, has_free_pick, grant_answer}
+use Rattle.s10_book.specs.Rules.{void_answer, void_issue, query_answer, status_of_issue}
 use Rattle.s10_history.proofs.Numbering.{Contains-find}
 use Rattle.s10_history.proofs.Push.{ranges_from-push, issues_from-push}
 use Rattle.s10_book.proofs.Apart.{apart}
@@ -29,12 +36,15 @@ use Rattle.s10_book.proofs.Own.{lies_picked}
 use Rattle.s10_book.proofs.Marks.{one_range}
 
 -- a range that is closed stays closed
-pub stays_closed : (h : List Entry) (e : Entry) (num : ℕ) → IsTrue (is_closed h num) → IsTrue (is_closed (h ++ e ∷ []) num)
+pub stays_closed : (h : List Entry) (e : Entry) (num : ℕ) → IsTrue (is_closed h num)
+    → IsTrue (is_closed (h ++ e ∷ []) num)
 stays_closed h e num closed =
-    let does : Entry → Bool = λ f. withdraws num f.request.body f.outcome in list_any-append does h (e ∷ []) ∙ or_left (is_closed h num) (list_any does (e ∷ [])) closed
+    let does : Entry → Bool = λ f. withdraws num f.request.body f.outcome in
+    list_any-append does h (e ∷ []) ∙ or_left (is_closed h num) (list_any does (e ∷ [])) closed
 
 -- an identifier that is picked from a range that is not closed
-record IsPickedOpen (g : List Entry) (customer day n : ℕ) (is : List Issuance) (c : ℕ × Id) : Type 0 where
+record IsPickedOpen (g : List Entry) (customer day n : ℕ) (is : List Issuance) (c : ℕ × Id) :
+    Type 0 where
   pub picked : IsPicked (ranges_of g) customer day n is c
   pub not_closed : is_closed g picked.range.num ≡ false
 
@@ -42,84 +52,134 @@ unset : (b : Bool) → not b ≡ true → b ≡ false
 unset true e = sym e
 unset false e = refl
 
-open_picked : (g : List Entry) (customer day n : ℕ) (s c : ℕ × ℕ) (js : List Issuance) (r : Range) → find (has_free_pick js day n) (ranges_open g customer s c) ≡ Some r
+open_picked : (g : List Entry) (customer day n : ℕ) (s c : ℕ × ℕ) (js : List Issuance) (r : Range)
+    → find (has_free_pick js day n) (ranges_open g customer s c) ≡ Some r
     → IsPickedOpen g customer day n js (day, id_at r (pick_of js r))
 unfolding picked_from
 open_picked g customer day n s c js r found =
-    let at : Contains (ranges_open g customer s c) r = Contains-find (has_free_pick js day n) (ranges_open g customer s c) r found in
-    let passes : is_open g customer s c r ≡ true = All-contains (λ y. is_open g customer s c y ≡ true) (ranges_open g customer s c) r (filter_passes (is_open g customer s c) (ranges_of g)) at in
+    let at : Contains (ranges_open g customer s c) r = Contains-find (has_free_pick js day n)
+    (ranges_open g customer s c) r found in
+    let passes : is_open g customer s c r ≡ true =
+    All-contains (λ y. is_open g customer s c y ≡ true) (ranges_open g customer s c) r
+    (filter_passes (is_open g customer s c) (ranges_of g)) at in
     record {
       picked = picked_from g (ranges_of g) customer day n s c js r found;
-      not_closed = unset (is_closed g r.num) (and_parts (is_held customer s c r) (not (is_closed g r.num)) passes).1;
+      not_closed =
+          unset (is_closed g r.num) (and_parts (is_held customer s c r) (not (is_closed g r.num))
+          passes).1;
     }
 
-all_in_turn : (P : List Issuance → ℕ × Id → Type 0) (Q : ℕ × Id → Type 0) (made : ℕ × Id → Issuance) → ((is : List Issuance) (c : ℕ × Id) → P is c → Q c)
+all_in_turn : (P : List Issuance → ℕ × Id → Type 0) (Q : ℕ × Id → Type 0) (made : ℕ × Id → Issuance)
+    → ((is : List Issuance) (c : ℕ × Id) → P is c → Q c)
     → (is : List Issuance) (cs : List (ℕ × Id)) → InTurn P made is cs → All Q cs
 all_in_turn P Q made weaker is [] turn = All-nil Q
-all_in_turn P Q made weaker is (c ∷ cs) turn = All-cons Q c cs (weaker is c turn.0) (all_in_turn P Q made weaker (is ++ made c ∷ []) cs turn.1)
+all_in_turn P Q made weaker is (c ∷ cs) turn = All-cons Q c cs (weaker is c turn.0)
+    (all_in_turn P Q made weaker (is ++ made c ∷ []) cs turn.1)
 
 -- after its withdrawal no identifier of a range is issued
-pub none_withdrawn : (h : List Entry) (t : Terms) (e : Entry) → IsLegal h t → MayFollow h t e → (r : Range) → Contains (ranges_of h) r → IsTrue (is_closed h r.num) → All (λ c. ¬ (IsTrue (lies_in r c.1))) (carried_by e.outcome)
+pub none_withdrawn : (h : List Entry) (t : Terms) (e : Entry) → IsLegal h t → MayFollow h t e
+    → (r : Range) → Contains (ranges_of h) r → IsTrue (is_closed h r.num)
+    → All (λ c. ¬ (IsTrue (lies_in r c.1))) (carried_by e.outcome)
 none_withdrawn h t e legal may r there closed =
     let P : List Issuance → ℕ × Id → Type 0 = IsPickedOpen h e.request.customer e.day t.interval in
-    let T : Outcome → Type 0 = λ o. All (λ (c : ℕ × Id). ¬ (IsTrue (lies_in r c.1))) (carried_by o) in
+    let T : Outcome → Type 0 = λ o. All (λ (c : ℕ × Id). ¬ (IsTrue (lies_in r c.1)))
+    (carried_by o) in
     subst T (sym may.right)
-    (all_in_turn P (λ c. ¬ (IsTrue (lies_in r c.1))) (made_by e (1 + length h)) (λ is c from lies. both_ways (is_closed h r.num) (other is c from lies) closed) (issues_of h) (carried_by (body_answer h e.request.customer e.request.body e.day t.interval))
-    (carried P h e.request.customer e.day t.interval e.request.body (made_by e (1 + length h)) (λ c. refl) (λ c. refl) (λ s c. open_picked h e.request.customer e.day t.interval s c)))
+    (all_in_turn P (λ c. ¬ (IsTrue (lies_in r c.1))) (made_by e (1 + length h))
+    (λ is c from lies. both_ways (is_closed h r.num) (other is c from lies) closed)
+    (issues_of h)
+    (carried_by (body_answer h e.request.customer e.request.body e.day t.interval))
+    (carried P h e.request.customer e.day t.interval e.request.body (made_by e (1 + length h))
+    (λ c. refl) (λ c. refl) (λ s c. open_picked h e.request.customer e.day t.interval s c)))
   where
-    other : (is : List Issuance) (c : ℕ × Id) → IsPickedOpen h e.request.customer e.day t.interval is c → IsTrue (lies_in r c.1) → is_closed h r.num ≡ false
+    other : (is : List Issuance) (c : ℕ × Id) → IsPickedOpen h e.request.customer e.day t.interval
+        is c → IsTrue (lies_in r c.1) → is_closed h r.num ≡ false
     other is c from lies =
-        let same : from.picked.range ≡ r = one_range (ranges_of h) from.picked.range r c.1 (apart h t legal) from.picked.there there (lies_picked h t e.request.customer e.day t.interval is c legal from.picked) lies in
+        let same : from.picked.range ≡ r = one_range (ranges_of h) from.picked.range r c.1
+        (apart h t legal) from.picked.there there (lies_picked h t e.request.customer e.day
+        t.interval is c legal from.picked) lies in
         ap (λ (s : Range). is_closed h s.num) (sym same) ∙ from.not_closed
 
-same_ranges : (h : List Entry) (e : Entry) (num : ℕ) → e.request.body ≡ Withdraw num → e.outcome ≡ Withdrawn → ranges_of (h ++ e ∷ []) ≡ ranges_of h
+same_ranges : (h : List Entry) (e : Entry) (num : ℕ) → e.request.body ≡ Withdraw num
+    → e.outcome ≡ Withdrawn → ranges_of (h ++ e ∷ []) ≡ ranges_of h
 same_ranges h e num asks done =
-    ranges_from-push 1 h e ∙ ap₂ (λ (b : Body) (o : Outcome). ranges_of h ++ option_to_list (range_of_grant (1 + length (ranges_of h)) b o)) asks done ∙ append-nil (ranges_of h)
+    ranges_from-push 1 h e ∙ ap₂ (λ (b : Body) (o : Outcome). ranges_of h ++ option_to_list
+    (range_of_grant (1 + length (ranges_of h)) b o)) asks done ∙ append-nil (ranges_of h)
 
-same_issues : (h : List Entry) (e : Entry) → e.outcome ≡ Withdrawn → issues_of (h ++ e ∷ []) ≡ issues_of h
+same_issues : (h : List Entry) (e : Entry) → e.outcome ≡ Withdrawn → issues_of (h ++ e ∷ [])
+    ≡ issues_of h
 same_issues h e done =
-    issues_from-push 1 h e ∙ ap (λ (o : Outcome). issues_of h ++ map (made_by e (1 + length h)) (carried_by o)) done ∙ append-nil (issues_of h)
+    issues_from-push 1 h e ∙ ap (λ (o : Outcome). issues_of h ++ map (made_by e (1 + length h))
+    (carried_by o)) done ∙ append-nil (issues_of h)
 
 or_none : (b c : Bool) → c ≡ false → (b || (c || false)) ≡ b
 or_none true c e = refl
 or_none false true e = e
 or_none false false e = refl
 
-same_voided : (arrival : ℕ) (h : List Entry) (e : Entry) (x : Id) → voids x e ≡ false → voided_after arrival (h ++ e ∷ []) x ≡ voided_after arrival h x
-same_voided zero h e x none = list_any-append (voids x) h (e ∷ []) ∙ or_none (list_any (voids x) h) (voids x e) none
+same_voided : (arrival : ℕ) (h : List Entry) (e : Entry) (x : Id) → voids x e ≡ false
+    → voided_after arrival (h ++ e ∷ []) x ≡ voided_after arrival h x
+same_voided zero h e x none = list_any-append (voids x) h (e ∷ []) ∙ or_none (list_any (voids x) h)
+    (voids x e) none
 same_voided (suc n) [] e x none = ap (list_any (voids x)) (drop_all n [] (omega arith))
 same_voided (suc n) (d ∷ h) e x none = same_voided n h e x none
 
 abbrev told : List Entry → Id → Option Issuance → Option Issue
-told h x o = option_map (λ i. record { day = i.day; voided = unwrap_or (option_map (λ j. voided_after j.arrival h x) o) false; customer = i.customer; number = i.number }) o
+told h x o =
+    option_map (λ i. record {
+      day = i.day;
+      voided = unwrap_or (option_map (λ j. voided_after j.arrival h x) o) false;
+      customer =
+          i.customer;
+      number = i.number;
+    }) o
 
-told_same : (h : List Entry) (e : Entry) (x : Id) (o : Option Issuance) → voids x e ≡ false → told (h ++ e ∷ []) x o ≡ told h x o
+told_same : (h : List Entry) (e : Entry) (x : Id) (o : Option Issuance) → voids x e ≡ false
+    → told (h ++ e ∷ []) x o ≡ told h x o
 told_same h e x None none = refl
-told_same h e x (Some i) none = ap (λ (b : Bool). Some (record { day = i.day; voided = b; customer = i.customer; number = i.number })) (same_voided i.arrival h e x none)
+told_same h e x (Some i) none =
+    ap (λ (b : Bool). Some (record {
+      day = i.day;
+      voided = b;
+      customer = i.customer;
+      number = i.number;
+    })) (same_voided i.arrival h e x none)
 
-same_last : (h : List Entry) (e : Entry) (num : ℕ) (x : Id) → e.request.body ≡ Withdraw num → e.outcome ≡ Withdrawn → last_issue_of (h ++ e ∷ []) x ≡ last_issue_of h x
+same_last : (h : List Entry) (e : Entry) (num : ℕ) (x : Id) → e.request.body ≡ Withdraw num
+    → e.outcome ≡ Withdrawn → last_issue_of (h ++ e ∷ []) x ≡ last_issue_of h x
 same_last h e num x asks done =
     ap (λ (is : List Issuance). told (h ++ e ∷ []) x (last_issuance_of is x)) (same_issues h e done)
-    ∙ told_same h e x (last_issuance_of (issues_of h) x) (ap₂ (λ (b : Body) (o : Outcome). voids_by x b o) asks done)
+    ∙ told_same h e x (last_issuance_of (issues_of h) x)
+    (ap₂ (λ (b : Body) (o : Outcome). voids_by x b o) asks done)
 
 -- a withdrawal changes no answer to a Grant
-pub same_grants : (h : List Entry) (e : Entry) (num : ℕ) → e.request.body ≡ Withdraw num → e.outcome ≡ Withdrawn → (customer holder : ℕ) (service country : ℕ × ℕ) (first last : ℕ)
-    → grant_answer (h ++ e ∷ []) customer holder service country first last ≡ grant_answer h customer holder service country first last
+pub same_grants : (h : List Entry) (e : Entry) (num : ℕ) → e.request.body ≡ Withdraw num
+    → e.outcome ≡ Withdrawn → (customer holder : ℕ) (service country : ℕ × ℕ) (first last : ℕ)
+    → grant_answer (h ++ e ∷ []) customer holder service country first last
+    ≡ grant_answer h customer holder service country first last
 same_grants h e num asks done customer holder service country first last =
     ap
     (λ (rs : List Range). cond (not (eqb customer 0)) NotThePost
-    (cond (eqb holder 0 || ltb last first) BadGrant (cond (list_any (overlaps service country first last) rs) Overlap (Granted (length rs + 1)))))
+    (cond (eqb holder 0 || ltb last first) BadGrant
+    (cond (list_any (overlaps service country first last) rs) Overlap
+    (Granted (length rs + 1)))))
     (same_ranges h e num asks done)
 
 -- nor to a Void
-pub same_voids : (h : List Entry) (e : Entry) (num : ℕ) → e.request.body ≡ Withdraw num → e.outcome ≡ Withdrawn → (customer : ℕ) (x : Id) → void_answer (h ++ e ∷ []) customer x ≡ void_answer h customer x
+pub same_voids : (h : List Entry) (e : Entry) (num : ℕ) → e.request.body ≡ Withdraw num
+    → e.outcome ≡ Withdrawn → (customer : ℕ) (x : Id) → void_answer (h ++ e ∷ []) customer x
+    ≡ void_answer h customer x
 same_voids h e num asks done customer x =
-    ap₂ (λ (rs : List Range) (o : Option Issue). cond (list_any (is_own customer x) rs) (void_issue o) NotYours) (same_ranges h e num asks done) (same_last h e num x asks done)
+    ap₂ (λ (rs : List Range) (o : Option Issue). cond (list_any (is_own customer x) rs)
+    (void_issue o) NotYours) (same_ranges h e num asks done) (same_last h e num x asks done)
 
 -- nor to a Query
-pub same_queries : (h : List Entry) (e : Entry) (num : ℕ) → e.request.body ≡ Withdraw num → e.outcome ≡ Withdrawn → (customer : ℕ) (x : Id) → query_answer (h ++ e ∷ []) customer x ≡ query_answer h customer x
+pub same_queries : (h : List Entry) (e : Entry) (num : ℕ) → e.request.body ≡ Withdraw num
+    → e.outcome ≡ Withdrawn → (customer : ℕ) (x : Id) → query_answer (h ++ e ∷ []) customer x
+    ≡ query_answer h customer x
 same_queries h e num asks done customer x =
     ap₂
     (λ (rs : List Range) (o : Option Issue).
-    cond (eqb customer 0 || list_any (is_own customer x) rs) (Told (cond (list_any (λ r. lies_in r x) rs) (status_of_issue o) Unknown)) NotYours)
+    cond (eqb customer 0 || list_any (is_own customer x) rs)
+    (Told (cond (list_any (λ r. lies_in r x) rs) (status_of_issue o) Unknown)) NotYours)
     (same_ranges h e num asks done) (same_last h e num x asks done)

@@ -1,5 +1,6 @@
 -- What a book's calls do to its counts of faults.
-use Rattle.std.specs.Prelude.{◌≡◌, ℕ, ◌+◌, ◌-◌, ◌^◌, ◌≤◌, nat_lt, if◌then◌else◌, Bool, true, false, Result, Ok, Err}
+use Rattle.std.specs.Prelude.{◌≡◌, ℕ, ◌+◌, ◌-◌, ◌^◌, ◌≤◌, nat_lt, if◌then◌else◌, Bool, true, false}
+use Rattle.std.specs.Prelude.{Result, Ok, Err}
 use Rattle.s10_book.specs.declared.book_fault.BookFault.{BookFault}
 use Rattle.s10_book.specs.declared.book_fault.BookFault.TheVariants.{Memory, Store, Full}
 use Rattle.s10_book.specs.declared.faults.Faults.{Faults}
@@ -45,4 +46,5 @@ trip_count false count = count
 trip_count true count = if nat_lt count (2 ^ 64 - 1) then count + 1 else count
 
 abbrev pub with_trip : Bool → Faults → Faults
-with_trip tripped faults = record { memory = faults.memory; store = trip_count tripped faults.store }
+with_trip tripped faults =
+    record { memory = faults.memory; store = trip_count tripped faults.store }

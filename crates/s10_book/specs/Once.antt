@@ -1,5 +1,6 @@
 -- Each distinct request applied once, in order of first arrival.
-use Rattle.std.specs.Prelude.{ℕ, max, ◌==◌, Bool, ◌&&◌, if◌then◌else◌, List, [], ◌∷◌, ◌++◌, map, fold}
+use Rattle.std.specs.Prelude.{ℕ, max, ◌==◌, Bool, ◌&&◌, if◌then◌else◌, List, [], ◌∷◌, ◌++◌, map}
+use Rattle.std.specs.Prelude.{fold}
 use Rattle.std.specs.List.{list_any}
 use Rattle.s10_wire.specs.declared.request.Request.{Request}
 use Rattle.s10_history.specs.declared.entry.Entry.{Entry}
@@ -13,7 +14,8 @@ same_key q r = (r.customer == q.customer) && (r.number == q.number)
 -- the requests, each with its day, whose key is neither among those seen nor in a request before it
 abbrev pub first_arrivals : List Request → List (Request × ℕ) → List (Request × ℕ)
 first_arrivals seen [] = []
-first_arrivals seen (p ∷ ps) = if list_any (same_key p.0) seen then first_arrivals seen ps else p ∷ first_arrivals (seen ++ p.0 ∷ []) ps
+first_arrivals seen (p ∷ ps) = if list_any (same_key p.0) seen then first_arrivals seen ps
+    else p ∷ first_arrivals (seen ++ p.0 ∷ []) ps
 
 -- the call that a new request makes on a day
 abbrev pub entry_for : List Entry → Request → ℕ → ℕ → Entry

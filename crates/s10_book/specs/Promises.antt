@@ -14,11 +14,13 @@ IsSpaced h interval = AllPairs (λ i j. i.id ≡ j.id → i.day + interval ≤ j
 
 -- each issue lies in a range that its customer holds by an earlier call
 abbrev pub IsOwn : List Entry → Type 0
-IsOwn h = All (λ i. IsTrue (list_any (is_own i.customer i.id) (ranges_of (take (i.arrival - 1) h)))) (issues_of h)
+IsOwn h = All (λ i. IsTrue (list_any (is_own i.customer i.id) (ranges_of (take (i.arrival - 1) h))))
+    (issues_of h)
 
 -- no identifier lies in two ranges
 abbrev pub IsApart : List Entry → Type 0
-IsApart h = AllPairs (λ r s. (x : Id) → IsTrue (lies_in r x) → ¬ (IsTrue (lies_in s x))) (ranges_of h)
+IsApart h = AllPairs (λ r s. (x : Id) → IsTrue (lies_in r x) → ¬ (IsTrue (lies_in s x)))
+    (ranges_of h)
 
 -- the request of a call with its day
 abbrev pub request_on_day : Entry → Request × ℕ
@@ -26,7 +28,15 @@ request_on_day e = (e.request, e.day)
 
 -- the call but for its number
 abbrev pub without_number : Entry → Entry
-without_number e = record { request = record { customer = e.request.customer; number = 0; body = e.request.body }; day = e.day; outcome = e.outcome }
+without_number e = record {
+  request = record {
+    customer = e.request.customer;
+    number = 0;
+    body = e.request.body;
+  };
+  day = e.day;
+  outcome = e.outcome;
+}
 
 -- an identifier of the range is of that service and country, and its serial is one of first to last
 pub record IsInCommon (r : Range) (service country : ℕ × ℕ) (first last : ℕ) (x : Id) : Type 0 where

@@ -15,13 +15,16 @@ pub trait Book {
     ghost use Rattle.s10_history.specs.Settings.{Terms};
     ghost use Rattle.s10_history.specs.declared.settings.TheConstants.{MAX_LIMIT};
     ghost use Rattle.s10_wire.specs.Kind.{fits};
-    ghost use Rattle.s10_history.specs.History.{find_entry, entry_at, day_of, ranges_of, is_closed, is_open_after, overlaps};
-    ghost use Rattle.s10_history.specs.Issues.{last_issue_of, candidate_of, candidate_after_of, size_of};
+    ghost use Rattle.s10_history.specs.History.{find_entry, entry_at, day_of, ranges_of, is_closed};
+    ghost use Rattle.s10_history.specs.History.{is_open_after, overlaps};
+    ghost use Rattle.s10_history.specs.Issues.{last_issue_of, candidate_of, candidate_after_of};
+    ghost use Rattle.s10_history.specs.Issues.{size_of};
     ghost use Rattle.s10_history.specs.Usage.{usage_of};
     ghost use Rattle.s10_book.specs.Rules.{MayFollow, IsLegal};
     ghost use Rattle.s10_book.specs.BookFault.{CountsResult};
     ghost use Rattle.s10_book.specs.Book.{Unchanged};
-    ghost use Rattle.std.specs.Prelude.{◌≡◌, ℕ, ◌++◌, ◌∷◌, [], ◌<◌, ◌≤◌, ◌==◌, List, length, find, IfOk, IfSome, IsTrue, OnErr, OnOk, Contains, slice_get};
+    ghost use Rattle.std.specs.Prelude.{◌≡◌, ℕ, ◌++◌, ◌∷◌, [], ◌<◌, ◌≤◌, ◌==◌, List, length, find};
+    ghost use Rattle.std.specs.Prelude.{IfOk, IfSome, IsTrue, OnErr, OnOk, Contains, slice_get};
 
     /// The kept calls.
     ghost history: { Self → List Entry };
@@ -52,10 +55,12 @@ pub trait Book {
     fn find(&mut self, customer: u32, number: u32) -> Result<Option<Entry>, BookFault>
         ensures faults { CountsResult result (faults self.old) (faults self.new) }
         ensures unchanged { Unchanged history terms honest self.old self.new }
-        ensures answer { honest self.new → IfOk result (λ e. e ≡ find_entry (history self.old) customer number) }
+        ensures answer { honest self.new
+            → IfOk result (λ e. e ≡ find_entry (history self.old) customer number) }
 
         // Of an entry that is answered the outcome fits the request, even if the store fails.
-        ensures fits { IfOk result (λ found. IfSome found (λ e. IsTrue (fits e.request.body e.outcome))) };
+        ensures fits { IfOk result
+            (λ found. IfSome found (λ e. IsTrue (fits e.request.body e.outcome))) };
 
     /// Kept call number `at`, counted from 1, if it exists.
     fn entry(&mut self, at: u32) -> Result<Option<Entry>, BookFault>
@@ -67,7 +72,8 @@ pub trait Book {
     fn range(&mut self, num: u32) -> Result<Option<Range>, BookFault>
         ensures faults { CountsResult result (faults self.old) (faults self.new) }
         ensures unchanged { Unchanged history terms honest self.old self.new }
-        ensures answer { honest self.new → IfOk result (λ r. r ≡ find (λ x. x.num == num) (ranges_of (history self.old))) };
+        ensures answer { honest self.new
+            → IfOk result (λ r. r ≡ find (λ x. x.num == num) (ranges_of (history self.old))) };
 
     /// Whether the range of that number is closed. No range is where there is none of that number.
     fn closed(&mut self, num: u32) -> Result<bool, BookFault>
@@ -80,26 +86,34 @@ pub trait Book {
         ensures faults { CountsResult result (faults self.old) (faults self.new) }
         ensures unchanged { Unchanged history terms honest self.old self.new }
         ensures above { IfOk result (λ found. IfSome found (λ r. after < r.num)) }
-        ensures answer { honest self.new → IfOk result (λ found. found ≡ find (is_open_after (history self.old) after held.now.holder held.now.service held.now.country) (ranges_of (history self.old))) };
+        ensures answer { honest self.new
+            → IfOk result (λ found. found
+            ≡ find (is_open_after (history self.old) after held.now.holder held.now.service
+            held.now.country) (ranges_of (history self.old))) };
 
     /// The range of least number that has a serial of the block, if there is one.
     fn covering(&mut self, block: &SerialSpan) -> Result<Option<Range>, BookFault>
         ensures faults { CountsResult result (faults self.old) (faults self.new) }
         ensures unchanged { Unchanged history terms honest self.old self.new }
-        ensures answer { honest self.new → IfOk result (λ found. found ≡ find (overlaps block.now.service block.now.country block.now.first block.now.last) (ranges_of (history self.old))) };
+        ensures answer { honest self.new
+            → IfOk result (λ found. found
+            ≡ find (overlaps block.now.service block.now.country block.now.first block.now.last)
+            (ranges_of (history self.old))) };
 
     /// The last issue of an identifier, if it was ever issued.
     fn last_issue(&mut self, id: &Id) -> Result<Option<Issue>, BookFault>
         ensures faults { CountsResult result (faults self.old) (faults self.new) }
         ensures unchanged { Unchanged history terms honest self.old self.new }
-        ensures answer { honest self.new → IfOk result (λ i. i ≡ last_issue_of (history self.old) id.now) };
+        ensures answer { honest self.new
+            → IfOk result (λ i. i ≡ last_issue_of (history self.old) id.now) };
 
     /// The pick of one of the book's ranges with its last issue: the serial that the range gives next.
     fn candidate(&mut self, range: &Range) -> Result<Candidate, BookFault>
         requires { honest self.old → Contains (ranges_of (history self.old)) range.now }
         ensures faults { CountsResult result (faults self.old) (faults self.new) }
         ensures unchanged { Unchanged history terms honest self.old self.new }
-        ensures answer { honest self.new → IfOk result (λ c. c ≡ candidate_of (history self.old) range.now) };
+        ensures answer { honest self.new
+            → IfOk result (λ c. c ≡ candidate_of (history self.old) range.now) };
 
     /// The pick of one of the book's ranges after n issues of its own successive picks, fewer than it has serials, with
     /// its last issue.
@@ -108,7 +122,8 @@ pub trait Book {
         requires fewer { issued < size_of range.now }
         ensures faults { CountsResult result (faults self.old) (faults self.new) }
         ensures unchanged { Unchanged history terms honest self.old self.new }
-        ensures answer { honest self.new → IfOk result (λ c. c ≡ candidate_after_of (history self.old) range.now issued) };
+        ensures answer { honest self.new
+            → IfOk result (λ c. c ≡ candidate_after_of (history self.old) range.now issued) };
 
     /// How many serials of one of the book's ranges were ever issued, are voided since their last issue, and are free on the greater of
     /// `day` and the day of the last kept call.
@@ -116,7 +131,9 @@ pub trait Book {
         requires { honest self.old → Contains (ranges_of (history self.old)) range.now }
         ensures faults { CountsResult result (faults self.old) (faults self.new) }
         ensures unchanged { Unchanged history terms honest self.old self.new }
-        ensures answer { honest self.new → IfOk result (λ u. u ≡ usage_of (history self.old) range.now day (terms self.old).interval) };
+        ensures answer { honest self.new
+            → IfOk result (λ u. u ≡ usage_of (history self.old) range.now day
+            (terms self.old).interval) };
 
     /// Adds a call at the end. Its key is new, its day is not before the book's, there is room below the limit, and its
     /// outcome is that of the rules.
@@ -125,7 +142,8 @@ pub trait Book {
         ensures faults { CountsResult result (faults self.old) (faults self.new) }
         ensures was_honest { honest self.new → honest self.old }
         ensures same_terms { honest self.new → terms self.new ≡ terms self.old }
-        ensures ok { honest self.new → OnOk result (history self.new ≡ history self.old ++ entry ∷ []) }
+        ensures ok { honest self.new → OnOk result (history self.new ≡ history self.old ++ entry
+            ∷ []) }
         ensures err { honest self.new → OnErr result (history self.new ≡ history self.old) };
 
     // A history is legal.

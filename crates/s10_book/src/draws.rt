@@ -26,7 +26,8 @@ fn free_pick<B: Book>(
     requires { B.honest book.old → Contains (ranges_of (B.history book.old)) range.now }
     ensures faults { CountsResult result (B.faults book.old) (B.faults book.new) }
     ensures unchanged { Unchanged B.history B.terms B.honest book.old book.new }
-    ensures answer { B.honest book.new → IfOk result (λ x. x ≡ free_pick_of (B.history book.old) range.now issued day interval) }
+    ensures answer { B.honest book.new
+        → IfOk result (λ x. x ≡ free_pick_of (B.history book.old) range.now issued day interval) }
 {
     if range.size() <= u32::from(issued) {
         return Ok(None);
@@ -55,7 +56,9 @@ pub fn successive_draws<B: Book>(
 ) -> Result<Option<Ids>, BookFault>
     ensures faults { CountsResult result (B.faults book.old) (B.faults book.new) }
     ensures unchanged { Unchanged B.history B.terms B.honest book.old book.new }
-    ensures answer { B.honest book.new → IfOk result (λ ids. ids ≡ successive_draws_of (B.history book.old) customer service country day (B.terms book.old).interval count) }
+    ensures answer { B.honest book.new
+        → IfOk result (λ ids. ids ≡ successive_draws_of (B.history book.old) customer service
+        country day (B.terms book.old).interval count) }
     ensures all { IfOk result (λ found. IfSome found (λ ids. length ids ≡ count)) }
 {
     let interval = book.settings().interval();

@@ -17,13 +17,17 @@ pub trait GroupCommit: Book {
     fn commit(&mut self) -> Result<(), BookFault>
         ensures faults { CountsResult result (Self.faults self.old) (Self.faults self.new) }
         ensures unchanged { Unchanged Self.history Self.terms Self.honest self.old self.new }
-        ensures done { Self.honest self.new → OnOk result (committed self.new ≡ Self.history self.new) }
+        ensures done { Self.honest self.new
+            → OnOk result (committed self.new ≡ Self.history self.new) }
         ensures left { Self.honest self.new → OnErr result (committed self.new ≡ committed self.old) };
 
     /// Whether no call of that key is kept that is not committed.
     fn is_committed(&self, customer: u32, number: u32) -> bool
-        ensures { Self.honest self.now → (IsTrue result ↔ IsCommittedCall (committed self.now) (Self.history self.now) customer number) };
+        ensures { Self.honest self.now
+            → (IsTrue result ↔ IsCommittedCall (committed self.now) (Self.history self.now) customer
+            number) };
 
     // What is committed comes first in the history.
-    ghost first: { (book : Self) → Self.honest book → (rest : List Entry) × (Self.history book ≡ committed book ++ rest) };
+    ghost first: { (book : Self) → Self.honest book → (rest : List Entry)
+        × (Self.history book ≡ committed book ++ rest) };
 }

@@ -1,15 +1,22 @@
 //! What every legal history keeps.
 
-ghost use Rattle.std.specs.Prelude.{◌≡◌, ◌≢◌, ℕ, ◌+◌, ◌≤◌, List, [], ◌∷◌, ◌++◌, length, map, take, slice_get, fold, Some, All, AllPairs, Contains, IsTrue};
+ghost use Rattle.std.specs.Prelude.{◌≡◌, ◌≢◌, ℕ, ◌+◌, ◌≤◌, List, [], ◌∷◌, ◌++◌, length, map, take};
+ghost use Rattle.std.specs.Prelude.{slice_get, fold, Some, All, AllPairs, Contains, IsTrue};
 ghost use Rattle.s10_history.specs.declared.entry.Entry.{Entry};
 ghost use Rattle.s10_history.specs.Settings.{Terms};
 ghost use Rattle.s10_core.specs.declared.id.Id.{Id};
 ghost use Rattle.s10_history.specs.declared.range.Range.{Range};
 ghost use Rattle.s10_history.specs.declared.candidate.Candidate.{Candidate};
-ghost use Rattle.s10_history.specs.History.{day_of, lies_in, ranges_of, range_of_grant, is_closed, overlaps};
-ghost use Rattle.s10_history.specs.Issues.{issues_of, carried_by, is_free, pick_of, serial_after, serial_after_steps, pick_after, id_at, last_issue_of, candidate_after_of};
-ghost use Rattle.s10_book.specs.Rules.{IsLegal, MayFollow, has_free_pick, grant_answer, draw_answer, draw_done, draw_many_answer, void_answer, query_answer, NothingFree, FewFree};
-ghost use Rattle.s10_book.specs.Promises.{IsSpaced, IsOwn, IsApart, IsInCommon, request_on_day, without_number};
+ghost use Rattle.s10_history.specs.History.{day_of, lies_in, ranges_of, range_of_grant, is_closed};
+ghost use Rattle.s10_history.specs.History.{overlaps};
+ghost use Rattle.s10_history.specs.Issues.{issues_of, carried_by, is_free, pick_of, serial_after};
+ghost use Rattle.s10_history.specs.Issues.{serial_after_steps, pick_after, id_at, last_issue_of};
+ghost use Rattle.s10_history.specs.Issues.{candidate_after_of};
+ghost use Rattle.s10_book.specs.Rules.{IsLegal, MayFollow, has_free_pick, grant_answer};
+ghost use Rattle.s10_book.specs.Rules.{draw_answer, draw_done, draw_many_answer, void_answer};
+ghost use Rattle.s10_book.specs.Rules.{query_answer, NothingFree, FewFree};
+ghost use Rattle.s10_book.specs.Promises.{IsSpaced, IsOwn, IsApart, IsInCommon, request_on_day};
+ghost use Rattle.s10_book.specs.Promises.{without_number};
 
 use s10_wire::{Body, Outcome};
 
@@ -20,48 +27,63 @@ pub fn legal_histories()
     ensures spaced { (h : List Entry) (t : Terms) → IsLegal h t → IsSpaced h t.interval }
     ensures own { (h : List Entry) (t : Terms) → IsLegal h t → IsOwn h }
     ensures apart { (h : List Entry) (t : Terms) → IsLegal h t → IsApart h }
-    ensures determined { (g h : List Entry) (t : Terms) → IsLegal g t → IsLegal h t → map request_on_day g ≡ map request_on_day h → g ≡ h }
+    ensures determined { (g h : List Entry) (t : Terms) → IsLegal g t → IsLegal h t
+        → map request_on_day g ≡ map request_on_day h → g ≡ h }
 {}
 
 /// What overlaps a range has a serial in common with it.
 pub fn overlaps_are_common_serials()
-    ensures common { (r : Range) (service country : ℕ × ℕ) (first last : ℕ) → r.first ≤ r.last → IsTrue (overlaps service country first last r)
+    ensures common { (r : Range) (service country : ℕ × ℕ) (first last : ℕ) → r.first ≤ r.last
+        → IsTrue (overlaps service country first last r)
         → (x : Id) × IsInCommon r service country first last x }
-    ensures overlaps { (r : Range) (service country : ℕ × ℕ) (first last : ℕ) (x : Id) → IsInCommon r service country first last x
+    ensures overlaps { (r : Range) (service country : ℕ × ℕ) (first last : ℕ) (x : Id)
+        → IsInCommon r service country first last x
         → IsTrue (overlaps service country first last r) }
 {}
 
 /// In a legal history, where any serial of a range is free on a day, so is its pick. So NoneFree is answered only where
 /// no serial of the sender's ranges of that service and country is free.
 pub fn free_picks()
-    ensures pick { (h : List Entry) (t : Terms) → IsLegal h t → (r : Range) (x : Id) (day : ℕ) → day_of h ≤ day
-        → IsTrue (lies_in r x) → IsTrue (is_free (issues_of h) x day t.interval) → IsTrue (has_free_pick (issues_of h) day t.interval r) }
-    ensures none_free { (h : List Entry) (t : Terms) → IsLegal h t → (customer : ℕ) (service country : ℕ × ℕ) (day : ℕ) → day_of h ≤ day
-        → draw_answer h customer service country day t.interval ≡ Outcome.NoneFree → NothingFree h customer service country day t.interval }
+    ensures pick { (h : List Entry) (t : Terms) → IsLegal h t → (r : Range) (x : Id) (day : ℕ)
+        → day_of h ≤ day
+        → IsTrue (lies_in r x) → IsTrue (is_free (issues_of h) x day t.interval)
+        → IsTrue (has_free_pick (issues_of h) day t.interval r) }
+    ensures none_free { (h : List Entry) (t : Terms) → IsLegal h t
+        → (customer : ℕ) (service country : ℕ × ℕ) (day : ℕ) → day_of h ≤ day
+        → draw_answer h customer service country day t.interval ≡ Outcome.NoneFree
+        → NothingFree h customer service country day t.interval }
 {}
 
 /// In a legal history NoneFree is answered to a DrawMany only where fewer serials than it asks for are free in the
 /// sender's ranges of that service and country.
 pub fn few_free()
-    ensures { (h : List Entry) (t : Terms) → IsLegal h t → 1 ≤ t.interval → (customer : ℕ) (service country : ℕ × ℕ) (count day : ℕ) → day_of h ≤ day
-        → draw_many_answer h customer service country count day t.interval ≡ Outcome.NoneFree → FewFree h customer service country count day t.interval }
+    ensures { (h : List Entry) (t : Terms) → IsLegal h t → 1 ≤ t.interval
+        → (customer : ℕ) (service country : ℕ × ℕ) (count day : ℕ) → day_of h ≤ day
+        → draw_many_answer h customer service country count day t.interval ≡ Outcome.NoneFree
+        → FewFree h customer service country count day t.interval }
 {}
 
 /// A larger draw gives what n single Draws in a row on its day would give. Where a customer's Draws stand in a legal
 /// history one after the other, of one day and all of them Done, a DrawMany of n in their place would have had their
 /// identifiers. And each identifier of a DrawMany is what a single Draw would give after the Draws of those before it.
 pub fn sheets_are_successive_draws()
-    ensures drawn { (h es : List Entry) (t : Terms) (customer : ℕ) (service country : ℕ × ℕ) (day : ℕ) (ids : List Id) → IsLegal (h ++ es) t → 1 ≤ length es
+    ensures drawn { (h es : List Entry) (t : Terms) (customer : ℕ) (service country : ℕ × ℕ)
+        (day : ℕ) (ids : List Id) → IsLegal (h ++ es) t → 1 ≤ length es
         → map without_number es ≡ map (draw_done customer service country day) ids
-        → draw_many_answer h customer service country (length es) day t.interval ≡ Outcome.DrawnMany day ids }
-    ensures each { (h : List Entry) (customer : ℕ) (service country : ℕ × ℕ) (count day interval : ℕ) (ids : List Id)
-        → draw_many_answer h customer service country count day interval ≡ Outcome.DrawnMany day ids → (k : ℕ) (x : Id) → slice_get ids k ≡ Some x
-        → draw_answer (h ++ map (draw_done customer service country day) (take k ids)) customer service country day interval ≡ Outcome.Drawn day x }
+        → draw_many_answer h customer service country (length es) day t.interval ≡ Outcome.DrawnMany
+        day ids }
+    ensures each { (h : List Entry) (customer : ℕ) (service country : ℕ × ℕ)
+        (count day interval : ℕ) (ids : List Id)
+        → draw_many_answer h customer service country count day interval ≡ Outcome.DrawnMany day ids
+        → (k : ℕ) (x : Id) → slice_get ids k ≡ Some x
+        → draw_answer (h ++ map (draw_done customer service country day) (take k ids)) customer
+        service country day interval ≡ Outcome.Drawn day x }
 {}
 
 /// No identifier stands twice in the reply to a DrawMany.
 pub fn never_twice()
-    ensures { (h : List Entry) (t : Terms) (e : Entry) → IsLegal h t → 1 ≤ t.interval → MayFollow h t e → (day : ℕ) (ids : List Id)
+    ensures { (h : List Entry) (t : Terms) (e : Entry) → IsLegal h t → 1 ≤ t.interval
+        → MayFollow h t e → (day : ℕ) (ids : List Id)
         → e.outcome ≡ Outcome.DrawnMany day ids → AllPairs (λ x y. x ≢ y) ids }
 {}
 
@@ -69,14 +91,21 @@ pub fn never_twice()
 /// answer to a Grant, a Void or a Query, so it bars the serials that it barred, and what was issued from it can be voided
 /// and asked for as before.
 pub fn withdrawn_ranges()
-    ensures closed { (h : List Entry) (e : Entry) (num : ℕ) → IsTrue (is_closed h num) → IsTrue (is_closed (h ++ e ∷ []) num) }
-    ensures none_issued { (h : List Entry) (t : Terms) (e : Entry) → IsLegal h t → MayFollow h t e → (r : Range) → Contains (ranges_of h) r → IsTrue (is_closed h r.num)
+    ensures closed { (h : List Entry) (e : Entry) (num : ℕ) → IsTrue (is_closed h num)
+        → IsTrue (is_closed (h ++ e ∷ []) num) }
+    ensures none_issued { (h : List Entry) (t : Terms) (e : Entry) → IsLegal h t → MayFollow h t e
+        → (r : Range) → Contains (ranges_of h) r → IsTrue (is_closed h r.num)
         → All (λ c. ¬ (IsTrue (lies_in r c.1))) (carried_by e.outcome) }
-    ensures grants { (h : List Entry) (e : Entry) (num : ℕ) → e.request.body ≡ Body.Withdraw num → e.outcome ≡ Outcome.Withdrawn → (customer holder : ℕ) (service country : ℕ × ℕ) (first last : ℕ)
-        → grant_answer (h ++ e ∷ []) customer holder service country first last ≡ grant_answer h customer holder service country first last }
-    ensures voids { (h : List Entry) (e : Entry) (num : ℕ) → e.request.body ≡ Body.Withdraw num → e.outcome ≡ Outcome.Withdrawn → (customer : ℕ) (x : Id)
+    ensures grants { (h : List Entry) (e : Entry) (num : ℕ) → e.request.body ≡ Body.Withdraw num
+        → e.outcome ≡ Outcome.Withdrawn → (customer holder : ℕ) (service country : ℕ × ℕ)
+        (first last : ℕ)
+        → grant_answer (h ++ e ∷ []) customer holder service country first last
+        ≡ grant_answer h customer holder service country first last }
+    ensures voids { (h : List Entry) (e : Entry) (num : ℕ) → e.request.body ≡ Body.Withdraw num
+        → e.outcome ≡ Outcome.Withdrawn → (customer : ℕ) (x : Id)
         → void_answer (h ++ e ∷ []) customer x ≡ void_answer h customer x }
-    ensures queries { (h : List Entry) (e : Entry) (num : ℕ) → e.request.body ≡ Body.Withdraw num → e.outcome ≡ Outcome.Withdrawn → (customer : ℕ) (x : Id)
+    ensures queries { (h : List Entry) (e : Entry) (num : ℕ) → e.request.body ≡ Body.Withdraw num
+        → e.outcome ≡ Outcome.Withdrawn → (customer : ℕ) (x : Id)
         → query_answer (h ++ e ∷ []) customer x ≡ query_answer h customer x }
 {}
 
@@ -84,22 +113,34 @@ pub fn withdrawn_ranges()
 /// serial, or its first one after its last. After a Done DrawMany it is what the single Draws of it, one by one, would
 /// leave. A call that issues no identifier of the range leaves it.
 pub fn successive_picks()
-    ensures made { (h : List Entry) (t : Terms) (e : Entry) → IsLegal h t → MayFollow h t e → (r : Range)
-        → range_of_grant (length (ranges_of h) + 1) e.request.body e.outcome ≡ Some r → pick_of (issues_of (h ++ e ∷ [])) r ≡ r.first }
-    ensures turned { (h : List Entry) (t : Terms) (e : Entry) → IsLegal h t → MayFollow h t e → (r : Range) → Contains (ranges_of h) r
-        → pick_of (issues_of (h ++ e ∷ [])) r ≡ fold (λ pick c. pick_after r pick c.1) (pick_of (issues_of h) r) (carried_by e.outcome) }
-    ensures drawn { (h : List Entry) (t : Terms) (e : Entry) → IsLegal h t → MayFollow h t e → (r : Range) → Contains (ranges_of h) r
+    ensures made { (h : List Entry) (t : Terms) (e : Entry) → IsLegal h t → MayFollow h t e
+        → (r : Range)
+        → range_of_grant (length (ranges_of h) + 1) e.request.body e.outcome ≡ Some r
+        → pick_of (issues_of (h ++ e ∷ [])) r ≡ r.first }
+    ensures turned { (h : List Entry) (t : Terms) (e : Entry) → IsLegal h t → MayFollow h t e
+        → (r : Range) → Contains (ranges_of h) r
+        → pick_of (issues_of (h ++ e ∷ [])) r ≡ fold (λ pick c. pick_after r pick c.1)
+        (pick_of (issues_of h) r) (carried_by e.outcome) }
+    ensures drawn { (h : List Entry) (t : Terms) (e : Entry) → IsLegal h t → MayFollow h t e
+        → (r : Range) → Contains (ranges_of h) r
         → (day : ℕ) (x : Id) → e.outcome ≡ Outcome.Drawn day x → IsTrue (lies_in r x)
         → pick_of (issues_of (h ++ e ∷ [])) r ≡ serial_after r x.serial }
-    ensures drawn_many { (h : List Entry) (e : Entry) (customer : ℕ) (service country : ℕ × ℕ) (day : ℕ) (ids : List Id) → e.outcome ≡ Outcome.DrawnMany day ids
-        → (r : Range) → pick_of (issues_of (h ++ e ∷ [])) r ≡ pick_of (issues_of (h ++ map (draw_done customer service country day) ids)) r }
-    ensures left { (h : List Entry) (t : Terms) (e : Entry) → IsLegal h t → MayFollow h t e → (r : Range) → Contains (ranges_of h) r
+    ensures drawn_many { (h : List Entry) (e : Entry) (customer : ℕ) (service country : ℕ × ℕ)
+        (day : ℕ) (ids : List Id) → e.outcome ≡ Outcome.DrawnMany day ids
+        → (r : Range) → pick_of (issues_of (h ++ e ∷ [])) r
+        ≡ pick_of (issues_of (h ++ map (draw_done customer service country day) ids)) r }
+    ensures left { (h : List Entry) (t : Terms) (e : Entry) → IsLegal h t → MayFollow h t e
+        → (r : Range) → Contains (ranges_of h) r
         → All (λ c. ¬ (IsTrue (lies_in r c.1))) (carried_by e.outcome)
         → pick_of (issues_of (h ++ e ∷ [])) r ≡ pick_of (issues_of h) r }
 {}
 
 /// In a legal history the candidate of a range after n of its own picks is the serial n after its pick.
 pub fn successive_candidates()
-    ensures { (h : List Entry) (t : Terms) (r : Range) (issued : ℕ) → IsLegal h t → Contains (ranges_of h) r
-        → let serial = serial_after_steps r (pick_of (issues_of h) r) issued in let behind : Candidate = record { serial = serial; issue = last_issue_of h (id_at r serial) } in candidate_after_of h r issued ≡ behind }
+    ensures { (h : List Entry) (t : Terms) (r : Range) (issued : ℕ) → IsLegal h t
+        → Contains (ranges_of h) r
+        → let serial = serial_after_steps r (pick_of (issues_of h) r) issued in
+        let behind : Candidate =
+        record { serial = serial; issue = last_issue_of h (id_at r serial) } in
+        candidate_after_of h r issued ≡ behind }
 {}

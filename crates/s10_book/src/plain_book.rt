@@ -1,10 +1,14 @@
 //! The book in memory.
 
-ghost use Rattle.std.specs.Prelude.{◌≡◌, ◌∷◌, ◌++◌, [], ⊤, OnOk, OnErr, IfOk, IfErr, IfSome, IsTrue, Contains, find, ◌==◌, ◌<◌, ◌≤◌, ◌+◌, ◌-◌, ◌^◌, vec_len, vec_capacity, length, option_to_list};
+ghost use Rattle.std.specs.Prelude.{◌≡◌, ◌∷◌, ◌++◌, [], ⊤, OnOk, OnErr, IfOk, IfErr, IfSome};
+ghost use Rattle.std.specs.Prelude.{IsTrue, Contains, find, ◌==◌, ◌<◌, ◌≤◌, ◌+◌, ◌-◌, ◌^◌, vec_len};
+ghost use Rattle.std.specs.Prelude.{vec_capacity, length, option_to_list};
 ghost use Rattle.s10_wire.specs.Kind.{fits};
 ghost use Rattle.s10_history.specs.Settings.{Terms};
-ghost use Rattle.s10_history.specs.History.{ranges_of, range_of_grant, find_entry, entry_at, is_closed, is_open_after, overlaps};
-ghost use Rattle.s10_history.specs.Issues.{issues_of, issues_at, last_issue_of, candidate_of, candidate_after_of, size_of};
+ghost use Rattle.s10_history.specs.History.{ranges_of, range_of_grant, find_entry, entry_at};
+ghost use Rattle.s10_history.specs.History.{is_closed, is_open_after, overlaps};
+ghost use Rattle.s10_history.specs.Issues.{issues_of, issues_at, last_issue_of, candidate_of};
+ghost use Rattle.s10_history.specs.Issues.{candidate_after_of, size_of};
 ghost use Rattle.s10_history.specs.Usage.{usage_of};
 ghost use Rattle.s10_book.specs.Rules.{IsLegal, MayFollow};
 ghost use Rattle.s10_book.specs.BookFault.{CountsResult, no_faults};
@@ -157,8 +161,10 @@ impl Book for PlainBook {
 
     fn find(&mut self, customer: u32, number: u32) -> Result<Option<Entry>, BookFault>
         ensures same { self.new ≡ self.old }
-        ensures answer { result ≡ Ok (find_entry (⟦<PlainBook as Book>⟧.history self.old) customer number) }
-        ensures fits { IfOk result (λ found. IfSome found (λ e. IsTrue (fits e.request.body e.outcome))) }
+        ensures answer { result ≡ Ok (find_entry (⟦<PlainBook as Book>⟧.history self.old) customer
+            number) }
+        ensures fits { IfOk result
+            (λ found. IfSome found (λ e. IsTrue (fits e.request.body e.outcome))) }
     {
         Ok(find_in(&self.entries, customer, number))
     }
@@ -172,7 +178,8 @@ impl Book for PlainBook {
 
     fn range(&mut self, num: u32) -> Result<Option<Range>, BookFault>
         ensures same { self.new ≡ self.old }
-        ensures answer { result ≡ Ok (find (λ r. r.num == num) (ranges_of (⟦<PlainBook as Book>⟧.history self.old))) }
+        ensures answer { result
+            ≡ Ok (find (λ r. r.num == num) (ranges_of (⟦<PlainBook as Book>⟧.history self.old))) }
     {
         Ok(range_in(&self.ranges, num))
     }
@@ -186,7 +193,10 @@ impl Book for PlainBook {
 
     fn next_range(&mut self, held: &HolderKey, after: u32) -> Result<Option<Range>, BookFault>
         ensures same { self.new ≡ self.old }
-        ensures answer { result ≡ Ok (find (is_open_after (⟦<PlainBook as Book>⟧.history self.old) after held.now.holder held.now.service held.now.country) (ranges_of (⟦<PlainBook as Book>⟧.history self.old))) }
+        ensures answer { result
+            ≡ Ok (find (is_open_after (⟦<PlainBook as Book>⟧.history self.old) after held.now.holder
+            held.now.service held.now.country)
+            (ranges_of (⟦<PlainBook as Book>⟧.history self.old))) }
         ensures above { IfOk result (λ found. IfSome found (λ r. after < r.num)) }
     {
         Ok(next_range_in(&self.entries, &self.ranges, held, after))
@@ -194,14 +204,17 @@ impl Book for PlainBook {
 
     fn covering(&mut self, block: &SerialSpan) -> Result<Option<Range>, BookFault>
         ensures same { self.new ≡ self.old }
-        ensures answer { result ≡ Ok (find (overlaps block.now.service block.now.country block.now.first block.now.last) (ranges_of (⟦<PlainBook as Book>⟧.history self.old))) }
+        ensures answer { result
+            ≡ Ok (find (overlaps block.now.service block.now.country block.now.first block.now.last)
+            (ranges_of (⟦<PlainBook as Book>⟧.history self.old))) }
     {
         Ok(covering_in(&self.ranges, block))
     }
 
     fn last_issue(&mut self, id: &Id) -> Result<Option<Issue>, BookFault>
         ensures same { self.new ≡ self.old }
-        ensures answer { result ≡ Ok (last_issue_of (⟦<PlainBook as Book>⟧.history self.old) id.now) }
+        ensures answer { result ≡ Ok (last_issue_of (⟦<PlainBook as Book>⟧.history self.old)
+            id.now) }
     {
         Ok(last_issue_in(&self.entries, &self.issues, id))
     }
@@ -209,7 +222,8 @@ impl Book for PlainBook {
     fn candidate(&mut self, range: &Range) -> Result<Candidate, BookFault>
         requires { Contains (ranges_of (⟦<PlainBook as Book>⟧.history self.old)) range.now }
         ensures same { self.new ≡ self.old }
-        ensures answer { result ≡ Ok (candidate_of (⟦<PlainBook as Book>⟧.history self.old) range.now) }
+        ensures answer { result ≡ Ok (candidate_of (⟦<PlainBook as Book>⟧.history self.old)
+            range.now) }
     {
         Ok(candidate_in(&self.entries, &self.issues, range))
     }
@@ -218,7 +232,8 @@ impl Book for PlainBook {
         requires there { Contains (ranges_of (⟦<PlainBook as Book>⟧.history self.old)) range.now }
         requires fewer { issued < size_of range.now }
         ensures same { self.new ≡ self.old }
-        ensures answer { result ≡ Ok (candidate_after_of (⟦<PlainBook as Book>⟧.history self.old) range.now issued) }
+        ensures answer { result ≡ Ok (candidate_after_of (⟦<PlainBook as Book>⟧.history self.old)
+            range.now issued) }
     {
         Ok(candidate_after_in(&self.entries, &self.issues, range, issued))
     }
@@ -226,7 +241,8 @@ impl Book for PlainBook {
     fn usage(&mut self, range: &Range, day: u32) -> Result<Usage, BookFault>
         requires { Contains (ranges_of (⟦<PlainBook as Book>⟧.history self.old)) range.now }
         ensures same { self.new ≡ self.old }
-        ensures answer { result ≡ Ok (usage_of (⟦<PlainBook as Book>⟧.history self.old) range.now day (⟦<PlainBook as Book>⟧.terms self.old).interval) }
+        ensures answer { result ≡ Ok (usage_of (⟦<PlainBook as Book>⟧.history self.old) range.now
+            day (⟦<PlainBook as Book>⟧.terms self.old).interval) }
     {
         let interval = self.settings.interval();
         let day = self.day().max(day);
@@ -234,12 +250,17 @@ impl Book for PlainBook {
     }
 
     fn keep(&mut self, entry: Entry) -> Result<(), BookFault>
-        requires { MayFollow (⟦<PlainBook as Book>⟧.history self.old) (⟦<PlainBook as Book>⟧.terms self.old) entry }
-        ensures faults { CountsResult result (⟦<PlainBook as Book>⟧.faults self.old) (⟦<PlainBook as Book>⟧.faults self.new) }
+        requires { MayFollow (⟦<PlainBook as Book>⟧.history self.old)
+            (⟦<PlainBook as Book>⟧.terms self.old) entry }
+        ensures faults { CountsResult result (⟦<PlainBook as Book>⟧.faults self.old)
+            (⟦<PlainBook as Book>⟧.faults self.new) }
         ensures memory { IfErr result (λ fault. fault ≡ BookFault.Memory) }
-        ensures same_terms { ⟦<PlainBook as Book>⟧.terms self.new ≡ ⟦<PlainBook as Book>⟧.terms self.old }
-        ensures ok { OnOk result (⟦<PlainBook as Book>⟧.history self.new ≡ ⟦<PlainBook as Book>⟧.history self.old ++ entry ∷ []) }
-        ensures err { OnErr result (⟦<PlainBook as Book>⟧.history self.new ≡ ⟦<PlainBook as Book>⟧.history self.old) }
+        ensures same_terms { ⟦<PlainBook as Book>⟧.terms self.new ≡ ⟦<PlainBook as Book>⟧.terms
+            self.old }
+        ensures ok { OnOk result (⟦<PlainBook as Book>⟧.history self.new
+            ≡ ⟦<PlainBook as Book>⟧.history self.old ++ entry ∷ []) }
+        ensures err { OnErr result (⟦<PlainBook as Book>⟧.history self.new
+            ≡ ⟦<PlainBook as Book>⟧.history self.old) }
     {
         match self.add(entry) {
             Ok(()) => Ok(()),

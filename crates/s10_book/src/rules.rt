@@ -3,7 +3,9 @@
 ghost use Rattle.std.specs.Prelude.{ℕ, ◌≡◌, ◌≤◌, ◌+◌, length, IfOk, IsTrue};
 ghost use Rattle.std.specs.List.{list_any};
 ghost use Rattle.s10_history.specs.History.{day_of, ranges_of, is_own};
-ghost use Rattle.s10_book.specs.Rules.{grant_answer, draw_answer, draw_many_answer, void_answer, withdraw_answer, status_of, status_of_issue, query_answer, answer_of, NothingFree, FewFree};
+ghost use Rattle.s10_book.specs.Rules.{grant_answer, draw_answer, draw_many_answer, void_answer};
+ghost use Rattle.s10_book.specs.Rules.{withdraw_answer, status_of, status_of_issue, query_answer};
+ghost use Rattle.s10_book.specs.Rules.{answer_of, NothingFree, FewFree};
 ghost use Rattle.s10_wire.specs.Kind.{fits};
 ghost use Rattle.s10_history.specs.Issues.{last_issue_of};
 ghost use Rattle.s10_book.specs.BookFault.{CountsResult};
@@ -26,7 +28,9 @@ fn decide_draw<B: Book>(
 ) -> Result<Outcome, BookFault>
     ensures faults { CountsResult result (B.faults book.old) (B.faults book.new) }
     ensures unchanged { Unchanged B.history B.terms B.honest book.old book.new }
-    ensures answer { B.honest book.new → IfOk result (λ o. o ≡ draw_answer (B.history book.old) customer service country day (B.terms book.old).interval) }
+    ensures answer { B.honest book.new
+        → IfOk result (λ o. o ≡ draw_answer (B.history book.old) customer service country day
+        (B.terms book.old).interval) }
     ensures fits { IfOk result (λ o. IsTrue (fits (Body.Draw service country) o)) }
 {
     let interval = book.settings().interval();
@@ -66,7 +70,9 @@ fn decide_draw_many<B: Book>(
 ) -> Result<Outcome, BookFault>
     ensures faults { CountsResult result (B.faults book.old) (B.faults book.new) }
     ensures unchanged { Unchanged B.history B.terms B.honest book.old book.new }
-    ensures answer { B.honest book.new → IfOk result (λ o. o ≡ draw_many_answer (B.history book.old) customer service country count day (B.terms book.old).interval) }
+    ensures answer { B.honest book.new
+        → IfOk result (λ o. o ≡ draw_many_answer (B.history book.old) customer service country count
+        day (B.terms book.old).interval) }
     ensures fits { IfOk result (λ o. IsTrue (fits (Body.DrawMany service country count) o)) }
 {
     let held = HolderKey {
@@ -88,7 +94,9 @@ fn decide_draw_many<B: Book>(
 fn owns<B: Book>(book: &mut B, customer: u32, id: &Id) -> Result<bool, BookFault>
     ensures faults { CountsResult result (B.faults book.old) (B.faults book.new) }
     ensures unchanged { Unchanged B.history B.terms B.honest book.old book.new }
-    ensures answer { B.honest book.new → IfOk result (λ b. b ≡ list_any (is_own customer id.now) (ranges_of (B.history book.old))) }
+    ensures answer { B.honest book.new
+        → IfOk result (λ b. b ≡ list_any (is_own customer id.now)
+        (ranges_of (B.history book.old))) }
 {
     let block = SerialSpan::of(id);
     match book.covering(&block)? {
@@ -101,7 +109,8 @@ fn owns<B: Book>(book: &mut B, customer: u32, id: &Id) -> Result<bool, BookFault
 fn decide_void<B: Book>(book: &mut B, customer: u32, id: &Id) -> Result<Outcome, BookFault>
     ensures faults { CountsResult result (B.faults book.old) (B.faults book.new) }
     ensures unchanged { Unchanged B.history B.terms B.honest book.old book.new }
-    ensures answer { B.honest book.new → IfOk result (λ o. o ≡ void_answer (B.history book.old) customer id.now) }
+    ensures answer { B.honest book.new
+        → IfOk result (λ o. o ≡ void_answer (B.history book.old) customer id.now) }
     ensures fits { IfOk result (λ o. IsTrue (fits (Body.Void id.now) o)) }
 {
     if !owns(book, customer, id)? {
@@ -123,7 +132,8 @@ fn decide_void<B: Book>(book: &mut B, customer: u32, id: &Id) -> Result<Outcome,
 fn issue_status<B: Book>(book: &mut B, id: &Id) -> Result<Status, BookFault>
     ensures faults { CountsResult result (B.faults book.old) (B.faults book.new) }
     ensures unchanged { Unchanged B.history B.terms B.honest book.old book.new }
-    ensures answer { B.honest book.new → IfOk result (λ s. s ≡ status_of_issue (last_issue_of (B.history book.old) id.now)) }
+    ensures answer { B.honest book.new
+        → IfOk result (λ s. s ≡ status_of_issue (last_issue_of (B.history book.old) id.now)) }
 {
     match book.last_issue(id)? {
         None => Ok(Status::Never),
@@ -141,7 +151,8 @@ fn issue_status<B: Book>(book: &mut B, id: &Id) -> Result<Status, BookFault>
 fn next_number<B: Book>(book: &mut B) -> Result<u32, BookFault>
     ensures faults { CountsResult result (B.faults book.old) (B.faults book.new) }
     ensures unchanged { Unchanged B.history B.terms B.honest book.old book.new }
-    ensures answer { B.honest book.new → IfOk result (λ n. n ≡ length (ranges_of (B.history book.old)) + 1) }
+    ensures answer { B.honest book.new
+        → IfOk result (λ n. n ≡ length (ranges_of (B.history book.old)) + 1) }
 {
     let mut low = 0;
     let mut high = book.len();
@@ -168,8 +179,11 @@ fn decide_grant<B: Book>(
 ) -> Result<Outcome, BookFault>
     ensures faults { CountsResult result (B.faults book.old) (B.faults book.new) }
     ensures unchanged { Unchanged B.history B.terms B.honest book.old book.new }
-    ensures answer { B.honest book.new → IfOk result (λ o. o ≡ grant_answer (B.history book.old) customer holder service country first last) }
-    ensures fits { IfOk result (λ o. IsTrue (fits (Body.Grant holder service country first last) o)) }
+    ensures answer { B.honest book.new
+        → IfOk result (λ o. o ≡ grant_answer (B.history book.old) customer holder service country
+        first last) }
+    ensures fits { IfOk result
+        (λ o. IsTrue (fits (Body.Grant holder service country first last) o)) }
 {
     if customer != 0 {
         return Ok(Outcome::NotThePost);
@@ -194,7 +208,8 @@ fn decide_grant<B: Book>(
 fn known_status<B: Book>(book: &mut B, id: &Id) -> Result<Status, BookFault>
     ensures faults { CountsResult result (B.faults book.old) (B.faults book.new) }
     ensures unchanged { Unchanged B.history B.terms B.honest book.old book.new }
-    ensures answer { B.honest book.new → IfOk result (λ s. s ≡ status_of (B.history book.old) id.now) }
+    ensures answer { B.honest book.new
+        → IfOk result (λ s. s ≡ status_of (B.history book.old) id.now) }
 {
     let block = SerialSpan::of(id);
     let found = book.covering(&block)?;
@@ -208,7 +223,8 @@ fn known_status<B: Book>(book: &mut B, id: &Id) -> Result<Status, BookFault>
 fn decide_query<B: Book>(book: &mut B, customer: u32, id: &Id) -> Result<Outcome, BookFault>
     ensures faults { CountsResult result (B.faults book.old) (B.faults book.new) }
     ensures unchanged { Unchanged B.history B.terms B.honest book.old book.new }
-    ensures answer { B.honest book.new → IfOk result (λ o. o ≡ query_answer (B.history book.old) customer id.now) }
+    ensures answer { B.honest book.new
+        → IfOk result (λ o. o ≡ query_answer (B.history book.old) customer id.now) }
     ensures fits { IfOk result (λ o. IsTrue (fits (Body.Query id.now) o)) }
 {
     if customer == 0 {
@@ -226,7 +242,8 @@ fn decide_query<B: Book>(book: &mut B, customer: u32, id: &Id) -> Result<Outcome
 fn decide_withdraw<B: Book>(book: &mut B, sender: u32, num: u32) -> Result<Outcome, BookFault>
     ensures faults { CountsResult result (B.faults book.old) (B.faults book.new) }
     ensures unchanged { Unchanged B.history B.terms B.honest book.old book.new }
-    ensures answer { B.honest book.new → IfOk result (λ o. o ≡ withdraw_answer (B.history book.old) sender num) }
+    ensures answer { B.honest book.new
+        → IfOk result (λ o. o ≡ withdraw_answer (B.history book.old) sender num) }
     ensures fits { IfOk result (λ o. IsTrue (fits (Body.Withdraw num) o)) }
 {
     if sender != 0 {
@@ -247,10 +264,18 @@ pub fn decide<B: Book>(book: &mut B, request: &Request, day: u32) -> Result<Outc
     requires { B.honest book.old → day_of (B.history book.old) ≤ day }
     ensures faults { CountsResult result (B.faults book.old) (B.faults book.new) }
     ensures unchanged { Unchanged B.history B.terms B.honest book.old book.new }
-    ensures answer { B.honest book.new → IfOk result (λ o. o ≡ answer_of (B.history book.old) request.now day (B.terms book.old).interval) }
+    ensures answer { B.honest book.new
+        → IfOk result (λ o. o ≡ answer_of (B.history book.old) request.now day
+        (B.terms book.old).interval) }
     ensures fits { IfOk result (λ o. IsTrue (fits request.now.body o)) }
-    ensures none_free { B.honest book.new → (service country : ℕ × ℕ) → request.now.body ≡ Body.Draw service country → result ≡ Ok Outcome.NoneFree → NothingFree (B.history book.old) request.now.customer service country day (B.terms book.old).interval }
-    ensures few_free { B.honest book.new → (service country : ℕ × ℕ) (count : ℕ) → request.now.body ≡ Body.DrawMany service country count → result ≡ Ok Outcome.NoneFree → FewFree (B.history book.old) request.now.customer service country count day (B.terms book.old).interval }
+    ensures none_free { B.honest book.new → (service country : ℕ × ℕ) → request.now.body
+        ≡ Body.Draw service country → result ≡ Ok Outcome.NoneFree
+        → NothingFree (B.history book.old) request.now.customer service country day
+        (B.terms book.old).interval }
+    ensures few_free { B.honest book.new → (service country : ℕ × ℕ) (count : ℕ) → request.now.body
+        ≡ Body.DrawMany service country count → result ≡ Ok Outcome.NoneFree
+        → FewFree (B.history book.old) request.now.customer service country count day
+        (B.terms book.old).interval }
 {
     match request.body {
         Body::Grant {

@@ -16,10 +16,15 @@ other : (name name' : Text) → name ≡ name' → asks_server name ≡ true →
 other name name' same is is_not = let is' = subst (λ (n : Text). asks_server n ≡ true) same is in cc
 
 -- where no heading is given no question is asked
-pub headless : (rows : List Row) → ((heading : CallOptions) → ¬ AreCallOptions rows heading) → (name : Text) → asks_server name ≡ true
+pub headless : (rows : List Row) → ((heading : CallOptions) → ¬ AreCallOptions rows heading)
+    → (name : Text) → asks_server name ≡ true
     → (job : Job) → ¬ AsksFor name rows job
 headless rows none name is (Ask question) asks =
-    none (record { to = question.to; number = question.number; tries = question.tries }) (asks.0, asks.1, asks.2)
+    none (record { to = question.to; number = question.number; tries = question.tries }) (
+      asks.0,
+      asks.1,
+      asks.2,
+    )
 headless rows none name is (Create ledger settings) asks = other _ _ asks.0 is refl
 headless rows none name is (Serve ledger bind count day) asks = other _ _ asks.0 is refl
 headless rows none name is (Report ledger is_of_issues day) asks = other _ _ asks.0 is refl

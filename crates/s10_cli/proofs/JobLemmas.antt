@@ -1,5 +1,6 @@
 -- What words ask for, by what a parse found in them.
-use Rattle.std.proofs.Common.{◌≡◌, ◌∙◌, sym, ap, ap₂, subst, refl, arith, slice_index, ℕ, List, Option, Some, None, Result}
+use Rattle.std.proofs.Common.{◌≡◌, ◌∙◌, sym, ap, ap₂, subst, refl, arith, slice_index, ℕ, List}
+use Rattle.std.proofs.Common.{Option, Some, None, Result}
 use Rattle.std.specs.Prelude.{codes, option_map, Box}
 use Rattle.std.specs.Box.{box_value}
 use Rattle.clap.specs.Words.{Row, Text, subcommand_name_of, subcommand_rows, subcommand_rows_of}
@@ -11,41 +12,56 @@ use Rattle.s10_jobs.specs.declared.job_status.JobStatus.{JobStatus}
 use Rattle.s10_cli.specs.CommandLine.{IsDone, IsSubcommandDone, word}
 use Rattle.s10_cli.specs.Printing.{MakesIdentifier}
 
-one_pair : (o : Option (Text × List Row)) (name : Text) (rows : List Row) → Some name ≡ option_map (λ p. p.0) o → Some rows ≡ option_map (λ p. p.1) o → o ≡ Some (name, rows)
+one_pair : (o : Option (Text × List Row)) (name : Text) (rows : List Row)
+    → Some name ≡ option_map (λ p. p.0) o → Some rows ≡ option_map (λ p. p.1) o
+    → o ≡ Some (name, rows)
 one_pair None name rows n r = cc
-one_pair (Some p) name rows n r = let a : p.0 ≡ name = cc in let b : p.1 ≡ rows = cc in ap₂ (λ (x : Text) (y : List Row). Some (x, y)) a b
+one_pair (Some p) name rows n r = let a : p.0 ≡ name = cc in let b : p.1 ≡ rows = cc in
+    ap₂ (λ (x : Text) (y : List Row). Some (x, y)) a b
 
 names : (m : ArgMatches) → subcommand_name_of m ≡ option_map (λ p. p.0) (subcommand_rows_of m)
 names m = go (out-ArgMatches m).subcommand
   where
-    go : {Z : Type 0} (o : Option (Box SubCommand Z)) → option_map (λ b. (out-SubCommand (box_value b)).name.now) o ≡ option_map (λ p. p.0) (subcommand_rows o)
+    go : {Z : Type 0} (o : Option (Box SubCommand Z))
+        → option_map (λ b. (out-SubCommand (box_value b)).name.now) o ≡ option_map (λ p. p.0)
+        (subcommand_rows o)
     go None = refl
     go (Some b) = refl
 
 -- the subcommand that a parse entered
 pub named_by : (m : ArgMatches) (name : Text) (rows : List Row) → Some name ≡ subcommand_name_of m
-    → Some rows ≡ option_map (λ p. p.1) (subcommand_rows_of m) → subcommand_rows_of m ≡ Some (name, rows)
+    → Some rows ≡ option_map (λ p. p.1) (subcommand_rows_of m) → subcommand_rows_of m
+    ≡ Some (name, rows)
 named_by m name rows n r = one_pair (subcommand_rows_of m) name rows (n ∙ names m) r
 
 -- what was done for the subcommand that a parse entered
-pub done_named : (input rest old new : Option (List ℕ)) (m : ArgMatches) (name : Text) (rows : List Row) (answer : Option (Result JobStatus WriteFault))
+pub done_named : (input rest old new : Option (List ℕ)) (m : ArgMatches) (name : Text)
+    (rows : List Row) (answer : Option (Result JobStatus WriteFault))
     → Some name ≡ subcommand_name_of m → Some rows ≡ option_map (λ p. p.1) (subcommand_rows_of m)
-    → IsDone input rest old new answer name rows → IsSubcommandDone input rest old new answer (subcommand_rows_of m)
+    → IsDone input rest old new answer name rows → IsSubcommandDone input rest old new answer
+    (subcommand_rows_of m)
 done_named input rest old new m name rows answer n r done =
-    subst (λ (o : Option (Text × List Row)). IsSubcommandDone input rest old new answer o) (sym (named_by m name rows n r)) done
+    subst (λ (o : Option (Text × List Row)). IsSubcommandDone input rest old new answer o)
+    (sym (named_by m name rows n r)) done
 
 -- a subcommand's name is no other's
 apart : (name a b : Text) → name ≡ a → name ≡ b → (slice_index a 0 ≡ slice_index b 0 → ⊥) → ⊥
 apart name a b is e differ = differ (ap (λ (t : Text). slice_index t 0) (sym is ∙ e))
 
 -- `make` was done
-pub done_make : (input rest old new : Option (List ℕ)) (name : Text) (rows : List Row) (done : Result JobStatus WriteFault) (service serial country : Text)
-    → name ≡ codes "make" → service ≡ word rows (codes "service") → serial ≡ word rows (codes "serial") → country ≡ word rows (codes "country")
-    → MakesIdentifier old new done service serial country → IsDone input rest old new (Some done) name rows
+pub done_make : (input rest old new : Option (List ℕ)) (name : Text) (rows : List Row)
+    (done : Result JobStatus WriteFault) (service serial country : Text)
+    → name ≡ codes "make" → service ≡ word rows (codes "service")
+    → serial ≡ word rows (codes "serial") → country ≡ word rows (codes "country")
+    → MakesIdentifier old new done service serial country → IsDone input rest old new (Some done)
+    name rows
 done_make input rest old new name rows done service serial country is a b c made =
-    let all : MakesIdentifier old new done (word rows (codes "service")) (word rows (codes "serial")) (word rows (codes "country")) =
-    subst (λ (x : Text). MakesIdentifier old new done x (word rows (codes "serial")) (word rows (codes "country"))) a
-    (subst (λ (x : Text). MakesIdentifier old new done service x (word rows (codes "country"))) b (subst (λ (x : Text). MakesIdentifier old new done service serial x) c made)) in
+    let all : MakesIdentifier old new done (word rows (codes "service"))
+    (word rows (codes "serial")) (word rows (codes "country")) =
+    subst (λ (x : Text). MakesIdentifier old new done x (word rows (codes "serial"))
+    (word rows (codes "country"))) a
+    (subst (λ (x : Text). MakesIdentifier old new done service x (word rows (codes "country"))) b
+    (subst (λ (x : Text). MakesIdentifier old new done service serial x) c made)) in
     record {
       check = λ e. absurd (apart name _ _ is e (λ bad. omega arith));
       make = λ _. all;

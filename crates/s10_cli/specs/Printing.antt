@@ -1,5 +1,6 @@
 -- What `check`, `make`, `show` and `replay` print, and how they end.
-use Rattle.std.specs.Prelude.{◌≡◌, ℕ, Bool, List, [], ◌∷◌, codes, Option, Some, None, Result, IfOk, IfSome}
+use Rattle.std.specs.Prelude.{◌≡◌, ℕ, Bool, List, [], ◌∷◌, codes, Option, Some, None, Result, IfOk}
+use Rattle.std.specs.Prelude.{IfSome}
 use Rattle.std.specs.Io.KnownBytes.{Appends}
 use Rattle.s10_core.specs.declared.id.Id.{Id}
 use Rattle.s10_core.specs.declared.text_fault.TextFault.{TextFault}
@@ -27,22 +28,29 @@ module _ (old new : Option (List ℕ)) (done : Result JobStatus WriteFault) wher
   -- the text was checked
   pub record Checks (is_label : Bool) (text : List ℕ) : Type 0 where
     pub valid : (id : Id) → Spells (text_read is_label text) id → EndsWithLine Done (valid_line id)
-    pub refused : (fault : TextFault) → IsFirstRefusal (text_read is_label text) fault → EndsWithLine Refused (refused_line (text_fault_words fault))
+    pub refused : (fault : TextFault) → IsFirstRefusal (text_read is_label text) fault
+        → EndsWithLine Refused (refused_line (text_fault_words fault))
 
   -- the identifier of these parts was written, or the first part that is wrong
   pub record MakesIdentifier (service serial country : List ℕ) : Type 0 where
-    pub made : AreTwoCapitals service → AreEightDigits serial → AreTwoCapitals country → EndsWithLine Done (made_line service serial country)
-    pub no_service : ¬ AreTwoCapitals service → EndsWithLine Refused (refused_line (codes "service" ∷ []))
-    pub no_serial : AreTwoCapitals service → ¬ AreEightDigits serial → EndsWithLine Refused (refused_line (codes "serial" ∷ []))
-    pub no_country : AreTwoCapitals service → AreEightDigits serial → ¬ AreTwoCapitals country → EndsWithLine Refused (refused_line (codes "country" ∷ []))
+    pub made : AreTwoCapitals service → AreEightDigits serial → AreTwoCapitals country
+        → EndsWithLine Done (made_line service serial country)
+    pub no_service : ¬ AreTwoCapitals service
+        → EndsWithLine Refused (refused_line (codes "service" ∷ []))
+    pub no_serial : AreTwoCapitals service → ¬ AreEightDigits serial
+        → EndsWithLine Refused (refused_line (codes "serial" ∷ []))
+    pub no_country : AreTwoCapitals service → AreEightDigits serial → ¬ AreTwoCapitals country
+        → EndsWithLine Refused (refused_line (codes "country" ∷ []))
 
   -- the datagram of these digits was shown
   pub record ShowsDatagram (digits : List ℕ) : Type 0 where
     pub hex : bytes_in digits ≡ None → EndsWithLine Refused (refused_line (codes "hex" ∷ []))
-    pub datagram : (bytes : List ℕ) → bytes_in digits ≡ Some bytes → IfOk done (λ ended. Prints old new (IsShown bytes ended))
+    pub datagram : (bytes : List ℕ) → bytes_in digits ≡ Some bytes
+        → IfOk done (λ ended. Prints old new (IsShown bytes ended))
 
   -- an input was replayed over an empty ledger with these settings, and this is left of it
   abbrev pub Replays : Terms → Option (List ℕ) → Option (List ℕ) → Type 0
   Replays terms input rest = IfSome input (λ bytes. IfSome old (λ held.
       (after : List Entry) × (replayed : Result ℕ ReplayFault) × (between : Option (List ℕ))
-      × Replayed [] terms bytes rest held between replayed after × ReportsReplay replayed between new done))
+      × Replayed [] terms bytes rest held between replayed after × ReportsReplay replayed between
+      new done))

@@ -3,7 +3,8 @@ ghost use Rattle.std.specs.Prelude.{◌≡◌, ℕ, List, Option, map, IfOk};
 ghost use Rattle.std.specs.Io.KnownBytes.{Keeps};
 ghost use Rattle.clap.specs.Words.{kind_of, subcommand_rows_of};
 ghost use Rattle.s10_cli.specs.Options.{rows_in};
-ghost use Rattle.s10_cli.specs.CommandLine.{IsDone, IsSubcommandDone, IsFaultPrinted, RunsLine, exit_status, word};
+ghost use Rattle.s10_cli.specs.CommandLine.{IsDone, IsSubcommandDone, IsFaultPrinted, RunsLine};
+ghost use Rattle.s10_cli.specs.CommandLine.{exit_status, word};
 
 use crate::buffered::flush_buffer;
 use crate::option_values::{flag_of, settings_of, text_of};
@@ -30,7 +31,8 @@ pub fn run_line<R: Eprint + AllocGlobal, S: AsStr, I: Read, O: Write>(
     input: &mut I,
     output: &mut O,
 ) -> Option<u8>
-    ensures { RunsLine (map S.text words.now) (I.remaining input.old) (I.remaining input.new) (O.contents output.old) (O.contents output.new) result }
+    ensures { RunsLine (map S.text words.now) (I.remaining input.old) (I.remaining input.new)
+        (O.contents output.old) (O.contents output.new) result }
 {
     match parse(rt.alloc(), words) {
         Ok(matches) => {
@@ -64,7 +66,8 @@ where
     I: Read + Drop,
     O: Write + Drop,
     ensures { IfOk result (λ ended. (rest : Option (List ℕ)) × (printed : Option (List ℕ))
-        × RunsLine (map S.text words.now) (I.remaining input) rest (O.contents output) printed ended.0 × Keeps printed (O.contents ended.1)) }
+        × RunsLine (map S.text words.now) (I.remaining input) rest (O.contents output) printed
+        ended.0 × Keeps printed (O.contents ended.1)) }
 {
     let mut input = BufReader::new(rt.alloc(), input)?;
     let mut output = BufWriter::new(rt.alloc(), output)?;
@@ -78,7 +81,8 @@ fn run_subcommand<I: Read, O: Write>(
     input: &mut I,
     output: &mut O,
 ) -> Option<Result<JobStatus, WriteFault>>
-    ensures { IsSubcommandDone (I.remaining input.old) (I.remaining input.new) (O.contents output.old) (O.contents output.new) result (subcommand_rows_of matches.now) }
+    ensures { IsSubcommandDone (I.remaining input.old) (I.remaining input.new)
+        (O.contents output.old) (O.contents output.new) result (subcommand_rows_of matches.now) }
 {
     let Some((name, found)) = matches.subcommand() else {
         return None;
@@ -93,7 +97,8 @@ fn run_named<I: Read, O: Write>(
     input: &mut I,
     output: &mut O,
 ) -> Option<Result<JobStatus, WriteFault>>
-    ensures { IsDone (I.remaining input.old) (I.remaining input.new) (O.contents output.old) (O.contents output.new) result name.now (rows_in found.now) }
+    ensures { IsDone (I.remaining input.old) (I.remaining input.new) (O.contents output.old)
+        (O.contents output.new) result name.now (rows_in found.now) }
 {
     match name {
         "check" => {
@@ -129,8 +134,13 @@ fn value_of<'a>(found: &ArgMatches<'a>, id: &str) -> &'a str
 }
 
 // Prints help, the version or a fault of the command line.
-fn report_fault<R: Eprint, O: Write>(rt: &R, error: &Error, output: &mut O) -> Result<JobStatus, WriteFault>
-    ensures { IsFaultPrinted (kind_of error.now) (O.contents output.old) (O.contents output.new) result }
+fn report_fault<R: Eprint, O: Write>(
+    rt: &R,
+    error: &Error,
+    output: &mut O,
+) -> Result<JobStatus, WriteFault>
+    ensures { IsFaultPrinted (kind_of error.now) (O.contents output.old) (O.contents output.new)
+        result }
 {
     if matches!(error.kind(), ErrorKind::OutOfMemory) {
         write_text(b"memory\n", output)?;

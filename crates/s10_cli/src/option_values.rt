@@ -1,6 +1,7 @@
 //! What the options of a parsed command line say.
 ghost use Rattle.std.specs.Prelude.{option_map};
-ghost use Rattle.s10_cli.specs.Options.{rows_in, Finds, HasText, HasNumber, IsFlag, HasSerial, HasSettings, HasCount, HasTries};
+ghost use Rattle.s10_cli.specs.Options.{rows_in, Finds, HasText, HasNumber, IsFlag, HasSerial};
+ghost use Rattle.s10_cli.specs.Options.{HasSettings, HasCount, HasTries};
 
 use clap::ArgMatches;
 use s10_core::Serial;

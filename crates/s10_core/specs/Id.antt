@@ -32,4 +32,5 @@ SpellsLoosely text id = Spells (normalized text) id
 
 -- whether two identifiers are the same
 abbrev pub same_id : Id → Id → Bool
-same_id x y = same_letters x.service y.service && (x.serial == y.serial) && same_letters x.country y.country
+same_id x y = same_letters x.service y.service && (x.serial == y.serial) && same_letters x.country
+    y.country

@@ -2,7 +2,8 @@
 use Rattle.std.specs.Prelude.{◌≡◌, ◌≢◌, ℕ, ◌<◌, ◌≤◌, ◌⊎◌, List, length, slice_index, slice_range}
 use Rattle.std.specs.Char.{IsAsciiDigit}
 use Rattle.s10_core.specs.declared.text_fault.TextFault.{TextFault}
-use Rattle.s10_core.specs.declared.text_fault.TextFault.TheVariants.{Length, Letter, Digit, CheckDigit}
+use Rattle.s10_core.specs.declared.text_fault.TextFault.TheVariants.{Length, Letter, Digit}
+use Rattle.s10_core.specs.declared.text_fault.TextFault.TheVariants.{CheckDigit}
 use Rattle.s10_core.specs.Letters.{IsCapital}
 use Rattle.s10_core.specs.Serial.{number_of, check_digit_of, character_of}
 
@@ -24,13 +25,16 @@ IsRightBefore text at = (place : ℕ) → place < at → IsRightAt text place
 
 -- the check digit is that of the serial number
 abbrev pub IsChecked : List ℕ → Type 0
-IsChecked text = slice_index text 10 ≡ character_of (check_digit_of (number_of (slice_range text 2 10)))
+IsChecked text = slice_index text 10
+    ≡ character_of (check_digit_of (number_of (slice_range text 2 10)))
 
 -- the refusal applies to the text, and none before it does
 abbrev pub IsFirstRefusal : List ℕ → TextFault → Type 0
 IsFirstRefusal text Length = length text ≢ 13
 IsFirstRefusal text (Letter at) =
-    (length text ≡ 13) × IsRightBefore text at × IsLetterPlace at × ¬ IsCapital (slice_index text at)
+    (length text ≡ 13) × IsRightBefore text at × IsLetterPlace at
+    × ¬ IsCapital (slice_index text at)
 IsFirstRefusal text (Digit at) =
-    (length text ≡ 13) × IsRightBefore text at × IsDigitPlace at × ¬ IsAsciiDigit (slice_index text at)
+    (length text ≡ 13) × IsRightBefore text at × IsDigitPlace at
+    × ¬ IsAsciiDigit (slice_index text at)
 IsFirstRefusal text CheckDigit = (length text ≡ 13) × IsRightBefore text 13 × ¬ IsChecked text

@@ -11,10 +11,13 @@ ghost use Rattle.s10_core.specs.TextFault.{IsFirstRefusal};
 pub fn one_spelling_each()
     ensures one_text { (a b : List ℕ) (id : Id) → Spells a id → Spells b id → a ≡ b }
     ensures one_id { (text : List ℕ) (x y : Id) → Spells text x → Spells text y → x ≡ y }
-    ensures serial { (text : List ℕ) (id : Id) → Spells text id → number_of (slice_range text 2 10) ≡ id.serial }
+    ensures serial { (text : List ℕ) (id : Id) → Spells text id → number_of (slice_range text 2 10)
+        ≡ id.serial }
     ensures digits { (text : List ℕ) → AreEightDigits text → digits_of (number_of text) ≡ text }
-    ensures one_refusal { (text : List ℕ) (e f : TextFault) → IsFirstRefusal text e → IsFirstRefusal text f → e ≡ f }
-    ensures no_both { (text : List ℕ) (id : Id) (fault : TextFault) → Spells text id → ¬ (IsFirstRefusal text fault) }
+    ensures one_refusal { (text : List ℕ) (e f : TextFault) → IsFirstRefusal text e
+        → IsFirstRefusal text f → e ≡ f }
+    ensures no_both { (text : List ℕ) (id : Id) (fault : TextFault) → Spells text id
+        → ¬ (IsFirstRefusal text fault) }
 
     // The test of two identifiers that definitions use.
     ensures same { (x y : Id) → IsTrue (same_id x y) ↔ (x ≡ y) }

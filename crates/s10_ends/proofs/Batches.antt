@@ -1,5 +1,6 @@
 -- The parts of a batch.
-use Rattle.std.proofs.Common.{◌≡◌, ℕ, ◌<◌, ◌≤◌, List, [], ◌∷◌, ◌++◌, length, length-append, Option, Some, None, Result, Ok, Err, refl, sym, ap, subst, inl, inr, arith}
+use Rattle.std.proofs.Common.{◌≡◌, ℕ, ◌<◌, ◌≤◌, List, [], ◌∷◌, ◌++◌, length, length-append, Option}
+use Rattle.std.proofs.Common.{Some, None, Result, Ok, Err, refl, sym, ap, subst, inl, inr, arith}
 use Rattle.std.specs.Prelude.{IsErrAnd}
 use Rattle.s10_link.specs.declared.trace.Trace.{Trace}
 use Rattle.s10_link.specs.declared.link_fault.LinkFault.{LinkFault}
@@ -11,7 +12,8 @@ use Rattle.s10_ends.specs.declared.answer.Answer.{Answer}
 use Rattle.s10_ends.specs.declared.exchange.Exchange.{Exchange}
 use Rattle.s10_ends.specs.declared.server_turn.ServerTurn.TheVariants as turns
 use Rattle.s10_ends.specs.Turn.{Turn, Handles, Commits, Takes, AsksCommitted, Answers}
-use Rattle.s10_ends.specs.Batch.{ReceivesAll, EndsReceiving, ReceivesBatch, ServesBatch, turns_of_batch}
+use Rattle.s10_ends.specs.Batch.{ReceivesAll, EndsReceiving, ReceivesBatch, ServesBatch}
+use Rattle.s10_ends.specs.Batch.{turns_of_batch}
 use Rattle.s10_ends.specs.Batch.ReceivesAll.{none as taken_none, more as taken_more}
 use Rattle.s10_ends.specs.Batch.AnswersAll.{none as answered_none, more as answered_more}
 use Rattle.s10_ends.proofs.Turns.{same_error}
@@ -20,38 +22,62 @@ pub no_push : {X : Type 0} (xs : List X) (x : X) → ¬ (xs ++ x ∷ [] ≡ [])
 no_push [] x wrong = absurd cc
 no_push (y ∷ xs) x wrong = absurd cc
 
-module _ {B : Type 0} (Handled : B → B → List ℕ → Answer → Type 0) (most : ℕ) (old : Trace × B) where
+module _ {B : Type 0} (Handled : B → B → List ℕ → Answer → Type 0) (most : ℕ)
+    (old : Trace × B) where
   -- n were taken
-  pub taken_all : (new : Trace × B) (taken : List Exchange) → ReceivesAll Handled old taken new → length taken ≡ most → ReceivesBatch Handled most old new taken (Ok tt)
-  taken_all new taken takes many = record { handled = new; takes = takes; ends = inl (many, refl); same = refl }
+  pub taken_all : (new : Trace × B) (taken : List Exchange) → ReceivesAll Handled old taken new
+      → length taken ≡ most → ReceivesBatch Handled most old new taken (Ok tt)
+  taken_all new taken takes many = record {
+    handled = new;
+    takes = takes;
+    ends = inl (many, refl);
+    same = refl;
+  }
 
-  module _ (between : Trace × B) (taken : List Exchange) (takes : ReceivesAll Handled old taken between) where
+  module _ (between : Trace × B) (taken : List Exchange)
+      (takes : ReceivesAll Handled old taken between) where
     -- one more was
-    pub one_more : (new : Trace × B) (found : Option Exchange) (next : Exchange) → Takes Handled between new (Ok found) → found ≡ Some next → ReceivesAll Handled old (taken ++ next ∷ []) new
-    one_more new found next count_receive is = taken_more takes (let P : Option Exchange → Type 0 = λ o. Takes Handled between new (Ok o) in subst P is count_receive)
+    pub one_more : (new : Trace × B) (found : Option Exchange) (next : Exchange)
+        → Takes Handled between new (Ok found) → found ≡ Some next
+        → ReceivesAll Handled old (taken ++ next ∷ []) new
+    one_more new found next count_receive is = taken_more takes (let P : Option Exchange
+        → Type 0 = λ o. Takes Handled between new (Ok o) in subst P is count_receive)
 
     -- nothing more had come
-    pub no_more : (new : Trace × B) (found : Option Exchange) → Takes Handled between new (Ok found) → found ≡ None → ReceivesBatch Handled most old new taken (Ok tt)
+    pub no_more : (new : Trace × B) (found : Option Exchange) → Takes Handled between new (Ok found)
+        → found ≡ None → ReceivesBatch Handled most old new taken (Ok tt)
     no_more new found count_receive is =
         let P : Option Exchange → Type 0 = λ o. Takes Handled between new (Ok o) in
         let none = subst P is count_receive in
         record { handled = between; takes = takes; ends = inr none.0; same = none.1 }
 
     -- a receive failed
-    pub failed : (new : Trace × B) (fault : LinkFault) (ended : Result (Unit {0}) LinkFault) → length taken < most → Takes Handled between new (Err fault) → IsErrAnd ended (λ e. e ≡ fault) → ReceivesBatch Handled most old new taken ended
+    pub failed : (new : Trace × B) (fault : LinkFault) (ended : Result (Unit {0}) LinkFault)
+        → length taken < most → Takes Handled between new (Err fault)
+        → IsErrAnd ended (λ e. e ≡ fault) → ReceivesBatch Handled most old new taken ended
     failed new fault ended few count_receive passed =
-        let P : Result (Unit {0}) LinkFault → Type 0 = λ r. ReceivesBatch Handled most old new taken r in
-        let here : ReceivesBatch Handled most old new taken (Err fault) = record { handled = between; takes = takes; ends = (few, count_receive.0); same = count_receive.1 } in
+        let P : Result (Unit {0}) LinkFault → Type 0 = λ r. ReceivesBatch Handled most old new taken
+        r in
+        let here : ReceivesBatch Handled most old new taken (Err fault) =
+        record {
+          handled = between;
+          takes = takes;
+          ends = (few, count_receive.0);
+          same = count_receive.1;
+        } in
         subst P (sym (same_error ended fault passed)) here
 
 -- a batch has a turn
-pub turns_some : (ended : Result (Unit {0}) LinkFault) (answered : List Turn) → 1 ≤ length (turns_of_batch ended answered)
+pub turns_some : (ended : Result (Unit {0}) LinkFault) (answered : List Turn)
+    → 1 ≤ length (turns_of_batch ended answered)
 turns_some (Err fault) answered = omega (arith, length-append answered (Err fault ∷ []))
 turns_some (Ok _) [] = omega arith
 turns_some (Ok _) (turn ∷ answered) = omega arith
 
-turns_at_most : (most : ℕ) (taken : List Exchange) (old new : Trace) (ended : Result (Unit {0}) LinkFault) (answered : List Turn)
-    → EndsReceiving most taken old new ended → 1 ≤ most → length taken ≤ most → length answered ≡ length taken → length (turns_of_batch ended answered) ≤ most
+turns_at_most : (most : ℕ) (taken : List Exchange) (old new : Trace)
+    (ended : Result (Unit {0}) LinkFault) (answered : List Turn)
+    → EndsReceiving most taken old new ended → 1 ≤ most → length taken ≤ most → length answered
+    ≡ length taken → length (turns_of_batch ended answered) ≤ most
 turns_at_most most taken old new (Err fault) answered ends some few many =
     let less : length taken < most = ends.0 in
     omega (arith, length-append answered (Err fault ∷ []))
@@ -59,43 +85,71 @@ turns_at_most most taken old new (Ok _) [] ends some few many = some
 turns_at_most most taken old new (Ok _) (turn ∷ answered) ends some few many = omega arith
 
 -- and at most n as it may take
-pub turns_few : {B : Type 0} (Handled : B → B → List ℕ → Answer → Type 0) (most : ℕ) (old new : Trace × B) (taken : List Exchange) (ended : Result (Unit {0}) LinkFault) (answered : List Turn)
-    → ReceivesBatch Handled most old new taken ended → 1 ≤ most → length taken ≤ most → length answered ≡ length taken → length (turns_of_batch ended answered) ≤ most
-turns_few Handled most old new taken ended answered batch some few many = turns_at_most most taken batch.handled.0 new.0 ended answered batch.ends some few many
+pub turns_few : {B : Type 0} (Handled : B → B → List ℕ → Answer → Type 0) (most : ℕ)
+    (old new : Trace × B) (taken : List Exchange) (ended : Result (Unit {0}) LinkFault)
+    (answered : List Turn)
+    → ReceivesBatch Handled most old new taken ended → 1 ≤ most → length taken ≤ most
+    → length answered ≡ length taken → length (turns_of_batch ended answered) ≤ most
+turns_few Handled most old new taken ended answered batch some few many =
+    turns_at_most most taken batch.handled.0 new.0 ended answered batch.ends some few many
 
 -- batches of one datagram at most
-module _ {B : Type 0} (faults : B → Faults) (honest : B → Type 0) (terms : B → Terms) (history committed : B → List Entry) (day : ℕ) (old between : Trace × B) where
+module _ {B : Type 0} (faults : B → Faults) (honest : B → Type 0) (terms : B → Terms)
+    (history committed : B → List Entry) (day : ℕ) (old between : Trace × B) where
   abbrev Handled : B → B → List ℕ → Answer → Type 0
   Handled before after b answer = Handles faults honest terms history before after day b answer
 
   -- nothing was taken
-  unanswered : (ended : Result (Unit {0}) LinkFault) (batch : List Turn) → ReceivesBatch Handled 1 old between [] ended → batch ≡ turns_of_batch ended [] → ServesBatch faults honest terms history committed day 1 old between batch
+  unanswered : (ended : Result (Unit {0}) LinkFault) (batch : List Turn)
+      → ReceivesBatch Handled 1 old between [] ended → batch ≡ turns_of_batch ended []
+      → ServesBatch faults honest terms history committed day 1 old between batch
   unanswered ended batch takes are = record {
     taken = [];
     between = between;
     ended = ended;
     takes = takes;
     answered = [];
-    answers = record { commit_result = Ok tt; commits = λ some. absurd (some refl); unasked = λ it. refl; answers = answered_none };
+    answers = record {
+      commit_result = Ok tt;
+      commits = λ some. absurd (some refl);
+      unasked = λ it. refl;
+      answers = answered_none;
+    };
     are = are;
   }
 
-  pub one_failed : (fault : LinkFault) (turn : Turn) → Takes Handled old between (Err fault) → IsErrAnd turn (λ e. e ≡ fault) → ServesBatch faults honest terms history committed day 1 old between (turn ∷ [])
+  pub one_failed : (fault : LinkFault) (turn : Turn) → Takes Handled old between (Err fault)
+      → IsErrAnd turn (λ e. e ≡ fault) → ServesBatch faults honest terms history committed day 1 old
+      between (turn ∷ [])
   one_failed fault turn count_receive passed =
-      unanswered (Err fault) (turn ∷ []) (failed Handled 1 old old [] taken_none between fault (Err fault) (omega arith) count_receive refl) (ap (λ (t : Turn). t ∷ []) (same_error turn fault passed))
+      unanswered (Err fault) (turn ∷ []) (failed Handled 1 old old [] taken_none between fault
+      (Err fault) (omega arith) count_receive refl)
+      (ap (λ (t : Turn). t ∷ []) (same_error turn fault passed))
 
-  pub one_quiet : (found : Option Exchange) → Takes Handled old between (Ok found) → found ≡ None → ServesBatch faults honest terms history committed day 1 old between (Ok turns.Quiet ∷ [])
-  one_quiet found count_receive is = unanswered (Ok tt) (Ok turns.Quiet ∷ []) (no_more Handled 1 old old [] taken_none between found count_receive is) refl
+  pub one_quiet : (found : Option Exchange) → Takes Handled old between (Ok found) → found ≡ None
+      → ServesBatch faults honest terms history committed day 1 old between (Ok turns.Quiet ∷ [])
+  one_quiet found count_receive is = unanswered (Ok tt) (Ok turns.Quiet ∷ [])
+      (no_more Handled 1 old old [] taken_none between found count_receive is) refl
 
-  pub one_served : (new : Trace × B) (found : Option Exchange) (taken : Exchange) (commit_result : Result (Unit {0}) BookFault) (turn : Turn) → Takes Handled old between (Ok found) → found ≡ Some taken
+  pub one_served : (new : Trace × B) (found : Option Exchange) (taken : Exchange)
+      (commit_result : Result (Unit {0}) BookFault) (turn : Turn)
+      → Takes Handled old between (Ok found) → found ≡ Some taken
       → Commits faults honest terms history committed between.1 new.1 commit_result
-      → Answers (honest new.1) (AsksCommitted (committed new.1) (history new.1)) between.0 new.0 commit_result taken.from taken.packet taken.answer turn → ServesBatch faults honest terms history committed day 1 old new (turn ∷ [])
+      → Answers (honest new.1) (AsksCommitted (committed new.1) (history new.1)) between.0 new.0
+      commit_result taken.from taken.packet taken.answer turn
+      → ServesBatch faults honest terms history committed day 1 old new (turn ∷ [])
   one_served new found taken commit_result turn count_receive is commits answers = record {
     taken = taken ∷ [];
     between = between;
     ended = Ok tt;
-    takes = taken_all Handled 1 old between (taken ∷ []) (one_more Handled 1 old old [] taken_none between found taken count_receive is) refl;
+    takes = taken_all Handled 1 old between (taken ∷ []) (one_more Handled 1 old old [] taken_none
+        between found taken count_receive is) refl;
     answered = turn ∷ [];
-    answers = record { commit_result = commit_result; commits = λ some. commits; unasked = λ none. absurd cc; answers = answered_more taken turn answered_none answers };
+    answers = record {
+      commit_result = commit_result;
+      commits = λ some. commits;
+      unasked = λ none. absurd cc;
+      answers = answered_more taken turn answered_none answers;
+    };
     are = refl;
   }

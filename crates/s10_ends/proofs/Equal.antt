@@ -3,7 +3,8 @@ use Rattle.std.proofs.Common.{◌≡◌, ◌≢◌, ◌∙◌, ◌⊎◌, inl, i
 use Rattle.std.proofs.lemmas.Bool.Decides.{eqb_tells}
 use Rattle.s10_core.specs.declared.id.Id.{Id}
 use Rattle.s10_wire.specs.declared.body.Body.{Body}
-use Rattle.s10_wire.specs.declared.body.Body.TheVariants.{Grant, Draw, Void, Query, DrawMany, Withdraw}
+use Rattle.s10_wire.specs.declared.body.Body.TheVariants.{Grant, Draw, Void, Query, DrawMany}
+use Rattle.s10_wire.specs.declared.body.Body.TheVariants.{Withdraw}
 use Rattle.s10_wire.specs.declared.request.Request.{Request}
 
 same_or_not : (xs ys : List ℕ) → (xs ≡ ys) ⊎ (xs ≢ ys)
@@ -19,7 +20,8 @@ same_or_not (x ∷ xs) (y ∷ ys) = elim (eqb_tells x y) [
 ]
 
 pair_one : (p q : ℕ × ℕ) → p.0 ≡ q.0 → p.1 ≡ q.1 → p ≡ q
-pair_one p q first second = ap (λ (x : ℕ). let r : ℕ × ℕ = (x, p.1) in r) first ∙ ap (λ (y : ℕ). let r : ℕ × ℕ = (q.0, y) in r) second
+pair_one p q first second = ap (λ (x : ℕ). let r : ℕ × ℕ = (x, p.1) in r) first
+    ∙ ap (λ (y : ℕ). let r : ℕ × ℕ = (q.0, y) in r) second
 
 -- the numbers of an identifier tell it from every other
 abbrev id_numbers : Id → List ℕ
@@ -38,11 +40,13 @@ id_one x y same =
     made
 
 abbrev body_numbers : Body → List ℕ
-body_numbers (Grant holder service country first lst) = 0 ∷ holder ∷ service.0 ∷ service.1 ∷ country.0 ∷ country.1 ∷ first ∷ lst ∷ []
+body_numbers (Grant holder service country first lst) = 0 ∷ holder ∷ service.0 ∷ service.1
+    ∷ country.0 ∷ country.1 ∷ first ∷ lst ∷ []
 body_numbers (Draw service country) = 1 ∷ service.0 ∷ service.1 ∷ country.0 ∷ country.1 ∷ []
 body_numbers (Void x) = 2 ∷ id_numbers x
 body_numbers (Query x) = 3 ∷ id_numbers x
-body_numbers (DrawMany service country count) = 4 ∷ service.0 ∷ service.1 ∷ country.0 ∷ country.1 ∷ count ∷ []
+body_numbers (DrawMany service country count) = 4 ∷ service.0 ∷ service.1 ∷ country.0 ∷ country.1
+    ∷ count ∷ []
 body_numbers (Withdraw range) = 5 ∷ range ∷ []
 
 body_one : (a b : Body) → body_numbers a ≡ body_numbers b → a ≡ b
@@ -63,11 +67,21 @@ body_one (DrawMany s c n) (DrawMany s' c' n') same =
 body_one (Withdraw r) (Withdraw r') same = cc
 body_one a b same = cc
 
-request_one : (p q : Request) → p.customer ≡ q.customer → p.number ≡ q.number → p.body ≡ q.body → p ≡ q
+request_one : (p q : Request) → p.customer ≡ q.customer → p.number ≡ q.number → p.body ≡ q.body
+    → p ≡ q
 request_one p q customer number body =
-    ap (λ (n : ℕ). let r : Request = record { customer = n; number = p.number; body = p.body } in r) customer
-    ∙ ap (λ (n : ℕ). let r : Request = record { customer = q.customer; number = n; body = p.body } in r) number
-    ∙ ap (λ (b : Body). let r : Request = record { customer = q.customer; number = q.number; body = b } in r) body
+    ap (λ (n : ℕ). let r : Request = record { customer = n; number = p.number; body = p.body } in
+    r) customer
+    ∙ ap (λ (n : ℕ). let r : Request = record {
+      customer = q.customer;
+      number = n;
+      body = p.body;
+    } in r) number
+    ∙ ap (λ (b : Body). let r : Request = record {
+      customer = q.customer;
+      number = q.number;
+      body = b;
+    } in r) body
 
 abbrev request_numbers : Request → List ℕ
 request_numbers q = q.customer ∷ q.number ∷ body_numbers q.body

@@ -7,13 +7,15 @@ use Rattle.s10_book.specs.declared.book_fault.BookFault.TheVariants.{Memory, Sto
 use Rattle.s10_book.specs.declared.faults.Faults.{Faults}
 use Rattle.s10_book.specs.BookFault.{CountsFault, CountsBookFault}
 
-pub told_counts : (fault : BookFault) (before after : Faults) → CountsBookFault fault before after → CountsFault fault before after
+pub told_counts : (fault : BookFault) (before after : Faults) → CountsBookFault fault before after
+    → CountsFault fault before after
 told_counts Memory before after it = it
 told_counts Store before after it = it
 told_counts Full before after it = absurd it
 
 -- no call of the book answers Full
-pub never_full : {T : Type 0} (r : Result T BookFault) (fault : BookFault) (before after : Faults) → IsErrAnd r (λ e. e ≡ fault) → CountsBookFault fault before after → r ≡ Err Full → ⊥
+pub never_full : {T : Type 0} (r : Result T BookFault) (fault : BookFault) (before after : Faults)
+    → IsErrAnd r (λ e. e ≡ fault) → CountsBookFault fault before after → r ≡ Err Full → ⊥
 never_full (Ok x) fault before after passed counts full = absurd passed
 never_full (Err e) fault before after passed counts full =
     let is : e ≡ fault = passed in

@@ -1,5 +1,6 @@
 -- The receives of one try of a call.
-use Rattle.std.proofs.Common.{◌≡◌, ◌≢◌, ℕ, false, true, ◌+◌, ◌<◌, ◌≤◌, List, Option, Some, Err, refl, sym, ap, ◌∙◌, subst, inl, inr, arith}
+use Rattle.std.proofs.Common.{◌≡◌, ◌≢◌, ℕ, false, true, ◌+◌, ◌<◌, ◌≤◌, List, Option, Some, Err}
+use Rattle.std.proofs.Common.{refl, sym, ap, ◌∙◌, subst, inl, inr, arith}
 use Rattle.std.specs.Prelude.{IsSome}
 use Rattle.std.proofs.lemmas.Option.{same_Some}
 use Rattle.std.proofs.lemmas.Bool.{false≢true}
@@ -16,7 +17,8 @@ use Rattle.s10_link.specs.Trace.{after_call, after_datagram}
 use Rattle.s10_link.specs.Link.{Receives}
 use Rattle.s10_wire.proofs.Replied.{one_reply}
 use Rattle.s10_ends.specs.declared.received.Received.{Received}
-use Rattle.s10_ends.specs.declared.received.Received.TheVariants.{Malformed, Idle, NotMine, Accepted}
+use Rattle.s10_ends.specs.declared.received.Received.TheVariants.{Malformed, Idle, NotMine}
+use Rattle.s10_ends.specs.declared.received.Received.TheVariants.{Accepted}
 use Rattle.s10_wire.specs.Reply.{request_of, outcome_of}
 use Rattle.s10_ends.specs.Client.{ClientState, ClientReceives, without_pending}
 use Rattle.s10_ends.specs.Calls.{Heard, TookAllBut, IsUnanswered, IsLastReply, failures_of}
@@ -31,9 +33,17 @@ pub record Hearing (old new : Trace) (k : ℕ) : Type 0 where
   pub alike : new.alike ≡ old.alike
 
 pub hearing_none : (t : Trace) → Hearing t t 0
-hearing_none t = record { calls = omega arith; received = omega arith; failures = refl; sends = refl; given = refl; alike = refl }
+hearing_none t = record {
+  calls = omega arith;
+  received = omega arith;
+  failures = refl;
+  sends = refl;
+  given = refl;
+  alike = refl;
+}
 
-pub hearing_datagram : (t m m' : Trace) (k : ℕ) (p : Peer × Packet) → Hearing t m k → m' ≡ after_datagram m p → Hearing t m' (k + 1)
+pub hearing_datagram : (t m m' : Trace) (k : ℕ) (p : Peer × Packet) → Hearing t m k
+    → m' ≡ after_datagram m p → Hearing t m' (k + 1)
 hearing_datagram t m m' k p h is =
     let calls : m'.calls ≡ m.calls + 1 = ap (λ (x : Trace). x.calls) is in
     let received : m'.received ≡ m.received + 1 = ap (λ (x : Trace). x.received) is in
@@ -60,7 +70,8 @@ pub took_all : (t m : Trace) (k : ℕ) → Hearing t m k → TookAllBut t m 0
 took_all t m k h = omega (arith, h.calls, h.received)
 
 -- nothing came after k datagrams
-pub heard_quiet : (t m m' : Trace) (k : ℕ) → Hearing t m k → k < 8 → m' ≡ after_call m → Heard t m' 0 × (t.calls < m'.calls) × TookAllBut t m' 1
+pub heard_quiet : (t m m' : Trace) (k : ℕ) → Hearing t m k → k < 8 → m' ≡ after_call m
+    → Heard t m' 0 × (t.calls < m'.calls) × TookAllBut t m' 1
 heard_quiet t m m' k h few is =
     let calls : m'.calls ≡ m.calls + 1 = ap (λ (x : Trace). x.calls) is in
     let received : m'.received ≡ m.received = ap (λ (x : Trace). x.received) is in
@@ -78,7 +89,8 @@ heard_quiet t m m' k h few is =
     )
 
 -- a receive that was refused after k others
-pub heard_refused : (t m m' : Trace) (k : ℕ) (fault : LinkFault) → Hearing t m k → k < 8 → Receives m m' (Err fault) → Heard t m' (failures_of fault)
+pub heard_refused : (t m m' : Trace) (k : ℕ) (fault : LinkFault) → Hearing t m k → k < 8
+    → Receives m m' (Err fault) → Heard t m' (failures_of fault)
 heard_refused t m m' k Receive h few refused =
     let calls : m'.calls ≡ m.calls + 1 = ap (λ (x : Trace). x.calls) refused in
     let failures : m'.failures ≡ m.failures + 1 = ap (λ (x : Trace). x.failures) refused in
@@ -91,16 +103,19 @@ heard_refused t m m' k Receive h few refused =
       alike = ap (λ (x : Trace). x.alike) refused ∙ h.alike;
       received = omega (arith, h.received, received);
     }
-heard_refused t m m' k Spent h few refused = let P : Trace → Type 0 = λ x. Heard t x 0 in subst P (sym refused.0) (heard t m k h (omega arith))
+heard_refused t m m' k Spent h few refused = let P : Trace → Type 0 = λ x. Heard t x 0 in
+    subst P (sym refused.0) (heard t m k h (omega arith))
 heard_refused t m m' k Send h few refused = absurd refused
 heard_refused t m m' k Bind h few refused = absurd refused
 
-pub took_all_refused : (t m m' : Trace) (k : ℕ) (fault : LinkFault) → Hearing t m k → Receives m m' (Err fault) → TookAllBut t m' (failures_of fault)
+pub took_all_refused : (t m m' : Trace) (k : ℕ) (fault : LinkFault) → Hearing t m k
+    → Receives m m' (Err fault) → TookAllBut t m' (failures_of fault)
 took_all_refused t m m' k Receive h refused =
     let calls : m'.calls ≡ m.calls + 1 = ap (λ (x : Trace). x.calls) refused in
     let received : m'.received ≡ m.received = ap (λ (x : Trace). x.received) refused in
     omega (arith, h.calls, h.received, calls, received)
-took_all_refused t m m' k Spent h refused = let P : Trace → Type 0 = λ x. TookAllBut t x 0 in subst P (sym refused.0) (took_all t m k h)
+took_all_refused t m m' k Spent h refused = let P : Trace → Type 0 = λ x. TookAllBut t x 0 in
+    subst P (sym refused.0) (took_all t m k h)
 took_all_refused t m m' k Send h refused = absurd refused
 took_all_refused t m m' k Bind h refused = absurd refused
 
@@ -118,21 +133,37 @@ receive_not_bind m m' Spent refused = λ wrong. cc
 receive_not_bind m m' Send refused = absurd refused
 receive_not_bind m m' Bind refused = absurd refused
 
-pub unanswered_call : (t m m' : Trace) (pending : Option Request) → IsUnanswered t m pending → m' ≡ after_call m → IsUnanswered t m' pending
-unanswered_call t m m' pending u is = let P : Trace → Type 0 = λ x. IsUnanswered t x pending in subst P (sym is) u
+pub unanswered_call : (t m m' : Trace) (pending : Option Request) → IsUnanswered t m pending
+    → m' ≡ after_call m → IsUnanswered t m' pending
+unanswered_call t m m' pending u is = let P : Trace → Type 0 = λ x. IsUnanswered t x pending in
+    subst P (sym is) u
 
-pub unanswered_datagram : (t m m' : Trace) (pending : Option Request) (from : Peer) (packet : Packet) → IsUnanswered t m pending → m' ≡ after_datagram m (from, packet)
-    → ((q : Request) → pending ≡ Some q → (o : Outcome) → ¬ (Replies packet q o)) → IsUnanswered t m' pending
+pub unanswered_datagram : (t m m' : Trace) (pending : Option Request) (from : Peer)
+    (packet : Packet) → IsUnanswered t m pending → m' ≡ after_datagram m (from, packet)
+    → ((q : Request) → pending ≡ Some q → (o : Outcome) → ¬ (Replies packet q o))
+    → IsUnanswered t m' pending
 unanswered_datagram t m m' pending from packet u is other =
     let received : m'.received ≡ m.received + 1 = ap (λ (x : Trace). x.received) is in
-    let before : t.received ≤ m.received = elim u [ inl w ↦ omega (arith, w.0) | inr w ↦ omega (arith, w.0) ] in
-    inr (omega (arith, received, before), λ q pends. (from, packet, ap (λ (x : Trace). x.taken) is, other q pends))
+    let before : t.received ≤ m.received =
+    elim u [ inl w ↦ omega (arith, w.0) | inr w ↦ omega (arith, w.0) ] in
+    inr (
+      omega (arith, received, before),
+      λ q pends. (
+        from,
+        packet,
+        ap (λ (x : Trace). x.taken) is,
+        other q pends,
+      ),
+    )
 
-no_reply_to : (b : List ℕ) (q p : Request) (o : Outcome) → Replies b q o → p ≢ q → (o' : Outcome) → ¬ (Replies b p o')
+no_reply_to : (b : List ℕ) (q p : Request) (o : Outcome) → Replies b q o → p ≢ q → (o' : Outcome)
+    → ¬ (Replies b p o')
 no_reply_to b q p o replies other o' wrong = other (one_reply b p q o' o wrong replies).0
 
 -- a datagram that was not accepted leaves the client, and is no reply to what is pending
-pub unaccepted : (c c' : ClientState) (b : List ℕ) (received : Received) → ClientReceives c b received c' → ((reply : Reply) → received ≡ Accepted reply → ⊥) → IsSome c.pending
+pub unaccepted : (c c' : ClientState) (b : List ℕ) (received : Received)
+    → ClientReceives c b received c' → ((reply : Reply) → received ≡ Accepted reply → ⊥)
+    → IsSome c.pending
     → (c' ≡ c) × ((q : Request) → c.pending ≡ Some q → (o : Outcome) → ¬ (Replies b q o))
 unaccepted c c' b (Malformed fault) r other some = (r.2, λ q pends o replies. r.0 (q, o, replies))
 unaccepted c c' b Idle r other some =
@@ -148,16 +179,25 @@ unaccepted c c' b NotMine r other some =
 unaccepted c c' b (Accepted reply) r other some = absurd (other reply refl)
 
 -- so of the packet with these bytes, and of what was pending before
-pub unaccepted_packet : (c c0 : ClientState) (b : List ℕ) (packet : Packet) → c ≡ c0 → b ≡ packet → ((q : Request) → c.pending ≡ Some q → (o : Outcome) → ¬ (Replies b q o))
+pub unaccepted_packet : (c c0 : ClientState) (b : List ℕ) (packet : Packet) → c ≡ c0 → b ≡ packet
+    → ((q : Request) → c.pending ≡ Some q → (o : Outcome) → ¬ (Replies b q o))
     → (q : Request) → c0.pending ≡ Some q → (o : Outcome) → ¬ (Replies packet q o)
 unaccepted_packet c c0 b packet client is none =
-    let P : List ℕ → Type 0 = λ x. (q : Request) → c0.pending ≡ Some q → (o : Outcome) → ¬ (Replies x q o) in
-    let Q : ClientState → Type 0 = λ s. (q : Request) → s.pending ≡ Some q → (o : Outcome) → ¬ (Replies b q o) in
+    let P : List ℕ → Type 0 = λ x. (q : Request) → c0.pending ≡ Some q → (o : Outcome)
+    → ¬ (Replies x q o) in
+    let Q : ClientState → Type 0 = λ s. (q : Request) → s.pending ≡ Some q → (o : Outcome)
+    → ¬ (Replies b q o) in
     subst P is (subst Q client none)
 
 -- a datagram that was accepted is the reply to what was pending
-pub accepted_reply : (c0 c c' : ClientState) (b : List ℕ) (t : Trace) (from : Peer) (packet : Packet) (reply : Reply) → c ≡ c0 → b ≡ packet → ClientReceives c b (Accepted reply) c'
-    → t.taken ≡ Some (from, packet) → (c0.pending ≡ Some (request_of reply)) × (c' ≡ without_pending c0) × IsLastReply t reply
+pub accepted_reply : (c0 c c' : ClientState) (b : List ℕ) (t : Trace) (from : Peer)
+    (packet : Packet) (reply : Reply) → c ≡ c0 → b ≡ packet → ClientReceives c b (Accepted reply) c'
+    → t.taken ≡ Some (from, packet) → (c0.pending ≡ Some (request_of reply))
+    × (c' ≡ without_pending c0) × IsLastReply t reply
 accepted_reply c0 c c' b t from packet reply client is accepted taken =
-    let P : List ℕ → Type 0 = λ x. Replies x (request_of reply) (outcome_of reply) in
-    (ap (λ (x : ClientState). x.pending) (sym client) ∙ accepted.0.0, accepted.1 ∙ ap without_pending client, (from, packet, taken, subst P is accepted.0.1))
+    let P : List ℕ → Type 0 = λ x. Replies x (request_of reply) (outcome_of reply) in (
+      ap (λ (x : ClientState). x.pending) (sym client) ∙ accepted.0.0,
+      accepted.1
+          ∙ ap without_pending client,
+      (from, packet, taken, subst P is accepted.0.1),
+    )

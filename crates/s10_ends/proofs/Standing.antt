@@ -1,5 +1,6 @@
 -- The replies of a batch stand in the committed calls.
-use Rattle.std.proofs.Common.{◌≡◌, ◌≢◌, ◌∙◌, refl, sym, ap, subst, ℕ, Bool, false, List, [], ◌∷◌, ◌++◌, map, Option, Result, Ok, Err, inl, inr}
+use Rattle.std.proofs.Common.{◌≡◌, ◌≢◌, ◌∙◌, refl, sym, ap, subst, ℕ, Bool, false, List, [], ◌∷◌}
+use Rattle.std.proofs.Common.{◌++◌, map, Option, Result, Ok, Err, inl, inr}
 use Rattle.std.specs.Prelude.{◌↔◌, IsTrue, All, OnOk}
 use Rattle.std.specs.List.{AllZip}
 use Rattle.std.proofs.lemmas.Bool.{false≢true}
@@ -23,35 +24,49 @@ use Rattle.s10_ends.specs.declared.answer.Answer.{Answer}
 use Rattle.s10_ends.specs.declared.answer.Answer.TheVariants.{Reply, Dropped, Faulted}
 use Rattle.s10_ends.specs.declared.exchange.Exchange.{Exchange}
 use Rattle.s10_ends.specs.declared.server_turn.ServerTurn.TheVariants as turns
-use Rattle.s10_ends.specs.Served.{Dated, AskNothing, GivesOutcome, IsOwed, IsReplyIn, IsAnswered, Served}
-use Rattle.s10_ends.specs.Turn.{Turn, Handles, Commits, AsksCommitted, SendsReply, WithholdsReply, Answers, sent_turn}
-use Rattle.s10_ends.specs.Batch.{ReceivesAll, AnswersAll, ServesBatch, IsSentCommitted, turns_of_batch}
+use Rattle.s10_ends.specs.Served.{Dated, AskNothing, GivesOutcome, IsOwed, IsReplyIn, IsAnswered}
+use Rattle.s10_ends.specs.Served.{Served}
+use Rattle.s10_ends.specs.Turn.{Turn, Handles, Commits, AsksCommitted, SendsReply, WithholdsReply}
+use Rattle.s10_ends.specs.Turn.{Answers, sent_turn}
+use Rattle.s10_ends.specs.Batch.{ReceivesAll, AnswersAll, ServesBatch, IsSentCommitted}
+use Rattle.s10_ends.specs.Batch.{turns_of_batch}
 use Rattle.s10_ends.specs.Batch.ReceivesAll.{none as taken_none, more as taken_more}
 use Rattle.s10_ends.specs.Batch.AnswersAll.{none as answered_none, more as answered_more}
 use Rattle.s10_ends.proofs.Whole.{Served-nil, Served-push}
 use Rattle.s10_ends.proofs.Batches.{no_push}
 
 -- what bytes ask is committed where the call of their request is
-pub own_committed : (committed h : List Entry) (b : List ℕ) (q : Request) (answer : Bool) → Asks b q → (IsTrue answer ↔ IsCommittedCall committed h q.customer q.number) → IsTrue answer ↔ AsksCommitted committed h b
+pub own_committed : (committed h : List Entry) (b : List ℕ) (q : Request) (answer : Bool) → Asks b q
+    → (IsTrue answer ↔ IsCommittedCall committed h q.customer q.number) → IsTrue answer
+    ↔ AsksCommitted committed h b
 own_committed committed h b q answer asks decides =
-    let P : Request → Type 0 = λ r. IsCommittedCall committed h r.customer r.number in
-    (λ is. (q, asks, decides.0 is), λ own. decides.1 (subst P (one_request b own.0 q own.1 asks) own.2))
+    let P : Request → Type 0 = λ r. IsCommittedCall committed h r.customer r.number in (
+      λ is. (q, asks, decides.0 is),
+      λ own. decides.1 (subst P (one_request b own.0 q own.1 asks) own.2),
+    )
 
-pub nothing_committed : (committed h : List Entry) (b : List ℕ) → AskNothing b → IsTrue false ↔ AsksCommitted committed h b
-nothing_committed committed h b nothing = (λ is. absurd (false≢true is), λ own. absurd (nothing own.0 own.1))
+pub nothing_committed : (committed h : List Entry) (b : List ℕ) → AskNothing b → IsTrue false
+    ↔ AsksCommitted committed h b
+nothing_committed committed h b nothing =
+    (λ is. absurd (false≢true is), λ own. absurd (nothing own.0 own.1))
 
 -- a datagram that was answered as the calls owe it
 abbrev IsTakenAnswered : List Entry → Exchange → Type 0
 IsTakenAnswered h t = IsAnswered h t.packet t.answer
 
-taken_answered : (h : List Entry) (day : ℕ) (ts : List Exchange) → AllZip (λ (d : Dated) (a : Answer). IsAnswered h d.0 a) (map (λ (t : Exchange). (t.packet, day)) ts) (map (λ (t : Exchange). t.answer) ts) → All (IsTakenAnswered h) ts
+taken_answered : (h : List Entry) (day : ℕ) (ts : List Exchange)
+    → AllZip (λ (d : Dated) (a : Answer). IsAnswered h d.0 a)
+    (map (λ (t : Exchange). (t.packet, day)) ts) (map (λ (t : Exchange). t.answer) ts)
+    → All (IsTakenAnswered h) ts
 taken_answered h day [] all = All-nil (IsTakenAnswered h)
-taken_answered h day (t ∷ ts) all = All-cons (IsTakenAnswered h) t ts all.0 (taken_answered h day ts all.1)
+taken_answered h day (t ∷ ts) all = All-cons (IsTakenAnswered h) t ts all.0
+    (taken_answered h day ts all.1)
 
 -- what holds of all and of one after them
 first_of : {X : Type 0} (P : X → Type 0) (xs : List X) (x : X) → All P (xs ++ x ∷ []) → All P xs
 first_of P [] x all = All-nil P
-first_of P (y ∷ ys) x all = All-cons P y ys (All-head P y (ys ++ x ∷ []) all) (first_of P ys x (All-tail P y (ys ++ x ∷ []) all))
+first_of P (y ∷ ys) x all = All-cons P y ys (All-head P y (ys ++ x ∷ []) all)
+    (first_of P ys x (All-tail P y (ys ++ x ∷ []) all))
 
 last_of : {X : Type 0} (P : X → Type 0) (xs : List X) (x : X) → All P (xs ++ x ∷ []) → P x
 last_of P [] x all = All-head P x [] all
@@ -65,52 +80,76 @@ module _ (Honest : Type 0) (committed h : List Entry) (at : Honest) where
   stands : (b : List ℕ) (frame : Frame) → IsOwed h b frame → Own b → IsReplyIn committed frame
   stands b frame owed own =
       let same : owed.0 ≡ own.0 = one_request b owed.0 own.0 owed.2 own.1 in
-      let P : Request → Type 0 = λ q. find_entry committed q.customer q.number ≡ find_entry h q.customer q.number in
+      let P : Request → Type 0 = λ q. find_entry committed q.customer q.number
+      ≡ find_entry h q.customer q.number in
       let Q : Option Entry → Type 0 = λ kept. GivesOutcome kept owed.0 owed.1 in
       (owed.0, owed.1, subst Q (sym (subst P (sym same) own.2)) owed.3, owed.4)
 
-  owed_stands : (b : List ℕ) (frame : Frame) → committed ≡ h → IsOwed h b frame → IsReplyIn committed frame
-  owed_stands b frame same owed = let P : List Entry → Type 0 = λ l. IsReplyIn l frame in subst P (sym same) (owed.0, owed.1, owed.3, owed.4)
+  owed_stands : (b : List ℕ) (frame : Frame) → committed ≡ h → IsOwed h b frame
+      → IsReplyIn committed frame
+  owed_stands b frame same owed = let P : List Entry → Type 0 = λ l. IsReplyIn l frame in
+      subst P (sym same) (owed.0, owed.1, owed.3, owed.4)
 
-  by_result : (to : Peer) (frame : Frame) (r : SendResult) → IsReplyIn committed frame → IsSentCommitted committed (sent_turn to frame r)
+  by_result : (to : Peer) (frame : Frame) (r : SendResult) → IsReplyIn committed frame
+      → IsSentCommitted committed (sent_turn to frame r)
   by_result to frame (Ok _) is = is
   by_result to frame (Err fault) is = tt
 
-  sent : (old new : Trace) (to : Peer) (frame : Frame) (turn : Turn) → SendsReply old new to frame turn → IsReplyIn committed frame → IsSentCommitted committed turn
-  sent old new to frame turn sends is = subst (IsSentCommitted committed) (sym sends.2) (by_result to frame sends.0 is)
+  sent : (old new : Trace) (to : Peer) (frame : Frame) (turn : Turn)
+      → SendsReply old new to frame turn → IsReplyIn committed frame
+      → IsSentCommitted committed turn
+  sent old new to frame turn sends is = subst (IsSentCommitted committed) (sym sends.2)
+      (by_result to frame sends.0 is)
 
-  held : (old new : Trace) (fault : BookFault) (to : Peer) (turn : Turn) → WithholdsReply old new to fault turn → IsSentCommitted committed turn
+  held : (old new : Trace) (fault : BookFault) (to : Peer) (turn : Turn)
+      → WithholdsReply old new to fault turn → IsSentCommitted committed turn
   held old new fault to turn holds = subst (IsSentCommitted committed) (sym holds.1) tt
 
-  unasked : (old new : Trace) (told turn : Turn) → (new ≡ old) × (turn ≡ told) → IsSentCommitted committed told → IsSentCommitted committed turn
+  unasked : (old new : Trace) (told turn : Turn) → (new ≡ old) × (turn ≡ told)
+      → IsSentCommitted committed told → IsSentCommitted committed turn
   unasked old new told turn is told_is = subst (IsSentCommitted committed) (sym is.1) told_is
 
-  turn_stands : (old new : Trace) (commit_result : Result (Unit {0}) BookFault) (to : Peer) (b : List ℕ) (answer : Answer) (turn : Turn) → OnOk commit_result (committed ≡ h)
-      → IsAnswered h b answer → Answers Honest Own old new commit_result to b answer turn → IsSentCommitted committed turn
-  turn_stands old new (Ok _) to b (Reply frame) turn done owed answers = sent old new to frame turn answers (owed_stands b frame done owed)
+  turn_stands : (old new : Trace) (commit_result : Result (Unit {0}) BookFault) (to : Peer)
+      (b : List ℕ) (answer : Answer) (turn : Turn) → OnOk commit_result (committed ≡ h)
+      → IsAnswered h b answer → Answers Honest Own old new commit_result to b answer turn
+      → IsSentCommitted committed turn
+  turn_stands old new (Ok _) to b (Reply frame) turn done owed answers =
+      sent old new to frame turn answers (owed_stands b frame done owed)
   turn_stands old new (Err fault) to b (Reply frame) turn done owed answers = elim answers [
     | inl w ↦ sent old new to frame turn w.1 (stands b frame owed (w.0 at))
     | inr w ↦ held old new fault to turn w.1
   ]
-  turn_stands old new commit_result to b (Dropped fault) turn done is answers = unasked old new (Ok (turns.Dropped to fault)) turn answers tt
-  turn_stands old new commit_result to b (Faulted fault) turn done is answers = unasked old new (Ok (turns.Faulted to fault)) turn answers tt
+  turn_stands old new commit_result to b (Dropped fault) turn done is answers =
+      unasked old new (Ok (turns.Dropped to fault)) turn answers tt
+  turn_stands old new commit_result to b (Faulted fault) turn done is answers =
+      unasked old new (Ok (turns.Faulted to fault)) turn answers tt
 
-  all_stand : (commit_result : Result (Unit {0}) BookFault) (old new : Trace) (ts : List Exchange) (answered : List Turn) → (ts ≢ [] → OnOk commit_result (committed ≡ h)) → All (IsTakenAnswered h) ts
-      → AnswersAll Honest Own commit_result old ts answered new → All (IsSentCommitted committed) answered
+  all_stand : (commit_result : Result (Unit {0}) BookFault) (old new : Trace) (ts : List Exchange)
+      (answered : List Turn) → (ts ≢ [] → OnOk commit_result (committed ≡ h))
+      → All (IsTakenAnswered h) ts
+      → AnswersAll Honest Own commit_result old ts answered new
+      → All (IsSentCommitted committed) answered
   all_stand commit_result old _ _ _ done owed answered_none = All-nil (IsSentCommitted committed)
-  all_stand commit_result old new _ _ done owed (answered_more {between = between} {taken = ts} {answered = answered} next turn before answers) =
+  all_stand commit_result old new _ _ done owed (answered_more {between = between} {taken = ts}
+      {answered = answered} next turn before answers) =
       let some : ts ++ next ∷ [] ≢ [] = no_push ts next in
       All-push (IsSentCommitted committed) answered turn
-      (all_stand commit_result old between ts answered (λ it. done some) (first_of (IsTakenAnswered h) ts next owed) before)
-      (turn_stands between new commit_result next.from next.packet next.answer turn (done some) (last_of (IsTakenAnswered h) ts next owed) answers)
+      (all_stand commit_result old between ts answered (λ it. done some)
+      (first_of (IsTakenAnswered h) ts next owed) before)
+      (turn_stands between new commit_result next.from next.packet next.answer turn (done some)
+      (last_of (IsTakenAnswered h) ts next owed) answers)
 
 -- the turns of a batch are those of its datagrams, and one in which none came
-told : (committed : List Entry) (ended : Result (Unit {0}) LinkFault) (answered : List Turn) → All (IsSentCommitted committed) answered → All (IsSentCommitted committed) (turns_of_batch ended answered)
-told committed (Err fault) answered all = All-push (IsSentCommitted committed) answered (Err fault) all tt
+told : (committed : List Entry) (ended : Result (Unit {0}) LinkFault) (answered : List Turn)
+    → All (IsSentCommitted committed) answered
+    → All (IsSentCommitted committed) (turns_of_batch ended answered)
+told committed (Err fault) answered all = All-push (IsSentCommitted committed) answered (Err fault)
+    all tt
 told committed (Ok _) [] all = All-cons (IsSentCommitted committed) (Ok turns.Quiet) [] tt all
 told committed (Ok _) (turn ∷ answered) all = all
 
-module _ {B : Type 0} (faults : B → Faults) (honest : B → Type 0) (terms : B → Terms) (history committed : B → List Entry) (day : ℕ) where
+module _ {B : Type 0} (faults : B → Faults) (honest : B → Type 0) (terms : B → Terms)
+    (history committed : B → List Entry) (day : ℕ) where
   abbrev Handled : B → B → List ℕ → Answer → Type 0
   Handled before after b answer = Handles faults honest terms history before after day b answer
 
@@ -125,37 +164,61 @@ module _ {B : Type 0} (faults : B → Faults) (honest : B → Type 0) (terms : B
     pub same_terms : terms new ≡ terms old
     pub served : Served (history old) (terms old) (packets ts) (answers_of ts) (history new)
 
-  serves_taken : (old new : Trace × B) (ts : List Exchange) → ReceivesAll Handled old ts new → honest new.1 → ServesTaken old.1 new.1 ts
-  serves_taken old _ _ taken_none h = record { same_terms = refl; served = Served-nil (history old.1) (terms old.1) }
-  serves_taken old new _ (taken_more {between = between} {taken = ts} {next = next} takes count_receive) h =
+  serves_taken : (old new : Trace × B) (ts : List Exchange) → ReceivesAll Handled old ts new
+      → honest new.1 → ServesTaken old.1 new.1 ts
+  serves_taken old _ _ taken_none h =
+      record { same_terms = refl; served = Served-nil (history old.1) (terms old.1) }
+  serves_taken old new _ (taken_more {between = between} {taken = ts} {next = next} takes
+      count_receive) h =
       let one = count_receive.1 in
       let before = serves_taken old between ts takes (one.was_honest h) in
-      let P : Terms → Type 0 = λ t. Served (history between.1) t ((next.packet, day) ∷ []) (next.answer ∷ []) (history new.1) in
-      let Q : List Dated → Type 0 = λ ds. Served (history old.1) (terms old.1) ds (answers_of (ts ++ next ∷ [])) (history new.1) in
-      let R : List Answer → Type 0 = λ answers. Served (history old.1) (terms old.1) (packets ts ++ (next.packet, day) ∷ []) answers (history new.1) in
+      let P : Terms → Type 0 = λ t. Served (history between.1) t ((next.packet, day) ∷ [])
+      (next.answer ∷ []) (history new.1) in
+      let Q : List Dated → Type 0 = λ ds. Served (history old.1) (terms old.1) ds
+      (answers_of (ts ++ next ∷ [])) (history new.1) in
+      let R : List Answer → Type 0 = λ answers. Served (history old.1) (terms old.1)
+      (packets ts ++ (next.packet, day) ∷ []) answers (history new.1) in
       record {
         same_terms = one.same_terms h ∙ before.same_terms;
-        served = subst Q (sym (map-append (λ (t : Exchange). (t.packet, day)) ts (next ∷ []))) (subst R (sym (map-append (λ (t : Exchange). t.answer) ts (next ∷ [])))
-            (Served-push (history old.1) (history between.1) (history new.1) (terms old.1) (packets ts) (answers_of ts) (next.packet, day) next.answer before.served (subst P before.same_terms (one.served h))));
+        served = subst Q (sym (map-append (λ (t : Exchange). (t.packet, day)) ts (next ∷ [])))
+            (subst R (sym (map-append (λ (t : Exchange). t.answer) ts (next ∷ [])))
+            (Served-push (history old.1) (history between.1) (history new.1) (terms old.1)
+            (packets ts) (answers_of ts) (next.packet, day) next.answer before.served
+            (subst P before.same_terms (one.served h))));
       }
 
   -- where nothing was taken, or the calls were committed
-  honest_before : (old new : B) (ts : List Exchange) (commit_result : Result (Unit {0}) BookFault) → (ts ≢ [] → Commits faults honest terms history committed old new commit_result) → (ts ≡ [] → new ≡ old)
+  honest_before : (old new : B) (ts : List Exchange) (commit_result : Result (Unit {0}) BookFault)
+      → (ts ≢ [] → Commits faults honest terms history committed old new commit_result)
+      → (ts ≡ [] → new ≡ old)
       → honest new → honest old × (history new ≡ history old)
-  honest_before old new [] commit_result commits same h = (subst honest (same refl) h, ap history (same refl))
-  honest_before old new (t ∷ ts) commit_result commits same h = let kept = (commits (λ e. absurd cc)).unchanged in (kept.was_honest h, kept.same_history h)
+  honest_before old new [] commit_result commits same h =
+      (subst honest (same refl) h, ap history (same refl))
+  honest_before old new (t ∷ ts) commit_result commits same h = let kept =
+      (commits (λ e. absurd cc)).unchanged in (kept.was_honest h, kept.same_history h)
 
   -- each reply that a batch sent stands in the calls that it left committed
-  pub batch_stands : (most : ℕ) (old new : Trace × B) (turns : List Turn) → ServesBatch faults honest terms history committed day most old new turns → honest new.1 → All (IsSentCommitted (committed new.1)) turns
+  pub batch_stands : (most : ℕ) (old new : Trace × B) (turns : List Turn)
+      → ServesBatch faults honest terms history committed day most old new turns → honest new.1
+      → All (IsSentCommitted (committed new.1)) turns
   batch_stands most old new turns batch h =
-      let before = honest_before batch.between.1 new.1 batch.taken batch.answers.commit_result batch.answers.commits batch.answers.unasked h in
+      let before = honest_before batch.between.1 new.1 batch.taken batch.answers.commit_result
+      batch.answers.commits batch.answers.unasked h in
       let same = ap history batch.takes.same in
-      let served = (serves_taken old batch.takes.handled batch.taken batch.takes.takes (subst honest batch.takes.same before.0)).served in
+      let served =
+      (serves_taken old batch.takes.handled batch.taken batch.takes.takes
+      (subst honest batch.takes.same before.0)).served in
       let P : List Entry → Type 0 = λ l. All (IsTakenAnswered l) batch.taken in
-      let owed = subst P (sym (before.1 ∙ same)) (taken_answered (history batch.takes.handled.1) day batch.taken served.answered) in
-      let all = all_stand (honest new.1) (committed new.1) (history new.1) h batch.answers.commit_result batch.between.0 new.0 batch.taken batch.answered (λ some. (batch.answers.commits some).done h) owed batch.answers.answers in
-      subst (λ (l : List Turn). All (IsSentCommitted (committed new.1)) l) (sym batch.are) (told (committed new.1) batch.ended batch.answered all)
+      let owed = subst P (sym (before.1 ∙ same)) (taken_answered (history batch.takes.handled.1) day
+      batch.taken served.answered) in
+      let all = all_stand (honest new.1) (committed new.1) (history new.1) h
+      batch.answers.commit_result batch.between.0 new.0 batch.taken batch.answered
+      (λ some. (batch.answers.commits some).done h) owed batch.answers.answers in
+      subst (λ (l : List Turn). All (IsSentCommitted (committed new.1)) l) (sym batch.are)
+      (told (committed new.1) batch.ended batch.answered all)
 
   -- and so does the one of a batch of one turn
-  pub turn_of_batch : (old new : Trace × B) (turn : Turn) → ServesBatch faults honest terms history committed day 1 old new (turn ∷ []) → honest new.1 → IsSentCommitted (committed new.1) turn
-  turn_of_batch old new turn batch h = All-head (IsSentCommitted (committed new.1)) turn [] (batch_stands 1 old new (turn ∷ []) batch h)
+  pub turn_of_batch : (old new : Trace × B) (turn : Turn) → ServesBatch faults honest terms history
+      committed day 1 old new (turn ∷ []) → honest new.1 → IsSentCommitted (committed new.1) turn
+  turn_of_batch old new turn batch h = All-head (IsSentCommitted (committed new.1)) turn []
+      (batch_stands 1 old new (turn ∷ []) batch h)

@@ -1,5 +1,6 @@
 -- The cases of a receive.
-use Rattle.std.proofs.Common.{◌≡◌, List, ℕ, Option, Some, None, Result, Ok, Err, refl, sym, ap, subst}
+use Rattle.std.proofs.Common.{◌≡◌, List, ℕ, Option, Some, None, Result, Ok, Err, refl, sym, ap}
+use Rattle.std.proofs.Common.{subst}
 use Rattle.std.specs.Prelude.{IsErrAnd}
 use Rattle.s10_link.specs.declared.trace.Trace.{Trace}
 use Rattle.s10_link.specs.declared.peer.Peer.{Peer}
@@ -12,25 +13,37 @@ use Rattle.s10_ends.specs.declared.exchange.Exchange.{Exchange}
 use Rattle.s10_ends.specs.Turn.{Takes}
 
 -- an error that is passed on
-pub same_error : {T : Type 0} → (r : Result T LinkFault) (fault : LinkFault) → IsErrAnd r (λ e. e ≡ fault) → r ≡ Err fault
+pub same_error : {T : Type 0} → (r : Result T LinkFault) (fault : LinkFault)
+    → IsErrAnd r (λ e. e ≡ fault) → r ≡ Err fault
 same_error (Ok x) fault passed = absurd passed
 same_error (Err e) fault passed = ap (λ (f : LinkFault). Err f) passed
 
 -- a receive that took something
-pub taken_is : (old new : Trace) (o : Option (Peer × Packet)) (p : Peer × Packet) → Receives old new (Ok o) → o ≡ Some p → new ≡ after_datagram old p
-taken_is old new o p received is = let P : Option (Peer × Packet) → Type 0 = λ x. Receives old new (Ok x) in subst P is received
+pub taken_is : (old new : Trace) (o : Option (Peer × Packet)) (p : Peer × Packet)
+    → Receives old new (Ok o) → o ≡ Some p → new ≡ after_datagram old p
+taken_is old new o p received is = let P : Option (Peer × Packet) → Type 0 =
+    λ x. Receives old new (Ok x) in subst P is received
 
-pub taken_with : (old new : Trace) (o : Option (Peer × Packet)) (from : Peer) (packet own : Packet) → Receives old new (Ok o) → o ≡ Some (from, packet) → packet ≡ own → new ≡ after_datagram old (from, own)
-taken_with old new o from packet own received is same = let P : Packet → Type 0 = λ x. new ≡ after_datagram old (from, x) in subst P same (taken_is old new o (from, packet) received is)
+pub taken_with : (old new : Trace) (o : Option (Peer × Packet)) (from : Peer) (packet own : Packet)
+    → Receives old new (Ok o) → o ≡ Some (from, packet) → packet ≡ own
+    → new ≡ after_datagram old (from, own)
+taken_with old new o from packet own received is same = let P : Packet → Type 0 =
+    λ x. new ≡ after_datagram old (from, x) in
+    subst P same (taken_is old new o (from, packet) received is)
 
 -- one in which nothing came
-pub quiet_is : (old new : Trace) (o : Option (Peer × Packet)) → Receives old new (Ok o) → o ≡ None → new ≡ after_call old
-quiet_is old new o received is = let P : Option (Peer × Packet) → Type 0 = λ x. Receives old new (Ok x) in subst P is received
+pub quiet_is : (old new : Trace) (o : Option (Peer × Packet)) → Receives old new (Ok o) → o ≡ None
+    → new ≡ after_call old
+quiet_is old new o received is = let P : Option (Peer × Packet) → Type 0 =
+    λ x. Receives old new (Ok x) in subst P is received
 
 -- and one that failed
-pub failed_take : {B : Type 0} (Handled : B → B → List ℕ → Answer → Type 0) (old new : Trace) (book : B) (fault : LinkFault) (r : Result (Option Exchange) LinkFault)
-    → Receives old new (Err fault) → IsErrAnd r (λ e. e ≡ fault) → Takes Handled (old, book) (new, book) r
+pub failed_take : {B : Type 0} (Handled : B → B → List ℕ → Answer → Type 0) (old new : Trace)
+    (book : B) (fault : LinkFault) (r : Result (Option Exchange) LinkFault)
+    → Receives old new (Err fault) → IsErrAnd r (λ e. e ≡ fault)
+    → Takes Handled (old, book) (new, book) r
 failed_take {B} Handled old new book fault r received passed =
-    let P : Result (Option Exchange) LinkFault → Type 0 = λ x. Takes Handled (old, book) (new, book) x in
+    let P : Result (Option Exchange) LinkFault → Type 0 = λ x. Takes Handled (old, book) (new, book)
+    x in
     let here : Takes Handled (old, book) (new, book) (Err fault) = (received, refl) in
     subst P (sym (same_error r fault passed)) here

@@ -1,5 +1,6 @@
 -- What a server makes of the datagrams that have come at once: it takes them, commits their calls, and only then replies.
-use Rattle.std.specs.Prelude.{◌≡◌, ◌≢◌, ◌⊎◌, ℕ, ⊤, ◌<◌, List, [], ◌∷◌, ◌++◌, length, Some, Result, Ok, Err}
+use Rattle.std.specs.Prelude.{◌≡◌, ◌≢◌, ◌⊎◌, ℕ, ⊤, ◌<◌, List, [], ◌∷◌, ◌++◌, length, Some, Result}
+use Rattle.std.specs.Prelude.{Ok, Err}
 use Rattle.s10_link.specs.declared.trace.Trace.{Trace}
 use Rattle.s10_link.specs.declared.link_fault.LinkFault.{LinkFault}
 use Rattle.s10_link.specs.Trace.{after_call}
@@ -15,29 +16,39 @@ use Rattle.s10_ends.specs.Served.{IsReplyIn}
 use Rattle.s10_ends.specs.Turn.{Turn, Handles, Commits, Takes, AsksCommitted, Answers}
 
 -- datagrams were taken one after another, from a link's trace and the server's book to those after the last one
-pub data ReceivesAll {B : Type 0} (Handled : B → B → List ℕ → Answer → Type 0) : Trace × B → List Exchange → Trace × B → Type 0 where
+pub data ReceivesAll {B : Type 0} (Handled : B → B → List ℕ → Answer → Type 0) : Trace × B
+    → List Exchange → Trace × B → Type 0 where
   none : {at : Trace × B} → ReceivesAll Handled at [] at
   more : {old between new : Trace × B} {taken : List Exchange} {next : Exchange}
-      → ReceivesAll Handled old taken between → Takes Handled between new (Ok (Some next)) → ReceivesAll Handled old (taken ++ next ∷ []) new
+      → ReceivesAll Handled old taken between → Takes Handled between new (Ok (Some next))
+      → ReceivesAll Handled old (taken ++ next ∷ []) new
 
 -- why no more were taken: n had come, nothing more had, or a receive failed
 abbrev pub EndsReceiving : ℕ → List Exchange → Trace → Trace → Result (Unit {0}) LinkFault → Type 0
-EndsReceiving most taken old new (Ok _) = ((length taken ≡ most) × (new ≡ old)) ⊎ (new ≡ after_call old)
+EndsReceiving most taken old new (Ok _) = ((length taken ≡ most) × (new ≡ old))
+    ⊎ (new ≡ after_call old)
 EndsReceiving most taken old new (Err fault) = (length taken < most) × Receives old new (Err fault)
 
 -- n datagrams at most were taken, and no more for that reason
-pub record ReceivesBatch {B : Type 0} (Handled : B → B → List ℕ → Answer → Type 0) (most : ℕ) (old new : Trace × B) (taken : List Exchange) (ended : Result (Unit {0}) LinkFault) : Type 0 where
+pub record ReceivesBatch {B : Type 0} (Handled : B → B → List ℕ → Answer → Type 0) (most : ℕ)
+    (old new : Trace × B) (taken : List Exchange) (ended : Result (Unit {0}) LinkFault) :
+    Type 0 where
   pub handled : Trace × B
   pub takes : ReceivesAll Handled old taken handled
   pub ends : EndsReceiving most taken handled.0 new.0 ended
   pub same : new.1 ≡ handled.1
 
 -- they were answered one after another, each in a turn
-pub data AnswersAll (Honest : Type 0) (IsCommitted : List ℕ → Type 0) (commit_result : Result (Unit {0}) BookFault) : Trace → List Exchange → List Turn → Trace → Type 0 where
+pub data AnswersAll (Honest : Type 0) (IsCommitted : List ℕ → Type 0)
+    (commit_result : Result (Unit {0}) BookFault) : Trace → List Exchange → List Turn → Trace
+    → Type 0 where
   none : {at : Trace} → AnswersAll Honest IsCommitted commit_result at [] [] at
-  more : {old between new : Trace} {taken : List Exchange} {answered : List Turn} (next : Exchange) (turn : Turn)
-      → AnswersAll Honest IsCommitted commit_result old taken answered between → Answers Honest IsCommitted between new commit_result next.from next.packet next.answer turn
-      → AnswersAll Honest IsCommitted commit_result old (taken ++ next ∷ []) (answered ++ turn ∷ []) new
+  more : {old between new : Trace} {taken : List Exchange} {answered : List Turn} (next : Exchange)
+      (turn : Turn)
+      → AnswersAll Honest IsCommitted commit_result old taken answered between
+      → Answers Honest IsCommitted between new commit_result next.from next.packet next.answer turn
+      → AnswersAll Honest IsCommitted commit_result old (taken ++ next ∷ []) (answered ++ turn ∷ [])
+      new
 
 -- the turns of a batch: those of the datagrams, and after them a receive that failed; or that nothing came
 abbrev pub turns_of_batch : Result (Unit {0}) LinkFault → List Turn → List Turn
@@ -50,20 +61,25 @@ abbrev pub IsSentCommitted : List Entry → Turn → Type 0
 IsSentCommitted committed (Ok (turns.Replied to frame)) = IsReplyIn committed frame
 IsSentCommitted committed turn = ⊤
 
-module _ {B : Type 0} (faults : B → Faults) (honest : B → Type 0) (terms : B → Terms) (history committed : B → List Entry) where
+module _ {B : Type 0} (faults : B → Faults) (honest : B → Type 0) (terms : B → Terms)
+    (history committed : B → List Entry) where
   -- the calls of what was taken were committed, and only then was it answered; where nothing was taken the book is as it was
-  pub record CommitsAndReplies (old new : Trace × B) (taken : List Exchange) (answered : List Turn) : Type 0 where
+  pub record CommitsAndReplies (old new : Trace × B) (taken : List Exchange)
+      (answered : List Turn) : Type 0 where
     pub commit_result : Result (Unit {0}) BookFault
-    pub commits : taken ≢ [] → Commits faults honest terms history committed old.1 new.1 commit_result
+    pub commits : taken ≢ [] → Commits faults honest terms history committed old.1 new.1
+        commit_result
     pub unasked : taken ≡ [] → new.1 ≡ old.1
-    pub answers : AnswersAll (honest new.1) (AsksCommitted (committed new.1) (history new.1)) commit_result old.0 taken answered new.0
+    pub answers : AnswersAll (honest new.1) (AsksCommitted (committed new.1) (history new.1))
+        commit_result old.0 taken answered new.0
 
   -- n datagrams at most were taken and handled on the day, their calls committed, and then they were answered
   pub record ServesBatch (day most : ℕ) (old new : Trace × B) (turns : List Turn) : Type 0 where
     pub taken : List Exchange
     pub between : Trace × B
     pub ended : Result (Unit {0}) LinkFault
-    pub takes : ReceivesBatch (λ before after b answer. Handles faults honest terms history before after day b answer) most old between taken ended
+    pub takes : ReceivesBatch (λ before after b answer. Handles faults honest terms history before
+        after day b answer) most old between taken ended
     pub answered : List Turn
     pub answers : CommitsAndReplies between new taken answered
     pub are : turns ≡ turns_of_batch ended answered

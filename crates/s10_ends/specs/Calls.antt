@@ -1,5 +1,6 @@
 -- What a call of a client over a link does.
-use Rattle.std.specs.Prelude.{◌≡◌, ◌≢◌, ◌⊎◌, ℕ, ◌+◌, ◌*◌, ◌<◌, ◌≤◌, Option, Some, None, Result, Ok, Err}
+use Rattle.std.specs.Prelude.{◌≡◌, ◌≢◌, ◌⊎◌, ℕ, ◌+◌, ◌*◌, ◌<◌, ◌≤◌, Option, Some, None, Result, Ok}
+use Rattle.std.specs.Prelude.{Err}
 use Rattle.s10_wire.specs.declared.body.Body.{Body}
 use Rattle.s10_wire.specs.declared.request.Request.{Request}
 use Rattle.s10_wire.specs.declared.outcome.Outcome.{Outcome}
@@ -16,16 +17,19 @@ use Rattle.s10_link.specs.Trace.{IsAfterFrame}
 use Rattle.s10_link.specs.Link.{Sends}
 use Rattle.s10_ends.specs.declared.call_fault.CallFault.{CallFault}
 use Rattle.s10_ends.specs.declared.call_fault.CallFault.TheVariants.{Submit, GaveUp, Link}
-use Rattle.s10_ends.specs.Client.{ClientState, next_request, after_submit, submit_fault, without_pending}
+use Rattle.s10_ends.specs.Client.{ClientState, next_request, after_submit, submit_fault}
+use Rattle.s10_ends.specs.Client.{without_pending}
 
 -- the datagram taken last is the reply
 abbrev pub IsLastReply : Trace → Reply → Type 0
 IsLastReply t reply =
-    (from : Peer) × (packet : Packet) × (t.taken ≡ Some (from, packet)) × Replies packet (request_of reply) (outcome_of reply)
+    (from : Peer) × (packet : Packet) × (t.taken ≡ Some (from, packet))
+    × Replies packet (request_of reply) (outcome_of reply)
 
 -- the datagram taken last is no reply to the request
 abbrev pub IsNoReply : Trace → Request → Type 0
-IsNoReply t q = (from : Peer) × (packet : Packet) × (t.taken ≡ Some (from, packet)) × ((o : Outcome) → ¬ (Replies packet q o))
+IsNoReply t q = (from : Peer) × (packet : Packet) × (t.taken ≡ Some (from, packet))
+    × ((o : Outcome) → ¬ (Replies packet q o))
 
 -- how many failures a fault of a link counts
 abbrev pub failures_of : LinkFault → ℕ
@@ -69,8 +73,10 @@ pub record Tried (old new : Trace) (p : Peer × Frame) (n cut : ℕ) : Type 0 wh
   pub failures : new.failures ≡ old.failures
 
 -- a call of the link was refused with the fault, in one of n tries
-pub record Stopped (old new : Trace) (p : Peer × Frame) (tries : ℕ) (fault : LinkFault) : Type 0 where
-  pub sent : (n cut : ℕ) × (n < tries + cut) × IsCut fault cut × SentOnly old new p n × Ended old new n cut (failures_of fault)
+pub record Stopped (old new : Trace) (p : Peer × Frame) (tries : ℕ) (fault : LinkFault) :
+    Type 0 where
+  pub sent : (n cut : ℕ) × (n < tries + cut) × IsCut fault cut × SentOnly old new p n
+      × Ended old new n cut (failures_of fault)
   pub most : new.calls ≤ old.calls + 9 * tries
   pub failures : new.failures ≡ old.failures + failures_of fault
 
@@ -80,12 +86,14 @@ pub record IsOver (c c' : ClientState) (body : Body) : Type 0 where
   pub client : c' ≡ without_pending (after_submit c body)
 
 -- what a call does to the client and to the link's trace, by its result
-abbrev pub Calls : ClientState → ClientState → Trace → Trace → Peer → Body → ℕ → Result Reply CallFault → Type 0
+abbrev pub Calls : ClientState → ClientState → Trace → Trace → Peer → Body → ℕ
+    → Result Reply CallFault → Type 0
 Calls c c' t t' to body tries (Ok reply) =
     IsOver c c' body × (request_of reply ≡ next_request c body) × IsLastReply t' reply
     × (frame : Frame) × Asks frame (next_request c body)
     × (n : ℕ) × (1 ≤ n) × (n ≤ tries) × Tried t t' (to, frame) n 1
-Calls c c' t t' to body tries (Err (Submit fault)) = (submit_fault c ≡ Some fault) × (c' ≡ c) × (t' ≡ t)
+Calls c c' t t' to body tries (Err (Submit fault)) = (submit_fault c ≡ Some fault) × (c' ≡ c)
+    × (t' ≡ t)
 Calls c c' t t' to body tries (Err (GaveUp q)) =
     IsOver c c' body × (q ≡ next_request c body) × (t.received < t'.received → IsNoReply t' q)
     × (frame : Frame) × Asks frame q × Tried t t' (to, frame) tries 0
@@ -113,14 +121,21 @@ IsUnanswered old new pending =
     ⊎ ((old.received < new.received) × ((q : Request) → pending ≡ Some q → IsNoReply new q))
 
 -- what the receives of one try do
-abbrev pub Listens : ClientState → ClientState → Trace → Trace → Result (Option Reply) LinkFault → Type 0
+abbrev pub Listens : ClientState → ClientState → Trace → Trace → Result (Option Reply) LinkFault
+    → Type 0
 Listens c c' t t' (Ok (Some reply)) =
-    Heard t t' 0 × (t.calls < t'.calls) × (c.pending ≡ Some (request_of reply)) × (c' ≡ without_pending c) × IsLastReply t' reply × TookAllBut t t' 0
-Listens c c' t t' (Ok None) = Heard t t' 0 × (t.calls < t'.calls) × (c' ≡ c) × IsUnanswered t t' c.pending × EndsTry t t'
-Listens c c' t t' (Err fault) = Heard t t' (failures_of fault) × (c' ≡ c) × (fault ≢ Bind) × (fault ≢ Send) × TookAllBut t t' (failures_of fault)
+    Heard t t' 0 × (t.calls < t'.calls) × (c.pending ≡ Some (request_of reply))
+    × (c' ≡ without_pending c) × IsLastReply t' reply × TookAllBut t t' 0
+Listens c c' t t' (Ok None) = Heard t t' 0 × (t.calls < t'.calls) × (c' ≡ c)
+    × IsUnanswered t t' c.pending × EndsTry t t'
+Listens c c' t t' (Err fault) = Heard t t' (failures_of fault) × (c' ≡ c) × (fault ≢ Bind)
+    × (fault ≢ Send) × TookAllBut t t' (failures_of fault)
 
 -- what one try does: the frame is sent, and then its reply is listened for
-abbrev pub Attempts : ClientState → ClientState → Trace → Trace → Peer × Frame → Result (Option Reply) LinkFault → Type 0
-Attempts c c' t t' p (Ok found) = (sent : Trace) × IsAfterFrame t sent p × Listens c c' sent t' (Ok found)
+abbrev pub Attempts : ClientState → ClientState → Trace → Trace → Peer × Frame
+    → Result (Option Reply) LinkFault → Type 0
+Attempts c c' t t' p (Ok found) = (sent : Trace) × IsAfterFrame t sent p
+    × Listens c c' sent t' (Ok found)
 Attempts c c' t t' p (Err fault) =
-    (Sends t t' p (Err fault) × (c' ≡ c)) ⊎ ((sent : Trace) × IsAfterFrame t sent p × Listens c c' sent t' (Err fault))
+    (Sends t t' p (Err fault) × (c' ≡ c)) ⊎ ((sent : Trace) × IsAfterFrame t sent p
+    × Listens c c' sent t' (Err fault))

@@ -1,5 +1,6 @@
 -- What a client knows, and what each of its calls makes of it.
-use Rattle.std.specs.Prelude.{◌≡◌, ◌≢◌, ℕ, ◌+◌, ◌≤◌, nat_lt, ⊤, if◌then◌else◌, is_some, IfSome, List, Option, Some, None}
+use Rattle.std.specs.Prelude.{◌≡◌, ◌≢◌, ℕ, ◌+◌, ◌≤◌, nat_lt, ⊤, if◌then◌else◌, is_some, IfSome}
+use Rattle.std.specs.Prelude.{List, Option, Some, None}
 use Rattle.s10_wire.specs.declared.body.Body.{Body}
 use Rattle.s10_wire.specs.declared.request.Request.{Request}
 use Rattle.s10_wire.specs.declared.outcome.Outcome.{Outcome}
@@ -10,7 +11,8 @@ use Rattle.s10_wire.specs.Reply.{request_of, outcome_of}
 use Rattle.s10_ends.specs.declared.submit_fault.SubmitFault.{SubmitFault}
 use Rattle.s10_ends.specs.declared.submit_fault.SubmitFault.TheVariants.{Busy, NumbersSpent}
 use Rattle.s10_ends.specs.declared.received.Received.{Received}
-use Rattle.s10_ends.specs.declared.received.Received.TheVariants.{Malformed, Idle, NotMine, Accepted}
+use Rattle.s10_ends.specs.declared.received.Received.TheVariants.{Malformed, Idle, NotMine}
+use Rattle.s10_ends.specs.declared.received.Received.TheVariants.{Accepted}
 
 -- a client: its customer, its first and last number, how many numbers it took, and the request
 -- that waits for a reply
@@ -23,7 +25,13 @@ pub record ClientState : Type 0 where
 
 -- a client as it is made
 abbrev pub new_client : ℕ → ℕ → ℕ → ClientState
-new_client customer first lst = record { customer = customer; first = first; last = lst; taken = 0; pending = None }
+new_client customer first lst = record {
+  customer = customer;
+  first = first;
+  last = lst;
+  taken = 0;
+  pending = None;
+}
 
 -- no number was taken, so nothing is pending
 abbrev pub IsNew : ClientState → Type 0
@@ -39,15 +47,28 @@ next_request c body = record { customer = c.customer; number = next_number c; bo
 
 -- the request is pending, and its number is taken
 abbrev pub after_submit : ClientState → Body → ClientState
-after_submit c body = record { customer = c.customer; first = c.first; last = c.last; taken = c.taken + 1; pending = Some (next_request c body) }
+after_submit c body = record {
+  customer = c.customer;
+  first = c.first;
+  last = c.last;
+  taken = c.taken + 1;
+  pending = Some (next_request c body);
+}
 
 -- why a submit is refused: something is pending, or else no number is left
 abbrev pub submit_fault : ClientState → Option SubmitFault
-submit_fault c = if is_some c.pending then Some Busy else if nat_lt c.last (next_number c) then Some NumbersSpent else None
+submit_fault c = if is_some c.pending then Some Busy else if nat_lt c.last (next_number c)
+    then Some NumbersSpent else None
 
 -- nothing is pending any more; the numbers stay taken
 abbrev pub without_pending : ClientState → ClientState
-without_pending c = record { customer = c.customer; first = c.first; last = c.last; taken = c.taken; pending = None }
+without_pending c = record {
+  customer = c.customer;
+  first = c.first;
+  last = c.last;
+  taken = c.taken;
+  pending = None;
+}
 
 -- what is pending is the customer's, with the number taken last
 abbrev pub IsLatest : ClientState → Request → Type 0
@@ -78,5 +99,7 @@ IsReply b = (q : Request) × (o : Outcome) × Replies b q o
 abbrev pub ClientReceives : ClientState → List ℕ → Received → ClientState → Type 0
 ClientReceives c b (Malformed fault) c' = ¬ (IsReply b) × IsFirstRefusalOfReply b fault × (c' ≡ c)
 ClientReceives c b Idle c' = IsReply b × (c.pending ≡ None) × (c' ≡ c)
-ClientReceives c b NotMine c' = (q p : Request) × (o : Outcome) × Replies b q o × (c.pending ≡ Some p) × (p ≢ q) × (c' ≡ c)
-ClientReceives c b (Accepted reply) c' = IsOwnReply c b (request_of reply) (outcome_of reply) × (c' ≡ without_pending c)
+ClientReceives c b NotMine c' = (q p : Request) × (o : Outcome) × Replies b q o
+    × (c.pending ≡ Some p) × (p ≢ q) × (c' ≡ c)
+ClientReceives c b (Accepted reply) c' = IsOwnReply c b (request_of reply) (outcome_of reply)
+    × (c' ≡ without_pending c)

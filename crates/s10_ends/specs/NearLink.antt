@@ -21,17 +21,23 @@ pub record ServedOn (day : ℕ) (h : List Entry) (t : Terms) (h' : List Entry) :
   pub days : All (λ d. d.1 ≡ day) deliveries
   pub served : Served h t deliveries answers h'
 
-module _ {B F N : Type 0} (faults : B → Faults) (honest : B → Type 0) (terms : B → Terms) (history committed : B → List Entry) (far : F → Trace) (near : N → Trace) where
+module _ {B F N : Type 0} (faults : B → Faults) (honest : B → Type 0) (terms : B → Terms)
+    (history committed : B → List Entry) (far : F → Trace) (near : N → Trace) where
   -- before the receive the server had a turn on the far end, on the day
   abbrev pub IsNearReceive : NearLink B F N → NearLink B F N → Type 0
   IsNearReceive old new =
       (turn : Turn) × (came : ReceiveResult)
-      × ServesBatch faults honest terms history committed old.day 1 (far old.far, book_of old.server) (far new.far, book_of new.server) (turn ∷ [])
+      × ServesBatch faults honest terms history committed old.day 1 (
+        far old.far,
+        book_of old.server,
+      ) (far new.far, book_of new.server) (turn ∷ [])
       × Receives (near old.near) (near new.near) came
 
   -- the server was left alone
   abbrev pub IsNearSend : NearLink B F N → NearLink B F N → Type 0
-  IsNearSend old new = (p : Peer × Frame) × (sent : SendResult) × Sends (near old.near) (near new.near) p sent × (new.server ≡ old.server) × (new.far ≡ old.far)
+  IsNearSend old new = (p : Peer × Frame) × (sent : SendResult)
+      × Sends (near old.near) (near new.near) p sent × (new.server ≡ old.server)
+      × (new.far ≡ old.far)
 
   -- one call, which leaves the day
   pub record IsNearStep (old new : NearLink B F N) : Type 0 where

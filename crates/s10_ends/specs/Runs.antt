@@ -1,5 +1,6 @@
 -- What the server makes of a whole list of deliveries.
-use Rattle.std.specs.Prelude.{◌≡◌, ℕ, ◌+◌, ◌-◌, ◌*◌, ◌^◌, ◌<◌, ◌≤◌, ⊤, Bool, true, false, List, take, drop, Some, slice_get, Contains}
+use Rattle.std.specs.Prelude.{◌≡◌, ℕ, ◌+◌, ◌-◌, ◌*◌, ◌^◌, ◌<◌, ◌≤◌, ⊤, Bool, true, false, List}
+use Rattle.std.specs.Prelude.{take, drop, Some, slice_get, Contains}
 use Rattle.std.specs.List.{count_by}
 use Rattle.s10_core.specs.declared.id.Id.{Id}
 use Rattle.s10_core.specs.Id.{Spells}
@@ -35,7 +36,8 @@ is_store (Faulted Store) = true
 is_store answer = false
 
 -- a count rises by the number of answers of a kind, unless it reaches the greatest number
-pub record CountsEach (kind : Answer → Bool) (answered : List Answer) (before after : ℕ) : Type 0 where
+pub record CountsEach (kind : Answer → Bool) (answered : List Answer) (before after : ℕ) :
+    Type 0 where
   pub at_most : after ≤ before + count_by kind answered
   pub never_falls : before ≤ after
   pub each : after < 2 ^ 64 - 1 → before + count_by kind answered ≤ after
@@ -55,7 +57,14 @@ pub record KeepsPromises (h : List Entry) (t : Terms) : Type 0 where
 
 -- the history has that issue, on that day, to that request
 abbrev pub HasIssue : List Entry → Id → ℕ → Request → Type 0
-HasIssue h x day q = (arrival : ℕ) × Contains (issues_of h) (record { id = x; day = day; customer = q.customer; number = q.number; arrival = arrival })
+HasIssue h x day q = (arrival : ℕ)
+    × Contains (issues_of h) (record {
+      id = x;
+      day = day;
+      customer = q.customer;
+      number = q.number;
+      arrival = arrival;
+    })
 
 -- the bytes in which a reply to a request of the kind has the text of the identifier that it carries at that place, counted
 -- from 0: thirteen for each, after the request, the outcome byte and the day
@@ -65,7 +74,8 @@ text_at b kind place = take 13 (drop (request_length kind + 5 + 13 * place) b)
 -- where the answer is a reply, its bytes for each identifier that it carries spell that identifier, which is one of an issue
 -- in the history, on the day in the reply, to the request in the reply
 abbrev pub IsIssued : List Entry → Answer → Type 0
-IsIssued h (Reply frame) = (q : Request) (o : Outcome) → Replies frame q o → (place day : ℕ) (x : Id) → slice_get (carried_by o) place ≡ Some (day, x)
+IsIssued h (Reply frame) = (q : Request) (o : Outcome) → Replies frame q o
+    → (place day : ℕ) (x : Id) → slice_get (carried_by o) place ≡ Some (day, x)
     → Spells (text_at frame (kind_of q.body) place) x × HasIssue h x day q
 IsIssued h (Dropped fault) = ⊤
 IsIssued h (Faulted fault) = ⊤

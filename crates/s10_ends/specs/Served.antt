@@ -1,5 +1,6 @@
 -- What a server makes of deliveries: bytes, each with the day on which they came.
-use Rattle.std.specs.Prelude.{◌≡◌, ◌≢◌, ℕ, ⊤, Bool, true, false, not, List, [], ◌∷◌, length, take, map, filter, Option, Some, None, slice_get}
+use Rattle.std.specs.Prelude.{◌≡◌, ◌≢◌, ℕ, ⊤, Bool, true, false, not, List, [], ◌∷◌, length, take}
+use Rattle.std.specs.Prelude.{map, filter, Option, Some, None, slice_get}
 use Rattle.std.specs.List.{AllZip, zip}
 use Rattle.s10_wire.specs.declared.request.Request.{Request}
 use Rattle.s10_wire.specs.declared.outcome.Outcome.{Outcome}
@@ -29,12 +30,15 @@ AskSomething b = (q : Request) × Asks b q
 -- what the deliveries ask, in their order, each request with its day; bytes that ask nothing are passed over
 pub data AreAsked : List Dated → List (Request × ℕ) → Type 0 where
   none : AreAsked [] []
-  nothing : {d : Dated} {ds : List Dated} {asked : List (Request × ℕ)} → AskNothing d.0 → AreAsked ds asked → AreAsked (d ∷ ds) asked
-  request : {d : Dated} {q : Request} {ds : List Dated} {asked : List (Request × ℕ)} → Asks d.0 q → AreAsked ds asked → AreAsked (d ∷ ds) ((q, d.1) ∷ asked)
+  nothing : {d : Dated} {ds : List Dated} {asked : List (Request × ℕ)} → AskNothing d.0
+      → AreAsked ds asked → AreAsked (d ∷ ds) asked
+  request : {d : Dated} {q : Request} {ds : List Dated} {asked : List (Request × ℕ)} → Asks d.0 q
+      → AreAsked ds asked → AreAsked (d ∷ ds) ((q, d.1) ∷ asked)
 
 -- h' is the history h after each distinct request of the deliveries once, in order of first arrival
 abbrev pub IsOnce : List Entry → List Dated → ℕ → List Entry → Type 0
-IsOnce h ds interval h' = (asked : List (Request × ℕ)) × AreAsked ds asked × (h' ≡ applied_once h asked interval)
+IsOnce h ds interval h' = (asked : List (Request × ℕ)) × AreAsked ds asked
+    × (h' ≡ applied_once h asked interval)
 
 -- the outcome that the call kept under its key gives the request: its own, or NumberReused where that was another request
 abbrev pub GivesOutcome : Option Entry → Request → Outcome → Type 0
@@ -43,11 +47,13 @@ GivesOutcome (Some e) q o = (e.request ≡ q → o ≡ e.outcome) × (e.request 
 
 -- the bytes f are the reply that the history owes to the bytes b
 abbrev pub IsOwed : List Entry → List ℕ → List ℕ → Type 0
-IsOwed h b f = (q : Request) × (o : Outcome) × Asks b q × GivesOutcome (find_entry h q.customer q.number) q o × Replies f q o
+IsOwed h b f = (q : Request) × (o : Outcome) × Asks b q
+    × GivesOutcome (find_entry h q.customer q.number) q o × Replies f q o
 
 -- the bytes f are the reply to a request, with the outcome that the calls give it
 abbrev pub IsReplyIn : List Entry → List ℕ → Type 0
-IsReplyIn h f = (q : Request) × (o : Outcome) × GivesOutcome (find_entry h q.customer q.number) q o × Replies f q o
+IsReplyIn h f = (q : Request) × (o : Outcome) × GivesOutcome (find_entry h q.customer q.number) q o
+    × Replies f q o
 
 -- the answer to bytes, by the history in the end: bytes that ask nothing are dropped with their first refusal,
 -- and bytes that ask something get the reply that is owed, unless the book failed or was full
@@ -69,11 +75,14 @@ abbrev pub not_faulted : List Dated → List Answer → List Dated
 not_faulted ds answers = map (λ p. p.0) (filter (λ p. not (is_faulted p.1)) (zip ds answers))
 
 -- the answers to deliveries, from the history h to the history h'
-pub record Served (h : List Entry) (t : Terms) (ds : List Dated) (answers : List Answer) (h' : List Entry) : Type 0 where
+pub record Served (h : List Entry) (t : Terms) (ds : List Dated) (answers : List Answer)
+    (h' : List Entry) : Type 0 where
   pub once_each : IsOnce h (not_faulted ds answers) t.interval h'
   pub answered : AllZip (λ d a. IsAnswered h' d.0 a) ds answers
-  pub full : (k : ℕ) (d : Dated) → slice_get ds k ≡ Some d → slice_get answers k ≡ Some (Faulted Full)
-      → (before : List Entry) × (q : Request) × IsOnce h (not_faulted (take k ds) (take k answers)) t.interval before × Asks d.0 q × IsFullFor before t q
+  pub full : (k : ℕ) (d : Dated) → slice_get ds k ≡ Some d → slice_get answers k
+      ≡ Some (Faulted Full)
+      → (before : List Entry) × (q : Request) × IsOnce h (not_faulted (take k ds) (take k answers))
+      t.interval before × Asks d.0 q × IsFullFor before t q
 
 -- a fact about an answer that is no reply
 abbrev pub UnlessReply : Answer → Type 0 → Type 0

@@ -1,5 +1,6 @@
 -- What a server makes of its book and of the link in a turn.
-use Rattle.std.specs.Prelude.{◌≡◌, ◌↔◌, ◌⊎◌, ℕ, List, [], ◌∷◌, Option, Some, None, Result, Ok, Err, OnOk, OnErr}
+use Rattle.std.specs.Prelude.{◌≡◌, ◌↔◌, ◌⊎◌, ℕ, List, [], ◌∷◌, Option, Some, None, Result, Ok, Err}
+use Rattle.std.specs.Prelude.{OnOk, OnErr}
 use Rattle.s10_link.specs.declared.trace.Trace.{Trace}
 use Rattle.s10_link.specs.declared.peer.Peer.{Peer}
 use Rattle.s10_wire.specs.declared.frame.Frame.{Frame}
@@ -29,26 +30,33 @@ abbrev pub Turn : Type 0
 Turn = Result ServerTurn LinkFault
 
 -- what handling bytes on a day makes of the server's book, and what it answers
-pub record Handles {B : Type 0} (faults : B → Faults) (honest : B → Type 0) (terms : B → Terms) (history : B → List Entry) (old new : B) (day : ℕ) (b : List ℕ) (answer : Answer) : Type 0 where
+pub record Handles {B : Type 0} (faults : B → Faults) (honest : B → Type 0) (terms : B → Terms)
+    (history : B → List Entry) (old new : B) (day : ℕ) (b : List ℕ) (answer : Answer) : Type 0 where
   pub counts : CountsAnswer answer (faults old) (faults new)
-  pub dropped : (fault : WireFault) → (answer ≡ Dropped fault) ↔ (AskNothing b × IsFirstRefusalOfRequest b fault)
+  pub dropped : (fault : WireFault) → (answer ≡ Dropped fault)
+      ↔ (AskNothing b × IsFirstRefusalOfRequest b fault)
   pub unasked : (fault : WireFault) → answer ≡ Dropped fault → new ≡ old
   pub was_honest : honest new → honest old
   pub same_terms : honest new → terms new ≡ terms old
-  pub served : honest new → Served (history old) (terms old) ((b, day) ∷ []) (answer ∷ []) (history new)
+  pub served : honest new → Served (history old) (terms old) ((b, day) ∷ []) (answer ∷ [])
+      (history new)
   pub unchanged : honest new → UnlessReply answer (history new ≡ history old)
 
 -- what committing its calls makes of the server's book
-pub record Commits {B : Type 0} (faults : B → Faults) (honest : B → Type 0) (terms : B → Terms) (history committed : B → List Entry) (old new : B) (result : Result (Unit {0}) BookFault) : Type 0 where
+pub record Commits {B : Type 0} (faults : B → Faults) (honest : B → Type 0) (terms : B → Terms)
+    (history committed : B → List Entry) (old new : B) (result : Result (Unit {0}) BookFault) :
+    Type 0 where
   pub counts : CountsResult result (faults old) (faults new)
   pub unchanged : Unchanged history terms honest old new
   pub done : honest new → OnOk result (committed new ≡ history new)
   pub left : honest new → OnErr result (committed new ≡ committed old)
 
 -- a receive, and what the server made of the datagram that came: from a link's trace and the server's book to those after it
-abbrev pub Takes : {B : Type 0} → (B → B → List ℕ → Answer → Type 0) → Trace × B → Trace × B → Result (Option Exchange) LinkFault → Type 0
+abbrev pub Takes : {B : Type 0} → (B → B → List ℕ → Answer → Type 0) → Trace × B → Trace × B
+    → Result (Option Exchange) LinkFault → Type 0
 Takes Handled old new (Ok None) = (new.0 ≡ after_call old.0) × (new.1 ≡ old.1)
-Takes Handled old new (Ok (Some taken)) = (new.0 ≡ after_datagram old.0 (taken.from, taken.packet)) × Handled old.1 new.1 taken.packet taken.answer
+Takes Handled old new (Ok (Some taken)) = (new.0 ≡ after_datagram old.0 (taken.from, taken.packet))
+    × Handled old.1 new.1 taken.packet taken.answer
 Takes Handled old new (Err fault) = Receives old.0 new.0 (Err fault) × (new.1 ≡ old.1)
 
 -- the turn in which a reply was sent, or refused
@@ -58,7 +66,8 @@ sent_turn to frame (Err fault) = Err fault
 
 -- a reply is sent to the peer
 abbrev pub SendsReply : Trace → Trace → Peer → Frame → Turn → Type 0
-SendsReply old new to frame turn = (sent : SendResult) × Sends old new (to, frame) sent × (turn ≡ sent_turn to frame sent)
+SendsReply old new to frame turn = (sent : SendResult) × Sends old new (to, frame) sent
+    × (turn ≡ sent_turn to frame sent)
 
 -- a reply is held back from the peer
 abbrev pub WithholdsReply : Trace → Trace → Peer → BookFault → Turn → Type 0
@@ -66,16 +75,24 @@ WithholdsReply old new to fault turn = (new ≡ old) × (turn ≡ Ok (turns.Unco
 
 -- the committed calls have what the history has under the key of what the bytes ask
 abbrev pub AsksCommitted : List Entry → List Entry → List ℕ → Type 0
-AsksCommitted committed h b = (q : Request) × Asks b q × IsCommittedCall committed h q.customer q.number
+AsksCommitted committed h b = (q : Request) × Asks b q × IsCommittedCall committed h q.customer
+    q.number
 
 module _ (Honest : Type 0) (IsCommitted : List ℕ → Type 0) where
   -- a reply to bytes is sent once the calls are committed; where that failed it is sent if its own call is committed, and else held back
-  abbrev pub SendsCommitted : Trace → Trace → Result (Unit {0}) BookFault → Peer → List ℕ → Frame → Turn → Type 0
+  abbrev pub SendsCommitted : Trace → Trace → Result (Unit {0}) BookFault → Peer → List ℕ → Frame
+      → Turn → Type 0
   SendsCommitted old new (Ok _) to b frame turn = SendsReply old new to frame turn
-  SendsCommitted old new (Err fault) to b frame turn = ((Honest → IsCommitted b) × SendsReply old new to frame turn) ⊎ ((Honest → ¬ (IsCommitted b)) × WithholdsReply old new to fault turn)
+  SendsCommitted old new (Err fault) to b frame turn =
+      ((Honest → IsCommitted b) × SendsReply old new to frame turn)
+      ⊎ ((Honest → ¬ (IsCommitted b)) × WithholdsReply old new to fault turn)
 
   -- what the peer of bytes gets, by what became of them, and of the commit
-  abbrev pub Answers : Trace → Trace → Result (Unit {0}) BookFault → Peer → List ℕ → Answer → Turn → Type 0
-  Answers old new commit_result to b (Reply frame) turn = SendsCommitted old new commit_result to b frame turn
-  Answers old new commit_result to b (Dropped fault) turn = (new ≡ old) × (turn ≡ Ok (turns.Dropped to fault))
-  Answers old new commit_result to b (Faulted fault) turn = (new ≡ old) × (turn ≡ Ok (turns.Faulted to fault))
+  abbrev pub Answers : Trace → Trace → Result (Unit {0}) BookFault → Peer → List ℕ → Answer → Turn
+      → Type 0
+  Answers old new commit_result to b (Reply frame) turn = SendsCommitted old new commit_result to b
+      frame turn
+  Answers old new commit_result to b (Dropped fault) turn = (new ≡ old)
+      × (turn ≡ Ok (turns.Dropped to fault))
+  Answers old new commit_result to b (Faulted fault) turn = (new ≡ old)
+      × (turn ≡ Ok (turns.Faulted to fault))

@@ -2,7 +2,8 @@
 
 ghost use Rattle.std.specs.Prelude.{◌≡◌, ◌≤◌, ◌+◌, [], length, All, IfOk, OnErr, vec_capacity, Ok};
 ghost use Rattle.s10_ends.specs.Server.{book_of};
-ghost use Rattle.s10_ends.specs.Batch.{ServesBatch, CommitsAndReplies, IsSentCommitted, turns_of_batch};
+ghost use Rattle.s10_ends.specs.Batch.{ServesBatch, CommitsAndReplies, IsSentCommitted};
+ghost use Rattle.s10_ends.specs.Batch.{turns_of_batch};
 
 use crate::exchange::Exchange;
 use crate::receiving::receive_batch;
@@ -24,12 +25,17 @@ pub fn serve_batch<B: GroupCommit, L: Link>(
     most: u32,
 ) -> Result<Vec<Turn>, AllocError>
     requires { 1 ≤ most }
-    ensures served { IfOk result (λ turns. ServesBatch B.faults B.honest B.terms B.history B.committed day most
-        (L.trace_of link.old, book_of server.old) (L.trace_of link.new, book_of server.new) turns.items) }
-    ensures stands { B.honest (book_of server.new) → IfOk result (λ turns. All (IsSentCommitted (B.committed (book_of server.new))) turns.items) }
+    ensures served { IfOk result (λ turns. ServesBatch B.faults B.honest B.terms B.history
+        B.committed day most
+        (L.trace_of link.old, book_of server.old) (L.trace_of link.new, book_of server.new)
+        turns.items) }
+    ensures stands { B.honest (book_of server.new)
+        → IfOk result (λ turns. All (IsSentCommitted (B.committed (book_of server.new)))
+        turns.items) }
     ensures some { IfOk result (λ turns. 1 ≤ length turns.items) }
     ensures few { IfOk result (λ turns. length turns.items ≤ most) }
-    ensures refused { OnErr result ((L.trace_of link.new ≡ L.trace_of link.old) × (book_of server.new ≡ book_of server.old)) }
+    ensures refused { OnErr result ((L.trace_of link.new ≡ L.trace_of link.old)
+        × (book_of server.new ≡ book_of server.old)) }
 {
     let mut taken = Vec::with_capacity(alloc, most as usize)?;
     let mut turns = Vec::with_capacity(alloc, most as usize + 1)?;
@@ -49,7 +55,8 @@ fn commit_and_reply<B: GroupCommit, L: Link>(
     requires none { turns.old.items ≡ [] }
     requires room { length taken.now ≤ vec_capacity turns.old }
     ensures answered { CommitsAndReplies B.faults B.honest B.terms B.history B.committed
-        (L.trace_of link.old, book_of server.old) (L.trace_of link.new, book_of server.new) taken.now turns.new.items }
+        (L.trace_of link.old, book_of server.old) (L.trace_of link.new, book_of server.new)
+        taken.now turns.new.items }
     ensures many { length turns.new.items ≡ length taken.now }
     ensures capacity { vec_capacity turns.new ≡ vec_capacity turns.old }
 {

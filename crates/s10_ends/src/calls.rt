@@ -22,7 +22,8 @@ pub fn call<L: Link>(
     tries: u32,
 ) -> Result<Reply, CallFault>
     requires { (1 ≤ tries) × (tries ≤ 100) }
-    ensures calls { Calls client.old client.new (L.trace_of link.old) (L.trace_of link.new) to body tries result }
+    ensures calls { Calls client.old client.new (L.trace_of link.old) (L.trace_of link.new) to body
+        tries result }
     ensures led { LeadsTo L.step link.old link.new }
 {
     let request = match client.submit(body) {
@@ -52,7 +53,8 @@ fn attempt<L: Link>(
     frame: &Frame,
 ) -> Result<Option<Reply>, LinkFault>
     requires { IsSome client.old.pending }
-    ensures attempts { Attempts client.old client.new (L.trace_of link.old) (L.trace_of link.new) (to, frame.now) result }
+    ensures attempts { Attempts client.old client.new (L.trace_of link.old) (L.trace_of link.new)
+        (to, frame.now) result }
     ensures led { LeadsTo L.step link.old link.new }
 {
     link.send(to, frame)?;
@@ -62,7 +64,8 @@ fn attempt<L: Link>(
 // The first reply that is accepted, of at most eight datagrams.
 fn first_accepted<L: Link>(client: &mut Client, link: &mut L) -> Result<Option<Reply>, LinkFault>
     requires { IsSome client.old.pending }
-    ensures listens { Listens client.old client.new (L.trace_of link.old) (L.trace_of link.new) result }
+    ensures listens { Listens client.old client.new (L.trace_of link.old) (L.trace_of link.new)
+        result }
     ensures led { LeadsTo L.step link.old link.new }
 {
     for _read in 0..8u32 {

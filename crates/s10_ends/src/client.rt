@@ -2,7 +2,9 @@
 
 ghost use Rattle.std.specs.Prelude.{◌≡◌, ◌≤◌, ◌↔◌, IsTrue, IfOk, IfSome, OnErr};
 ghost use Rattle.std.specs.Result.{OkIff, result_err};
-ghost use Rattle.s10_ends.specs.Client.{ClientState, IsNew, IsClient, IsLatest, new_client, next_request, after_submit, submit_fault, without_pending, AsksPending, ClientReceives};
+ghost use Rattle.s10_ends.specs.Client.{ClientState, IsNew, IsClient, IsLatest, new_client};
+ghost use Rattle.s10_ends.specs.Client.{next_request, after_submit, submit_fault, without_pending};
+ghost use Rattle.s10_ends.specs.Client.{AsksPending, ClientReceives};
 
 use crate::bad_numbers::BadNumbers;
 use crate::received::Received;
@@ -28,9 +30,21 @@ impl Model for Client {
 
     ghost Value = { ClientState };
 
-    ghost view = { λ c. record { customer = c.customer; first = c.first; last = c.last; taken = c.taken; pending = c.pending } };
+    ghost view = { λ c. record {
+      customer = c.customer;
+      first = c.first;
+      last = c.last;
+      taken = c.taken;
+      pending = c.pending;
+    } };
 
-    ghost invariant = { λ c. IsClient (record { customer = c.customer; first = c.first; last = c.last; taken = c.taken; pending = c.pending }) };
+    ghost invariant = { λ c. IsClient (record {
+      customer = c.customer;
+      first = c.first;
+      last = c.last;
+      taken = c.taken;
+      pending = c.pending;
+    }) };
 }
 
 impl Client {
@@ -76,7 +90,8 @@ impl Client {
     /// Takes the next number for a request, which is then pending.
     pub fn submit(&mut self, body: Body) -> Result<Request, SubmitFault>
         ensures refused { result_err result ≡ submit_fault self.old }
-        ensures ok { IfOk result (λ q. (q ≡ next_request self.old body) × (self.new ≡ after_submit self.old body)) }
+        ensures ok { IfOk result (λ q. (q ≡ next_request self.old body)
+            × (self.new ≡ after_submit self.old body)) }
         ensures err { OnErr result (self.new ≡ self.old) }
     {
         if self.pending.is_some() {

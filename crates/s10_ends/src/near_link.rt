@@ -25,8 +25,12 @@ impl<B: GroupCommit, F: Link, N: Link> NearLink<B, F, N> {
 
     // The server's turn on the far end.
     fn serve(&mut self)
-        ensures turn { (turn : Turn) × ServesBatch B.faults B.honest B.terms B.history B.committed self.old.day 1
-            (F.trace_of self.old.far, book_of self.old.server) (F.trace_of self.new.far, book_of self.new.server) (turn ∷ []) }
+        ensures turn { (turn : Turn) × ServesBatch B.faults B.honest B.terms B.history B.committed
+            self.old.day 1
+            (F.trace_of self.old.far, book_of self.old.server) (
+              F.trace_of self.new.far,
+              book_of self.new.server,
+            ) (turn ∷ []) }
         ensures day { self.new.day ≡ self.old.day }
         ensures near { self.new.near ≡ self.old.near }
     {
@@ -49,10 +53,15 @@ impl<B: GroupCommit, F: Link, N: Link> Link for NearLink<B, F, N> {
         ensures trace { Receives (N.trace_of self.old.near) (N.trace_of self.new.near) result }
 
         // The server has one turn on the far end.
-        ensures turn { (turn : Turn) × ServesBatch B.faults B.honest B.terms B.history B.committed self.old.day 1
-            (F.trace_of self.old.far, book_of self.old.server) (F.trace_of self.new.far, book_of self.new.server) (turn ∷ []) }
+        ensures turn { (turn : Turn) × ServesBatch B.faults B.honest B.terms B.history B.committed
+            self.old.day 1
+            (F.trace_of self.old.far, book_of self.old.server) (
+              F.trace_of self.new.far,
+              book_of self.new.server,
+            ) (turn ∷ []) }
         ensures day { self.new.day ≡ self.old.day }
-        ensures step { IsNearStep B.faults B.honest B.terms B.history B.committed F.trace_of N.trace_of self.old self.new }
+        ensures step { IsNearStep B.faults B.honest B.terms B.history B.committed F.trace_of
+            N.trace_of self.old self.new }
     {
         self.serve();
         self.near.receive()
@@ -62,19 +71,26 @@ impl<B: GroupCommit, F: Link, N: Link> Link for NearLink<B, F, N> {
         ensures trace { Receives (N.trace_of self.old.near) (N.trace_of self.new.near) result }
 
         // The server has one turn on the far end.
-        ensures turn { (turn : Turn) × ServesBatch B.faults B.honest B.terms B.history B.committed self.old.day 1
-            (F.trace_of self.old.far, book_of self.old.server) (F.trace_of self.new.far, book_of self.new.server) (turn ∷ []) }
+        ensures turn { (turn : Turn) × ServesBatch B.faults B.honest B.terms B.history B.committed
+            self.old.day 1
+            (F.trace_of self.old.far, book_of self.old.server) (
+              F.trace_of self.new.far,
+              book_of self.new.server,
+            ) (turn ∷ []) }
         ensures day { self.new.day ≡ self.old.day }
-        ensures step { IsNearStep B.faults B.honest B.terms B.history B.committed F.trace_of N.trace_of self.old self.new }
+        ensures step { IsNearStep B.faults B.honest B.terms B.history B.committed F.trace_of
+            N.trace_of self.old self.new }
     {
         self.serve();
         self.near.try_receive()
     }
 
     fn send(&mut self, to: Peer, frame: &Frame) -> Result<(), LinkFault>
-        ensures trace { Sends (N.trace_of self.old.near) (N.trace_of self.new.near) (to, frame.now) result }
+        ensures trace { Sends (N.trace_of self.old.near) (N.trace_of self.new.near) (to, frame.now)
+            result }
         ensures same { self.new ≡ record self.old { near = self.new.near } }
-        ensures step { IsNearStep B.faults B.honest B.terms B.history B.committed F.trace_of N.trace_of self.old self.new }
+        ensures step { IsNearStep B.faults B.honest B.terms B.history B.committed F.trace_of
+            N.trace_of self.old self.new }
     {
         self.near.send(to, frame)
     }

@@ -17,7 +17,8 @@ pub(crate) fn take<B: Book, L: Link>(
     link: &mut L,
     day: u32,
 ) -> Result<Option<Exchange>, LinkFault>
-    ensures { Takes (λ before after b answer. Handles B.faults B.honest B.terms B.history before after day b answer)
+    ensures { Takes (λ before after b answer. Handles B.faults B.honest B.terms B.history before
+        after day b answer)
         (L.trace_of link.old, book_of server.old) (L.trace_of link.new, book_of server.new) result }
 {
     let Some((from, packet)) = link.receive()? else {
@@ -37,7 +38,8 @@ fn try_handle_next<B: Book, L: Link>(
     link: &mut L,
     day: u32,
 ) -> Result<Option<Exchange>, LinkFault>
-    ensures { Takes (λ before after b answer. Handles B.faults B.honest B.terms B.history before after day b answer)
+    ensures { Takes (λ before after b answer. Handles B.faults B.honest B.terms B.history before
+        after day b answer)
         (L.trace_of link.old, book_of server.old) (L.trace_of link.new, book_of server.new) result }
 {
     let Some((from, packet)) = link.try_receive()? else {
@@ -53,7 +55,8 @@ fn try_handle_next<B: Book, L: Link>(
 
 // What the server makes of a packet on this day.
 fn handle_packet<B: Book>(server: &mut Server<B>, packet: Packet, day: u32) -> Answer
-    ensures { Handles B.faults B.honest B.terms B.history (book_of server.old) (book_of server.new) day packet result }
+    ensures { Handles B.faults B.honest B.terms B.history (book_of server.old) (book_of server.new)
+        day packet result }
 {
     server.handle(packet.bytes(), day)
 }
@@ -70,8 +73,10 @@ pub(crate) fn receive_batch<B: Book, L: Link>(
     requires none { taken.old.items ≡ [] }
     requires room { most ≤ vec_capacity taken.old }
     ensures few { length taken.new.items ≤ most }
-    ensures taken { ReceivesBatch (λ before after b answer. Handles B.faults B.honest B.terms B.history before after day b answer) most
-        (L.trace_of link.old, book_of server.old) (L.trace_of link.new, book_of server.new) taken.new.items result }
+    ensures taken { ReceivesBatch (λ before after b answer. Handles B.faults B.honest B.terms
+        B.history before after day b answer) most
+        (L.trace_of link.old, book_of server.old) (L.trace_of link.new, book_of server.new)
+        taken.new.items result }
 {
     let Some(first) = take(server, link, day)? else {
         return Ok(());

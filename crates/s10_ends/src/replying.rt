@@ -20,8 +20,10 @@ pub(crate) fn answer<B: GroupCommit, L: Link>(
     taken: &Exchange,
     commit_result: Result<(), BookFault>,
 ) -> Turn
-    ensures { Answers (B.honest (book_of server.now)) (AsksCommitted (B.committed (book_of server.now)) (B.history (book_of server.now)))
-        (L.trace_of link.old) (L.trace_of link.new) commit_result taken.now.from taken.now.packet taken.now.answer result }
+    ensures { Answers (B.honest (book_of server.now))
+        (AsksCommitted (B.committed (book_of server.now)) (B.history (book_of server.now)))
+        (L.trace_of link.old) (L.trace_of link.new) commit_result taken.now.from taken.now.packet
+        taken.now.answer result }
 {
     match taken.answer {
         Answer::Reply(frame) => send_committed(link, server, taken, frame, commit_result),
@@ -38,8 +40,10 @@ fn send_committed<B: GroupCommit, L: Link>(
     frame: Frame,
     commit_result: Result<(), BookFault>,
 ) -> Turn
-    ensures { SendsCommitted (B.honest (book_of server.now)) (AsksCommitted (B.committed (book_of server.now)) (B.history (book_of server.now)))
-        (L.trace_of link.old) (L.trace_of link.new) commit_result taken.now.from taken.now.packet frame result }
+    ensures { SendsCommitted (B.honest (book_of server.now))
+        (AsksCommitted (B.committed (book_of server.now)) (B.history (book_of server.now)))
+        (L.trace_of link.old) (L.trace_of link.new) commit_result taken.now.from taken.now.packet
+        frame result }
 {
     match commit_result {
         Err(fault) if !server.is_committed(taken.packet.bytes()) => {
@@ -67,7 +71,8 @@ pub(crate) fn reply_all<B: GroupCommit, L: Link>(
 )
     requires none { turns.old.items ≡ [] }
     requires room { length taken.now ≤ vec_capacity turns.old }
-    ensures answers { AnswersAll (B.honest (book_of server.now)) (AsksCommitted (B.committed (book_of server.now)) (B.history (book_of server.now)))
+    ensures answers { AnswersAll (B.honest (book_of server.now))
+        (AsksCommitted (B.committed (book_of server.now)) (B.history (book_of server.now)))
         commit_result (L.trace_of link.old) taken.now turns.new.items (L.trace_of link.new) }
     ensures many { length turns.new.items ≡ length taken.now }
     ensures capacity { vec_capacity turns.new ≡ vec_capacity turns.old }

@@ -19,10 +19,16 @@ fn respond<B: Book>(book: &mut B, request: &Request, day: u32) -> Result<Outcome
     ensures faults { CountsFull result (B.faults book.old) (B.faults book.new) }
     ensures was_honest { B.honest book.new → B.honest book.old }
     ensures same_terms { B.honest book.new → B.terms book.new ≡ B.terms book.old }
-    ensures applied { B.honest book.new → IfOk result (λ o. B.history book.new ≡ applied_once (B.history book.old) ((request.now, day) ∷ []) (B.terms book.old).interval) }
-    ensures owed { B.honest book.new → IfOk result (GivesOutcome (find_entry (B.history book.new) request.now.customer request.now.number) request.now) }
+    ensures applied { B.honest book.new
+        → IfOk result (λ o. B.history book.new ≡ applied_once (B.history book.old)
+        ((request.now, day) ∷ []) (B.terms book.old).interval) }
+    ensures owed { B.honest book.new
+        → IfOk result
+        (GivesOutcome (find_entry (B.history book.new) request.now.customer request.now.number)
+        request.now) }
     ensures err { B.honest book.new → OnErr result (B.history book.new ≡ B.history book.old) }
-    ensures full { B.honest book.new → result ≡ Err BookFault.Full → IsFullFor (B.history book.old) (B.terms book.old) request.now }
+    ensures full { B.honest book.new → result ≡ Err BookFault.Full
+        → IsFullFor (B.history book.old) (B.terms book.old) request.now }
     ensures fits { IfOk result (λ o. IsTrue (fits request.now.body o)) }
 {
     if let Some(entry) = book.find(request.customer, request.number)? {
@@ -37,14 +43,21 @@ fn respond<B: Book>(book: &mut B, request: &Request, day: u32) -> Result<Outcome
 
 // Executes a request whose key is new, and keeps it with its outcome.
 fn execute<B: Book>(book: &mut B, request: &Request, day: u32) -> Result<Outcome, BookFault>
-    requires { B.honest book.old → find_entry (B.history book.old) request.now.customer request.now.number ≡ None }
+    requires { B.honest book.old → find_entry (B.history book.old) request.now.customer
+        request.now.number ≡ None }
     ensures faults { CountsFull result (B.faults book.old) (B.faults book.new) }
     ensures was_honest { B.honest book.new → B.honest book.old }
     ensures same_terms { B.honest book.new → B.terms book.new ≡ B.terms book.old }
-    ensures applied { B.honest book.new → IfOk result (λ o. B.history book.new ≡ applied_once (B.history book.old) ((request.now, day) ∷ []) (B.terms book.old).interval) }
-    ensures owed { B.honest book.new → IfOk result (GivesOutcome (find_entry (B.history book.new) request.now.customer request.now.number) request.now) }
+    ensures applied { B.honest book.new
+        → IfOk result (λ o. B.history book.new ≡ applied_once (B.history book.old)
+        ((request.now, day) ∷ []) (B.terms book.old).interval) }
+    ensures owed { B.honest book.new
+        → IfOk result
+        (GivesOutcome (find_entry (B.history book.new) request.now.customer request.now.number)
+        request.now) }
     ensures err { B.honest book.new → OnErr result (B.history book.new ≡ B.history book.old) }
-    ensures full { B.honest book.new → result ≡ Err BookFault.Full → IsFullFor (B.history book.old) (B.terms book.old) request.now }
+    ensures full { B.honest book.new → result ≡ Err BookFault.Full
+        → IsFullFor (B.history book.old) (B.terms book.old) request.now }
     ensures fits { IfOk result (λ o. IsTrue (fits request.now.body o)) }
 {
     if book.settings().limit() <= book.len() {
@@ -100,19 +113,26 @@ impl<B: Book> Server<B> {
     /// the book was refused with the same. A request that was faulted may be handed in again.
     pub fn handle(&mut self, bytes: &[u8], day: u32) -> Answer
         // The book's count of that fault rises where one is answered, and no count rises elsewhere.
-        ensures faults { CountsAnswer result (B.faults (book_of self.old)) (B.faults (book_of self.new)) }
+        ensures faults { CountsAnswer result (B.faults (book_of self.old))
+            (B.faults (book_of self.new)) }
 
         // Bytes that ask nothing, and no others, are dropped with their first refusal, and the book is not asked.
-        ensures dropped { (fault : WireFault) → (result ≡ Answer.Dropped fault) ↔ (AskNothing bytes.now × IsFirstRefusalOfRequest bytes.now fault) }
-        ensures unasked { (fault : WireFault) → result ≡ Answer.Dropped fault → book_of self.new ≡ book_of self.old }
+        ensures dropped { (fault : WireFault) → (result ≡ Answer.Dropped fault)
+            ↔ (AskNothing bytes.now × IsFirstRefusalOfRequest bytes.now fault) }
+        ensures unasked { (fault : WireFault) → result ≡ Answer.Dropped fault → book_of self.new
+            ≡ book_of self.old }
 
         // A book that is honest as the call ends was so as it began, and has the terms that it had.
         ensures was_honest { B.honest (book_of self.new) → B.honest (book_of self.old) }
-        ensures same_terms { B.honest (book_of self.new) → B.terms (book_of self.new) ≡ B.terms (book_of self.old) }
+        ensures same_terms { B.honest (book_of self.new) → B.terms (book_of self.new)
+            ≡ B.terms (book_of self.old) }
 
         // The history and the answer are those of the one delivery.
-        ensures served { B.honest (book_of self.new) → Served (B.history (book_of self.old)) (B.terms (book_of self.old)) ((bytes.now, day) ∷ []) (result ∷ []) (B.history (book_of self.new)) }
-        ensures unchanged { B.honest (book_of self.new) → UnlessReply result (B.history (book_of self.new) ≡ B.history (book_of self.old)) }
+        ensures served { B.honest (book_of self.new) → Served (B.history (book_of self.old))
+            (B.terms (book_of self.old)) ((bytes.now, day) ∷ []) (result ∷ [])
+            (B.history (book_of self.new)) }
+        ensures unchanged { B.honest (book_of self.new)
+            → UnlessReply result (B.history (book_of self.new) ≡ B.history (book_of self.old)) }
     {
         let request = match decode_request(bytes) {
             Ok(request) => request,
@@ -131,18 +151,25 @@ impl<B: Book> Server<B> {
     /// reserved first.
     pub fn run(&mut self, alloc: Global, deliveries: &[Delivery]) -> Result<Vec<Answer>, AllocError>
         // As many answers are each fault of the book as its count of that fault rose, unless that reached the greatest number.
-        ensures faults { IfOk result (λ answers. CountsAll answers.items (B.faults (book_of self.old)) (B.faults (book_of self.new))) }
+        ensures faults { IfOk result (λ answers. CountsAll answers.items
+            (B.faults (book_of self.old)) (B.faults (book_of self.new))) }
         ensures was_honest { B.honest (book_of self.new) → B.honest (book_of self.old) }
-        ensures same_terms { B.honest (book_of self.new) → B.terms (book_of self.new) ≡ B.terms (book_of self.old) }
+        ensures same_terms { B.honest (book_of self.new) → B.terms (book_of self.new)
+            ≡ B.terms (book_of self.old) }
 
         // The history and every answer are what each distinct request once, in order of first arrival, gives.
-        ensures served { B.honest (book_of self.new) → IfOk result (λ answers. Served (B.history (book_of self.old)) (B.terms (book_of self.old)) (map dated deliveries.now) answers.items (B.history (book_of self.new))) }
+        ensures served { B.honest (book_of self.new)
+            → IfOk result (λ answers. Served (B.history (book_of self.old))
+            (B.terms (book_of self.old)) (map dated deliveries.now) answers.items
+            (B.history (book_of self.new))) }
 
         // The history is legal, no identifier goes to two requests within the interval, each is its customer's own.
-        ensures kept { B.honest (book_of self.new) → KeepsPromises (B.history (book_of self.new)) (B.terms (book_of self.new)) }
+        ensures kept { B.honest (book_of self.new) → KeepsPromises (B.history (book_of self.new))
+            (B.terms (book_of self.new)) }
 
         // Every identifier in a reply is spelled right, and was issued on the day in the reply to the request in it.
-        ensures issued { B.honest (book_of self.new) → IfOk result (λ answers. All (IsIssued (B.history (book_of self.new))) answers.items) }
+        ensures issued { B.honest (book_of self.new)
+            → IfOk result (λ answers. All (IsIssued (B.history (book_of self.new))) answers.items) }
 
         // Where there is no room for the answers nothing is done.
         ensures refused { OnErr result (book_of self.new ≡ book_of self.old) }
@@ -164,14 +191,17 @@ impl<B: GroupCommit> Server<B> {
     /// Commits the calls of the book, so that their replies may be sent. A fault leaves the history as it was, and the next
     /// commit takes those calls too.
     pub fn commit(&mut self) -> Result<(), BookFault>
-        ensures { Commits B.faults B.honest B.terms B.history B.committed (book_of self.old) (book_of self.new) result }
+        ensures { Commits B.faults B.honest B.terms B.history B.committed (book_of self.old)
+            (book_of self.new) result }
     {
         self.book.commit()
     }
 
     /// Whether the bytes ask for a call that is committed, so that its reply may be sent though others could not be.
     pub fn is_committed(&self, bytes: &[u8]) -> bool
-        ensures { B.honest (book_of self.now) → (IsTrue result ↔ AsksCommitted (B.committed (book_of self.now)) (B.history (book_of self.now)) bytes.now) }
+        ensures { B.honest (book_of self.now)
+            → (IsTrue result ↔ AsksCommitted (B.committed (book_of self.now))
+            (B.history (book_of self.now)) bytes.now) }
     {
         match decode_request(bytes) {
             Ok(request) => self.book.is_committed(request.customer, request.number),

@@ -16,8 +16,10 @@ use s10_link::Link;
 /// where the link sends no more, after a datagram that was handled with a reply.
 pub fn serve_one<B: GroupCommit, L: Link>(server: &mut Server<B>, link: &mut L, day: u32) -> Turn
     ensures served { ServesBatch B.faults B.honest B.terms B.history B.committed day 1
-        (L.trace_of link.old, book_of server.old) (L.trace_of link.new, book_of server.new) (result ∷ []) }
-    ensures stands { B.honest (book_of server.new) → IsSentCommitted (B.committed (book_of server.new)) result }
+        (L.trace_of link.old, book_of server.old) (L.trace_of link.new, book_of server.new)
+        (result ∷ []) }
+    ensures stands { B.honest (book_of server.new)
+        → IsSentCommitted (B.committed (book_of server.new)) result }
 {
     let Some(taken) = take(server, link, day)? else {
         return Ok(ServerTurn::Quiet);

@@ -1,7 +1,8 @@
 -- What a command line may say: the subcommands, and the words and options of each.
 use Rattle.std.specs.Prelude.{◌≡◌, ℕ, pos, true, false, List, [], ◌∷◌, Some, codes, Result, IfOk}
 use Rattle.std.specs.declared.alloc.AllocError.{AllocError}
-use Rattle.clap.specs.Words.{App, FailsBy, Rule, Shape, Text, app_of, fault_of, found_of, matches_of, new_rule, rows_of, rule_of}
+use Rattle.clap.specs.Words.{App, FailsBy, Rule, Shape, Text, app_of, fault_of, found_of}
+use Rattle.clap.specs.Words.{matches_of, new_rule, rows_of, rule_of}
 use Rattle.clap.specs.Words.{subcommand_of, subcommand_rows_of, with_rule, with_subcommand}
 use Rattle.clap.specs.Simple.{new_shape}
 use Rattle.clap.specs.declared.builder.action.ArgAction.TheVariants.{SetTrue}
@@ -67,37 +68,47 @@ abbrev pub check_shape : Shape
 check_shape = says (codes "check") (a_flag (codes "label") ∷ a_word (codes "text") ∷ [])
 
 abbrev pub make_shape : Shape
-make_shape = says (codes "make") (a_word (codes "service") ∷ a_word (codes "serial") ∷ a_word (codes "country") ∷ [])
+make_shape = says (codes "make") (a_word (codes "service") ∷ a_word (codes "serial")
+    ∷ a_word (codes "country") ∷ [])
 
 abbrev pub show_shape : Shape
 show_shape = says (codes "show") (a_word (codes "hex") ∷ [])
 
 abbrev pub replay_shape : Shape
-replay_shape = says (codes "replay") (or_else (codes "30") interval ∷ or_else (codes "1000000") limit ∷ [])
+replay_shape = says (codes "replay") (or_else (codes "30") interval ∷ or_else (codes "1000000")
+    limit ∷ [])
 
 abbrev pub create_shape : Shape
 create_shape = says (codes "create") (a_text (codes "ledger") ∷ needed interval ∷ needed limit ∷ [])
 
 abbrev pub serve_shape : Shape
-serve_shape = says (codes "serve") (a_text (codes "ledger") ∷ a_text (codes "bind") ∷ a_number (codes "count") ∷ day ∷ [])
+serve_shape = says (codes "serve") (a_text (codes "ledger") ∷ a_text (codes "bind")
+    ∷ a_number (codes "count") ∷ day ∷ [])
 
 abbrev pub grant_shape : Shape
-grant_shape = says (codes "grant") (a_text (codes "to") ∷ a_number (codes "number") ∷ a_number (codes "holder")
+grant_shape = says (codes "grant") (a_text (codes "to") ∷ a_number (codes "number")
+    ∷ a_number (codes "holder")
     ∷ a_text (codes "service") ∷ a_text (codes "country")
-    ∷ between 0 99999999 (a_text (codes "first")) ∷ between 0 99999999 (a_text (codes "last")) ∷ tries ∷ [])
+    ∷ between 0 99999999 (a_text (codes "first")) ∷ between 0 99999999 (a_text (codes "last"))
+    ∷ tries ∷ [])
 
 abbrev pub draw_shape : Shape
-draw_shape = says (codes "draw") (a_text (codes "to") ∷ a_number (codes "customer") ∷ a_number (codes "number")
-    ∷ a_text (codes "service") ∷ a_text (codes "country") ∷ between 1 16 (an_option (codes "count")) ∷ tries ∷ [])
+draw_shape = says (codes "draw") (a_text (codes "to") ∷ a_number (codes "customer")
+    ∷ a_number (codes "number")
+    ∷ a_text (codes "service") ∷ a_text (codes "country") ∷ between 1 16 (an_option (codes "count"))
+    ∷ tries ∷ [])
 
 abbrev pub void_shape : Shape
-void_shape = says (codes "void") (a_text (codes "to") ∷ a_number (codes "customer") ∷ a_number (codes "number") ∷ a_text (codes "id") ∷ tries ∷ [])
+void_shape = says (codes "void") (a_text (codes "to") ∷ a_number (codes "customer")
+    ∷ a_number (codes "number") ∷ a_text (codes "id") ∷ tries ∷ [])
 
 abbrev pub query_shape : Shape
-query_shape = says (codes "query") (a_text (codes "to") ∷ a_number (codes "customer") ∷ a_number (codes "number") ∷ a_text (codes "id") ∷ tries ∷ [])
+query_shape = says (codes "query") (a_text (codes "to") ∷ a_number (codes "customer")
+    ∷ a_number (codes "number") ∷ a_text (codes "id") ∷ tries ∷ [])
 
 abbrev pub withdraw_shape : Shape
-withdraw_shape = says (codes "withdraw") (a_text (codes "to") ∷ a_number (codes "number") ∷ a_number (codes "range") ∷ tries ∷ [])
+withdraw_shape = says (codes "withdraw") (a_text (codes "to") ∷ a_number (codes "number")
+    ∷ a_number (codes "range") ∷ tries ∷ [])
 
 abbrev pub report_shape : Shape
 report_shape = says (codes "report") (a_text (codes "ledger") ∷ a_flag (codes "issues") ∷ day ∷ [])
@@ -109,13 +120,18 @@ abbrev pub loop_shape : Shape
 loop_shape = says (codes "loop") (day ∷ [])
 
 abbrev pub top_shape : Shape
-top_shape = record (new_shape (codes "s10")) { has_version = true; arg_required_else_help = true; subcommand_required = true }
+top_shape = record (new_shape (codes "s10")) {
+  has_version = true;
+  arg_required_else_help = true;
+  subcommand_required = true;
+}
 
 -- the whole command line
 unfoldable pub grammar : App
 grammar = record {
   top = record top_shape { is_leaf = false };
-  subs = check_shape ∷ make_shape ∷ show_shape ∷ replay_shape ∷ create_shape ∷ serve_shape ∷ grant_shape ∷ draw_shape
+  subs = check_shape ∷ make_shape ∷ show_shape ∷ replay_shape ∷ create_shape ∷ serve_shape
+      ∷ grant_shape ∷ draw_shape
       ∷ void_shape ∷ query_shape ∷ withdraw_shape ∷ report_shape ∷ audit_shape ∷ loop_shape ∷ [];
 }
 
@@ -142,14 +158,17 @@ IfReads command app = IfOk command (λ built. Reads built app)
 
 -- the new command reads as the old one, and the argument's rule more
 abbrev pub AddsRule : Result Command AllocError → Arg → Result Command AllocError → Type 0
-AddsRule old arg new = (app : App) (rule : Rule) → IfReads old app → Follows arg rule → IfReads new (with_rule app rule)
+AddsRule old arg new = (app : App) (rule : Rule) → IfReads old app → Follows arg rule
+    → IfReads new (with_rule app rule)
 
 abbrev pub AddsRules : Result Command AllocError → List Rule → Result Command AllocError → Type 0
 AddsRules old rules new = (app : App) → IfReads old app → IfReads new (with_rules app rules)
 
 -- the new command reads as the old one, and the subcommand more
-abbrev pub AddsCommand : Result Command AllocError → Result Command AllocError → Result Command AllocError → Type 0
-AddsCommand old subcommand new = (app : App) (shape : Shape) → IfReads old app → IfOk subcommand (λ built. ReadsAs built shape)
+abbrev pub AddsCommand : Result Command AllocError → Result Command AllocError
+    → Result Command AllocError → Type 0
+AddsCommand old subcommand new = (app : App) (shape : Shape) → IfReads old app
+    → IfOk subcommand (λ built. ReadsAs built shape)
     → IfReads new (with_subcommand app shape)
 
 -- how a parse of the words ends: with the matches of the grammar, or with a fault that it gives at them, or for lack of memory

@@ -2,7 +2,8 @@
 ghost use Rattle.std.specs.Prelude.{◌≡◌, Some};
 ghost use Rattle.clap.specs.Words.{new_app};
 ghost use Rattle.clap.specs.declared.builder.texts.Texts.TheVariants.{One};
-ghost use Rattle.s10_grammar.specs.Grammar.{AddsCommand, AddsRule, Follows, Reads, a_flag, a_number, a_text, a_word, an_option, between};
+ghost use Rattle.s10_grammar.specs.Grammar.{AddsCommand, AddsRule, Follows, Reads, a_flag};
+ghost use Rattle.s10_grammar.specs.Grammar.{a_number, a_text, a_word, an_option, between};
 
 use clap::{Arg, ArgAction, Command, value_parser};
 use std::alloc::{AllocError, Global};

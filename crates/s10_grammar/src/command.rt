@@ -67,7 +67,10 @@ fn with_required_subcommand<'a>(command: Command<'a>) -> Command<'a>
 
 // A command that explains itself where nothing is said.
 fn with_help_by_default<'a>(command: Command<'a>) -> Command<'a>
-    ensures { fields_of result ≡ record (fields_of command.entry) { arg_required_else_help = true } }
+    ensures { fields_of result ≡ record (fields_of command.entry) {
+      arg_required_else_help =
+          true;
+    } }
 {
     command.arg_required_else_help(true)
 }

@@ -1,6 +1,7 @@
 //! Options that several subcommands have.
 ghost use Rattle.std.specs.Prelude.{codes};
-ghost use Rattle.s10_grammar.specs.Grammar.{Follows, a_number, a_text, an_option, between, day, interval, limit, tries};
+ghost use Rattle.s10_grammar.specs.Grammar.{Follows, a_number, a_text, an_option, between, day};
+ghost use Rattle.s10_grammar.specs.Grammar.{interval, limit, tries};
 
 use crate::builders::{number_option, option, text_option};
 use clap::{Arg, value_parser};

@@ -12,7 +12,8 @@ pub fn with_request<'a>(
     alloc: Global,
     command: Result<Command<'a>, AllocError>,
 ) -> Result<Command<'a>, AllocError>
-    ensures { AddsRules command.entry (a_text (codes "to") ∷ a_number (codes "number") ∷ []) result }
+    ensures { AddsRules command.entry (a_text (codes "to") ∷ a_number (codes "number") ∷ [])
+        result }
 {
     let command = with(command, to_option(alloc));
     with(command, request_option(alloc))
@@ -23,7 +24,8 @@ pub fn with_asker<'a>(
     alloc: Global,
     command: Result<Command<'a>, AllocError>,
 ) -> Result<Command<'a>, AllocError>
-    ensures { AddsRules command.entry (a_text (codes "to") ∷ a_number (codes "customer") ∷ a_number (codes "number") ∷ []) result }
+    ensures { AddsRules command.entry (a_text (codes "to") ∷ a_number (codes "customer")
+        ∷ a_number (codes "number") ∷ []) result }
 {
     let command = with(command, to_option(alloc));
     let command = with(command, customer_option(alloc));

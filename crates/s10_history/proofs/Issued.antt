@@ -1,5 +1,7 @@
 -- The last issue of an identifier in a growing list.
-use Rattle.std.proofs.Common.{◌≡◌, ℕ, ◌+◌, ◌-◌, leb, ◌<◌, Bool, true, false, cond, List, [], ◌∷◌, ◌++◌, Option, Some, None, refl, sym, ap, ◌∙◌, length, get_or, take, append-nil}
+use Rattle.std.proofs.Common.{◌≡◌, ℕ, ◌+◌, ◌-◌, leb, ◌<◌, Bool, true, false, cond, List, [], ◌∷◌}
+use Rattle.std.proofs.Common.{◌++◌, Option, Some, None, refl, sym, ap, ◌∙◌, length, get_or, take}
+use Rattle.std.proofs.Common.{append-nil}
 use Rattle.std.specs.Prelude.{filter}
 use Rattle.std.specs.List.{last_or}
 use Rattle.std.specs.Option.{option_map}
@@ -10,27 +12,41 @@ use Rattle.s10_history.specs.declared.issue.Issue.{Issue}
 use Rattle.s10_history.specs.declared.issuance.Issuance.{Issuance}
 use Rattle.s10_history.specs.Issues.{is_of, last_issuance_of, is_free_since}
 
-pub last_or-push : {A : Type 0} (o : Option A) (xs : List A) (y : A) → last_or o (xs ++ y ∷ []) ≡ Some y
+pub last_or-push : {A : Type 0} (o : Option A) (xs : List A) (y : A) → last_or o (xs ++ y ∷ [])
+    ≡ Some y
 last_or-push o [] y = refl
 last_or-push o (x ∷ xs) y = last_or-push (Some x) xs y
 
-last-find_entry : {A : Type 0} (b : Bool) (xs : List A) (y : A) → last_or None (xs ++ cond b (y ∷ []) []) ≡ cond b (Some y) (last_or None xs)
+last-find_entry : {A : Type 0} (b : Bool) (xs : List A) (y : A)
+    → last_or None (xs ++ cond b (y ∷ []) []) ≡ cond b (Some y) (last_or None xs)
 last-find_entry true xs y = last_or-push None xs y
 last-find_entry false xs y = ap (last_or None) (append-nil xs)
 
 -- one more issue at the end
-pub last_issuance_of-push : (xs : List Issuance) (y : Issuance) (x : Id) → last_issuance_of (xs ++ y ∷ []) x ≡ cond (is_of x y) (Some y) (last_issuance_of xs x)
-last_issuance_of-push xs y x = ap (last_or None) (filter-append (is_of x) xs (y ∷ [])) ∙ last-find_entry (is_of x y) (filter (is_of x) xs) y
+pub last_issuance_of-push : (xs : List Issuance) (y : Issuance) (x : Id)
+    → last_issuance_of (xs ++ y ∷ []) x ≡ cond (is_of x y) (Some y) (last_issuance_of xs x)
+last_issuance_of-push xs y x = ap (last_or None) (filter-append (is_of x) xs (y ∷ []))
+    ∙ last-find_entry (is_of x y) (filter (is_of x) xs) y
 
-pub last_issuance_of-more : (xs : List Issuance) (i : ℕ) (d : Issuance) (x : Id) → i < length xs → last_issuance_of (take (i + 1) xs) x ≡ cond (is_of x (get_or xs i d)) (Some (get_or xs i d)) (last_issuance_of (take i xs) x)
-last_issuance_of-more xs i d x h = ap (λ l. last_issuance_of l x) (take_more xs i d h) ∙ last_issuance_of-push (take i xs) (get_or xs i d) x
+pub last_issuance_of-more : (xs : List Issuance) (i : ℕ) (d : Issuance) (x : Id) → i < length xs
+    → last_issuance_of (take (i + 1) xs) x ≡ cond (is_of x (get_or xs i d)) (Some (get_or xs i d))
+    (last_issuance_of (take i xs) x)
+last_issuance_of-more xs i d x h = ap (λ l. last_issuance_of l x) (take_more xs i d h)
+    ∙ last_issuance_of-push (take i xs) (get_or xs i d) x
 
 -- a step of a loop, by its element and its test
-pub last_issuance_of-step : (xs : List Issuance) (i : ℕ) (d : Issuance) (x : Id) (b : Bool) → i < length xs → d ≡ get_or xs i d → b ≡ is_of x d → last_issuance_of (take (i + 1) xs) x ≡ cond b (Some d) (last_issuance_of (take i xs) x)
+pub last_issuance_of-step : (xs : List Issuance) (i : ℕ) (d : Issuance) (x : Id) (b : Bool)
+    → i < length xs → d ≡ get_or xs i d → b ≡ is_of x d → last_issuance_of (take (i + 1) xs) x
+    ≡ cond b (Some d) (last_issuance_of (take i xs) x)
 last_issuance_of-step xs i d x b h e t =
-    last_issuance_of-more xs i d x h ∙ ap (λ y. cond (is_of x y) (Some y) (last_issuance_of (take i xs) x)) (sym e) ∙ ap (λ c. cond c (Some d) (last_issuance_of (take i xs) x)) (sym t)
+    last_issuance_of-more xs i d x h
+    ∙ ap (λ y. cond (is_of x y) (Some y) (last_issuance_of (take i xs) x)) (sym e)
+    ∙ ap (λ c. cond c (Some d) (last_issuance_of (take i xs) x)) (sym t)
 
 -- whether it is free is decided by its day alone
-pub free_last : (day interval : ℕ) (o : Option Issuance) (f : Issuance → Issue) → ((i : Issuance) → (f i).day ≡ i.day) → is_free_since day interval (option_map (λ (i : Issue). i.day) (option_map f o)) ≡ is_free_since day interval (option_map (λ (i : Issuance). i.day) o)
+pub free_last : (day interval : ℕ) (o : Option Issuance) (f : Issuance → Issue)
+    → ((i : Issuance) → (f i).day ≡ i.day)
+    → is_free_since day interval (option_map (λ (i : Issue). i.day) (option_map f o))
+    ≡ is_free_since day interval (option_map (λ (i : Issuance). i.day) o)
 free_last day interval None f same = refl
 free_last day interval (Some i) f same = ap (λ d. leb interval (day - d)) (same i)

@@ -1,5 +1,6 @@
 -- The history of a ledger: its kept calls in order of arrival, and the ranges that it grants.
-use Rattle.std.specs.Prelude.{ℕ, zero, suc, ◌+◌, ◌==◌, nat_le, nat_lt, Bool, false, not, ◌&&◌, List, [], ◌∷◌, Option, Some, None, find, fold, filter, slice_get}
+use Rattle.std.specs.Prelude.{ℕ, zero, suc, ◌+◌, ◌==◌, nat_le, nat_lt, Bool, false, not, ◌&&◌, List}
+use Rattle.std.specs.Prelude.{[], ◌∷◌, Option, Some, None, find, fold, filter, slice_get}
 use Rattle.std.specs.List.{list_any}
 use Rattle.s10_core.specs.declared.id.Id.{Id}
 use Rattle.s10_core.specs.Letters.{same_letters}
@@ -30,7 +31,14 @@ day_of h = fold (λ d e. e.day) 0 h
 -- what a Done Grant makes, as the range with that number
 abbrev pub range_of_grant : ℕ → Body → Outcome → Option Range
 range_of_grant num (Grant holder service country first last) (Granted n) =
-    Some (record { num = num; holder = holder; service = service; country = country; first = first; last = last })
+    Some (record {
+      num = num;
+      holder = holder;
+      service = service;
+      country = country;
+      first = first;
+      last = last;
+    })
 range_of_grant num body outcome = None
 
 -- the range that a call made and those after it, numbered on from it; where it made none, those after it alone
@@ -41,7 +49,8 @@ then_ranges (Some r) unmoved next = r ∷ next
 -- the ranges that the Done Grants make, in order, numbered from num
 abbrev pub ranges_from : ℕ → List Entry → List Range
 ranges_from num [] = []
-ranges_from num (e ∷ es) = then_ranges (range_of_grant num e.request.body e.outcome) (ranges_from num es) (ranges_from (num + 1) es)
+ranges_from num (e ∷ es) = then_ranges (range_of_grant num e.request.body e.outcome)
+    (ranges_from num es) (ranges_from (num + 1) es)
 
 -- the ranges of a history, numbered from 1
 abbrev pub ranges_of : List Entry → List Range
@@ -60,7 +69,8 @@ is_held customer service country r =
 
 -- whether the range is such a one, with a number above another
 abbrev pub is_held_after : ℕ → ℕ → ℕ × ℕ → ℕ × ℕ → Range → Bool
-is_held_after after customer service country r = nat_lt after r.num && is_held customer service country r
+is_held_after after customer service country r = nat_lt after r.num && is_held customer service
+    country r
 
 -- whether a call with this body and this outcome is a Done Withdraw of the range of that number
 abbrev pub withdraws : ℕ → Body → Outcome → Bool
@@ -77,7 +87,8 @@ is_open h customer service country r = is_held customer service country r && not
 
 -- whether the range is such a one, with a number above another
 abbrev pub is_open_after : List Entry → ℕ → ℕ → ℕ × ℕ → ℕ × ℕ → Range → Bool
-is_open_after h after customer service country r = nat_lt after r.num && is_open h customer service country r
+is_open_after h after customer service country r = nat_lt after r.num && is_open h customer service
+    country r
 
 -- whether the range has a serial in common with first to last of that service and country: neither ends before the
 -- other begins, and first to last is not empty (a range that a Grant made never is)

@@ -1,5 +1,7 @@
 -- The issues of identifiers: when each was issued last, whether it is voided, and which serial a range gives next.
-use Rattle.std.specs.Prelude.{ℕ, zero, suc, ◌+◌, ◌-◌, ◌==◌, nat_le, nat_lt, Bool, true, false, not, ◌&&◌, if◌then◌else◌, List, [], ◌∷◌, ◌++◌, map, drop, Option, Some, None, find, filter}
+use Rattle.std.specs.Prelude.{ℕ, zero, suc, ◌+◌, ◌-◌, ◌==◌, nat_le, nat_lt, Bool, true, false, not}
+use Rattle.std.specs.Prelude.{◌&&◌, if◌then◌else◌, List, [], ◌∷◌, ◌++◌, map, drop, Option, Some}
+use Rattle.std.specs.Prelude.{None, find, filter}
 use Rattle.std.specs.List.{list_any, last_or, range_with_len}
 use Rattle.std.specs.Option.{option_map, option_or, unwrap_or}
 use Rattle.s10_core.specs.declared.id.Id.{Id}
@@ -23,7 +25,13 @@ carried_by outcome = []
 
 -- the issues of one call
 abbrev pub issues_at : ℕ → Entry → List Issuance
-issues_at arrival e = map (λ c. record { id = c.1; day = c.0; customer = e.request.customer; number = e.request.number; arrival = arrival }) (carried_by e.outcome)
+issues_at arrival e = map (λ c. record {
+  id = c.1;
+  day = c.0;
+  customer = e.request.customer;
+  number = e.request.number;
+  arrival = arrival;
+}) (carried_by e.outcome)
 
 -- the issues of the calls, in order, the first of them being call number arrival
 abbrev pub issues_from : ℕ → List Entry → List Issuance
@@ -57,12 +65,19 @@ voided_after arrival h x = list_any (voids x) (drop arrival h)
 
 -- whether the identifier is voided: a Done Void of it follows its last issue
 abbrev pub is_voided : List Entry → Id → Bool
-is_voided h x = unwrap_or (option_map (λ i. voided_after i.arrival h x) (last_issuance_of (issues_of h) x)) false
+is_voided h x =
+    unwrap_or (option_map (λ i. voided_after i.arrival h x) (last_issuance_of (issues_of h) x))
+    false
 
 -- the last issue of an identifier, and whether it is voided since
 abbrev pub last_issue_of : List Entry → Id → Option Issue
 last_issue_of h x =
-    option_map (λ i. record { day = i.day; voided = is_voided h x; customer = i.customer; number = i.number })
+    option_map (λ i. record {
+      day = i.day;
+      voided = is_voided h x;
+      customer = i.customer;
+      number = i.number;
+    })
     (last_issuance_of (issues_of h) x)
 
 -- the identifier with that serial of the range
@@ -88,12 +103,14 @@ last_issues (i ∷ is) = if is_issued is i.id then last_issues is else i ∷ las
 
 -- the serial of the range whose last issue stands earliest
 abbrev pub serial_issued_earliest : Range → List Issuance → Option ℕ
-serial_issued_earliest r is = option_map (λ i. i.id.serial) (find (λ i. lies_in r i.id) (last_issues is))
+serial_issued_earliest r is =
+    option_map (λ i. i.id.serial) (find (λ i. lies_in r i.id) (last_issues is))
 
 -- the pick, the serial that the range gives next: the least that was never issued, or else the one whose last issue
 -- stands earliest (a range without serials would give its first; no Grant makes one)
 abbrev pub pick_of : List Issuance → Range → ℕ
-pick_of is r = unwrap_or (option_or (least_serial_unissued r is) (serial_issued_earliest r is)) r.first
+pick_of is r = unwrap_or (option_or (least_serial_unissued r is) (serial_issued_earliest r is))
+    r.first
 
 -- the serial that the range gives after that one: the next, or its first after its last
 abbrev pub serial_after : Range → ℕ → ℕ
@@ -110,7 +127,8 @@ is_free_since day interval (Some last) = nat_le interval (day - last)
 
 -- whether an identifier is free on the day; no Void changes it
 abbrev pub is_free : List Issuance → Id → ℕ → ℕ → Bool
-is_free is x day interval = is_free_since day interval (option_map (λ i. i.day) (last_issuance_of is x))
+is_free is x day interval =
+    is_free_since day interval (option_map (λ i. i.day) (last_issuance_of is x))
 
 -- an issue of the identifier; which customer drew it, and when, no pick looks at
 abbrev pub issue_of : Id → Issuance
@@ -124,7 +142,8 @@ with_picks r is (suc count) = with_picks r (is ++ issue_of (id_at r (pick_of is 
 -- the pick of the range after n issues of its own successive picks, with its last issue in the history
 abbrev pub candidate_after_of : List Entry → Range → ℕ → Candidate
 candidate_after_of h r issued =
-    let serial = pick_of (with_picks r (issues_of h) issued) r in record { serial = serial; issue = last_issue_of h (id_at r serial) }
+    let serial = pick_of (with_picks r (issues_of h) issued) r in
+    record { serial = serial; issue = last_issue_of h (id_at r serial) }
 
 -- the serial n after that one
 abbrev pub serial_after_steps : Range → ℕ → ℕ → ℕ
@@ -140,8 +159,12 @@ size_of r = r.last + 1 - r.first
 abbrev pub free_pick_of : List Entry → Range → ℕ → ℕ → ℕ → Option Id
 free_pick_of h r issued day interval =
     let c = candidate_after_of h r issued in
-    if nat_lt issued (size_of r) && is_free_since day interval (option_map (λ i. i.day) c.issue) then Some (id_at r c.serial) else None
+    if nat_lt issued (size_of r) && is_free_since day interval (option_map (λ i. i.day) c.issue)
+    then Some (id_at r c.serial) else None
 
 -- the pick of the range and its last issue
 abbrev pub candidate_of : List Entry → Range → Candidate
-candidate_of h r = record { serial = pick_of (issues_of h) r; issue = last_issue_of h (id_at r (pick_of (issues_of h) r)) }
+candidate_of h r = record {
+  serial = pick_of (issues_of h) r;
+  issue = last_issue_of h (id_at r (pick_of (issues_of h) r));
+}

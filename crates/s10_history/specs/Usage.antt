@@ -12,5 +12,6 @@ usage_of h r day interval =
     record {
       used = count_by (λ serial. is_issued (issues_of h) (id_at r serial)) (serials r);
       voided = count_by (λ serial. is_voided h (id_at r serial)) (serials r);
-      free = count_by (λ serial. is_free (issues_of h) (id_at r serial) (max (day_of h) day) interval) (serials r);
+      free = count_by (λ serial. is_free (issues_of h) (id_at r serial) (max (day_of h) day)
+          interval) (serials r);
     }

@@ -1,7 +1,8 @@
 //! Look-ups in the calls of a history.
 
 ghost use Rattle.std.specs.Prelude.{◌≡◌};
-ghost use Rattle.s10_history.specs.History.{find_entry, entry_at, withdraws as withdraws_of, is_closed};
+ghost use Rattle.s10_history.specs.History.{find_entry, entry_at, withdraws as withdraws_of};
+ghost use Rattle.s10_history.specs.History.{is_closed};
 ghost use Rattle.s10_history.specs.Issues.{voids, voided_after};
 
 use crate::entry::Entry;

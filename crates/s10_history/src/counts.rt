@@ -1,7 +1,8 @@
 //! The use of the serials of a range, counted.
 
 ghost use Rattle.std.specs.Prelude.{◌≡◌, ◌≤◌, ◌+◌, if◌then◌else◌, count_by};
-ghost use Rattle.s10_history.specs.Issues.{issues_of, is_issued, id_at, serials, is_voided as is_voided_in, is_free as is_free_on};
+ghost use Rattle.s10_history.specs.Issues.{issues_of, is_issued, id_at, serials};
+ghost use Rattle.s10_history.specs.Issues.{is_voided as is_voided_in, is_free as is_free_on};
 
 use crate::entry::Entry;
 use crate::issuance::Issuance;
@@ -27,9 +28,13 @@ pub fn usage_in(
     interval: u32,
 ) -> Usage
     requires { issues.now ≡ issues_of entries.now }
-    ensures used { result.used ≡ count_by (λ serial. is_issued issues.now (id_at range.now serial)) (serials range.now) }
-    ensures voided { result.voided ≡ count_by (λ serial. is_voided_in entries.now (id_at range.now serial)) (serials range.now) }
-    ensures free { result.free ≡ count_by (λ serial. is_free_on issues.now (id_at range.now serial) day interval) (serials range.now) }
+    ensures used { result.used ≡ count_by (λ serial. is_issued issues.now (id_at range.now serial))
+        (serials range.now) }
+    ensures voided { result.voided
+        ≡ count_by (λ serial. is_voided_in entries.now (id_at range.now serial))
+        (serials range.now) }
+    ensures free { result.free ≡ count_by (λ serial. is_free_on issues.now (id_at range.now serial)
+        day interval) (serials range.now) }
 {
     let mut usage = Usage {
         used: 0,

@@ -2,7 +2,8 @@
 
 ghost use Rattle.std.specs.Prelude.{◌≡◌, false};
 ghost use Rattle.std.specs.Option.{option_map, unwrap_or};
-ghost use Rattle.s10_history.specs.Issues.{issues_of, last_issue_of, is_of, last_issuance_of, is_issued, is_free_since};
+ghost use Rattle.s10_history.specs.Issues.{issues_of, last_issue_of, is_of, last_issuance_of};
+ghost use Rattle.s10_history.specs.Issues.{is_issued, is_free_since};
 
 use crate::calls::is_voided_after;
 use crate::entry::Entry;

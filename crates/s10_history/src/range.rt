@@ -32,7 +32,8 @@ impl Range {
     /// The serial that it gives n after one of its own, fewer than it has, wrapping around: after its last serial comes
     /// its first again.
     pub fn serial_after(&self, serial: Serial, count: u8) -> Serial
-        ensures { self.now.first ≤ serial → serial ≤ self.now.last → count < size_of self.now → result ≡ serial_after_steps self.now serial count }
+        ensures { self.now.first ≤ serial → serial ≤ self.now.last → count < size_of self.now
+            → result ≡ serial_after_steps self.now serial count }
     {
         let next = serial.value() + u32::from(count);
         if next <= self.last.value() {

@@ -25,7 +25,8 @@ pub fn next_range_in(
     held: &HolderKey,
     after: u32,
 ) -> Option<Range>
-    ensures { result ≡ find (is_open_after entries.now after held.now.holder held.now.service held.now.country) ranges.now }
+    ensures { result ≡ find (is_open_after entries.now after held.now.holder held.now.service
+        held.now.country) ranges.now }
 {
     ranges
         .iter()
@@ -39,7 +40,8 @@ pub fn next_range_in(
 
 /// The first range that has a serial of the block, if there is one.
 pub fn covering_in(ranges: &[Range], block: &SerialSpan) -> Option<Range>
-    ensures { result ≡ find (overlaps block.now.service block.now.country block.now.first block.now.last) ranges.now }
+    ensures { result ≡ find (overlaps block.now.service block.now.country block.now.first
+        block.now.last) ranges.now }
 {
     ranges
         .iter()

@@ -19,7 +19,13 @@ impl SerialSpan {
 
     /// The block of one identifier.
     pub fn of(id: &Id) -> SerialSpan
-        ensures { let one : SerialSpan = record { service = id.now.service; country = id.now.country; first = id.now.serial; last = id.now.serial } in result ≡ one }
+        ensures { let one : SerialSpan = record {
+          service = id.now.service;
+          country = id.now.country;
+          first = id.now.serial;
+          last = id.now.serial;
+        } in
+            result ≡ one }
     {
         SerialSpan {
             service: id.service,

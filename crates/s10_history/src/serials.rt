@@ -1,7 +1,8 @@
 //! The serial that a range gives next.
 
 ghost use Rattle.std.specs.Prelude.{◌≡◌};
-ghost use Rattle.s10_history.specs.Issues.{issues_of, candidate_of, serial_issued_earliest, least_serial_unissued};
+ghost use Rattle.s10_history.specs.Issues.{issues_of, candidate_of, serial_issued_earliest};
+ghost use Rattle.s10_history.specs.Issues.{least_serial_unissued};
 
 use crate::candidate::Candidate;
 use crate::entry::Entry;

@@ -33,7 +33,8 @@ impl Model for Settings {
 impl Settings {
     /// An interval of 1 to [`MAX_INTERVAL`] days and a limit of 1 to [`MAX_LIMIT`] calls; None for any other numbers.
     pub fn new(interval: u32, limit: u32) -> Option<Settings>
-        ensures { let terms : Terms = record { interval = interval; limit = limit } in SomeIff result (AreTerms terms) terms }
+        ensures { let terms : Terms = record { interval = interval; limit = limit } in
+            SomeIff result (AreTerms terms) terms }
     {
         if 1 <= interval && interval <= MAX_INTERVAL && 1 <= limit && limit <= MAX_LIMIT {
             Some(Settings { interval, limit })

@@ -9,11 +9,14 @@ use Rattle.s10_statements.specs.ConnectionState.{IsClean, IsOpen, WasSound}
 use Rattle.s10_host.specs.Audited.{HasFound}
 
 -- a ledger that was opened and closed is found, with its calls
-pub found_calls : {S : Type 0} (g : Ghosts S) (before closed : Held S) (book : Ledger S) (count : ℕ) → closed ≡ book.conn
+pub found_calls : {S : Type 0} (g : Ghosts S) (before closed : Held S) (book : Ledger S) (count : ℕ)
+    → closed ≡ book.conn
     → (IsClean g book.conn → IsOpen g book.conn)
     → (IsClean g book.conn → IsOpen g book.conn → IsHonest g book)
     → (IsHonest g book → IsAnyLedger (state g before).now book.terms book.len book.day)
-    → (IsHonest g book → IsClosedSchema (state g before).now.schema → (state g book.conn).now ≡ (state g before).now) → (IsHonest g book → history_in (state g book.conn).now ≡ history_in (state g before).now) → WasSound g before book.conn → book.pending ≡ []
+    → (IsHonest g book → IsClosedSchema (state g before).now.schema → (state g book.conn).now
+    ≡ (state g before).now) → (IsHonest g book → history_in (state g book.conn).now
+    ≡ history_in (state g before).now) → WasSound g before book.conn → book.pending ≡ []
     → (IsHonest g book → count ≡ length (history_of g book)) → HasFound g before closed (Ok count)
 found_calls g before closed book count same opened honest ledger shows history sound none counts =
     let found : HasFound g before book.conn (Ok count) = record {
@@ -26,7 +29,9 @@ found_calls g before closed book count same opened honest ledger shows history s
             len = book.len;
             day = book.day;
             ledger = ledger kept;
-            counted = counts kept ∙ ap (λ (p : List Entry). length (history_in (state g book.conn).now ++ p)) none ∙ ap (λ (h : List Entry). length h) (append-nil _ ∙ history kept);
+            counted = counts kept
+                ∙ ap (λ (p : List Entry). length (history_in (state g book.conn).now ++ p)) none
+                ∙ ap (λ (h : List Entry). length h) (append-nil _ ∙ history kept);
           };
       leaves = λ clean live. (shows (honest clean live), history (honest clean live));
     } in

@@ -11,22 +11,35 @@ use Rattle.s10_ends.specs.Batch.{ReceivesAll}
 use Rattle.s10_ends.specs.Batch.ReceivesAll.{none, more}
 use Rattle.s10_jobs.specs.Serving.{IsBatch, BatchesLead}
 
-module _ {B : Type 0} (faults : B → Faults) (honest : B → Type 0) (terms : B → Terms) (history committed : B → List Entry) (given : Option ℕ) where
-  before_taking : (day : ℕ) (old new : Trace × B) (taken : List Exchange) → ReceivesAll (λ before after b answer. Handles faults honest terms history before after day b answer) old taken new → honest new.1 → honest old.1
+module _ {B : Type 0} (faults : B → Faults) (honest : B → Type 0) (terms : B → Terms)
+    (history committed : B → List Entry) (given : Option ℕ) where
+  before_taking : (day : ℕ) (old new : Trace × B) (taken : List Exchange)
+      → ReceivesAll (λ before after b answer. Handles faults honest terms history before after day b
+      answer) old taken new → honest new.1 → honest old.1
   before_taking day old _ _ none kept = kept
-  before_taking day old new _ (more {between = between} takes took) kept = before_taking day old between _ takes (took.1.was_honest kept)
+  before_taking day old new _ (more {between = between} takes took) kept =
+      before_taking day old between _ takes (took.1.was_honest kept)
 
-  before_commit : (between new : B) (taken : List Exchange) (commit_result : Result (Unit {0}) BookFault)
-      → (taken ≢ [] → Commits faults honest terms history committed between new commit_result) → (taken ≡ [] → new ≡ between) → honest new → honest between
+  before_commit : (between new : B) (taken : List Exchange)
+      (commit_result : Result (Unit {0}) BookFault)
+      → (taken ≢ [] → Commits faults honest terms history committed between new commit_result)
+      → (taken ≡ [] → new ≡ between) → honest new → honest between
   before_commit between new [] commit_result commits unasked kept = subst honest (unasked refl) kept
-  before_commit between new (first ∷ taken) commit_result commits unasked kept = (commits (λ wrong. absurd cc)).unchanged.was_honest kept
+  before_commit between new (first ∷ taken) commit_result commits unasked kept =
+      (commits (λ wrong. absurd cc)).unchanged.was_honest kept
 
-  before_batch : (old new : Trace × B) (batch : List Turn) → IsBatch faults honest terms history committed given old batch new → honest new.1 → honest old.1
+  before_batch : (old new : Trace × B) (batch : List Turn) → IsBatch faults honest terms history
+      committed given old batch new → honest new.1 → honest old.1
   before_batch old new batch (day, is, most, it) kept =
-      let between = before_commit it.between.1 new.1 it.taken it.answers.commit_result it.answers.commits it.answers.unasked kept in
-      before_taking day old it.takes.handled it.taken it.takes.takes (subst honest it.takes.same between)
+      let between = before_commit it.between.1 new.1 it.taken it.answers.commit_result
+      it.answers.commits it.answers.unasked kept in
+      before_taking day old it.takes.handled it.taken it.takes.takes
+      (subst honest it.takes.same between)
 
-  pub before_batches : (old new : Trace × B) (batches : List (List Turn)) → BatchesLead (IsBatch faults honest terms history committed given) old batches new → honest new.1 → honest old.1
+  pub before_batches : (old new : Trace × B) (batches : List (List Turn))
+      → BatchesLead (IsBatch faults honest terms history committed given) old batches new
+      → honest new.1 → honest old.1
   unfolding BatchesLead
   before_batches old new [] same kept = subst (λ (s : Trace × B). honest s.1) same kept
-  before_batches old new (batch ∷ batches) (next, step, rest) kept = before_batch old next batch step (before_batches next new batches rest kept)
+  before_batches old new (batch ∷ batches) (next, step, rest) kept =
+      before_batch old next batch step (before_batches next new batches rest kept)

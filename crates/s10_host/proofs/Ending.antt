@@ -1,6 +1,7 @@
 -- What a job says as it ends.
 use denote.RattleType.{RattleType}
-use Rattle.std.proofs.Common.{◌≡◌, ◌∙◌, inl, inr, ℕ, Bool, List, [], ◌∷◌, Option, Some, None, Result, Ok, Err, refl, sym, subst, true, false, ◌++◌}
+use Rattle.std.proofs.Common.{◌≡◌, ◌∙◌, inl, inr, ℕ, Bool, List, [], ◌∷◌, Option, Some, None}
+use Rattle.std.proofs.Common.{Result, Ok, Err, refl, sym, subst, true, false, ◌++◌}
 use Rattle.std.proofs.KnownBytes.{Appends-trans}
 use Rattle.std.specs.Prelude.{IfOk, IfErr, IfSome, IsOk, codes}
 use Rattle.std.specs.Io.KnownBytes.{Appends}
@@ -31,10 +32,14 @@ use Rattle.s10_jobs.specs.declared.reporting.Report.{Report}
 use Rattle.s10_jobs.specs.declared.reporting.Report.TheVariants.{Ranges, Issues}
 use Rattle.s10_host.specs.declared.loop_resources.LoopResources.{LoopResources}
 use Rattle.s10_sockets.specs.Unbound.{IsUnbound}
-use Rattle.s10_host.specs.Files.{FileConnection, FileLedger, ClosedFiles, Copies, PutsAway, IsFoundIn, IsFileFault, IsAbsenceOr, IsNotMade, IsNotOpened, LeavesClean}
+use Rattle.s10_host.specs.Files.{FileConnection, FileLedger, ClosedFiles, Copies, PutsAway}
+use Rattle.s10_host.specs.Files.{IsFoundIn, IsFileFault, IsAbsenceOr, IsNotMade, IsNotOpened}
+use Rattle.s10_host.specs.Files.{LeavesClean}
 use Rattle.s10_host.specs.Audited.{HasFound, audit_line, audit_status}
 use Rattle.s10_host.specs.Closing.{IsClosedAs, Turns}
-use Rattle.s10_host.specs.Jobs.{ledger_line, FailsByLedger, FailsByClosing, IsAskedFor, HasCreated, IsServed, IsUnlinked, Writes, IsReported, HasServed, HasReported, HasAudited, HasEnded}
+use Rattle.s10_host.specs.Jobs.{ledger_line, FailsByLedger, FailsByClosing, IsAskedFor, HasCreated}
+use Rattle.s10_host.specs.Jobs.{IsServed, IsUnlinked, Writes, IsReported, HasServed, HasReported}
+use Rattle.s10_host.specs.Jobs.{HasAudited, HasEnded}
 use Rattle.s10_host.specs.declared.book_job.BookJob.TheVariants.{Create, Serve, Report as ReportOn}
 use Rattle.s10_host.specs.declared.book_job.BookJob.{BookJob}
 use Rattle.s10_host.specs.declared.ledger_job.LedgerJob.{LedgerJob}
@@ -44,164 +49,258 @@ use Rattle.s10_host.proofs.Opening.{empty_book, found_book, put_away}
 use Rattle.s10_host.proofs.Backwards.{before_batches}
 
 -- a task is one work
-pub asked_alike : (task : LedgerJob) (work same : BookJob) → task ≡ AsksFor work → task ≡ AsksFor same → work ≡ same
+pub asked_alike : (task : LedgerJob) (work same : BookJob) → task ≡ AsksFor work
+    → task ≡ AsksFor same → work ≡ same
 asked_alike task work same is so = cc
 
 -- and then it is no audit
-pub no_audit : {A : Type 0} (task : LedgerJob) (work : BookJob) → task ≡ AsksFor work → task ≡ Audit → A
+pub no_audit : {A : Type 0} (task : LedgerJob) (work : BookJob) → task ≡ AsksFor work → task ≡ Audit
+    → A
 no_audit task work is so = absurd cc
 
 -- of a fault that was written
-pub fails_by : (IsFault : OpenFault → Type 0) (fault : OpenFault) (old new : Option (List ℕ)) (r : Result JobStatus WriteFault) → IsFault fault
-    → IfOk r (λ status. (status ≡ Failed) × Appends old new (ledger_line fault)) → IfOk r (FailsByLedger IsFault old new)
+pub fails_by : (IsFault : OpenFault → Type 0) (fault : OpenFault) (old new : Option (List ℕ))
+    (r : Result JobStatus WriteFault) → IsFault fault
+    → IfOk r (λ status. (status ≡ Failed) × Appends old new (ledger_line fault))
+    → IfOk r (FailsByLedger IsFault old new)
 fails_by IsFault fault old new (Ok status) is (failed, written) = (failed, fault, is, written)
 fails_by IsFault fault old new (Err e) is says = tt
 
 -- the same of what was handed on
-pub fails_as : (IsFault : OpenFault → Type 0) (fault : OpenFault) (old new : Option (List ℕ)) (printed result : Result JobStatus WriteFault) → IsFault fault
-    → IfOk printed (λ status. (status ≡ Failed) × Appends old new (ledger_line fault)) → result ≡ printed → IfOk result (FailsByLedger IsFault old new)
-fails_as IsFault fault old new printed result is says same = subst (λ r. IfOk r (FailsByLedger IsFault old new)) (sym same) (fails_by IsFault fault old new printed is says)
+pub fails_as : (IsFault : OpenFault → Type 0) (fault : OpenFault) (old new : Option (List ℕ))
+    (printed result : Result JobStatus WriteFault) → IsFault fault
+    → IfOk printed (λ status. (status ≡ Failed) × Appends old new (ledger_line fault))
+    → result ≡ printed → IfOk result (FailsByLedger IsFault old new)
+fails_as IsFault fault old new printed result is says same =
+    subst (λ r. IfOk r (FailsByLedger IsFault old new)) (sym same)
+    (fails_by IsFault fault old new printed is says)
 
 -- a fault of this kind is one of that kind
-fails_weaker : (Is Was : OpenFault → Type 0) → ((fault : OpenFault) → Is fault → Was fault) → (done : Result JobStatus WriteFault) (old new : Option (List ℕ)) (r : Result JobStatus WriteFault)
-    → IfOk r (λ status. IsOk done × FailsByLedger Is old new status) → IfOk r (FailsByLedger Was old new)
-fails_weaker Is Was gives done old new (Ok status) (well, (failed, fault, is, written)) = (failed, fault, gives fault is, written)
+fails_weaker : (Is Was : OpenFault → Type 0) → ((fault : OpenFault) → Is fault → Was fault)
+    → (done : Result JobStatus WriteFault) (old new : Option (List ℕ))
+    (r : Result JobStatus WriteFault)
+    → IfOk r (λ status. IsOk done × FailsByLedger Is old new status)
+    → IfOk r (FailsByLedger Was old new)
+fails_weaker Is Was gives done old new (Ok status) (well, (failed, fault, is, written)) =
+    (failed, fault, gives fault is, written)
 fails_weaker Is Was gives done old new (Err e) says = tt
 
-pub asked_for : (is_of_issues : Bool) (day : Option ℕ) (made : Option Report) (report : Report) → made ≡ Some report
-    → (is_of_issues ≡ true → made ≡ Some Issues) → ((d : ℕ) → is_of_issues ≡ false → day ≡ Some d → made ≡ Some (Ranges d))
-    → (is_of_issues ≡ false → IfSome made (λ r. (d : ℕ) × (r ≡ Ranges d))) → IsAskedFor is_of_issues day report
-asked_for true day made report is issues ranges some = record { issues = λ so. let one = issues so in cc; ranges = λ so. absurd cc }
+pub asked_for : (is_of_issues : Bool) (day : Option ℕ) (made : Option Report) (report : Report)
+    → made ≡ Some report
+    → (is_of_issues ≡ true → made ≡ Some Issues) → ((d : ℕ) → is_of_issues ≡ false → day ≡ Some d
+    → made ≡ Some (Ranges d))
+    → (is_of_issues ≡ false → IfSome made (λ r. (d : ℕ) × (r ≡ Ranges d)))
+    → IsAskedFor is_of_issues day report
+asked_for true day made report is issues ranges some =
+    record { issues = λ so. let one = issues so in cc; ranges = λ so. absurd cc }
 asked_for false day None report is issues ranges some = absurd cc
 asked_for false day (Some r) report is issues ranges some =
     let found = some refl in
     let of_day : report ≡ Ranges found.0 = let one = found.1 in cc in
-    record { issues = λ so. absurd cc; ranges = λ so. (found.0, of_day, λ d given. let one = ranges d refl given in let other = found.1 in cc) }
+    record {
+      issues = λ so. absurd cc;
+      ranges = λ so. (
+        found.0,
+        of_day,
+        λ d given. let one = ranges d refl given in
+            let other = found.1 in cc,
+      );
+    }
 
 -- no report is made of ranges alone, of a day that was not given
 pub no_report : (is_of_issues : Bool) (day : Option ℕ) (made : Option Report) → made ≡ None
-    → (is_of_issues ≡ true → made ≡ Some Issues) → ((d : ℕ) → is_of_issues ≡ false → day ≡ Some d → made ≡ Some (Ranges d)) → (is_of_issues ≡ false) × (day ≡ None)
+    → (is_of_issues ≡ true → made ≡ Some Issues) → ((d : ℕ) → is_of_issues ≡ false → day ≡ Some d
+    → made ≡ Some (Ranges d)) → (is_of_issues ≡ false) × (day ≡ None)
 no_report true day made is issues ranges = absurd (let one = issues refl in cc)
 no_report false None made is issues ranges = (refl, refl)
 no_report false (Some d) made is issues ranges = absurd (let one = ranges d refl refl in cc)
 
 -- what could not be closed
-pub lost_closing : {D : Type 0} (put : Result (Files D) OpenFault) (done result : Result JobStatus WriteFault) (new last : Option (List ℕ))
-    → IfErr put (λ fault. fault ≡ Store) → (fault : OpenFault) × (put ≡ Err fault) × IfOk result (λ status. IsOk done × (status ≡ Failed) × Appends new last (ledger_line fault))
+pub lost_closing : {D : Type 0} (put : Result (Files D) OpenFault)
+    (done result : Result JobStatus WriteFault) (new last : Option (List ℕ))
+    → IfErr put (λ fault. fault ≡ Store) → (fault : OpenFault) × (put ≡ Err fault)
+    × IfOk result (λ status. IsOk done × (status ≡ Failed) × Appends new last (ledger_line fault))
     → FailsByClosing done new last result
-lost_closing put done (Ok status) new last store (fault, is, (well, failed, written)) = (well, (failed, fault, subst (λ r. IfErr r (λ fault. fault ≡ Store)) is store, written))
+lost_closing put done (Ok status) new last store (fault, is, (well, failed, written)) =
+    (well, (failed, fault, subst (λ r. IfErr r (λ fault. fault ≡ Store)) is store, written))
 lost_closing put done (Err e) new last store says = tt
 
 module _ {D : Type 0} {g : disk.Ghosts D} where
   -- what was closed, and what came of that
-  pub kept_copied : (closed : Held (FileStore D g)) (put : Result (Files D) OpenFault) (files : Option (Files D)) (done result : Result JobStatus WriteFault) (new last : Option (List ℕ))
-      → IfOk put (Copies closed) → IfSome files (λ f. (put ≡ Ok f) × (result ≡ done) × (last ≡ new)) → IfSome files (λ f. Copies closed f × (result ≡ done) × (last ≡ new))
+  pub kept_copied : (closed : Held (FileStore D g)) (put : Result (Files D) OpenFault)
+      (files : Option (Files D)) (done result : Result JobStatus WriteFault)
+      (new last : Option (List ℕ))
+      → IfOk put (Copies closed) → IfSome files (λ f. (put ≡ Ok f) × (result ≡ done) × (last ≡ new))
+      → IfSome files (λ f. Copies closed f × (result ≡ done) × (last ≡ new))
   kept_copied closed put None done result new last copied kept = tt
-  kept_copied closed put (Some f) done result new last copied (is, same, still) = (subst (λ r. IfOk r (Copies closed)) is copied, same, still)
+  kept_copied closed put (Some f) done result new last copied (is, same, still) =
+      (subst (λ r. IfOk r (Copies closed)) is copied, same, still)
 
-  pub refused_over : (work : BookJob) (was left : Held (FileStore D g)) (old between new : Option (List ℕ)) (fault named : OpenFault) (printed result : Result JobStatus WriteFault) (files : Option (Files D)) (link : Option BoundLink)
-      → IsBookJobRefusal over_files work was left fault → named ≡ fault → between ≡ old → IfOk printed (λ status. (status ≡ Failed) × Appends between new (ledger_line named))
+  pub refused_over : (work : BookJob) (was left : Held (FileStore D g))
+      (old between new : Option (List ℕ)) (fault named : OpenFault)
+      (printed result : Result JobStatus WriteFault) (files : Option (Files D))
+      (link : Option BoundLink)
+      → IsBookJobRefusal over_files work was left fault → named ≡ fault → between ≡ old
+      → IfOk printed (λ status. (status ≡ Failed) × Appends between new (ledger_line named))
       → result ≡ printed → files ≡ None → link ≡ None → EndsOver work was old new result files link
-  refused_over work was left old between new fault named printed result files link refusal is still says same no_files no_link =
-      let Told : Option (List ℕ) → OpenFault → Result JobStatus WriteFault → Type 0 = λ text f r. IfOk r (λ status. (status ≡ Failed) × Appends text new (ledger_line f)) in
+  refused_over work was left old between new fault named printed result files link refusal is still
+      says same no_files no_link =
+      let Told : Option (List ℕ) → OpenFault → Result JobStatus WriteFault → Type 0 =
+      λ text f r. IfOk r (λ status. (status ≡ Failed) × Appends text new (ledger_line f)) in
       inr (record {
         fault = fault;
         left = left;
         refusal = refusal;
-        printed = subst (λ text. Told text fault result) still (subst (λ f. Told between f result) is (subst (λ r. Told between named r) (sym same) says));
+        printed = subst (λ text. Told text fault result) still (subst (λ f. Told between f result)
+            is (subst (λ r. Told between named r) (sym same) says));
         no_files = no_files;
         no_link = no_link;
       })
 
 module _ (S : RattleType) (first : Ghosts S.Denot) where
   -- a ledger that was made and closed, of which that was said then
-  pub created : (terms : Terms) (was : FileConnection S first) (old between new : Option (List ℕ)) (done printed : Result JobStatus WriteFault) (files : Option (ClosedFiles S first)) (link : Option BoundLink) (f : ClosedFiles S first)
+  pub created : (terms : Terms) (was : FileConnection S first) (old between new : Option (List ℕ))
+      (done printed : Result JobStatus WriteFault) (files : Option (ClosedFiles S first))
+      (link : Option BoundLink) (f : ClosedFiles S first)
       → files ≡ Some f → EndsOver (Create terms) was old between done files link
-      → IfOk printed (λ status. (status ≡ Done) × Appends between new (codes "created\n")) → HasCreated S first terms old new printed files
+      → IfOk printed (λ status. (status ≡ Done) × Appends between new (codes "created\n"))
+      → HasCreated S first terms old new printed files
   created terms was old between new done printed None link f is ends written = absurd cc
-  created terms was old between new done printed (Some g) link f is (inr refused) written = absurd (let none = refused.no_files in cc)
+  created terms was old between new done printed (Some g) link f is (inr refused) written =
+      absurd (let none = refused.no_files in cc)
   created terms was old between new done printed (Some g) link f is (inl over) written =
       let (book, new_book, put, result, still, none) = over.worked in
       let (copies, same, last) = over.kept in
       record {
-        made = record { book = book; settings = new_book.settings; empty = empty_book terms book new_book; away = put_away book over.closed g put copies };
-        printed = subst (λ text. IfOk printed (λ status. (status ≡ Done) × Appends text new (codes "created\n"))) (last ∙ still) written;
+        made = record {
+          book = book;
+          settings = new_book.settings;
+          empty = empty_book terms book new_book;
+          away = put_away book over.closed g put copies;
+        };
+        printed = subst (λ text. IfOk printed (λ status. (status ≡ Done)
+            × Appends text new (codes "created\n"))) (last ∙ still) written;
         refused = λ gone. absurd cc;
       }
 
   -- one that was refused, or could not be closed
-  pub not_created : (terms : Terms) (was : FileConnection S first) (old new : Option (List ℕ)) (result : Result JobStatus WriteFault) (files : Option (ClosedFiles S first)) (link : Option BoundLink)
-      → files ≡ None → IsFoundIn (image_at first) was → EndsOver (Create terms) was old new result files link → HasCreated S first terms old new result files
+  pub not_created : (terms : Terms) (was : FileConnection S first) (old new : Option (List ℕ))
+      (result : Result JobStatus WriteFault) (files : Option (ClosedFiles S first))
+      (link : Option BoundLink)
+      → files ≡ None → IsFoundIn (image_at first) was → EndsOver (Create terms) was old new result
+      files link → HasCreated S first terms old new result files
   not_created terms was old new result (Some f) link none found ends = absurd cc
   not_created terms was old new result None link none found (inr refused) = record {
     made = tt;
     printed = tt;
-    refused = λ _. fails_by (IsNotMade S first) refused.fault old new result (inr (record { was = was; found = found; refusal = refused.refusal })) refused.printed;
+    refused = λ _. fails_by (IsNotMade S first) refused.fault old new result
+        (inr (record { was = was; found = found; refusal = refused.refusal })) refused.printed;
   }
   not_created terms was old new result None link none found (inl over) =
       let (book, new_book, put, done, still, no_link) = over.worked in
       record {
         made = tt;
         printed = tt;
-        refused = λ _. fails_weaker (λ fault. fault ≡ Store) (IsNotMade S first) (λ fault is. inl (inr is)) over.done old new result
+        refused = λ _. fails_weaker (λ fault. fault ≡ Store) (IsNotMade S first)
+            (λ fault is. inl (inr is)) over.done old new result
             (subst (λ text. FailsByClosing over.done text new result) still (over.lost refl));
       }
 
   -- and one whose file could not be opened
-  pub not_connected : (terms : Terms) (fault : OpenFault) (old new : Option (List ℕ)) (printed result : Result JobStatus WriteFault) (files : Option (ClosedFiles S first))
-      → IsFileFault fault → IfOk printed (λ status. (status ≡ Failed) × Appends old new (ledger_line fault)) → result ≡ printed → files ≡ None → HasCreated S first terms old new result files
+  pub not_connected : (terms : Terms) (fault : OpenFault) (old new : Option (List ℕ))
+      (printed result : Result JobStatus WriteFault) (files : Option (ClosedFiles S first))
+      → IsFileFault fault
+      → IfOk printed (λ status. (status ≡ Failed) × Appends old new (ledger_line fault))
+      → result ≡ printed → files ≡ None → HasCreated S first terms old new result files
   not_connected terms fault old new printed result (Some f) is says same none = absurd cc
   not_connected terms fault old new printed result None is says same none = record {
     made = tt;
     printed = tt;
-    refused = λ _. fails_by (IsNotMade S first) fault old new result (inl is) (subst (λ r. IfOk r (λ status. (status ≡ Failed) × Appends old new (ledger_line fault))) (sym same) says);
+    refused = λ _. fails_by (IsNotMade S first) fault old new result (inl is)
+        (subst (λ r. IfOk r (λ status. (status ≡ Failed) × Appends old new (ledger_line fault)))
+        (sym same) says);
   }
 
   -- a file that is not there, or that is no database, is not opened
-  absent_or_refused : (old new : Option (List ℕ)) (result : Result JobStatus WriteFault) → IfOk result (FailsByLedger (IsAbsenceOr IsFileFault) old new) → IfOk result (FailsByLedger (IsNotOpened S first) old new)
-  absent_or_refused old new (Ok status) (failed, fault, inl absent, written) = (failed, fault, inl absent, written)
-  absent_or_refused old new (Ok status) (failed, fault, inr is, written) = (failed, fault, inr (inl is), written)
+  absent_or_refused : (old new : Option (List ℕ)) (result : Result JobStatus WriteFault)
+      → IfOk result (FailsByLedger (IsAbsenceOr IsFileFault) old new)
+      → IfOk result (FailsByLedger (IsNotOpened S first) old new)
+  absent_or_refused old new (Ok status) (failed, fault, inl absent, written) =
+      (failed, fault, inl absent, written)
+  absent_or_refused old new (Ok status) (failed, fault, inr is, written) =
+      (failed, fault, inr (inl is), written)
   absent_or_refused old new (Err e) printed = tt
 
-  was_honest : (day : Option ℕ) (count : ℕ) (old new : Option (List ℕ)) (opened after : FileLedger S first) (result : Result JobStatus WriteFault) (link : BoundLink)
-      → Turns over_files day count opened after old new result link → IsHonest over_files after → IsHonest over_files opened
+  was_honest : (day : Option ℕ) (count : ℕ) (old new : Option (List ℕ))
+      (opened after : FileLedger S first) (result : Result JobStatus WriteFault) (link : BoundLink)
+      → Turns over_files day count opened after old new result link → IsHonest over_files after
+      → IsHonest over_files opened
   was_honest day count old new opened after result link turns =
-      before_batches (λ (b : FileLedger S first). b.faults) (IsHonest over_files) (λ b. b.terms) (history_of over_files) (committed_of over_files) day
+      before_batches (λ (b : FileLedger S first). b.faults) (IsHonest over_files) (λ b. b.terms)
+      (history_of over_files) (committed_of over_files) day
       (new_trace, opened) (link.trace, after) turns.batches turns.lead
 
-  served_away : (day : Option ℕ) (count : ℕ) (old new last : Option (List ℕ)) (opened served : FileLedger S first) (closed : FileConnection S first) (done result : Result JobStatus WriteFault)
-      (files : Option (ClosedFiles S first)) (link : BoundLink) → Turns over_files day count opened served old new done link → IsClosedAs over_files served closed
-      → IfSome files (λ f. Copies closed f × (result ≡ done) × (last ≡ new)) → IfSome files (IsServed S first opened day count old last result link)
+  served_away : (day : Option ℕ) (count : ℕ) (old new last : Option (List ℕ))
+      (opened served : FileLedger S first) (closed : FileConnection S first)
+      (done result : Result JobStatus WriteFault)
+      (files : Option (ClosedFiles S first)) (link : BoundLink)
+      → Turns over_files day count opened served old new done link
+      → IsClosedAs over_files served closed
+      → IfSome files (λ f. Copies closed f × (result ≡ done) × (last ≡ new))
+      → IfSome files (IsServed S first opened day count old last result link)
   served_away day count old new last opened served closed done result None link turns put kept = tt
-  served_away day count old new last opened served closed done result (Some f) link turns put (copies, same, still) = record {
-    served = served;
-    turns = subst (λ text. Turns over_files day count opened served old text result link) (sym still) (subst (λ r. Turns over_files day count opened served old new r link) (sym same) turns);
-    was_honest = was_honest day count old new opened served done link turns;
-    away = put_away served closed f put copies;
-  }
+  served_away day count old new last opened served closed done result (Some f) link turns put
+      (copies, same, still) = record {
+        served = served;
+        turns = subst (λ text. Turns over_files day count opened served old text result link)
+            (sym still) (subst (λ r. Turns over_files day count opened served old new r link) (sym same)
+            turns);
+        was_honest = was_honest day count old new opened served done link turns;
+        away = put_away served closed f put copies;
+      }
 
   unlinked_kept : (old new last : Option (List ℕ)) (done result : Result JobStatus WriteFault)
-      → IfOk done (λ status. (status ≡ Failed) × Appends old new (line_of (codes "link") (codes "bind" ∷ []))) → result ≡ done → last ≡ new
-      → IfOk result (λ status. (status ≡ Failed) × Appends old last (line_of (codes "link") (codes "bind" ∷ [])))
+      → IfOk done (λ status. (status ≡ Failed)
+      × Appends old new (line_of (codes "link") (codes "bind" ∷ []))) → result ≡ done
+      → last ≡ new
+      → IfOk result (λ status. (status ≡ Failed)
+      × Appends old last (line_of (codes "link") (codes "bind" ∷ [])))
   unlinked_kept old new last done result printed same still =
-      let Told : Result JobStatus WriteFault → Option (List ℕ) → Type 0 = λ r text. IfOk r (λ status. (status ≡ Failed) × Appends old text (line_of (codes "link") (codes "bind" ∷ []))) in
+      let Told : Result JobStatus WriteFault → Option (List ℕ) → Type 0 =
+      λ r text. IfOk r (λ status. (status ≡ Failed)
+      × Appends old text (line_of (codes "link") (codes "bind" ∷ []))) in
       subst (λ text. Told result text) (sym still) (subst (λ r. Told r new) (sym same) printed)
 
   unlinked_lost : (old new last : Option (List ℕ)) (done result : Result JobStatus WriteFault)
-      → IfOk done (λ status. (status ≡ Failed) × Appends old new (line_of (codes "link") (codes "bind" ∷ [])))
+      → IfOk done (λ status. (status ≡ Failed)
+      × Appends old new (line_of (codes "link") (codes "bind" ∷ [])))
       → IfOk result (λ status. IsOk done × FailsByLedger (λ fault. fault ≡ Store) new last status)
-      → IfOk result (λ status. (status ≡ Failed) × Appends old last (line_of (codes "link") (codes "bind" ∷ []) ++ ledger_line Store))
-  unlinked_lost old new last (Ok status) (Ok other) printed (well, (failed, fault, is, written)) =
-      (failed, Appends-trans old new last (line_of (codes "link") (codes "bind" ∷ [])) (ledger_line Store) printed.1 (subst (λ f. Appends new last (ledger_line f)) is written))
+      → IfOk result (λ status. (status ≡ Failed)
+      × Appends old last (line_of (codes "link") (codes "bind" ∷ []) ++ ledger_line Store))
+  unlinked_lost old new last (Ok status) (Ok other) printed (well, (failed, fault, is, written)) = (
+    failed,
+    Appends-trans old new last (line_of (codes "link") (codes "bind" ∷ []))
+        (ledger_line Store) printed.1 (subst (λ f. Appends new last (ledger_line f)) is written),
+  )
   unlinked_lost old new last (Err e) (Ok other) printed (well, rest) = absurd (let one = well in cc)
   unlinked_lost old new last done (Err e) printed says = tt
 
-  unlinked : (old new last : Option (List ℕ)) (opened after : FileLedger S first) (closed : FileConnection S first) (done result : Result JobStatus WriteFault) (files : Option (ClosedFiles S first))
+  unlinked : (old new last : Option (List ℕ)) (opened after : FileLedger S first)
+      (closed : FileConnection S first) (done result : Result JobStatus WriteFault)
+      (files : Option (ClosedFiles S first))
       → IsUnbound opened after old new done → IsClosedAs over_files after closed
-      → IfSome files (λ f. Copies closed f × (result ≡ done) × (last ≡ new)) → (files ≡ None → FailsByClosing done new last result) → IsUnlinked S first opened old last result files
+      → IfSome files (λ f. Copies closed f × (result ≡ done) × (last ≡ new))
+      → (files ≡ None → FailsByClosing done new last result)
+      → IsUnlinked S first opened old last result files
   unlinked old new last opened after closed done result None unbound put kept lost =
-      record { away = tt; printed = tt; lost = λ none. unlinked_lost old new last done result unbound.1 (lost none) }
-  unlinked old new last opened after closed done result (Some f) unbound put (copies, same, still) lost =
+      record {
+        away = tt;
+        printed = tt;
+        lost = λ none. unlinked_lost old new last done result
+            unbound.1 (lost none);
+      }
+  unlinked old new last opened after closed done result (Some f) unbound put (copies, same, still)
+      lost =
       record {
         away = subst (λ b. PutsAway b f) unbound.0 (put_away after closed f put copies);
         printed = unlinked_kept old new last done result unbound.1 same still;
@@ -209,13 +308,27 @@ module _ (S : RattleType) (first : Ghosts S.Denot) where
       }
 
   -- what came of the turns over files that are there
-  served_over : (bind : List ℕ) (at : Peer) (day : Option ℕ) (count : ℕ) (was : FileConnection S first) (old new : Option (List ℕ)) (result : Result JobStatus WriteFault) (files : Option (ClosedFiles S first)) (link : Option BoundLink)
-      → IsPeerText bind → IsFoundIn (image_at first) was → EndsOver (Serve at count day) was old new result files link → HasServed S first bind day count old new result files link
+  served_over : (bind : List ℕ) (at : Peer) (day : Option ℕ) (count : ℕ)
+      (was : FileConnection S first) (old new : Option (List ℕ))
+      (result : Result JobStatus WriteFault) (files : Option (ClosedFiles S first))
+      (link : Option BoundLink)
+      → IsPeerText bind → IsFoundIn (image_at first) was → EndsOver (Serve at count day) was old new
+      result files link → HasServed S first bind day count old new result files link
   served_over bind at day count was old new result files None text found (inr refused) = record {
     served = tt;
-    unlinked = λ _. inr (inl (text, fails_by (IsNotOpened S first) refused.fault old new result (inr (inr (record { was = was; found = found; left = refused.left; refusal = refused.refusal }))) refused.printed));
+    unlinked = λ _. inr (inl (
+      text,
+      fails_by (IsNotOpened S first) refused.fault old new result
+          (inr (inr (record {
+            was = was;
+            found = found;
+            left = refused.left;
+            refusal = refused.refusal;
+          }))) refused.printed,
+    ));
   }
-  served_over bind at day count was old new result files (Some l) text found (inr refused) = absurd (let none = refused.no_link in cc)
+  served_over bind at day count was old new result files (Some l) text found (inr refused) =
+      absurd (let none = refused.no_link in cc)
   served_over bind at day count was old new result files None text found (inl over) =
       let (opened, opening, served, put, unbound, turns) = over.worked in
       record {
@@ -224,7 +337,8 @@ module _ (S : RattleType) (first : Ghosts S.Denot) where
           text,
           opened,
           found_book (image_at first) was opened found opening,
-          unlinked old over.between new opened served over.closed over.done result files (unbound refl) put over.kept over.lost,
+          unlinked old over.between new opened served over.closed over.done result files
+              (unbound refl) put over.kept over.lost,
         ));
       }
   served_over bind at day count was old new result files (Some l) text found (inl over) =
@@ -233,7 +347,8 @@ module _ (S : RattleType) (first : Ghosts S.Denot) where
         served = (
           opened,
           found_book (image_at first) was opened found opening,
-          served_away day count old over.between new opened served over.closed over.done result files l turns put over.kept,
+          served_away day count old over.between new opened served over.closed over.done result
+              files l turns put over.kept,
           λ none. record {
             served = served;
             turned = over.done;
@@ -247,49 +362,98 @@ module _ (S : RattleType) (first : Ghosts S.Denot) where
       }
 
   -- an address that does not read
-  pub no_peer : (bind text : List ℕ) (day : Option ℕ) (count : ℕ) (old new : Option (List ℕ)) (printed result : Result JobStatus WriteFault) (files : Option (ClosedFiles S first)) (link : Option BoundLink) (made : Option Peer)
-      → made ≡ None → ((p : Peer) → SpellsPeer text p → made ≡ Some p) → text ≡ bind → IfOk printed (λ status. (status ≡ Refused) × Appends old new (refused_line (codes "peer" ∷ [])))
+  pub no_peer : (bind text : List ℕ) (day : Option ℕ) (count : ℕ) (old new : Option (List ℕ))
+      (printed result : Result JobStatus WriteFault) (files : Option (ClosedFiles S first))
+      (link : Option BoundLink) (made : Option Peer)
+      → made ≡ None → ((p : Peer) → SpellsPeer text p → made ≡ Some p) → text ≡ bind
+      → IfOk printed (λ status. (status ≡ Refused)
+      × Appends old new (refused_line (codes "peer" ∷ [])))
       → result ≡ printed → link ≡ None → HasServed S first bind day count old new result files link
-  no_peer bind text day count old new printed result files link made none read same says is gone = subst (HasServed S first bind day count old new result files) (sym gone) (record {
-    served = tt;
-    unlinked = λ _. inl (
-      λ peer. absurd (let some = read peer.0 (subst (λ t. SpellsPeer t peer.0) (sym same) peer.1) in cc),
-      subst (λ r. IfOk r (λ status. (status ≡ Refused) × Appends old new (refused_line (codes "peer" ∷ [])))) (sym is) says,
-    );
-  })
+  no_peer bind text day count old new printed result files link made none read same says is gone =
+      subst (HasServed S first bind day count old new result files) (sym gone) (record {
+        served = tt;
+        unlinked = λ _. inl (
+          λ peer. absurd (let some = read peer.0 (subst (λ t. SpellsPeer t peer.0) (sym same) peer.1) in
+              cc),
+          subst (λ r. IfOk r (λ status. (status ≡ Refused)
+              × Appends old new (refused_line (codes "peer" ∷ [])))) (sym is) says,
+        );
+      })
 
-  pub served_in : (bind : List ℕ) (at : Peer) (day : Option ℕ) (count : ℕ) (old new : Option (List ℕ)) (result : Result JobStatus WriteFault) (files : Option (ClosedFiles S first)) (link : Option BoundLink)
-      → IsPeerText bind → EndsIn S first (Serve at count day) old new result files link → HasServed S first bind day count old new result files link
-  served_in bind at day count old new result files link text (inl (was, found, ends)) = served_over bind at day count was old new result files link text found ends
+  pub served_in : (bind : List ℕ) (at : Peer) (day : Option ℕ) (count : ℕ)
+      (old new : Option (List ℕ)) (result : Result JobStatus WriteFault)
+      (files : Option (ClosedFiles S first)) (link : Option BoundLink)
+      → IsPeerText bind → EndsIn S first (Serve at count day) old new result files link
+      → HasServed S first bind day count old new result files link
+  served_in bind at day count old new result files link text (inl (was, found, ends)) =
+      served_over bind at day count was old new result files link text found ends
   served_in bind at day count old new result files None text (inr (printed, no_files, no_link)) =
-      record { served = tt; unlinked = λ _. inr (inl (text, absent_or_refused old new result printed)) }
-  served_in bind at day count old new result files (Some l) text (inr (printed, no_files, no_link)) = absurd (let none = no_link in cc)
+      record {
+        served = tt;
+        unlinked = λ _. inr (inl (text, absent_or_refused old new result printed));
+      }
+  served_in bind at day count old new result files (Some l) text
+      (inr (printed, no_files, no_link)) = absurd (let none = no_link in cc)
 
-  pub no_day : (is_of_issues : Bool) (day : Option ℕ) (old new : Option (List ℕ)) (printed result : Result JobStatus WriteFault) (files : Option (ClosedFiles S first))
-      → (is_of_issues ≡ false) × (day ≡ None) → IfOk printed (λ status. (status ≡ Failed) × Appends old new (codes "clock\n")) → result ≡ printed → files ≡ None
+  pub no_day : (is_of_issues : Bool) (day : Option ℕ) (old new : Option (List ℕ))
+      (printed result : Result JobStatus WriteFault) (files : Option (ClosedFiles S first))
+      → (is_of_issues ≡ false) × (day ≡ None)
+      → IfOk printed (λ status. (status ≡ Failed) × Appends old new (codes "clock\n"))
+      → result ≡ printed → files ≡ None
       → HasReported S first is_of_issues day old new result files
   no_day is_of_issues day old new printed result (Some f) none says same gone = absurd cc
   no_day is_of_issues day old new printed result None none says same gone =
-      record { reported = tt; unreported = λ _. inl (inl (none.0, none.1, subst (λ r. IfOk r (λ status. (status ≡ Failed) × Appends old new (codes "clock\n"))) (sym same) says)) }
+      record {
+        reported = tt;
+        unreported =
+            λ _. inl (inl (
+              none.0,
+              none.1,
+              subst (λ r. IfOk r (λ status. (status ≡ Failed) × Appends old new (codes "clock\n")))
+                  (sym same) says,
+            ));
+      }
 
-  reported_away : (old new last : Option (List ℕ)) (report : Report) (opened after : FileLedger S first) (closed : FileConnection S first) (done result : Result JobStatus WriteFault) (files : Option (ClosedFiles S first))
-      → Unchanged (λ (b : FileLedger S first). history_of over_files b) (λ b. b.terms) (IsHonest over_files) opened after → Writes S first report opened after old new done → IsClosedAs over_files after closed
-      → IfSome files (λ f. Copies closed f × (result ≡ done) × (last ≡ new)) → IfSome files (IsReported S first opened report old last result)
-  reported_away old new last report opened after closed done result None unchanged written put kept = tt
-  reported_away old new last report opened after closed done result (Some f) unchanged written put (copies, same, still) = record {
-    reported = after;
-    written = subst (λ text. Writes S first report opened after old text result) (sym still) (subst (λ r. Writes S first report opened after old new r) (sym same) written);
-    unchanged = unchanged;
-    away = put_away after closed f put copies;
-  }
+  reported_away : (old new last : Option (List ℕ)) (report : Report)
+      (opened after : FileLedger S first) (closed : FileConnection S first)
+      (done result : Result JobStatus WriteFault) (files : Option (ClosedFiles S first))
+      → Unchanged (λ (b : FileLedger S first). history_of over_files b) (λ b. b.terms)
+      (IsHonest over_files) opened after → Writes S first report opened after old new done
+      → IsClosedAs over_files after closed
+      → IfSome files (λ f. Copies closed f × (result ≡ done) × (last ≡ new))
+      → IfSome files (IsReported S first opened report old last result)
+  reported_away old new last report opened after closed done result None unchanged written put
+      kept = tt
+  reported_away old new last report opened after closed done result (Some f) unchanged written put
+      (copies, same, still) = record {
+        reported = after;
+        written = subst (λ text. Writes S first report opened after old text result) (sym still)
+            (subst (λ r. Writes S first report opened after old new r) (sym same) written);
+        unchanged = unchanged;
+        away = put_away after closed f put copies;
+      }
 
-  reported_over : (is_of_issues : Bool) (day : Option ℕ) (report : Report) (was : FileConnection S first) (old new : Option (List ℕ)) (result : Result JobStatus WriteFault) (files : Option (ClosedFiles S first)) (link : Option BoundLink)
-      → IsAskedFor is_of_issues day report → IsFoundIn (image_at first) was → EndsOver (ReportOn report) was old new result files link → HasReported S first is_of_issues day old new result files
-  reported_over is_of_issues day report was old new result None link asked found (inr refused) = record {
-    reported = tt;
-    unreported = λ _. inl (inr (fails_by (IsNotOpened S first) refused.fault old new result (inr (inr (record { was = was; found = found; left = refused.left; refusal = refused.refusal }))) refused.printed));
-  }
-  reported_over is_of_issues day report was old new result (Some f) link asked found (inr refused) = absurd (let none = refused.no_files in cc)
+  reported_over : (is_of_issues : Bool) (day : Option ℕ) (report : Report)
+      (was : FileConnection S first) (old new : Option (List ℕ))
+      (result : Result JobStatus WriteFault) (files : Option (ClosedFiles S first))
+      (link : Option BoundLink)
+      → IsAskedFor is_of_issues day report → IsFoundIn (image_at first) was
+      → EndsOver (ReportOn report) was old new result files link
+      → HasReported S first is_of_issues day old new result files
+  reported_over is_of_issues day report was old new result None link asked found (inr refused) =
+      record {
+        reported = tt;
+        unreported =
+            λ _. inl (inr (fails_by (IsNotOpened S first) refused.fault old new result
+            (inr (inr (record {
+              was = was;
+              found = found;
+              left = refused.left;
+              refusal = refused.refusal;
+            }))) refused.printed));
+      }
+  reported_over is_of_issues day report was old new result (Some f) link asked found (inr refused) =
+      absurd (let none = refused.no_files in cc)
   reported_over is_of_issues day report was old new result None link asked found (inl over) =
       let (opened, opening, reported, put, unchanged, written, none) = over.worked in
       record {
@@ -299,7 +463,13 @@ module _ (S : RattleType) (first : Ghosts S.Denot) where
           asked,
           opened,
           found_book (image_at first) was opened found opening,
-          record { reported = reported; done = over.done; between = over.between; written = written; printed = over.lost gone },
+          record {
+            reported = reported;
+            done = over.done;
+            between = over.between;
+            written = written;
+            printed = over.lost gone;
+          },
         );
       }
   reported_over is_of_issues day report was old new result (Some f) link asked found (inl over) =
@@ -310,39 +480,73 @@ module _ (S : RattleType) (first : Ghosts S.Denot) where
           asked,
           opened,
           found_book (image_at first) was opened found opening,
-          reported_away old over.between new report opened reported over.closed over.done result (Some f) unchanged written put over.kept,
+          reported_away old over.between new report opened reported over.closed over.done result
+              (Some f) unchanged written put over.kept,
         );
         unreported = λ gone. absurd cc;
       }
 
-  pub reported_in : (is_of_issues : Bool) (day : Option ℕ) (report : Report) (old new : Option (List ℕ)) (result : Result JobStatus WriteFault) (files : Option (ClosedFiles S first)) (link : Option BoundLink)
-      → IsAskedFor is_of_issues day report → EndsIn S first (ReportOn report) old new result files link → HasReported S first is_of_issues day old new result files
-  reported_in is_of_issues day report old new result files link asked (inl (was, found, ends)) = reported_over is_of_issues day report was old new result files link asked found ends
-  reported_in is_of_issues day report old new result None link asked (inr (printed, no_files, no_link)) =
-      record { reported = tt; unreported = λ _. inl (inr (absent_or_refused old new result printed)) }
-  reported_in is_of_issues day report old new result (Some f) link asked (inr (printed, no_files, no_link)) = absurd (let none = no_files in cc)
+  pub reported_in : (is_of_issues : Bool) (day : Option ℕ) (report : Report)
+      (old new : Option (List ℕ)) (result : Result JobStatus WriteFault)
+      (files : Option (ClosedFiles S first)) (link : Option BoundLink)
+      → IsAskedFor is_of_issues day report → EndsIn S first (ReportOn report) old new result files
+      link → HasReported S first is_of_issues day old new result files
+  reported_in is_of_issues day report old new result files link asked (inl (was, found, ends)) =
+      reported_over is_of_issues day report was old new result files link asked found ends
+  reported_in is_of_issues day report old new result None link asked
+      (inr (printed, no_files, no_link)) =
+      record {
+        reported = tt;
+        unreported = λ _. inl (inr (absent_or_refused old new result printed));
+      }
+  reported_in is_of_issues day report old new result (Some f) link asked
+      (inr (printed, no_files, no_link)) = absurd (let none = no_files in cc)
 
   -- an audit that left these files
-  pub audited_in : (was left : FileConnection S first) (finding : Result ℕ OpenFault) (old new : Option (List ℕ)) (result : Result JobStatus WriteFault) (files : Option (ClosedFiles S first)) (f : ClosedFiles S first)
+  pub audited_in : (was left : FileConnection S first) (finding : Result ℕ OpenFault)
+      (old new : Option (List ℕ)) (result : Result JobStatus WriteFault)
+      (files : Option (ClosedFiles S first)) (f : ClosedFiles S first)
       → files ≡ Some f → IsFoundIn (image_at first) was → HasFound over_files was left finding
-      → IfOk result (λ status. (status ≡ audit_status finding) × Appends old new (audit_line finding)) → LeavesClean left f → HasAudited S first old new result files
-  audited_in was left finding old new result files f is found counted written leaves = subst (HasAudited S first old new result) (sym is) (record {
-    audited = record { opened = was; found = found; left = left; finding = finding; counted = counted; written = written; leaves = leaves };
-    refused = λ none. absurd cc;
-  })
+      → IfOk result (λ status. (status ≡ audit_status finding)
+      × Appends old new (audit_line finding)) → LeavesClean left f
+      → HasAudited S first old new result files
+  audited_in was left finding old new result files f is found counted written leaves =
+      subst (HasAudited S first old new result) (sym is) (record {
+        audited = record {
+          opened = was;
+          found = found;
+          left = left;
+          finding = finding;
+          counted = counted;
+          written = written;
+          leaves = leaves;
+        };
+        refused = λ none. absurd cc;
+      })
 
   -- and one of a file that could not be opened
-  pub not_audited : (fault : OpenFault) (old new : Option (List ℕ)) (printed result : Result JobStatus WriteFault) (files : Option (ClosedFiles S first))
-      → IsAbsenceOr IsFileFault fault → IfOk printed (λ status. (status ≡ Failed) × Appends old new (ledger_line fault)) → result ≡ printed → files ≡ None → HasAudited S first old new result files
-  not_audited fault old new printed result files is says same none = subst (HasAudited S first old new result) (sym none) (record {
-    audited = tt;
-    refused = λ _. fails_as (IsAbsenceOr IsFileFault) fault old new printed result is says same;
-  })
+  pub not_audited : (fault : OpenFault) (old new : Option (List ℕ))
+      (printed result : Result JobStatus WriteFault) (files : Option (ClosedFiles S first))
+      → IsAbsenceOr IsFileFault fault
+      → IfOk printed (λ status. (status ≡ Failed) × Appends old new (ledger_line fault))
+      → result ≡ printed → files ≡ None → HasAudited S first old new result files
+  not_audited fault old new printed result files is says same none =
+      subst (HasAudited S first old new result) (sym none) (record {
+        audited = tt;
+        refused = λ _. fails_as (IsAbsenceOr IsFileFault) fault old new printed result is says same;
+      })
 
   -- the same of what was handed on
-  pub ended_as : (job same : Job) (old new : Option (List ℕ)) (result handed : Result JobStatus WriteFault) (files given : Option (ClosedFiles S first)) (link over : Option BoundLink) (looped left : Option LoopResources)
-      → job ≡ same → handed ≡ result → given ≡ files → over ≡ link → left ≡ looped → HasEnded S first same old new result files link looped → HasEnded S first job old new handed given over left
-  ended_as job same old new result handed files given link over looped left is so put on lasts ended =
+  pub ended_as : (job same : Job) (old new : Option (List ℕ))
+      (result handed : Result JobStatus WriteFault) (files given : Option (ClosedFiles S first))
+      (link over : Option BoundLink) (looped left : Option LoopResources)
+      → job ≡ same → handed ≡ result → given ≡ files → over ≡ link → left ≡ looped
+      → HasEnded S first same old new result files link looped → HasEnded S first job old new handed
+      given over left
+  ended_as job same old new result handed files given link over looped left is so put on lasts
+      ended =
       subst (λ l. HasEnded S first job old new handed given over l) (sym lasts)
       (subst (λ l. HasEnded S first job old new handed given l looped) (sym on)
-      (subst (λ f. HasEnded S first job old new handed f link looped) (sym put) (subst (λ r. HasEnded S first job old new r files link looped) (sym so) (subst (λ j. HasEnded S first j old new result files link looped) (sym is) ended))))
+      (subst (λ f. HasEnded S first job old new handed f link looped) (sym put)
+      (subst (λ r. HasEnded S first job old new r files link looped) (sym so)
+      (subst (λ j. HasEnded S first j old new result files link looped) (sym is) ended))))

@@ -1,5 +1,6 @@
 -- What a loop leaves.
-use Rattle.std.proofs.Common.{◌≡◌, sym, ap, subst, ℕ, List, [], ◌∷◌, ◌++◌, length, length-append, Option, Result, Ok, Err, arith}
+use Rattle.std.proofs.Common.{◌≡◌, sym, ap, subst, ℕ, List, [], ◌∷◌, ◌++◌, length, length-append}
+use Rattle.std.proofs.Common.{Option, Result, Ok, Err, arith}
 use Rattle.std.proofs.lemmas.List.{nil_from_length}
 use Rattle.std.specs.Prelude.{IfOk}
 use Rattle.sqlite_trees.specs.declared.memory.MemStore.{MemStore}
@@ -22,18 +23,25 @@ use Rattle.s10_jobs.specs.declared.job_status.JobStatus.{JobStatus}
 use Rattle.s10_jobs.specs.Shown.{Prints}
 use Rattle.s10_sockets.specs.LoopCalls.{loop_calls, AreMadeInTurn}
 use Rattle.s10_host.specs.declared.loop_resources.LoopResources.{LoopResources}
-use Rattle.s10_host.specs.LoopRun.{LoopLink, IsLoopStep, IsNewLoop, AreLoopResources, IsLoopRun, loop_terms}
+use Rattle.s10_host.specs.LoopRun.{LoopLink, IsLoopStep, IsNewLoop, AreLoopResources, IsLoopRun}
+use Rattle.s10_host.specs.LoopRun.{loop_terms}
 
 -- what was served over calls that lead from a new link to another
-served_over : (day : ℕ) (begun ended : LoopLink) → IsNewLoop day begun → LeadsTo IsLoopStep begun ended → IsHonest over_memory (book_of ended.server)
+served_over : (day : ℕ) (begun ended : LoopLink) → IsNewLoop day begun
+    → LeadsTo IsLoopStep begun ended → IsHonest over_memory (book_of ended.server)
     → ServedOn day [] loop_terms (history_of over_memory (book_of ended.server))
 served_over day begun ended fresh led honest =
-    let on : LedOn (λ (b : Ledger MemStore). b.faults) (IsHonest over_memory) (λ b. b.terms) (history_of over_memory) (committed_of over_memory) (λ (l : BoundLink). l.trace) (λ (l : BoundLink). l.trace) begun.day (book_of begun.server) (book_of ended.server) =
-    near_led (λ (b : Ledger MemStore). b.faults) (IsHonest over_memory) (λ b. b.terms) (history_of over_memory) (committed_of over_memory) (λ (l : BoundLink). l.trace) (λ (l : BoundLink). l.trace) begun ended led in
+    let on : LedOn (λ (b : Ledger MemStore). b.faults) (IsHonest over_memory) (λ b. b.terms)
+    (history_of over_memory) (committed_of over_memory) (λ (l : BoundLink). l.trace)
+    (λ (l : BoundLink). l.trace) begun.day (book_of begun.server) (book_of ended.server) =
+    near_led (λ (b : Ledger MemStore). b.faults) (IsHonest over_memory) (λ b. b.terms)
+    (history_of over_memory) (committed_of over_memory) (λ (l : BoundLink). l.trace)
+    (λ (l : BoundLink). l.trace) begun ended led in
     let last : List Entry = history_of over_memory (book_of ended.server) in
     subst (λ (d : ℕ). ServedOn d [] loop_terms last) fresh.on_day
     (subst (λ (t : Terms). ServedOn begun.day [] t last) fresh.terms
-    (subst (λ (h : List Entry). ServedOn begun.day h (book_of begun.server).terms last) fresh.empty (on.served honest)))
+    (subst (λ (h : List Entry). ServedOn begun.day h (book_of begun.server).terms last) fresh.empty
+    (on.served honest)))
 
 -- a part that is all of a list leaves nothing
 all_of : {X : Type 0} (xs ys : List X) → xs ≡ xs ++ ys → ys ≡ []
@@ -44,26 +52,37 @@ of_none [] ys is = sym is
 of_none (x ∷ xs) ys is = absurd cc
 
 -- with no fault none of its calls is left uncommitted
-whole_over : (day : ℕ) (begun ended : LoopLink) → IsNewLoop day begun → LeadsTo IsLoopStep begun ended → IsHonest over_memory (book_of ended.server)
+whole_over : (day : ℕ) (begun ended : LoopLink) → IsNewLoop day begun
+    → LeadsTo IsLoopStep begun ended → IsHonest over_memory (book_of ended.server)
     → (book_of ended.server).faults ≡ no_faults → (book_of ended.server).pending ≡ []
 whole_over day begun ended fresh led honest faultless =
     let first : Ledger MemStore = book_of begun.server in
     let last : Ledger MemStore = book_of ended.server in
-    let whole : Whole (λ (b : Ledger MemStore). b.faults) (IsHonest over_memory) (λ b. b.terms) (history_of over_memory) (committed_of over_memory) (λ (l : BoundLink). l.trace) (λ (l : BoundLink). l.trace) last =
-    near_whole (λ (b : Ledger MemStore). b.faults) (IsHonest over_memory) (λ b. b.terms) (history_of over_memory) (committed_of over_memory) (λ (l : BoundLink). l.trace) (λ (l : BoundLink). l.trace) begun ended led
+    let whole : Whole (λ (b : Ledger MemStore). b.faults) (IsHonest over_memory) (λ b. b.terms)
+    (history_of over_memory) (committed_of over_memory) (λ (l : BoundLink). l.trace)
+    (λ (l : BoundLink). l.trace) last =
+    near_whole (λ (b : Ledger MemStore). b.faults) (IsHonest over_memory) (λ b. b.terms)
+    (history_of over_memory) (committed_of over_memory) (λ (l : BoundLink). l.trace)
+    (λ (l : BoundLink). l.trace) begun ended led
     (λ h none. of_none (committed_of over_memory first) first.pending fresh.empty) in
     all_of (committed_of over_memory last) last.pending (whole honest faultless)
 
-asked_over : (to : Peer) (last : Trace) (u v : Option (List ℕ)) (r : Result JobStatus WriteFault) (first : Trace) → first ≡ new_trace
+asked_over : (to : Peer) (last : Trace) (u v : Option (List ℕ)) (r : Result JobStatus WriteFault)
+    (first : Trace) → first ≡ new_trace
     → IfOk r (λ status. Prints u v (AreMadeInTurn to loop_calls first last status))
-    → IfOk r (λ status. (to : Peer) × Prints u v (AreMadeInTurn to loop_calls new_trace last status))
-asked_over to last u v (Ok status) first none asked = (to, subst (λ (t : Trace). Prints u v (AreMadeInTurn to loop_calls t last status)) none asked)
+    → IfOk r (λ status. (to : Peer)
+    × Prints u v (AreMadeInTurn to loop_calls new_trace last status))
+asked_over to last u v (Ok status) first none asked =
+    (to, subst (λ (t : Trace). Prints u v (AreMadeInTurn to loop_calls t last status)) none asked)
 asked_over to last u v (Err fault) first none asked = tt
 
 -- of calls over a link that was new
-pub looped_over : (to : Peer) (day : ℕ) (begun ended : LoopLink) (looped : LoopResources) (u v : Option (List ℕ)) (r : Result JobStatus WriteFault) (first : Trace)
-    → IsNewLoop day begun → LeadsTo IsLoopStep begun ended → AreLoopResources ended looped → first ≡ new_trace
-    → IfOk r (λ status. Prints u v (AreMadeInTurn to loop_calls first looped.near.trace status)) → IsLoopRun day u v r looped
+pub looped_over : (to : Peer) (day : ℕ) (begun ended : LoopLink) (looped : LoopResources)
+    (u v : Option (List ℕ)) (r : Result JobStatus WriteFault) (first : Trace)
+    → IsNewLoop day begun → LeadsTo IsLoopStep begun ended → AreLoopResources ended looped
+    → first ≡ new_trace
+    → IfOk r (λ status. Prints u v (AreMadeInTurn to loop_calls first looped.near.trace status))
+    → IsLoopRun day u v r looped
 looped_over to day begun ended looped u v r first fresh led left none asked = record {
   begun = begun;
   fresh = fresh;
@@ -71,7 +90,9 @@ looped_over to day begun ended looped u v r first fresh led left none asked = re
   led = led;
   left = left;
   uncommitted = (book_of ended.server).pending;
-  served = subst (λ (c : Held MemStore). ServedOn day [] loop_terms (history_in (state over_memory c).now ++ (book_of ended.server).pending)) (sym left.closed) (served_over day begun ended fresh led left.honest);
+  served = subst (λ (c : Held MemStore). ServedOn day [] loop_terms
+      (history_in (state over_memory c).now ++ (book_of ended.server).pending)) (sym left.closed)
+      (served_over day begun ended fresh led left.honest);
   whole = whole_over day begun ended fresh led left.honest;
   asked = asked_over to looped.near.trace u v r first none asked;
 }

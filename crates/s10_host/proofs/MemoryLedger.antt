@@ -8,5 +8,7 @@ use Rattle.s10_ledger.specs.Ledger.{Ledger, IsHonest}
 use Rattle.s10_statements.specs.ConnectionState.{IsClean, IsOpen}
 
 -- by what its connection shows as it is closed
-pub is_honest : (l : Ledger MemStore) (closed : Held MemStore) → (IsClean over_memory closed → IsOpen over_memory closed → IsHonest over_memory l) → IsHonest over_memory l
+pub is_honest : (l : Ledger MemStore) (closed : Held MemStore)
+    → (IsClean over_memory closed → IsOpen over_memory closed → IsHonest over_memory l)
+    → IsHonest over_memory l
 is_honest l closed honest = honest (memory_is_clean closed) refl

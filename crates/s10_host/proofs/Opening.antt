@@ -1,5 +1,6 @@
 -- What a book says of the connection that it was made in or opened from, and of the files that it is closed in.
-use Rattle.std.proofs.Common.{◌≡◌, ◌≢◌, ◌≤◌, ◌∙◌, ap, refl, sym, subst, arith, List, ◌++◌, append-nil, ℕ, Option, None, Result, Ok, Err}
+use Rattle.std.proofs.Common.{◌≡◌, ◌≢◌, ◌≤◌, ◌∙◌, ap, refl, sym, subst, arith, List, ◌++◌}
+use Rattle.std.proofs.Common.{append-nil, ℕ, Option, None, Result, Ok, Err}
 use Rattle.std.specs.Prelude.{IsTrue, [], IfOk, IfErr, IfSome}
 use Rattle.sqlite_disk.specs.declared.Disk.{Ghosts}
 use Rattle.sqlite_disk.specs.declared.Files.{Files}
@@ -18,7 +19,8 @@ use Rattle.sqlite.specs.Closing.{IsCopied}
 use Rattle.s10_history.specs.declared.entry.Entry.{Entry}
 use Rattle.s10_history.specs.Settings.{Terms}
 use Rattle.s10_ledger.specs.Ledger.{Ledger, IsAnyLedger, IsHonest, history_in, history_of}
-use Rattle.s10_host.specs.Files.{IsFoundIn, WhereClean, IsEmptyBook, IsFoundBook, Copies, PutsAway, LeavesClean}
+use Rattle.s10_host.specs.Files.{IsFoundIn, WhereClean, IsEmptyBook, IsFoundBook, Copies, PutsAway}
+use Rattle.s10_host.specs.Files.{LeavesClean}
 use Rattle.s10_host.specs.Closing.{IsClosedAs, Turns}
 use Rattle.s10_lines.specs.declared.write_fault.WriteFault.{WriteFault}
 use Rattle.s10_ends.specs.UdpLink.{BoundLink}
@@ -35,67 +37,108 @@ use Rattle.s10_link.specs.declared.peer.Peer.{Peer}
 use Rattle.s10_sockets.specs.Unbound.{IsUnbound}
 use Rattle.s10_host.specs.declared.book_job.BookJob.{BookJob}
 use Rattle.s10_host.specs.declared.book_job.BookJob.TheVariants.{Create, Serve, Report as ReportOn}
-use Rattle.s10_host.specs.BookJobs.{IsMadeWith, IsOpenedFrom, HasRunBookJob, IsRefusedLeft, IsBookJobRefusal}
+use Rattle.s10_host.specs.BookJobs.{IsMadeWith, IsOpenedFrom, HasRunBookJob, IsRefusedLeft}
+use Rattle.s10_host.specs.BookJobs.{IsBookJobRefusal}
 
 -- a book of which no call is pending has the history that its tables hold
 pub none_pending : {S : Type 0} (g : store.Ghosts S) (book : Ledger S) (h : List Entry)
-    → book.pending ≡ [] → (IsHonest g book → history_in (state g book.conn).now ≡ h) → IsHonest g book → history_of g book ≡ h
-none_pending g book h none is honest = ap (λ (p : List Entry). history_in (state g book.conn).now ++ p) none ∙ append-nil _ ∙ is honest
+    → book.pending ≡ [] → (IsHonest g book → history_in (state g book.conn).now ≡ h)
+    → IsHonest g book → history_of g book ≡ h
+none_pending g book h none is honest = ap (λ (p : List Entry). history_in (state g book.conn).now
+    ++ p) none ∙ append-nil _ ∙ is honest
 
 -- the ledger that a work asks for, as it was made
-pub made_for : {S E : Type 0} (g : store.Ghosts S) (terms made : Terms) (r : Result (Ledger S) E) → made ≡ terms
-    → IfOk r (λ b. (b.terms ≡ made) × (b.faults ≡ no_faults)) → IfOk r (λ b. IsClean g b.conn → IsOpen g b.conn) → IfOk r (λ b. IsClean g b.conn → IsOpen g b.conn → IsHonest g b)
-    → IfOk r (λ b. IsHonest g b → history_in (state g b.conn).now ≡ []) → IfOk r (λ b. b.pending ≡ []) → IfOk r (IsMadeWith g terms)
+pub made_for : {S E : Type 0} (g : store.Ghosts S) (terms made : Terms) (r : Result (Ledger S) E)
+    → made ≡ terms
+    → IfOk r (λ b. (b.terms ≡ made) × (b.faults ≡ no_faults))
+    → IfOk r (λ b. IsClean g b.conn → IsOpen g b.conn)
+    → IfOk r (λ b. IsClean g b.conn → IsOpen g b.conn → IsHonest g b)
+    → IfOk r (λ b. IsHonest g b → history_in (state g b.conn).now ≡ [])
+    → IfOk r (λ b. b.pending ≡ []) → IfOk r (IsMadeWith g terms)
 made_for g terms made (Ok book) is new opened honest empty none =
-    record { settings = new.0 ∙ is; honest = λ clean. honest clean (opened clean); empty = none_pending g book [] none empty }
+    record {
+      settings = new.0 ∙ is;
+      honest = λ clean. honest clean (opened clean);
+      empty = none_pending g book [] none empty;
+    }
 made_for g terms made (Err e) is new opened honest empty none = tt
 
 -- or as it was opened
 pub opened_for : {S E : Type 0} (g : store.Ghosts S) (was : Held S) (r : Result (Ledger S) E)
-    → IfOk r (λ b. IsClean g b.conn → IsOpen g b.conn) → IfOk r (λ b. IsClean g b.conn → IsOpen g b.conn → IsHonest g b)
+    → IfOk r (λ b. IsClean g b.conn → IsOpen g b.conn)
+    → IfOk r (λ b. IsClean g b.conn → IsOpen g b.conn → IsHonest g b)
     → IfOk r (λ b. IsHonest g b → IsAnyLedger (state g was).now b.terms b.len b.day)
-    → IfOk r (λ b. IsHonest g b → IsClosedSchema (state g was).now.schema → (state g b.conn).now ≡ (state g was).now)
-    → IfOk r (λ b. IsHonest g b → history_in (state g b.conn).now ≡ history_in (state g was).now) → IfOk r (λ b. b.pending ≡ []) → IfOk r (λ b. WasSound g was b.conn)
+    → IfOk r (λ b. IsHonest g b → IsClosedSchema (state g was).now.schema → (state g b.conn).now
+    ≡ (state g was).now)
+    → IfOk r (λ b. IsHonest g b → history_in (state g b.conn).now ≡ history_in (state g was).now)
+    → IfOk r (λ b. b.pending ≡ []) → IfOk r (λ b. WasSound g was b.conn)
     → IfOk r (IsOpenedFrom g was)
 opened_for g was (Ok book) opened honest found same history none sound =
-    record { honest = λ clean. honest clean (opened clean); found = found; same = same; history = none_pending g book _ none history; sound = sound }
+    record {
+      honest = λ clean. honest clean (opened clean);
+      found = found;
+      same = same;
+      history = none_pending g book _ none history;
+      sound = sound;
+    }
 opened_for g was (Err e) opened honest found same history none sound = tt
 
 -- what refuses an opening refuses a work with the ledger that is there
-refused_left : {S : Type 0} (g : store.Ghosts S) (work : BookJob) (was left : Held S) (fault : OpenFault) → ((terms : Terms) → work ≢ Create terms)
+refused_left : {S : Type 0} (g : store.Ghosts S) (work : BookJob) (was left : Held S)
+    (fault : OpenFault) → ((terms : Terms) → work ≢ Create terms)
     → IsRefusedLeft g was left fault → IsBookJobRefusal g work was left fault
 refused_left g (Create terms) was left fault none refusal = absurd (none terms refl)
 refused_left g (Serve at count day) was left fault none refusal = refusal
 refused_left g (ReportOn report) was left fault none refusal = refusal
 
-pub refused_for : {S B R : Type 0} (g : store.Ghosts S) (work : BookJob) (was : Held S) (r : Result B R) (left : R → Held S) (fault : R → OpenFault) → ((terms : Terms) → work ≢ Create terms)
-    → IfErr r (λ e. IsRefusedLeft g was (left e) (fault e)) → IfErr r (λ e. IsBookJobRefusal g work was (left e) (fault e))
+pub refused_for : {S B R : Type 0} (g : store.Ghosts S) (work : BookJob) (was : Held S)
+    (r : Result B R) (left : R → Held S) (fault : R → OpenFault)
+    → ((terms : Terms) → work ≢ Create terms)
+    → IfErr r (λ e. IsRefusedLeft g was (left e) (fault e))
+    → IfErr r (λ e. IsBookJobRefusal g work was (left e) (fault e))
 refused_for g work was (Ok book) left fault none refusal = tt
-refused_for g work was (Err e) left fault none refusal = refused_left g work was (left e) (fault e) none refusal
+refused_for g work was (Err e) left fault none refusal = refused_left g work was (left e) (fault e)
+    none refusal
 
 -- what was done of a work, by its ledger before and after and by how that was closed
-pub worked_with : {S : Type 0} (g : store.Ghosts S) (work : BookJob) (was : Held S) (old new : Option (List ℕ)) (done : Result JobStatus WriteFault) (link : Option BoundLink) (book after : Ledger S) (closed : Held S)
-    → ((terms : Terms) → work ≡ Create terms → IsMadeWith g terms book) → (((terms : Terms) → work ≢ Create terms) → IsOpenedFrom g was book)
-    → ((terms : Terms) → work ≡ Create terms → (done ≡ Ok Done) × (link ≡ None) × (after ≡ book) × (new ≡ old))
-    → ((at : Peer) (count : ℕ) (day : Option ℕ) → work ≡ Serve at count day → (link ≡ None → IsUnbound book after old new done) × IfSome link (Turns g day count book after old new done))
-    → ((report : Report) → work ≡ ReportOn report → (link ≡ None) × Unchanged (λ (b : Ledger S). history_of g b) (λ (b : Ledger S). b.terms) (IsHonest g) book after
-    × (IsHonest g after → IfOk done (PrintsReport book.faults after.faults old new (report_lines report (history_of g book) book.terms))))
+pub worked_with : {S : Type 0} (g : store.Ghosts S) (work : BookJob) (was : Held S)
+    (old new : Option (List ℕ)) (done : Result JobStatus WriteFault) (link : Option BoundLink)
+    (book after : Ledger S) (closed : Held S)
+    → ((terms : Terms) → work ≡ Create terms → IsMadeWith g terms book)
+    → (((terms : Terms) → work ≢ Create terms) → IsOpenedFrom g was book)
+    → ((terms : Terms) → work ≡ Create terms → (done ≡ Ok Done) × (link ≡ None) × (after ≡ book)
+    × (new ≡ old))
+    → ((at : Peer) (count : ℕ) (day : Option ℕ) → work ≡ Serve at count day
+    → (link ≡ None → IsUnbound book after old new done)
+    × IfSome link (Turns g day count book after old new done))
+    → ((report : Report) → work ≡ ReportOn report → (link ≡ None)
+    × Unchanged (λ (b : Ledger S). history_of g b) (λ (b : Ledger S). b.terms) (IsHonest g) book
+    after
+    × (IsHonest g after
+    → IfOk done (PrintsReport book.faults after.faults old new
+    (report_lines report (history_of g book) book.terms))))
     → IsClosedAs g after closed → HasRunBookJob g work was old new done link closed
-worked_with g (Create terms) was old new done link book after closed made opened left served reported closes =
+worked_with g (Create terms) was old new done link book after closed made opened left served
+    reported closes =
     let (is, none, same, still) = left terms refl in
     (after, subst (IsMadeWith g terms) (sym same) (made terms refl), closes, is, still, none)
-worked_with g (Serve at count day) was old new done link book after closed made opened left served reported closes =
+worked_with g (Serve at count day) was old new done link book after closed made opened left served
+    reported closes =
     let (unbound, turns) = served at count day refl in
     (book, opened (λ terms is. absurd cc), after, closes, unbound, turns)
-worked_with g (ReportOn report) was old new done link book after closed made opened left served reported closes =
+worked_with g (ReportOn report) was old new done link book after closed made opened left served
+    reported closes =
     let (none, unchanged, written) = reported report refl in
     (book, opened (λ terms is. absurd cc), after, closes, unchanged, written, none)
 
 module _ {D : Type 0} {g : Ghosts D} where
-  pub empty_book : (terms : Terms) (book : Ledger (FileStore D g)) → IsMadeWith over_files terms book → WhereClean IsEmptyBook book
-  empty_book terms book made clean = let sound = made.honest clean in record { honest = sound; empty = made.empty sound }
+  pub empty_book : (terms : Terms) (book : Ledger (FileStore D g))
+      → IsMadeWith over_files terms book → WhereClean IsEmptyBook book
+  empty_book terms book made clean = let sound = made.honest clean in
+      record { honest = sound; empty = made.empty sound }
 
-  pub found_book : (held : Image) (was : Held (FileStore D g)) (book : Ledger (FileStore D g)) → IsFoundIn held was → IsOpenedFrom over_files was book → WhereClean (IsFoundBook held) book
+  pub found_book : (held : Image) (was : Held (FileStore D g)) (book : Ledger (FileStore D g))
+      → IsFoundIn held was → IsOpenedFrom over_files was book → WhereClean (IsFoundBook held) book
   found_book held was book found opening clean =
       let sound = opening.honest clean in
       let (first, finds) = found (opening.sound clean).0 in
@@ -112,20 +155,24 @@ module _ {D : Type 0} {g : Ghosts D} where
       }
 
   -- a connection whose last commit the files hold showed a ledger of which what was true is true of the book
-  pub put_away : (book : Ledger (FileStore D g)) (closed : Held (FileStore D g)) (files : Files D) → IsClosedAs over_files book closed → Copies closed files → PutsAway book files
+  pub put_away : (book : Ledger (FileStore D g)) (closed : Held (FileStore D g)) (files : Files D)
+      → IsClosedAs over_files book closed → Copies closed files → PutsAway book files
   put_away book closed files put copies clean =
       let copied = copies clean in
       let here = subst (λ conn. IsCopied conn files) put.same copied in
       record {
         honest = put.honest copied.was_clean copied.was_open;
-        settled = subst (λ conn. (file_state conn).committed ≡ (file_state conn).now) put.same (put.committed copied.was_clean copied.was_open);
+        settled = subst (λ conn. (file_state conn).committed ≡ (file_state conn).now) put.same
+            (put.committed copied.was_clean copied.was_open);
         copied = here;
       }
 
   -- files are as clean as the store that gave them back, and that one as the connection before
   pub left_clean : (c : Held (FileStore D g)) (store : FileStore D g) (files : Files D)
-      → doubt (view c.store).is_clean ≤ doubt (view store).is_clean → (files.log, files.db) ≡ store_files store → LeavesClean c files
+      → doubt (view c.store).is_clean ≤ doubt (view store).is_clean → (files.log, files.db)
+      ≡ store_files store → LeavesClean c files
   left_clean c store files falls same clean =
       let sure = subst (λ p. AreClean g p.0 p.1) same clean in
-      let none : doubt (view store).is_clean ≡ 0 = no_doubt _ (subst IsTrue (sym (clean_is store.pool)) sure) in
+      let none : doubt (view store).is_clean ≡ 0 =
+      no_doubt _ (subst IsTrue (sym (clean_is store.pool)) sure) in
       omega (arith, falls, none)

@@ -29,16 +29,19 @@ IsFinding db (Err fault) = IsOpeningRefusal db fault
 
 -- what is left of a database: it is as it was, or that of an earlier build completed, with its history
 abbrev pub IsLeftByAudit : Database → Database → Result ℕ OpenFault → Type 0
-IsLeftByAudit before after (Ok count) = (IsClosedSchema before.schema → after ≡ before) × (history_in after ≡ history_in before)
+IsLeftByAudit before after (Ok count) = (IsClosedSchema before.schema → after ≡ before)
+    × (history_in after ≡ history_in before)
 IsLeftByAudit before after (Err fault) = after ≡ before
 
 -- what was found of the database that a connection showed, by the connection that the audit leaves: it holds where that
 -- one is open over disks that kept what they were given, and those are clean only where they were so before
-pub record HasFound {S : Type 0} (g : Ghosts S) (before left : Held S) (found : Result ℕ OpenFault) : Type 0 where
+pub record HasFound {S : Type 0} (g : Ghosts S) (before left : Held S)
+    (found : Result ℕ OpenFault) : Type 0 where
   pub sound : WasSound g before left
   pub opened : IsClean g left → OnOk found (IsOpen g left)
   pub finding : IsClean g left → IsOpen g left → IsFinding (state g before).now found
-  pub leaves : IsClean g left → IsOpen g left → IsLeftByAudit (state g before).now (state g left).now found
+  pub leaves : IsClean g left → IsOpen g left
+      → IsLeftByAudit (state g before).now (state g left).now found
 
 abbrev pub audit_line : Result ℕ OpenFault → List ℕ
 audit_line (Ok count) = line_of (codes "ledger") (codes "ok" ∷ decimal count ∷ [])

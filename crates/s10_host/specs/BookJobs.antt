@@ -27,7 +27,8 @@ use Rattle.s10_sockets.specs.Unbound.{IsUnbound}
 use Rattle.s10_host.specs.declared.book_job.BookJob.{BookJob}
 use Rattle.s10_host.specs.declared.book_job.BookJob.TheVariants.{Create, Serve, Report}
 use Rattle.s10_host.specs.Closing.{IsClosedAs, Turns}
-use Rattle.s10_host.specs.Files.{FileConnection, ClosedFiles, IsFoundIn, Copies, IsFileFault, IsAbsenceOr}
+use Rattle.s10_host.specs.Files.{FileConnection, ClosedFiles, IsFoundIn, Copies, IsFileFault}
+use Rattle.s10_host.specs.Files.{IsAbsenceOr}
 use Rattle.s10_host.specs.Jobs.{ledger_line, FailsByLedger, FailsByClosing}
 
 module _ {S : Type 0} (g : Ghosts S) where
@@ -41,30 +42,42 @@ module _ {S : Type 0} (g : Ghosts S) where
   pub record IsOpenedFrom (was : Held S) (book : Ledger S) : Type 0 where
     pub honest : IsClean g book.conn → IsHonest g book
     pub found : IsHonest g book → IsAnyLedger (state g was).now book.terms book.len book.day
-    pub same : IsHonest g book → IsClosedSchema (state g was).now.schema → (state g book.conn).now ≡ (state g was).now
+    pub same : IsHonest g book → IsClosedSchema (state g was).now.schema → (state g book.conn).now
+        ≡ (state g was).now
     pub history : IsHonest g book → history_of g book ≡ history_in (state g was).now
     pub sound : WasSound g was book.conn
 
   -- the ledger that was opened from a connection was served in turns, or its address could not be had, and then it was closed
-  abbrev pub HasBeenServed : ℕ → Option ℕ → Held S → Option (List ℕ) → Option (List ℕ) → Result JobStatus WriteFault → Option BoundLink → Held S → Type 0
+  abbrev pub HasBeenServed : ℕ → Option ℕ → Held S → Option (List ℕ) → Option (List ℕ)
+      → Result JobStatus WriteFault → Option BoundLink → Held S → Type 0
   HasBeenServed count day was old new done link closed =
-      (opened : Ledger S) × IsOpenedFrom was opened × (served : Ledger S) × IsClosedAs g served closed
-      × (link ≡ None → IsUnbound opened served old new done) × IfSome link (Turns g day count opened served old new done)
+      (opened : Ledger S) × IsOpenedFrom was opened × (served : Ledger S)
+      × IsClosedAs g served closed
+      × (link ≡ None → IsUnbound opened served old new done)
+      × IfSome link (Turns g day count opened served old new done)
 
   -- what was done of a work over a connection, what it wrote, and the link and the connection that it hands back
-  abbrev pub HasRunBookJob : BookJob → Held S → Option (List ℕ) → Option (List ℕ) → Result JobStatus WriteFault → Option BoundLink → Held S → Type 0
+  abbrev pub HasRunBookJob : BookJob → Held S → Option (List ℕ) → Option (List ℕ)
+      → Result JobStatus WriteFault → Option BoundLink → Held S → Type 0
   HasRunBookJob (Create terms) was old new done link closed =
-      (book : Ledger S) × IsMadeWith terms book × IsClosedAs g book closed × (done ≡ Ok Done) × (new ≡ old) × (link ≡ None)
-  HasRunBookJob (Serve at count day) was old new done link closed = HasBeenServed count day was old new done link closed
+      (book : Ledger S) × IsMadeWith terms book × IsClosedAs g book closed × (done ≡ Ok Done)
+      × (new ≡ old) × (link ≡ None)
+  HasRunBookJob (Serve at count day) was old new done link closed =
+      HasBeenServed count day was old new done link closed
   HasRunBookJob (Report report) was old new done link closed =
-      (opened : Ledger S) × IsOpenedFrom was opened × (reported : Ledger S) × IsClosedAs g reported closed
-      × Unchanged (λ (b : Ledger S). history_of g b) (λ (b : Ledger S). b.terms) (IsHonest g) opened reported
-      × (IsHonest g reported → IfOk done (PrintsReport opened.faults reported.faults old new (report_lines report (history_of g opened) opened.terms)))
+      (opened : Ledger S) × IsOpenedFrom was opened × (reported : Ledger S)
+      × IsClosedAs g reported closed
+      × Unchanged (λ (b : Ledger S). history_of g b) (λ (b : Ledger S). b.terms) (IsHonest g) opened
+      reported
+      × (IsHonest g reported
+      → IfOk done (PrintsReport opened.faults reported.faults old new
+      (report_lines report (history_of g opened) opened.terms)))
       × (link ≡ None)
 
   -- the database that the connection showed is refused as a ledger, where its disk kept what it was given
   abbrev pub IsRefusedLeft : Held S → Held S → OpenFault → Type 0
-  IsRefusedLeft was left fault = IsClean g left → IsOpen g left → IsOpeningRefusal (state g was).now fault
+  IsRefusedLeft was left fault = IsClean g left → IsOpen g left
+      → IsOpeningRefusal (state g was).now fault
 
   -- why nothing was done: no ledger is made where another is, and none is opened where none is
   abbrev pub IsBookJobRefusal : BookJob → Held S → Held S → OpenFault → Type 0
@@ -74,7 +87,9 @@ module _ {S : Type 0} (g : Ghosts S) where
 
 module _ {D : Type 0} {g : disk.Ghosts D} where
   -- the work was done over a connection, and the ledger is closed in these files, or could not be closed
-  pub record IsWorkedOver (work : BookJob) (was : Held (FileStore D g)) (old new : Option (List ℕ)) (result : Result JobStatus WriteFault) (files : Option (Files D)) (link : Option BoundLink) : Type 0 where
+  pub record IsWorkedOver (work : BookJob) (was : Held (FileStore D g)) (old new : Option (List ℕ))
+      (result : Result JobStatus WriteFault) (files : Option (Files D)) (link : Option BoundLink) :
+      Type 0 where
     pub closed : Held (FileStore D g)
     pub done : Result JobStatus WriteFault
     pub between : Option (List ℕ)
@@ -83,7 +98,9 @@ module _ {D : Type 0} {g : disk.Ghosts D} where
     pub lost : files ≡ None → FailsByClosing done between new result
 
   -- nothing was done, and the line says why
-  pub record IsRefusedOver (work : BookJob) (was : Held (FileStore D g)) (old new : Option (List ℕ)) (result : Result JobStatus WriteFault) (files : Option (Files D)) (link : Option BoundLink) : Type 0 where
+  pub record IsRefusedOver (work : BookJob) (was : Held (FileStore D g)) (old new : Option (List ℕ))
+      (result : Result JobStatus WriteFault) (files : Option (Files D)) (link : Option BoundLink) :
+      Type 0 where
     pub fault : OpenFault
     pub left : Held (FileStore D g)
     pub refusal : IsBookJobRefusal over_files work was left fault
@@ -91,12 +108,17 @@ module _ {D : Type 0} {g : disk.Ghosts D} where
     pub no_files : files ≡ None
     pub no_link : link ≡ None
 
-  abbrev pub EndsOver : BookJob → Held (FileStore D g) → Option (List ℕ) → Option (List ℕ) → Result JobStatus WriteFault → Option (Files D) → Option BoundLink → Type 0
-  EndsOver work was old new result files link = IsWorkedOver work was old new result files link ⊎ IsRefusedOver work was old new result files link
+  abbrev pub EndsOver : BookJob → Held (FileStore D g) → Option (List ℕ) → Option (List ℕ)
+      → Result JobStatus WriteFault → Option (Files D) → Option BoundLink → Type 0
+  EndsOver work was old new result files link = IsWorkedOver work was old new result files link
+      ⊎ IsRefusedOver work was old new result files link
 
 module _ (S : RattleType) (first : start.Ghosts S.Denot) where
   -- a file that is there was opened for the work; or it could not be, and the line says why
-  abbrev pub EndsIn : BookJob → Option (List ℕ) → Option (List ℕ) → Result JobStatus WriteFault → Option (ClosedFiles S first) → Option BoundLink → Type 0
+  abbrev pub EndsIn : BookJob → Option (List ℕ) → Option (List ℕ) → Result JobStatus WriteFault
+      → Option (ClosedFiles S first) → Option BoundLink → Type 0
   EndsIn work old new result files link =
-      ((was : FileConnection S first) × IsFoundIn (image_at first) was × EndsOver work was old new result files link)
-      ⊎ (IfOk result (FailsByLedger (IsAbsenceOr IsFileFault) old new) × (files ≡ None) × (link ≡ None))
+      ((was : FileConnection S first) × IsFoundIn (image_at first) was × EndsOver work was old new
+      result files link)
+      ⊎ (IfOk result (FailsByLedger (IsAbsenceOr IsFileFault) old new) × (files ≡ None)
+      × (link ≡ None))

@@ -15,11 +15,14 @@ module _ {S : Type 0} (g : Ghosts S) where
   -- what it was given
   pub record IsClosedAs (book : Ledger S) (closed : Held S) : Type 0 where
     pub same : closed ≡ book.conn
-    pub committed : IsClean g closed → IsOpen g closed → (state g closed).committed ≡ (state g closed).now
+    pub committed : IsClean g closed → IsOpen g closed → (state g closed).committed
+        ≡ (state g closed).now
     pub honest : IsClean g closed → IsOpen g closed → IsHonest g book
 
   -- the turns on a new link, and their lines
-  abbrev pub Turns : Option ℕ → ℕ → Ledger S → Ledger S → Option (List ℕ) → Option (List ℕ) → Result JobStatus WriteFault → BoundLink → Type 0
+  abbrev pub Turns : Option ℕ → ℕ → Ledger S → Ledger S → Option (List ℕ) → Option (List ℕ)
+      → Result JobStatus WriteFault → BoundLink → Type 0
   Turns day count opened served old new result link =
-      Serves (IsBatch (λ (b : Ledger S). b.faults) (IsHonest g) (λ b. b.terms) (history_of g) (committed_of g) day)
+      Serves (IsBatch (λ (b : Ledger S). b.faults) (IsHonest g) (λ b. b.terms) (history_of g)
+      (committed_of g) day)
       (new_trace, opened) (link.trace, served) old new count result

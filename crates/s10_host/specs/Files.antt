@@ -16,7 +16,8 @@ use Rattle.sqlite_trees.specs.Tree.{Trees}
 use Rattle.sqlite_store.specs.declared.store.FileStore.{FileStore}
 use Rattle.sqlite_store.specs.FileStore.{view}
 use Rattle.sqlite.specs.Held.{Held}
-use Rattle.sqlite.specs.Files.{file_state, over_files, HoldsDatabase, AreFoundIn, IsBlankAs, IsOpened}
+use Rattle.sqlite.specs.Files.{file_state, over_files, HoldsDatabase, AreFoundIn, IsBlankAs}
+use Rattle.sqlite.specs.Files.{IsOpened}
 use Rattle.sqlite.specs.Start.{FindsIn}
 use Rattle.sqlite.specs.Closing.{IsCopied}
 use Rattle.s10_schema.specs.Schema.{IsClosedSchema}
@@ -55,7 +56,8 @@ module _ {D : Type 0} {g : Ghosts D} where
     pub holds : (db : Trees) → HoldsDatabase held db → (file_state was).now.trees ≡ db
     pub reads : AreFoundIn held (file_state was).now.trees
     pub found : IsAnyLedger (file_state was).now book.terms book.len book.day
-    pub same : IsClosedSchema (file_state was).now.schema → (file_state book.conn).now ≡ (file_state was).now
+    pub same : IsClosedSchema (file_state was).now.schema → (file_state book.conn).now
+        ≡ (file_state was).now
     pub history : history_of over_files book ≡ history_in (file_state was).now
 
   -- the last commit is in the database file, where both files kept what they were given
@@ -80,8 +82,10 @@ module _ {D : Type 0} {g : Ghosts D} where
 abbrev pub SystemFile : (S : RattleType) → start.Ghosts S.Denot → Type 0
 SystemFile S first = Modelled Host S.Denot calls.ghosts first
 
-abbrev pub system_files : (S : RattleType) (first : start.Ghosts S.Denot) → Ghosts (SystemFile S first)
-system_files S first = disk.ghosts host.the_row S calls.ghosts disk.no_dict first disk.no_dict disk.no_dict
+abbrev pub system_files : (S : RattleType) (first : start.Ghosts S.Denot)
+    → Ghosts (SystemFile S first)
+system_files S first = disk.ghosts host.the_row S calls.ghosts disk.no_dict first disk.no_dict
+    disk.no_dict
 
 -- a connection over files of the system that held this at first, and a ledger over its tables
 abbrev pub FileConnection : (S : RattleType) → start.Ghosts S.Denot → Type 0
@@ -117,7 +121,8 @@ module _ (S : RattleType) (first : start.Ghosts S.Denot) where
     pub was : FileConnection S first
     pub found : IsFoundIn (image_at first) was
     pub left : FileConnection S first
-    pub refusal : IsClean over_files left → IsOpen over_files left → IsOpeningRefusal (file_state was).now fault
+    pub refusal : IsClean over_files left → IsOpen over_files left
+        → IsOpeningRefusal (file_state was).now fault
 
   abbrev pub IsNotOpened : OpenFault → Type 0
   IsNotOpened fault = IsAbsenceOr (λ f. IsFileFault f ⊎ IsRefusedLedger f) fault

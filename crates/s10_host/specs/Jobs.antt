@@ -1,6 +1,7 @@
 -- What the subcommands have done as they end, and what they print.
 use denote.RattleType.{RattleType}
-use Rattle.std.specs.Prelude.{◌≡◌, ◌⊎◌, ℕ, Bool, true, false, List, [], ◌∷◌, ◌++◌, codes, Option, None, Result, IsOk, IfOk, IfSome}
+use Rattle.std.specs.Prelude.{◌≡◌, ◌⊎◌, ℕ, Bool, true, false, List, [], ◌∷◌, ◌++◌, codes, Option}
+use Rattle.std.specs.Prelude.{None, Result, IsOk, IfOk, IfSome}
 use Rattle.std.specs.Io.KnownBytes.{Appends}
 use Rattle.sqlite_disk.specs.declared.start.Start.{Ghosts}
 use Rattle.sqlite_wal.specs.Files.{image_at}
@@ -30,19 +31,25 @@ use Rattle.s10_sockets.specs.Questioning.{IsAsked, IsUnasked}
 use Rattle.s10_host.specs.declared.loop_resources.LoopResources.{LoopResources}
 use Rattle.s10_host.specs.Closing.{Turns}
 use Rattle.s10_host.specs.LoopRun.{HasRunLoop}
-use Rattle.s10_host.specs.Files.{FileConnection, FileLedger, ClosedFiles, WhereClean, IsFoundIn, IsEmptyBook, IsFoundBook, PutsAway, LeavesClean, IsFileFault, IsAbsenceOr, IsNotMade, IsNotOpened}
+use Rattle.s10_host.specs.Files.{FileConnection, FileLedger, ClosedFiles, WhereClean, IsFoundIn}
+use Rattle.s10_host.specs.Files.{IsEmptyBook, IsFoundBook, PutsAway, LeavesClean, IsFileFault}
+use Rattle.s10_host.specs.Files.{IsAbsenceOr, IsNotMade, IsNotOpened}
 
 -- the line of a fault of the ledger
 abbrev pub ledger_line : OpenFault → List ℕ
 ledger_line fault = line_of (codes "ledger") (open_fault_words fault)
 
 -- the job failed by such a fault of the ledger, which the line names
-abbrev pub FailsByLedger : (OpenFault → Type 0) → Option (List ℕ) → Option (List ℕ) → JobStatus → Type 0
-FailsByLedger IsFault old new status = (status ≡ Failed) × (fault : OpenFault) × IsFault fault × Appends old new (ledger_line fault)
+abbrev pub FailsByLedger : (OpenFault → Type 0) → Option (List ℕ) → Option (List ℕ) → JobStatus
+    → Type 0
+FailsByLedger IsFault old new status = (status ≡ Failed) × (fault : OpenFault) × IsFault fault
+    × Appends old new (ledger_line fault)
 
 -- it was done so far, and then the ledger could not be closed
-abbrev pub FailsByClosing : Result JobStatus WriteFault → Option (List ℕ) → Option (List ℕ) → Result JobStatus WriteFault → Type 0
-FailsByClosing done between new result = IfOk result (λ status. IsOk done × FailsByLedger (λ fault. fault ≡ Store) between new status)
+abbrev pub FailsByClosing : Result JobStatus WriteFault → Option (List ℕ) → Option (List ℕ)
+    → Result JobStatus WriteFault → Type 0
+FailsByClosing done between new result =
+    IfOk result (λ status. IsOk done × FailsByLedger (λ fault. fault ≡ Store) between new status)
 
 -- the report that the words ask for: of the ranges, on the day that was given, where it is not that of the issues
 pub record IsAskedFor (is_of_issues : Bool) (day : Option ℕ) (report : Report) : Type 0 where
@@ -50,15 +57,20 @@ pub record IsAskedFor (is_of_issues : Bool) (day : Option ℕ) (report : Report)
   pub ranges : is_of_issues ≡ false → (d : ℕ) × (report ≡ Ranges d) × IsDay day d
 
 -- the question was asked over the link that is handed back, or the line says why nothing was
-pub record HasAsked (question : Question) (old new : Option (List ℕ)) (result : Result JobStatus WriteFault) (link : Option BoundLink) : Type 0 where
+pub record HasAsked (question : Question) (old new : Option (List ℕ))
+    (result : Result JobStatus WriteFault) (link : Option BoundLink) : Type 0 where
   pub asked : IfSome link (λ l. IsAsked question l old new result)
-  pub unasked : link ≡ None → IfOk result (λ status. (line : List ℕ) × IsUnasked question status line × Appends old new line)
+  pub unasked : link ≡ None
+      → IfOk result (λ status. (line : List ℕ) × IsUnasked question status line
+      × Appends old new line)
 
 -- the calls of a loop were made on the day that was given, or on one of the clock; or that gives none, and nothing is bound
-abbrev pub IsRunOn : Option ℕ → Option (List ℕ) → Option (List ℕ) → Result JobStatus WriteFault → Option LoopResources → Type 0
+abbrev pub IsRunOn : Option ℕ → Option (List ℕ) → Option (List ℕ) → Result JobStatus WriteFault
+    → Option LoopResources → Type 0
 IsRunOn day old new result looped =
     ((d : ℕ) × IsDay day d × HasRunLoop d old new result looped)
-    ⊎ ((day ≡ None) × (looped ≡ None) × IfOk result (λ status. (status ≡ Failed) × Appends old new (codes "clock\n")))
+    ⊎ ((day ≡ None) × (looped ≡ None) × IfOk result (λ status. (status ≡ Failed)
+    × Appends old new (codes "clock\n")))
 
 module _ (S : RattleType) (first : Ghosts S.Denot) where
   -- an empty ledger with these settings was made, and closed in these files
@@ -69,20 +81,26 @@ module _ (S : RattleType) (first : Ghosts S.Denot) where
     pub away : PutsAway book files
 
   -- such a ledger was made, and only then that was said; or the line says why there is none
-  pub record HasCreated (terms : Terms) (old new : Option (List ℕ)) (result : Result JobStatus WriteFault) (files : Option (ClosedFiles S first)) : Type 0 where
+  pub record HasCreated (terms : Terms) (old new : Option (List ℕ))
+      (result : Result JobStatus WriteFault) (files : Option (ClosedFiles S first)) : Type 0 where
     pub made : IfSome files (HasMadeLedger terms)
-    pub printed : IfSome files (λ _. IfOk result (λ status. (status ≡ Done) × Appends old new (codes "created\n")))
+    pub printed : IfSome files (λ _. IfOk result (λ status. (status ≡ Done)
+        × Appends old new (codes "created\n")))
     pub refused : files ≡ None → IfOk result (FailsByLedger (IsNotMade S first) old new)
 
   -- the ledger was served in turns, which are all that this link carried, and closed in these files
-  pub record IsServed (opened : FileLedger S first) (day : Option ℕ) (count : ℕ) (old new : Option (List ℕ)) (result : Result JobStatus WriteFault) (link : BoundLink) (files : ClosedFiles S first) : Type 0 where
+  pub record IsServed (opened : FileLedger S first) (day : Option ℕ) (count : ℕ)
+      (old new : Option (List ℕ)) (result : Result JobStatus WriteFault) (link : BoundLink)
+      (files : ClosedFiles S first) : Type 0 where
     pub served : FileLedger S first
     pub turns : Turns over_files day count opened served old new result link
     pub was_honest : IsHonest over_files served → IsHonest over_files opened
     pub away : PutsAway served files
 
   -- it was served so, and could not be closed
-  pub record IsLost (opened : FileLedger S first) (day : Option ℕ) (count : ℕ) (old new : Option (List ℕ)) (result : Result JobStatus WriteFault) (link : BoundLink) : Type 0 where
+  pub record IsLost (opened : FileLedger S first) (day : Option ℕ) (count : ℕ)
+      (old new : Option (List ℕ)) (result : Result JobStatus WriteFault) (link : BoundLink) :
+      Type 0 where
     pub served : FileLedger S first
     pub turned : Result JobStatus WriteFault
     pub between : Option (List ℕ)
@@ -91,39 +109,56 @@ module _ (S : RattleType) (first : Ghosts S.Denot) where
     pub printed : FailsByClosing turned between new result
 
   -- it was opened, and its address could not be had
-  pub record IsUnlinked (opened : FileLedger S first) (old new : Option (List ℕ)) (result : Result JobStatus WriteFault) (files : Option (ClosedFiles S first)) : Type 0 where
+  pub record IsUnlinked (opened : FileLedger S first) (old new : Option (List ℕ))
+      (result : Result JobStatus WriteFault) (files : Option (ClosedFiles S first)) : Type 0 where
     pub away : IfSome files (PutsAway opened)
-    pub printed : IfSome files (λ _. IfOk result (λ status. (status ≡ Failed) × Appends old new (line_of (codes "link") (codes "bind" ∷ []))))
-    pub lost : files ≡ None → IfOk result (λ status. (status ≡ Failed) × Appends old new (line_of (codes "link") (codes "bind" ∷ []) ++ ledger_line Store))
+    pub printed : IfSome files (λ _. IfOk result (λ status. (status ≡ Failed)
+        × Appends old new (line_of (codes "link") (codes "bind" ∷ []))))
+    pub lost : files ≡ None
+        → IfOk result (λ status. (status ≡ Failed)
+        × Appends old new (line_of (codes "link") (codes "bind" ∷ []) ++ ledger_line Store))
 
   -- what comes before the turns, in this order: the address reads, the ledger is opened, the address is had
-  abbrev pub HasNoLink : List ℕ → Option (List ℕ) → Option (List ℕ) → Result JobStatus WriteFault → Option (ClosedFiles S first) → Type 0
+  abbrev pub HasNoLink : List ℕ → Option (List ℕ) → Option (List ℕ) → Result JobStatus WriteFault
+      → Option (ClosedFiles S first) → Type 0
   HasNoLink bind old new result files =
-      ((¬ IsPeerText bind) × IfOk result (λ status. (status ≡ Refused) × Appends old new (refused_line (codes "peer" ∷ []))))
+      ((¬ IsPeerText bind) × IfOk result (λ status. (status ≡ Refused)
+      × Appends old new (refused_line (codes "peer" ∷ []))))
       ⊎ (IsPeerText bind × IfOk result (FailsByLedger (IsNotOpened S first) old new))
-      ⊎ (IsPeerText bind × (opened : FileLedger S first) × WhereClean (IsFoundBook (image_at first)) opened × IsUnlinked opened old new result files)
+      ⊎ (IsPeerText bind × (opened : FileLedger S first) × WhereClean (IsFoundBook (image_at first))
+      opened × IsUnlinked opened old new result files)
 
   -- it was opened from the files and served; where the closed ones kept what they were given it was honest as it was closed, and so
   -- it was honest as it was opened. Or there is no link, and the line says why
-  pub record HasServed (bind : List ℕ) (day : Option ℕ) (count : ℕ) (old new : Option (List ℕ)) (result : Result JobStatus WriteFault) (files : Option (ClosedFiles S first)) (link : Option BoundLink) : Type 0 where
-    pub served : IfSome link (λ l. (opened : FileLedger S first) × WhereClean (IsFoundBook (image_at first)) opened
-        × IfSome files (IsServed opened day count old new result l) × (files ≡ None → IsLost opened day count old new result l))
+  pub record HasServed (bind : List ℕ) (day : Option ℕ) (count : ℕ) (old new : Option (List ℕ))
+      (result : Result JobStatus WriteFault) (files : Option (ClosedFiles S first))
+      (link : Option BoundLink) : Type 0 where
+    pub served : IfSome link (λ l. (opened : FileLedger S first)
+        × WhereClean (IsFoundBook (image_at first)) opened
+        × IfSome files (IsServed opened day count old new result l)
+        × (files ≡ None → IsLost opened day count old new result l))
     pub unlinked : link ≡ None → HasNoLink bind old new result files
 
   -- the report of the ledger's history was written, as far as the book and the writer went
-  abbrev pub Writes : Report → FileLedger S first → FileLedger S first → Option (List ℕ) → Option (List ℕ) → Result JobStatus WriteFault → Type 0
+  abbrev pub Writes : Report → FileLedger S first → FileLedger S first → Option (List ℕ)
+      → Option (List ℕ) → Result JobStatus WriteFault → Type 0
   Writes report opened reported old new result =
-      IsHonest over_files reported → IfOk result (PrintsReport opened.faults reported.faults old new (report_lines report (history_of over_files opened) opened.terms))
+      IsHonest over_files reported
+      → IfOk result (PrintsReport opened.faults reported.faults old new
+      (report_lines report (history_of over_files opened) opened.terms))
 
   -- and the ledger was closed in these files
-  pub record IsReported (opened : FileLedger S first) (report : Report) (old new : Option (List ℕ)) (result : Result JobStatus WriteFault) (files : ClosedFiles S first) : Type 0 where
+  pub record IsReported (opened : FileLedger S first) (report : Report) (old new : Option (List ℕ))
+      (result : Result JobStatus WriteFault) (files : ClosedFiles S first) : Type 0 where
     pub reported : FileLedger S first
     pub written : Writes report opened reported old new result
-    pub unchanged : Unchanged (λ (b : FileLedger S first). history_of over_files b) (λ b. b.terms) (IsHonest over_files) opened reported
+    pub unchanged : Unchanged (λ (b : FileLedger S first). history_of over_files b) (λ b. b.terms)
+        (IsHonest over_files) opened reported
     pub away : PutsAway reported files
 
   -- or it could not be closed
-  pub record IsReportedAndLost (opened : FileLedger S first) (report : Report) (old new : Option (List ℕ)) (result : Result JobStatus WriteFault) : Type 0 where
+  pub record IsReportedAndLost (opened : FileLedger S first) (report : Report)
+      (old new : Option (List ℕ)) (result : Result JobStatus WriteFault) : Type 0 where
     pub reported : FileLedger S first
     pub done : Result JobStatus WriteFault
     pub between : Option (List ℕ)
@@ -131,39 +166,52 @@ module _ (S : RattleType) (first : Ghosts S.Denot) where
     pub printed : FailsByClosing done between new result
 
   -- what comes before the report, in this order: the clock gives a day where none was given, the ledger is opened
-  abbrev pub HasNoReport : Bool → Option ℕ → Option (List ℕ) → Option (List ℕ) → Result JobStatus WriteFault → Type 0
+  abbrev pub HasNoReport : Bool → Option ℕ → Option (List ℕ) → Option (List ℕ)
+      → Result JobStatus WriteFault → Type 0
   HasNoReport is_of_issues day old new result =
-      ((is_of_issues ≡ false) × (day ≡ None) × IfOk result (λ status. (status ≡ Failed) × Appends old new (codes "clock\n")))
+      ((is_of_issues ≡ false) × (day ≡ None) × IfOk result (λ status. (status ≡ Failed)
+      × Appends old new (codes "clock\n")))
       ⊎ IfOk result (FailsByLedger (IsNotOpened S first) old new)
 
   -- it was opened from the files, and reported on as was asked for; or the line says why there is no report
-  pub record HasReported (is_of_issues : Bool) (day : Option ℕ) (old new : Option (List ℕ)) (result : Result JobStatus WriteFault) (files : Option (ClosedFiles S first)) : Type 0 where
+  pub record HasReported (is_of_issues : Bool) (day : Option ℕ) (old new : Option (List ℕ))
+      (result : Result JobStatus WriteFault) (files : Option (ClosedFiles S first)) : Type 0 where
     pub reported : IfSome files (λ f. (report : Report) × IsAskedFor is_of_issues day report
-        × (opened : FileLedger S first) × WhereClean (IsFoundBook (image_at first)) opened × IsReported opened report old new result f)
+        × (opened : FileLedger S first) × WhereClean (IsFoundBook (image_at first)) opened
+        × IsReported opened report old new result f)
     pub unreported : files ≡ None → HasNoReport is_of_issues day old new result
         ⊎ ((report : Report) × IsAskedFor is_of_issues day report
-        × (opened : FileLedger S first) × WhereClean (IsFoundBook (image_at first)) opened × IsReportedAndLost opened report old new result)
+        × (opened : FileLedger S first) × WhereClean (IsFoundBook (image_at first)) opened
+        × IsReportedAndLost opened report old new result)
 
   -- the ledger in the files was audited and left in these files, and what was found was written
-  pub record IsAudited (old new : Option (List ℕ)) (result : Result JobStatus WriteFault) (files : ClosedFiles S first) : Type 0 where
+  pub record IsAudited (old new : Option (List ℕ)) (result : Result JobStatus WriteFault)
+      (files : ClosedFiles S first) : Type 0 where
     pub opened : FileConnection S first
     pub found : IsFoundIn (image_at first) opened
     pub left : FileConnection S first
     pub finding : Result ℕ OpenFault
     pub counted : HasFound over_files opened left finding
-    pub written : IfOk result (λ status. (status ≡ audit_status finding) × Appends old new (audit_line finding))
+    pub written : IfOk result (λ status. (status ≡ audit_status finding)
+        × Appends old new (audit_line finding))
     pub leaves : LeavesClean left files
 
   -- or the line says why the files could not be opened
-  pub record HasAudited (old new : Option (List ℕ)) (result : Result JobStatus WriteFault) (files : Option (ClosedFiles S first)) : Type 0 where
+  pub record HasAudited (old new : Option (List ℕ)) (result : Result JobStatus WriteFault)
+      (files : Option (ClosedFiles S first)) : Type 0 where
     pub audited : IfSome files (IsAudited old new result)
     pub refused : files ≡ None → IfOk result (FailsByLedger (IsAbsenceOr IsFileFault) old new)
 
   -- what a job has done as it ends, by its result and by the files, the link or what is left of a loop, which it hands back
-  abbrev pub HasEnded : Job → Option (List ℕ) → Option (List ℕ) → Result JobStatus WriteFault → Option (ClosedFiles S first) → Option BoundLink → Option LoopResources → Type 0
-  HasEnded (job.Create ledger settings) old new result files link looped = HasCreated settings old new result files
-  HasEnded (job.Serve ledger bind count day) old new result files link looped = HasServed bind.now day count old new result files link
-  HasEnded (job.Ask question) old new result files link looped = HasAsked question old new result link
-  HasEnded (job.Report ledger is_of_issues day) old new result files link looped = HasReported is_of_issues day old new result files
+  abbrev pub HasEnded : Job → Option (List ℕ) → Option (List ℕ) → Result JobStatus WriteFault
+      → Option (ClosedFiles S first) → Option BoundLink → Option LoopResources → Type 0
+  HasEnded (job.Create ledger settings) old new result files link looped =
+      HasCreated settings old new result files
+  HasEnded (job.Serve ledger bind count day) old new result files link looped =
+      HasServed bind.now day count old new result files link
+  HasEnded (job.Ask question) old new result files link looped =
+      HasAsked question old new result link
+  HasEnded (job.Report ledger is_of_issues day) old new result files link looped =
+      HasReported is_of_issues day old new result files
   HasEnded (job.Audit ledger) old new result files link looped = HasAudited old new result files
   HasEnded (job.Loop day) old new result files link looped = IsRunOn day old new result looped

@@ -1,5 +1,6 @@
 -- What `loop` does over a ledger in memory, and what it leaves.
-use Rattle.std.specs.Prelude.{◌≡◌, ◌⊎◌, ℕ, List, [], ◌∷◌, ◌++◌, codes, Option, None, Result, IfOk, IfSome}
+use Rattle.std.specs.Prelude.{◌≡◌, ◌⊎◌, ℕ, List, [], ◌∷◌, ◌++◌, codes, Option, None, Result, IfOk}
+use Rattle.std.specs.Prelude.{IfSome}
 use Rattle.sqlite_trees.specs.declared.memory.MemStore.{MemStore}
 use Rattle.sqlite.specs.Held.{state}
 use Rattle.sqlite.specs.Steps.{over_memory}
@@ -27,7 +28,9 @@ use Rattle.s10_host.specs.Files.{IsFileFault}
 
 -- why nothing was asked: a socket cannot be bound, or else no ledger can be made in memory
 abbrev pub IsLoopFailure : List ℕ → Type 0
-IsLoopFailure line = (line ≡ line_of (codes "link") (codes "bind" ∷ [])) ⊎ ((fault : OpenFault) × IsFileFault fault × (line ≡ line_of (codes "ledger") (open_fault_words fault)))
+IsLoopFailure line = (line ≡ line_of (codes "link") (codes "bind" ∷ []))
+    ⊎ ((fault : OpenFault) × IsFileFault fault
+    × (line ≡ line_of (codes "ledger") (open_fault_words fault)))
 
 -- a link to a ledger in memory, over two sockets of this machine
 abbrev pub LoopLink : Type 0
@@ -39,7 +42,9 @@ loop_terms = record { interval = 30; limit = 100 }
 
 -- how a call changes it
 abbrev pub IsLoopStep : LoopLink → LoopLink → Type 0
-IsLoopStep = IsNearStep (λ (b : Ledger MemStore). b.faults) (IsHonest over_memory) (λ b. b.terms) (history_of over_memory) (committed_of over_memory) (λ (l : BoundLink). l.trace) (λ (l : BoundLink). l.trace)
+IsLoopStep = IsNearStep (λ (b : Ledger MemStore). b.faults) (IsHonest over_memory) (λ b. b.terms)
+    (history_of over_memory) (committed_of over_memory) (λ (l : BoundLink). l.trace)
+    (λ (l : BoundLink). l.trace)
 
 -- it carried nothing, and its ledger is empty
 pub record IsNewLoop (day : ℕ) (link : LoopLink) : Type 0 where
@@ -59,18 +64,23 @@ pub record AreLoopResources (link : LoopLink) (looped : LoopResources) : Type 0 
 -- the calls are all that a new link carried, of which this is left: what was served on the day is the history of the ledger, but for
 -- calls that could not be committed, of which there are none where it had no fault; where
 -- the writer did not fail the lines of the calls were written
-pub record IsLoopRun (day : ℕ) (old new : Option (List ℕ)) (result : Result JobStatus WriteFault) (looped : LoopResources) : Type 0 where
+pub record IsLoopRun (day : ℕ) (old new : Option (List ℕ)) (result : Result JobStatus WriteFault)
+    (looped : LoopResources) : Type 0 where
   pub begun : LoopLink
   pub fresh : IsNewLoop day begun
   pub ended : LoopLink
   pub led : LeadsTo IsLoopStep begun ended
   pub left : AreLoopResources ended looped
   pub uncommitted : List Entry
-  pub served : ServedOn day [] loop_terms (history_in (state over_memory looped.connection).now ++ uncommitted)
+  pub served : ServedOn day [] loop_terms (history_in (state over_memory looped.connection).now
+      ++ uncommitted)
   pub whole : (book_of ended.server).faults ≡ no_faults → uncommitted ≡ []
-  pub asked : IfOk result (λ status. (to : Peer) × Prints old new (AreMadeInTurn to loop_calls new_trace looped.near.trace status))
+  pub asked : IfOk result (λ status. (to : Peer)
+      × Prints old new (AreMadeInTurn to loop_calls new_trace looped.near.trace status))
 
 -- so were they, or the line says why nothing was asked
-pub record HasRunLoop (day : ℕ) (old new : Option (List ℕ)) (result : Result JobStatus WriteFault) (looped : Option LoopResources) : Type 0 where
+pub record HasRunLoop (day : ℕ) (old new : Option (List ℕ)) (result : Result JobStatus WriteFault)
+    (looped : Option LoopResources) : Type 0 where
   pub asked : IfSome looped (IsLoopRun day old new result)
-  pub unasked : looped ≡ None → IfOk result (λ status. (status ≡ Failed) × Prints old new IsLoopFailure)
+  pub unasked : looped ≡ None
+      → IfOk result (λ status. (status ≡ Failed) × Prints old new IsLoopFailure)

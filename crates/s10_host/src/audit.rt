@@ -23,7 +23,8 @@ pub fn run_audit<S: Alter, K: Observer, W: Write>(
     output: &mut W,
 ) -> (Result<JobStatus, WriteFault>, Connection<S>)
     requires idle { connection.in_transaction ≡ false }
-    ensures { (found : Result ℕ OpenFault) × HasFound S.Store connection result.1 found × IfOk result.0 (λ status. (status ≡ audit_status found)
+    ensures { (found : Result ℕ OpenFault) × HasFound S.Store connection result.1 found
+        × IfOk result.0 (λ status. (status ≡ audit_status found)
         × Appends (W.contents output.old) (W.contents output.new) (audit_line found)) }
 {
     let (found, left) = audit_ledger(alloc, connection, watch);
@@ -68,7 +69,8 @@ fn write_audit<W: Write>(
 }
 
 fn write_count<W: Write>(count: u32, out: &mut W) -> Result<(), WriteFault>
-    ensures { OnOk result (Appends (W.contents out.old) (W.contents out.new) (line_of (codes "ledger") (codes "ok" ∷ decimal count ∷ []))) }
+    ensures { OnOk result (Appends (W.contents out.old) (W.contents out.new)
+        (line_of (codes "ledger") (codes "ok" ∷ decimal count ∷ []))) }
 {
     write_text(b"ledger", out)?;
     write_word(b"ok", out)?;

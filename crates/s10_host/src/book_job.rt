@@ -10,7 +10,8 @@ ghost use Rattle.s10_jobs.specs.declared.reporting.Report.{Report};
 ghost use Rattle.s10_link.specs.Trace.{new_trace};
 ghost use Rattle.s10_link.specs.declared.peer.Peer.{Peer};
 ghost use Rattle.s10_sockets.specs.Unbound.{IsUnbound};
-ghost use Rattle.s10_host.specs.BookJobs.{HasRunBookJob, IsMadeWith, IsOpenedFrom, IsBookJobRefusal};
+ghost use Rattle.s10_host.specs.BookJobs.{HasRunBookJob, IsMadeWith, IsOpenedFrom};
+ghost use Rattle.s10_host.specs.BookJobs.{IsBookJobRefusal};
 
 use s10_book::GroupCommit;
 use s10_ends::UdpLink;
@@ -56,8 +57,10 @@ pub fn run_book_job<A: Alter, K: Observer, W: Write>(
     out: &mut W,
 ) -> Result<BookJobEnd<A>, Refused<A>>
     requires idle { connection.in_transaction ≡ false }
-    ensures worked { IfOk result (λ w. HasRunBookJob A.Store work connection (W.contents out.old) (W.contents out.new) w.0 w.1 w.2) }
-    ensures refused { IfErr result (λ r. IsBookJobRefusal A.Store work connection r.connection r.fault) }
+    ensures worked { IfOk result (λ w. HasRunBookJob A.Store work connection (W.contents out.old)
+        (W.contents out.new) w.0 w.1 w.2) }
+    ensures refused { IfErr result (λ r. IsBookJobRefusal A.Store work connection r.connection
+        r.fault) }
     ensures silent { IfErr result (λ _. W.contents out.new ≡ W.contents out.old) }
 {
     let book = book_for(rt.alloc(), connection, &work, watch)?;
@@ -72,9 +75,12 @@ fn book_for<A: Alter, K: Observer>(
     watch: &mut K,
 ) -> Result<SqlBook<A>, Refused<A>>
     requires idle { connection.in_transaction ≡ false }
-    ensures made { (terms : Terms) → work.now ≡ BookJob.Create terms → IfOk result (IsMadeWith A.Store terms) }
-    ensures opened { ((terms : Terms) → work.now ≢ BookJob.Create terms) → IfOk result (IsOpenedFrom A.Store connection) }
-    ensures refused { IfErr result (λ r. IsBookJobRefusal A.Store work.now connection r.connection r.fault) }
+    ensures made { (terms : Terms) → work.now ≡ BookJob.Create terms
+        → IfOk result (IsMadeWith A.Store terms) }
+    ensures opened { ((terms : Terms) → work.now ≢ BookJob.Create terms)
+        → IfOk result (IsOpenedFrom A.Store connection) }
+    ensures refused { IfErr result (λ r. IsBookJobRefusal A.Store work.now connection r.connection
+        r.fault) }
 {
     match work {
         BookJob::Create(settings) => SqlBook::create(alloc, connection, *settings, watch),
@@ -89,9 +95,11 @@ fn run_and_close_book<A: Alter, W: Write>(
     work: BookJob,
     out: &mut W,
 ) -> BookJobEnd<A>
-    ensures { (was : Held A) → ((terms : Terms) → work ≡ BookJob.Create terms → IsMadeWith A.Store terms book)
+    ensures { (was : Held A) → ((terms : Terms) → work ≡ BookJob.Create terms
+        → IsMadeWith A.Store terms book)
         → (((terms : Terms) → work ≢ BookJob.Create terms) → IsOpenedFrom A.Store was book)
-        → HasRunBookJob A.Store work was (W.contents out.old) (W.contents out.new) result.0 result.1 result.2 }
+        → HasRunBookJob A.Store work was (W.contents out.old) (W.contents out.new) result.0 result.1
+        result.2 }
 {
     let (done, link, book) = run_on_book(rt, book, work, out);
     (done, link, book.close())
@@ -105,14 +113,21 @@ fn run_on_book<B: GroupCommit, W: Write>(
     work: BookJob,
     out: &mut W,
 ) -> (Result<JobStatus, WriteFault>, Option<UdpLink>, B)
-    ensures made { (terms : Terms) → work ≡ BookJob.Create terms → (result.0 ≡ Ok JobStatus.Done) × (result.1 ≡ None) × (result.2 ≡ book)
+    ensures made { (terms : Terms) → work ≡ BookJob.Create terms → (result.0 ≡ Ok JobStatus.Done)
+        × (result.1 ≡ None) × (result.2 ≡ book)
         × (W.contents out.new ≡ W.contents out.old) }
     ensures served { (at : Peer) (count : ℕ) (day : Option ℕ) → work ≡ BookJob.Serve at count day
-        → (result.1 ≡ None → IsUnbound book result.2 (W.contents out.old) (W.contents out.new) result.0)
-        × IfSome result.1 (λ link. Serves (IsBatch B.faults B.honest B.terms B.history B.committed day)
-        (new_trace, book) (link.trace, result.2) (W.contents out.old) (W.contents out.new) count result.0) }
-    ensures reported { (report : Report) → work ≡ BookJob.Report report → (result.1 ≡ None) × Unchanged B.history B.terms B.honest book result.2
-        × (B.honest result.2 → IfOk result.0 (PrintsReport (B.faults book) (B.faults result.2) (W.contents out.old) (W.contents out.new)
+        → (result.1 ≡ None → IsUnbound book result.2 (W.contents out.old) (W.contents out.new)
+        result.0)
+        × IfSome result.1 (λ link. Serves (IsBatch B.faults B.honest B.terms B.history B.committed
+        day)
+        (new_trace, book) (link.trace, result.2) (W.contents out.old) (W.contents out.new) count
+        result.0) }
+    ensures reported { (report : Report) → work ≡ BookJob.Report report → (result.1 ≡ None)
+        × Unchanged B.history B.terms B.honest book result.2
+        × (B.honest result.2
+        → IfOk result.0 (PrintsReport (B.faults book) (B.faults result.2) (W.contents out.old)
+        (W.contents out.new)
         (report_lines report (B.history book) (B.terms book)))) }
 {
     match work {

@@ -1,12 +1,14 @@
 //! The subcommands over files, sockets and the clock. `S` stands for what the files held.
 
-ghost use Rattle.std.specs.Prelude.{◌≡◌, ℕ, codes, false, Some, None, Result, Ok, Err, IsOk, IfOk, IfSome};
+ghost use Rattle.std.specs.Prelude.{◌≡◌, ℕ, codes, false, Some, None, Result, Ok, Err, IsOk, IfOk};
+ghost use Rattle.std.specs.Prelude.{IfSome};
 ghost use Rattle.std.specs.Io.KnownBytes.{Appends};
 ghost use Rattle.sqlite.specs.Files.{over_files};
 ghost use Rattle.s10_rows.specs.declared.open_fault.OpenFault.{OpenFault};
 ghost use Rattle.s10_host.specs.Audited.{HasFound, audit_line, audit_status};
 ghost use Rattle.s10_host.specs.Files.{LeavesClean};
-ghost use Rattle.s10_host.specs.Jobs.{ledger_line, HasCreated, HasServed, HasReported, HasAudited, IsRunOn, HasEnded};
+ghost use Rattle.s10_host.specs.Jobs.{ledger_line, HasCreated, HasServed, HasReported, HasAudited};
+ghost use Rattle.s10_host.specs.Jobs.{IsRunOn, HasEnded};
 ghost use Rattle.s10_host.specs.BookJobs.{EndsOver, EndsIn};
 ghost use Rattle.s10_host.specs.declared.book_job.BookJob.{BookJob};
 
@@ -48,7 +50,8 @@ pub fn run_job<S: Start, W: Write>(
     start: S,
     out: &mut W,
 ) -> (Result<JobStatus, WriteFault>, JobResources<S>)
-    ensures { HasEnded S.row S.Start job.now (W.contents out.old) (W.contents out.new) result.0 result.1.files result.1.link result.1.looped }
+    ensures { HasEnded S.row S.Start job.now (W.contents out.old) (W.contents out.new) result.0
+        result.1.files result.1.link result.1.looped }
 {
     match job {
         Job::Create { ledger, settings } => run_create(rt, *ledger, *settings, start, out),
@@ -116,7 +119,8 @@ fn run_create<S: Start, W: Write>(
     start: S,
     out: &mut W,
 ) -> JobEnd<S>
-    ensures { HasCreated S.row S.Start settings (W.contents out.old) (W.contents out.new) result.0 result.1.files }
+    ensures { HasCreated S.row S.Start settings (W.contents out.old) (W.contents out.new) result.0
+        result.1.files }
 {
     let missing = missing_log(rt, ledger);
     match connect_to_new(rt, ledger, start) {
@@ -135,7 +139,8 @@ fn run_create<S: Start, W: Write>(
 }
 
 fn write_created<W: Write>(out: &mut W) -> Result<JobStatus, WriteFault>
-    ensures { IfOk result (λ status. (status ≡ JobStatus.Done) × Appends (W.contents out.old) (W.contents out.new) (codes "created\n")) }
+    ensures { IfOk result (λ status. (status ≡ JobStatus.Done) × Appends (W.contents out.old)
+        (W.contents out.new) (codes "created\n")) }
 {
     write_text(b"created\n", out)?;
     Ok(JobStatus::Done)
@@ -150,7 +155,8 @@ fn run_serve<S: Start, W: Write>(
     start: S,
     out: &mut W,
 ) -> JobEnd<S>
-    ensures { HasServed S.row S.Start bind.now day count (W.contents out.old) (W.contents out.new) result.0 result.1.files result.1.link }
+    ensures { HasServed S.row S.Start bind.now day count (W.contents out.old) (W.contents out.new)
+        result.0 result.1.files result.1.link }
 {
     let Some(at) = Peer::read(bind.as_bytes()) else {
         return with_link((refuse(b"peer", out), None));
@@ -174,7 +180,8 @@ fn run_report<S: Start, W: Write>(
     start: S,
     out: &mut W,
 ) -> JobEnd<S>
-    ensures { HasReported S.row S.Start is_of_issues day (W.contents out.old) (W.contents out.new) result.0 result.1.files }
+    ensures { HasReported S.row S.Start is_of_issues day (W.contents out.old) (W.contents out.new)
+        result.0 result.1.files }
 {
     let Some(report) = Report::new(rt, is_of_issues, day) else {
         return with_link((fail_by_clock(out), None));
@@ -196,8 +203,11 @@ fn run_on_file<S: Start, W: Write>(
     start: S,
     out: &mut W,
 ) -> JobEnd<S>
-    ensures worked { (work : BookJob) → task ≡ LedgerJob.BookJob work → EndsIn S.row S.Start work (W.contents out.old) (W.contents out.new) result.0 result.1.files result.1.link }
-    ensures audited { task ≡ LedgerJob.Audit → HasAudited S.row S.Start (W.contents out.old) (W.contents out.new) result.0 result.1.files }
+    ensures worked { (work : BookJob) → task ≡ LedgerJob.BookJob work
+        → EndsIn S.row S.Start work (W.contents out.old) (W.contents out.new) result.0
+        result.1.files result.1.link }
+    ensures audited { task ≡ LedgerJob.Audit → HasAudited S.row S.Start (W.contents out.old)
+        (W.contents out.new) result.0 result.1.files }
 {
     let missing = missing_log(rt, ledger);
     match connect_to_ledger(rt, ledger, start) {
@@ -222,10 +232,15 @@ fn run_and_close_file<D: Disk + Drop, W: Write>(
     out: &mut W,
 ) -> FileJobEnd<D>
     requires idle { connection.in_transaction ≡ false }
-    ensures worked { (work : BookJob) → task ≡ LedgerJob.BookJob work → EndsOver work connection (W.contents out.old) (W.contents out.new) result.0 result.2 result.1 }
-    ensures audited { task ≡ LedgerJob.Audit → (result.1 ≡ None) × (files : _) × (result.2 ≡ Some files) × (left : _) × (found : Result ℕ OpenFault)
-        × HasFound over_files connection left found × IfOk result.0 (λ status. (status ≡ audit_status found)
-        × Appends (W.contents out.old) (W.contents out.new) (audit_line found)) × LeavesClean left files }
+    ensures worked { (work : BookJob) → task ≡ LedgerJob.BookJob work
+        → EndsOver work connection (W.contents out.old) (W.contents out.new) result.0 result.2
+        result.1 }
+    ensures audited { task ≡ LedgerJob.Audit → (result.1 ≡ None) × (files : _)
+        × (result.2 ≡ Some files) × (left : _) × (found : Result ℕ OpenFault)
+        × HasFound over_files connection left found
+        × IfOk result.0 (λ status. (status ≡ audit_status found)
+        × Appends (W.contents out.old) (W.contents out.new) (audit_line found))
+        × LeavesClean left files }
 {
     let mut progress = Progress::new(rt, ledger);
     match run_ledger_job(rt, connection, task, &mut progress, out) {
@@ -252,8 +267,10 @@ fn ended<T, W: Write>(
     closed: Result<T, OpenFault>,
     out: &mut W,
 ) -> (Result<JobStatus, WriteFault>, Option<T>)
-    ensures kept { IfSome result.1 (λ files. (closed ≡ Ok files) × (result.0 ≡ done) × (W.contents out.new ≡ W.contents out.old)) }
-    ensures lost { result.1 ≡ None → (fault : OpenFault) × (closed ≡ Err fault) × IfOk result.0 (λ status. IsOk done × (status ≡ JobStatus.Failed)
+    ensures kept { IfSome result.1 (λ files. (closed ≡ Ok files) × (result.0 ≡ done)
+        × (W.contents out.new ≡ W.contents out.old)) }
+    ensures lost { result.1 ≡ None → (fault : OpenFault) × (closed ≡ Err fault)
+        × IfOk result.0 (λ status. IsOk done × (status ≡ JobStatus.Failed)
         × Appends (W.contents out.old) (W.contents out.new) (ledger_line fault)) }
 {
     match closed {

@@ -41,13 +41,20 @@ pub fn run_ledger_job<A: Alter + Drop, K: Observer, W: Write>(
     out: &mut W,
 ) -> LedgerJobEnd<A>
     requires idle { connection.in_transaction ≡ false }
-    ensures worked { (w : _) → result ≡ LedgerJobEnd.BookJobEnd w → (work : BookJob) × (task ≡ LedgerJob.BookJob work)
-        × HasRunBookJob A.Store work connection (W.contents out.old) (W.contents out.new) w.0 w.1 w.2 }
-    ensures refused { (r : _) → result ≡ LedgerJobEnd.Refused r → (work : BookJob) × (task ≡ LedgerJob.BookJob work)
-        × IsBookJobRefusal A.Store work connection r.connection r.fault × (W.contents out.new ≡ W.contents out.old) }
-    ensures audited { (done store : _) → result ≡ LedgerJobEnd.Audited done store → (task ≡ LedgerJob.Audit) × (left : _) × (found : Result ℕ OpenFault)
-        × HasFound A.Store connection left found × IfOk done (λ status. (status ≡ audit_status found)
-        × Appends (W.contents out.old) (W.contents out.new) (audit_line found)) × (doubt (A.Store.view left.store).is_clean ≤ doubt (A.Store.view store).is_clean) }
+    ensures worked { (w : _) → result ≡ LedgerJobEnd.BookJobEnd w → (work : BookJob)
+        × (task ≡ LedgerJob.BookJob work)
+        × HasRunBookJob A.Store work connection (W.contents out.old) (W.contents out.new) w.0 w.1
+        w.2 }
+    ensures refused { (r : _) → result ≡ LedgerJobEnd.Refused r → (work : BookJob)
+        × (task ≡ LedgerJob.BookJob work)
+        × IsBookJobRefusal A.Store work connection r.connection r.fault
+        × (W.contents out.new ≡ W.contents out.old) }
+    ensures audited { (done store : _) → result ≡ LedgerJobEnd.Audited done store
+        → (task ≡ LedgerJob.Audit) × (left : _) × (found : Result ℕ OpenFault)
+        × HasFound A.Store connection left found
+        × IfOk done (λ status. (status ≡ audit_status found)
+        × Appends (W.contents out.old) (W.contents out.new) (audit_line found))
+        × (doubt (A.Store.view left.store).is_clean ≤ doubt (A.Store.view store).is_clean) }
 {
     match task {
         LedgerJob::BookJob(work) => match run_book_job(rt, connection, work, watch, out) {

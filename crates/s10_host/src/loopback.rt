@@ -39,8 +39,10 @@ pub fn run_loop<R: Net + Eprint + AllocGlobal, W: Write>(
     day: u32,
     out: &mut W,
 ) -> (Result<JobStatus, WriteFault>, Option<LoopResources>)
-    ensures asked { IfSome result.1 (IsLoopRun day (W.contents out.old) (W.contents out.new) result.0) }
-    ensures unasked { result.1 ≡ None → IfOk result.0 (λ status. (status ≡ JobStatus.Failed) × Prints (W.contents out.old) (W.contents out.new) IsLoopFailure) }
+    ensures asked { IfSome result.1 (IsLoopRun day (W.contents out.old) (W.contents out.new)
+        result.0) }
+    ensures unasked { result.1 ≡ None → IfOk result.0 (λ status. (status ≡ JobStatus.Failed)
+        × Prints (W.contents out.old) (W.contents out.new) IsLoopFailure) }
 {
     let (far, near) = match two_links(rt) {
         Ok(links) => links,
@@ -70,10 +72,15 @@ fn loop_over<B: GroupCommit, W: Write>(
     day: u32,
     out: &mut W,
 ) -> (Result<JobStatus, WriteFault>, B, UdpLink, UdpLink)
-    ensures { (begun : NearLink B BoundLink BoundLink) × (begun ≡ record { server = begun.server; far = far; near = near; day = day }) × (book_of begun.server ≡ book)
-        × (ended : NearLink B BoundLink BoundLink) × (result.1 ≡ book_of ended.server) × (result.2 ≡ ended.far) × (result.3 ≡ ended.near)
-        × LeadsTo (IsNearStep B.faults B.honest B.terms B.history B.committed (λ (l : BoundLink). l.trace) (λ (l : BoundLink). l.trace)) begun ended
-        × (to : Peer) × IfOk result.0 (λ status. Prints (W.contents out.old) (W.contents out.new) (AreMadeInTurn to loop_calls near.trace result.3.trace status)) }
+    ensures { (begun : NearLink B BoundLink BoundLink)
+        × (begun ≡ record { server = begun.server; far = far; near = near; day = day })
+        × (book_of begun.server ≡ book)
+        × (ended : NearLink B BoundLink BoundLink) × (result.1 ≡ book_of ended.server)
+        × (result.2 ≡ ended.far) × (result.3 ≡ ended.near)
+        × LeadsTo (IsNearStep B.faults B.honest B.terms B.history B.committed
+        (λ (l : BoundLink). l.trace) (λ (l : BoundLink). l.trace)) begun ended
+        × (to : Peer) × IfOk result.0 (λ status. Prints (W.contents out.old) (W.contents out.new)
+        (AreMadeInTurn to loop_calls near.trace result.3.trace status)) }
 {
     let to = far.local();
     let mut link = NearLink {

@@ -1,5 +1,7 @@
 -- The last issue of an identifier after one more call.
-use Rattle.std.proofs.Common.{◌≡◌, ◌∙◌, ℕ, zero, suc, ◌+◌, ◌≤◌, Bool, true, false, cond, ◌||◌, List, [], ◌∷◌, ◌++◌, map, Option, Some, None, length, refl, sym, ap, ap₂, subst, arith, append-nil, length-append}
+use Rattle.std.proofs.Common.{◌≡◌, ◌∙◌, ℕ, zero, suc, ◌+◌, ◌≤◌, Bool, true, false, cond, ◌||◌, List}
+use Rattle.std.proofs.Common.{[], ◌∷◌, ◌++◌, map, Option, Some, None, length, refl, sym, ap, ap₂}
+use Rattle.std.proofs.Common.{subst, arith, append-nil, length-append}
 use Rattle.std.specs.Prelude.{filter, All, slice_get}
 use Rattle.std.specs.List.{list_any, last_or}
 use Rattle.std.specs.Option.{option_map, unwrap_or}
@@ -20,7 +22,8 @@ use Rattle.s10_history.specs.declared.issue.Issue.{Issue}
 use Rattle.s10_history.specs.declared.issuance.Issuance.{Issuance}
 use Rattle.s10_history.specs.Settings.{Terms}
 use Rattle.s10_book.specs.Rules.{IsLegal}
-use Rattle.s10_history.specs.Issues.{issues_of, issues_at, is_of, carried_by, voids, voids_by, voided_after, last_issuance_of, last_issue_of}
+use Rattle.s10_history.specs.Issues.{issues_of, issues_at, is_of, carried_by, voids, voids_by}
+use Rattle.s10_history.specs.Issues.{voided_after, last_issuance_of, last_issue_of}
 use Rattle.s10_history.proofs.Push.{issues_from-push}
 use Rattle.s10_history.proofs.Issued.{last_issuance_of-push}
 use Rattle.s10_book.proofs.Own.{IsOwned, owned}
@@ -38,12 +41,14 @@ use Rattle.s10_index.specs.LastIssues.{as_issue, issue_in_history, as_voided}
 -- two identifiers have one key where they are the same
 pub keys_tell : (x y : Id) → IsId x → IsId y → same_key (id_key x) (id_key y) ≡ same_id x y
 keys_tell x y fit_x fit_y =
-    same_from_decides (same_key (id_key x) (id_key y)) (same_id x y) (one_id, same_keys) (id_equal x y, id_same x y)
+    same_from_decides (same_key (id_key x) (id_key y)) (same_id x y) (one_id, same_keys)
+    (id_equal x y, id_same x y)
   where
     one_id : same_key (id_key x) (id_key y) ≡ true → x ≡ y
     one_id same =
         let both = and_parts _ _ same in
-        let pair = one_pair x.service x.country y.service y.country fit_x.service fit_x.country fit_y.service fit_y.country (eqb-true _ _ both.0) in
+        let pair = one_pair x.service x.country y.service y.country fit_x.service fit_x.country
+        fit_y.service fit_y.country (eqb-true _ _ both.0) in
         let serial : x.serial ≡ y.serial = eqb-true x.serial y.serial both.1 in
         let f0 : ℕ × ℕ → Id = λ s. record { service = s; serial = x.serial; country = x.country } in
         let f1 : ℕ → Id = λ n. record { service = y.service; serial = n; country = x.country } in
@@ -51,7 +56,8 @@ keys_tell x y fit_x fit_y =
         ap f0 pair.0 ∙ ap f1 serial ∙ ap f2 pair.1
 
     same_keys : x ≡ y → same_key (id_key x) (id_key y) ≡ true
-    same_keys e = and_from _ _ (eq-eqb _ _ (ap (λ (z : Id). pair_of z.service z.country) e)) (eq-eqb _ _ (ap (λ (z : Id). z.serial) e))
+    same_keys e = and_from _ _ (eq-eqb _ _ (ap (λ (z : Id). pair_of z.service z.country) e))
+        (eq-eqb _ _ (ap (λ (z : Id). z.serial) e))
 
 -- ---- what is voided
 
@@ -61,100 +67,149 @@ or_none false true e = e
 or_none false false e = refl
 
 -- a call that voids nothing leaves what is voided
-same_voided : (arrival : ℕ) (h : List Entry) (e : Entry) (x : Id) → voids x e ≡ false → voided_after arrival (h ++ e ∷ []) x ≡ voided_after arrival h x
-same_voided zero h e x none = list_any-append (voids x) h (e ∷ []) ∙ or_none (list_any (voids x) h) (voids x e) none
+same_voided : (arrival : ℕ) (h : List Entry) (e : Entry) (x : Id) → voids x e ≡ false
+    → voided_after arrival (h ++ e ∷ []) x ≡ voided_after arrival h x
+same_voided zero h e x none = list_any-append (voids x) h (e ∷ []) ∙ or_none (list_any (voids x) h)
+    (voids x e) none
 same_voided (suc n) [] e x none = ap (list_any (voids x)) (drop_all n [] (omega arith))
 same_voided (suc n) (d ∷ h) e x none = same_voided n h e x none
 
 -- a call that voids an identifier follows each call before it
-now_voided : (arrival : ℕ) (h : List Entry) (e : Entry) (x : Id) → arrival ≤ length h → voids x e ≡ true → voided_after arrival (h ++ e ∷ []) x ≡ true
-now_voided zero h e x le does = list_any-append (voids x) h (e ∷ []) ∙ or_right (list_any (voids x) h) (voids x e || false) (or_left (voids x e) false does)
+now_voided : (arrival : ℕ) (h : List Entry) (e : Entry) (x : Id) → arrival ≤ length h
+    → voids x e ≡ true → voided_after arrival (h ++ e ∷ []) x ≡ true
+now_voided zero h e x le does = list_any-append (voids x) h (e ∷ [])
+    ∙ or_right (list_any (voids x) h) (voids x e || false) (or_left (voids x e) false does)
 now_voided (suc n) [] e x le does = absurd (omega (arith, le))
 now_voided (suc n) (d ∷ h) e x le does = now_voided n h e x (omega (arith, le)) does
 
 -- nothing follows the last call
-none_after : (h : List Entry) (e : Entry) (x : Id) → voided_after (1 + length h) (h ++ e ∷ []) x ≡ false
-none_after h e x = ap (list_any (voids x)) (drop_all (1 + length h) (h ++ e ∷ []) (omega (arith, length-append h (e ∷ []))))
+none_after : (h : List Entry) (e : Entry) (x : Id) → voided_after (1 + length h) (h ++ e ∷ []) x
+    ≡ false
+none_after h e x =
+    ap (list_any (voids x)) (drop_all (1 + length h) (h ++ e ∷ [])
+    (omega (arith, length-append h (e ∷ []))))
 
-none_voided : (x : Id) (b : Body) (o : Outcome) → ((y : Id) → b ≡ Void y → o ≡ Voided → ⊥) → voids_by x b o ≡ false
+none_voided : (x : Id) (b : Body) (o : Outcome) → ((y : Id) → b ≡ Void y → o ≡ Voided → ⊥)
+    → voids_by x b o ≡ false
 none_voided x (Void id) Voided other = absurd (other id refl refl)
 none_voided x b o other = refl
 
 -- a call that carries no identifier leaves the issues
-same_issues : (h : List Entry) (e : Entry) → carried_by e.outcome ≡ [] → issues_of (h ++ e ∷ []) ≡ issues_of h
+same_issues : (h : List Entry) (e : Entry) → carried_by e.outcome ≡ [] → issues_of (h ++ e ∷ [])
+    ≡ issues_of h
 same_issues h e none =
-    issues_from-push 1 h e ∙ ap (λ (l : List (ℕ × Id)). issues_of h ++ map (made_by e (1 + length h)) l) none ∙ append-nil (issues_of h)
+    issues_from-push 1 h e
+    ∙ ap (λ (l : List (ℕ × Id)). issues_of h ++ map (made_by e (1 + length h)) l) none
+    ∙ append-nil (issues_of h)
 
 -- ---- the last issue
 
 told_is : (h : List Entry) (x : Id) (o : Option Issuance)
-    → option_map (λ (i : Issuance). record { day = i.day; voided = unwrap_or (option_map (λ (j : Issuance). voided_after j.arrival h x) o) false; customer = i.customer; number = i.number }) o ≡ option_map (issue_in_history h x) o
+    → option_map (λ (i : Issuance). record {
+      day = i.day;
+      voided = unwrap_or (option_map (λ (j : Issuance). voided_after j.arrival h x) o) false;
+      customer = i.customer;
+      number = i.number;
+    }) o ≡ option_map (issue_in_history h x) o
 told_is h x None = refl
 told_is h x (Some i) = refl
 
-pub last_told : (h : List Entry) (x : Id) → last_issue_of h x ≡ option_map (issue_in_history h x) (last_issuance_of (issues_of h) x)
+pub last_told : (h : List Entry) (x : Id) → last_issue_of h x ≡ option_map (issue_in_history h x)
+    (last_issuance_of (issues_of h) x)
 last_told h x = told_is h x (last_issuance_of (issues_of h) x)
 
-told_same : (h : List Entry) (e : Entry) (x : Id) (o : Option Issuance) → voids x e ≡ false → option_map (issue_in_history (h ++ e ∷ []) x) o ≡ option_map (issue_in_history h x) o
+told_same : (h : List Entry) (e : Entry) (x : Id) (o : Option Issuance) → voids x e ≡ false
+    → option_map (issue_in_history (h ++ e ∷ []) x) o ≡ option_map (issue_in_history h x) o
 told_same h e x None none = refl
-told_same h e x (Some i) none = let f : Bool → Option Issue = λ b. Some (record { day = i.day; voided = b; customer = i.customer; number = i.number }) in ap f (same_voided i.arrival h e x none)
+told_same h e x (Some i) none = let f : Bool → Option Issue =
+    λ b. Some (record { day = i.day; voided = b; customer = i.customer; number = i.number }) in
+    ap f (same_voided i.arrival h e x none)
 
 -- a call that voids nothing leaves what is reported for the issues before it
-pub told_before : (h : List Entry) (e : Entry) (x : Id) → ((y : Id) → e.request.body ≡ Void y → e.outcome ≡ Voided → ⊥)
-    → option_map (issue_in_history (h ++ e ∷ []) x) (last_issuance_of (issues_of h) x) ≡ option_map (issue_in_history h x) (last_issuance_of (issues_of h) x)
-told_before h e x no_void = told_same h e x (last_issuance_of (issues_of h) x) (none_voided x e.request.body e.outcome no_void)
+pub told_before : (h : List Entry) (e : Entry) (x : Id) → ((y : Id) → e.request.body ≡ Void y
+    → e.outcome ≡ Voided → ⊥)
+    → option_map (issue_in_history (h ++ e ∷ []) x) (last_issuance_of (issues_of h) x)
+    ≡ option_map (issue_in_history h x) (last_issuance_of (issues_of h) x)
+told_before h e x no_void = told_same h e x (last_issuance_of (issues_of h) x)
+    (none_voided x e.request.body e.outcome no_void)
 
 -- a call that issues nothing and voids nothing leaves each last issue
-pub last_left : (h : List Entry) (e : Entry) (x : Id) → carried_by e.outcome ≡ [] → ((y : Id) → e.request.body ≡ Void y → e.outcome ≡ Voided → ⊥)
+pub last_left : (h : List Entry) (e : Entry) (x : Id) → carried_by e.outcome ≡ []
+    → ((y : Id) → e.request.body ≡ Void y → e.outcome ≡ Voided → ⊥)
     → last_issue_of (h ++ e ∷ []) x ≡ last_issue_of h x
 last_left h e x no_issue no_void =
     last_told (h ++ e ∷ []) x
-    ∙ ap (λ (is : List Issuance). option_map (issue_in_history (h ++ e ∷ []) x) (last_issuance_of is x)) (same_issues h e no_issue)
+    ∙ ap (λ (is : List Issuance). option_map (issue_in_history (h ++ e ∷ []) x)
+    (last_issuance_of is x)) (same_issues h e no_issue)
     ∙ told_before h e x no_void
     ∙ sym (last_told h x)
 
 -- no Void follows an issue that the last call made
-new_told : (h : List Entry) (e : Entry) (x : Id) (y : Issuance) (b : Bool) (o : Option Issuance) → y.arrival ≡ 1 + length h
-    → option_map (issue_in_history (h ++ e ∷ []) x) (cond b (Some y) o) ≡ cond b (Some (as_issue y false)) (option_map (issue_in_history (h ++ e ∷ []) x) o)
-new_told h e x y true o at = ap (λ v. Some (as_issue y v)) (ap (λ n. voided_after n (h ++ e ∷ []) x) at ∙ none_after h e x)
+new_told : (h : List Entry) (e : Entry) (x : Id) (y : Issuance) (b : Bool) (o : Option Issuance)
+    → y.arrival ≡ 1 + length h
+    → option_map (issue_in_history (h ++ e ∷ []) x) (cond b (Some y) o)
+    ≡ cond b (Some (as_issue y false)) (option_map (issue_in_history (h ++ e ∷ []) x) o)
+new_told h e x y true o at = ap (λ v. Some (as_issue y v)) (ap (λ n. voided_after n (h ++ e ∷ []) x)
+    at ∙ none_after h e x)
 new_told h e x y false o at = refl
 
 -- what is reported for the last issue before the next place of a call
-pub told_upto : (h : List Entry) (e : Entry) (x : Id) (place : ℕ) (i : Issuance) → slice_get (issues_at 0 e) place ≡ Some i
-    → option_map (issue_in_history (h ++ e ∷ []) x) (last_issuance_of (issues_upto h e (place + 1)) x) ≡ cond (same_id i.id x) (Some (as_issue i false)) (option_map (issue_in_history (h ++ e ∷ []) x) (last_issuance_of (issues_upto h e place) x))
+pub told_upto : (h : List Entry) (e : Entry) (x : Id) (place : ℕ) (i : Issuance)
+    → slice_get (issues_at 0 e) place ≡ Some i
+    → option_map (issue_in_history (h ++ e ∷ []) x) (last_issuance_of (issues_upto h e (place + 1))
+    x) ≡ cond (same_id i.id x) (Some (as_issue i false))
+    (option_map (issue_in_history (h ++ e ∷ []) x) (last_issuance_of (issues_upto h e place) x))
 told_upto h e x place i at =
     let found = carried_at e 0 place i at in
     let c : ℕ × Id = found.0 in
     let y : Issuance = made_by e (1 + length h) c in
     let o : Option Issuance = last_issuance_of (issues_upto h e place) x in
-    ap (λ (is : List Issuance). option_map (issue_in_history (h ++ e ∷ []) x) (last_issuance_of is x)) (upto_next h e place c found.1)
-    ∙ ap (option_map (issue_in_history (h ++ e ∷ []) x)) (last_issuance_of-push (issues_upto h e place) y x)
+    ap (λ (is : List Issuance). option_map (issue_in_history (h ++ e ∷ []) x)
+    (last_issuance_of is x)) (upto_next h e place c found.1)
+    ∙ ap (option_map (issue_in_history (h ++ e ∷ []) x))
+    (last_issuance_of-push (issues_upto h e place) y x)
     ∙ new_told h e x y (same_id c.1 x) o refl
-    ∙ ap (λ (j : Issuance). cond (same_id j.id x) (Some (as_issue j false)) (option_map (issue_in_history (h ++ e ∷ []) x) o)) found.2
+    ∙ ap (λ (j : Issuance). cond (same_id j.id x) (Some (as_issue j false))
+    (option_map (issue_in_history (h ++ e ∷ []) x) o)) found.2
 
 -- what holds of each issue holds of the last
-last_has : (P : Issuance → Type 0) (p : Issuance → Bool) (o : Option Issuance) (is : List Issuance) (l : Issuance) → All P is → ((m : Issuance) → o ≡ Some m → P m) → last_or o (filter p is) ≡ Some l → P l
+last_has : (P : Issuance → Type 0) (p : Issuance → Bool) (o : Option Issuance) (is : List Issuance)
+    (l : Issuance) → All P is → ((m : Issuance) → o ≡ Some m → P m) → last_or o (filter p is)
+    ≡ Some l → P l
 last_has P p o [] l all before last = before l last
 last_has P p o (i ∷ is) l all before last =
-    at (p i) refl (last_has P p (Some i) is l (All-tail P i is all) (λ m same. subst P (same_Some i m same) (All-head P i is all))) (last_has P p o is l (All-tail P i is all) before)
+    at (p i) refl (last_has P p (Some i) is l (All-tail P i is all)
+    (λ m same. subst P (same_Some i m same) (All-head P i is all)))
+    (last_has P p o is l (All-tail P i is all) before)
   where
-    at : (b : Bool) → p i ≡ b → (last_or (Some i) (filter p is) ≡ Some l → P l) → (last_or o (filter p is) ≡ Some l → P l) → P l
+    at : (b : Bool) → p i ≡ b → (last_or (Some i) (filter p is) ≡ Some l → P l)
+        → (last_or o (filter p is) ≡ Some l → P l) → P l
     at true does here past = here (rw does at last)
     at false fails here past = past (rw fails at last)
 
-void_or_not : (h : List Entry) (e : Entry) (x : Id) (b : Bool) (o : Option Issuance) → voids x e ≡ b → ((i : Issuance) → o ≡ Some i → i.arrival ≤ length h)
-    → option_map (issue_in_history (h ++ e ∷ []) x) o ≡ cond b (option_map as_voided (option_map (issue_in_history h x) o)) (option_map (issue_in_history h x) o)
+void_or_not : (h : List Entry) (e : Entry) (x : Id) (b : Bool) (o : Option Issuance) → voids x e ≡ b
+    → ((i : Issuance) → o ≡ Some i → i.arrival ≤ length h)
+    → option_map (issue_in_history (h ++ e ∷ []) x) o
+    ≡ cond b (option_map as_voided (option_map (issue_in_history h x) o))
+    (option_map (issue_in_history h x) o)
 void_or_not h e x true None does few = refl
-void_or_not h e x true (Some i) does few = ap (λ v. Some (as_issue i v)) (now_voided i.arrival h e x (few i refl) does)
+void_or_not h e x true (Some i) does few =
+    ap (λ v. Some (as_issue i v)) (now_voided i.arrival h e x (few i refl) does)
 void_or_not h e x false o none few = told_same h e x o none
 
 -- a Done Void voids the last issue of its identifier
-pub last_voided : (h : List Entry) (t : Terms) (e : Entry) (x id : Id) → IsLegal h t → e.request.body ≡ Void id → e.outcome ≡ Voided
-    → last_issue_of (h ++ e ∷ []) x ≡ cond (same_id id x) (option_map as_voided (last_issue_of h x)) (last_issue_of h x)
+pub last_voided : (h : List Entry) (t : Terms) (e : Entry) (x id : Id) → IsLegal h t
+    → e.request.body ≡ Void id → e.outcome ≡ Voided
+    → last_issue_of (h ++ e ∷ []) x ≡ cond (same_id id x) (option_map as_voided (last_issue_of h x))
+    (last_issue_of h x)
 last_voided h t e x id legal asks done =
-    let is : voids x e ≡ same_id id x = ap₂ (λ (b : Body) (o : Outcome). voids_by x b o) asks done in
+    let is : voids x e ≡ same_id id x = ap₂ (λ (b : Body) (o : Outcome). voids_by x b o) asks
+    done in
     last_told (h ++ e ∷ []) x
-    ∙ ap (λ (is : List Issuance). option_map (issue_in_history (h ++ e ∷ []) x) (last_issuance_of is x)) (same_issues h e (ap carried_by done))
+    ∙ ap (λ (is : List Issuance). option_map (issue_in_history (h ++ e ∷ []) x)
+    (last_issuance_of is x)) (same_issues h e (ap carried_by done))
     ∙ void_or_not h e x (same_id id x) (last_issuance_of (issues_of h) x) is
-    (λ i last. (last_has (IsOwned h) (is_of x) None (issues_of h) i (owned h t legal) (λ m none. absurd (none-some m none)) last).1)
-    ∙ ap (λ (o : Option Issue). cond (same_id id x) (option_map as_voided o) o) (sym (last_told h x))
+    (λ i last. (last_has (IsOwned h) (is_of x) None (issues_of h) i (owned h t legal)
+    (λ m none. absurd (none-some m none)) last).1)
+    ∙ ap (λ (o : Option Issue). cond (same_id id x) (option_map as_voided o) o)
+    (sym (last_told h x))

@@ -7,8 +7,11 @@ use Rattle.s10_index.specs.Keys.{same_key, id_key}
 use Rattle.s10_index.specs.Positions.{HasPositions}
 use Rattle.s10_index.specs.LastIssues.{HasIssues}
 
-pub places_still : {S : Type 0} (old new : HashMap (ℕ × ℕ) ℕ S) (h : List Entry) → IsReordered same_key old new → HasPositions old h → HasPositions new h
-places_still old new h moved has = λ customer number. moved.2 (customer, number) ∙ has customer number
+pub places_still : {S : Type 0} (old new : HashMap (ℕ × ℕ) ℕ S) (h : List Entry)
+    → IsReordered same_key old new → HasPositions old h → HasPositions new h
+places_still old new h moved has = λ customer number. moved.2 (customer, number)
+    ∙ has customer number
 
-pub issues_still : {S : Type 0} (old new : HashMap (ℕ × ℕ) Issue S) (h : List Entry) → IsReordered same_key old new → HasIssues old h → HasIssues new h
+pub issues_still : {S : Type 0} (old new : HashMap (ℕ × ℕ) Issue S) (h : List Entry)
+    → IsReordered same_key old new → HasIssues old h → HasIssues new h
 issues_still old new h moved has = λ x fit. moved.2 (id_key x) ∙ has x fit

@@ -1,5 +1,6 @@
 -- What one more call leaves of the calls before it.
-use Rattle.std.proofs.Common.{◌≡◌, ◌∙◌, ℕ, ◌≤◌, List, [], ◌∷◌, ◌++◌, map, length, refl, sym, subst, ap, ap₂, arith, append-nil}
+use Rattle.std.proofs.Common.{◌≡◌, ◌∙◌, ℕ, ◌≤◌, List, [], ◌∷◌, ◌++◌, map, length, refl, sym, subst}
+use Rattle.std.proofs.Common.{ap, ap₂, arith, append-nil}
 use Rattle.std.proofs.Math.ListN.{get_or-append}
 use Rattle.std.specs.Prelude.{All}
 use Rattle.std.proofs.lemmas.List.{map_push}
@@ -14,37 +15,55 @@ use Rattle.s10_index.specs.declared.compact_call.CompactCall.{CompactCall}
 use Rattle.s10_index.specs.CompactOutcomes.{outcome_of, entry_of, sheet_of, NamesSheetOf}
 
 -- an outcome whose sheet is there is the same over more sheets
-same_outcome : (sheets more : List (List Id)) (o : CompactOutcome) → NamesSheetOf (length sheets) o → outcome_of (sheets ++ more) o ≡ outcome_of sheets o
-same_outcome sheets more (DrawnMany day sheet) there = ap (outcomes.DrawnMany day) (get_or-append sheets more [] sheet there)
+same_outcome : (sheets more : List (List Id)) (o : CompactOutcome) → NamesSheetOf (length sheets) o
+    → outcome_of (sheets ++ more) o ≡ outcome_of sheets o
+same_outcome sheets more (DrawnMany day sheet) there =
+    ap (outcomes.DrawnMany day) (get_or-append sheets more [] sheet there)
 same_outcome sheets more o there = refl
 
 -- and so is each call
-same_calls : (sheets more : List (List Id)) (rows : List CompactCall) → All (λ row. NamesSheetOf (length sheets) row.outcome) rows → map (entry_of (sheets ++ more)) rows ≡ map (entry_of sheets) rows
+same_calls : (sheets more : List (List Id)) (rows : List CompactCall)
+    → All (λ row. NamesSheetOf (length sheets) row.outcome) rows
+    → map (entry_of (sheets ++ more)) rows ≡ map (entry_of sheets) rows
 same_calls sheets more [] there = refl
 same_calls sheets more (row ∷ rows) there =
     let Named : CompactCall → Type 0 = λ r. NamesSheetOf (length sheets) r.outcome in
-    let restored : Outcome → Entry = λ o. record { request = row.request; day = row.day; outcome = o } in
-    ap₂ (λ (e : Entry) (es : List Entry). e ∷ es) (ap restored (same_outcome sheets more row.outcome (All-head Named row rows there))) (same_calls sheets more rows (All-tail Named row rows there))
+    let restored : Outcome → Entry = λ o. record {
+      request = row.request;
+      day = row.day;
+      outcome = o;
+    } in
+    ap₂ (λ (e : Entry) (es : List Entry). e ∷ es)
+    (ap restored (same_outcome sheets more row.outcome (All-head Named row rows there)))
+    (same_calls sheets more rows (All-tail Named row rows there))
 
 -- one more call, restored in short over its own sheet too
-pub calls-push : (old more new : List (List Id)) (rows all : List CompactCall) (row : CompactCall) (e : Entry) → new ≡ old ++ more → all ≡ rows ++ row ∷ [] → All (λ r. NamesSheetOf (length old) r.outcome) rows
+pub calls-push : (old more new : List (List Id)) (rows all : List CompactCall) (row : CompactCall)
+    (e : Entry) → new ≡ old ++ more → all ≡ rows ++ row ∷ []
+    → All (λ r. NamesSheetOf (length old) r.outcome) rows
     → entry_of new row ≡ e → map (entry_of new) all ≡ map (entry_of old) rows ++ e ∷ []
 calls-push old more new rows all row e grown longer there is =
     ap (map (entry_of new)) longer
     ∙ map_push (entry_of new) rows row
-    ∙ ap₂ (λ (es : List Entry) (x : Entry). es ++ x ∷ []) (ap (λ (sheets : List (List Id)). map (entry_of sheets) rows) grown ∙ same_calls old more rows there) is
+    ∙ ap₂ (λ (es : List Entry) (x : Entry). es ++ x ∷ [])
+    (ap (λ (sheets : List (List Id)). map (entry_of sheets) rows) grown
+    ∙ same_calls old more rows there) is
 
 -- a sheet that is there is there among more
-still_named : (count more : ℕ) (o : CompactOutcome) → count ≤ more → NamesSheetOf count o → NamesSheetOf more o
+still_named : (count more : ℕ) (o : CompactOutcome) → count ≤ more → NamesSheetOf count o
+    → NamesSheetOf more o
 still_named count more (DrawnMany day sheet) le there = omega arith
 still_named count more o le there = tt
 
 -- the sheets of all calls are there, that of one more call too
-pub named-push : (count more : ℕ) (rows all : List CompactCall) (row : CompactCall) → count ≤ more → all ≡ rows ++ row ∷ [] → All (λ r. NamesSheetOf count r.outcome) rows
+pub named-push : (count more : ℕ) (rows all : List CompactCall) (row : CompactCall) → count ≤ more
+    → all ≡ rows ++ row ∷ [] → All (λ r. NamesSheetOf count r.outcome) rows
     → NamesSheetOf more row.outcome → All (λ r. NamesSheetOf more r.outcome) all
 named-push count more rows all row le longer there named =
     let Named : ℕ → CompactCall → Type 0 = λ n r. NamesSheetOf n r.outcome in
-    subst (All (Named more)) (sym longer) (All-push (Named more) rows row (All-weaker (Named count) (Named more) (λ r. still_named count more r.outcome le) rows there) named)
+    subst (All (Named more)) (sym longer)
+    (All-push (Named more) rows row (All-weaker (Named count) (Named more)
+    (λ r. still_named count more r.outcome le) rows there) named)
 
 -- a call has at most one sheet
 pub one_sheet : (o : Outcome) → length (sheet_of o) ≤ 1
@@ -52,5 +71,7 @@ one_sheet (outcomes.DrawnMany day ids) = omega arith
 one_sheet o = omega arith
 
 -- an outcome with no sheet leaves the sheets as they were
-pub no_sheet : (sheets : List (List Id)) (o known : Outcome) → o ≡ known → sheet_of known ≡ [] → sheets ≡ sheets ++ sheet_of o
-no_sheet sheets o known is none = sym (append-nil sheets) ∙ ap (λ (more : List (List Id)). sheets ++ more) (sym (ap sheet_of is ∙ none))
+pub no_sheet : (sheets : List (List Id)) (o known : Outcome) → o ≡ known → sheet_of known ≡ []
+    → sheets ≡ sheets ++ sheet_of o
+no_sheet sheets o known is none = sym (append-nil sheets)
+    ∙ ap (λ (more : List (List Id)). sheets ++ more) (sym (ap sheet_of is ∙ none))

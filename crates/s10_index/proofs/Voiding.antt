@@ -10,12 +10,20 @@ use Rattle.s10_history.specs.Issues.{issues_of, is_voided, last_issuance_of}
 use Rattle.s10_book.specs.Rules.{void_answer, void_issue}
 use Rattle.std.specs.List.{list_any}
 
-not_voided : (own : Bool) (last : Option Issue) → last ≡ None → ¬ (cond own (void_issue last) NotYours ≡ Voided)
+not_voided : (own : Bool) (last : Option Issue) → last ≡ None
+    → ¬ (cond own (void_issue last) NotYours ≡ Voided)
 not_voided true None none is = cc
 not_voided true (Some i) none is = cc
 not_voided false last none is = cc
 
 -- an identifier without an issue is not voided
-pub never_voided : (h : List Entry) (customer : ℕ) (x : Id) → last_issuance_of (issues_of h) x ≡ None → ¬ (void_answer h customer x ≡ Voided)
+pub never_voided : (h : List Entry) (customer : ℕ) (x : Id) → last_issuance_of (issues_of h) x
+    ≡ None → ¬ (void_answer h customer x ≡ Voided)
 never_voided h customer x none is =
-    not_voided (list_any (is_own customer x) (ranges_of h)) _ (ap (option_map (λ i. record { day = i.day; voided = is_voided h x; customer = i.customer; number = i.number })) none) is
+    not_voided (list_any (is_own customer x) (ranges_of h)) _
+    (ap (option_map (λ i. record {
+      day = i.day;
+      voided = is_voided h x;
+      customer = i.customer;
+      number = i.number;
+    })) none) is

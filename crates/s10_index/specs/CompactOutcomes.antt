@@ -5,7 +5,16 @@ use Rattle.s10_wire.specs.declared.outcome.Outcome.{Outcome}
 use Rattle.s10_wire.specs.declared.outcome.Outcome.TheVariants as outcomes
 use Rattle.s10_history.specs.declared.entry.Entry.{Entry}
 use Rattle.s10_index.specs.declared.compact_outcome.CompactOutcome.{CompactOutcome}
-use Rattle.s10_index.specs.declared.compact_outcome.CompactOutcome.TheVariants.{Granted, Drawn, DrawnMany, Voided, Told, Withdrawn, NotThePost, BadGrant, Overlap, NoRange, NoneFree, NotYours, NotIssued, AlreadyVoid, NoSuchRange, Closed, NumberReused}
+use Rattle.s10_index.specs.declared.compact_outcome.CompactOutcome.TheVariants.{Granted, Drawn}
+use Rattle.s10_index.specs.declared.compact_outcome.CompactOutcome.TheVariants.{DrawnMany, Voided}
+use Rattle.s10_index.specs.declared.compact_outcome.CompactOutcome.TheVariants.{Told, Withdrawn}
+use Rattle.s10_index.specs.declared.compact_outcome.CompactOutcome.TheVariants.{NotThePost}
+use Rattle.s10_index.specs.declared.compact_outcome.CompactOutcome.TheVariants.{BadGrant, Overlap}
+use Rattle.s10_index.specs.declared.compact_outcome.CompactOutcome.TheVariants.{NoRange, NoneFree}
+use Rattle.s10_index.specs.declared.compact_outcome.CompactOutcome.TheVariants.{NotYours, NotIssued}
+use Rattle.s10_index.specs.declared.compact_outcome.CompactOutcome.TheVariants.{AlreadyVoid}
+use Rattle.s10_index.specs.declared.compact_outcome.CompactOutcome.TheVariants.{NoSuchRange, Closed}
+use Rattle.s10_index.specs.declared.compact_outcome.CompactOutcome.TheVariants.{NumberReused}
 use Rattle.s10_index.specs.declared.compact_call.CompactCall.{CompactCall}
 
 -- the outcome, its sheet one of these
@@ -40,4 +49,8 @@ sheet_of outcome = []
 
 -- the call, its sheet one of these
 abbrev pub entry_of : List (List Id) → CompactCall → Entry
-entry_of sheets call = record { request = call.request; day = call.day; outcome = outcome_of sheets call.outcome }
+entry_of sheets call = record {
+  request = call.request;
+  day = call.day;
+  outcome = outcome_of sheets call.outcome;
+}

@@ -16,7 +16,12 @@ HasIssues issues h = (x : Id) → IsId x → get same_key issues (id_key x) ≡ 
 
 -- an issue as it is noted, voided or not
 abbrev pub as_issue : Issuance → Bool → Issue
-as_issue i voided = record { day = i.day; voided = voided; customer = i.customer; number = i.number }
+as_issue i voided = record {
+  day = i.day;
+  voided = voided;
+  customer = i.customer;
+  number = i.number;
+}
 
 -- what the history says about an issue of the identifier
 abbrev pub issue_in_history : List Entry → Id → Issuance → Issue
@@ -24,16 +29,21 @@ issue_in_history h x i = as_issue i (voided_after i.arrival h x)
 
 -- at the key of each identifier the map has what the history says about the last of these issues that is of it
 abbrev pub HasLast : {S : Type 0} → HashMap (ℕ × ℕ) Issue S → List Entry → List Issuance → Type 0
-HasLast issues h is = (x : Id) → IsId x → get same_key issues (id_key x) ≡ option_map (issue_in_history h x) (last_issuance_of is x)
+HasLast issues h is = (x : Id) → IsId x → get same_key issues (id_key x)
+    ≡ option_map (issue_in_history h x) (last_issuance_of is x)
 
 -- the map has the issue at that key, and the others as they were
-abbrev pub RecordsIssue : {S : Type 0} → ℕ × ℕ → Issue → HashMap (ℕ × ℕ) Issue S → HashMap (ℕ × ℕ) Issue S → Type 0
-RecordsIssue key issue old new = (q : ℕ × ℕ) → get same_key new q ≡ (if same_key key q then Some issue else get same_key old q)
+abbrev pub RecordsIssue : {S : Type 0} → ℕ × ℕ → Issue → HashMap (ℕ × ℕ) Issue S
+    → HashMap (ℕ × ℕ) Issue S → Type 0
+RecordsIssue key issue old new = (q : ℕ × ℕ) → get same_key new q
+    ≡ (if same_key key q then Some issue else get same_key old q)
 
 -- the issue, voided
 abbrev pub as_voided : Issue → Issue
 as_voided i = record { day = i.day; voided = true; customer = i.customer; number = i.number }
 
 -- the map has the issue at that key voided, if it has one, and the others as they were
-abbrev pub RecordsVoid : {S : Type 0} → ℕ × ℕ → HashMap (ℕ × ℕ) Issue S → HashMap (ℕ × ℕ) Issue S → Type 0
-RecordsVoid key old new = (q : ℕ × ℕ) → get same_key new q ≡ (if same_key key q then option_map as_voided (get same_key old q) else get same_key old q)
+abbrev pub RecordsVoid : {S : Type 0} → ℕ × ℕ → HashMap (ℕ × ℕ) Issue S → HashMap (ℕ × ℕ) Issue S
+    → Type 0
+RecordsVoid key old new = (q : ℕ × ℕ) → get same_key new q
+    ≡ (if same_key key q then option_map as_voided (get same_key old q) else get same_key old q)

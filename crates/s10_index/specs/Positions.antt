@@ -8,4 +8,5 @@ use Rattle.s10_index.specs.Keys.{same_key}
 
 -- at each key the map has the place of the call with that key, if there is one; the first call has place 0
 abbrev pub HasPositions : {S : Type 0} → HashMap (ℕ × ℕ) ℕ S → List Entry → Type 0
-HasPositions positions h = (customer number : ℕ) → get same_key positions (customer, number) ≡ position_from (has_key customer number) 0 h
+HasPositions positions h = (customer number : ℕ) → get same_key positions (customer, number)
+    ≡ position_from (has_key customer number) 0 h

@@ -10,7 +10,8 @@ use Rattle.s10_index.specs.declared.replayed_book.ReplayedBook.{ReplayedBook}
 use Rattle.s10_index.specs.declared.stored_rows.StoredRows.{StoredRows}
 
 -- the calls are right under the settings, and a book in memory keeps them
-pub record IsReplayedBook (heads : List HeadRow) (calls : List StoredCall) (made : ReplayedBook) : Type 0 where
+pub record IsReplayedBook (heads : List HeadRow) (calls : List StoredCall) (made : ReplayedBook) :
+    Type 0 where
   pub head : IsHead heads (pos 1) made.opened.settings
   pub right : AreRight made.opened.settings calls
   pub kept : made.book.index.entries.items ≡ kept_of calls

@@ -10,7 +10,8 @@ use Rattle.s10_rows.specs.Tables.{range_row, serial_row}
 
 -- the rows of the ranges from that place on; the first range has place 0
 abbrev pub range_rows_from : List Entry → ℕ → List RangeRow
-range_rows_from h place = map (λ r. range_row (pick_of (issues_of h) r) r) (drop place (ranges_of h))
+range_rows_from h place = map (λ r. range_row (pick_of (issues_of h) r) r)
+    (drop place (ranges_of h))
 
 -- the rows of the issues, of each identifier the last one alone
 abbrev pub last_rows : List Entry → List Issuance → List SerialRow

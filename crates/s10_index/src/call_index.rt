@@ -1,11 +1,13 @@
 //! Calls with an index.
 
-ghost use Rattle.std.specs.Prelude.{◌≡◌, ◌∷◌, ◌++◌, [], ◌<◌, OnOk, IfSome, IsTrue, All, Contains, List, length};
+ghost use Rattle.std.specs.Prelude.{◌≡◌, ◌∷◌, ◌++◌, [], ◌<◌, OnOk, IfSome, IsTrue, All, Contains};
+ghost use Rattle.std.specs.Prelude.{List, length};
 ghost use Rattle.s10_wire.specs.Kind.{fits};
 ghost use Rattle.s10_history.specs.declared.entry.Entry.{Entry};
 ghost use Rattle.s10_history.specs.Settings.{Terms};
 ghost use Rattle.s10_history.specs.History.{day_of, ranges_of, find_entry, entry_at};
-ghost use Rattle.s10_history.specs.Issues.{issues_of, last_issuance_of, last_issue_of, candidate_after_of, size_of, pick_of};
+ghost use Rattle.s10_history.specs.Issues.{issues_of, last_issuance_of, last_issue_of};
+ghost use Rattle.s10_history.specs.Issues.{candidate_after_of, size_of, pick_of};
 ghost use Rattle.s10_book.specs.Rules.{IsLegal, MayFollow};
 
 use crate::call_log::CallLog;
@@ -70,7 +72,8 @@ impl CallIndex {
 
     /// The call with that key, if there is one.
     pub fn find(&self, customer: u32, number: u32) -> Option<Entry>
-        ensures answer { (h : List Entry) → Indexes self.now h → result ≡ find_entry h customer number }
+        ensures answer { (h : List Entry) → Indexes self.now h
+            → result ≡ find_entry h customer number }
         ensures fits { IfSome result (λ e. IsTrue (fits e.request.body e.outcome)) }
     {
         find_in(&self.entries, &self.positions, customer, number)
@@ -95,7 +98,8 @@ impl CallIndex {
 
     /// The last issue of an identifier with the call that made it, if it was ever issued.
     pub fn last_issuance(&self, id: &Id) -> Option<Issuance>
-        ensures { (h : List Entry) (t : Terms) → IsLegal h t → length h < 4294967295 → Indexes self.now h → result ≡ last_issuance_of (issues_of h) id.now }
+        ensures { (h : List Entry) (t : Terms) → IsLegal h t → length h < 4294967295
+            → Indexes self.now h → result ≡ last_issuance_of (issues_of h) id.now }
     {
         let issue = self.last_issue(id)?;
         let place = position_of(&self.positions, issue.customer, issue.number)?;
@@ -111,7 +115,8 @@ impl CallIndex {
 
     // The serial that one of its ranges gives next.
     fn pick(&self, range: &Range) -> Serial
-        ensures { (h : List Entry) → Indexes self.now h → Contains (ranges_of h) range.now → result ≡ pick_of (issues_of h) range.now }
+        ensures { (h : List Entry) → Indexes self.now h → Contains (ranges_of h) range.now
+            → result ≡ pick_of (issues_of h) range.now }
     {
         match self.ranges.mark(range.num) {
             None => range.first,
@@ -122,7 +127,9 @@ impl CallIndex {
     /// The pick of one of its ranges after n issues of its own successive picks, fewer than it has serials, with
     /// its last issue.
     pub fn candidate_after(&self, range: &Range, issued: u8) -> Candidate
-        ensures { (h : List Entry) (t : Terms) → IsLegal h t → Indexes self.now h → Contains (ranges_of h) range.now → issued < size_of range.now → result ≡ candidate_after_of h range.now issued }
+        ensures { (h : List Entry) (t : Terms) → IsLegal h t → Indexes self.now h
+            → Contains (ranges_of h) range.now → issued < size_of range.now
+            → result ≡ candidate_after_of h range.now issued }
     {
         let serial = range.serial_after(self.pick(range), issued);
         let id = Id {
@@ -152,7 +159,8 @@ impl CallIndex {
         requires few { length self.old.entries.items < 4294967295 }
         requires fits { IsTrue (fits entry.request.body entry.outcome) }
         ensures calls { self.new.entries.items ≡ self.old.entries.items ++ entry ∷ [] }
-        ensures followed { (h : List Entry) (t : Terms) → IsLegal h t → MayFollow h t entry → Indexes self.old h → Indexes self.new (h ++ entry ∷ []) }
+        ensures followed { (h : List Entry) (t : Terms) → IsLegal h t → MayFollow h t entry
+            → Indexes self.old h → Indexes self.new (h ++ entry ∷ []) }
     {
         let place = self.calls().len() as u32;
         self.ranges.follow(&entry);

@@ -1,6 +1,7 @@
 //! Calls in the process.
 
-ghost use Rattle.std.specs.Prelude.{◌≡◌, ◌∷◌, ◌++◌, ◌-◌, [], ◌<◌, OnOk, Some, length, slice_get, vec_len, vec_capacity};
+ghost use Rattle.std.specs.Prelude.{◌≡◌, ◌∷◌, ◌++◌, ◌-◌, [], ◌<◌, OnOk, Some, length, slice_get};
+ghost use Rattle.std.specs.Prelude.{vec_len, vec_capacity};
 
 use crate::compact_call::CompactCall;
 use s10_history::Entry;
@@ -24,10 +25,12 @@ impl Model for CallLog {
 
     ghost view = { λ calls. record {
       items = map (entry_of calls.sheets.items) calls.rows.items;
-      room = min (vec_capacity calls.rows - vec_len calls.rows) (vec_capacity calls.sheets - vec_len calls.sheets);
+      room = min (vec_capacity calls.rows - vec_len calls.rows) (vec_capacity calls.sheets - vec_len
+          calls.sheets);
     } };
 
-    ghost invariant = { λ calls. All (λ row. NamesSheetOf (length calls.sheets.items) row.outcome) calls.rows.items
+    ghost invariant = { λ calls. All (λ row. NamesSheetOf (length calls.sheets.items) row.outcome)
+        calls.rows.items
         × (length calls.sheets.items ≤ length calls.rows.items) };
 }
 

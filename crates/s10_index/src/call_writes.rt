@@ -1,6 +1,7 @@
 //! The rows that a call makes after those before it.
 
-ghost use Rattle.std.specs.Prelude.{◌≡◌, ◌≢◌, ℕ, ◌+◌, ◌<◌, ◌++◌, ◌∷◌, [], List, length, All, Err, IfErr, IfOk, IsTrue};
+ghost use Rattle.std.specs.Prelude.{◌≡◌, ◌≢◌, ℕ, ◌+◌, ◌<◌, ◌++◌, ◌∷◌, [], List, length, All, Err};
+ghost use Rattle.std.specs.Prelude.{IfErr, IfOk, IsTrue};
 ghost use Rattle.s10_wire.specs.Kind.{fits};
 ghost use Rattle.s10_wire.specs.declared.outcome.Outcome.TheVariants.{Granted, Voided};
 ghost use Rattle.s10_history.specs.declared.entry.Entry.{Entry};
@@ -26,8 +27,10 @@ use std::alloc::Global;
 // What a Done Grant makes.
 fn grant_writes(alloc: Global, entry: &Entry) -> Result<RowWrites, BookFault>
     ensures fault { result ≢ Err Full }
-    ensures done { (h : List Entry) (t : Terms) (n : ℕ) → MayFollow h t entry.now → entry.now.outcome ≡ Granted n → IfErr result (λ f. f ≡ BookFault.Memory) }
-    ensures answer { (h : List Entry) (t : Terms) (n : ℕ) → IsLegal h t → MayFollow h t entry.now → entry.now.outcome ≡ Granted n
+    ensures done { (h : List Entry) (t : Terms) (n : ℕ) → MayFollow h t entry.now
+        → entry.now.outcome ≡ Granted n → IfErr result (λ f. f ≡ BookFault.Memory) }
+    ensures answer { (h : List Entry) (t : Terms) (n : ℕ) → IsLegal h t → MayFollow h t entry.now
+        → entry.now.outcome ≡ Granted n
         → IfOk result (λ made. MakesWrites h entry.now made.ranges.items made.serials.items) }
 {
     let Some(write) = grant_write(entry) else {
@@ -41,9 +44,13 @@ fn grant_writes(alloc: Global, entry: &Entry) -> Result<RowWrites, BookFault>
 // What a Done Void makes, by the last issue of its identifier.
 fn void_writes(alloc: Global, index: &CallIndex, entry: &Entry) -> Result<RowWrites, BookFault>
     ensures fault { result ≢ Err Full }
-    ensures done { (h : List Entry) (t : Terms) → IsLegal h t → MayFollow h t entry.now → length h < 4294967295 → Indexes index.now h → entry.now.outcome ≡ Voided → IfErr result (λ f. f ≡ BookFault.Memory) }
-    ensures answer { (h : List Entry) (t : Terms) → IsLegal h t → MayFollow h t entry.now → All IsCall h → IsCall entry.now → length h < 4294967295 → Indexes index.now h
-        → entry.now.outcome ≡ Voided → IfOk result (λ made. MakesWrites h entry.now made.ranges.items made.serials.items) }
+    ensures done { (h : List Entry) (t : Terms) → IsLegal h t → MayFollow h t entry.now
+        → length h < 4294967295 → Indexes index.now h → entry.now.outcome ≡ Voided
+        → IfErr result (λ f. f ≡ BookFault.Memory) }
+    ensures answer { (h : List Entry) (t : Terms) → IsLegal h t → MayFollow h t entry.now
+        → All IsCall h → IsCall entry.now → length h < 4294967295 → Indexes index.now h
+        → entry.now.outcome ≡ Voided
+        → IfOk result (λ made. MakesWrites h entry.now made.ranges.items made.serials.items) }
 {
     let body = entry.request.body;
     let Body::Void { id } = body else {
@@ -65,9 +72,12 @@ fn call_row_writes(
     entry: &Entry,
 ) -> Result<RowWrites, BookFault>
     ensures fault { result ≢ Err Full }
-    ensures done { (h : List Entry) (t : Terms) → IsLegal h t → MayFollow h t entry.now → length h < 4294967295 → Indexes index.now h → IfErr result (λ f. f ≡ BookFault.Memory) }
-    ensures answer { (h : List Entry) (t : Terms) → IsLegal h t → MayFollow h t entry.now → All IsCall h → IsCall entry.now → Indexes index.now h
-        → arrival ≡ length h + 1 → IfOk result (λ made. MakesWrites h entry.now made.ranges.items made.serials.items) }
+    ensures done { (h : List Entry) (t : Terms) → IsLegal h t → MayFollow h t entry.now
+        → length h < 4294967295 → Indexes index.now h → IfErr result (λ f. f ≡ BookFault.Memory) }
+    ensures answer { (h : List Entry) (t : Terms) → IsLegal h t → MayFollow h t entry.now
+        → All IsCall h → IsCall entry.now → Indexes index.now h
+        → arrival ≡ length h + 1
+        → IfOk result (λ made. MakesWrites h entry.now made.ranges.items made.serials.items) }
 {
     match entry.outcome {
         Outcome::Granted { .. } => grant_writes(alloc, entry),
@@ -84,11 +94,15 @@ pub fn call_write(
     entry: &Entry,
 ) -> Result<CallWrite, BookFault>
     ensures fault { result ≢ Err Full }
-    ensures done { (h : List Entry) (t : Terms) → IsLegal h t → MayFollow h t entry.now → length h < 4294967295 → Indexes index.now h → IfErr result (λ f. f ≡ BookFault.Memory) }
+    ensures done { (h : List Entry) (t : Terms) → IsLegal h t → MayFollow h t entry.now
+        → length h < 4294967295 → Indexes index.now h → IfErr result (λ f. f ≡ BookFault.Memory) }
     ensures same { IfOk result (λ write. write.entry ≡ entry.now) }
     ensures fits { IfOk result (λ write. IsTrue (fits entry.now.request.body entry.now.outcome)) }
-    ensures answer { (h : List Entry) (t : Terms) → IsLegal h t → MayFollow h t entry.now → All IsCall h → Indexes index.now h
-        → arrival ≡ length h + 1 → IfOk result (λ write. IsCall entry.now × Writes write (tables_of h t) (tables_of (h ++ entry.now ∷ []) t)) }
+    ensures answer { (h : List Entry) (t : Terms) → IsLegal h t → MayFollow h t entry.now
+        → All IsCall h → Indexes index.now h
+        → arrival ≡ length h + 1
+        → IfOk result (λ write. IsCall entry.now × Writes write (tables_of h t)
+        (tables_of (h ++ entry.now ∷ []) t)) }
 {
     let _day = entry.day;
     let Some(reply) = Reply::new(entry.request, entry.outcome) else {

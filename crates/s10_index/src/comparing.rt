@@ -21,7 +21,8 @@ use std::alloc::Global;
 // Whether these are the ranges of the book.
 fn ranges_match(alloc: Global, book: &IndexedBook, rows: Vec<RangeRow>) -> Result<bool, OpenFault>
     ensures err { (tables : Tables) → IfErr result (IsRefusal tables) }
-    ensures answer { IfOk result (λ b. IsTrue b ↔ HaveSameRows (range_rows book.now.index.entries.items) rows.items) }
+    ensures answer { IfOk result (λ b. IsTrue b
+        ↔ HaveSameRows (range_rows book.now.index.entries.items) rows.items) }
 {
     let Ok(made) = book.range_rows(alloc) else {
         return Err(OpenFault::Memory);
@@ -32,7 +33,9 @@ fn ranges_match(alloc: Global, book: &IndexedBook, rows: Vec<RangeRow>) -> Resul
 // Whether these are the serials of the book.
 fn serials_match(alloc: Global, book: &IndexedBook, rows: Vec<SerialRow>) -> Result<bool, OpenFault>
     ensures err { (tables : Tables) → IfErr result (IsRefusal tables) }
-    ensures answer { All IsCall book.now.index.entries.items → IfOk result (λ b. IsTrue b ↔ HaveSameRows (serial_rows book.now.index.entries.items) rows.items) }
+    ensures answer { All IsCall book.now.index.entries.items
+        → IfOk result (λ b. IsTrue b ↔ HaveSameRows (serial_rows book.now.index.entries.items)
+        rows.items) }
 {
     let Ok(made) = book.serial_rows(alloc) else {
         return Err(OpenFault::Memory);
@@ -43,7 +46,8 @@ fn serials_match(alloc: Global, book: &IndexedBook, rows: Vec<SerialRow>) -> Res
 // Whether these are the closed ranges of the book.
 fn closed_match(alloc: Global, book: &IndexedBook, rows: Vec<ClosedRow>) -> Result<bool, OpenFault>
     ensures err { (tables : Tables) → IfErr result (IsRefusal tables) }
-    ensures answer { IfOk result (λ b. IsTrue b ↔ HaveSameRows (closed_rows book.now.index.entries.items) rows.items) }
+    ensures answer { IfOk result (λ b. IsTrue b
+        ↔ HaveSameRows (closed_rows book.now.index.entries.items) rows.items) }
 {
     let Ok(made) = book.closed_rows(alloc) else {
         return Err(OpenFault::Memory);
@@ -53,8 +57,12 @@ fn closed_match(alloc: Global, book: &IndexedBook, rows: Vec<ClosedRow>) -> Resu
 
 // Compares the rows with those that the calls of the book make. Refused with Damaged(0) where they differ, and with Memory.
 fn compare_rows(alloc: Global, book: &IndexedBook, rows: StoredRows) -> Result<(), OpenFault>
-    ensures ok { (tables : Tables) (t : Terms) → AreDerivedRows tables rows → AreRight t tables.calls → book.now.index.entries.items ≡ kept_of tables.calls → OnOk result (AreDerived tables) }
-    ensures err { (tables : Tables) (t : Terms) → AreDerivedRows tables rows → IsHead tables.heads (pos 1) t → AreRight t tables.calls → book.now.index.entries.items ≡ kept_of tables.calls
+    ensures ok { (tables : Tables) (t : Terms) → AreDerivedRows tables rows
+        → AreRight t tables.calls → book.now.index.entries.items ≡ kept_of tables.calls
+        → OnOk result (AreDerived tables) }
+    ensures err { (tables : Tables) (t : Terms) → AreDerivedRows tables rows
+        → IsHead tables.heads (pos 1) t → AreRight t tables.calls → book.now.index.entries.items
+        ≡ kept_of tables.calls
         → IfErr result (IsRefusal tables) }
 {
     let ranges = ranges_match(alloc, book, rows.ranges)?;
@@ -75,9 +83,13 @@ pub fn check_tables(
     rows: StoredRows,
 ) -> Result<(LedgerSummary, CallIndex), OpenFault>
     ensures few { IfOk result (λ found. length found.1.entries.items ≤ MAX_LIMIT) }
-    ensures indexed { (tables : Tables) → IsReplayedBook tables.heads tables.calls made → IfOk result (λ found. Indexes found.1 (kept_of tables.calls)) }
-    ensures ok { (tables : Tables) → AreDerivedRows tables rows → IsReplayedBook tables.heads tables.calls made → IfOk result (λ found. IsConsistent tables found.0) }
-    ensures err { (tables : Tables) → AreDerivedRows tables rows → IsReplayedBook tables.heads tables.calls made → IfErr result (IsRefusal tables) }
+    ensures indexed { (tables : Tables) → IsReplayedBook tables.heads tables.calls made
+        → IfOk result (λ found. Indexes found.1 (kept_of tables.calls)) }
+    ensures ok { (tables : Tables) → AreDerivedRows tables rows
+        → IsReplayedBook tables.heads tables.calls made
+        → IfOk result (λ found. IsConsistent tables found.0) }
+    ensures err { (tables : Tables) → AreDerivedRows tables rows
+        → IsReplayedBook tables.heads tables.calls made → IfErr result (IsRefusal tables) }
 {
     let ReplayedBook { book, opened } = made;
     compare_rows(alloc, &book, rows)?;

@@ -1,9 +1,14 @@
 //! The book in memory over an index.
 
-ghost use Rattle.std.specs.Prelude.{◌≡◌, ◌∷◌, ◌++◌, [], ⊤, OnOk, OnErr, IfOk, IfErr, IfSome, IsTrue, Contains, find, ◌==◌, ◌<◌, ◌≤◌, length, count_by};
+ghost use Rattle.std.specs.Prelude.{◌≡◌, ◌∷◌, ◌++◌, [], ⊤, OnOk, OnErr, IfOk, IfErr, IfSome};
+ghost use Rattle.std.specs.Prelude.{IsTrue, Contains, find, ◌==◌, ◌<◌, ◌≤◌, length, count_by};
 ghost use Rattle.s10_wire.specs.Kind.{fits};
-ghost use Rattle.s10_history.specs.History.{ranges_of, find_entry, entry_at, is_closed, is_open_after, overlaps};
-ghost use Rattle.s10_history.specs.Issues.{issues_of, last_issue_of, candidate_of, candidate_after_of, size_of, pick_of, is_issued, is_voided as is_voided_in, is_free as is_free_on, id_at, serials};
+ghost use Rattle.s10_history.specs.History.{ranges_of, find_entry, entry_at, is_closed};
+ghost use Rattle.s10_history.specs.History.{is_open_after, overlaps};
+ghost use Rattle.s10_history.specs.Issues.{issues_of, last_issue_of, candidate_of};
+ghost use Rattle.s10_history.specs.Issues.{candidate_after_of, size_of, pick_of, is_issued};
+ghost use Rattle.s10_history.specs.Issues.{is_voided as is_voided_in, is_free as is_free_on, id_at};
+ghost use Rattle.s10_history.specs.Issues.{serials};
 ghost use Rattle.s10_history.specs.Usage.{usage_of};
 ghost use Rattle.s10_history.specs.declared.settings.TheConstants.{MAX_LIMIT};
 ghost use Rattle.s10_book.specs.Rules.{IsLegal, MayFollow};
@@ -59,7 +64,8 @@ impl IndexedBook {
         requires { MayFollow self.old.index.entries.items self.old.settings entry }
         ensures terms { self.new.settings ≡ self.old.settings }
         ensures faults { self.new.faults ≡ self.old.faults }
-        ensures ok { OnOk result (self.new.index.entries.items ≡ self.old.index.entries.items ++ entry ∷ []) }
+        ensures ok { OnOk result (self.new.index.entries.items ≡ self.old.index.entries.items
+            ++ entry ∷ []) }
         ensures err { OnErr result (self.new.index.entries.items ≡ self.old.index.entries.items) }
     {
         let _len = self.len();
@@ -70,9 +76,15 @@ impl IndexedBook {
 
     // How many serials of the range were issued, are voided, and are free on the day.
     fn usage_on(&self, range: &Range, day: u32) -> Usage
-        ensures used { result.used ≡ count_by (λ serial. is_issued (issues_of self.now.index.entries.items) (id_at range.now serial)) (serials range.now) }
-        ensures voided { result.voided ≡ count_by (λ serial. is_voided_in self.now.index.entries.items (id_at range.now serial)) (serials range.now) }
-        ensures free { result.free ≡ count_by (λ serial. is_free_on (issues_of self.now.index.entries.items) (id_at range.now serial) day self.now.settings.interval) (serials range.now) }
+        ensures used { result.used
+            ≡ count_by (λ serial. is_issued (issues_of self.now.index.entries.items)
+            (id_at range.now serial)) (serials range.now) }
+        ensures voided { result.voided
+            ≡ count_by (λ serial. is_voided_in self.now.index.entries.items
+            (id_at range.now serial)) (serials range.now) }
+        ensures free { result.free
+            ≡ count_by (λ serial. is_free_on (issues_of self.now.index.entries.items)
+            (id_at range.now serial) day self.now.settings.interval) (serials range.now) }
     {
         let interval = self.settings.interval();
         let mut usage = Usage {
@@ -117,8 +129,10 @@ impl Book for IndexedBook {
 
     fn find(&mut self, customer: u32, number: u32) -> Result<Option<Entry>, BookFault>
         ensures same { self.new ≡ self.old }
-        ensures answer { result ≡ Ok (find_entry (⟦<IndexedBook as Book>⟧.history self.old) customer number) }
-        ensures fits { IfOk result (λ found. IfSome found (λ e. IsTrue (fits e.request.body e.outcome))) }
+        ensures answer { result ≡ Ok (find_entry (⟦<IndexedBook as Book>⟧.history self.old) customer
+            number) }
+        ensures fits { IfOk result
+            (λ found. IfSome found (λ e. IsTrue (fits e.request.body e.outcome))) }
     {
         Ok(self.index.find(customer, number))
     }
@@ -132,7 +146,8 @@ impl Book for IndexedBook {
 
     fn range(&mut self, num: u32) -> Result<Option<Range>, BookFault>
         ensures same { self.new ≡ self.old }
-        ensures answer { result ≡ Ok (find (λ r. r.num == num) (ranges_of (⟦<IndexedBook as Book>⟧.history self.old))) }
+        ensures answer { result
+            ≡ Ok (find (λ r. r.num == num) (ranges_of (⟦<IndexedBook as Book>⟧.history self.old))) }
     {
         Ok(self.index.ranges().range_by_number(num))
     }
@@ -146,7 +161,10 @@ impl Book for IndexedBook {
 
     fn next_range(&mut self, held: &HolderKey, after: u32) -> Result<Option<Range>, BookFault>
         ensures same { self.new ≡ self.old }
-        ensures answer { result ≡ Ok (find (is_open_after (⟦<IndexedBook as Book>⟧.history self.old) after held.now.holder held.now.service held.now.country) (ranges_of (⟦<IndexedBook as Book>⟧.history self.old))) }
+        ensures answer { result
+            ≡ Ok (find (is_open_after (⟦<IndexedBook as Book>⟧.history self.old) after
+            held.now.holder held.now.service held.now.country)
+            (ranges_of (⟦<IndexedBook as Book>⟧.history self.old))) }
         ensures above { IfOk result (λ found. IfSome found (λ r. after < r.num)) }
     {
         let next = self
@@ -158,7 +176,9 @@ impl Book for IndexedBook {
 
     fn covering(&mut self, block: &SerialSpan) -> Result<Option<Range>, BookFault>
         ensures same { self.new ≡ self.old }
-        ensures answer { result ≡ Ok (find (overlaps block.now.service block.now.country block.now.first block.now.last) (ranges_of (⟦<IndexedBook as Book>⟧.history self.old))) }
+        ensures answer { result
+            ≡ Ok (find (overlaps block.now.service block.now.country block.now.first block.now.last)
+            (ranges_of (⟦<IndexedBook as Book>⟧.history self.old))) }
     {
         let found = self
             .index
@@ -169,7 +189,8 @@ impl Book for IndexedBook {
 
     fn last_issue(&mut self, id: &Id) -> Result<Option<Issue>, BookFault>
         ensures same { self.new ≡ self.old }
-        ensures answer { result ≡ Ok (last_issue_of (⟦<IndexedBook as Book>⟧.history self.old) id.now) }
+        ensures answer { result ≡ Ok (last_issue_of (⟦<IndexedBook as Book>⟧.history self.old)
+            id.now) }
     {
         Ok(self.index.last_issue(id))
     }
@@ -177,7 +198,8 @@ impl Book for IndexedBook {
     fn candidate(&mut self, range: &Range) -> Result<Candidate, BookFault>
         requires { Contains (ranges_of (⟦<IndexedBook as Book>⟧.history self.old)) range.now }
         ensures same { self.new ≡ self.old }
-        ensures answer { result ≡ Ok (candidate_of (⟦<IndexedBook as Book>⟧.history self.old) range.now) }
+        ensures answer { result ≡ Ok (candidate_of (⟦<IndexedBook as Book>⟧.history self.old)
+            range.now) }
     {
         Ok(self.index.candidate_after(range, 0))
     }
@@ -186,7 +208,8 @@ impl Book for IndexedBook {
         requires there { Contains (ranges_of (⟦<IndexedBook as Book>⟧.history self.old)) range.now }
         requires fewer { issued < size_of range.now }
         ensures same { self.new ≡ self.old }
-        ensures answer { result ≡ Ok (candidate_after_of (⟦<IndexedBook as Book>⟧.history self.old) range.now issued) }
+        ensures answer { result ≡ Ok (candidate_after_of (⟦<IndexedBook as Book>⟧.history self.old)
+            range.now issued) }
     {
         Ok(self.index.candidate_after(range, issued))
     }
@@ -194,19 +217,25 @@ impl Book for IndexedBook {
     fn usage(&mut self, range: &Range, day: u32) -> Result<Usage, BookFault>
         requires { Contains (ranges_of (⟦<IndexedBook as Book>⟧.history self.old)) range.now }
         ensures same { self.new ≡ self.old }
-        ensures answer { result ≡ Ok (usage_of (⟦<IndexedBook as Book>⟧.history self.old) range.now day (⟦<IndexedBook as Book>⟧.terms self.old).interval) }
+        ensures answer { result ≡ Ok (usage_of (⟦<IndexedBook as Book>⟧.history self.old) range.now
+            day (⟦<IndexedBook as Book>⟧.terms self.old).interval) }
     {
         let day = self.day().max(day);
         Ok(self.usage_on(range, day))
     }
 
     fn keep(&mut self, entry: Entry) -> Result<(), BookFault>
-        requires { MayFollow (⟦<IndexedBook as Book>⟧.history self.old) (⟦<IndexedBook as Book>⟧.terms self.old) entry }
-        ensures faults { CountsResult result (⟦<IndexedBook as Book>⟧.faults self.old) (⟦<IndexedBook as Book>⟧.faults self.new) }
+        requires { MayFollow (⟦<IndexedBook as Book>⟧.history self.old)
+            (⟦<IndexedBook as Book>⟧.terms self.old) entry }
+        ensures faults { CountsResult result (⟦<IndexedBook as Book>⟧.faults self.old)
+            (⟦<IndexedBook as Book>⟧.faults self.new) }
         ensures memory { IfErr result (λ fault. fault ≡ BookFault.Memory) }
-        ensures same_terms { ⟦<IndexedBook as Book>⟧.terms self.new ≡ ⟦<IndexedBook as Book>⟧.terms self.old }
-        ensures ok { OnOk result (⟦<IndexedBook as Book>⟧.history self.new ≡ ⟦<IndexedBook as Book>⟧.history self.old ++ entry ∷ []) }
-        ensures err { OnErr result (⟦<IndexedBook as Book>⟧.history self.new ≡ ⟦<IndexedBook as Book>⟧.history self.old) }
+        ensures same_terms { ⟦<IndexedBook as Book>⟧.terms self.new ≡ ⟦<IndexedBook as Book>⟧.terms
+            self.old }
+        ensures ok { OnOk result (⟦<IndexedBook as Book>⟧.history self.new
+            ≡ ⟦<IndexedBook as Book>⟧.history self.old ++ entry ∷ []) }
+        ensures err { OnErr result (⟦<IndexedBook as Book>⟧.history self.new
+            ≡ ⟦<IndexedBook as Book>⟧.history self.old) }
     {
         match self.add(entry) {
             Ok(()) => Ok(()),

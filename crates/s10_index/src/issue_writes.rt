@@ -1,6 +1,7 @@
 //! The rows that the issues of a call make.
 
-ghost use Rattle.std.specs.Prelude.{◌≡◌, ◌≢◌, ℕ, ◌+◌, ◌<◌, ◌++◌, ◌∷◌, [], false, List, length, take, slice_get, All, Err, Some, IfOk, IfErr, IsOk, OnOk};
+ghost use Rattle.std.specs.Prelude.{◌≡◌, ◌≢◌, ℕ, ◌+◌, ◌<◌, ◌++◌, ◌∷◌, [], false, List, length};
+ghost use Rattle.std.specs.Prelude.{take, slice_get, All, Err, Some, IfOk, IfErr, IsOk, OnOk};
 ghost use Rattle.s10_wire.specs.declared.outcome.Outcome.TheVariants.{Granted, Voided};
 ghost use Rattle.s10_history.specs.declared.entry.Entry.{Entry};
 ghost use Rattle.s10_book.specs.declared.book_fault.BookFault.TheVariants.{Full};
@@ -39,7 +40,9 @@ fn is_issued_before(entry: &Entry, arrival: u32, place: usize, id: &Id) -> bool
 // Whether what the call issues of the range at a place was issued before: by an earlier call where the range is in a later
 // turn, and maybe by this one where it began such a turn before that place.
 fn prior_issue_in(lap: Lap, range: &Range, entry: &Entry, arrival: u32, place: usize) -> PriorIssue
-    ensures { result ≡ PriorIssue.Never → (lap ≡ Lap.First) × (is_issued (take place (issues_at arrival entry.now)) (id_at range.now range.now.last) ≡ false) }
+    ensures { result ≡ PriorIssue.Never → (lap ≡ Lap.First)
+        × (is_issued (take place (issues_at arrival entry.now)) (id_at range.now range.now.last)
+        ≡ false) }
 {
     let last = Id {
         service: range.service,
@@ -61,10 +64,16 @@ fn issue_writes_at(
     issuance: &Issuance,
 ) -> Result<(RangeWrite, SerialWrite), BookFault>
     ensures store { IfErr result (λ f. f ≡ BookFault.Store) }
-    ensures done { (h : List Entry) (t : Terms) → IsLegal h t → MayFollow h t entry.now → Mirrors ranges.now h → slice_get (issues_at arrival entry.now) place ≡ Some issuance.now → IsOk result }
-    ensures answer { (h : List Entry) (t : Terms) (made_ranges : List RangeWrite) (made_serials : List SerialWrite) → IsLegal h t → MayFollow h t entry.now → All IsCall h → IsCall entry.now → Mirrors ranges.now h
-        → arrival ≡ length h + 1 → slice_get (issues_at arrival entry.now) place ≡ Some issuance.now → IssueWritesMake h entry.now place made_ranges made_serials
-        → IfOk result (λ rows. IssueWritesMake h entry.now (place + 1) (made_ranges ++ rows.0 ∷ []) (made_serials ++ rows.1 ∷ [])) }
+    ensures done { (h : List Entry) (t : Terms) → IsLegal h t → MayFollow h t entry.now
+        → Mirrors ranges.now h → slice_get (issues_at arrival entry.now) place ≡ Some issuance.now
+        → IsOk result }
+    ensures answer { (h : List Entry) (t : Terms) (made_ranges : List RangeWrite)
+        (made_serials : List SerialWrite) → IsLegal h t → MayFollow h t entry.now → All IsCall h
+        → IsCall entry.now → Mirrors ranges.now h
+        → arrival ≡ length h + 1 → slice_get (issues_at arrival entry.now) place ≡ Some issuance.now
+        → IssueWritesMake h entry.now place made_ranges made_serials
+        → IfOk result (λ rows. IssueWritesMake h entry.now (place + 1) (made_ranges ++ rows.0 ∷ [])
+        (made_serials ++ rows.1 ∷ [])) }
 {
     let id = issuance.id;
     let found = ranges.covering_range(id.service, id.country, id.serial, id.serial);
@@ -88,9 +97,14 @@ fn add_issue_writes(
     place: usize,
 ) -> Result<(), BookFault>
     ensures fault { result ≢ Err Full }
-    ensures done { (h : List Entry) (t : Terms) → IsLegal h t → MayFollow h t entry.now → Mirrors ranges.now h → place < length (carried_by entry.now.outcome) → IfErr result (λ f. f ≡ BookFault.Memory) }
-    ensures answer { (h : List Entry) (t : Terms) → IsLegal h t → MayFollow h t entry.now → All IsCall h → IsCall entry.now → Mirrors ranges.now h → arrival ≡ length h + 1
-        → IssueWritesMake h entry.now place made.old.ranges.items made.old.serials.items → OnOk result (IssueWritesMake h entry.now (place + 1) made.new.ranges.items made.new.serials.items) }
+    ensures done { (h : List Entry) (t : Terms) → IsLegal h t → MayFollow h t entry.now
+        → Mirrors ranges.now h → place < length (carried_by entry.now.outcome)
+        → IfErr result (λ f. f ≡ BookFault.Memory) }
+    ensures answer { (h : List Entry) (t : Terms) → IsLegal h t → MayFollow h t entry.now
+        → All IsCall h → IsCall entry.now → Mirrors ranges.now h → arrival ≡ length h + 1
+        → IssueWritesMake h entry.now place made.old.ranges.items made.old.serials.items
+        → OnOk result (IssueWritesMake h entry.now (place + 1) made.new.ranges.items
+        made.new.serials.items) }
 {
     let Some(issuance) = entry.issue(arrival, place) else {
         return Err(BookFault::Store);
@@ -109,9 +123,12 @@ pub(crate) fn issue_writes_of(
     entry: &Entry,
 ) -> Result<RowWrites, BookFault>
     ensures fault { result ≢ Err Full }
-    ensures done { (h : List Entry) (t : Terms) → IsLegal h t → MayFollow h t entry.now → Mirrors ranges.now h → IfErr result (λ f. f ≡ BookFault.Memory) }
-    ensures answer { (h : List Entry) (t : Terms) → IsLegal h t → MayFollow h t entry.now → All IsCall h → IsCall entry.now → Mirrors ranges.now h → arrival ≡ length h + 1
-        → ((num : ℕ) → ¬ (entry.now.outcome ≡ Granted num)) → ¬ (entry.now.outcome ≡ Voided) → IfOk result (λ made. MakesWrites h entry.now made.ranges.items made.serials.items) }
+    ensures done { (h : List Entry) (t : Terms) → IsLegal h t → MayFollow h t entry.now
+        → Mirrors ranges.now h → IfErr result (λ f. f ≡ BookFault.Memory) }
+    ensures answer { (h : List Entry) (t : Terms) → IsLegal h t → MayFollow h t entry.now
+        → All IsCall h → IsCall entry.now → Mirrors ranges.now h → arrival ≡ length h + 1
+        → ((num : ℕ) → ¬ (entry.now.outcome ≡ Granted num)) → ¬ (entry.now.outcome ≡ Voided)
+        → IfOk result (λ made. MakesWrites h entry.now made.ranges.items made.serials.items) }
 {
     let mut made = RowWrites::new(alloc);
     for place in 0..entry.issued() {

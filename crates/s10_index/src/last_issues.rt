@@ -8,7 +8,8 @@ ghost use Rattle.s10_history.specs.Settings.{Terms};
 ghost use Rattle.s10_history.specs.Issues.{issues_of, carried_by};
 ghost use Rattle.s10_book.specs.Rules.{IsLegal};
 ghost use Rattle.s10_index.specs.Keys.{same_key, id_key};
-ghost use Rattle.s10_index.specs.LastIssues.{HasIssues, HasLast, RecordsIssue, RecordsVoid, as_issue};
+ghost use Rattle.s10_index.specs.LastIssues.{HasIssues, HasLast, RecordsIssue, RecordsVoid};
+ghost use Rattle.s10_index.specs.LastIssues.{as_issue};
 
 use crate::id_key::key_of;
 use s10_core::Id;
@@ -26,7 +27,8 @@ pub(crate) fn recorded_issue(issues: &HashMap<(u32, u32), Issue>, id: &Id) -> Op
 // Notes what a kept call makes of the last issues of its identifiers. There is room for all that it issued.
 pub(crate) fn record_call(issues: &mut HashMap<(u32, u32), Issue>, entry: &Entry)
     requires room { length (carried_by entry.now.outcome) ≤ spare issues.old }
-    ensures { (h : List Entry) (t : Terms) → IsLegal h t → HasIssues issues.old h → HasIssues issues.new (h ++ entry.now ∷ []) }
+    ensures { (h : List Entry) (t : Terms) → IsLegal h t → HasIssues issues.old h
+        → HasIssues issues.new (h ++ entry.now ∷ []) }
 {
     match entry.outcome {
         Outcome::Voided => {
@@ -41,7 +43,8 @@ pub(crate) fn record_call(issues: &mut HashMap<(u32, u32), Issue>, entry: &Entry
 // Notes each issue of the call, one after another. There is room for all of them.
 fn record_issues(issues: &mut HashMap<(u32, u32), Issue>, entry: &Entry)
     requires room { length (carried_by entry.now.outcome) ≤ spare issues.old }
-    ensures { (h : List Entry) → HasLast issues.old (h ++ entry.now ∷ []) (issues_of h) → HasLast issues.new (h ++ entry.now ∷ []) (issues_of (h ++ entry.now ∷ [])) }
+    ensures { (h : List Entry) → HasLast issues.old (h ++ entry.now ∷ []) (issues_of h)
+        → HasLast issues.new (h ++ entry.now ∷ []) (issues_of (h ++ entry.now ∷ [])) }
 {
     for place in 0..entry.issued() {
         // Which arrival the issues have is no matter to what is noted.
@@ -54,7 +57,8 @@ fn record_issues(issues: &mut HashMap<(u32, u32), Issue>, entry: &Entry)
 // Notes an issue. There is room for one more.
 fn record_issue(issues: &mut HashMap<(u32, u32), Issue>, issuance: &Issuance)
     requires room { 0 < spare issues.old }
-    ensures notes { RecordsIssue (id_key issuance.now.id) (as_issue issuance.now false) issues.old issues.new }
+    ensures notes { RecordsIssue (id_key issuance.now.id) (as_issue issuance.now false) issues.old
+        issues.new }
     ensures spare { spare issues.old ≤ spare issues.new + 1 }
     ensures parts { IsId issuance.now.id }
 {

@@ -17,7 +17,8 @@ pub(crate) fn find_in(
     customer: u32,
     number: u32,
 ) -> Option<Entry>
-    ensures answer { HasPositions positions.now calls.now.items → result ≡ find_entry calls.now.items customer number }
+    ensures answer { HasPositions positions.now calls.now.items
+        → result ≡ find_entry calls.now.items customer number }
     ensures among { IfSome result (Contains calls.now.items) }
 {
     let place = position_of(positions, customer, number)?;

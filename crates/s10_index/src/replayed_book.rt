@@ -27,7 +27,8 @@ fn replay_calls(
 ) -> Result<IndexedBook, OpenFault>
     ensures right { IfOk result (λ book. AreRight settings calls.now) }
     ensures kept { IfOk result (λ book. book.index.entries.items ≡ kept_of calls.now) }
-    ensures err { (tables : Tables) → tables.calls ≡ calls.now → IsHead tables.heads (pos 1) settings → IfErr result (IsRefusal tables) }
+    ensures err { (tables : Tables) → tables.calls ≡ calls.now
+        → IsHead tables.heads (pos 1) settings → IfErr result (IsRefusal tables) }
 {
     let mut book = IndexedBook::new(alloc, settings);
     replay_rows(&mut book, calls)?;
@@ -45,7 +46,8 @@ impl ReplayedBook {
         calls: Vec<CallRow>,
     ) -> Result<ReplayedBook, OpenFault>
         ensures ok { IfOk result (IsReplayedBook heads.items calls.items) }
-        ensures err { (tables : Tables) → tables.heads ≡ heads.items → tables.calls ≡ calls.items → IfErr result (IsRefusal tables) }
+        ensures err { (tables : Tables) → tables.heads ≡ heads.items → tables.calls ≡ calls.items
+            → IfErr result (IsRefusal tables) }
     {
         let settings = settings_in(&heads)?;
         let book = replay_calls(alloc, settings, &calls)?;

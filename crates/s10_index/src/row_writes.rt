@@ -41,7 +41,8 @@ impl RowWrites {
     pub(crate) fn add_serial(&mut self, write: SerialWrite) -> Result<(), BookFault>
         ensures memory { IfErr result (λ f. f ≡ BookFault.Memory) }
         ensures ranges { self.new.ranges.items ≡ self.old.ranges.items }
-        ensures serials { OnOk result (self.new.serials.items ≡ self.old.serials.items ++ write ∷ []) }
+        ensures serials { OnOk result (self.new.serials.items ≡ self.old.serials.items ++ write
+            ∷ []) }
     {
         match self.serials.push(write) {
             Ok(()) => Ok(()),

@@ -1,12 +1,14 @@
 //! The rows of a ledger's tables that the history of a book makes.
 
-ghost use Rattle.std.specs.Prelude.{◌≡◌, ◌++◌, ◌∷◌, ◌+◌, ◌<◌, ◌≤◌, List, IfOk, OnOk, Some, drop, slice_get, option_to_list};
+ghost use Rattle.std.specs.Prelude.{◌≡◌, ◌++◌, ◌∷◌, ◌+◌, ◌<◌, ◌≤◌, List, IfOk, OnOk, Some, drop};
+ghost use Rattle.std.specs.Prelude.{slice_get, option_to_list};
 ghost use Rattle.s10_history.specs.declared.entry.Entry.{Entry};
 ghost use Rattle.s10_history.specs.declared.issuance.Issuance.{Issuance};
 ghost use Rattle.s10_history.specs.Settings.{Terms};
 ghost use Rattle.s10_history.specs.Issues.{issues_of};
 ghost use Rattle.s10_book.specs.Rules.{IsLegal};
-ghost use Rattle.s10_rows.specs.Tables.{closing, closed_rows, closed_rows_from, range_rows, serial_rows};
+ghost use Rattle.s10_rows.specs.Tables.{closing, closed_rows, closed_rows_from, range_rows};
+ghost use Rattle.s10_rows.specs.Tables.{serial_rows};
 ghost use Rattle.s10_index.specs.LastIssues.{HasIssues};
 ghost use Rattle.s10_index.specs.RowsFrom.{last_rows, serial_rows_from};
 
@@ -21,7 +23,8 @@ use std::collections::HashMap;
 // The row of an issue of the history, where it is the last one of its identifier: where the noted one is on its day, since
 // no identifier is issued twice on one day.
 fn last_row(issues: &HashMap<(u32, u32), Issue>, issuance: &Issuance) -> Option<SerialRow>
-    ensures { (h : List Entry) (t : Terms) (before behind : List Issuance) → IsLegal h t → 1 ≤ t.interval → HasIssues issues.now h
+    ensures { (h : List Entry) (t : Terms) (before behind : List Issuance) → IsLegal h t
+        → 1 ≤ t.interval → HasIssues issues.now h
         → issues_of h ≡ before ++ issuance.now ∷ behind
         → option_to_list result ++ last_rows h behind ≡ last_rows h (issuance.now ∷ behind) }
 {
@@ -40,8 +43,10 @@ fn push_rows(
     place: u32,
 ) -> Result<(), AllocError>
     requires { place < 4294967295 }
-    ensures { OnOk result ((h : List Entry) (t : Terms) → IsLegal h t → 1 ≤ t.interval → HasIssues issues.now h → slice_get h place ≡ Some entry.now
-        → rows.new.items ++ serial_rows_from h (place + 1) ≡ rows.old.items ++ serial_rows_from h place) }
+    ensures { OnOk result ((h : List Entry) (t : Terms) → IsLegal h t → 1 ≤ t.interval
+        → HasIssues issues.now h → slice_get h place ≡ Some entry.now
+        → rows.new.items ++ serial_rows_from h (place + 1) ≡ rows.old.items ++ serial_rows_from h
+        place) }
 {
     for at in 0..entry.issued() {
         if let Some(issuance) = entry.issue(place + 1, at) {

@@ -14,10 +14,13 @@ use Rattle.s10_jobs.specs.Words.{book_fault_words}
 use Rattle.s10_jobs.specs.Reporting.{EndsByBook}
 
 -- the lines before the fault, and its own
-pub ends_by_book : {T : Type 0} (r : Result T ReportFault) (fault : BookFault) (was now : Faults) (old between new : Option (List ℕ)) (lines : List (List ℕ))
+pub ends_by_book : {T : Type 0} (r : Result T ReportFault) (fault : BookFault) (was now : Faults)
+    (old between new : Option (List ℕ)) (lines : List (List ℕ))
     → r ≡ Err (Book fault) → CountsReport r was now → Reported old between lines r
-    → Appends between new (line_of (codes "faulted") (book_fault_words fault)) → EndsByBook was now old new lines
+    → Appends between new (line_of (codes "faulted") (book_fault_words fault))
+    → EndsByBook was now old new lines
 ends_by_book r fault was now old between new lines is counts reported tells =
     let counted : CountsBookFault fault was now = subst (λ x. CountsReport x was now) is counts in
-    let told : (count : ℕ) × Appends old between (joined (take count lines)) = subst (λ x. Reported old between lines x) is reported in
+    let told : (count : ℕ) × Appends old between (joined (take count lines)) =
+    subst (λ x. Reported old between lines x) is reported in
     (told.0, fault, counted, Appends-then old between new _ _ told.1 tells)

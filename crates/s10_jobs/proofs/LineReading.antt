@@ -1,5 +1,7 @@
 -- Lines that are read one byte at a time.
-use Rattle.std.proofs.Common.{◌≡◌, ◌≢◌, ℕ, ◌+◌, ◌<◌, ◌≤◌, List, [], ◌∷◌, ◌++◌, length, take, refl, ap, sym, ◌∙◌, arith, Option, Some, None, append_assoc, Bool, true, false}
+use Rattle.std.proofs.Common.{◌≡◌, ◌≢◌, ℕ, ◌+◌, ◌<◌, ◌≤◌, List, [], ◌∷◌, ◌++◌, length, take, refl}
+use Rattle.std.proofs.Common.{ap, sym, ◌∙◌, arith, Option, Some, None, append_assoc, Bool, true}
+use Rattle.std.proofs.Common.{false}
 use Rattle.std.specs.Prelude.{◌==◌}
 use Rattle.std.specs.List.{AllByRecursion}
 use Rattle.std.specs.Io.KnownBytes.{Consumes, Keeps}
@@ -16,14 +18,17 @@ abbrev pub IsUnbroken : List ℕ → Type 0
 IsUnbroken bytes = AllByRecursion (λ b. b ≢ 10) bytes
 
 -- one read after another
-pub Consumes-append : (a b c : Option (List ℕ)) (xs ys : List ℕ) → Consumes a b xs → Consumes b c ys → Consumes a c (xs ++ ys)
+pub Consumes-append : (a b c : Option (List ℕ)) (xs ys : List ℕ) → Consumes a b xs → Consumes b c ys
+    → Consumes a c (xs ++ ys)
 Consumes-append None b c xs ys h k = tt
 Consumes-append (Some a) None c xs ys h k = absurd h
 Consumes-append (Some a) (Some b) None xs ys h k = absurd k
-Consumes-append (Some a) (Some b) (Some c) xs ys h k = h ∙ ap (λ l. xs ++ l) k ∙ sym (append_assoc xs ys c)
+Consumes-append (Some a) (Some b) (Some c) xs ys h k = h ∙ ap (λ l. xs ++ l) k
+    ∙ sym (append_assoc xs ys c)
 
 -- a read that failed after another
-pub Consumes-kept : (a b c : Option (List ℕ)) (xs : List ℕ) → Consumes a b xs → Keeps b c → Consumes a c xs
+pub Consumes-kept : (a b c : Option (List ℕ)) (xs : List ℕ) → Consumes a b xs → Keeps b c
+    → Consumes a c xs
 Consumes-kept None b c xs h k = tt
 Consumes-kept (Some a) None c xs h k = absurd h
 Consumes-kept (Some a) (Some b) None xs h k = absurd k
@@ -33,12 +38,14 @@ is_no_break : (b : ℕ) → b ≢ 10 → (b == 10) ≡ false
 is_no_break b h = false_from_ne_true _ (λ e. h (eqb-true b 10 e))
 
 -- a byte that is no line feed joins the piece before it
-pub pieces_step : (front bytes : List ℕ) (b : ℕ) → b ≢ 10 → pieces front (b ∷ bytes) ≡ pieces (front ++ b ∷ []) bytes
+pub pieces_step : (front bytes : List ℕ) (b : ℕ) → b ≢ 10 → pieces front (b ∷ bytes)
+    ≡ pieces (front ++ b ∷ []) bytes
 unfolding pieces
 pieces_step front bytes b h = rw (is_no_break b h) refl
 
 -- so do many
-pub pieces_walk : (front content rest : List ℕ) → IsUnbroken content → pieces front (content ++ rest) ≡ pieces (front ++ content) rest
+pub pieces_walk : (front content rest : List ℕ) → IsUnbroken content
+    → pieces front (content ++ rest) ≡ pieces (front ++ content) rest
 pieces_walk front [] rest h = ap (λ f. pieces f rest) (sym (append-nil front))
 pieces_walk front (b ∷ content) rest h =
     pieces_step front (content ++ rest) b h.0
@@ -53,18 +60,26 @@ pub pieces_end : (front : List ℕ) → pieces front [] ≡ last_piece front
 unfolding pieces
 pieces_end front = refl
 
-pieces_long_at : (front bytes : List ℕ) (b : ℕ) (t : Bool) → (b == 10) ≡ t → (line : List ℕ) × (more : List (List ℕ)) × (pieces (front ++ b ∷ []) bytes ≡ line ∷ more) × (length (front ++ b ∷ []) ≤ length line)
-    → (line : List ℕ) × (more : List (List ℕ)) × (pieces front (b ∷ bytes) ≡ line ∷ more) × (length front ≤ length line)
+pieces_long_at : (front bytes : List ℕ) (b : ℕ) (t : Bool) → (b == 10) ≡ t → (line : List ℕ)
+    × (more : List (List ℕ)) × (pieces (front ++ b ∷ []) bytes ≡ line ∷ more)
+    × (length (front ++ b ∷ []) ≤ length line)
+    → (line : List ℕ) × (more : List (List ℕ)) × (pieces front (b ∷ bytes) ≡ line ∷ more)
+    × (length front ≤ length line)
 pieces_long_at front bytes b true e rest =
-    let ten : b ≡ 10 = eqb-true b 10 e in
-    (front, pieces [] bytes, ap (λ c. pieces front (c ∷ bytes)) ten ∙ pieces_break front bytes, omega arith)
+    let ten : b ≡ 10 = eqb-true b 10 e in (
+      front,
+      pieces [] bytes,
+      ap (λ c. pieces front (c ∷ bytes)) ten ∙ pieces_break front bytes,
+      omega arith,
+    )
 pieces_long_at front bytes b false e rest =
     let other : b ≢ 10 = eqb-false b 10 e in
     let grown : length (front ++ b ∷ []) ≡ length front + 1 = grind (arith, common_steps) in
     (rest.0, rest.1, pieces_step front bytes b other ∙ rest.2, omega (arith, rest.3))
 
 -- a first piece is at least as long as what stands before it
-pub pieces_long : (front bytes : List ℕ) → 0 < length front → (line : List ℕ) × (more : List (List ℕ)) × (pieces front bytes ≡ line ∷ more) × (length front ≤ length line)
+pub pieces_long : (front bytes : List ℕ) → 0 < length front → (line : List ℕ)
+    × (more : List (List ℕ)) × (pieces front bytes ≡ line ∷ more) × (length front ≤ length line)
 pieces_long [] [] h = let bad : ⊥ = omega arith in absurd bad
 pieces_long (f ∷ fs) [] h = (f ∷ fs, [], pieces_end (f ∷ fs), omega arith)
 pieces_long front (b ∷ bytes) h =
@@ -76,7 +91,9 @@ whole_last [] h = let bad : ⊥ = omega arith in absurd bad
 whole_last (b ∷ bytes) h = refl
 
 -- at the end of the input
-pub line_at_end : (a b c : Option (List ℕ)) (content buffer : List ℕ) (n : ℕ) → Consumes a b content → IsUnbroken content → ReadsByte b c None → take n buffer ≡ content → 0 < length content → ReadsLine a c buffer (Whole n)
+pub line_at_end : (a b c : Option (List ℕ)) (content buffer : List ℕ) (n : ℕ) → Consumes a b content
+    → IsUnbroken content → ReadsByte b c None → take n buffer ≡ content → 0 < length content
+    → ReadsLine a c buffer (Whole n)
 line_at_end None b c content buffer n h free k e long = tt
 line_at_end (Some a) None c content buffer n h free k e long = absurd h
 line_at_end (Some a) (Some b) None content buffer n h free k e long = absurd k.1
@@ -86,22 +103,28 @@ line_at_end (Some a) (Some b) (Some c) content buffer n h free k e long =
     ∙ ap (λ l. content ∷ l) (sym (pieces_end []) ∙ ap lines_of (sym (sym k.1 ∙ k.0)))
     ∙ ap (λ l. l ∷ lines_of c) (sym e)
 
-pub nothing_at_end : (a b c : Option (List ℕ)) (buffer : List ℕ) → Consumes a b [] → ReadsByte b c None → ReadsLine a c buffer End
+pub nothing_at_end : (a b c : Option (List ℕ)) (buffer : List ℕ) → Consumes a b []
+    → ReadsByte b c None → ReadsLine a c buffer End
 nothing_at_end None b c buffer h k = tt
 nothing_at_end (Some a) None c buffer h k = absurd h
 nothing_at_end (Some a) (Some b) None buffer h k = absurd k.1
 nothing_at_end (Some a) (Some b) (Some c) buffer h k = (h ∙ k.0, sym (sym k.0 ∙ k.1))
 
 -- at a line feed
-pub line_at_break : (a b c : Option (List ℕ)) (content buffer : List ℕ) (n : ℕ) → Consumes a b content → IsUnbroken content → ReadsByte b c (Some 10) → take n buffer ≡ content → ReadsLine a c buffer (Whole n)
+pub line_at_break : (a b c : Option (List ℕ)) (content buffer : List ℕ) (n : ℕ)
+    → Consumes a b content → IsUnbroken content → ReadsByte b c (Some 10) → take n buffer ≡ content
+    → ReadsLine a c buffer (Whole n)
 line_at_break None b c content buffer n h free k e = tt
 line_at_break (Some a) None c content buffer n h free k e = absurd h
 line_at_break (Some a) (Some b) None content buffer n h free k e = absurd k
 line_at_break (Some a) (Some b) (Some c) content buffer n h free k e =
-    ap lines_of (h ∙ ap (λ l. content ++ l) k) ∙ pieces_walk [] content (10 ∷ c) free ∙ pieces_break content c ∙ ap (λ l. l ∷ lines_of c) (sym e)
+    ap lines_of (h ∙ ap (λ l. content ++ l) k) ∙ pieces_walk [] content (10 ∷ c) free
+    ∙ pieces_break content c ∙ ap (λ l. l ∷ lines_of c) (sym e)
 
 -- past the limit
-pub line_too_long : (a b c : Option (List ℕ)) (content buffer : List ℕ) (x : ℕ) → Consumes a b content → IsUnbroken content → ReadsByte b c (Some x) → x ≢ 10 → length content ≡ MAX_LINE → ReadsLine a c buffer Long
+pub line_too_long : (a b c : Option (List ℕ)) (content buffer : List ℕ) (x : ℕ)
+    → Consumes a b content → IsUnbroken content → ReadsByte b c (Some x) → x ≢ 10
+    → length content ≡ MAX_LINE → ReadsLine a c buffer Long
 line_too_long None b c content buffer x h free k ne e = tt
 line_too_long (Some a) None c content buffer x h free k ne e = absurd h
 line_too_long (Some a) (Some b) None content buffer x h free k ne e = absurd k
@@ -110,7 +133,8 @@ line_too_long (Some a) (Some b) (Some c) content buffer x h free k ne e =
     let rest = pieces_long (content ++ x ∷ []) c (omega arith) in (
       rest.0,
       rest.1,
-      ap lines_of (h ∙ ap (λ l. content ++ l) k) ∙ pieces_walk [] content (x ∷ c) free ∙ pieces_step content c x ne ∙ rest.2,
+      ap lines_of (h ∙ ap (λ l. content ++ l) k) ∙ pieces_walk [] content (x ∷ c) free
+          ∙ pieces_step content c x ne ∙ rest.2,
       omega (arith, rest.3),
     )
 
@@ -118,7 +142,8 @@ line_too_long (Some a) (Some b) (Some c) content buffer x h free k ne e =
 pub no_pieces : lines_of [] ≡ []
 no_pieces = pieces_end []
 
-some_at : (b : ℕ) (bytes : List ℕ) (t : Bool) → (b == 10) ≡ t → (line : List ℕ) × (more : List (List ℕ)) × (lines_of (b ∷ bytes) ≡ line ∷ more)
+some_at : (b : ℕ) (bytes : List ℕ) (t : Bool) → (b == 10) ≡ t → (line : List ℕ)
+    × (more : List (List ℕ)) × (lines_of (b ∷ bytes) ≡ line ∷ more)
 some_at b bytes true e =
     let ten : b ≡ 10 = eqb-true b 10 e in
     ([], pieces [] bytes, ap (λ c. pieces [] (c ∷ bytes)) ten ∙ pieces_break [] bytes)
@@ -127,5 +152,6 @@ some_at b bytes false e =
     let rest = pieces_long (b ∷ []) bytes (omega arith) in
     (rest.0, rest.1, pieces_step [] bytes b other ∙ rest.2)
 
-pub pieces_some : (b : ℕ) (bytes : List ℕ) → (line : List ℕ) × (more : List (List ℕ)) × (lines_of (b ∷ bytes) ≡ line ∷ more)
+pub pieces_some : (b : ℕ) (bytes : List ℕ) → (line : List ℕ) × (more : List (List ℕ))
+    × (lines_of (b ∷ bytes) ≡ line ∷ more)
 pieces_some b bytes = some_at b bytes (b == 10) refl

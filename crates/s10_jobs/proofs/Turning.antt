@@ -1,5 +1,7 @@
 -- The turns of a server, one more at a time.
-use Rattle.std.proofs.Common.{◌≡◌, ◌≢◌, ℕ, ◌+◌, ◌<◌, ◌≤◌, List, [], ◌∷◌, ◌++◌, length, Option, Some, None, Result, Ok, Err, refl, sym, ap, subst, ◌∙◌, arith, length-append}
+use Rattle.std.proofs.Common.{◌≡◌, ◌≢◌, ℕ, ◌+◌, ◌<◌, ◌≤◌, List, [], ◌∷◌, ◌++◌, length, Option, Some}
+use Rattle.std.proofs.Common.{None, Result, Ok, Err, refl, sym, ap, subst, ◌∙◌, arith}
+use Rattle.std.proofs.Common.{length-append}
 use Rattle.std.specs.Prelude.{IfOk, IsErrAnd, codes}
 use Rattle.std.specs.List.{flat_map}
 use Rattle.std.specs.Io.KnownBytes.{Appends}
@@ -14,58 +16,100 @@ use Rattle.s10_jobs.specs.declared.job_status.JobStatus.TheVariants.{Done, Faile
 use Rattle.s10_jobs.specs.TurnLines.{turn_line}
 use Rattle.s10_jobs.specs.Serving.{IsDay, BatchesLead, turns_in, PrintsBatch, Serves}
 
-lead_more : {S : Type 0} (IsStep : S → List Turn → S → Type 0) (old : S) (batches : List (List Turn)) (mid new : S) (batch : List Turn)
-    → BatchesLead IsStep old batches mid → IsStep mid batch new → BatchesLead IsStep old (batches ++ batch ∷ []) new
+lead_more : {S : Type 0} (IsStep : S → List Turn → S → Type 0) (old : S)
+    (batches : List (List Turn)) (mid new : S) (batch : List Turn)
+    → BatchesLead IsStep old batches mid → IsStep mid batch new
+    → BatchesLead IsStep old (batches ++ batch ∷ []) new
 unfolding BatchesLead
-lead_more IsStep old [] mid new batch same step = (new, subst (λ s. IsStep s batch new) same step, refl)
-lead_more IsStep old (first ∷ batches) mid new batch (next, begun, rest) step = (next, begun, lead_more IsStep next batches mid new batch rest step)
+lead_more IsStep old [] mid new batch same step = (
+  new,
+  subst (λ s. IsStep s batch new) same step,
+  refl,
+)
+lead_more IsStep old (first ∷ batches) mid new batch (next, begun, rest) step =
+    (next, begun, lead_more IsStep next batches mid new batch rest step)
 
-turns_more : (batches : List (List Turn)) (batch : List Turn) → turns_in (batches ++ batch ∷ []) ≡ turns_in batches ++ batch
+turns_more : (batches : List (List Turn)) (batch : List Turn) → turns_in (batches ++ batch ∷ [])
+    ≡ turns_in batches ++ batch
 turns_more batches batch = sym (flat_map_more (λ (r : List Turn). r) [] batches batch)
 
 -- n turns, with their lines
-pub record HasServed {S : Type 0} (IsStep : S → List Turn → S → Type 0) (old new : S) (held now : Option (List ℕ)) (done : ℕ) : Type 0 where
+pub record HasServed {S : Type 0} (IsStep : S → List Turn → S → Type 0) (old new : S)
+    (held now : Option (List ℕ)) (done : ℕ) : Type 0 where
   pub batches : List (List Turn)
   pub lead : BatchesLead IsStep old batches new
   pub many : length (turns_in batches) ≡ done
   pub written : Appends held now (flat_map turn_line (turns_in batches))
 
-pub none_served : {S : Type 0} (IsStep : S → List Turn → S → Type 0) (s : S) (held : Option (List ℕ)) → HasServed IsStep s s held held 0
+pub none_served : {S : Type 0} (IsStep : S → List Turn → S → Type 0) (s : S)
+    (held : Option (List ℕ)) → HasServed IsStep s s held held 0
 unfolding BatchesLead
-none_served IsStep s held = record { batches = []; lead = refl; many = refl; written = Appends-nil held }
+none_served IsStep s held = record {
+  batches = [];
+  lead = refl;
+  many = refl;
+  written = Appends-nil held;
+}
 
-module _ {S : Type 0} (IsStep : S → List Turn → S → Type 0) (old mid new : S) (held before now : Option (List ℕ)) (done count : ℕ) (served : HasServed IsStep old mid held before done) where
-  batch_more : (batch : List Turn) → IsStep mid batch new → Appends before now (flat_map turn_line batch) → HasServed IsStep old new held now (done + length batch)
+module _ {S : Type 0} (IsStep : S → List Turn → S → Type 0) (old mid new : S)
+    (held before now : Option (List ℕ)) (done count : ℕ)
+    (served : HasServed IsStep old mid held before done) where
+  batch_more : (batch : List Turn) → IsStep mid batch new
+      → Appends before now (flat_map turn_line batch)
+      → HasServed IsStep old new held now (done + length batch)
   batch_more batch step lines = record {
     batches = served.batches ++ batch ∷ [];
     lead = lead_more IsStep old served.batches mid new batch served.lead step;
-    many = ap length (turns_more served.batches batch) ∙ omega (arith, length-append (turns_in served.batches) batch, served.many);
-    written = subst (λ l. Appends held now l) (sym (ap (flat_map turn_line) (turns_more served.batches batch) ∙ flat_map-append turn_line (turns_in served.batches) batch))
-        (Appends-trans held before now (flat_map turn_line (turns_in served.batches)) (flat_map turn_line batch) served.written lines);
+    many = ap length (turns_more served.batches batch)
+        ∙ omega (arith, length-append (turns_in served.batches) batch, served.many);
+    written = subst (λ l. Appends held now l)
+        (sym (ap (flat_map turn_line) (turns_more served.batches batch) ∙ flat_map-append turn_line
+        (turns_in served.batches) batch))
+        (Appends-trans held before now (flat_map turn_line (turns_in served.batches))
+        (flat_map turn_line batch) served.written lines);
   }
 
   -- one more round, whose lines were written
-  pub batch_served : (Is : List Turn → Type 0) (most turns : ℕ) → ((batch : List Turn) → Is batch → IsStep mid batch new) → PrintsBatch Is most before now (Ok turns) → HasServed IsStep old new held now (done + turns)
-  batch_served Is most turns step (batch, is, few, (many, some, lines)) = subst (λ n. HasServed IsStep old new held now (done + n)) (sym many) (batch_more batch (step batch is) lines)
+  pub batch_served : (Is : List Turn → Type 0) (most turns : ℕ)
+      → ((batch : List Turn) → Is batch → IsStep mid batch new)
+      → PrintsBatch Is most before now (Ok turns) → HasServed IsStep old new held now (done + turns)
+  batch_served Is most turns step (batch, is, few, (many, some, lines)) =
+      subst (λ n. HasServed IsStep old new held now (done + n)) (sym many)
+      (batch_more batch (step batch is) lines)
 
   -- one more round, whose lines were not
-  pub batch_unprinted : (Is : List Turn → Type 0) (most : ℕ) (shown : Result ℕ WriteFault) (result : Result JobStatus WriteFault) (IsFault : WriteFault → Type 0) → IsErrAnd result IsFault → ((batch : List Turn) → Is batch → IsStep mid batch new)
-      → done + most ≤ count → PrintsBatch Is most before now shown → Serves IsStep old new held now count result
-  batch_unprinted Is most shown (Err fault) IsFault failed step room (batch, is, few, lines) = record {
-    batches = served.batches ++ batch ∷ [];
-    lead = lead_more IsStep old served.batches mid new batch served.lead (step batch is);
-    few = omega (arith, ap length (turns_more served.batches batch), length-append (turns_in served.batches) batch, served.many, few, room);
-    shows = tt;
-  }
+  pub batch_unprinted : (Is : List Turn → Type 0) (most : ℕ) (shown : Result ℕ WriteFault)
+      (result : Result JobStatus WriteFault) (IsFault : WriteFault → Type 0)
+      → IsErrAnd result IsFault → ((batch : List Turn) → Is batch → IsStep mid batch new)
+      → done + most ≤ count → PrintsBatch Is most before now shown
+      → Serves IsStep old new held now count result
+  batch_unprinted Is most shown (Err fault) IsFault failed step room (batch, is, few, lines) =
+      record {
+        batches = served.batches ++ batch ∷ [];
+        lead = lead_more IsStep old served.batches mid new batch served.lead (step batch is);
+        few = omega (
+          arith,
+          ap length (turns_more served.batches batch),
+          length-append (turns_in served.batches) batch,
+          served.many,
+          few,
+          room,
+        );
+        shows = tt;
+      }
   batch_unprinted Is most shown (Ok status) IsFault failed step room batch = absurd failed
 
 -- the day of a turn is the day that was given
-pub given_day : (given found : Option ℕ) (day : ℕ) → (given ≢ None → found ≡ given) → found ≡ Some day → IsDay given day
+pub given_day : (given found : Option ℕ) (day : ℕ) → (given ≢ None → found ≡ given)
+    → found ≡ Some day → IsDay given day
 given_day None found day same is = λ d e. absurd (none-some d e)
-given_day (Some given) found day same is = λ d e. same_Some day d (sym is ∙ same (λ none. none-some given (sym none)) ∙ e)
+given_day (Some given) found day same is =
+    λ d e. same_Some day d (sym is ∙ same (λ none. none-some given (sym none)) ∙ e)
 
-pub all_served : {S : Type 0} (IsStep : S → List Turn → S → Type 0) (old new : S) (held now : Option (List ℕ)) (done count : ℕ)
-    → HasServed IsStep old new held now done → done ≡ count → Serves IsStep old new held now count (Ok Done)
+pub all_served : {S : Type 0} (IsStep : S → List Turn → S → Type 0) (old new : S)
+    (held now : Option (List ℕ)) (done count : ℕ)
+    → HasServed IsStep old new held now done → done ≡ count → Serves IsStep old new held now count
+    (Ok Done)
 all_served IsStep old new held now done count served same = record {
   batches = served.batches;
   lead = served.lead;
@@ -73,14 +117,30 @@ all_served IsStep old new held now done count served same = record {
   shows = (served.many ∙ same, served.written);
 }
 
-pub served_to_no_day : {S : Type 0} (IsStep : S → List Turn → S → Type 0) (old new : S) (held before now : Option (List ℕ)) (done count : ℕ) (result : Result JobStatus WriteFault)
-    → HasServed IsStep old new held before done → done < count → IfOk result (λ status. (status ≡ Failed) × Appends before now (codes "clock\n")) → Serves IsStep old new held now count result
-served_to_no_day IsStep old new held before now done count (Ok Failed) served few (is, line) = record {
-  batches = served.batches;
-  lead = served.lead;
-  few = omega (arith, served.many, few);
-  shows = (omega (arith, served.many, few), Appends-trans held before now (flat_map turn_line (turns_in served.batches)) (codes "clock\n") served.written line);
-}
-served_to_no_day IsStep old new held before now done count (Ok Done) served few (is, line) = absurd cc
-served_to_no_day IsStep old new held before now done count (Ok status) served few (is, line) = absurd cc
-served_to_no_day IsStep old new held before now done count (Err fault) served few says = record { batches = served.batches; lead = served.lead; few = omega (arith, served.many, few); shows = tt }
+pub served_to_no_day : {S : Type 0} (IsStep : S → List Turn → S → Type 0) (old new : S)
+    (held before now : Option (List ℕ)) (done count : ℕ) (result : Result JobStatus WriteFault)
+    → HasServed IsStep old new held before done → done < count
+    → IfOk result (λ status. (status ≡ Failed) × Appends before now (codes "clock\n"))
+    → Serves IsStep old new held now count result
+served_to_no_day IsStep old new held before now done count (Ok Failed) served few (is, line) =
+    record {
+      batches = served.batches;
+      lead = served.lead;
+      few = omega (arith, served.many, few);
+      shows = (
+        omega (arith, served.many, few),
+        Appends-trans held before now (flat_map turn_line (turns_in served.batches)) (codes "clock\n")
+            served.written line,
+      );
+    }
+served_to_no_day IsStep old new held before now done count (Ok Done) served few (is, line) =
+    absurd cc
+served_to_no_day IsStep old new held before now done count (Ok status) served few (is, line) =
+    absurd cc
+served_to_no_day IsStep old new held before now done count (Err fault) served few says =
+    record {
+      batches = served.batches;
+      lead = served.lead;
+      few = omega (arith, served.many, few);
+      shows = tt;
+    }

@@ -1,14 +1,20 @@
 -- What is printed of a call over a link, and the status that it gives.
 use Rattle.std.specs.Prelude.{ℕ, List, [], codes, Result, Ok, Err}
 use Rattle.s10_wire.specs.declared.outcome.Outcome.{Outcome}
-use Rattle.s10_wire.specs.declared.outcome.Outcome.TheVariants.{Granted, Drawn, DrawnMany, Voided, Told, Withdrawn, NotThePost, BadGrant, Overlap, NoRange, NoneFree, NotYours, NotIssued, AlreadyVoid, NoSuchRange, Closed, NumberReused}
+use Rattle.s10_wire.specs.declared.outcome.Outcome.TheVariants.{Granted, Drawn, DrawnMany, Voided}
+use Rattle.s10_wire.specs.declared.outcome.Outcome.TheVariants.{Told, Withdrawn, NotThePost}
+use Rattle.s10_wire.specs.declared.outcome.Outcome.TheVariants.{BadGrant, Overlap, NoRange}
+use Rattle.s10_wire.specs.declared.outcome.Outcome.TheVariants.{NoneFree, NotYours, NotIssued}
+use Rattle.s10_wire.specs.declared.outcome.Outcome.TheVariants.{AlreadyVoid, NoSuchRange, Closed}
+use Rattle.s10_wire.specs.declared.outcome.Outcome.TheVariants.{NumberReused}
 use Rattle.s10_wire.specs.declared.reply.Reply.{Reply}
 use Rattle.s10_wire.specs.Reply.{request_of, outcome_of}
 use Rattle.s10_lines.specs.Lines.{line_of, reply_line}
 use Rattle.s10_ends.specs.declared.call_fault.CallFault.{CallFault}
 use Rattle.s10_ends.specs.declared.call_fault.CallFault.TheVariants.{Submit, GaveUp, Link}
 use Rattle.s10_jobs.specs.declared.job_status.JobStatus.{JobStatus}
-use Rattle.s10_jobs.specs.declared.job_status.JobStatus.TheVariants.{Done, Refused, CommandLine, Failed}
+use Rattle.s10_jobs.specs.declared.job_status.JobStatus.TheVariants.{Done, Refused, CommandLine}
+use Rattle.s10_jobs.specs.declared.job_status.JobStatus.TheVariants.{Failed}
 use Rattle.s10_jobs.specs.Words.{link_fault_words}
 
 -- the first six outcomes say that what was asked was done

@@ -1,5 +1,7 @@
 -- The lines of an input, and the deliveries that they hand in.
-use Rattle.std.specs.Prelude.{◌≡◌, ◌≢◌, ℕ, ◌+◌, ◌-◌, ◌^◌, ◌<◌, ◌==◌, nat_lt, nat_le, ◌&&◌, ◌⊎◌, if◌then◌else◌, List, [], ◌∷◌, ◌++◌, length, take, drop, slice_get, slice_index, filter_map, position, Option, Some, None}
+use Rattle.std.specs.Prelude.{◌≡◌, ◌≢◌, ℕ, ◌+◌, ◌-◌, ◌^◌, ◌<◌, ◌==◌, nat_lt, nat_le, ◌&&◌, ◌⊎◌}
+use Rattle.std.specs.Prelude.{if◌then◌else◌, List, [], ◌∷◌, ◌++◌, length, take, drop, slice_get}
+use Rattle.std.specs.Prelude.{slice_index, filter_map, position, Option, Some, None}
 use Rattle.std.specs.List.{list_all}
 use Rattle.std.specs.Char.{is_ascii_digit}
 use Rattle.std.specs.Result.{result_ok}
@@ -25,12 +27,14 @@ lines_of bytes = pieces [] bytes
 
 -- a line without one carriage return at its end
 abbrev pub without_return : List ℕ → List ℕ
-without_return line = if slice_index line (length line - 1) == 13 then take (length line - 1) line else line
+without_return line = if slice_index line (length line - 1) == 13 then take (length line - 1) line
+    else line
 
 -- DAY: one to ten digits, at most 4294967295
 abbrev pub day_of_text : List ℕ → Option ℕ
 day_of_text text =
-    if nat_le 1 (length text) && nat_le (length text) 10 && list_all is_ascii_digit text && nat_lt (number_of text) (2 ^ 32)
+    if nat_le 1 (length text) && nat_le (length text) 10 && list_all is_ascii_digit text
+    && nat_lt (number_of text) (2 ^ 32)
     then Some (number_of text) else None
 
 -- HEX: an even number of hexadecimal digits, at most 1024
@@ -57,10 +61,12 @@ deliveries_in lines = filter_map delivery_in lines
 
 -- the line with that number, from 1, is refused: it is too long, or one too many, or neither empty nor a delivery
 abbrev pub IsRefused : List ℕ → ℕ → Type 0
-IsRefused line number = (MAX_LINE < length line) ⊎ ((MAX_LINES < number) ⊎ ((without_return line ≢ []) × (delivery_in line ≡ None)))
+IsRefused line number = (MAX_LINE < length line)
+    ⊎ ((MAX_LINES < number) ⊎ ((without_return line ≢ []) × (delivery_in line ≡ None)))
 
 abbrev pub NoneRefused : List (List ℕ) → Type 0
-NoneRefused lines = (k : ℕ) (line : List ℕ) → slice_get lines k ≡ Some line → ¬ IsRefused line (k + 1)
+NoneRefused lines = (k : ℕ) (line : List ℕ) → slice_get lines k ≡ Some line
+    → ¬ IsRefused line (k + 1)
 
 -- the line with that number is refused, and none before it
 pub record IsFirstRefused (lines : List (List ℕ)) (number : ℕ) : Type 0 where

@@ -1,5 +1,6 @@
 -- What a read of a byte, or of a line, does to the bytes that a reader has left, where these are known.
-use Rattle.std.specs.Prelude.{◌≡◌, ◌≢◌, ℕ, ◌<◌, ◌≤◌, ⊤, List, [], ◌∷◌, length, take, Option, Some, None, All}
+use Rattle.std.specs.Prelude.{◌≡◌, ◌≢◌, ℕ, ◌<◌, ◌≤◌, ⊤, List, [], ◌∷◌, length, take, Option, Some}
+use Rattle.std.specs.Prelude.{None, All}
 use Rattle.std.specs.Io.KnownBytes.{Consumes, IsAtEnd}
 use Rattle.s10_jobs.specs.declared.line_reader.TheConstants.{MAX_LINE}
 use Rattle.s10_jobs.specs.declared.line_reader.NextLine.{NextLine}
@@ -21,7 +22,8 @@ FitsIn Long = ⊤
 abbrev pub TakesLine : List ℕ → List ℕ → List ℕ → NextLine → Type 0
 TakesLine old new buffer End = (old ≡ []) × (new ≡ [])
 TakesLine old new buffer (Whole n) = lines_of old ≡ take n buffer ∷ lines_of new
-TakesLine old new buffer Long = (line : List ℕ) × (more : List (List ℕ)) × (lines_of old ≡ line ∷ more) × (MAX_LINE < length line)
+TakesLine old new buffer Long = (line : List ℕ) × (more : List (List ℕ))
+    × (lines_of old ≡ line ∷ more) × (MAX_LINE < length line)
 
 abbrev pub ReadsLine : Option (List ℕ) → Option (List ℕ) → List ℕ → NextLine → Type 0
 ReadsLine None new buffer next = ⊤

@@ -24,4 +24,5 @@ AreTwoCapitals text = (length text ≡ 2) × All IsCapital text
 -- the parts in their order, the check digit after the eight digits of the serial number
 abbrev pub made_line : List ℕ → List ℕ → List ℕ → List ℕ
 made_line service digits country =
-    service ++ digits ++ character_of (check_digit_of (number_of digits)) ∷ [] ++ country ++ codes "\n"
+    service ++ digits ++ character_of (check_digit_of (number_of digits)) ∷ [] ++ country
+    ++ codes "\n"

@@ -10,7 +10,8 @@ use Rattle.s10_link.specs.Peer.{SpellsPeer}
 use Rattle.s10_jobs.specs.declared.refusal.Refusal.{Refusal}
 use Rattle.s10_jobs.specs.declared.refusal.Refusal.TheVariants as refused
 use Rattle.s10_jobs.specs.declared.body_words.BodyWords.{BodyWords}
-use Rattle.s10_jobs.specs.declared.body_words.BodyWords.TheVariants.{Grant, Draw, DrawMany, Withdraw, Void, Query}
+use Rattle.s10_jobs.specs.declared.body_words.BodyWords.TheVariants.{Grant, Draw, DrawMany}
+use Rattle.s10_jobs.specs.declared.body_words.BodyWords.TheVariants.{Withdraw, Void, Query}
 use Rattle.s10_jobs.specs.declared.question.Question.{Question}
 use Rattle.s10_jobs.specs.Words.{text_fault_words}
 use Rattle.s10_jobs.specs.Lines.{AreTwoCapitals}
@@ -24,9 +25,12 @@ refusal_words (refused.Text fault) = text_fault_words fault
 -- the body asks what the words say
 abbrev pub WordsAsk : BodyWords → Body → Type 0
 WordsAsk (Grant holder service country first last) (asked.Grant h s c f l) =
-    (h ≡ holder) × (letters_of s ≡ service.now) × (letters_of c ≡ country.now) × (f ≡ first) × (l ≡ last)
-WordsAsk (Draw service country) (asked.Draw s c) = (letters_of s ≡ service.now) × (letters_of c ≡ country.now)
-WordsAsk (DrawMany service country count) (asked.DrawMany s c n) = (letters_of s ≡ service.now) × (letters_of c ≡ country.now) × (n ≡ count)
+    (h ≡ holder) × (letters_of s ≡ service.now) × (letters_of c ≡ country.now) × (f ≡ first)
+    × (l ≡ last)
+WordsAsk (Draw service country) (asked.Draw s c) = (letters_of s ≡ service.now)
+    × (letters_of c ≡ country.now)
+WordsAsk (DrawMany service country count) (asked.DrawMany s c n) = (letters_of s ≡ service.now)
+    × (letters_of c ≡ country.now) × (n ≡ count)
 WordsAsk (Withdraw range) (asked.Withdraw num) = num ≡ range
 WordsAsk (Void id) (asked.Void x) = SpellsLoosely id.now x
 WordsAsk (Query id) (asked.Query x) = SpellsLoosely id.now x
@@ -46,9 +50,11 @@ IsIdRefusal id refused.Country = ⊥
 IsIdRefusal id (refused.Text fault) = IsFirstRefusal (normalized id) fault
 
 abbrev pub IsBodyRefusal : BodyWords → Refusal → Type 0
-IsBodyRefusal (Grant holder service country first last) refusal = IsPairRefusal service.now country.now refusal
+IsBodyRefusal (Grant holder service country first last) refusal =
+    IsPairRefusal service.now country.now refusal
 IsBodyRefusal (Draw service country) refusal = IsPairRefusal service.now country.now refusal
-IsBodyRefusal (DrawMany service country count) refusal = IsPairRefusal service.now country.now refusal
+IsBodyRefusal (DrawMany service country count) refusal = IsPairRefusal service.now country.now
+    refusal
 IsBodyRefusal (Withdraw range) refusal = ⊥
 IsBodyRefusal (Void id) refusal = IsIdRefusal id.now refusal
 IsBodyRefusal (Query id) refusal = IsIdRefusal id.now refusal
@@ -59,6 +65,9 @@ IsPeerText text = (p : Peer) × SpellsPeer text p
 -- the server's address is read before the body
 abbrev pub IsQuestionRefusal : Question → Refusal → Type 0
 IsQuestionRefusal question refused.Peer = ¬ IsPeerText question.to.now
-IsQuestionRefusal question refused.Service = IsPeerText question.to.now × IsBodyRefusal question.body refused.Service
-IsQuestionRefusal question refused.Country = IsPeerText question.to.now × IsBodyRefusal question.body refused.Country
-IsQuestionRefusal question (refused.Text fault) = IsPeerText question.to.now × IsBodyRefusal question.body (refused.Text fault)
+IsQuestionRefusal question refused.Service = IsPeerText question.to.now
+    × IsBodyRefusal question.body refused.Service
+IsQuestionRefusal question refused.Country = IsPeerText question.to.now
+    × IsBodyRefusal question.body refused.Country
+IsQuestionRefusal question (refused.Text fault) = IsPeerText question.to.now
+    × IsBodyRefusal question.body (refused.Text fault)

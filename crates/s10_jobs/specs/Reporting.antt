@@ -11,7 +11,8 @@ use Rattle.s10_reports.specs.Reports.{joined, ranges_report, issues_report}
 use Rattle.s10_jobs.specs.declared.reporting.Report.{Report}
 use Rattle.s10_jobs.specs.declared.reporting.Report.TheVariants.{Ranges, Issues}
 use Rattle.s10_jobs.specs.declared.job_status.JobStatus.{JobStatus}
-use Rattle.s10_jobs.specs.declared.job_status.JobStatus.TheVariants.{Done, Refused, CommandLine, Failed}
+use Rattle.s10_jobs.specs.declared.job_status.JobStatus.TheVariants.{Done, Refused, CommandLine}
+use Rattle.s10_jobs.specs.declared.job_status.JobStatus.TheVariants.{Failed}
 use Rattle.s10_jobs.specs.Words.{book_fault_words}
 
 -- the lines of a report of a history
@@ -23,15 +24,19 @@ report_lines Issues h t = issues_report h
 abbrev pub EndsByBook : Faults → Faults → Option (List ℕ) → Option (List ℕ) → List (List ℕ) → Type 0
 EndsByBook was now old new lines =
     (count : ℕ) × (fault : BookFault) × CountsBookFault fault was now
-    × Appends old new (joined (take count lines) ++ line_of (codes "faulted") (book_fault_words fault))
+    × Appends old new (joined (take count lines) ++ line_of (codes "faulted")
+    (book_fault_words fault))
 
 -- the writer failed in the report and not the book, and took its last line
 abbrev pub EndsByWriter : Faults → Faults → Option (List ℕ) → Type 0
-EndsByWriter was now new = (now ≡ was) × ((before : Option (List ℕ)) × Appends before new (codes "output\n"))
+EndsByWriter was now new = (now ≡ was)
+    × ((before : Option (List ℕ)) × Appends before new (codes "output\n"))
 
 -- the whole report where it is done, by the faults that the book had counted before it and has after it
-abbrev pub PrintsReport : Faults → Faults → Option (List ℕ) → Option (List ℕ) → List (List ℕ) → JobStatus → Type 0
+abbrev pub PrintsReport : Faults → Faults → Option (List ℕ) → Option (List ℕ) → List (List ℕ)
+    → JobStatus → Type 0
 PrintsReport was now old new lines Done = (now ≡ was) × Appends old new (joined lines)
 PrintsReport was now old new lines Refused = ⊥
 PrintsReport was now old new lines CommandLine = ⊥
-PrintsReport was now old new lines Failed = EndsByBook was now old new lines ⊎ EndsByWriter was now new
+PrintsReport was now old new lines Failed = EndsByBook was now old new lines
+    ⊎ EndsByWriter was now new

@@ -1,5 +1,6 @@
 -- The turns of a server on a link, in batches one after another.
-use Rattle.std.specs.Prelude.{◌≡◌, ℕ, ◌<◌, ◌≤◌, List, [], ◌∷◌, ◌++◌, length, codes, Option, Some, Result, IfOk}
+use Rattle.std.specs.Prelude.{◌≡◌, ℕ, ◌<◌, ◌≤◌, List, [], ◌∷◌, ◌++◌, length, codes, Option, Some}
+use Rattle.std.specs.Prelude.{Result, IfOk}
 use Rattle.std.specs.List.{flat_map}
 use Rattle.std.specs.Io.KnownBytes.{Appends}
 use Rattle.s10_link.specs.declared.trace.Trace.{Trace}
@@ -10,7 +11,8 @@ use Rattle.s10_history.specs.Settings.{Terms}
 use Rattle.s10_ends.specs.Turn.{Turn}
 use Rattle.s10_ends.specs.Batch.{ServesBatch}
 use Rattle.s10_jobs.specs.declared.job_status.JobStatus.{JobStatus}
-use Rattle.s10_jobs.specs.declared.job_status.JobStatus.TheVariants.{Done, Refused, CommandLine, Failed}
+use Rattle.s10_jobs.specs.declared.job_status.JobStatus.TheVariants.{Done, Refused, CommandLine}
+use Rattle.s10_jobs.specs.declared.job_status.JobStatus.TheVariants.{Failed}
 use Rattle.s10_jobs.specs.TurnLines.{turn_line}
 
 -- the day that was given, or any where none was
@@ -18,14 +20,18 @@ abbrev pub IsDay : Option ℕ → ℕ → Type 0
 IsDay given day = (d : ℕ) → given ≡ Some d → day ≡ d
 
 -- one batch on such a day, from a link's trace and a server's book to those afterwards
-abbrev pub IsBatch : {B : Type 0} → (B → Faults) → (B → Type 0) → (B → Terms) → (B → List Entry) → (B → List Entry) → Option ℕ → Trace × B → List Turn → Trace × B → Type 0
+abbrev pub IsBatch : {B : Type 0} → (B → Faults) → (B → Type 0) → (B → Terms) → (B → List Entry)
+    → (B → List Entry) → Option ℕ → Trace × B → List Turn → Trace × B → Type 0
 IsBatch faults honest terms history committed given old turns new =
-    (day : ℕ) × IsDay given day × (most : ℕ) × ServesBatch faults honest terms history committed day most old new turns
+    (day : ℕ) × IsDay given day × (most : ℕ) × ServesBatch faults honest terms history committed day
+    most old new turns
 
 -- the batches lead from the old state to the new, one after another
-unfoldable pub BatchesLead : {S : Type 0} → (S → List Turn → S → Type 0) → S → List (List Turn) → S → Type 0
+unfoldable pub BatchesLead : {S : Type 0} → (S → List Turn → S → Type 0) → S → List (List Turn) → S
+    → Type 0
 BatchesLead IsStep old [] new = new ≡ old
-BatchesLead IsStep old (batch ∷ batches) new = (next : _) × IsStep old batch next × BatchesLead IsStep next batches new
+BatchesLead IsStep old (batch ∷ batches) new = (next : _) × IsStep old batch next
+    × BatchesLead IsStep next batches new
 
 -- the turns of batches, in order
 abbrev pub turns_in : List (List Turn) → List Turn
@@ -33,18 +39,24 @@ turns_in batches = flat_map (λ batch. batch) batches
 
 -- the lines of all turns, or of fewer where the clock gave no day
 abbrev pub PrintsTurns : Option (List ℕ) → Option (List ℕ) → List Turn → ℕ → JobStatus → Type 0
-PrintsTurns held now turns count Done = (length turns ≡ count) × Appends held now (flat_map turn_line turns)
+PrintsTurns held now turns count Done = (length turns ≡ count)
+    × Appends held now (flat_map turn_line turns)
 PrintsTurns held now turns count Refused = ⊥
 PrintsTurns held now turns count CommandLine = ⊥
-PrintsTurns held now turns count Failed = (length turns < count) × Appends held now (flat_map turn_line turns ++ codes "clock\n")
+PrintsTurns held now turns count Failed = (length turns < count)
+    × Appends held now (flat_map turn_line turns ++ codes "clock\n")
 
 -- one batch of at most n turns, and how many these were; where the writer did not fail their lines were written
-abbrev pub PrintsBatch : (List Turn → Type 0) → ℕ → Option (List ℕ) → Option (List ℕ) → Result ℕ WriteFault → Type 0
+abbrev pub PrintsBatch : (List Turn → Type 0) → ℕ → Option (List ℕ) → Option (List ℕ)
+    → Result ℕ WriteFault → Type 0
 PrintsBatch Is most held now result =
-    (batch : List Turn) × Is batch × (length batch ≤ most) × IfOk result (λ done. (done ≡ length batch) × (1 ≤ done) × Appends held now (flat_map turn_line batch))
+    (batch : List Turn) × Is batch × (length batch ≤ most)
+    × IfOk result (λ done. (done ≡ length batch) × (1 ≤ done)
+    × Appends held now (flat_map turn_line batch))
 
 -- n turns at most, in batches by such steps; where the writer did not fail their lines were written
-pub record Serves {S : Type 0} (IsStep : S → List Turn → S → Type 0) (old new : S) (held now : Option (List ℕ)) (count : ℕ) (result : Result JobStatus WriteFault) : Type 0 where
+pub record Serves {S : Type 0} (IsStep : S → List Turn → S → Type 0) (old new : S)
+    (held now : Option (List ℕ)) (count : ℕ) (result : Result JobStatus WriteFault) : Type 0 where
   pub batches : List (List Turn)
   pub lead : BatchesLead IsStep old batches new
   pub few : length (turns_in batches) ≤ count

@@ -8,7 +8,8 @@ use Rattle.s10_wire.specs.Datagrams.{Asks, Replies}
 use Rattle.s10_lines.specs.Lines.{request_line, reply_line}
 use Rattle.s10_wire.specs.WireFault.{byte, IsFirstRefusalOfRequest, IsFirstRefusalOfReply}
 use Rattle.s10_jobs.specs.declared.job_status.JobStatus.{JobStatus}
-use Rattle.s10_jobs.specs.declared.job_status.JobStatus.TheVariants.{Done, Refused, CommandLine, Failed}
+use Rattle.s10_jobs.specs.declared.job_status.JobStatus.TheVariants.{Done, Refused, CommandLine}
+use Rattle.s10_jobs.specs.declared.job_status.JobStatus.TheVariants.{Failed}
 use Rattle.s10_jobs.specs.Words.{wire_fault_words}
 use Rattle.s10_jobs.specs.Lines.{refused_line}
 
@@ -20,22 +21,26 @@ is_marked_reply bytes = nat_le 4 (length bytes) && nat_le 0x80 (byte bytes 3)
 abbrev pub IsRequestShown : List ℕ → JobStatus → List ℕ → Type 0
 IsRequestShown bytes Done line = (q : Request) × Asks bytes q × (line ≡ request_line q)
 IsRequestShown bytes Refused line =
-    (fault : WireFault) × IsFirstRefusalOfRequest bytes fault × (line ≡ refused_line (wire_fault_words fault))
+    (fault : WireFault) × IsFirstRefusalOfRequest bytes fault
+    × (line ≡ refused_line (wire_fault_words fault))
 IsRequestShown bytes CommandLine line = ⊥
 IsRequestShown bytes Failed line = ⊥
 
 -- the line of a reply, or why the bytes are none
 abbrev pub IsReplyShown : List ℕ → JobStatus → List ℕ → Type 0
-IsReplyShown bytes Done line = (q : Request) × (o : Outcome) × Replies bytes q o × (line ≡ reply_line q o)
+IsReplyShown bytes Done line = (q : Request) × (o : Outcome) × Replies bytes q o
+    × (line ≡ reply_line q o)
 IsReplyShown bytes Refused line =
-    (fault : WireFault) × IsFirstRefusalOfReply bytes fault × (line ≡ refused_line (wire_fault_words fault))
+    (fault : WireFault) × IsFirstRefusalOfReply bytes fault
+    × (line ≡ refused_line (wire_fault_words fault))
 IsReplyShown bytes CommandLine line = ⊥
 IsReplyShown bytes Failed line = ⊥
 
 -- the line of a datagram
 abbrev pub IsShown : List ℕ → JobStatus → List ℕ → Type 0
 IsShown bytes status line =
-    MatchBool (is_marked_reply bytes) (IsReplyShown bytes status line) (IsRequestShown bytes status line)
+    MatchBool (is_marked_reply bytes) (IsReplyShown bytes status line)
+    (IsRequestShown bytes status line)
 
 -- one line of this kind went out
 abbrev pub Prints : Option (List ℕ) → Option (List ℕ) → (List ℕ → Type 0) → Type 0

@@ -2,7 +2,8 @@
 use Rattle.std.specs.Prelude.{ℕ, List, ◌++◌, codes, Ok, Err}
 use Rattle.hex.specs.Hex.{encode_lower}
 use Rattle.s10_lines.specs.Lines.{line_of}
-use Rattle.s10_ends.specs.declared.server_turn.ServerTurn.TheVariants.{Quiet, Dropped, Faulted, Uncommitted, Replied}
+use Rattle.s10_ends.specs.declared.server_turn.ServerTurn.TheVariants.{Quiet, Dropped, Faulted}
+use Rattle.s10_ends.specs.declared.server_turn.ServerTurn.TheVariants.{Uncommitted, Replied}
 use Rattle.s10_ends.specs.Turn.{Turn}
 use Rattle.s10_jobs.specs.Words.{wire_fault_words, book_fault_words, link_fault_words}
 

@@ -3,16 +3,20 @@ use Rattle.std.specs.Prelude.{ℕ, List, [], ◌∷◌, codes, decimal}
 use Rattle.s10_core.specs.declared.group.Group.{Group}
 use Rattle.s10_core.specs.declared.group.Group.TheVariants.{Parcel, Ems, Registered, Insured, Other}
 use Rattle.s10_core.specs.declared.text_fault.TextFault.{TextFault}
-use Rattle.s10_core.specs.declared.text_fault.TextFault.TheVariants.{Length as TextLength, Letter, Digit, CheckDigit}
+use Rattle.s10_core.specs.declared.text_fault.TextFault.TheVariants.{Length as TextLength, Letter}
+use Rattle.s10_core.specs.declared.text_fault.TextFault.TheVariants.{Digit, CheckDigit}
 use Rattle.s10_book.specs.declared.book_fault.BookFault.{BookFault}
 use Rattle.s10_book.specs.declared.book_fault.BookFault.TheVariants.{Memory, Store, Full}
 use Rattle.s10_wire.specs.declared.wire_fault.WireFault.{WireFault}
-use Rattle.s10_wire.specs.declared.wire_fault.WireFault.TheVariants.{Short, Magic, Version, Kind, Length, Field, Outcome}
+use Rattle.s10_wire.specs.declared.wire_fault.WireFault.TheVariants.{Short, Magic, Version, Kind}
+use Rattle.s10_wire.specs.declared.wire_fault.WireFault.TheVariants.{Length, Field, Outcome}
 use Rattle.std.specs.Fmt.{signed_decimal}
 use Rattle.s10_link.specs.declared.link_fault.LinkFault.{LinkFault}
 use Rattle.s10_link.specs.declared.link_fault.LinkFault.TheVariants.{Bind, Receive, Send, Spent}
 use Rattle.s10_rows.specs.declared.open_fault.OpenFault.{OpenFault}
-use Rattle.s10_rows.specs.declared.open_fault.OpenFault.TheVariants.{NotALedger, Schema, Damaged, NotEmpty, Memory as NoMemory, Store as NotStored}
+use Rattle.s10_rows.specs.declared.open_fault.OpenFault.TheVariants.{NotALedger, Schema, Damaged}
+use Rattle.s10_rows.specs.declared.open_fault.OpenFault.TheVariants.{NotEmpty, Memory as NoMemory}
+use Rattle.s10_rows.specs.declared.open_fault.OpenFault.TheVariants.{Store as NotStored}
 use Rattle.s10_lines.specs.Lines.{line_of}
 use Rattle.s10_jobs.specs.declared.job_status.JobStatus.{JobStatus}
 use Rattle.s10_jobs.specs.declared.job_status.JobStatus.TheVariants.{Refused, Failed}

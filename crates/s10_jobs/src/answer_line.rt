@@ -15,7 +15,8 @@ use std::io::Write;
 
 /// Writes the reply in lower-case hex, or why there is none.
 pub fn write_answer<W: Write>(answer: &Answer, out: &mut W) -> Result<(), WriteFault>
-    ensures { OnOk result (Appends (W.contents out.old) (W.contents out.new) (answer_line answer.now)) }
+    ensures { OnOk result (Appends (W.contents out.old) (W.contents out.new)
+        (answer_line answer.now)) }
 {
     match answer {
         Answer::Reply(frame) => write_hex(frame, out),
@@ -26,7 +27,8 @@ pub fn write_answer<W: Write>(answer: &Answer, out: &mut W) -> Result<(), WriteF
 
 /// Writes a frame in lower-case hex, and ends the line.
 pub fn write_hex<W: Write>(frame: &Frame, out: &mut W) -> Result<(), WriteFault>
-    ensures { OnOk result (Appends (W.contents out.old) (W.contents out.new) (encode_lower frame.now ++ codes "\n")) }
+    ensures { OnOk result (Appends (W.contents out.old) (W.contents out.new) (encode_lower frame.now
+        ++ codes "\n")) }
 {
     // A frame has at most 256 bytes, and a byte two digits.
     let mut room = [0u8; 512];
@@ -41,7 +43,8 @@ pub fn write_hex<W: Write>(frame: &Frame, out: &mut W) -> Result<(), WriteFault>
 
 /// Writes the line of bytes that ask nothing.
 pub fn write_dropped<W: Write>(fault: WireFault, out: &mut W) -> Result<(), WriteFault>
-    ensures { OnOk result (Appends (W.contents out.old) (W.contents out.new) (line_of (codes "dropped") (wire_fault_words fault))) }
+    ensures { OnOk result (Appends (W.contents out.old) (W.contents out.new)
+        (line_of (codes "dropped") (wire_fault_words fault))) }
 {
     write_text(b"dropped", out)?;
     write_wire_fault(fault, out)?;
@@ -50,7 +53,8 @@ pub fn write_dropped<W: Write>(fault: WireFault, out: &mut W) -> Result<(), Writ
 
 /// Writes the line of a request that the book left unanswered.
 pub fn write_faulted<W: Write>(fault: BookFault, out: &mut W) -> Result<(), WriteFault>
-    ensures { OnOk result (Appends (W.contents out.old) (W.contents out.new) (line_of (codes "faulted") (book_fault_words fault))) }
+    ensures { OnOk result (Appends (W.contents out.old) (W.contents out.new)
+        (line_of (codes "faulted") (book_fault_words fault))) }
 {
     write_text(b"faulted", out)?;
     write_book_fault(fault, out)?;

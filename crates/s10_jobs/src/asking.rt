@@ -30,7 +30,8 @@ pub fn ask<L: Link, W: Write>(
 ) -> Result<JobStatus, WriteFault>
     requires { (1 ≤ tries) × (tries ≤ 100) }
     ensures asked { (called : Result Reply CallFault)
-        × Calls client.old client.new (L.trace_of link.old) (L.trace_of link.new) to body tries called
+        × Calls client.old client.new (L.trace_of link.old) (L.trace_of link.new) to body tries
+        called
         × IfOk result (λ status. (status ≡ asked_status called)
         × Appends (W.contents out.old) (W.contents out.new) (asked_line called)) }
     ensures led { LeadsTo L.step link.old link.new }

@@ -89,7 +89,8 @@ impl BodyWords<'_> {
 }
 
 fn read_pair(service: &str, country: &str) -> Result<(Service, Country), Refusal>
-    ensures ok { IfOk result (λ pair. (letters_of pair.0 ≡ service.now) × (letters_of pair.1 ≡ country.now)) }
+    ensures ok { IfOk result (λ pair. (letters_of pair.0 ≡ service.now)
+        × (letters_of pair.1 ≡ country.now)) }
     ensures refused { IfErr result (IsPairRefusal service.now country.now) }
 {
     let Some(service) = read_service(service) else {

@@ -18,9 +18,12 @@ use std::io::Write;
 /// Writes the line of a text.
 pub fn check<W: Write>(text: &str, is_label: bool, out: &mut W) -> Result<JobStatus, WriteFault>
     ensures valid { (id : Id) → Spells (text_read is_label text.now) id → IfOk result (λ status.
-        (status ≡ JobStatus.Done) × Appends (W.contents out.old) (W.contents out.new) (valid_line id)) }
-    ensures refused { (fault : TextFault) → IsFirstRefusal (text_read is_label text.now) fault → IfOk result (λ status.
-        (status ≡ JobStatus.Refused) × Appends (W.contents out.old) (W.contents out.new) (refused_line (text_fault_words fault))) }
+        (status ≡ JobStatus.Done) × Appends (W.contents out.old) (W.contents out.new)
+        (valid_line id)) }
+    ensures refused { (fault : TextFault) → IsFirstRefusal (text_read is_label text.now) fault
+        → IfOk result (λ status.
+        (status ≡ JobStatus.Refused) × Appends (W.contents out.old) (W.contents out.new)
+        (refused_line (text_fault_words fault))) }
 {
     match read(text, is_label) {
         Ok(id) => write_valid(&id, out),
@@ -41,7 +44,8 @@ fn read(text: &str, is_label: bool) -> Result<Id, TextFault>
 
 fn write_valid<W: Write>(id: &Id, out: &mut W) -> Result<JobStatus, WriteFault>
     ensures { IfOk result (λ status.
-        (status ≡ JobStatus.Done) × Appends (W.contents out.old) (W.contents out.new) (valid_line id.now)) }
+        (status ≡ JobStatus.Done) × Appends (W.contents out.old) (W.contents out.new)
+        (valid_line id.now)) }
 {
     write_text(&id.write(), out)?;
     write_word(b"valid", out)?;

@@ -24,7 +24,8 @@ pub fn day_or_today<C: Clock>(clock: &C, day: Option<u32>) -> Option<u32>
 }
 
 fn day_of(time: SystemTime) -> Option<u32>
-    ensures { let day = system_time_nanos time / 1_000_000_000 / 86_400 in SomeIff result (day < 2 ^ 32) day }
+    ensures { let day = system_time_nanos time / 1_000_000_000 / 86_400 in
+        SomeIff result (day < 2 ^ 32) day }
 {
     let since = time.duration_since(UNIX_EPOCH).ok()?;
     u32::try_from(since.as_secs() / SECONDS_OF_A_DAY).ok()

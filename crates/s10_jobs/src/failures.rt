@@ -25,7 +25,8 @@ pub fn fail_by_clock<W: Write>(out: &mut W) -> Result<JobStatus, WriteFault>
 /// Says why there is no ledger.
 pub fn fail_by_ledger<W: Write>(fault: OpenFault, out: &mut W) -> Result<JobStatus, WriteFault>
     ensures { IfOk result (λ status. (status ≡ JobStatus.Failed)
-        × Appends (W.contents out.old) (W.contents out.new) (line_of (codes "ledger") (open_fault_words fault))) }
+        × Appends (W.contents out.old) (W.contents out.new)
+        (line_of (codes "ledger") (open_fault_words fault))) }
 {
     write_ledger_fault(fault, out)?;
     Ok(JobStatus::Failed)
@@ -34,7 +35,8 @@ pub fn fail_by_ledger<W: Write>(fault: OpenFault, out: &mut W) -> Result<JobStat
 /// Says what the link failed in.
 pub fn fail_by_link<W: Write>(fault: LinkFault, out: &mut W) -> Result<JobStatus, WriteFault>
     ensures { IfOk result (λ status. (status ≡ JobStatus.Failed)
-        × Appends (W.contents out.old) (W.contents out.new) (line_of (codes "link") (link_fault_words fault))) }
+        × Appends (W.contents out.old) (W.contents out.new)
+        (line_of (codes "link") (link_fault_words fault))) }
 {
     write_link_fault(fault, out)?;
     Ok(JobStatus::Failed)

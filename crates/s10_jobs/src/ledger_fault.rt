@@ -12,7 +12,8 @@ use std::io::Write;
 
 /// Writes the line of a ledger's fault. A fault of the writer may leave part of it written.
 pub fn write_ledger_fault<W: Write>(fault: OpenFault, out: &mut W) -> Result<(), WriteFault>
-    ensures { OnOk result (Appends (W.contents out.old) (W.contents out.new) (line_of (codes "ledger") (open_fault_words fault))) }
+    ensures { OnOk result (Appends (W.contents out.old) (W.contents out.new)
+        (line_of (codes "ledger") (open_fault_words fault))) }
 {
     write_text(b"ledger", out)?;
     write_open_fault(fault, out)?;

@@ -56,8 +56,10 @@ pub fn next_byte<R: Read>(input: &mut R) -> io::Result<Option<u8>>
 /// the buffer has room for.
 pub fn read_line<R: Read>(input: &mut R, buffer: &mut [u8; MAX_LINE]) -> io::Result<NextLine>
     ensures fits { IfOk result FitsIn }
-    ensures line { IfOk result (ReadsLine (R.remaining input.old) (R.remaining input.new) buffer.new) }
-    ensures taken { (bytes : List ℕ) × Consumes (R.remaining input.old) (R.remaining input.new) bytes }
+    ensures line { IfOk result (ReadsLine (R.remaining input.old) (R.remaining input.new)
+        buffer.new) }
+    ensures taken { (bytes : List ℕ) × Consumes (R.remaining input.old) (R.remaining input.new)
+        bytes }
     ensures stopped { OnErr result (BeginsLine (R.remaining input.old) (R.remaining input.new)) }
 {
     for at in 0..MAX_LINE {

@@ -12,7 +12,8 @@ use std::io::Write;
 
 /// Writes the line of a link's fault. A fault of the writer may leave part of it written.
 pub fn write_link_fault<W: Write>(fault: LinkFault, out: &mut W) -> Result<(), WriteFault>
-    ensures { OnOk result (Appends (W.contents out.old) (W.contents out.new) (line_of (codes "link") (link_fault_words fault))) }
+    ensures { OnOk result (Appends (W.contents out.old) (W.contents out.new)
+        (line_of (codes "link") (link_fault_words fault))) }
 {
     write_text(b"link", out)?;
     write_link_word(fault, out)?;

@@ -18,15 +18,22 @@ pub fn make<W: Write>(
     country: &str,
     out: &mut W,
 ) -> Result<JobStatus, WriteFault>
-    ensures made { AreTwoCapitals service.now → AreEightDigits serial.now → AreTwoCapitals country.now → IfOk result (λ status.
+    ensures made { AreTwoCapitals service.now → AreEightDigits serial.now
+        → AreTwoCapitals country.now → IfOk result (λ status.
         (status ≡ JobStatus.Done)
-        × Appends (W.contents out.old) (W.contents out.new) (made_line service.now serial.now country.now)) }
+        × Appends (W.contents out.old) (W.contents out.new)
+        (made_line service.now serial.now country.now)) }
     ensures service { ¬ AreTwoCapitals service.now → IfOk result (λ status.
-        (status ≡ JobStatus.Refused) × Appends (W.contents out.old) (W.contents out.new) (refused_line (codes "service" ∷ []))) }
-    ensures serial { AreTwoCapitals service.now → ¬ AreEightDigits serial.now → IfOk result (λ status.
-        (status ≡ JobStatus.Refused) × Appends (W.contents out.old) (W.contents out.new) (refused_line (codes "serial" ∷ []))) }
-    ensures country { AreTwoCapitals service.now → AreEightDigits serial.now → ¬ AreTwoCapitals country.now → IfOk result (λ status.
-        (status ≡ JobStatus.Refused) × Appends (W.contents out.old) (W.contents out.new) (refused_line (codes "country" ∷ []))) }
+        (status ≡ JobStatus.Refused) × Appends (W.contents out.old) (W.contents out.new)
+        (refused_line (codes "service" ∷ []))) }
+    ensures serial { AreTwoCapitals service.now → ¬ AreEightDigits serial.now
+        → IfOk result (λ status.
+        (status ≡ JobStatus.Refused) × Appends (W.contents out.old) (W.contents out.new)
+        (refused_line (codes "serial" ∷ []))) }
+    ensures country { AreTwoCapitals service.now → AreEightDigits serial.now
+        → ¬ AreTwoCapitals country.now → IfOk result (λ status.
+        (status ≡ JobStatus.Refused) × Appends (W.contents out.old) (W.contents out.new)
+        (refused_line (codes "country" ∷ []))) }
 {
     let Some(service) = read_service(service) else {
         return refuse(b"service", out);

@@ -24,7 +24,8 @@ impl Question<'_> {
     /// Reads the texts: the server's address before the body's. Refused with the first that does
     /// not read.
     pub fn read(&self) -> Result<(Peer, Body), Refusal>
-        ensures ok { IfOk result (λ read. SpellsPeer self.now.to.now read.0 × WordsAsk self.now.body read.1) }
+        ensures ok { IfOk result (λ read. SpellsPeer self.now.to.now read.0
+            × WordsAsk self.now.body read.1) }
         ensures refused { IfErr result (IsQuestionRefusal self.now) }
     {
         let Some(to) = Peer::read(self.to.as_bytes()) else {

@@ -27,7 +27,8 @@ pub enum Refusal {
 /// Writes the line of a refusal.
 pub fn write_refusal<W: Write>(refusal: Refusal, out: &mut W) -> Result<JobStatus, WriteFault>
     ensures { IfOk result (λ status. (status ≡ JobStatus.Refused)
-        × Appends (W.contents out.old) (W.contents out.new) (refused_line (refusal_words refusal))) }
+        × Appends (W.contents out.old) (W.contents out.new)
+        (refused_line (refusal_words refusal))) }
 {
     match refusal {
         Refusal::Peer => refuse(b"peer", out),

@@ -25,7 +25,8 @@ pub fn refuse<W: Write>(word: &[u8], out: &mut W) -> Result<JobStatus, WriteFaul
 /// Refuses a text that spells no identifier.
 pub fn refuse_text<W: Write>(fault: TextFault, out: &mut W) -> Result<JobStatus, WriteFault>
     ensures { IfOk result (λ status. (status ≡ JobStatus.Refused)
-        × Appends (W.contents out.old) (W.contents out.new) (refused_line (text_fault_words fault))) }
+        × Appends (W.contents out.old) (W.contents out.new)
+        (refused_line (text_fault_words fault))) }
 {
     write_text(b"refused", out)?;
     write_text_fault(fault, out)?;
@@ -36,7 +37,8 @@ pub fn refuse_text<W: Write>(fault: TextFault, out: &mut W) -> Result<JobStatus,
 /// Refuses bytes that are no datagram.
 pub fn refuse_datagram<W: Write>(fault: WireFault, out: &mut W) -> Result<JobStatus, WriteFault>
     ensures { IfOk result (λ status. (status ≡ JobStatus.Refused)
-        × Appends (W.contents out.old) (W.contents out.new) (refused_line (wire_fault_words fault))) }
+        × Appends (W.contents out.old) (W.contents out.new)
+        (refused_line (wire_fault_words fault))) }
 {
     write_text(b"refused", out)?;
     write_wire_fault(fault, out)?;

@@ -33,8 +33,11 @@ pub fn replay_on<B: Book, R: Read, W: Write>(
     output: &mut W,
 ) -> Result<u32, ReplayFault>
     ensures was_honest { B.honest (book_of server.new) → B.honest (book_of server.old) }
-    ensures replayed { B.honest (book_of server.new) → IfSome (R.remaining input.old) (λ bytes. IfSome (W.contents output.old) (λ held.
-        Replayed (B.history (book_of server.old)) (B.terms (book_of server.old)) bytes (R.remaining input.new) held (W.contents output.new) result (B.history (book_of server.new)))) }
+    ensures replayed { B.honest (book_of server.new)
+        → IfSome (R.remaining input.old) (λ bytes. IfSome (W.contents output.old) (λ held.
+        Replayed (B.history (book_of server.old)) (B.terms (book_of server.old)) bytes
+        (R.remaining input.new) held (W.contents output.new) result
+        (B.history (book_of server.new)))) }
 {
     let mut buffer = [0u8; MAX_LINE];
     let mut count = 0;
@@ -76,7 +79,8 @@ pub fn replay<R: Read, W: Write>(
     output: &mut W,
 ) -> Result<u32, ReplayFault>
     ensures { IfSome (R.remaining input.old) (λ bytes. IfSome (W.contents output.old) (λ held.
-        (after : List Entry) × Replayed [] settings bytes (R.remaining input.new) held (W.contents output.new) result after)) }
+        (after : List Entry) × Replayed [] settings bytes (R.remaining input.new) held
+        (W.contents output.new) result after)) }
 {
     let book = IndexedBook::new(alloc, settings);
     let mut server = Server::new(book);
@@ -92,7 +96,8 @@ pub fn run_replay<R: Read, W: Write>(
 ) -> Result<JobStatus, WriteFault>
     ensures { IfSome (R.remaining input.old) (λ bytes. IfSome (W.contents output.old) (λ held.
         (after : List Entry) × (replayed : Result ℕ ReplayFault) × (between : Option (List ℕ))
-        × Replayed [] settings bytes (R.remaining input.new) held between replayed after × ReportsReplay replayed between (W.contents output.new) result)) }
+        × Replayed [] settings bytes (R.remaining input.new) held between replayed after
+        × ReportsReplay replayed between (W.contents output.new) result)) }
 {
     match replay(alloc, settings, input, output) {
         Ok(_) => Ok(JobStatus::Done),

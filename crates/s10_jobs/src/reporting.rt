@@ -29,8 +29,10 @@ impl Report {
     /// where no day is given. `None` where the clock gives none.
     pub fn new<C: Clock>(clock: &C, is_of_issues: bool, day: Option<u32>) -> Option<Report>
         ensures issues { is_of_issues ≡ true → result ≡ Some Report.Issues }
-        ensures ranges { (d : ℕ) → is_of_issues ≡ false → day ≡ Some d → result ≡ Some (Report.Ranges d) }
-        ensures of_a_day { is_of_issues ≡ false → IfSome result (λ r. (d : ℕ) × (r ≡ Report.Ranges d)) }
+        ensures ranges { (d : ℕ) → is_of_issues ≡ false → day ≡ Some d
+            → result ≡ Some (Report.Ranges d) }
+        ensures of_a_day { is_of_issues ≡ false
+            → IfSome result (λ r. (d : ℕ) × (r ≡ Report.Ranges d)) }
     {
         if is_of_issues {
             return Some(Report::Issues);
@@ -48,7 +50,9 @@ pub fn write_report<B: Book, W: Write>(
     out: &mut W,
 ) -> Result<JobStatus, WriteFault>
     ensures unchanged { Unchanged B.history B.terms B.honest book.old book.new }
-    ensures written { B.honest book.new → IfOk result (PrintsReport (B.faults book.old) (B.faults book.new) (W.contents out.old) (W.contents out.new)
+    ensures written { B.honest book.new
+        → IfOk result (PrintsReport (B.faults book.old) (B.faults book.new) (W.contents out.old)
+        (W.contents out.new)
         (report_lines report (B.history book.old) (B.terms book.old))) }
 {
     let written = match report {

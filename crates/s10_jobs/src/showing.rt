@@ -3,7 +3,8 @@ ghost use Rattle.std.specs.Prelude.{◌≡◌, ℕ, List, [], ◌∷◌, codes, 
 ghost use Rattle.std.specs.Io.KnownBytes.{Appends};
 ghost use Rattle.s10_jobs.specs.Lines.{refused_line};
 ghost use Rattle.s10_jobs.specs.InputLines.{bytes_in};
-ghost use Rattle.s10_jobs.specs.Shown.{is_marked_reply, IsRequestShown, IsReplyShown, IsShown, Prints};
+ghost use Rattle.s10_jobs.specs.Shown.{is_marked_reply, IsRequestShown, IsReplyShown, IsShown};
+ghost use Rattle.s10_jobs.specs.Shown.{Prints};
 
 use crate::delivery_line::read_bytes;
 use crate::job_status::JobStatus;
@@ -26,7 +27,8 @@ pub fn show<W: Write>(text: &str, out: &mut W) -> Result<JobStatus, WriteFault>
 }
 
 fn show_datagram<W: Write>(bytes: &[u8], out: &mut W) -> Result<JobStatus, WriteFault>
-    ensures { IfOk result (λ status. Prints (W.contents out.old) (W.contents out.new) (IsShown bytes.now status)) }
+    ensures { IfOk result (λ status. Prints (W.contents out.old) (W.contents out.new)
+        (IsShown bytes.now status)) }
 {
     if is_reply(bytes) {
         show_reply(bytes, out)
@@ -42,7 +44,8 @@ fn is_reply(bytes: &[u8]) -> bool
 }
 
 fn show_request<W: Write>(bytes: &[u8], out: &mut W) -> Result<JobStatus, WriteFault>
-    ensures { IfOk result (λ status. Prints (W.contents out.old) (W.contents out.new) (IsRequestShown bytes.now status)) }
+    ensures { IfOk result (λ status. Prints (W.contents out.old) (W.contents out.new)
+        (IsRequestShown bytes.now status)) }
 {
     match decode_request(bytes) {
         Ok(request) => {
@@ -54,7 +57,8 @@ fn show_request<W: Write>(bytes: &[u8], out: &mut W) -> Result<JobStatus, WriteF
 }
 
 fn show_reply<W: Write>(bytes: &[u8], out: &mut W) -> Result<JobStatus, WriteFault>
-    ensures { IfOk result (λ status. Prints (W.contents out.old) (W.contents out.new) (IsReplyShown bytes.now status)) }
+    ensures { IfOk result (λ status. Prints (W.contents out.old) (W.contents out.new)
+        (IsReplyShown bytes.now status)) }
 {
     match decode_reply(bytes) {
         Ok(reply) => {

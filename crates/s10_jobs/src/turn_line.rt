@@ -32,7 +32,8 @@ pub fn write_turn<W: Write>(turn: &Turn, out: &mut W) -> Result<(), WriteFault>
 
 // The line of a request whose call could not be committed.
 fn write_uncommitted<W: Write>(fault: BookFault, out: &mut W) -> Result<(), WriteFault>
-    ensures { OnOk result (Appends (W.contents out.old) (W.contents out.new) (line_of (codes "uncommitted") (book_fault_words fault))) }
+    ensures { OnOk result (Appends (W.contents out.old) (W.contents out.new)
+        (line_of (codes "uncommitted") (book_fault_words fault))) }
 {
     write_text(b"uncommitted", out)?;
     write_book_fault(fault, out)?;
@@ -40,7 +41,8 @@ fn write_uncommitted<W: Write>(fault: BookFault, out: &mut W) -> Result<(), Writ
 }
 
 fn write_replied<W: Write>(frame: &Frame, out: &mut W) -> Result<(), WriteFault>
-    ensures { OnOk result (Appends (W.contents out.old) (W.contents out.new) (replied_line frame.now)) }
+    ensures { OnOk result (Appends (W.contents out.old) (W.contents out.new)
+        (replied_line frame.now)) }
 {
     write_text(b"replied ", out)?;
     write_hex(frame, out)

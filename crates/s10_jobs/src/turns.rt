@@ -64,7 +64,8 @@ fn serve_batched<R: Eprint, B: GroupCommit, L: Link, W: Write>(
     out: &mut W,
 ) -> Result<u32, WriteFault>
     requires { 1 ≤ most }
-    ensures { PrintsBatch (λ turns. (room : ℕ) × ServesBatch B.faults B.honest B.terms B.history B.committed day room
+    ensures { PrintsBatch (λ turns. (room : ℕ) × ServesBatch B.faults B.honest B.terms B.history
+        B.committed day room
         (L.trace_of link.old, book_of server.old) (L.trace_of link.new, book_of server.new) turns)
         most (W.contents out.old) (W.contents out.new) result }
 {
@@ -83,7 +84,8 @@ fn serve_batched<R: Eprint, B: GroupCommit, L: Link, W: Write>(
 
 // Writes the lines of turns, and tells who sent what was dropped.
 fn print_turns<R: Eprint, W: Write>(rt: &R, turns: &[Turn], out: &mut W) -> Result<(), WriteFault>
-    ensures { OnOk result (Appends (W.contents out.old) (W.contents out.new) (flat_map turn_line turns.now)) }
+    ensures { OnOk result (Appends (W.contents out.old) (W.contents out.new)
+        (flat_map turn_line turns.now)) }
 {
     for turn in turns {
         eprint_sender(rt, turn);

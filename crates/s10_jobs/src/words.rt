@@ -3,7 +3,8 @@ ghost use Rattle.std.specs.Prelude.{◌≡◌, [], ◌∷◌, OnOk, codes, decim
 ghost use Rattle.std.specs.Fmt.{signed_decimal};
 ghost use Rattle.std.specs.Io.KnownBytes.{Appends};
 ghost use Rattle.s10_lines.specs.Lines.{spaced};
-ghost use Rattle.s10_jobs.specs.Words.{group_words, text_fault_words, wire_fault_words, book_fault_words, link_fault_words, open_fault_words};
+ghost use Rattle.s10_jobs.specs.Words.{group_words, text_fault_words, wire_fault_words};
+ghost use Rattle.s10_jobs.specs.Words.{book_fault_words, link_fault_words, open_fault_words};
 
 use itoa::Buffer;
 use s10_book::BookFault;
@@ -29,7 +30,8 @@ pub fn group_word(group: Group) -> &'static str
 
 /// Writes the words of a text fault, with a space before each.
 pub fn write_text_fault<W: Write>(fault: TextFault, out: &mut W) -> Result<(), WriteFault>
-    ensures { OnOk result (Appends (W.contents out.old) (W.contents out.new) (spaced (text_fault_words fault))) }
+    ensures { OnOk result (Appends (W.contents out.old) (W.contents out.new)
+        (spaced (text_fault_words fault))) }
 {
     match fault {
         TextFault::Length => write_word(b"length", out),
@@ -41,7 +43,8 @@ pub fn write_text_fault<W: Write>(fault: TextFault, out: &mut W) -> Result<(), W
 
 /// Writes the words of a datagram's fault, with a space before each.
 pub fn write_wire_fault<W: Write>(fault: WireFault, out: &mut W) -> Result<(), WriteFault>
-    ensures { OnOk result (Appends (W.contents out.old) (W.contents out.new) (spaced (wire_fault_words fault))) }
+    ensures { OnOk result (Appends (W.contents out.old) (W.contents out.new)
+        (spaced (wire_fault_words fault))) }
 {
     match fault {
         WireFault::Short => write_word(b"short", out),
@@ -56,7 +59,8 @@ pub fn write_wire_fault<W: Write>(fault: WireFault, out: &mut W) -> Result<(), W
 
 /// Writes the word of a book's fault, with a space before it.
 pub fn write_book_fault<W: Write>(fault: BookFault, out: &mut W) -> Result<(), WriteFault>
-    ensures { OnOk result (Appends (W.contents out.old) (W.contents out.new) (spaced (book_fault_words fault))) }
+    ensures { OnOk result (Appends (W.contents out.old) (W.contents out.new)
+        (spaced (book_fault_words fault))) }
 {
     match fault {
         BookFault::Memory => write_word(b"memory", out),
@@ -67,7 +71,8 @@ pub fn write_book_fault<W: Write>(fault: BookFault, out: &mut W) -> Result<(), W
 
 /// Writes the word of a link's fault, with a space before it.
 pub fn write_link_word<W: Write>(fault: LinkFault, out: &mut W) -> Result<(), WriteFault>
-    ensures { OnOk result (Appends (W.contents out.old) (W.contents out.new) (spaced (link_fault_words fault))) }
+    ensures { OnOk result (Appends (W.contents out.old) (W.contents out.new)
+        (spaced (link_fault_words fault))) }
 {
     match fault {
         LinkFault::Bind => write_word(b"bind", out),
@@ -79,7 +84,8 @@ pub fn write_link_word<W: Write>(fault: LinkFault, out: &mut W) -> Result<(), Wr
 
 /// Writes the words of a ledger's fault, with a space before each.
 pub fn write_open_fault<W: Write>(fault: OpenFault, out: &mut W) -> Result<(), WriteFault>
-    ensures { OnOk result (Appends (W.contents out.old) (W.contents out.new) (spaced (open_fault_words fault))) }
+    ensures { OnOk result (Appends (W.contents out.old) (W.contents out.new)
+        (spaced (open_fault_words fault))) }
 {
     match fault {
         OpenFault::NotALedger => write_word(b"not-a-ledger", out),
@@ -93,7 +99,8 @@ pub fn write_open_fault<W: Write>(fault: OpenFault, out: &mut W) -> Result<(), W
 
 // The number of a schema after its name.
 fn write_schema<W: Write>(number: i64, out: &mut W) -> Result<(), WriteFault>
-    ensures { OnOk result (Appends (W.contents out.old) (W.contents out.new) (spaced (codes "schema" ∷ signed_decimal number ∷ []))) }
+    ensures { OnOk result (Appends (W.contents out.old) (W.contents out.new)
+        (spaced (codes "schema" ∷ signed_decimal number ∷ []))) }
 {
     let mut buffer = Buffer::new();
     write_word(b"schema", out)?;
@@ -102,7 +109,8 @@ fn write_schema<W: Write>(number: i64, out: &mut W) -> Result<(), WriteFault>
 
 // A word, and the place that it is about.
 fn write_placed<W: Write>(word: &[u8], at: u32, out: &mut W) -> Result<(), WriteFault>
-    ensures { OnOk result (Appends (W.contents out.old) (W.contents out.new) (spaced (word.now ∷ decimal at ∷ []))) }
+    ensures { OnOk result (Appends (W.contents out.old) (W.contents out.new)
+        (spaced (word.now ∷ decimal at ∷ []))) }
 {
     write_word(word, out)?;
     write_decimal(at, out)

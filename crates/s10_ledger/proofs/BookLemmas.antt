@@ -1,5 +1,6 @@
 -- What a read leaves of a ledger, and what it answers.
-use Rattle.std.proofs.Common.{◌≡◌, ℕ, Bool, true, IsTrue, ◌++◌, Result, Ok, Err, IfOk, OnOk, ap, subst, refl, arith}
+use Rattle.std.proofs.Common.{◌≡◌, ℕ, Bool, true, IsTrue, ◌++◌, Result, Ok, Err, IfOk, OnOk, ap}
+use Rattle.std.proofs.Common.{subst, refl, arith}
 use Rattle.std.specs.Result.{is_ok}
 use Rattle.std.proofs.Math.Logic.{∥∥₁_elim}
 use Rattle.sqlite_trees.specs.declared.store.Store.{Ghosts}
@@ -18,40 +19,58 @@ use Rattle.s10_statements.proofs.Apart.{is_ledger-prop, is_closed-prop}
 
 -- what is kept true of a ledger's connection
 abbrev pub IsKept : {S : Type 0} → Ghosts S → Held S → Terms → ℕ → ℕ → Type 0
-IsKept g conn t len day = HasCleanDisk (state g conn) → IsTrue (state g conn).is_open → IsLedger (state g conn).now t len day
+IsKept g conn t len day = HasCleanDisk (state g conn) → IsTrue (state g conn).is_open
+    → IsLedger (state g conn).now t len day
 
-pub schema_is : (db : Database) (t : Terms) (len day : ℕ) → IsLedger db t len day → IsLedgerSchema db.schema
-schema_is db t len day it = ∥∥₁_elim it.held (is_ledger-prop db.schema) (λ h. h.tables.schema.ledger)
+pub schema_is : (db : Database) (t : Terms) (len day : ℕ) → IsLedger db t len day
+    → IsLedgerSchema db.schema
+schema_is db t len day it = ∥∥₁_elim it.held (is_ledger-prop db.schema)
+    (λ h. h.tables.schema.ledger)
 
-pub closed_is : (db : Database) (t : Terms) (len day : ℕ) → IsLedger db t len day → IsClosedSchema db.schema
+pub closed_is : (db : Database) (t : Terms) (len day : ℕ) → IsLedger db t len day
+    → IsClosedSchema db.schema
 closed_is db t len day it = ∥∥₁_elim it.held (is_closed-prop db.schema) (λ h. h.tables.schema)
 
-module _ {S : Type 0} (g : Ghosts S) (old new : Held S) (t : Terms) (len day : ℕ) (leaves : LeavesTables g old new) (settled : IsQuiescent g old) (kept : IsKept g old t len day) where
+module _ {S : Type 0} (g : Ghosts S) (old new : Held S) (t : Terms) (len day : ℕ)
+    (leaves : LeavesTables g old new) (settled : IsQuiescent g old)
+    (kept : IsKept g old t len day) where
   -- the tables are as they were
-  pub same_tables : HasCleanDisk (state g new) → IsTrue (state g new).is_open → (state g new).now ≡ (state g old).now
-  same_tables clean opened = leaves.now clean opened settled (schema_is (state g old).now t len day (kept (omega (arith, leaves.clean)) (leaves.was_open clean opened)))
+  pub same_tables : HasCleanDisk (state g new) → IsTrue (state g new).is_open → (state g new).now
+      ≡ (state g old).now
+  same_tables clean opened = leaves.now clean opened settled (schema_is (state g old).now t len day
+      (kept (omega (arith, leaves.clean)) (leaves.was_open clean opened)))
 
-  pub was_ledger : HasCleanDisk (state g new) → IsTrue (state g new).is_open → IsLedger (state g old).now t len day
+  pub was_ledger : HasCleanDisk (state g new) → IsTrue (state g new).is_open
+      → IsLedger (state g old).now t len day
   was_ledger clean opened = kept (omega (arith, leaves.clean)) (leaves.was_open clean opened)
 
-pub read_keeps : {S : Type 0} (g : Ghosts S) (old : Ledger S) (conn : Held S) (faults : Faults) → LeavesTables g old.conn conn → IsQuiescent g old.conn → IsKept g old.conn old.terms old.len old.day
-    → Unchanged (history_of g) (λ (l : Ledger S). l.terms) (IsHonest g) old (record old { conn = conn; faults = faults })
+pub read_keeps : {S : Type 0} (g : Ghosts S) (old : Ledger S) (conn : Held S) (faults : Faults)
+    → LeavesTables g old.conn conn → IsQuiescent g old.conn → IsKept g old.conn old.terms old.len
+    old.day
+    → Unchanged (history_of g) (λ (l : Ledger S). l.terms) (IsHonest g) old
+    (record old { conn = conn; faults = faults })
 read_keeps g old conn faults leaves settled kept = record {
   was_honest = λ h. record {
     clean = omega (arith, leaves.clean, h.clean);
     is_open = leaves.was_open h.clean h.is_open;
-    ledger = was_ledger g old.conn conn old.terms old.len old.day leaves settled kept h.clean h.is_open;
-    legal = subst (λ (d : Database). IsLegal (history_in d ++ old.pending) old.terms) (same_tables g old.conn conn old.terms old.len old.day leaves settled kept h.clean h.is_open) h.legal;
+    ledger = was_ledger g old.conn conn old.terms old.len old.day leaves settled kept h.clean
+        h.is_open;
+    legal = subst (λ (d : Database). IsLegal (history_in d ++ old.pending) old.terms)
+        (same_tables g old.conn conn old.terms old.len old.day leaves settled kept h.clean
+        h.is_open) h.legal;
   };
-  same_history = λ h. ap (λ (d : Database). history_in d ++ old.pending) (same_tables g old.conn conn old.terms old.len old.day leaves settled kept h.clean h.is_open);
+  same_history = λ h. ap (λ (d : Database). history_in d ++ old.pending)
+      (same_tables g old.conn conn old.terms old.len old.day leaves settled kept h.clean h.is_open);
   same_terms = λ h. refl;
 }
 
-pub answered : {A T E : Type 0} → IsSet T → (r : Result T E) (x : T) → ∥ A ∥₁ → (A → IfOk r (λ y. y ≡ x)) → IfOk r (λ y. y ≡ x)
+pub answered : {A T E : Type 0} → IsSet T → (r : Result T E) (x : T) → ∥ A ∥₁
+    → (A → IfOk r (λ y. y ≡ x)) → IfOk r (λ y. y ≡ x)
 answered set (Ok y) x a f = ∥∥₁_elim a (set y x) f
 answered set (Err e) x a f = tt
 
 -- what is known of an answer that was given
-pub if_answered : {T E : Type 0} (r : Result T E) (P : Type 0) (answered : Bool) → answered ≡ is_ok r → OnOk r P → answered ≡ true → P
+pub if_answered : {T E : Type 0} (r : Result T E) (P : Type 0) (answered : Bool)
+    → answered ≡ is_ok r → OnOk r P → answered ≡ true → P
 if_answered (Ok x) P answered is p so = p
 if_answered (Err e) P answered is p so = absurd cc

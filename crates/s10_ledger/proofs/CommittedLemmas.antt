@@ -1,5 +1,6 @@
 -- Whether the call of a key is committed.
-use Rattle.std.proofs.Common.{◌≡◌, ℕ, suc, ◌↔◌, Bool, true, false, cond, not, ◌||◌, IsTrue, List, [], ◌∷◌, ◌++◌, get_or, Option, Some, None, refl, sym, ap, ◌∙◌, arith}
+use Rattle.std.proofs.Common.{◌≡◌, ℕ, suc, ◌↔◌, Bool, true, false, cond, not, ◌||◌, IsTrue, List}
+use Rattle.std.proofs.Common.{[], ◌∷◌, ◌++◌, get_or, Option, Some, None, refl, sym, ap, ◌∙◌, arith}
 use Rattle.std.specs.Prelude.{find, is_some, AllPairs}
 use Rattle.std.specs.List.{list_any}
 use Rattle.std.specs.Option.{option_or}
@@ -14,34 +15,44 @@ use Rattle.s10_rows.specs.declared.call_write.CallWrite.{CallWrite}
 use Rattle.s10_ledger.specs.Pending.{calls_of}
 
 -- a test of the calls that are written so
-pub any_call : (test : Entry → Bool) (ws : List CallWrite) → list_any test (calls_of ws) ≡ list_any (λ (w : CallWrite). test w.entry) ws
+pub any_call : (test : Entry → Bool) (ws : List CallWrite) → list_any test (calls_of ws)
+    ≡ list_any (λ (w : CallWrite). test w.entry) ws
 any_call test [] = refl
 any_call test (w ∷ ws) = ap (λ b. test w.entry || b) (any_call test ws)
 
-any_at : (b : Bool) (e : Entry) (rest : Bool) (o : Option Entry) → rest ≡ is_some o → (b || rest) ≡ is_some (cond b (Some e) o)
+any_at : (b : Bool) (e : Entry) (rest : Bool) (o : Option Entry) → rest ≡ is_some o
+    → (b || rest) ≡ is_some (cond b (Some e) o)
 any_at true e rest o same = refl
 any_at false e rest o same = same
 
 -- a call is found where one has its key
-found_if_any : (customer number : ℕ) (h : List Entry) → list_any (has_key customer number) h ≡ is_some (find_entry h customer number)
+found_if_any : (customer number : ℕ) (h : List Entry) → list_any (has_key customer number) h
+    ≡ is_some (find_entry h customer number)
 found_if_any customer number [] = refl
-found_if_any customer number (e ∷ es) = any_at (has_key customer number e) e _ _ (found_if_any customer number es)
+found_if_any customer number (e ∷ es) = any_at (has_key customer number e) e _ _
+    (found_if_any customer number es)
 
 -- no two calls have one key
 abbrev HaveDistinctKeys : List Entry → Type 0
 HaveDistinctKeys = AllPairs (λ d e. ¬ (IsTrue (has_key d.request.customer d.request.number e)))
 
-not_both : (customer number : ℕ) (d e : Entry) → ¬ (IsTrue (has_key d.request.customer d.request.number e)) → has_key customer number e ≡ true → has_key customer number d ≡ false
+not_both : (customer number : ℕ) (d e : Entry)
+    → ¬ (IsTrue (has_key d.request.customer d.request.number e)) → has_key customer number e ≡ true
+    → has_key customer number d ≡ false
 not_both customer number d e apart there = grind arith
 
 -- a key of a later call is not one of those before it
-not_before : (customer number : ℕ) (xs ys : List Entry) → HaveDistinctKeys (xs ++ ys) → list_any (has_key customer number) ys ≡ true → list_any (has_key customer number) xs ≡ false
+not_before : (customer number : ℕ) (xs ys : List Entry) → HaveDistinctKeys (xs ++ ys)
+    → list_any (has_key customer number) ys ≡ true → list_any (has_key customer number) xs ≡ false
 not_before customer number [] ys distinct there = refl
 not_before customer number (x ∷ xs) ys distinct there =
     let key = has_key customer number in
-    let at = Any-from_list_any key (xs ++ ys) (list_any-append key xs ys ∙ or_right (list_any key xs) (list_any key ys) there) in
-    or_from (key x) (list_any key xs) (not_both customer number x (get_or (xs ++ ys) at.0 at.1) (distinct 0 (suc at.0) at.1 (omega arith) (omega (arith, at.2))) (ap key at.3 ∙ at.4))
-    (not_before customer number xs ys (λ i j d lt within. distinct (suc i) (suc j) d (omega arith) (omega arith)) there)
+    let at = Any-from_list_any key (xs ++ ys) (list_any-append key xs ys
+    ∙ or_right (list_any key xs) (list_any key ys) there) in
+    or_from (key x) (list_any key xs) (not_both customer number x (get_or (xs ++ ys) at.0 at.1)
+    (distinct 0 (suc at.0) at.1 (omega arith) (omega (arith, at.2))) (ap key at.3 ∙ at.4))
+    (not_before customer number xs ys (λ i j d lt within. distinct (suc i) (suc j) d (omega arith)
+    (omega arith)) there)
 
 alone : (found other : Option Entry) → is_some other ≡ false → found ≡ option_or found other
 alone (Some e) other none = refl
@@ -49,16 +60,24 @@ alone None (Some e) none = absurd (true≢false none)
 alone None None none = refl
 
 -- a call of a legal history is committed where no pending one has its key
-pub committed_unless_pending : (committed pending : List Entry) (t : Terms) (customer number : ℕ) (b : Bool) → IsLegal (committed ++ pending) t → b ≡ list_any (has_key customer number) pending
+pub committed_unless_pending : (committed pending : List Entry) (t : Terms) (customer number : ℕ)
+    (b : Bool) → IsLegal (committed ++ pending) t → b ≡ list_any (has_key customer number) pending
     → (IsTrue (not b) ↔ IsCommittedCall committed (committed ++ pending) customer number)
 committed_unless_pending committed pending t customer number false legal is =
     let key = has_key customer number in
-    let none : is_some (find key pending) ≡ false = sym (is ∙ found_if_any customer number pending) in
-    (λ _. alone (find key committed) (find key pending) none ∙ sym (find-append key committed pending), λ _. refl)
+    let none : is_some (find key pending) ≡ false =
+    sym (is ∙ found_if_any customer number pending) in (
+      λ _. alone (find key committed) (find key pending) none
+          ∙ sym (find-append key committed pending),
+      λ _. refl,
+    )
 committed_unless_pending committed pending t customer number true legal is =
     let key = has_key customer number in
-    let before : list_any key committed ≡ false = not_before customer number committed pending legal.distinct (sym is) in
-    let all : list_any key (committed ++ pending) ≡ true = list_any-append key committed pending ∙ or_right (list_any key committed) (list_any key pending) (sym is) in (
+    let before : list_any key committed ≡ false = not_before customer number committed pending
+    legal.distinct (sym is) in
+    let all : list_any key (committed ++ pending) ≡ true = list_any-append key committed pending
+    ∙ or_right (list_any key committed) (list_any key pending) (sym is) in (
       λ none. absurd (true≢false (sym none)),
-      λ same. absurd (true≢false (sym all ∙ found_if_any customer number (committed ++ pending) ∙ sym (ap is_some same) ∙ sym (found_if_any customer number committed) ∙ before)),
+      λ same. absurd (true≢false (sym all ∙ found_if_any customer number (committed ++ pending)
+          ∙ sym (ap is_some same) ∙ sym (found_if_any customer number committed) ∙ before)),
     )

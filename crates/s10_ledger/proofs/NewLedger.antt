@@ -15,5 +15,12 @@ no_history db t stands = history_is db [] t (All-nil IsCall) stands
 pub new_ledger : (db : Database) (t : Terms) → StandsFor db [] t → IsLedger db t 0 0
 new_ledger db t stands = record {
   legal = rw (no_history db t stands) (IsLegal-nil t);
-  held = ∣ record { tables = rw (no_history db t stands) stands; calls = rw (no_history db t stands) (All-nil IsCall); len_is = rw (no_history db t stands) refl; day_is = rw (no_history db t stands) refl } ∣₁;
+  held = ∣ record {
+    tables = rw (no_history db t stands) stands;
+    calls = rw (no_history db t stands)
+        (All-nil IsCall);
+    len_is = rw (no_history db t stands) refl;
+    day_is =
+        rw (no_history db t stands) refl;
+  } ∣₁;
 }

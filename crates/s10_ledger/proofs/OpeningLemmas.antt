@@ -1,5 +1,6 @@
 -- What is found of the tables, once they are completed.
-use Rattle.std.proofs.Common.{◌≡◌, ℕ, ◌⊎◌, inl, inr, IsTrue, List, [], ◌∷◌, map, length, refl, sym, ap, subst, ◌∙◌, arith}
+use Rattle.std.proofs.Common.{◌≡◌, ℕ, ◌⊎◌, inl, inr, IsTrue, List, [], ◌∷◌, map, length, refl, sym}
+use Rattle.std.proofs.Common.{ap, subst, ◌∙◌, arith}
 use Rattle.std.proofs.lemmas.List.{length-map}
 use Rattle.sqlite_trees.specs.declared.store.Store.{Ghosts}
 use Rattle.sqlite.specs.Effect.{Database}
@@ -19,7 +20,8 @@ use Rattle.s10_replay.proofs.SameRows.{same_length}
 use Rattle.s10_replay.proofs.Compared.{right_calls}
 use Rattle.s10_schema.specs.Schema.{IsClosedSchema}
 use Rattle.s10_statements.specs.ConnectionState.{IsQuiescent, StaysUnclean, WasSound}
-use Rattle.s10_statements.specs.Shown.{HasTables, HasOldTables, shown_head, shown_range, shown_serial, head_columns}
+use Rattle.s10_statements.specs.Shown.{HasTables, HasOldTables, shown_head, shown_range}
+use Rattle.s10_statements.specs.Shown.{shown_serial, head_columns}
 use Rattle.s10_statements.specs.Statements.{LeavesTables}
 use Rattle.s10_ledger.specs.declared.table_layout.TableLayout.{TableLayout}
 use Rattle.s10_ledger.specs.declared.table_layout.TableLayout.TheVariants.{Whole, Old}
@@ -28,57 +30,79 @@ use Rattle.s10_ledger.specs.Ledger.{IsLedger, IsOldLedger, IsAnyLedger, history_
 use Rattle.s10_ledger.specs.Refusals.{IsOpeningRefusal}
 use Rattle.s10_ledger.specs.AllRows.{IsFound}
 use Rattle.s10_ledger.proofs.Forms.{form_ledger, four_lack}
-use Rattle.s10_ledger.proofs.WholeLemmas.{history, whole_ledger, found_history, right_rows, right_legal, shown_again}
+use Rattle.s10_ledger.proofs.WholeLemmas.{history, whole_ledger, found_history, right_rows}
+use Rattle.s10_ledger.proofs.WholeLemmas.{right_legal, shown_again}
 
 -- a disk that is clean was so before, and a connection that is open was so too
-pub sound_before : {S : Type 0} (g : Ghosts S) (old new : Held S) → StaysUnclean g old new → (HasCleanDisk (state g new) → IsTrue (state g new).is_open → IsTrue (state g old).is_open) → WasSound g old new
+pub sound_before : {S : Type 0} (g : Ghosts S) (old new : Held S) → StaysUnclean g old new
+    → (HasCleanDisk (state g new) → IsTrue (state g new).is_open → IsTrue (state g old).is_open)
+    → WasSound g old new
 sound_before g old new stays was_open clean = (omega (arith, stays, clean), was_open clean)
 
 -- the tables are read, and completed then
-module _ {S : Type 0} (g : Ghosts S) (old read new : Held S) (form : TableLayout) (declared : IsOfTableLayout form (state g old).now.schema) (settled : IsQuiescent g old) (leaves : LeavesTables g old read) (sound : WasSound g read new) where
+module _ {S : Type 0} (g : Ghosts S) (old read new : Held S) (form : TableLayout)
+    (declared : IsOfTableLayout form (state g old).now.schema) (settled : IsQuiescent g old)
+    (leaves : LeavesTables g old read) (sound : WasSound g read new) where
   pub was_sound : WasSound g old new
-  was_sound clean = let s = sound clean in (omega (arith, leaves.clean, s.0), λ opened. leaves.was_open s.0 (s.1 opened))
+  was_sound clean = let s = sound clean in
+      (omega (arith, leaves.clean, s.0), λ opened. leaves.was_open s.0 (s.1 opened))
 
-  pub as_read : HasCleanDisk (state g new) → IsTrue (state g new).is_open → (state g read).now ≡ (state g old).now
-  as_read clean opened = let s = sound clean in leaves.now s.0 (s.1 opened) settled (form_ledger form (state g old).now.schema declared)
+  pub as_read : HasCleanDisk (state g new) → IsTrue (state g new).is_open → (state g read).now
+      ≡ (state g old).now
+  as_read clean opened = let s = sound clean in
+      leaves.now s.0 (s.1 opened) settled (form_ledger form (state g old).now.schema declared)
 
 -- what has all five tables is not touched
-pub as_it_was : (form : TableLayout) (old read new : Database) → IsOfTableLayout form old.schema → read ≡ old → (form ≡ Whole → new ≡ read) → IsClosedSchema old.schema → new ≡ old
+pub as_it_was : (form : TableLayout) (old read new : Database) → IsOfTableLayout form old.schema
+    → read ≡ old → (form ≡ Whole → new ≡ read) → IsClosedSchema old.schema → new ≡ old
 as_it_was Whole old read new declared was same closed = same refl ∙ was
 as_it_was Old old read new declared was same closed = absurd (four_lack old.schema declared closed)
 
 -- what holds of the calls that were counted holds of those of the index
-counted : (P : ℕ → ℕ → Type 0) (found : LedgerSummary) (index : CallIndex) (tables : Tables) → IsConsistent tables found → Indexes index (kept_of tables.calls) → P found.len found.day → P (length index.entries.items) (day_of index.entries.items)
+counted : (P : ℕ → ℕ → Type 0) (found : LedgerSummary) (index : CallIndex) (tables : Tables)
+    → IsConsistent tables found → Indexes index (kept_of tables.calls) → P found.len found.day
+    → P (length index.entries.items) (day_of index.entries.items)
 counted P found index tables whole indexed holds =
     subst (λ d. P (length index.entries.items) d) (whole.day ∙ sym (ap day_of indexed.calls))
-    (subst (λ n. P n found.day) (whole.len ∙ sym (ap length indexed.calls ∙ length-map tables.calls entry_of)) holds)
+    (subst (λ n. P n found.day) (whole.len
+    ∙ sym (ap length indexed.calls ∙ length-map tables.calls entry_of)) holds)
 
 -- what was found of the tables is so of the completed ones
-module _ (form : TableLayout) (old read new : Database) (found : LedgerSummary) (index : CallIndex) (it : IsFound form old found index) (was : read ≡ old) (whole : (tables : Tables) → HasTableLayout form read tables → HasTables new tables) where
+module _ (form : TableLayout) (old read new : Database) (found : LedgerSummary) (index : CallIndex)
+    (it : IsFound form old found index) (was : read ≡ old) (whole : (tables : Tables)
+    → HasTableLayout form read tables → HasTables new tables) where
   completed : HasTables new it.tables
-  completed = whole it.tables (subst (λ (d : Database). HasTableLayout form d it.tables) (sym was) it.has)
+  completed = whole it.tables (subst (λ (d : Database). HasTableLayout form d it.tables) (sym was)
+      it.has)
 
   pub same_history : history_in new ≡ history_in old
-  same_history = history new it.tables found completed it.whole ∙ sym (found_history form old it.tables found it.has it.whole)
+  same_history = history new it.tables found completed it.whole
+      ∙ sym (found_history form old it.tables found it.has it.whole)
 
-  pub completed_ledger : IsLedger new found.settings (length index.entries.items) (day_of index.entries.items)
-  completed_ledger = counted (λ n d. IsLedger new found.settings n d) found index it.tables it.whole it.indexed (whole_ledger new it.tables found completed it.whole)
+  pub completed_ledger : IsLedger new found.settings (length index.entries.items)
+      (day_of index.entries.items)
+  completed_ledger = counted (λ n d. IsLedger new found.settings n d) found index it.tables it.whole
+      it.indexed (whole_ledger new it.tables found completed it.whole)
 
   pub completed_index : Indexes index (history_in new)
-  completed_index = subst (λ (h : List Entry). Indexes index h) (sym (history new it.tables found completed it.whole)) it.indexed
+  completed_index = subst (λ (h : List Entry). Indexes index h)
+      (sym (history new it.tables found completed it.whole)) it.indexed
 
 no_rows_left : {X : Type 0} (xs ys : List X) → HaveSameRows xs ys → ys ≡ [] → xs ≡ []
 no_rows_left [] ys same none = refl
-no_rows_left (x ∷ xs) ys same none = absurd (omega (arith, same_length (x ∷ xs) ys same, ap length none))
+no_rows_left (x ∷ xs) ys same none =
+    absurd (omega (arith, same_length (x ∷ xs) ys same, ap length none))
 
 -- tables of an earlier build whose rows are whole are a ledger of that
-old_ledger : (db : Database) (tables : Tables) (found : LedgerSummary) → HasOldTables db tables → IsConsistent tables found → IsOldLedger db found.settings found.len found.day
+old_ledger : (db : Database) (tables : Tables) (found : LedgerSummary) → HasOldTables db tables
+    → IsConsistent tables found → IsOldLedger db found.settings found.len found.day
 old_ledger db tables found has whole =
     let kept : List Entry = kept_of tables.calls in
     let is : history_in db ≡ kept = found_history Old db tables found has whole in
     let stands : HasOldTables db (tables_of kept found.settings) = record {
       schema = has.schema;
-      heads = subst (λ l. HaveSameRows (map shown_head l) (map head_columns (db.trees 0))) whole.head.row has.heads;
+      heads = subst (λ l. HaveSameRows (map shown_head l) (map head_columns (db.trees 0)))
+          whole.head.row has.heads;
       calls = rw (right_rows found.settings tables.calls whole.right) has.calls;
       ranges = shown_again shown_range _ tables.ranges _ whole.made.ranges has.ranges;
       serials = shown_again shown_serial _ tables.serials _ whole.made.serials has.serials;
@@ -96,14 +120,19 @@ old_ledger db tables found has whole =
     }
 
 -- what was found is a ledger, of whichever build
-pub found_ledger : (form : TableLayout) (db : Database) (found : LedgerSummary) (index : CallIndex) → IsFound form db found index → IsAnyLedger db found.settings (length index.entries.items) (day_of index.entries.items)
-found_ledger form db found index it = counted (λ n d. IsAnyLedger db found.settings n d) found index it.tables it.whole it.indexed (either form it.has)
+pub found_ledger : (form : TableLayout) (db : Database) (found : LedgerSummary) (index : CallIndex)
+    → IsFound form db found index → IsAnyLedger db found.settings (length index.entries.items)
+    (day_of index.entries.items)
+found_ledger form db found index it = counted (λ n d. IsAnyLedger db found.settings n d) found index
+    it.tables it.whole it.indexed (either form it.has)
   where
-    either : (form : TableLayout) → HasTableLayout form db it.tables → IsAnyLedger db found.settings found.len found.day
+    either : (form : TableLayout) → HasTableLayout form db it.tables
+        → IsAnyLedger db found.settings found.len found.day
     either Whole has = inl (whole_ledger db it.tables found has it.whole)
     either Old has = inr (old_ledger db it.tables found has it.whole)
 
 -- lack of memory and a fault of the store refuse any database
-pub refused_by_store : (db : Database) (fault : OpenFault) → (fault ≡ Memory) ⊎ (fault ≡ Store) → IsOpeningRefusal db fault
+pub refused_by_store : (db : Database) (fault : OpenFault) → (fault ≡ Memory) ⊎ (fault ≡ Store)
+    → IsOpeningRefusal db fault
 refused_by_store db fault (inl is) = subst (λ (f : OpenFault). IsOpeningRefusal db f) (sym is) tt
 refused_by_store db fault (inr is) = subst (λ (f : OpenFault). IsOpeningRefusal db f) (sym is) tt

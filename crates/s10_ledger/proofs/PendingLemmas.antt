@@ -1,5 +1,7 @@
 -- What becomes of the calls that are pending.
-use Rattle.std.proofs.Common.{◌≡◌, ℕ, ◌-◌, ◌<◌, ◌≤◌, length, Bool, false, if◌then◌else◌, IsTrue, List, [], ◌∷◌, ◌++◌, All, Result, Ok, Err, OnOk, OnErr, sym, ap, subst, refl, ◌∙◌, arith, length-append}
+use Rattle.std.proofs.Common.{◌≡◌, ℕ, ◌-◌, ◌<◌, ◌≤◌, length, Bool, false, if◌then◌else◌, IsTrue}
+use Rattle.std.proofs.Common.{List, [], ◌∷◌, ◌++◌, All, Result, Ok, Err, OnOk, OnErr, sym, ap}
+use Rattle.std.proofs.Common.{subst, refl, ◌∙◌, arith, length-append}
 use Rattle.std.specs.Coded.{coded_list}
 use Rattle.std.specs.Result.{is_ok, is_err}
 use Rattle.std.proofs.lemmas.List.{append-nil, append_assoc, map-append, take-append-le}
@@ -41,13 +43,16 @@ pub all_committed : (es : List Entry) → committed_among [] es ≡ es
 all_committed es = let n : length es - 0 ≡ length es = omega arith in rw n (take-length es)
 
 -- one more pending call leaves the committed ones
-pub committed_push : (ws : List CallWrite) (w : CallWrite) (es : List Entry) (e : Entry) → committed_among (ws ++ w ∷ []) (es ++ e ∷ []) ≡ committed_among ws es
+pub committed_push : (ws : List CallWrite) (w : CallWrite) (es : List Entry) (e : Entry)
+    → committed_among (ws ++ w ∷ []) (es ++ e ∷ []) ≡ committed_among ws es
 committed_push ws w es e =
-    let n : length (es ++ e ∷ []) - length (ws ++ w ∷ []) ≡ length es - length ws = omega (arith, length-append es (e ∷ []), length-append ws (w ∷ [])) in
+    let n : length (es ++ e ∷ []) - length (ws ++ w ∷ []) ≡ length es - length ws =
+    omega (arith, length-append es (e ∷ []), length-append ws (w ∷ [])) in
     rw n (take-append-le (length es - length ws) es (e ∷ []) (omega arith))
 
 -- a call after those that are written
-pub written_push : (ws : List CallWrite) (w : CallWrite) (a b c : Tables) → AreWritten ws a b → Writes w b c → AreWritten (ws ++ w ∷ []) a c
+pub written_push : (ws : List CallWrite) (w : CallWrite) (a b c : Tables) → AreWritten ws a b
+    → Writes w b c → AreWritten (ws ++ w ∷ []) a c
 unfolding AreWritten
 written_push [] w a b c is it = (c, subst (λ (d : Tables). Writes w d c) is it, refl)
 written_push (v ∷ vs) w a b c is it = (is.0, is.1, written_push vs w is.0 b c is.2 it)
@@ -57,27 +62,39 @@ unfolding AreWritten
 none_written a b is = is
 
 -- a history with nothing pending after it
-pub nothing_pending : (db : Database) (t : Terms) (index : CallIndex) → Indexes index (history_in db) → IsLegal (history_in db) t → IsFollowed db t index []
+pub nothing_pending : (db : Database) (t : Terms) (index : CallIndex)
+    → Indexes index (history_in db) → IsLegal (history_in db) t → IsFollowed db t index []
 nothing_pending db t index indexed legal = record {
   indexed = subst (Indexes index) (sym (append-nil (history_in db))) indexed;
   legal = subst (λ (h : List Entry). IsLegal h t) (sym (append-nil (history_in db))) legal;
-  held = ∣ record { calls = All-nil IsCall; written = none_written _ _ (ap (λ (h : List Entry). tables_of h t) (append-nil (history_in db))) } ∣₁;
+  held = ∣ record {
+    calls = All-nil IsCall;
+    written = none_written _ _ (ap (λ (h : List Entry). tables_of h t)
+        (append-nil (history_in db)));
+  } ∣₁;
 }
 
 -- once the pending calls are written the tables stand for the history with them after
-module _ (old new : Database) (t : Terms) (len day : ℕ) (index : CallIndex) (ws : List CallWrite) (was : IsLedger old t len day) (followed : IsFollowed old t index ws)
-    (made : (before after : Tables) → AreWritten ws before after → HasTables old before → HasTables new after) where
-  all_calls : Holds old t len day → HoldsPending old t ws → All IsCall (history_in old ++ calls_of ws)
+module _ (old new : Database) (t : Terms) (len day : ℕ) (index : CallIndex) (ws : List CallWrite)
+    (was : IsLedger old t len day) (followed : IsFollowed old t index ws)
+    (made : (before after : Tables) → AreWritten ws before after → HasTables old before
+    → HasTables new after) where
+  all_calls : Holds old t len day → HoldsPending old t ws
+      → All IsCall (history_in old ++ calls_of ws)
   all_calls h p = All-append IsCall (history_in old) (calls_of ws) h.calls p.calls
 
-  stands : Holds old t len day → HoldsPending old t ws → StandsFor new (history_in old ++ calls_of ws) t
-  stands h p = made (tables_of (history_in old) t) (tables_of (history_in old ++ calls_of ws) t) p.written h.tables
+  stands : Holds old t len day → HoldsPending old t ws
+      → StandsFor new (history_in old ++ calls_of ws) t
+  stands h p = made (tables_of (history_in old) t) (tables_of (history_in old ++ calls_of ws) t)
+      p.written h.tables
 
   pub written_history : history_in new ≡ history_in old ++ calls_of ws
   written_history = ∥∥₁_elim was.held (Coded-set (coded_list entry.the_row.coded) _ _)
-      (λ h. ∥∥₁_elim followed.held (Coded-set (coded_list entry.the_row.coded) _ _) (λ p. history_is new (history_in old ++ calls_of ws) t (all_calls h p) (stands h p)))
+      (λ h. ∥∥₁_elim followed.held (Coded-set (coded_list entry.the_row.coded) _ _)
+      (λ p. history_is new (history_in old ++ calls_of ws) t (all_calls h p) (stands h p)))
 
-  pub written_ledger : (len' day' : ℕ) → len' ≡ length (history_in old ++ calls_of ws) → day' ≡ day_of (history_in old ++ calls_of ws) → IsLedger new t len' day'
+  pub written_ledger : (len' day' : ℕ) → len' ≡ length (history_in old ++ calls_of ws)
+      → day' ≡ day_of (history_in old ++ calls_of ws) → IsLedger new t len' day'
   written_ledger len' day' p q = record {
     legal = rw written_history followed.legal;
     held = ∥∥₁_elim was.held ∥∥₁_prop (λ h. ∥∥₁_map followed.held (λ r. record {
@@ -89,10 +106,13 @@ module _ (old new : Database) (t : Terms) (len day : ℕ) (index : CallIndex) (w
   }
 
   pub written_followed : IsFollowed new t index []
-  written_followed = nothing_pending new t index (subst (Indexes index) (sym written_history) followed.indexed) (subst (λ (h : List Entry). IsLegal h t) (sym written_history) followed.legal)
+  written_followed = nothing_pending new t index (subst (Indexes index) (sym written_history)
+      followed.indexed) (subst (λ (h : List Entry). IsLegal h t) (sym written_history)
+      followed.legal)
 
 -- what is kept true of a book tells that it is honest
-abbrev pub ledger_of : {S : Type 0} → Held S → Terms → CallIndex → List CallWrite → Faults → Ledger S
+abbrev pub ledger_of : {S : Type 0} → Held S → Terms → CallIndex → List CallWrite → Faults
+    → Ledger S
 ledger_of conn t index ws faults = record {
   conn = conn;
   terms = t;
@@ -102,36 +122,77 @@ ledger_of conn t index ws faults = record {
   pending = calls_of ws;
 }
 
-pub sound_is_honest : {S : Type 0} (g : Ghosts S) (conn : Held S) (t : Terms) (index : CallIndex) (ws : List CallWrite) (answered : Bool) (faults : Faults) → IsSound g conn t index ws answered
-    → HasCleanDisk (state g conn) → IsTrue (state g conn).is_open → IsHonest g (ledger_of conn t index ws faults)
+pub sound_is_honest : {S : Type 0} (g : Ghosts S) (conn : Held S) (t : Terms) (index : CallIndex)
+    (ws : List CallWrite) (answered : Bool) (faults : Faults) → IsSound g conn t index ws answered
+    → HasCleanDisk (state g conn) → IsTrue (state g conn).is_open
+    → IsHonest g (ledger_of conn t index ws faults)
 sound_is_honest g conn t index ws answered faults sound clean opened =
-    record { clean = clean; is_open = opened; ledger = sound.ledger clean opened; legal = (sound.followed clean opened).legal }
+    record {
+      clean = clean;
+      is_open = opened;
+      ledger = sound.ledger clean opened;
+      legal = (sound.followed clean opened).legal;
+    }
 
 -- what is kept true of a new book
-pub sound_at_first : {S : Type 0} (g : Ghosts S) (conn : Held S) (t : Terms) (index : CallIndex) (ws : List CallWrite) (answered : Bool) → ws ≡ [] → length index.entries.items ≤ MAX_LIMIT → IsQuiescent g conn
+pub sound_at_first : {S : Type 0} (g : Ghosts S) (conn : Held S) (t : Terms) (index : CallIndex)
+    (ws : List CallWrite) (answered : Bool) → ws ≡ [] → length index.entries.items ≤ MAX_LIMIT
+    → IsQuiescent g conn
     → (HasCleanDisk (state g conn) → IsTrue (state g conn).is_open)
-    → (HasCleanDisk (state g conn) → IsTrue (state g conn).is_open → IsLedger (state g conn).now t (length index.entries.items) (day_of index.entries.items))
-    → (HasCleanDisk (state g conn) → IsTrue (state g conn).is_open → Indexes index (history_in (state g conn).now)) → IsSound g conn t index ws answered
-sound_at_first g conn t index ws answered none few settled opened ledger indexed = subst (λ (v : List CallWrite). IsSound g conn t index v answered) (sym none) (record {
-  few = few;
-  few_pending = omega arith;
-  settled = settled;
-  opened = λ so clean. opened clean;
-  ledger = λ clean is_open. subst (λ (es : List Entry). IsLedger (state g conn).now t (length es) (day_of es)) (sym (all_committed index.entries.items)) (ledger clean is_open);
-  followed = λ clean is_open. nothing_pending (state g conn).now t index (indexed clean is_open) (ledger clean is_open).legal;
-})
+    → (HasCleanDisk (state g conn) → IsTrue (state g conn).is_open
+    → IsLedger (state g conn).now t (length index.entries.items) (day_of index.entries.items))
+    → (HasCleanDisk (state g conn) → IsTrue (state g conn).is_open
+    → Indexes index (history_in (state g conn).now)) → IsSound g conn t index ws answered
+sound_at_first g conn t index ws answered none few settled opened ledger indexed =
+    subst (λ (v : List CallWrite). IsSound g conn t index v answered) (sym none) (record {
+      few = few;
+      few_pending = omega arith;
+      settled = settled;
+      opened = λ so clean. opened clean;
+      ledger = λ clean is_open. subst (λ (es : List Entry). IsLedger (state g conn).now t (length es)
+          (day_of es)) (sym (all_committed index.entries.items)) (ledger clean is_open);
+      followed = λ clean is_open. nothing_pending (state g conn).now t index (indexed clean is_open)
+          (ledger clean is_open).legal;
+    })
 
 -- what a new book is
-pub ledger_at_first : {S : Type 0} (conn : Held S) (t : Terms) (index : CallIndex) (ws : List CallWrite) (faults : Faults) → ws ≡ [] → faults.memory ≡ 0 → faults.store ≡ 0
-    → ledger_of conn t index ws faults ≡ record { conn = conn; terms = t; len = length index.entries.items; day = day_of index.entries.items; faults = no_faults; pending = [] }
+pub ledger_at_first : {S : Type 0} (conn : Held S) (t : Terms) (index : CallIndex)
+    (ws : List CallWrite) (faults : Faults) → ws ≡ [] → faults.memory ≡ 0 → faults.store ≡ 0
+    → ledger_of conn t index ws faults ≡ record {
+      conn = conn;
+      terms = t;
+      len = length index.entries.items;
+      day = day_of index.entries.items;
+      faults = no_faults;
+      pending = [];
+    }
 ledger_at_first conn t index ws faults nothing memory store =
-    let counted : (m s : ℕ) → m ≡ 0 → s ≡ 0 → ledger_of conn t index [] (record { memory = m; store = s }) ≡ ledger_of conn t index [] no_faults = λ m s p q. rw (p, q) refl in
-    subst (λ (v : List CallWrite). ledger_of conn t index v faults ≡ record { conn = conn; terms = t; len = length index.entries.items; day = day_of index.entries.items; faults = no_faults; pending = [] }) (sym nothing)
+    let counted : (m s : ℕ) → m ≡ 0 → s ≡ 0
+    → ledger_of conn t index [] (record { memory = m; store = s }) ≡ ledger_of conn t index []
+    no_faults = λ m s p q. rw (p, q) refl in
+    subst (λ (v : List CallWrite). ledger_of conn t index v faults ≡ record {
+      conn = conn;
+      terms = t;
+      len = length index.entries.items;
+      day = day_of index.entries.items;
+      faults =
+          no_faults;
+      pending = [];
+    }) (sym nothing)
     (counted faults.memory faults.store memory store
-    ∙ ap (λ (es : List Entry). record { conn = conn; terms = t; len = length es; day = day_of es; faults = no_faults; pending = [] }) (all_committed index.entries.items))
+    ∙ ap (λ (es : List Entry). record {
+      conn = conn;
+      terms = t;
+      len = length es;
+      day = day_of es;
+      faults = no_faults;
+      pending = [];
+    }) (all_committed index.entries.items))
 
 -- after a read
-pub sound_after_read : {S : Type 0} (g : Ghosts S) (old new : Held S) (t : Terms) (index : CallIndex) (ws : List CallWrite) (before after : Bool) → IsSound g old t index ws before → LeavesTables g old new
+pub sound_after_read : {S : Type 0} (g : Ghosts S) (old new : Held S) (t : Terms)
+    (index : CallIndex) (ws : List CallWrite) (before after : Bool)
+    → IsSound g old t index ws before → LeavesTables g old new
     → IsOpenIf g new after → IsSound g new t index ws after
 sound_after_read g old new t index ws before after sound leaves opened =
     let len = length (committed_among ws index.entries.items) in
@@ -141,19 +202,27 @@ sound_after_read g old new t index ws before after sound leaves opened =
       few_pending = sound.few_pending;
       settled = leaves.settled sound.settled;
       opened = opened;
-      ledger = λ clean is_open. subst (λ (d : Database). IsLedger d t len day) (sym (same_tables g old new t len day leaves sound.settled sound.ledger clean is_open))
+      ledger = λ clean is_open. subst (λ (d : Database). IsLedger d t len day)
+          (sym (same_tables g old new t len day leaves sound.settled sound.ledger clean is_open))
           (sound.ledger (omega (arith, leaves.clean)) (leaves.was_open clean is_open));
-      followed = λ clean is_open. subst (λ (d : Database). IsFollowed d t index ws) (sym (same_tables g old new t len day leaves sound.settled sound.ledger clean is_open))
+      followed = λ clean is_open. subst (λ (d : Database). IsFollowed d t index ws)
+          (sym (same_tables g old new t len day leaves sound.settled sound.ledger clean is_open))
           (sound.followed (omega (arith, leaves.clean)) (leaves.was_open clean is_open));
     }
 
 -- after the pending calls were written, or were not
-module _ {S : Type 0} (g : Ghosts S) (old new : Held S) (t : Terms) (index : CallIndex) (ws now : List CallWrite) (before after : Bool) (sound : IsSound g old t index ws before) (settled : IsQuiescent g new)
-    (clean : StaysUnclean g old new) (was_open : HasCleanDisk (state g new) → IsTrue (state g new).is_open → IsTrue (state g old).is_open) (opened : IsOpenIf g new after) where
+module _ {S : Type 0} (g : Ghosts S) (old new : Held S) (t : Terms) (index : CallIndex)
+    (ws now : List CallWrite) (before after : Bool) (sound : IsSound g old t index ws before)
+    (settled : IsQuiescent g new)
+    (clean : StaysUnclean g old new) (was_open : HasCleanDisk (state g new)
+    → IsTrue (state g new).is_open → IsTrue (state g old).is_open)
+    (opened : IsOpenIf g new after) where
   was_clean : HasCleanDisk (state g new) → HasCleanDisk (state g old)
   was_clean is = omega (arith, clean)
 
-  sound_written : (HasCleanDisk (state g new) → (a b : Tables) → AreWritten ws a b → HasTables (state g old).now a → HasTables (state g new).now b) → IsSound g new t index [] after
+  sound_written : (HasCleanDisk (state g new) → (a b : Tables) → AreWritten ws a b
+      → HasTables (state g old).now a → HasTables (state g new).now b)
+      → IsSound g new t index [] after
   sound_written made = record {
     few = sound.few;
     few_pending = omega arith;
@@ -162,130 +231,196 @@ module _ {S : Type 0} (g : Ghosts S) (old new : Held S) (t : Terms) (index : Cal
     ledger = λ is is_open.
         let followed = sound.followed (was_clean is) (was_open is is_open) in
         let all = all_committed index.entries.items ∙ followed.indexed.calls in
-        written_ledger (state g old).now (state g new).now t _ _ index ws (sound.ledger (was_clean is) (was_open is is_open)) followed (made is) _ _ (ap length all) (ap day_of all);
-    followed = λ is is_open. written_followed (state g old).now (state g new).now t _ _ index ws (sound.ledger (was_clean is) (was_open is is_open)) (sound.followed (was_clean is) (was_open is is_open)) (made is);
+        written_ledger (state g old).now (state g new).now t _ _ index ws
+        (sound.ledger (was_clean is) (was_open is is_open)) followed (made is) _ _
+        (ap length all) (ap day_of all);
+    followed = λ is is_open. written_followed (state g old).now (state g new).now t _ _ index ws
+        (sound.ledger (was_clean is) (was_open is is_open))
+        (sound.followed (was_clean is) (was_open is is_open)) (made is);
   }
 
-  sound_unwritten : (HasCleanDisk (state g new) → IsTrue (state g new).is_open → (state g new).now ≡ (state g old).now) → IsSound g new t index ws after
+  sound_unwritten : (HasCleanDisk (state g new) → IsTrue (state g new).is_open → (state g new).now
+      ≡ (state g old).now) → IsSound g new t index ws after
   sound_unwritten same = record {
     few = sound.few;
     few_pending = sound.few_pending;
     settled = settled;
     opened = opened;
     ledger = λ is is_open. rw (same is is_open) (sound.ledger (was_clean is) (was_open is is_open));
-    followed = λ is is_open. rw (same is is_open) (sound.followed (was_clean is) (was_open is is_open));
+    followed = λ is is_open. rw (same is is_open)
+        (sound.followed (was_clean is) (was_open is is_open));
   }
 
-  pub sound_after_write : {T E : Type 0} (r : Result T E) → (HasCleanDisk (state g new) → OnOk r ((a b : Tables) → AreWritten ws a b → HasTables (state g old).now a → HasTables (state g new).now b))
-      → (HasCleanDisk (state g new) → IsTrue (state g new).is_open → OnErr r ((state g new).now ≡ (state g old).now)) → OnOk r (now ≡ []) → OnErr r (now ≡ ws) → IsSound g new t index now after
-  sound_after_write (Ok x) made same emptied left = subst (λ (v : List CallWrite). IsSound g new t index v after) (sym emptied) (sound_written made)
-  sound_after_write (Err x) made same emptied left = subst (λ (v : List CallWrite). IsSound g new t index v after) (sym left) (sound_unwritten same)
+  pub sound_after_write : {T E : Type 0} (r : Result T E)
+      → (HasCleanDisk (state g new) → OnOk r ((a b : Tables) → AreWritten ws a b
+      → HasTables (state g old).now a → HasTables (state g new).now b))
+      → (HasCleanDisk (state g new) → IsTrue (state g new).is_open
+      → OnErr r ((state g new).now ≡ (state g old).now)) → OnOk r (now ≡ [])
+      → OnErr r (now ≡ ws) → IsSound g new t index now after
+  sound_after_write (Ok x) made same emptied left =
+      subst (λ (v : List CallWrite). IsSound g new t index v after) (sym emptied)
+      (sound_written made)
+  sound_after_write (Err x) made same emptied left =
+      subst (λ (v : List CallWrite). IsSound g new t index v after) (sym left)
+      (sound_unwritten same)
 
   -- the history is as before
-  pub same_after_write : {T E : Type 0} (r : Result T E) → (HasCleanDisk (state g new) → OnOk r ((a b : Tables) → AreWritten ws a b → HasTables (state g old).now a → HasTables (state g new).now b))
-      → (HasCleanDisk (state g new) → IsTrue (state g new).is_open → OnErr r ((state g new).now ≡ (state g old).now)) → OnOk r (now ≡ []) → OnErr r (now ≡ ws)
-      → HasCleanDisk (state g new) → IsTrue (state g new).is_open → history_in (state g new).now ++ calls_of now ≡ history_in (state g old).now ++ calls_of ws
+  pub same_after_write : {T E : Type 0} (r : Result T E)
+      → (HasCleanDisk (state g new) → OnOk r ((a b : Tables) → AreWritten ws a b
+      → HasTables (state g old).now a → HasTables (state g new).now b))
+      → (HasCleanDisk (state g new) → IsTrue (state g new).is_open
+      → OnErr r ((state g new).now ≡ (state g old).now)) → OnOk r (now ≡ [])
+      → OnErr r (now ≡ ws)
+      → HasCleanDisk (state g new) → IsTrue (state g new).is_open → history_in (state g new).now
+      ++ calls_of now ≡ history_in (state g old).now ++ calls_of ws
   same_after_write (Ok x) made same emptied left is is_open =
-      ap (λ (v : List CallWrite). history_in (state g new).now ++ calls_of v) emptied ∙ append-nil (history_in (state g new).now)
-      ∙ written_history (state g old).now (state g new).now t _ _ index ws (sound.ledger (was_clean is) (was_open is is_open)) (sound.followed (was_clean is) (was_open is is_open)) (made is)
+      ap (λ (v : List CallWrite). history_in (state g new).now ++ calls_of v) emptied
+      ∙ append-nil (history_in (state g new).now)
+      ∙ written_history (state g old).now (state g new).now t _ _ index ws
+      (sound.ledger (was_clean is) (was_open is is_open))
+      (sound.followed (was_clean is) (was_open is is_open)) (made is)
   same_after_write (Err x) made same emptied left is is_open =
-      ap (λ (d : Database). history_in d ++ calls_of now) (same is is_open) ∙ ap (λ (v : List CallWrite). history_in (state g old).now ++ calls_of v) left
+      ap (λ (d : Database). history_in d ++ calls_of now) (same is is_open)
+      ∙ ap (λ (v : List CallWrite). history_in (state g old).now ++ calls_of v) left
 
 -- one more call after those that are held
-module _ (db : Database) (t : Terms) (len day : ℕ) (index after : CallIndex) (ws : List CallWrite) (w : CallWrite) (e : Entry) (was : IsLedger db t len day) (followed : IsFollowed db t index ws)
+module _ (db : Database) (t : Terms) (len day : ℕ) (index after : CallIndex) (ws : List CallWrite)
+    (w : CallWrite) (e : Entry) (was : IsLedger db t len day) (followed : IsFollowed db t index ws)
     (follows : MayFollow (history_in db ++ calls_of ws) t e) (call : w.entry ≡ e) where
   longer : history_in db ++ calls_of (ws ++ w ∷ []) ≡ (history_in db ++ calls_of ws) ++ e ∷ []
   longer =
-      ap (λ (p : List Entry). history_in db ++ p) (map-append (λ (v : CallWrite). v.entry) ws (w ∷ []) ∙ ap (λ (d : Entry). calls_of ws ++ d ∷ []) call)
+      ap (λ (p : List Entry). history_in db ++ p) (map-append (λ (v : CallWrite). v.entry) ws
+      (w ∷ []) ∙ ap (λ (d : Entry). calls_of ws ++ d ∷ []) call)
       ∙ sym (append_assoc (history_in db) (calls_of ws) (e ∷ []))
 
-  pub followed_push : (All IsCall (history_in db ++ calls_of ws) → IsCall e × Writes w (tables_of (history_in db ++ calls_of ws) t) (tables_of ((history_in db ++ calls_of ws) ++ e ∷ []) t))
-      → Indexes after ((history_in db ++ calls_of ws) ++ e ∷ []) → IsFollowed db t after (ws ++ w ∷ [])
+  pub followed_push : (All IsCall (history_in db ++ calls_of ws) → IsCall e
+      × Writes w (tables_of (history_in db ++ calls_of ws) t)
+      (tables_of ((history_in db ++ calls_of ws) ++ e ∷ []) t))
+      → Indexes after ((history_in db ++ calls_of ws) ++ e ∷ [])
+      → IsFollowed db t after (ws ++ w ∷ [])
   followed_push writes indexed = record {
     indexed = subst (Indexes after) (sym longer) indexed;
-    legal = subst (λ (h : List Entry). IsLegal h t) (sym longer) (IsLegal-push (history_in db ++ calls_of ws) t e followed.legal follows);
+    legal = subst (λ (h : List Entry). IsLegal h t) (sym longer)
+        (IsLegal-push (history_in db ++ calls_of ws) t e followed.legal follows);
     held = ∥∥₁_elim was.held ∥∥₁_prop (λ h. ∥∥₁_map followed.held (λ p.
         let it = writes (All-append IsCall (history_in db) (calls_of ws) h.calls p.calls) in
         record {
-          calls = subst (All IsCall) (sym (map-append (λ (v : CallWrite). v.entry) ws (w ∷ []) ∙ ap (λ (d : Entry). calls_of ws ++ d ∷ []) call)) (All-push IsCall (calls_of ws) e p.calls it.0);
-          written = subst (λ (h : List Entry). AreWritten (ws ++ w ∷ []) (tables_of (history_in db) t) (tables_of h t)) (sym longer) (written_push ws w _ _ _ p.written it.1);
+          calls = subst (All IsCall) (sym (map-append (λ (v : CallWrite). v.entry) ws (w ∷ [])
+              ∙ ap (λ (d : Entry). calls_of ws ++ d ∷ []) call))
+              (All-push IsCall (calls_of ws) e p.calls it.0);
+          written = subst (λ (h : List Entry). AreWritten (ws ++ w ∷ [])
+              (tables_of (history_in db) t) (tables_of h t)) (sym longer)
+              (written_push ws w _ _ _ p.written it.1);
         }));
   }
 
 -- what holding the call after those of the index writes
 abbrev pub IsWriteOf : CallIndex → Entry → CallWrite → Type 0
-IsWriteOf index e w = (h : List Entry) (t : Terms) → IsLegal h t → MayFollow h t e → All IsCall h → Indexes index h → IsCall e × Writes w (tables_of h t) (tables_of (h ++ e ∷ []) t)
+IsWriteOf index e w = (h : List Entry) (t : Terms) → IsLegal h t → MayFollow h t e → All IsCall h
+    → Indexes index h → IsCall e × Writes w (tables_of h t) (tables_of (h ++ e ∷ []) t)
 
-pub written_calls : {T E : Type 0} (index : CallIndex) (ws now : List CallWrite) (e : Entry) (r : Result T E) → OnOk r ((w : CallWrite) × (now ≡ ws ++ w ∷ []) × (w.entry ≡ e) × IsWriteOf index e w)
+pub written_calls : {T E : Type 0} (index : CallIndex) (ws now : List CallWrite) (e : Entry)
+    (r : Result T E) → OnOk r ((w : CallWrite) × (now ≡ ws ++ w ∷ []) × (w.entry ≡ e)
+    × IsWriteOf index e w)
     → OnOk r (calls_of now ≡ calls_of ws ++ e ∷ [])
 written_calls index ws now e (Ok x) written =
-    ap calls_of written.1 ∙ map-append (λ (v : CallWrite). v.entry) ws (written.0 ∷ []) ∙ ap (λ (d : Entry). calls_of ws ++ d ∷ []) written.2
+    ap calls_of written.1 ∙ map-append (λ (v : CallWrite). v.entry) ws (written.0 ∷ [])
+    ∙ ap (λ (d : Entry). calls_of ws ++ d ∷ []) written.2
 written_calls index ws now e (Err x) written = tt
 
 -- after a call was held, or was not
-module _ {S : Type 0} (g : Ghosts S) (conn : Held S) (t : Terms) (index after : CallIndex) (ws now : List CallWrite) (e : Entry) (answered : Bool) (sound : IsSound g conn t index ws answered)
-    (room : length ws < MAX_PENDING) (follows : HasCleanDisk (state g conn) → IsTrue (state g conn).is_open → MayFollow (history_in (state g conn).now ++ calls_of ws) t e)
+module _ {S : Type 0} (g : Ghosts S) (conn : Held S) (t : Terms) (index after : CallIndex)
+    (ws now : List CallWrite) (e : Entry) (answered : Bool)
+    (sound : IsSound g conn t index ws answered)
+    (room : length ws < MAX_PENDING) (follows : HasCleanDisk (state g conn)
+    → IsTrue (state g conn).is_open → MayFollow (history_in (state g conn).now ++ calls_of ws) t
+    e)
     (few : length index.entries.items ≤ MAX_LIMIT → length after.entries.items ≤ MAX_LIMIT) where
-  sound_held : (w : CallWrite) → w.entry ≡ e → after.entries.items ≡ index.entries.items ++ e ∷ [] → IsWriteOf index e w
-      → ((h : List Entry) (u : Terms) → IsLegal h u → MayFollow h u e → Indexes index h → Indexes after (h ++ e ∷ [])) → IsSound g conn t after (ws ++ w ∷ []) answered
+  sound_held : (w : CallWrite) → w.entry ≡ e → after.entries.items ≡ index.entries.items ++ e ∷ []
+      → IsWriteOf index e w
+      → ((h : List Entry) (u : Terms) → IsLegal h u → MayFollow h u e → Indexes index h
+      → Indexes after (h ++ e ∷ [])) → IsSound g conn t after (ws ++ w ∷ []) answered
   sound_held w call calls writes indexed =
-      let same = ap (committed_among (ws ++ w ∷ [])) calls ∙ committed_push ws w index.entries.items e in
+      let same = ap (committed_among (ws ++ w ∷ [])) calls ∙ committed_push ws w index.entries.items
+      e in
       record {
         few = few sound.few;
         few_pending = omega (arith, length-append ws (w ∷ []));
         settled = sound.settled;
         opened = sound.opened;
-        ledger = λ clean is_open. subst (λ (es : List Entry). IsLedger (state g conn).now t (length es) (day_of es)) (sym same) (sound.ledger clean is_open);
+        ledger = λ clean is_open. subst (λ (es : List Entry). IsLedger (state g conn).now t
+            (length es) (day_of es)) (sym same) (sound.ledger clean is_open);
         followed = λ clean is_open.
             let f = sound.followed clean is_open in
             let may = follows clean is_open in
-            followed_push (state g conn).now t _ _ index after ws w e (sound.ledger clean is_open) f may call (λ all. writes _ t f.legal may all f.indexed) (indexed _ t f.legal may f.indexed);
+            followed_push (state g conn).now t _ _ index after ws w e (sound.ledger clean is_open) f
+            may call (λ all. writes _ t f.legal may all f.indexed)
+            (indexed _ t f.legal may f.indexed);
       }
 
-  sound_unheld : after.entries.items ≡ index.entries.items → ((h : List Entry) → Indexes index h → Indexes after h) → IsSound g conn t after ws answered
+  sound_unheld : after.entries.items ≡ index.entries.items → ((h : List Entry) → Indexes index h
+      → Indexes after h) → IsSound g conn t after ws answered
   sound_unheld calls indexed = record {
     few = few sound.few;
     few_pending = sound.few_pending;
     settled = sound.settled;
     opened = sound.opened;
     ledger = λ clean is_open. rw calls (sound.ledger clean is_open);
-    followed = λ clean is_open. let f = sound.followed clean is_open in record { indexed = indexed _ f.indexed; legal = f.legal; held = f.held };
+    followed = λ clean is_open. let f = sound.followed clean is_open in
+        record { indexed = indexed _ f.indexed; legal = f.legal; held = f.held };
   }
 
-  pub sound_after_hold : {T E : Type 0} (r : Result T E) → OnOk r (after.entries.items ≡ index.entries.items ++ e ∷ []) → OnErr r (after.entries.items ≡ index.entries.items)
-      → OnOk r ((w : CallWrite) × (now ≡ ws ++ w ∷ []) × (w.entry ≡ e) × IsWriteOf index e w) → OnErr r (now ≡ ws)
-      → ((h : List Entry) (u : Terms) → IsLegal h u → MayFollow h u e → Indexes index h → OnOk r (Indexes after (h ++ e ∷ [])))
-      → ((h : List Entry) → Indexes index h → OnErr r (Indexes after h)) → IsSound g conn t after now answered
+  pub sound_after_hold : {T E : Type 0} (r : Result T E)
+      → OnOk r (after.entries.items ≡ index.entries.items ++ e ∷ [])
+      → OnErr r (after.entries.items ≡ index.entries.items)
+      → OnOk r ((w : CallWrite) × (now ≡ ws ++ w ∷ []) × (w.entry ≡ e) × IsWriteOf index e w)
+      → OnErr r (now ≡ ws)
+      → ((h : List Entry) (u : Terms) → IsLegal h u → MayFollow h u e → Indexes index h
+      → OnOk r (Indexes after (h ++ e ∷ [])))
+      → ((h : List Entry) → Indexes index h → OnErr r (Indexes after h))
+      → IsSound g conn t after now answered
   sound_after_hold (Ok x) calls same written left indexed kept =
-      subst (λ (v : List CallWrite). IsSound g conn t after v answered) (sym written.1) (sound_held written.0 written.2 calls written.3 indexed)
+      subst (λ (v : List CallWrite). IsSound g conn t after v answered) (sym written.1)
+      (sound_held written.0 written.2 calls written.3 indexed)
   sound_after_hold (Err x) calls same written left indexed kept =
-      subst (λ (v : List CallWrite). IsSound g conn t after v answered) (sym left) (sound_unheld same kept)
+      subst (λ (v : List CallWrite). IsSound g conn t after v answered) (sym left)
+      (sound_unheld same kept)
 
-pub calls_if_left : {T E : Type 0} (r : Result T E) (ws now : List CallWrite) → OnErr r (now ≡ ws) → OnErr r (calls_of now ≡ calls_of ws)
+pub calls_if_left : {T E : Type 0} (r : Result T E) (ws now : List CallWrite) → OnErr r (now ≡ ws)
+    → OnErr r (calls_of now ≡ calls_of ws)
 calls_if_left (Ok x) ws now left = tt
 calls_if_left (Err x) ws now left = ap calls_of left
 
-pub calls_if_emptied : {T E : Type 0} (r : Result T E) (now : List CallWrite) → OnOk r (now ≡ []) → OnOk r (calls_of now ≡ [])
+pub calls_if_emptied : {T E : Type 0} (r : Result T E) (now : List CallWrite) → OnOk r (now ≡ [])
+    → OnOk r (calls_of now ≡ [])
 calls_if_emptied (Ok x) now emptied = ap calls_of emptied
 calls_if_emptied (Err x) now emptied = tt
 
-pub unwritten_history : {T E : Type 0} (old new : Database) (r : Result T E) → OnErr r (new ≡ old) → OnErr r (history_in new ≡ history_in old)
+pub unwritten_history : {T E : Type 0} (old new : Database) (r : Result T E) → OnErr r (new ≡ old)
+    → OnErr r (history_in new ≡ history_in old)
 unwritten_history old new (Ok x) same = tt
 unwritten_history old new (Err x) same = ap history_in same
 
 -- what a stop leaves once they are written
-pub written_in : {S : Type 0} (g : Ghosts S) (conn : Held S) (t : Terms) (index : CallIndex) (ws : List CallWrite) (answered : Bool) (faults : Faults) (db : Trees) → IsSound g conn t index ws answered
+pub written_in : {S : Type 0} (g : Ghosts S) (conn : Held S) (t : Terms) (index : CallIndex)
+    (ws : List CallWrite) (answered : Bool) (faults : Faults) (db : Trees)
+    → IsSound g conn t index ws answered
     → HasCleanDisk (state g conn) → IsTrue (state g conn).is_open
-    → ((a b : Tables) → AreWritten ws a b → HasTables (state g conn).now a → HasTables (record (state g conn).now { trees = db }) b) → IsCommittedIn g (ledger_of conn t index ws faults) db
+    → ((a b : Tables) → AreWritten ws a b → HasTables (state g conn).now a
+    → HasTables (record (state g conn).now { trees = db }) b)
+    → IsCommittedIn g (ledger_of conn t index ws faults) db
 written_in g conn t index ws answered faults db sound clean opened made =
     let old = (state g conn).now in
     let new : Database = record old { trees = db } in
     record {
-      history = written_history old new t _ _ index ws (sound.ledger clean opened) (sound.followed clean opened) made;
-      ledger = written_ledger old new t _ _ index ws (sound.ledger clean opened) (sound.followed clean opened) made _ _ refl refl;
+      history = written_history old new t _ _ index ws (sound.ledger clean opened)
+          (sound.followed clean opened) made;
+      ledger = written_ledger old new t _ _ index ws (sound.ledger clean opened)
+          (sound.followed clean opened) made _ _ refl refl;
     }
 
 -- a push that was not refused
-pub pushed : {T E : Type 0} (r : Result T E) (new old : List CallWrite) (w : CallWrite) → is_err r ≡ false → new ≡ (if is_ok r then old ++ w ∷ [] else old) → new ≡ old ++ w ∷ []
+pub pushed : {T E : Type 0} (r : Result T E) (new old : List CallWrite) (w : CallWrite)
+    → is_err r ≡ false → new ≡ (if is_ok r then old ++ w ∷ [] else old) → new ≡ old ++ w ∷ []
 pushed (Ok x) new old w passed is = is
 pushed (Err e) new old w passed is = absurd cc

@@ -17,26 +17,31 @@ use Rattle.s10_replay.specs.CheckedTables.{IsRefusal, IsConsistent}
 use Rattle.s10_index.specs.declared.call_index.CallIndex.{CallIndex}
 use Rattle.s10_index.specs.CallIndex.{Indexes}
 use Rattle.s10_index.specs.declared.replayed_book.ReplayedBook.{ReplayedBook}
-use Rattle.s10_statements.specs.Shown.{shown_head, shown_call, shown_range, shown_serial, head_columns, call_columns, range_columns, serial_columns, HasIntegerRowid}
+use Rattle.s10_statements.specs.Shown.{shown_head, shown_call, shown_range, shown_serial}
+use Rattle.s10_statements.specs.Shown.{head_columns, call_columns, range_columns, serial_columns}
+use Rattle.s10_statements.specs.Shown.{HasIntegerRowid}
 use Rattle.s10_ledger.specs.declared.table_layout.TableLayout.{TableLayout}
 use Rattle.s10_index.specs.declared.stored_rows.StoredRows.{StoredRows}
 use Rattle.s10_index.specs.ReplayedBook.{IsReplayedBook, AreDerivedRows}
 use Rattle.s10_ledger.specs.TableLayout.{HasTableLayout}
 
 -- these are the rows of head and of calls, the latter in order of arrival
-pub record HasCallRows (db : Database) (heads : List HeadRow) (calls : List StoredCall) : Type 0 where
+pub record HasCallRows (db : Database) (heads : List HeadRow) (calls : List StoredCall) :
+    Type 0 where
   pub heads_are : HaveSameRows (map shown_head heads) (map head_columns (db.trees 0))
   pub calls_are : HaveSameRows (map shown_call calls) (map call_columns (db.trees 1))
   pub in_order : IsAscending (λ a b. int_cmp a.arrival b.arrival ≢ Ordering.Greater) calls
 
 -- these are the rows of ranges and of serials
-pub record HasDerivedRows (db : Database) (ranges : List RangeRow) (serials : List SerialRow) : Type 0 where
+pub record HasDerivedRows (db : Database) (ranges : List RangeRow) (serials : List SerialRow) :
+    Type 0 where
   pub ranges_are : HaveSameRows (map shown_range ranges) (map range_columns (db.trees 3))
   pub serials_are : HaveSameRows (map shown_serial serials) (map serial_columns (db.trees 4))
   pub numbered : AllByRecursion HasIntegerRowid (db.trees 4)
 
 -- the tables of the database, of which the calls were done again or are refused
-pub record AreRead (form : TableLayout) (db : Database) (made : Result ReplayedBook OpenFault) (rows : StoredRows) : Type 0 where
+pub record AreRead (form : TableLayout) (db : Database) (made : Result ReplayedBook OpenFault)
+    (rows : StoredRows) : Type 0 where
   pub tables : Tables
   pub has : HasTableLayout form db tables
   pub in_order : IsAscending (λ a b. int_cmp a.arrival b.arrival ≢ Ordering.Greater) tables.calls
@@ -45,7 +50,8 @@ pub record AreRead (form : TableLayout) (db : Database) (made : Result ReplayedB
   pub err : IfErr made (IsRefusal tables)
 
 -- what was found of a database whose rows are whole, and the index of its calls
-pub record IsFound (form : TableLayout) (db : Database) (opened : LedgerSummary) (index : CallIndex) : Type 0 where
+pub record IsFound (form : TableLayout) (db : Database) (opened : LedgerSummary)
+    (index : CallIndex) : Type 0 where
   pub tables : Tables
   pub has : HasTableLayout form db tables
   pub whole : IsConsistent tables opened

@@ -1,5 +1,6 @@
 -- What a ledger in tables holds, and what is kept true of it.
-use Rattle.std.specs.Prelude.{◌≡◌, ◌⊎◌, ℕ, zero, suc, ◌+◌, ℤ, pos, IsTrue, List, [], ◌++◌, length, map, filter, All, refl}
+use Rattle.std.specs.Prelude.{◌≡◌, ◌⊎◌, ℕ, zero, suc, ◌+◌, ℤ, pos, IsTrue, List, [], ◌++◌, length}
+use Rattle.std.specs.Prelude.{map, filter, All, refl}
 use Rattle.std.specs.Coded.{Coded, code_by, coded×, coded_ℕ, coded_list}
 use Rattle.sqlite_value.specs.declared.value.Value.{Value}
 use Rattle.sqlite_value.specs.declared.value.Value.TheVariants.{Null, Int, Real, Text, Blob}
@@ -39,20 +40,30 @@ blob_in (Blob b) = b
 
 -- the row of calls that shows so
 abbrev pub call_from : Row → StoredCall
-call_from v = record { arrival = int_in (column v 0); customer = int_in (column v 1); number = int_in (column v 2); day = int_in (column v 3); reply = blob_in (column v 4) }
+call_from v = record {
+  arrival = int_in (column v 0);
+  customer = int_in (column v 1);
+  number = int_in (column v 2);
+  day = int_in (column v 3);
+  reply = blob_in (column v 4);
+}
 
 -- the calls of this and the next arrivals, a given number of them
 abbrev pub in_turn : ℕ → ℕ → List StoredCall → List Entry
 in_turn zero arrival calls = []
-in_turn (suc n) arrival calls = map entry_of (filter (arrives_between (pos arrival) (pos arrival)) calls) ++ in_turn n (arrival + 1) calls
+in_turn (suc n) arrival calls =
+    map entry_of (filter (arrives_between (pos arrival) (pos arrival)) calls)
+    ++ in_turn n (arrival + 1) calls
 
 -- the calls that the rows keep, in order of arrival
 unfoldable pub history_in : Database → List Entry
-history_in db = let calls = map call_from (map call_columns (db.trees 1)) in in_turn (length calls) 1 calls
+history_in db = let calls = map call_from (map call_columns (db.trees 1)) in
+    in_turn (length calls) 1 calls
 
 -- the calls held in the process are those of the history
 abbrev pub IsIndexed : {S : Type 0} → Ghosts S → Held S → CallIndex → Type 0
-IsIndexed g conn index = HasCleanDisk (state g conn) → IsTrue (state g conn).is_open → Indexes index (history_in (state g conn).now)
+IsIndexed g conn index = HasCleanDisk (state g conn) → IsTrue (state g conn).is_open
+    → Indexes index (history_in (state g conn).now)
 
 -- what a ledger holds: its connection, its settings, how many calls are committed, the day of the last of these, the faults so far,
 -- and the calls that are kept and not yet committed
@@ -65,16 +76,28 @@ pub record Ledger (S : Type 0) : Type 0 where
   pub pending : List Entry
 
 abbrev pub terms_code : Coded Terms
-terms_code = code_by (ℕ × ℕ) (coded× coded_ℕ coded_ℕ) (λ t. (t.interval, t.limit)) (λ p. record { interval = p.0; limit = p.1 }) (λ _. refl)
+terms_code = code_by (ℕ × ℕ) (coded× coded_ℕ coded_ℕ) (λ t. (t.interval, t.limit))
+    (λ p. record { interval = p.0; limit = p.1 }) (λ _. refl)
 
 abbrev pub faults_code : Coded Faults
-faults_code = code_by (ℕ × ℕ) (coded× coded_ℕ coded_ℕ) (λ f. (f.memory, f.store)) (λ p. record { memory = p.0; store = p.1 }) (λ _. refl)
+faults_code = code_by (ℕ × ℕ) (coded× coded_ℕ coded_ℕ) (λ f. (f.memory, f.store))
+    (λ p. record { memory = p.0; store = p.1 }) (λ _. refl)
 
 abbrev pub ledger_code : {S : Type 0} → Coded S → Coded (Ledger S)
 ledger_code {S} store =
-    code_by (Held S × (Terms × (ℕ × (ℕ × (Faults × List Entry))))) (coded× (held_code store) (coded× terms_code (coded× coded_ℕ (coded× coded_ℕ (coded× faults_code (coded_list entry.the_row.coded))))))
+    code_by (Held S × (Terms × (ℕ × (ℕ × (Faults × List Entry)))))
+    (coded× (held_code store)
+    (coded× terms_code
+    (coded× coded_ℕ (coded× coded_ℕ (coded× faults_code (coded_list entry.the_row.coded))))))
     (λ l. (l.conn, (l.terms, (l.len, (l.day, (l.faults, l.pending))))))
-    (λ p. record { conn = p.0; terms = p.1.0; len = p.1.1.0; day = p.1.1.1.0; faults = p.1.1.1.1.0; pending = p.1.1.1.1.1 })
+    (λ p. record {
+      conn = p.0;
+      terms = p.1.0;
+      len = p.1.1.0;
+      day = p.1.1.1.0;
+      faults = p.1.1.1.1.0;
+      pending = p.1.1.1.1.1;
+    })
     (λ _. refl)
 
 -- the tables stand for a history, whose length and last day are known
@@ -123,4 +146,5 @@ pub record IsHonest {S : Type 0} (g : Ghosts S) (l : Ledger S) : Type 0 where
 -- these trees hold the ledger with its pending calls after the others
 pub record IsCommittedIn {S : Type 0} (g : Ghosts S) (l : Ledger S) (db : Trees) : Type 0 where
   pub history : history_in (record (state g l.conn).now { trees = db }) ≡ history_of g l
-  pub ledger : IsLedger (record (state g l.conn).now { trees = db }) l.terms (length (history_of g l)) (day_of (history_of g l))
+  pub ledger : IsLedger (record (state g l.conn).now { trees = db }) l.terms
+      (length (history_of g l)) (day_of (history_of g l))

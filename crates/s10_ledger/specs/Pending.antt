@@ -30,20 +30,25 @@ committed_among ws es = take (length es - length ws) es
 -- the pending calls make the tables of the history into those of the history with them after
 pub record HoldsPending (db : Database) (t : Terms) (ws : List CallWrite) : Type 0 where
   pub calls : All IsCall (calls_of ws)
-  pub written : AreWritten ws (tables_of (history_in db) t) (tables_of (history_in db ++ calls_of ws) t)
+  pub written : AreWritten ws (tables_of (history_in db) t)
+      (tables_of (history_in db ++ calls_of ws) t)
 
 -- the calls held in the process are those of the tables with the pending ones after them, and a legal history
-pub record IsFollowed (db : Database) (t : Terms) (index : CallIndex) (ws : List CallWrite) : Type 0 where
+pub record IsFollowed (db : Database) (t : Terms) (index : CallIndex) (ws : List CallWrite) :
+    Type 0 where
   pub indexed : Indexes index (history_in db ++ calls_of ws)
   pub legal : IsLegal (history_in db ++ calls_of ws) t
   pub held : ∥ HoldsPending db t ws ∥₁
 
 -- what is kept true of a book
-pub record IsSound {S : Type 0} (g : Ghosts S) (conn : Held S) (t : Terms) (index : CallIndex) (ws : List CallWrite) (answered : Bool) : Type 0 where
+pub record IsSound {S : Type 0} (g : Ghosts S) (conn : Held S) (t : Terms) (index : CallIndex)
+    (ws : List CallWrite) (answered : Bool) : Type 0 where
   pub few : length index.entries.items ≤ MAX_LIMIT
   pub few_pending : length ws ≤ MAX_PENDING
   pub settled : IsQuiescent g conn
   pub opened : IsOpenIf g conn answered
   pub ledger : HasCleanDisk (state g conn) → IsTrue (state g conn).is_open
-      → IsLedger (state g conn).now t (length (committed_among ws index.entries.items)) (day_of (committed_among ws index.entries.items))
-  pub followed : HasCleanDisk (state g conn) → IsTrue (state g conn).is_open → IsFollowed (state g conn).now t index ws
+      → IsLedger (state g conn).now t (length (committed_among ws index.entries.items))
+      (day_of (committed_among ws index.entries.items))
+  pub followed : HasCleanDisk (state g conn) → IsTrue (state g conn).is_open
+      → IsFollowed (state g conn).now t index ws

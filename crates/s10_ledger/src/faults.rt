@@ -13,7 +13,8 @@ use sqlite::{Error, ErrorCode};
 // Out of memory, or a fault of the store.
 pub(crate) fn fault_of(error: Error) -> BookFault
     ensures not_full { result ≢ Full }
-    ensures memory { (result ≡ BookFault.Memory) ↔ (error ≡ Error.SqliteFailure ErrorCode.OutOfMemory) }
+    ensures memory { (result ≡ BookFault.Memory)
+        ↔ (error ≡ Error.SqliteFailure ErrorCode.OutOfMemory) }
 {
     match error {
         Error::SqliteFailure(ErrorCode::OutOfMemory) => BookFault::Memory,
@@ -23,7 +24,8 @@ pub(crate) fn fault_of(error: Error) -> BookFault
 
 // What an error of a statement that should pass is for the opening.
 pub(crate) fn opening_fault(error: Error) -> OpenFault
-    ensures memory { (result ≡ OpenFault.Memory) ↔ (error ≡ Error.SqliteFailure ErrorCode.OutOfMemory) }
+    ensures memory { (result ≡ OpenFault.Memory)
+        ↔ (error ≡ Error.SqliteFailure ErrorCode.OutOfMemory) }
     ensures fault { (result ≡ OpenFault.Memory) ⊎ (result ≡ OpenFault.Store) }
     ensures refusal { (tables : Tables) → IsRefusal tables result }
 {

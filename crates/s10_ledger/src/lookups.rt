@@ -1,6 +1,7 @@
 //! What the tables of a book are asked.
 
-ghost use Rattle.std.specs.Prelude.{◌≡◌, ◌≢◌, ℕ, ◌<◌, ◌^◌, max, List, length, All, Contains, Err, IfOk, IsTrue, OnOk};
+ghost use Rattle.std.specs.Prelude.{◌≡◌, ◌≢◌, ℕ, ◌<◌, ◌^◌, max, List, length, All, Contains, Err};
+ghost use Rattle.std.specs.Prelude.{IfOk, IsTrue, OnOk};
 ghost use Rattle.sqlite.specs.Held.{state};
 ghost use Rattle.sqlite.specs.State.{HasCleanDisk};
 ghost use Rattle.s10_history.specs.declared.entry.Entry.{Entry};
@@ -27,7 +28,8 @@ use std::alloc::Global;
 pub(crate) fn ask<S: Alter>(alloc: Global, conn: &mut Connection<S>) -> Result<(), BookFault>
     ensures spares { AddsNoCrashState S.Store conn.old conn.new }
     ensures leaves { LeavesTables S.Store conn.old conn.new }
-    ensures opened { HasCleanDisk (state S.Store conn.new) → OnOk result (IsTrue (state S.Store conn.new).is_open) }
+    ensures opened { HasCleanDisk (state S.Store conn.new)
+        → OnOk result (IsTrue (state S.Store conn.new).is_open) }
     ensures fault { result ≢ Err Full }
 {
     match all_heads(alloc, conn) {
@@ -44,10 +46,14 @@ pub(crate) fn usage_in<S: Alter>(
     interval: u32,
 ) -> Result<Usage, BookFault>
     ensures leaves { LeavesTables S.Store conn.old conn.new }
-    ensures opened { HasCleanDisk (state S.Store conn.new) → OnOk result (IsTrue (state S.Store conn.new).is_open) }
+    ensures opened { HasCleanDisk (state S.Store conn.new)
+        → OnOk result (IsTrue (state S.Store conn.new).is_open) }
     ensures fault { result ≢ Err Full }
-    ensures answer { HasCleanDisk (state S.Store conn.new) → (h : List Entry) (t : Terms) → IsLegal h t → All IsCall h → StandsFor (state S.Store conn.old).now h t
-        → length h < 2 ^ 32 → Contains (ranges_of h) range.now → (asked : ℕ) → day ≡ max (day_of h) asked → IfOk result (λ answer. answer ≡ usage_of h range.now asked interval) }
+    ensures answer { HasCleanDisk (state S.Store conn.new) → (h : List Entry) (t : Terms)
+        → IsLegal h t → All IsCall h → StandsFor (state S.Store conn.old).now h t
+        → length h < 2 ^ 32 → Contains (ranges_of h) range.now → (asked : ℕ)
+        → day ≡ max (day_of h) asked
+        → IfOk result (λ answer. answer ≡ usage_of h range.now asked interval) }
 {
     let pair = pair_number(range.service, range.country);
     let first = range.first.value();

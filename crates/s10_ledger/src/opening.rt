@@ -37,10 +37,14 @@ fn replay_tables<S: Alter, W: Observer>(
     requires settled { IsQuiescent S.Store conn.old }
     requires form { IsOfTableLayout form (state S.Store conn.old).now.schema }
     ensures leaves { LeavesTables S.Store conn.old conn.new }
-    ensures opened { HasCleanDisk (state S.Store conn.new) → OnOk result (IsTrue (state S.Store conn.new).is_open) }
+    ensures opened { HasCleanDisk (state S.Store conn.new)
+        → OnOk result (IsTrue (state S.Store conn.new).is_open) }
     ensures few { IfOk result (λ found. length found.1.entries.items ≤ MAX_LIMIT) }
-    ensures found { HasCleanDisk (state S.Store conn.new) → IsTrue (state S.Store conn.new).is_open → IfOk result (λ found. IsFound form (state S.Store conn.old).now found.0 found.1) }
-    ensures refused { HasCleanDisk (state S.Store conn.new) → IsTrue (state S.Store conn.new).is_open → IfErr result (IsOpeningRefusal (state S.Store conn.old).now) }
+    ensures found { HasCleanDisk (state S.Store conn.new) → IsTrue (state S.Store conn.new).is_open
+        → IfOk result (λ found. IsFound form (state S.Store conn.old).now found.0 found.1) }
+    ensures refused { HasCleanDisk (state S.Store conn.new)
+        → IsTrue (state S.Store conn.new).is_open
+        → IfErr result (IsOpeningRefusal (state S.Store conn.old).now) }
 {
     let (made, rows) = match read_tables(alloc, conn, form, watch) {
         Ok(rows) => rows,
@@ -62,10 +66,15 @@ fn complete<S: Alter, W: Observer>(
     requires settled { IsQuiescent S.Store conn.old }
     ensures settled { IsQuiescent S.Store conn.new }
     ensures was { WasSound S.Store conn.old conn.new }
-    ensures opened { HasCleanDisk (state S.Store conn.new) → OnOk result (IsTrue (state S.Store conn.old).is_open → IsTrue (state S.Store conn.new).is_open) }
-    ensures whole { HasCleanDisk (state S.Store conn.new) → OnOk result ((tables : Tables) → HasTableLayout form (state S.Store conn.old).now tables → HasTables (state S.Store conn.new).now tables) }
+    ensures opened { HasCleanDisk (state S.Store conn.new)
+        → OnOk result (IsTrue (state S.Store conn.old).is_open
+        → IsTrue (state S.Store conn.new).is_open) }
+    ensures whole { HasCleanDisk (state S.Store conn.new)
+        → OnOk result ((tables : Tables) → HasTableLayout form (state S.Store conn.old).now tables
+        → HasTables (state S.Store conn.new).now tables) }
     ensures same { form ≡ Whole → (state S.Store conn.new).now ≡ (state S.Store conn.old).now }
-    ensures none { HasCleanDisk (state S.Store conn.new) → IsTrue (state S.Store conn.new).is_open → OnErr result ((state S.Store conn.new).now ≡ (state S.Store conn.old).now) }
+    ensures none { HasCleanDisk (state S.Store conn.new) → IsTrue (state S.Store conn.new).is_open
+        → OnErr result ((state S.Store conn.new).now ≡ (state S.Store conn.old).now) }
     ensures fault { IfErr result (λ f. (f ≡ OpenFault.Memory) ⊎ (f ≡ OpenFault.Store)) }
 {
     match form {
@@ -89,17 +98,28 @@ pub(crate) fn ledger_in<S: Alter, W: Observer>(
     requires settled { IsQuiescent S.Store conn.old }
     ensures settled { IsQuiescent S.Store conn.new }
     ensures was { WasSound S.Store conn.old conn.new }
-    ensures opened { HasCleanDisk (state S.Store conn.new) → OnOk result (IsTrue (state S.Store conn.new).is_open) }
+    ensures opened { HasCleanDisk (state S.Store conn.new)
+        → OnOk result (IsTrue (state S.Store conn.new).is_open) }
     ensures few { IfOk result (λ found. length found.1.entries.items ≤ MAX_LIMIT) }
-    ensures same { HasCleanDisk (state S.Store conn.new) → IsTrue (state S.Store conn.new).is_open → IsClosedSchema (state S.Store conn.old).now.schema → (state S.Store conn.new).now ≡ (state S.Store conn.old).now }
-    ensures kept { HasCleanDisk (state S.Store conn.new) → IsTrue (state S.Store conn.new).is_open → OnErr result ((state S.Store conn.new).now ≡ (state S.Store conn.old).now) }
-    ensures history { HasCleanDisk (state S.Store conn.new) → IsTrue (state S.Store conn.new).is_open → OnOk result (history_in (state S.Store conn.new).now ≡ history_in (state S.Store conn.old).now) }
+    ensures same { HasCleanDisk (state S.Store conn.new) → IsTrue (state S.Store conn.new).is_open
+        → IsClosedSchema (state S.Store conn.old).now.schema → (state S.Store conn.new).now
+        ≡ (state S.Store conn.old).now }
+    ensures kept { HasCleanDisk (state S.Store conn.new) → IsTrue (state S.Store conn.new).is_open
+        → OnErr result ((state S.Store conn.new).now ≡ (state S.Store conn.old).now) }
+    ensures history { HasCleanDisk (state S.Store conn.new)
+        → IsTrue (state S.Store conn.new).is_open
+        → OnOk result (history_in (state S.Store conn.new).now
+        ≡ history_in (state S.Store conn.old).now) }
     ensures ledger { HasCleanDisk (state S.Store conn.new) → IsTrue (state S.Store conn.new).is_open
-        → IfOk result (λ found. IsLedger (state S.Store conn.new).now found.0.settings (length found.1.entries.items) (day_of found.1.entries.items)) }
+        → IfOk result (λ found. IsLedger (state S.Store conn.new).now found.0.settings
+        (length found.1.entries.items) (day_of found.1.entries.items)) }
     ensures found { HasCleanDisk (state S.Store conn.new) → IsTrue (state S.Store conn.new).is_open
-        → IfOk result (λ found. IsAnyLedger (state S.Store conn.old).now found.0.settings (length found.1.entries.items) (day_of found.1.entries.items)) }
+        → IfOk result (λ found. IsAnyLedger (state S.Store conn.old).now found.0.settings
+        (length found.1.entries.items) (day_of found.1.entries.items)) }
     ensures indexed { IfOk result (λ found. IsIndexed S.Store conn.new found.1) }
-    ensures refused { HasCleanDisk (state S.Store conn.new) → IsTrue (state S.Store conn.new).is_open → IfErr result (IsOpeningRefusal (state S.Store conn.old).now) }
+    ensures refused { HasCleanDisk (state S.Store conn.new)
+        → IsTrue (state S.Store conn.new).is_open
+        → IfErr result (IsOpeningRefusal (state S.Store conn.old).now) }
 {
     let Some(form) = table_layout_of(conn.schema()) else {
         return Err(OpenFault::NotALedger);
@@ -135,21 +155,35 @@ impl<S: Alter> SqlBook<S> {
         requires idle { conn.in_transaction ≡ false }
         ensures new { IfOk result (λ b. b.faults ≡ no_faults) }
         ensures idle { IfOk result (λ b. b.conn.in_transaction ≡ false) }
-        ensures opened { IfOk result (λ b. HasCleanDisk (state S.Store b.conn) → IsTrue (state S.Store b.conn).is_open) }
+        ensures opened { IfOk result (λ b. HasCleanDisk (state S.Store b.conn)
+            → IsTrue (state S.Store b.conn).is_open) }
         ensures was { IfOk result (λ b. WasSound S.Store conn b.conn) }
-        ensures honest { IfOk result (λ b. HasCleanDisk (state S.Store b.conn) → IsTrue (state S.Store b.conn).is_open → IsHonest S.Store b) }
-        ensures found { IfOk result (λ b. IsHonest S.Store b → IsAnyLedger (state S.Store conn).now b.terms b.len b.day) }
-        ensures same { IfOk result (λ b. IsHonest S.Store b → IsClosedSchema (state S.Store conn).now.schema → (state S.Store b.conn).now ≡ (state S.Store conn).now) }
-        ensures history { IfOk result (λ b. IsHonest S.Store b → history_in (state S.Store b.conn).now ≡ history_in (state S.Store conn).now) }
-        ensures completed { IfOk result (λ b. IsHonest S.Store b → IsClosedSchema (state S.Store b.conn).now.schema) }
-        ensures committed { IfOk result (λ b. IsHonest S.Store b → (state S.Store b.conn).committed ≡ (state S.Store b.conn).now) }
+        ensures honest { IfOk result (λ b. HasCleanDisk (state S.Store b.conn)
+            → IsTrue (state S.Store b.conn).is_open → IsHonest S.Store b) }
+        ensures found { IfOk result (λ b. IsHonest S.Store b → IsAnyLedger (state S.Store conn).now
+            b.terms b.len b.day) }
+        ensures same { IfOk result (λ b. IsHonest S.Store b
+            → IsClosedSchema (state S.Store conn).now.schema → (state S.Store b.conn).now
+            ≡ (state S.Store conn).now) }
+        ensures history { IfOk result (λ b. IsHonest S.Store b
+            → history_in (state S.Store b.conn).now ≡ history_in (state S.Store conn).now) }
+        ensures completed { IfOk result (λ b. IsHonest S.Store b
+            → IsClosedSchema (state S.Store b.conn).now.schema) }
+        ensures committed { IfOk result (λ b. IsHonest S.Store b → (state S.Store b.conn).committed
+            ≡ (state S.Store b.conn).now) }
         ensures none_pending { IfOk result (λ b. b.pending ≡ []) }
         ensures left_idle { IfErr result (λ r. r.connection.in_transaction ≡ false) }
         ensures was_refused { IfErr result (λ r. WasSound S.Store conn r.connection) }
-        ensures refused { IfErr result (λ r. HasCleanDisk (state S.Store r.connection) → IsTrue (state S.Store r.connection).is_open → IsOpeningRefusal (state S.Store conn).now r.fault) }
-        ensures kept { IfErr result (λ r. HasCleanDisk (state S.Store r.connection) → IsTrue (state S.Store r.connection).is_open → (state S.Store r.connection).now ≡ (state S.Store conn).now) }
-        ensures whole { IfErr result (λ r. HasCleanDisk (state S.Store r.connection) → IsTrue (state S.Store r.connection).is_open
-            → (t : Terms) (len day : ℕ) → AreTerms t → IsAnyLedger (state S.Store conn).now t len day → (r.fault ≡ OpenFault.Memory) ⊎ (r.fault ≡ OpenFault.Store)) }
+        ensures refused { IfErr result (λ r. HasCleanDisk (state S.Store r.connection)
+            → IsTrue (state S.Store r.connection).is_open
+            → IsOpeningRefusal (state S.Store conn).now r.fault) }
+        ensures kept { IfErr result (λ r. HasCleanDisk (state S.Store r.connection)
+            → IsTrue (state S.Store r.connection).is_open → (state S.Store r.connection).now
+            ≡ (state S.Store conn).now) }
+        ensures whole { IfErr result (λ r. HasCleanDisk (state S.Store r.connection)
+            → IsTrue (state S.Store r.connection).is_open
+            → (t : Terms) (len day : ℕ) → AreTerms t → IsAnyLedger (state S.Store conn).now t len
+            day → (r.fault ≡ OpenFault.Memory) ⊎ (r.fault ≡ OpenFault.Store)) }
     {
         // A connection that is in no transaction has nothing to commit.
         prove!(conn.is_autocommit());

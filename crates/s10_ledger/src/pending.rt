@@ -1,6 +1,7 @@
 //! Calls are held in the process, and written.
 
-ghost use Rattle.std.specs.Prelude.{◌≡◌, ◌≢◌, ◌⊎◌, ◌≤◌, ◌+◌, ◌++◌, ◌∷◌, [], List, length, map, All, Err, IsTrue, OnOk, OnErr};
+ghost use Rattle.std.specs.Prelude.{◌≡◌, ◌≢◌, ◌⊎◌, ◌≤◌, ◌+◌, ◌++◌, ◌∷◌, [], List, length, map, All};
+ghost use Rattle.std.specs.Prelude.{Err, IsTrue, OnOk, OnErr};
 ghost use Rattle.std.specs.List.{list_any};
 ghost use Rattle.sqlite_trees.specs.Tree.{Trees};
 ghost use Rattle.sqlite_trees.specs.View.{doubt};
@@ -37,18 +38,27 @@ pub(crate) fn commit_calls<S: Alter>(
 ) -> Result<(), BookFault>
     requires settled { IsQuiescent S.Store conn.old }
     ensures settled { IsQuiescent S.Store conn.new }
-    ensures opened { HasCleanDisk (state S.Store conn.new) → OnOk result (IsTrue (state S.Store conn.new).is_open) }
+    ensures opened { HasCleanDisk (state S.Store conn.new)
+        → OnOk result (IsTrue (state S.Store conn.new).is_open) }
     ensures fault { result ≢ Err Full }
-    ensures clean { doubt (state S.Store conn.old).is_clean ≤ doubt (state S.Store conn.new).is_clean }
-    ensures was_open { HasCleanDisk (state S.Store conn.new) → IsTrue (state S.Store conn.new).is_open → IsTrue (state S.Store conn.old).is_open }
+    ensures clean { doubt (state S.Store conn.old).is_clean
+        ≤ doubt (state S.Store conn.new).is_clean }
+    ensures was_open { HasCleanDisk (state S.Store conn.new)
+        → IsTrue (state S.Store conn.new).is_open → IsTrue (state S.Store conn.old).is_open }
     ensures emptied { OnOk result (pending.new.items ≡ []) }
     ensures left { OnErr result (pending.new.items ≡ pending.old.items) }
-    ensures ok { HasCleanDisk (state S.Store conn.new) → OnOk result ((before after : Tables) → AreWritten pending.old.items before after
-        → HasTables (state S.Store conn.old).now before → HasTables (state S.Store conn.new).now after) }
-    ensures err { HasCleanDisk (state S.Store conn.new) → IsTrue (state S.Store conn.new).is_open → OnErr result ((state S.Store conn.new).now ≡ (state S.Store conn.old).now) }
-    ensures crash { HasCleanDisk (state S.Store conn.new) → (db : Trees) → (state S.Store conn.new).may_leave db
-        → (state S.Store conn.old).may_leave db ⊎ ((before after : Tables) → AreWritten pending.old.items before after
-        → HasTables (state S.Store conn.old).now before → HasTables (record (state S.Store conn.old).now { trees = db }) after) }
+    ensures ok { HasCleanDisk (state S.Store conn.new) → OnOk result ((before after : Tables)
+        → AreWritten pending.old.items before after
+        → HasTables (state S.Store conn.old).now before → HasTables (state S.Store conn.new).now
+        after) }
+    ensures err { HasCleanDisk (state S.Store conn.new) → IsTrue (state S.Store conn.new).is_open
+        → OnErr result ((state S.Store conn.new).now ≡ (state S.Store conn.old).now) }
+    ensures crash { HasCleanDisk (state S.Store conn.new) → (db : Trees)
+        → (state S.Store conn.new).may_leave db
+        → (state S.Store conn.old).may_leave db
+        ⊎ ((before after : Tables) → AreWritten pending.old.items before after
+        → HasTables (state S.Store conn.old).now before
+        → HasTables (record (state S.Store conn.old).now { trees = db }) after) }
 {
     match commit_rows(conn, pending) {
         Ok(()) => {
@@ -70,14 +80,21 @@ pub(crate) fn append_pending(
 ) -> Result<(), BookFault>
     requires limit { limit ≤ MAX_LIMIT }
     ensures fault { result ≢ Err Full }
-    ensures few { length index.old.entries.items ≤ MAX_LIMIT → length index.new.entries.items ≤ MAX_LIMIT }
-    ensures calls { OnOk result (index.new.entries.items ≡ index.old.entries.items ++ entry.now ∷ []) }
+    ensures few { length index.old.entries.items ≤ MAX_LIMIT → length index.new.entries.items
+        ≤ MAX_LIMIT }
+    ensures calls { OnOk result (index.new.entries.items ≡ index.old.entries.items ++ entry.now
+        ∷ []) }
     ensures same_calls { OnErr result (index.new.entries.items ≡ index.old.entries.items) }
-    ensures written { OnOk result ((write : CallWrite) × (pending.new.items ≡ pending.old.items ++ write ∷ []) × (write.entry ≡ entry.now)
-        × ((h : List Entry) (t : Terms) → IsLegal h t → MayFollow h t entry.now → All IsCall h → Indexes index.old h → IsCall entry.now × Writes write (tables_of h t) (tables_of (h ++ entry.now ∷ []) t))) }
+    ensures written { OnOk result ((write : CallWrite)
+        × (pending.new.items ≡ pending.old.items ++ write ∷ []) × (write.entry ≡ entry.now)
+        × ((h : List Entry) (t : Terms) → IsLegal h t → MayFollow h t entry.now → All IsCall h
+        → Indexes index.old h → IsCall entry.now × Writes write (tables_of h t)
+        (tables_of (h ++ entry.now ∷ []) t))) }
     ensures left { OnErr result (pending.new.items ≡ pending.old.items) }
-    ensures followed { (h : List Entry) (t : Terms) → IsLegal h t → MayFollow h t entry.now → Indexes index.old h → OnOk result (Indexes index.new (h ++ entry.now ∷ [])) }
-    ensures same_index { (h : List Entry) → Indexes index.old h → OnErr result (Indexes index.new h) }
+    ensures followed { (h : List Entry) (t : Terms) → IsLegal h t → MayFollow h t entry.now
+        → Indexes index.old h → OnOk result (Indexes index.new (h ++ entry.now ∷ [])) }
+    ensures same_index { (h : List Entry) → Indexes index.old h
+        → OnErr result (Indexes index.new h) }
 {
     let held = index.calls().len();
     if held >= limit as usize {

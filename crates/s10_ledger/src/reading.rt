@@ -26,8 +26,10 @@ fn read_call_rows<S: Alter, W: Observer>(
     watch: &mut W,
 ) -> Result<(Vec<HeadRow>, Vec<CallRow>), Error>
     ensures leaves { LeavesTables S.Store conn.old conn.new }
-    ensures opened { HasCleanDisk (state S.Store conn.new) → OnOk result (IsTrue (state S.Store conn.new).is_open) }
-    ensures rows { HasCleanDisk (state S.Store conn.new) → IsTrue (state S.Store conn.new).is_open → IsQuiescent S.Store conn.old → IsLedgerSchema (state S.Store conn.old).now.schema
+    ensures opened { HasCleanDisk (state S.Store conn.new)
+        → OnOk result (IsTrue (state S.Store conn.new).is_open) }
+    ensures rows { HasCleanDisk (state S.Store conn.new) → IsTrue (state S.Store conn.new).is_open
+        → IsQuiescent S.Store conn.old → IsLedgerSchema (state S.Store conn.old).now.schema
         → IfOk result (λ kept. HasCallRows (state S.Store conn.old).now kept.0.items kept.1.items) }
 {
     let heads = all_heads(alloc, conn)?;
@@ -43,7 +45,8 @@ fn closed_rows<S: Alter>(
 ) -> Result<Vec<ClosedRow>, Error>
     requires form { IsOfTableLayout form (state S.Store conn.old).now.schema }
     ensures leaves { LeavesTables S.Store conn.old conn.new }
-    ensures rows { HasCleanDisk (state S.Store conn.new) → IfOk result (λ rows. AreClosed form (state S.Store conn.old).now rows.items) }
+    ensures rows { HasCleanDisk (state S.Store conn.new)
+        → IfOk result (λ rows. AreClosed form (state S.Store conn.old).now rows.items) }
 {
     match form {
         TableLayout::Whole => all_closed(alloc, conn),
@@ -58,9 +61,12 @@ fn read_derived_rows<S: Alter, W: Observer>(
     watch: &mut W,
 ) -> Result<(Vec<RangeRow>, Vec<SerialRow>), Error>
     ensures leaves { LeavesTables S.Store conn.old conn.new }
-    ensures opened { HasCleanDisk (state S.Store conn.new) → OnOk result (IsTrue (state S.Store conn.new).is_open) }
-    ensures rows { HasCleanDisk (state S.Store conn.new) → IsTrue (state S.Store conn.new).is_open → IsQuiescent S.Store conn.old → IsLedgerSchema (state S.Store conn.old).now.schema
-        → IfOk result (λ made. HasDerivedRows (state S.Store conn.old).now made.0.items made.1.items) }
+    ensures opened { HasCleanDisk (state S.Store conn.new)
+        → OnOk result (IsTrue (state S.Store conn.new).is_open) }
+    ensures rows { HasCleanDisk (state S.Store conn.new) → IsTrue (state S.Store conn.new).is_open
+        → IsQuiescent S.Store conn.old → IsLedgerSchema (state S.Store conn.old).now.schema
+        → IfOk result (λ made. HasDerivedRows (state S.Store conn.old).now made.0.items
+        made.1.items) }
 {
     let ranges = all_ranges(alloc, conn)?;
     let serials = all_serials(alloc, conn, watch)?;
@@ -76,10 +82,13 @@ pub(crate) fn read_tables<S: Alter, W: Observer>(
 ) -> Result<(Result<ReplayedBook, OpenFault>, StoredRows), Error>
     requires form { IsOfTableLayout form (state S.Store conn.old).now.schema }
     ensures leaves { LeavesTables S.Store conn.old conn.new }
-    ensures opened { HasCleanDisk (state S.Store conn.new) → OnOk result (IsTrue (state S.Store conn.new).is_open) }
-    ensures rows { HasCleanDisk (state S.Store conn.new) → IsTrue (state S.Store conn.new).is_open → IsQuiescent S.Store conn.old
+    ensures opened { HasCleanDisk (state S.Store conn.new)
+        → OnOk result (IsTrue (state S.Store conn.new).is_open) }
+    ensures rows { HasCleanDisk (state S.Store conn.new) → IsTrue (state S.Store conn.new).is_open
+        → IsQuiescent S.Store conn.old
         → IfOk result (λ rows. AreRead form (state S.Store conn.old).now rows.0 rows.1) }
-    ensures remade { IfOk result (λ rows. IfOk rows.0 (λ made. (heads : List HeadRow) × ((calls : List StoredCall) × IsReplayedBook heads calls made))) }
+    ensures remade { IfOk result (λ rows. IfOk rows.0 (λ made. (heads : List HeadRow)
+        × ((calls : List StoredCall) × IsReplayedBook heads calls made))) }
 {
     let closed = closed_rows(alloc, conn, form)?;
     let (heads, calls) = read_call_rows(alloc, conn, watch)?;

@@ -48,7 +48,15 @@ impl<S: Alter> Model for SqlBook<S> {
 
     ghost coded = { ledger_code S.code };
 
-    ghost view = { λ b. let kept = committed_among b.pending.items b.index.entries.items in record { conn = b.conn; terms = b.settings; len = length kept; day = day_of kept; faults = b.faults; pending = calls_of b.pending.items } };
+    ghost view = { λ b. let kept = committed_among b.pending.items b.index.entries.items in
+        record {
+          conn = b.conn;
+          terms = b.settings;
+          len = length kept;
+          day = day_of kept;
+          faults = b.faults;
+          pending = calls_of b.pending.items;
+        } };
 
     ghost invariant = { λ b. IsSound S.Store b.conn b.settings b.index b.pending.items b.answered };
 }
@@ -77,17 +85,25 @@ impl<S: Alter> SqlBook<S> {
         ensures new { IfOk result (λ b. (b.terms ≡ settings) × (b.faults ≡ no_faults)) }
         ensures fresh { IfOk result (λ _. ¬ HasOneOfTheNames (state S.Store conn).now.schema) }
         ensures idle { IfOk result (λ b. b.conn.in_transaction ≡ false) }
-        ensures opened { IfOk result (λ b. HasCleanDisk (state S.Store b.conn) → IsTrue (state S.Store b.conn).is_open) }
+        ensures opened { IfOk result (λ b. HasCleanDisk (state S.Store b.conn)
+            → IsTrue (state S.Store b.conn).is_open) }
         ensures was { IfOk result (λ b. WasSound S.Store conn b.conn) }
-        ensures empty { IfOk result (λ b. IsHonest S.Store b → history_in (state S.Store b.conn).now ≡ []) }
-        ensures alone { IfOk result (λ b. IsHonest S.Store b → (state S.Store b.conn).now.schema ≡ ledger_schema) }
-        ensures committed { IfOk result (λ b. IsHonest S.Store b → (state S.Store b.conn).committed ≡ (state S.Store b.conn).now) }
-        ensures honest { IfOk result (λ b. HasCleanDisk (state S.Store b.conn) → IsTrue (state S.Store b.conn).is_open → IsHonest S.Store b) }
+        ensures empty { IfOk result (λ b. IsHonest S.Store b → history_in (state S.Store b.conn).now
+            ≡ []) }
+        ensures alone { IfOk result (λ b. IsHonest S.Store b → (state S.Store b.conn).now.schema
+            ≡ ledger_schema) }
+        ensures committed { IfOk result (λ b. IsHonest S.Store b → (state S.Store b.conn).committed
+            ≡ (state S.Store b.conn).now) }
+        ensures honest { IfOk result (λ b. HasCleanDisk (state S.Store b.conn)
+            → IsTrue (state S.Store b.conn).is_open → IsHonest S.Store b) }
         ensures none_pending { IfOk result (λ b. b.pending ≡ []) }
         ensures left_idle { IfErr result (λ r. r.connection.in_transaction ≡ false) }
         ensures was_refused { IfErr result (λ r. WasSound S.Store conn r.connection) }
-        ensures refused { IfErr result (λ r. IsCreateRefusal (state S.Store conn).now.schema r.fault) }
-        ensures kept { IfErr result (λ r. HasCleanDisk (state S.Store r.connection) → IsTrue (state S.Store r.connection).is_open → (state S.Store r.connection).now ≡ (state S.Store conn).now) }
+        ensures refused { IfErr result (λ r. IsCreateRefusal (state S.Store conn).now.schema
+            r.fault) }
+        ensures kept { IfErr result (λ r. HasCleanDisk (state S.Store r.connection)
+            → IsTrue (state S.Store r.connection).is_open → (state S.Store r.connection).now
+            ≡ (state S.Store conn).now) }
     {
         let mut connection = conn;
         if let Some(fault) = refusal_of(&connection) {
@@ -111,10 +127,19 @@ impl<S: Alter> SqlBook<S> {
     ) -> SqlBook<S>
         requires few { length index.entries.items ≤ MAX_LIMIT }
         requires settled { IsQuiescent S.Store conn }
-        requires ledger { HasCleanDisk (state S.Store conn) → IsTrue (state S.Store conn).is_open → IsLedger (state S.Store conn).now settings (length index.entries.items) (day_of index.entries.items) }
+        requires ledger { HasCleanDisk (state S.Store conn) → IsTrue (state S.Store conn).is_open
+            → IsLedger (state S.Store conn).now settings (length index.entries.items)
+            (day_of index.entries.items) }
         requires indexed { IsIndexed S.Store conn index }
         requires opened { HasCleanDisk (state S.Store conn) → IsTrue (state S.Store conn).is_open }
-        ensures { let book : Ledger S = record { conn = conn; terms = settings; len = length index.entries.items; day = day_of index.entries.items; faults = no_faults; pending = [] } in result ≡ book }
+        ensures { let book : Ledger S = record {
+          conn = conn;
+          terms = settings;
+          len = length index.entries.items;
+          day = day_of index.entries.items;
+          faults = no_faults;
+          pending = [];
+        } in result ≡ book }
     {
         SqlBook {
             alloc,
@@ -132,8 +157,11 @@ impl<S: Alter> SqlBook<S> {
     pub fn connection(&self) -> &Connection<S>
         ensures same { result.now ≡ self.now.conn }
         ensures idle { self.now.conn.in_transaction ≡ false }
-        ensures committed { HasCleanDisk (state S.Store self.now.conn) → IsTrue (state S.Store self.now.conn).is_open → (state S.Store self.now.conn).committed ≡ (state S.Store self.now.conn).now }
-        ensures honest { HasCleanDisk (state S.Store self.now.conn) → IsTrue (state S.Store self.now.conn).is_open → IsHonest S.Store self.now }
+        ensures committed { HasCleanDisk (state S.Store self.now.conn)
+            → IsTrue (state S.Store self.now.conn).is_open → (state S.Store self.now.conn).committed
+            ≡ (state S.Store self.now.conn).now }
+        ensures honest { HasCleanDisk (state S.Store self.now.conn)
+            → IsTrue (state S.Store self.now.conn).is_open → IsHonest S.Store self.now }
     {
         &self.conn
     }
@@ -142,9 +170,13 @@ impl<S: Alter> SqlBook<S> {
     pub fn close(self) -> Connection<S>
         ensures same { result ≡ self.conn }
         ensures idle { result.in_transaction ≡ false }
-        ensures committed { HasCleanDisk (state S.Store result) → IsTrue (state S.Store result).is_open → (state S.Store result).committed ≡ (state S.Store result).now }
-        ensures ledger { HasCleanDisk (state S.Store result) → IsTrue (state S.Store result).is_open → IsLedger (state S.Store result).now self.terms self.len self.day }
-        ensures honest { HasCleanDisk (state S.Store result) → IsTrue (state S.Store result).is_open → IsHonest S.Store self }
+        ensures committed { HasCleanDisk (state S.Store result)
+            → IsTrue (state S.Store result).is_open → (state S.Store result).committed
+            ≡ (state S.Store result).now }
+        ensures ledger { HasCleanDisk (state S.Store result) → IsTrue (state S.Store result).is_open
+            → IsLedger (state S.Store result).now self.terms self.len self.day }
+        ensures honest { HasCleanDisk (state S.Store result) → IsTrue (state S.Store result).is_open
+            → IsHonest S.Store self }
     {
         let SqlBook {
             alloc: _,
@@ -171,7 +203,8 @@ impl SqlBook<MemStore> {
     pub fn in_memory(alloc: Global, settings: Settings) -> Result<SqlBook<MemStore>, OpenFault>
         ensures new { IfOk result (λ b. (b.terms ≡ settings) × (b.faults ≡ no_faults)) }
         ensures idle { IfOk result (λ b. b.conn.in_transaction ≡ false) }
-        ensures committed { IfOk result (λ b. (state over_memory b.conn).committed ≡ (state over_memory b.conn).now) }
+        ensures committed { IfOk result (λ b. (state over_memory b.conn).committed
+            ≡ (state over_memory b.conn).now) }
         ensures honest { IfOk result (IsHonest over_memory) }
         ensures empty { IfOk result (λ b. history_in (state over_memory b.conn).now ≡ []) }
         ensures alone { IfOk result (λ b. (state over_memory b.conn).now.schema ≡ ledger_schema) }
@@ -206,7 +239,8 @@ fn counted<T>(faults: &mut Faults, answer: Result<T, BookFault>) -> Result<T, Bo
 }
 
 impl<S: Alter> SqlBook<S> {
-    ghost use Rattle.std.specs.Prelude.{◌⊎◌, ◌++◌, ◌∷◌, ◌<◌, length, IfOk, IsTrue, OnErr, OnOk, Contains};
+    ghost use Rattle.std.specs.Prelude.{◌⊎◌, ◌++◌, ◌∷◌, ◌<◌, length, IfOk, IsTrue, OnErr, OnOk};
+    ghost use Rattle.std.specs.Prelude.{Contains};
     ghost use Rattle.std.specs.List.{list_any};
     ghost use Rattle.sqlite_trees.specs.Tree.{Trees};
     ghost use Rattle.sqlite.specs.State.{HasCleanDisk};
@@ -220,11 +254,16 @@ impl<S: Alter> SqlBook<S> {
     // connection that is shut.
     fn ask_again(&mut self) -> Result<(), BookFault>
         ensures faults { CountsResult result self.old.faults self.new.faults }
-        ensures unchanged { Unchanged (history_of S.Store) (λ b. b.terms) (IsHonest S.Store) self.old self.new }
-        ensures opened { HasCleanDisk (state S.Store self.new.conn) → OnOk result (IsTrue (state S.Store self.new.conn).is_open) }
+        ensures unchanged { Unchanged (history_of S.Store) (λ b. b.terms) (IsHonest S.Store)
+            self.old self.new }
+        ensures opened { HasCleanDisk (state S.Store self.new.conn)
+            → OnOk result (IsTrue (state S.Store self.new.conn).is_open) }
         ensures same_pending { self.new.pending ≡ self.old.pending }
-        ensures same { IsHonest S.Store self.new → (state S.Store self.new.conn).now ≡ (state S.Store self.old.conn).now }
-        ensures spares { IsHonest S.Store self.old → HasCleanDisk (state S.Store self.new.conn) → (db : Trees) → (state S.Store self.new.conn).may_leave db → db ≡ (state S.Store self.old.conn).now.trees }
+        ensures same { IsHonest S.Store self.new → (state S.Store self.new.conn).now
+            ≡ (state S.Store self.old.conn).now }
+        ensures spares { IsHonest S.Store self.old → HasCleanDisk (state S.Store self.new.conn)
+            → (db : Trees) → (state S.Store self.new.conn).may_leave db
+            → db ≡ (state S.Store self.old.conn).now.trees }
     {
         if self.answered {
             return Ok(());
@@ -238,11 +277,15 @@ impl<S: Alter> SqlBook<S> {
     // Writes the pending calls in one transaction.
     fn commit_pending(&mut self) -> Result<(), BookFault>
         ensures faults { CountsResult result self.old.faults self.new.faults }
-        ensures unchanged { Unchanged (history_of S.Store) (λ b. b.terms) (IsHonest S.Store) self.old self.new }
-        ensures opened { HasCleanDisk (state S.Store self.new.conn) → OnOk result (IsTrue (state S.Store self.new.conn).is_open) }
-        ensures left { IsHonest S.Store self.new → OnErr result (committed_of S.Store self.new ≡ committed_of S.Store self.old) }
+        ensures unchanged { Unchanged (history_of S.Store) (λ b. b.terms) (IsHonest S.Store)
+            self.old self.new }
+        ensures opened { HasCleanDisk (state S.Store self.new.conn)
+            → OnOk result (IsTrue (state S.Store self.new.conn).is_open) }
+        ensures left { IsHonest S.Store self.new
+            → OnErr result (committed_of S.Store self.new ≡ committed_of S.Store self.old) }
         ensures none_pending { OnOk result (self.new.pending ≡ []) }
-        ensures crash { IsHonest S.Store self.old → HasCleanDisk (state S.Store self.new.conn) → (db : Trees) → (state S.Store self.new.conn).may_leave db
+        ensures crash { IsHonest S.Store self.old → HasCleanDisk (state S.Store self.new.conn)
+            → (db : Trees) → (state S.Store self.new.conn).may_leave db
             → (db ≡ (state S.Store self.old.conn).now.trees) ⊎ IsCommittedIn S.Store self.old db }
     {
         let written = commit_calls(&mut self.conn, &mut self.pending);
@@ -254,11 +297,16 @@ impl<S: Alter> SqlBook<S> {
     // Commits where no more calls may be pending, and else asks the connection as the reads do.
     fn make_room(&mut self) -> Result<(), BookFault>
         ensures faults { CountsResult result self.old.faults self.new.faults }
-        ensures unchanged { Unchanged (history_of S.Store) (λ b. b.terms) (IsHonest S.Store) self.old self.new }
-        ensures opened { HasCleanDisk (state S.Store self.new.conn) → OnOk result (IsTrue (state S.Store self.new.conn).is_open) }
+        ensures unchanged { Unchanged (history_of S.Store) (λ b. b.terms) (IsHonest S.Store)
+            self.old self.new }
+        ensures opened { HasCleanDisk (state S.Store self.new.conn)
+            → OnOk result (IsTrue (state S.Store self.new.conn).is_open) }
         ensures room { OnOk result (length self.new.pending < MAX_PENDING) }
-        ensures uncommitted { IsHonest S.Store self.new → length self.old.pending < MAX_PENDING → ((state S.Store self.new.conn).now ≡ (state S.Store self.old.conn).now) × (self.new.pending ≡ self.old.pending) }
-        ensures crash { IsHonest S.Store self.old → HasCleanDisk (state S.Store self.new.conn) → (db : Trees) → (state S.Store self.new.conn).may_leave db
+        ensures uncommitted { IsHonest S.Store self.new → length self.old.pending < MAX_PENDING
+            → ((state S.Store self.new.conn).now ≡ (state S.Store self.old.conn).now)
+            × (self.new.pending ≡ self.old.pending) }
+        ensures crash { IsHonest S.Store self.old → HasCleanDisk (state S.Store self.new.conn)
+            → (db : Trees) → (state S.Store self.new.conn).may_leave db
             → (db ≡ (state S.Store self.old.conn).now.trees) ⊎ IsCommittedIn S.Store self.old db }
     {
         if self.pending.len() >= MAX_PENDING {
@@ -270,7 +318,8 @@ impl<S: Alter> SqlBook<S> {
     // Holds the call after the others.
     fn append_call(&mut self, entry: &Entry) -> Result<(), BookFault>
         requires room { length self.old.pending < MAX_PENDING }
-        requires follows { IsHonest S.Store self.old → MayFollow (history_of S.Store self.old) self.old.terms entry.now }
+        requires follows { IsHonest S.Store self.old → MayFollow (history_of S.Store self.old)
+            self.old.terms entry.now }
         ensures faults { CountsResult result self.old.faults self.new.faults }
         ensures same_conn { self.new.conn ≡ self.old.conn }
         ensures same_terms { self.new.terms ≡ self.old.terms }
@@ -286,11 +335,16 @@ impl<S: Alter> SqlBook<S> {
     // The usage of a range, where no call is pending.
     fn usage_committed(&mut self, range: &Range, day: u32) -> Result<Usage, BookFault>
         requires none_pending { self.old.pending ≡ [] }
-        requires there { IsHonest S.Store self.old → Contains (ranges_of (history_of S.Store self.old)) range.now }
+        requires there { IsHonest S.Store self.old
+            → Contains (ranges_of (history_of S.Store self.old)) range.now }
         ensures faults { CountsResult result self.old.faults self.new.faults }
-        ensures unchanged { Unchanged (history_of S.Store) (λ b. b.terms) (IsHonest S.Store) self.old self.new }
-        ensures opened { HasCleanDisk (state S.Store self.new.conn) → OnOk result (IsTrue (state S.Store self.new.conn).is_open) }
-        ensures answer { IsHonest S.Store self.new → IfOk result (λ u. u ≡ usage_of (history_of S.Store self.old) range.now day self.old.terms.interval) }
+        ensures unchanged { Unchanged (history_of S.Store) (λ b. b.terms) (IsHonest S.Store)
+            self.old self.new }
+        ensures opened { HasCleanDisk (state S.Store self.new.conn)
+            → OnOk result (IsTrue (state S.Store self.new.conn).is_open) }
+        ensures answer { IsHonest S.Store self.new
+            → IfOk result (λ u. u ≡ usage_of (history_of S.Store self.old) range.now day
+            self.old.terms.interval) }
     {
         let interval = self.settings.interval();
         let day = self.index.day().max(day);
@@ -314,12 +368,17 @@ impl<S: Alter> GroupCommit for SqlBook<S> {
 
     fn commit(&mut self) -> Result<(), BookFault>
         ensures faults { CountsResult result self.old.faults self.new.faults }
-        ensures unchanged { Unchanged (history_of S.Store) (λ b. b.terms) (IsHonest S.Store) self.old self.new }
-        ensures opened { HasCleanDisk (state S.Store self.new.conn) → OnOk result (IsTrue (state S.Store self.new.conn).is_open) }
-        ensures done { IsHonest S.Store self.new → OnOk result (committed_of S.Store self.new ≡ history_of S.Store self.new) }
-        ensures left { IsHonest S.Store self.new → OnErr result (committed_of S.Store self.new ≡ committed_of S.Store self.old) }
+        ensures unchanged { Unchanged (history_of S.Store) (λ b. b.terms) (IsHonest S.Store)
+            self.old self.new }
+        ensures opened { HasCleanDisk (state S.Store self.new.conn)
+            → OnOk result (IsTrue (state S.Store self.new.conn).is_open) }
+        ensures done { IsHonest S.Store self.new
+            → OnOk result (committed_of S.Store self.new ≡ history_of S.Store self.new) }
+        ensures left { IsHonest S.Store self.new
+            → OnErr result (committed_of S.Store self.new ≡ committed_of S.Store self.old) }
         ensures none_pending { OnOk result (self.new.pending ≡ []) }
-        ensures crash { IsHonest S.Store self.old → HasCleanDisk (state S.Store self.new.conn) → (db : Trees) → (state S.Store self.new.conn).may_leave db
+        ensures crash { IsHonest S.Store self.old → HasCleanDisk (state S.Store self.new.conn)
+            → (db : Trees) → (state S.Store self.new.conn).may_leave db
             → (db ≡ (state S.Store self.old.conn).now.trees) ⊎ IsCommittedIn S.Store self.old db }
     {
         if self.pending.is_empty() {
@@ -334,11 +393,14 @@ impl<S: Alter> GroupCommit for SqlBook<S> {
 }
 
 impl<S: Alter> Book for SqlBook<S> {
-    ghost use Rattle.std.specs.Prelude.{◌⊎◌, ◌++◌, ◌∷◌, ◌<◌, ◌==◌, length, find, IfOk, IfSome, IsTrue, OnErr, OnOk, Contains};
+    ghost use Rattle.std.specs.Prelude.{◌⊎◌, ◌++◌, ◌∷◌, ◌<◌, ◌==◌, length, find, IfOk, IfSome};
+    ghost use Rattle.std.specs.Prelude.{IsTrue, OnErr, OnOk, Contains};
     ghost use Rattle.sqlite.specs.State.{HasCleanDisk};
     ghost use Rattle.s10_wire.specs.Kind.{fits};
-    ghost use Rattle.s10_history.specs.History.{find_entry, entry_at, ranges_of, is_closed, is_open_after, overlaps};
-    ghost use Rattle.s10_history.specs.Issues.{last_issue_of, candidate_of, candidate_after_of, size_of};
+    ghost use Rattle.s10_history.specs.History.{find_entry, entry_at, ranges_of, is_closed};
+    ghost use Rattle.s10_history.specs.History.{is_open_after, overlaps};
+    ghost use Rattle.s10_history.specs.Issues.{last_issue_of, candidate_of, candidate_after_of};
+    ghost use Rattle.s10_history.specs.Issues.{size_of};
     ghost use Rattle.s10_history.specs.Usage.{usage_of};
     ghost use Rattle.s10_book.specs.Rules.{MayFollow};
     ghost use Rattle.s10_book.specs.Book.{Unchanged};
@@ -369,10 +431,14 @@ impl<S: Alter> Book for SqlBook<S> {
 
     fn find(&mut self, customer: u32, number: u32) -> Result<Option<Entry>, BookFault>
         ensures faults { CountsResult result self.old.faults self.new.faults }
-        ensures unchanged { Unchanged (history_of S.Store) (λ b. b.terms) (IsHonest S.Store) self.old self.new }
-        ensures opened { HasCleanDisk (state S.Store self.new.conn) → OnOk result (IsTrue (state S.Store self.new.conn).is_open) }
-        ensures answer { IsHonest S.Store self.new → IfOk result (λ e. e ≡ find_entry (history_of S.Store self.old) customer number) }
-        ensures fits { IfOk result (λ found. IfSome found (λ e. IsTrue (fits e.request.body e.outcome))) }
+        ensures unchanged { Unchanged (history_of S.Store) (λ b. b.terms) (IsHonest S.Store)
+            self.old self.new }
+        ensures opened { HasCleanDisk (state S.Store self.new.conn)
+            → OnOk result (IsTrue (state S.Store self.new.conn).is_open) }
+        ensures answer { IsHonest S.Store self.new
+            → IfOk result (λ e. e ≡ find_entry (history_of S.Store self.old) customer number) }
+        ensures fits { IfOk result
+            (λ found. IfSome found (λ e. IsTrue (fits e.request.body e.outcome))) }
     {
         if let Err(fault) = self.ask_again() {
             return Err(fault);
@@ -382,9 +448,12 @@ impl<S: Alter> Book for SqlBook<S> {
 
     fn entry(&mut self, at: u32) -> Result<Option<Entry>, BookFault>
         ensures faults { CountsResult result self.old.faults self.new.faults }
-        ensures unchanged { Unchanged (history_of S.Store) (λ b. b.terms) (IsHonest S.Store) self.old self.new }
-        ensures opened { HasCleanDisk (state S.Store self.new.conn) → OnOk result (IsTrue (state S.Store self.new.conn).is_open) }
-        ensures answer { IsHonest S.Store self.new → IfOk result (λ e. e ≡ entry_at (history_of S.Store self.old) at) }
+        ensures unchanged { Unchanged (history_of S.Store) (λ b. b.terms) (IsHonest S.Store)
+            self.old self.new }
+        ensures opened { HasCleanDisk (state S.Store self.new.conn)
+            → OnOk result (IsTrue (state S.Store self.new.conn).is_open) }
+        ensures answer { IsHonest S.Store self.new
+            → IfOk result (λ e. e ≡ entry_at (history_of S.Store self.old) at) }
     {
         if let Err(fault) = self.ask_again() {
             return Err(fault);
@@ -394,9 +463,13 @@ impl<S: Alter> Book for SqlBook<S> {
 
     fn range(&mut self, num: u32) -> Result<Option<Range>, BookFault>
         ensures faults { CountsResult result self.old.faults self.new.faults }
-        ensures unchanged { Unchanged (history_of S.Store) (λ b. b.terms) (IsHonest S.Store) self.old self.new }
-        ensures opened { HasCleanDisk (state S.Store self.new.conn) → OnOk result (IsTrue (state S.Store self.new.conn).is_open) }
-        ensures answer { IsHonest S.Store self.new → IfOk result (λ r. r ≡ find (λ x. x.num == num) (ranges_of (history_of S.Store self.old))) }
+        ensures unchanged { Unchanged (history_of S.Store) (λ b. b.terms) (IsHonest S.Store)
+            self.old self.new }
+        ensures opened { HasCleanDisk (state S.Store self.new.conn)
+            → OnOk result (IsTrue (state S.Store self.new.conn).is_open) }
+        ensures answer { IsHonest S.Store self.new
+            → IfOk result
+            (λ r. r ≡ find (λ x. x.num == num) (ranges_of (history_of S.Store self.old))) }
     {
         if let Err(fault) = self.ask_again() {
             return Err(fault);
@@ -406,9 +479,12 @@ impl<S: Alter> Book for SqlBook<S> {
 
     fn closed(&mut self, num: u32) -> Result<bool, BookFault>
         ensures faults { CountsResult result self.old.faults self.new.faults }
-        ensures unchanged { Unchanged (history_of S.Store) (λ b. b.terms) (IsHonest S.Store) self.old self.new }
-        ensures opened { HasCleanDisk (state S.Store self.new.conn) → OnOk result (IsTrue (state S.Store self.new.conn).is_open) }
-        ensures answer { IsHonest S.Store self.new → IfOk result (λ b. b ≡ is_closed (history_of S.Store self.old) num) }
+        ensures unchanged { Unchanged (history_of S.Store) (λ b. b.terms) (IsHonest S.Store)
+            self.old self.new }
+        ensures opened { HasCleanDisk (state S.Store self.new.conn)
+            → OnOk result (IsTrue (state S.Store self.new.conn).is_open) }
+        ensures answer { IsHonest S.Store self.new
+            → IfOk result (λ b. b ≡ is_closed (history_of S.Store self.old) num) }
     {
         if let Err(fault) = self.ask_again() {
             return Err(fault);
@@ -418,10 +494,15 @@ impl<S: Alter> Book for SqlBook<S> {
 
     fn next_range(&mut self, held: &HolderKey, after: u32) -> Result<Option<Range>, BookFault>
         ensures faults { CountsResult result self.old.faults self.new.faults }
-        ensures unchanged { Unchanged (history_of S.Store) (λ b. b.terms) (IsHonest S.Store) self.old self.new }
-        ensures opened { HasCleanDisk (state S.Store self.new.conn) → OnOk result (IsTrue (state S.Store self.new.conn).is_open) }
+        ensures unchanged { Unchanged (history_of S.Store) (λ b. b.terms) (IsHonest S.Store)
+            self.old self.new }
+        ensures opened { HasCleanDisk (state S.Store self.new.conn)
+            → OnOk result (IsTrue (state S.Store self.new.conn).is_open) }
         ensures above { IfOk result (λ found. IfSome found (λ r. after < r.num)) }
-        ensures answer { IsHonest S.Store self.new → IfOk result (λ found. found ≡ find (is_open_after (history_of S.Store self.old) after held.now.holder held.now.service held.now.country) (ranges_of (history_of S.Store self.old))) }
+        ensures answer { IsHonest S.Store self.new
+            → IfOk result (λ found. found ≡ find (is_open_after (history_of S.Store self.old) after
+            held.now.holder held.now.service held.now.country)
+            (ranges_of (history_of S.Store self.old))) }
     {
         if let Err(fault) = self.ask_again() {
             return Err(fault);
@@ -435,9 +516,14 @@ impl<S: Alter> Book for SqlBook<S> {
 
     fn covering(&mut self, block: &SerialSpan) -> Result<Option<Range>, BookFault>
         ensures faults { CountsResult result self.old.faults self.new.faults }
-        ensures unchanged { Unchanged (history_of S.Store) (λ b. b.terms) (IsHonest S.Store) self.old self.new }
-        ensures opened { HasCleanDisk (state S.Store self.new.conn) → OnOk result (IsTrue (state S.Store self.new.conn).is_open) }
-        ensures answer { IsHonest S.Store self.new → IfOk result (λ found. found ≡ find (overlaps block.now.service block.now.country block.now.first block.now.last) (ranges_of (history_of S.Store self.old))) }
+        ensures unchanged { Unchanged (history_of S.Store) (λ b. b.terms) (IsHonest S.Store)
+            self.old self.new }
+        ensures opened { HasCleanDisk (state S.Store self.new.conn)
+            → OnOk result (IsTrue (state S.Store self.new.conn).is_open) }
+        ensures answer { IsHonest S.Store self.new
+            → IfOk result (λ found. found
+            ≡ find (overlaps block.now.service block.now.country block.now.first block.now.last)
+            (ranges_of (history_of S.Store self.old))) }
     {
         if let Err(fault) = self.ask_again() {
             return Err(fault);
@@ -451,9 +537,12 @@ impl<S: Alter> Book for SqlBook<S> {
 
     fn last_issue(&mut self, id: &Id) -> Result<Option<Issue>, BookFault>
         ensures faults { CountsResult result self.old.faults self.new.faults }
-        ensures unchanged { Unchanged (history_of S.Store) (λ b. b.terms) (IsHonest S.Store) self.old self.new }
-        ensures opened { HasCleanDisk (state S.Store self.new.conn) → OnOk result (IsTrue (state S.Store self.new.conn).is_open) }
-        ensures answer { IsHonest S.Store self.new → IfOk result (λ i. i ≡ last_issue_of (history_of S.Store self.old) id.now) }
+        ensures unchanged { Unchanged (history_of S.Store) (λ b. b.terms) (IsHonest S.Store)
+            self.old self.new }
+        ensures opened { HasCleanDisk (state S.Store self.new.conn)
+            → OnOk result (IsTrue (state S.Store self.new.conn).is_open) }
+        ensures answer { IsHonest S.Store self.new
+            → IfOk result (λ i. i ≡ last_issue_of (history_of S.Store self.old) id.now) }
     {
         if let Err(fault) = self.ask_again() {
             return Err(fault);
@@ -462,11 +551,15 @@ impl<S: Alter> Book for SqlBook<S> {
     }
 
     fn candidate(&mut self, range: &Range) -> Result<Candidate, BookFault>
-        requires { IsHonest S.Store self.old → Contains (ranges_of (history_of S.Store self.old)) range.now }
+        requires { IsHonest S.Store self.old → Contains (ranges_of (history_of S.Store self.old))
+            range.now }
         ensures faults { CountsResult result self.old.faults self.new.faults }
-        ensures unchanged { Unchanged (history_of S.Store) (λ b. b.terms) (IsHonest S.Store) self.old self.new }
-        ensures opened { HasCleanDisk (state S.Store self.new.conn) → OnOk result (IsTrue (state S.Store self.new.conn).is_open) }
-        ensures answer { IsHonest S.Store self.new → IfOk result (λ c. c ≡ candidate_of (history_of S.Store self.old) range.now) }
+        ensures unchanged { Unchanged (history_of S.Store) (λ b. b.terms) (IsHonest S.Store)
+            self.old self.new }
+        ensures opened { HasCleanDisk (state S.Store self.new.conn)
+            → OnOk result (IsTrue (state S.Store self.new.conn).is_open) }
+        ensures answer { IsHonest S.Store self.new
+            → IfOk result (λ c. c ≡ candidate_of (history_of S.Store self.old) range.now) }
     {
         if let Err(fault) = self.ask_again() {
             return Err(fault);
@@ -475,12 +568,17 @@ impl<S: Alter> Book for SqlBook<S> {
     }
 
     fn candidate_after(&mut self, range: &Range, issued: u8) -> Result<Candidate, BookFault>
-        requires there { IsHonest S.Store self.old → Contains (ranges_of (history_of S.Store self.old)) range.now }
+        requires there { IsHonest S.Store self.old
+            → Contains (ranges_of (history_of S.Store self.old)) range.now }
         requires fewer { issued < size_of range.now }
         ensures faults { CountsResult result self.old.faults self.new.faults }
-        ensures unchanged { Unchanged (history_of S.Store) (λ b. b.terms) (IsHonest S.Store) self.old self.new }
-        ensures opened { HasCleanDisk (state S.Store self.new.conn) → OnOk result (IsTrue (state S.Store self.new.conn).is_open) }
-        ensures answer { IsHonest S.Store self.new → IfOk result (λ c. c ≡ candidate_after_of (history_of S.Store self.old) range.now issued) }
+        ensures unchanged { Unchanged (history_of S.Store) (λ b. b.terms) (IsHonest S.Store)
+            self.old self.new }
+        ensures opened { HasCleanDisk (state S.Store self.new.conn)
+            → OnOk result (IsTrue (state S.Store self.new.conn).is_open) }
+        ensures answer { IsHonest S.Store self.new
+            → IfOk result (λ c. c ≡ candidate_after_of (history_of S.Store self.old) range.now
+            issued) }
     {
         if let Err(fault) = self.ask_again() {
             return Err(fault);
@@ -489,11 +587,16 @@ impl<S: Alter> Book for SqlBook<S> {
     }
 
     fn usage(&mut self, range: &Range, day: u32) -> Result<Usage, BookFault>
-        requires { IsHonest S.Store self.old → Contains (ranges_of (history_of S.Store self.old)) range.now }
+        requires { IsHonest S.Store self.old → Contains (ranges_of (history_of S.Store self.old))
+            range.now }
         ensures faults { CountsResult result self.old.faults self.new.faults }
-        ensures unchanged { Unchanged (history_of S.Store) (λ b. b.terms) (IsHonest S.Store) self.old self.new }
-        ensures opened { HasCleanDisk (state S.Store self.new.conn) → OnOk result (IsTrue (state S.Store self.new.conn).is_open) }
-        ensures answer { IsHonest S.Store self.new → IfOk result (λ u. u ≡ usage_of (history_of S.Store self.old) range.now day self.old.terms.interval) }
+        ensures unchanged { Unchanged (history_of S.Store) (λ b. b.terms) (IsHonest S.Store)
+            self.old self.new }
+        ensures opened { HasCleanDisk (state S.Store self.new.conn)
+            → OnOk result (IsTrue (state S.Store self.new.conn).is_open) }
+        ensures answer { IsHonest S.Store self.new
+            → IfOk result (λ u. u ≡ usage_of (history_of S.Store self.old) range.now day
+            self.old.terms.interval) }
     {
         if let Err(fault) = self.commit() {
             return Err(fault);
@@ -502,17 +605,24 @@ impl<S: Alter> Book for SqlBook<S> {
     }
 
     fn keep(&mut self, entry: Entry) -> Result<(), BookFault>
-        requires { IsHonest S.Store self.old → MayFollow (history_of S.Store self.old) self.old.terms entry }
+        requires { IsHonest S.Store self.old → MayFollow (history_of S.Store self.old)
+            self.old.terms entry }
         ensures faults { CountsResult result self.old.faults self.new.faults }
         ensures was_honest { IsHonest S.Store self.new → IsHonest S.Store self.old }
         ensures same_terms { IsHonest S.Store self.new → self.new.terms ≡ self.old.terms }
-        ensures opened { HasCleanDisk (state S.Store self.new.conn) → OnOk result (IsTrue (state S.Store self.new.conn).is_open) }
-        ensures crash { IsHonest S.Store self.old → HasCleanDisk (state S.Store self.new.conn) → (db : Trees) → (state S.Store self.new.conn).may_leave db
+        ensures opened { HasCleanDisk (state S.Store self.new.conn)
+            → OnOk result (IsTrue (state S.Store self.new.conn).is_open) }
+        ensures crash { IsHonest S.Store self.old → HasCleanDisk (state S.Store self.new.conn)
+            → (db : Trees) → (state S.Store self.new.conn).may_leave db
             → (db ≡ (state S.Store self.old.conn).now.trees) ⊎ IsCommittedIn S.Store self.old db }
-        ensures ok { IsHonest S.Store self.new → OnOk result (history_of S.Store self.new ≡ history_of S.Store self.old ++ entry ∷ []) }
-        ensures err { IsHonest S.Store self.new → OnErr result (history_of S.Store self.new ≡ history_of S.Store self.old) }
+        ensures ok { IsHonest S.Store self.new
+            → OnOk result (history_of S.Store self.new ≡ history_of S.Store self.old ++ entry
+            ∷ []) }
+        ensures err { IsHonest S.Store self.new
+            → OnErr result (history_of S.Store self.new ≡ history_of S.Store self.old) }
         ensures uncommitted { IsHonest S.Store self.new → length self.old.pending < MAX_PENDING
-            → OnOk result (((state S.Store self.new.conn).now ≡ (state S.Store self.old.conn).now) × (self.new.pending ≡ self.old.pending ++ entry ∷ [])) }
+            → OnOk result (((state S.Store self.new.conn).now ≡ (state S.Store self.old.conn).now)
+            × (self.new.pending ≡ self.old.pending ++ entry ∷ [])) }
     {
         if let Err(fault) = self.make_room() {
             return Err(fault);

@@ -4,12 +4,19 @@ use Rattle.s10_core.specs.Letters.{letters_of}
 use Rattle.s10_core.specs.Serial.{digits_of}
 use Rattle.s10_core.specs.Id.{spelling_of}
 use Rattle.s10_wire.specs.declared.body.Body.{Body}
-use Rattle.s10_wire.specs.declared.body.Body.TheVariants.{Grant, Draw, Void, Query, DrawMany, Withdraw}
+use Rattle.s10_wire.specs.declared.body.Body.TheVariants.{Grant, Draw, Void, Query, DrawMany}
+use Rattle.s10_wire.specs.declared.body.Body.TheVariants.{Withdraw}
 use Rattle.s10_wire.specs.declared.request.Request.{Request}
 use Rattle.s10_wire.specs.declared.status.Status.{Status}
-use Rattle.s10_wire.specs.declared.status.Status.TheVariants.{Unknown, Never, Issued, Voided as StatusVoided}
+use Rattle.s10_wire.specs.declared.status.Status.TheVariants.{Unknown, Never, Issued}
+use Rattle.s10_wire.specs.declared.status.Status.TheVariants.{Voided as StatusVoided}
 use Rattle.s10_wire.specs.declared.outcome.Outcome.{Outcome}
-use Rattle.s10_wire.specs.declared.outcome.Outcome.TheVariants.{Granted, Drawn, DrawnMany, Voided, Told, Withdrawn, NotThePost, BadGrant, Overlap, NoRange, NoneFree, NotYours, NotIssued, AlreadyVoid, NoSuchRange, Closed, NumberReused}
+use Rattle.s10_wire.specs.declared.outcome.Outcome.TheVariants.{Granted, Drawn, DrawnMany, Voided}
+use Rattle.s10_wire.specs.declared.outcome.Outcome.TheVariants.{Told, Withdrawn, NotThePost}
+use Rattle.s10_wire.specs.declared.outcome.Outcome.TheVariants.{BadGrant, Overlap, NoRange}
+use Rattle.s10_wire.specs.declared.outcome.Outcome.TheVariants.{NoneFree, NotYours, NotIssued}
+use Rattle.s10_wire.specs.declared.outcome.Outcome.TheVariants.{AlreadyVoid, NoSuchRange, Closed}
+use Rattle.s10_wire.specs.declared.outcome.Outcome.TheVariants.{NumberReused}
 
 -- words with a space before each
 unfoldable pub spaced : List (List ℕ) → List ℕ
@@ -23,11 +30,13 @@ line_of first words = first ++ spaced words ++ codes "\n"
 -- what is asked, but for its kind
 abbrev pub body_words : Body → List (List ℕ)
 body_words (Grant holder service country first last) =
-    codes "holder" ∷ decimal holder ∷ letters_of service ∷ letters_of country ∷ digits_of first ∷ digits_of last ∷ []
+    codes "holder" ∷ decimal holder ∷ letters_of service ∷ letters_of country ∷ digits_of first
+    ∷ digits_of last ∷ []
 body_words (Draw service country) = letters_of service ∷ letters_of country ∷ []
 body_words (Void id) = spelling_of id ∷ []
 body_words (Query id) = spelling_of id ∷ []
-body_words (DrawMany service country count) = letters_of service ∷ letters_of country ∷ decimal count ∷ []
+body_words (DrawMany service country count) = letters_of service ∷ letters_of country
+    ∷ decimal count ∷ []
 body_words (Withdraw range) = decimal range ∷ []
 
 abbrev pub kind_word : Body → List ℕ
@@ -41,7 +50,8 @@ kind_word (Withdraw range) = codes "withdraw"
 -- a request
 abbrev pub request_words : Request → List (List ℕ)
 request_words q =
-    kind_word q.body ∷ codes "customer" ∷ decimal q.customer ∷ codes "number" ∷ decimal q.number ∷ body_words q.body
+    kind_word q.body ∷ codes "customer" ∷ decimal q.customer ∷ codes "number" ∷ decimal q.number
+    ∷ body_words q.body
 
 abbrev pub status_words : Status → List (List ℕ)
 status_words Unknown = codes "unknown" ∷ []

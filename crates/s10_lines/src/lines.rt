@@ -4,7 +4,8 @@ ghost use Rattle.std.specs.Prelude.{◌≡◌, [], ◌∷◌, ◌++◌, map, cod
 ghost use Rattle.std.specs.Io.KnownBytes.{Appends};
 ghost use Rattle.s10_core.specs.Id.{spelling_of};
 ghost use Rattle.s10_wire.specs.declared.body.Body.TheVariants as bodies;
-ghost use Rattle.s10_lines.specs.Lines.{spaced, body_words, kind_word, request_words, status_words, outcome_words, request_line, reply_line};
+ghost use Rattle.s10_lines.specs.Lines.{spaced, body_words, kind_word, request_words, status_words};
+ghost use Rattle.s10_lines.specs.Lines.{outcome_words, request_line, reply_line};
 ghost use Rattle.s10_wire.specs.Reply.{request_of, outcome_of};
 
 use crate::words::{write_decimal, write_id, write_letters, write_serials, write_text, write_word};
@@ -15,7 +16,8 @@ use std::io::Write;
 
 /// Writes the line of a request, with its line feed. A fault may leave part of it written.
 pub fn write_request_line<W: Write>(request: &Request, out: &mut W) -> Result<(), WriteFault>
-    ensures { OnOk result (Appends (W.contents out.old) (W.contents out.new) (request_line request.now)) }
+    ensures { OnOk result (Appends (W.contents out.old) (W.contents out.new)
+        (request_line request.now)) }
 {
     write_text(b"request", out)?;
     write_request(request, out)?;
@@ -34,7 +36,8 @@ pub fn write_reply_line<W: Write>(reply: &Reply, out: &mut W) -> Result<(), Writ
 }
 
 fn write_request<W: Write>(request: &Request, out: &mut W) -> Result<(), WriteFault>
-    ensures { OnOk result (Appends (W.contents out.old) (W.contents out.new) (spaced (request_words request.now))) }
+    ensures { OnOk result (Appends (W.contents out.old) (W.contents out.new)
+        (spaced (request_words request.now))) }
 {
     write_word(kind_name(&request.body), out)?;
     write_named(b"customer", request.customer, out)?;
@@ -57,14 +60,16 @@ fn kind_name(body: &Body) -> &'static [u8]
 
 // A number after its name.
 fn write_named<W: Write>(name: &[u8], number: u32, out: &mut W) -> Result<(), WriteFault>
-    ensures { OnOk result (Appends (W.contents out.old) (W.contents out.new) (spaced (name.now ∷ decimal number ∷ []))) }
+    ensures { OnOk result (Appends (W.contents out.old) (W.contents out.new)
+        (spaced (name.now ∷ decimal number ∷ []))) }
 {
     write_word(name, out)?;
     write_decimal(number, out)
 }
 
 fn write_body<W: Write>(body: &Body, out: &mut W) -> Result<(), WriteFault>
-    ensures { OnOk result (Appends (W.contents out.old) (W.contents out.new) (spaced (body_words body.now))) }
+    ensures { OnOk result (Appends (W.contents out.old) (W.contents out.new)
+        (spaced (body_words body.now))) }
 {
     match *body {
         Body::Grant {
@@ -106,7 +111,8 @@ fn write_grant<W: Write>(
 }
 
 fn write_outcome<W: Write>(outcome: &Outcome, out: &mut W) -> Result<(), WriteFault>
-    ensures { OnOk result (Appends (W.contents out.old) (W.contents out.new) (spaced (outcome_words outcome.now))) }
+    ensures { OnOk result (Appends (W.contents out.old) (W.contents out.new)
+        (spaced (outcome_words outcome.now))) }
 {
     match *outcome {
         Outcome::Granted { range } => write_granted(range, out),
@@ -148,7 +154,8 @@ fn write_drawn<W: Write>(day: u32, id: &Id, out: &mut W) -> Result<(), WriteFaul
 
 // Identifiers, each as a word.
 fn write_ids<W: Write>(ids: &[Id], out: &mut W) -> Result<(), WriteFault>
-    ensures { OnOk result (Appends (W.contents out.old) (W.contents out.new) (spaced (map spelling_of ids.now))) }
+    ensures { OnOk result (Appends (W.contents out.old) (W.contents out.new)
+        (spaced (map spelling_of ids.now))) }
 {
     for id in ids {
         write_id(id, out)?;

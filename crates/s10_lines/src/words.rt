@@ -25,7 +25,8 @@ pub fn write_text<W: Write>(text: &[u8], out: &mut W) -> Result<(), WriteFault>
 /// Writes a space and a word.
 #[tactic(auto, unfolding(crate::specs::Lines::spaced))]
 pub fn write_word<W: Write>(word: &[u8], out: &mut W) -> Result<(), WriteFault>
-    ensures { OnOk result (Appends (W.contents out.old) (W.contents out.new) (spaced (word.now ∷ []))) }
+    ensures { OnOk result (Appends (W.contents out.old) (W.contents out.new)
+        (spaced (word.now ∷ []))) }
 {
     write_text(b" ", out)?;
     write_text(word, out)
@@ -42,7 +43,8 @@ pub fn write_first_decimal<W: Write>(number: u32, out: &mut W) -> Result<(), Wri
 
 /// Writes a space and a number in decimal, without leading zeros.
 pub fn write_decimal<W: Write>(number: u32, out: &mut W) -> Result<(), WriteFault>
-    ensures { OnOk result (Appends (W.contents out.old) (W.contents out.new) (spaced (decimal number ∷ []))) }
+    ensures { OnOk result (Appends (W.contents out.old) (W.contents out.new)
+        (spaced (decimal number ∷ []))) }
 {
     let mut buffer = Buffer::new();
     write_word(buffer.format(number).as_bytes(), out)
@@ -72,7 +74,8 @@ pub fn write_serials<W: Write>(first: Serial, last: Serial, out: &mut W) -> Resu
 
 /// Writes an identifier as a word.
 pub fn write_id<W: Write>(id: &Id, out: &mut W) -> Result<(), WriteFault>
-    ensures { OnOk result (Appends (W.contents out.old) (W.contents out.new) (spaced (spelling_of id.now ∷ []))) }
+    ensures { OnOk result (Appends (W.contents out.old) (W.contents out.new)
+        (spaced (spelling_of id.now ∷ []))) }
 {
     write_word(&id.write(), out)
 }

@@ -16,16 +16,22 @@ same_peer p q h =
     let ports : p.port ≡ q.port = eqb-true _ _ parts.1 in
     λ i. record { ip = ips i; port = ports i }
 
-pub same_frame : (f g : Frame) → (pointwise nat_eq (zero_padded 256 f) (zero_padded 256 g) && nat_eq (length f) (length g)) ≡ true → f ≡ g
+pub same_frame : (f g : Frame) → (pointwise nat_eq (zero_padded 256 f) (zero_padded 256 g)
+    && nat_eq (length f) (length g)) ≡ true → f ≡ g
 same_frame f g h =
     let parts = and_parts _ _ h in
-    one_front 256 f g ((bytes_eq-Decides (zero_padded 256 f) (zero_padded 256 g)).0 parts.0) (eqb-true _ _ parts.1)
+    one_front 256 f g ((bytes_eq-Decides (zero_padded 256 f) (zero_padded 256 g)).0 parts.0)
+    (eqb-true _ _ parts.1)
 
-pub frames_pass : (f g : Frame) → f ≡ g → (pointwise nat_eq (zero_padded 256 f) (zero_padded 256 g) && nat_eq (length f) (length g)) ≡ true
-frames_pass f g e = and_from _ _ ((bytes_eq-Decides (zero_padded 256 f) (zero_padded 256 g)).1 (ap (zero_padded 256) e)) (eq-eqb _ _ (ap length e))
+pub frames_pass : (f g : Frame) → f ≡ g → (pointwise nat_eq (zero_padded 256 f) (zero_padded 256 g)
+    && nat_eq (length f) (length g)) ≡ true
+frames_pass f g e = and_from _ _ ((bytes_eq-Decides (zero_padded 256 f) (zero_padded 256 g)).1
+    (ap (zero_padded 256) e)) (eq-eqb _ _ (ap length e))
 
 -- one option holds one frame
-pub one_frame : (o : Option (Peer × Frame)) (p q : Peer) (f g : Frame) → o ≡ Some (p, f) → o ≡ Some (q, g) → f ≡ g
+pub one_frame : (o : Option (Peer × Frame)) (p q : Peer) (f g : Frame) → o ≡ Some (p, f)
+    → o ≡ Some (q, g) → f ≡ g
 one_frame o p q f g a b =
-    let pairs : unwrap_or (Some (p, f)) (p, f) ≡ unwrap_or (Some (q, g)) (p, f) = ap (λ x. unwrap_or x (p, f)) (sym a ∙ b) in
+    let pairs : unwrap_or (Some (p, f)) (p, f) ≡ unwrap_or (Some (q, g)) (p, f) =
+    ap (λ x. unwrap_or x (p, f)) (sym a ∙ b) in
     ap (λ x. x.1) pairs

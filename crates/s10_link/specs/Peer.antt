@@ -11,7 +11,8 @@ pub record IsPeer (p : Peer) : Type 0 where
 -- the four numbers joined by dots, a colon, and the port
 abbrev pub peer_text : Peer → List ℕ
 peer_text p =
-    decimal (slice_index p.ip 0) ++ 46 ∷ (decimal (slice_index p.ip 1) ++ 46 ∷ (decimal (slice_index p.ip 2)
+    decimal (slice_index p.ip 0) ++ 46 ∷ (decimal (slice_index p.ip 1) ++ 46
+    ∷ (decimal (slice_index p.ip 2)
     ++ 46 ∷ (decimal (slice_index p.ip 3) ++ 58 ∷ decimal p.port)))
 
 -- the text is that of the address

@@ -1,5 +1,6 @@
 -- What a scripted link does.
-use Rattle.std.specs.Prelude.{◌≡◌, ◌-◌, ◌^◌, ◌<◌, Some, None, Ok, Err, List, [], ◌∷◌, ◌++◌, Bool, true, false}
+use Rattle.std.specs.Prelude.{◌≡◌, ◌-◌, ◌^◌, ◌<◌, Some, None, Ok, Err, List, [], ◌∷◌, ◌++◌, Bool}
+use Rattle.std.specs.Prelude.{true, false}
 use Rattle.s10_link.specs.declared.receipt.Receipt.{Receipt}
 use Rattle.s10_link.specs.declared.receipt.Receipt.TheVariants.{Deliver, Nothing, Fail}
 use Rattle.s10_link.specs.declared.peer.Peer.{Peer}

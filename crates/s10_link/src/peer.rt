@@ -1,6 +1,7 @@
 //! The address of an end.
 
-ghost use Rattle.std.specs.Prelude.{◌≡◌, ℕ, ◌^◌, ◌<◌, List, ◌∷◌, ◌++◌, Some, IfSome, IsSomeAnd, ◌==◌, position, decimal};
+ghost use Rattle.std.specs.Prelude.{◌≡◌, ℕ, ◌^◌, ◌<◌, List, ◌∷◌, ◌++◌, Some, IfSome, IsSomeAnd};
+ghost use Rattle.std.specs.Prelude.{◌==◌, position, decimal};
 ghost use Rattle.std.specs.Char.{IsAsciiDigit};
 
 use std::{fmt, str};

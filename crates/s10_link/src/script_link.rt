@@ -52,7 +52,12 @@ impl ScriptLink {
         receipts: Vec<Receipt>,
         sends: Vec<bool>,
     ) -> Result<ScriptLink, AllocError>
-        ensures { IfOk result (λ link. link ≡ record { receipts = receipts.items; sends = sends.items; log = []; trace = new_trace }) }
+        ensures { IfOk result (λ link. link ≡ record {
+          receipts = receipts.items;
+          sends = sends.items;
+          log = [];
+          trace = new_trace;
+        }) }
     {
         let log = Vec::with_capacity(alloc, sends.len())?;
         Ok(ScriptLink {

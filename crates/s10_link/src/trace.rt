@@ -25,7 +25,8 @@ pub struct Trace {
 
 impl Trace {
     ghost use Rattle.std.specs.Prelude.{◌≡◌, ◌-◌, ◌^◌, ◌<◌, ◌↔◌, IsTrue, Some};
-    ghost use Rattle.s10_link.specs.Trace.{IsCounted, new_trace, after_call, after_failure, after_datagram, IsAfterFrame};
+    ghost use Rattle.s10_link.specs.Trace.{IsCounted, new_trace, after_call, after_failure};
+    ghost use Rattle.s10_link.specs.Trace.{after_datagram, IsAfterFrame};
 
     /// The trace of a link that did nothing yet.
     pub fn new() -> Trace

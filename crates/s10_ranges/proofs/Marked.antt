@@ -1,5 +1,6 @@
 -- The mark that is held for a range of the history.
-use Rattle.std.proofs.Common.{◌≡◌, ◌∙◌, ℕ, zero, suc, ◌+◌, ◌-◌, ◌<◌, List, [], ◌∷◌, map, Some, length, get_or, refl, ap, ap₂, subst, arith}
+use Rattle.std.proofs.Common.{◌≡◌, ◌∙◌, ℕ, zero, suc, ◌+◌, ◌-◌, ◌<◌, List, [], ◌∷◌, map, Some}
+use Rattle.std.proofs.Common.{length, get_or, refl, ap, ap₂, subst, arith}
 use Rattle.std.specs.Prelude.{Contains, slice_get}
 use Rattle.s10_history.specs.declared.entry.Entry.{Entry}
 use Rattle.s10_history.specs.declared.range.Range.{Range}
@@ -12,32 +13,44 @@ use Rattle.s10_ranges.specs.Mirror.{Mirrors, MirrorsAt}
 use Rattle.s10_ranges.specs.Laps.{mark_of}
 use Rattle.s10_ranges.specs.Sound.{AreSound}
 
-get_map : {X : Type 0} (f : Range → X) (rs : List Range) (k : ℕ) (d : Range) → k < length rs → slice_get (map f rs) k ≡ Some (f (get_or rs k d))
+get_map : {X : Type 0} (f : Range → X) (rs : List Range) (k : ℕ) (d : Range) → k < length rs
+    → slice_get (map f rs) k ≡ Some (f (get_or rs k d))
 get_map f [] k d lt = absurd (omega arith)
 get_map f (x ∷ xs) zero d lt = refl
 get_map f (x ∷ xs) (suc k) d lt = get_map f xs k d (omega arith)
 
-abbrev pub made_part : (r : Ranges) (h : List Entry) → Mirrors r h → MirrorsAt (ranges_of h) (issues_of h) r
+abbrev pub made_part : (r : Ranges) (h : List Entry) → Mirrors r h
+    → MirrorsAt (ranges_of h) (issues_of h) r
 made_part r h m = record { ranges = m.ranges; marks = m.marks }
 
 -- its number is one more than its place
-numbered : (r : Ranges) (rs : List Range) (is : List Issuance) (range : Range) → AreSound r.ranges.items → MirrorsAt rs is r → (there : Contains rs range) → range.num ≡ there.0 + 1
+numbered : (r : Ranges) (rs : List Range) (is : List Issuance) (range : Range)
+    → AreSound r.ranges.items → MirrorsAt rs is r → (there : Contains rs range)
+    → range.num ≡ there.0 + 1
 numbered r rs is range sound m there =
     let at = subst AreSound m.ranges sound there.0 range there.1 in
     let e : (get_or rs there.0 range).num ≡ range.num = ap (λ (x : Range). x.num) there.2 in
     omega (arith, at.num, e)
 
-pub mark_above : (r : Ranges) (h : List Entry) (range : Range) → AreSound r.ranges.items → Mirrors r h → Contains (ranges_of h) range → 0 < range.num
-mark_above r h range sound m there = let num = numbered r (ranges_of h) (issues_of h) range sound (made_part r h m) there in omega (arith, num)
+pub mark_above : (r : Ranges) (h : List Entry) (range : Range) → AreSound r.ranges.items
+    → Mirrors r h → Contains (ranges_of h) range → 0 < range.num
+mark_above r h range sound m there = let num = numbered r (ranges_of h) (issues_of h) range sound
+    (made_part r h m) there in omega (arith, num)
 
 -- the mark is that after the issues
-pub mark_at_issues : (r : Ranges) (rs : List Range) (is : List Issuance) (range : Range) → AreSound r.ranges.items → MirrorsAt rs is r → Contains rs range → slice_get r.marks.items (range.num - 1) ≡ Some (mark_of is range)
+pub mark_at_issues : (r : Ranges) (rs : List Range) (is : List Issuance) (range : Range)
+    → AreSound r.ranges.items → MirrorsAt rs is r → Contains rs range
+    → slice_get r.marks.items (range.num - 1) ≡ Some (mark_of is range)
 mark_at_issues r rs is range sound m there =
     let num = numbered r rs is range sound m there in
     let f : Range → Mark = mark_of is in
     let place : range.num - 1 ≡ there.0 = omega (arith, num) in
-    ap₂ slice_get m.marks place ∙ get_map f rs there.0 range there.1 ∙ ap (λ (x : Range). Some (f x)) there.2
+    ap₂ slice_get m.marks place ∙ get_map f rs there.0 range there.1
+    ∙ ap (λ (x : Range). Some (f x)) there.2
 
 -- and of a history the history's
-pub mark_held : (r : Ranges) (h : List Entry) (range : Range) → AreSound r.ranges.items → Mirrors r h → Contains (ranges_of h) range → slice_get r.marks.items (range.num - 1) ≡ Some (mark_of (issues_of h) range)
-mark_held r h range sound m there = mark_at_issues r (ranges_of h) (issues_of h) range sound (made_part r h m) there
+pub mark_held : (r : Ranges) (h : List Entry) (range : Range) → AreSound r.ranges.items
+    → Mirrors r h → Contains (ranges_of h) range → slice_get r.marks.items (range.num - 1)
+    ≡ Some (mark_of (issues_of h) range)
+mark_held r h range sound m there = mark_at_issues r (ranges_of h) (issues_of h) range sound
+    (made_part r h m) there

@@ -17,7 +17,8 @@ serial_key service country serial = pair_of service country * 4294967296 + seria
 
 -- the holder, after it the pair, and after that the number
 unfoldable pub holder_key : ℕ → ℕ × ℕ → ℕ × ℕ → ℕ → ℕ
-holder_key holder service country num = (holder * 4294967296 + pair_of service country) * 4294967296 + num
+holder_key holder service country num =
+    (holder * 4294967296 + pair_of service country) * 4294967296 + num
 
 -- the number of a range by which it is sorted
 abbrev pub key_by : SortKey → Range → ℕ

@@ -17,4 +17,8 @@ mark_of is r = record { serial = pick_of is r; lap = lap_of is r }
 
 -- the mark after a serial that the range gave in that turn
 abbrev pub mark_after : Range → Lap → ℕ → Mark
-mark_after r lap serial = record { serial = serial_after r serial; lap = if serial == r.last then Later else lap }
+mark_after r lap serial = record {
+  serial = serial_after r serial;
+  lap = if serial == r.last
+      then Later else lap;
+}

@@ -38,7 +38,8 @@ impl ClosedRanges {
     /// Adds the range that a kept call closes, if it closes one. There is room for it.
     pub fn follow(&mut self, entry: &Entry)
         requires room { 0 < spare self.old.numbers }
-        ensures { (h : List Entry) → HasClosed self.old h → HasClosed self.new (h ++ entry.now ∷ []) }
+        ensures { (h : List Entry) → HasClosed self.old h
+            → HasClosed self.new (h ++ entry.now ∷ []) }
     {
         match (entry.request.body, entry.outcome) {
             (Body::Withdraw { range }, Outcome::Withdrawn) => {

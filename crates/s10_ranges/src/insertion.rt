@@ -18,11 +18,14 @@ pub(crate) fn index_by_serial(ranges: &[Range], by_serial: &[u32], range: &Range
     requires sound { AreSound ranges.now }
     requires placed { IsOrder (key_by First) (key_by Last) ranges.now by_serial.now }
     requires proper { range.now.first ≤ range.now.last }
-    requires apart { find (overlaps range.now.service range.now.country range.now.first range.now.last) ranges.now ≡ None }
+    requires apart { find (overlaps range.now.service range.now.country range.now.first
+        range.now.last) ranges.now ≡ None }
     ensures within { result ≤ length by_serial.now }
     ensures fitting { IsFitting range.now }
-    ensures below { (j : ℕ) (d : Range) → j < result → key_by Last (range_at ranges.now by_serial.now j d) < key_by First range.now }
-    ensures above { (j : ℕ) (d : Range) → result ≤ j → j < length by_serial.now → key_by Last range.now < key_by First (range_at ranges.now by_serial.now j d) }
+    ensures below { (j : ℕ) (d : Range) → j < result
+        → key_by Last (range_at ranges.now by_serial.now j d) < key_by First range.now }
+    ensures above { (j : ℕ) (d : Range) → result ≤ j → j < length by_serial.now
+        → key_by Last range.now < key_by First (range_at ranges.now by_serial.now j d) }
 {
     parts_fit(range);
     let start = sort_key_of(SortKey::First, range);
@@ -36,8 +39,10 @@ pub(crate) fn index_by_holder(ranges: &[Range], by_holder: &[u32], range: &Range
     requires few { length ranges.now < 4294967295 }
     requires num { range.now.num ≡ length ranges.now + 1 }
     ensures within { result ≤ length by_holder.now }
-    ensures below { (j : ℕ) (d : Range) → j < result → key_by Holder (range_at ranges.now by_holder.now j d) < key_by Holder range.now }
-    ensures above { (j : ℕ) (d : Range) → result ≤ j → j < length by_holder.now → key_by Holder range.now < key_by Holder (range_at ranges.now by_holder.now j d) }
+    ensures below { (j : ℕ) (d : Range) → j < result
+        → key_by Holder (range_at ranges.now by_holder.now j d) < key_by Holder range.now }
+    ensures above { (j : ℕ) (d : Range) → result ≤ j → j < length by_holder.now
+        → key_by Holder range.now < key_by Holder (range_at ranges.now by_holder.now j d) }
 {
     let held = sort_key_of(SortKey::Holder, range);
     first_at(ranges, by_holder, SortKey::Holder, held)

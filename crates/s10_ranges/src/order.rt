@@ -14,8 +14,10 @@ pub(crate) fn first_at(ranges: &[Range], order: &[u32], by: SortKey, key: u128) 
     requires places { AreIndices ranges.now order.now }
     requires rising { IsRising (key_by by) ranges.now order.now }
     ensures within { result ≤ length order.now }
-    ensures below { (j : ℕ) (d : Range) → j < result → key_by by (range_at ranges.now order.now j d) < key }
-    ensures above { (j : ℕ) (d : Range) → result ≤ j → j < length order.now → key ≤ key_by by (range_at ranges.now order.now j d) }
+    ensures below { (j : ℕ) (d : Range) → j < result → key_by by (range_at ranges.now order.now j d)
+        < key }
+    ensures above { (j : ℕ) (d : Range) → result ≤ j → j < length order.now
+        → key ≤ key_by by (range_at ranges.now order.now j d) }
 {
     let mut low = 0;
     let mut high = order.len();
@@ -33,7 +35,9 @@ pub(crate) fn first_at(ranges: &[Range], order: &[u32], by: SortKey, key: u128) 
 
 // The least of the places.
 fn least(places: &[u32]) -> Option<u32>
-    ensures { MatchOption result (length places.now ≡ 0) (λ m. ((k : ℕ) → k < length places.now → m ≤ slice_index places.now k) × ((k : ℕ) × (k < length places.now) × (slice_index places.now k ≡ m))) }
+    ensures { MatchOption result (length places.now ≡ 0) (λ m. ((k : ℕ) → k < length places.now
+        → m ≤ slice_index places.now k) × ((k : ℕ) × (k < length places.now)
+        × (slice_index places.now k ≡ m))) }
 {
     places.iter().copied().min()
 }

@@ -1,6 +1,7 @@
 //! Ranges with their marks in memory.
 
-ghost use Rattle.std.specs.Prelude.{◌≡◌, ◌≤◌, ◌<◌, ◌+◌, ◌-◌, ◌==◌, ◌++◌, ◌∷◌, [], length, find, set, None, OnOk, slice_get};
+ghost use Rattle.std.specs.Prelude.{◌≡◌, ◌≤◌, ◌<◌, ◌+◌, ◌-◌, ◌==◌, ◌++◌, ◌∷◌, [], length, find};
+ghost use Rattle.std.specs.Prelude.{set, None, OnOk, slice_get};
 ghost use Rattle.s10_history.specs.History.{is_held_after, overlaps};
 ghost use Rattle.s10_ranges.specs.declared.sort_key.SortKey.TheVariants.{First, Last, Holder};
 ghost use Rattle.s10_ranges.specs.Keys.{key_by};
@@ -81,7 +82,8 @@ impl Ranges {
         requires few { length self.old.ranges.items < 4294967295 }
         requires num { range.num ≡ length self.old.ranges.items + 1 }
         requires proper { range.first ≤ range.last }
-        requires apart { find (overlaps range.service range.country range.first range.last) self.old.ranges.items ≡ None }
+        requires apart { find (overlaps range.service range.country range.first range.last)
+            self.old.ranges.items ≡ None }
         ensures ranges { self.new.ranges.items ≡ self.old.ranges.items ++ range ∷ [] }
         ensures marks { self.new.marks.items ≡ self.old.marks.items ++ mark ∷ [] }
         ensures closed { self.new.closed ≡ self.old.closed }
@@ -99,9 +101,12 @@ impl Ranges {
     // for it. Leaves the ranges as they are where it is not.
     fn push_next(&mut self, range: Range, mark: Mark)
         requires room { HasRoom self.old }
-        ensures next { length self.old.ranges.items < 4294967295 → range.num ≡ length self.old.ranges.items + 1 → range.first ≤ range.last
-            → find (overlaps range.service range.country range.first range.last) self.old.ranges.items ≡ None
-            → (self.new.ranges.items ≡ self.old.ranges.items ++ range ∷ []) × (self.new.marks.items ≡ self.old.marks.items ++ mark ∷ []) }
+        ensures next { length self.old.ranges.items < 4294967295
+            → range.num ≡ length self.old.ranges.items + 1 → range.first ≤ range.last
+            → find (overlaps range.service range.country range.first range.last)
+            self.old.ranges.items ≡ None
+            → (self.new.ranges.items ≡ self.old.ranges.items ++ range ∷ [])
+            × (self.new.marks.items ≡ self.old.marks.items ++ mark ∷ []) }
         ensures closed { self.new.closed ≡ self.old.closed }
     {
         let len = self.ranges.len();
@@ -128,8 +133,11 @@ impl Ranges {
     // the last, which begins a later turn. Leaves the marks as they are where it lies in no range.
     fn advance_mark(&mut self, id: &Id)
         ensures ranges { self.new.ranges.items ≡ self.old.ranges.items }
-        ensures marks { (r : Range) (m : Mark) → find (overlaps id.now.service id.now.country id.now.serial id.now.serial) self.old.ranges.items ≡ Some r
-            → slice_get self.old.marks.items (r.num - 1) ≡ Some m → self.new.marks.items ≡ set self.old.marks.items (r.num - 1) (mark_after r m.lap id.now.serial) }
+        ensures marks { (r : Range) (m : Mark)
+            → find (overlaps id.now.service id.now.country id.now.serial id.now.serial)
+            self.old.ranges.items ≡ Some r
+            → slice_get self.old.marks.items (r.num - 1) ≡ Some m → self.new.marks.items
+            ≡ set self.old.marks.items (r.num - 1) (mark_after r m.lap id.now.serial) }
         ensures closed { self.new.closed ≡ self.old.closed }
     {
         let found = covering_in(
@@ -153,7 +161,8 @@ impl Ranges {
 
     // Turns the mark of the range of each identifier that a call issued, one after another.
     fn advance_marks(&mut self, entry: &Entry)
-        ensures marks { (h : List Entry) (t : Terms) → IsLegal h t → MayFollow h t entry.now → MirrorsAt (ranges_of h) (issues_of h) self.old
+        ensures marks { (h : List Entry) (t : Terms) → IsLegal h t → MayFollow h t entry.now
+            → MirrorsAt (ranges_of h) (issues_of h) self.old
             → MirrorsAt (ranges_of h) (issues_of (h ++ entry.now ∷ [])) self.new }
         ensures closed { self.new.closed ≡ self.old.closed }
     {
@@ -168,8 +177,10 @@ impl Ranges {
     // Adds the range of a Done Grant, and sets the marks after each issue of another call.
     fn follow_made(&mut self, entry: &Entry)
         requires room { HasRoom self.old }
-        ensures made { (h : List Entry) (t : Terms) → IsLegal h t → MayFollow h t entry.now → length h < 4294967295 → MirrorsAt (ranges_of h) (issues_of h) self.old
-            → MirrorsAt (ranges_of (h ++ entry.now ∷ [])) (issues_of (h ++ entry.now ∷ [])) self.new }
+        ensures made { (h : List Entry) (t : Terms) → IsLegal h t → MayFollow h t entry.now
+            → length h < 4294967295 → MirrorsAt (ranges_of h) (issues_of h) self.old
+            → MirrorsAt (ranges_of (h ++ entry.now ∷ [])) (issues_of (h ++ entry.now ∷ []))
+            self.new }
         ensures closed { self.new.closed ≡ self.old.closed }
     {
         match entry.outcome {
@@ -191,7 +202,8 @@ impl Ranges {
     /// that the call may follow, a range that is not the next one, or overlaps another, is left out.
     pub fn follow(&mut self, entry: &Entry)
         requires room { HasRoom self.old }
-        ensures { (h : List Entry) (t : Terms) → IsLegal h t → MayFollow h t entry.now → length h < 4294967295 → Mirrors self.old h → Mirrors self.new (h ++ entry.now ∷ []) }
+        ensures { (h : List Entry) (t : Terms) → IsLegal h t → MayFollow h t entry.now
+            → length h < 4294967295 → Mirrors self.old h → Mirrors self.new (h ++ entry.now ∷ []) }
     {
         self.follow_made(entry);
         self.closed.follow(entry);
@@ -253,7 +265,8 @@ impl Ranges {
         after: u32,
     ) -> Option<Range>
         ensures above { IfSome result (λ r. after < r.num) }
-        ensures open { (h : List Entry) → Mirrors self.now h → result ≡ find (is_open_after h after customer service country) (ranges_of h) }
+        ensures open { (h : List Entry) → Mirrors self.now h
+            → result ≡ find (is_open_after h after customer service country) (ranges_of h) }
     {
         let mut past = after;
         while let Some(range) = next_held_in(

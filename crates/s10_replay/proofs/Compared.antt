@@ -1,5 +1,7 @@
 -- The rows that calls make, and whether others are the same.
-use Rattle.std.proofs.Common.{◌≡◌, Bool, true, false, cond, List, [], ◌∷◌, map, get_or, ℤ, ◌<ℤ◌, refl, sym, ap, ◌∙◌, subst, IsPermutation, IsSorted, Ordering, Less, Equal, Greater, is_eq}
+use Rattle.std.proofs.Common.{◌≡◌, Bool, true, false, cond, List, [], ◌∷◌, map, get_or, ℤ, ◌<ℤ◌}
+use Rattle.std.proofs.Common.{refl, sym, ap, ◌∙◌, subst, IsPermutation, IsSorted, Ordering, Less}
+use Rattle.std.proofs.Common.{Equal, Greater, is_eq}
 use Rattle.std.specs.Prelude.{All, ◌&&◌, ◌↔◌, IsTrue}
 use Rattle.std.specs.List.{list_any, AllByRecursion}
 use Rattle.std.specs.Cmp.{IsTotalOrder}
@@ -33,34 +35,52 @@ use Rattle.s10_replay.proofs.SerialRows.{issues_of_fit}
 use Rattle.s10_replay.proofs.Replayed.{there_at}
 
 -- sorted rows are those that rise where they are the same
-pub same_where_sorted : {X : Type 0} (cmp : X → X → Ordering) → IsTotalOrder cmp → (made rows copied sorted : List X) (b : Bool)
-    → IsAscending (λ x y. cmp x y ≡ Less) made → copied ≡ rows → IsPermutation copied sorted → IsSorted cmp sorted
+pub same_where_sorted : {X : Type 0} (cmp : X → X → Ordering) → IsTotalOrder cmp
+    → (made rows copied sorted : List X) (b : Bool)
+    → IsAscending (λ x y. cmp x y ≡ Less) made → copied ≡ rows → IsPermutation copied sorted
+    → IsSorted cmp sorted
     → (IsTrue b ↔ (made ≡ sorted)) → (IsTrue b ↔ HaveSameRows made rows)
 same_where_sorted cmp total made rows copied sorted b up copy moved in_order same =
     let perm : IsPermutation rows sorted = subst (λ l. IsPermutation l sorted) copy moved in (
-      λ t. ∣ subst (λ l. IsPermutation l rows) (sym (same.0 t)) (IsPermutation-sym rows sorted perm) ∣₁,
-      λ h. ∥∥₁_elim h (So-prop b) (λ p. same.1 (sym (sorted_unique cmp total made sorted up (IsPermutation-trans made rows sorted p perm) in_order))),
+      λ t. ∣ subst (λ l. IsPermutation l rows) (sym (same.0 t)) (IsPermutation-sym rows sorted perm)
+          ∣₁,
+      λ h. ∥∥₁_elim h (So-prop b)
+          (λ p. same.1
+          (sym (sorted_unique cmp total made sorted up (IsPermutation-trans made rows sorted p perm)
+          in_order))),
     )
 
 -- both sorted are one list where they are the same, and none of the rows that were made are tied
-pub same_where_both_sorted : {X : Type 0} (cmp : X → X → Ordering) → IsTotalOrder cmp → (apart made rows first second made' rows' : List X) (b : Bool)
-    → IsAscending (λ x y. is_eq (cmp x y) ≡ false) apart → HaveSameRows apart made → first ≡ made → second ≡ rows
-    → IsPermutation first made' → IsSorted cmp made' → IsPermutation second rows' → IsSorted cmp rows'
+pub same_where_both_sorted : {X : Type 0} (cmp : X → X → Ordering) → IsTotalOrder cmp
+    → (apart made rows first second made' rows' : List X) (b : Bool)
+    → IsAscending (λ x y. is_eq (cmp x y) ≡ false) apart → HaveSameRows apart made → first ≡ made
+    → second ≡ rows
+    → IsPermutation first made' → IsSorted cmp made' → IsPermutation second rows'
+    → IsSorted cmp rows'
     → (IsTrue b ↔ (made' ≡ rows')) → (IsTrue b ↔ HaveSameRows made rows)
-same_where_both_sorted cmp total apart made rows first second made' rows' b no_ties like one two moved in_order moved' in_order' same =
+same_where_both_sorted cmp total apart made rows first second made' rows' b no_ties like one two
+    moved in_order moved' in_order' same =
     let perm : IsPermutation made made' = subst (λ l. IsPermutation l made') one moved in
     let perm' : IsPermutation rows rows' = subst (λ l. IsPermutation l rows') two moved' in (
-      λ t. ∣ IsPermutation-trans made made' rows perm (subst (λ l. IsPermutation l rows) (sym (same.0 t)) (IsPermutation-sym rows rows' perm')) ∣₁,
+      λ t. ∣ IsPermutation-trans made made' rows perm (subst (λ l. IsPermutation l rows)
+          (sym (same.0 t)) (IsPermutation-sym rows rows' perm')) ∣₁,
       λ h. ∥∥₁_elim like (So-prop b) (λ q. ∥∥₁_elim h (So-prop b) (λ p. same.1 (
-          sorted_is-sort_by cmp total apart made' no_ties (IsPermutation-trans apart made made' q perm) in_order
-          ∙ sym (sorted_is-sort_by cmp total apart rows' no_ties (IsPermutation-trans apart made rows' q (IsPermutation-trans made rows rows' p perm')) in_order')))),
+          sorted_is-sort_by cmp total apart made' no_ties (IsPermutation-trans apart made made' q
+          perm) in_order
+          ∙ sym (sorted_is-sort_by cmp total apart rows' no_ties
+          (IsPermutation-trans apart made rows' q (IsPermutation-trans made rows rows' p perm'))
+          in_order')))),
     )
 
 -- what is the same as rows is so as others that are the same as they
-pub alike : {X : Type 0} (rows others third : List X) (b : Bool) → HaveSameRows rows others → (IsTrue b ↔ HaveSameRows others third) → (IsTrue b ↔ HaveSameRows rows third)
+pub alike : {X : Type 0} (rows others third : List X) (b : Bool) → HaveSameRows rows others
+    → (IsTrue b ↔ HaveSameRows others third) → (IsTrue b ↔ HaveSameRows rows third)
 alike rows others third b like same = (
-  λ t. ∥∥₁_elim like ∥∥₁_prop (λ p. ∥∥₁_map (same.0 t) (λ q. IsPermutation-trans rows others third p q)),
-  λ h. ∥∥₁_elim like (So-prop b) (λ p. ∥∥₁_elim h (So-prop b) (λ q. same.1 ∣ IsPermutation-trans others rows third (IsPermutation-sym rows others p) q ∣₁)),
+  λ t. ∥∥₁_elim like ∥∥₁_prop (λ p. ∥∥₁_map (same.0 t) (λ q. IsPermutation-trans rows others third p
+      q)),
+  λ h. ∥∥₁_elim like (So-prop b)
+      (λ p. ∥∥₁_elim h (So-prop b) (λ q. same.1 ∣ IsPermutation-trans others rows third
+      (IsPermutation-sym rows others p) q ∣₁)),
 )
 
 abbrev pub by_key : SerialRow → SerialRow → Ordering
@@ -78,52 +98,73 @@ equal_parts Less b h = absurd (both_ways false refl h)
 equal_parts Greater b h = absurd (both_ways false refl h)
 
 tied : (x y : ℤ) → int_cmp x y ≡ Equal → x ≡ y
-tied x y e = let P : Ordering → Type 0 = λ o. MatchOrdering o (x <ℤ y) (x ≡ y) (y <ℤ x) in subst P e (int_ranked x y (int_cmp x y) refl)
+tied x y e = let P : Ordering → Type 0 = λ o. MatchOrdering o (x <ℤ y) (x ≡ y) (y <ℤ x) in
+    subst P e (int_ranked x y (int_cmp x y) refl)
 
 -- identifiers with rows of one key are the same
-tied_ids : (u v : Bool) (i j : Issuance) → IsIssuance i → IsIssuance j → is_eq (by_key (serial_row u i) (serial_row v j)) ≡ true → is_of i.id j ≡ true
+tied_ids : (u v : Bool) (i j : Issuance) → IsIssuance i → IsIssuance j
+    → is_eq (by_key (serial_row u i) (serial_row v j)) ≡ true → is_of i.id j ≡ true
 tied_ids u v i j here there h =
     let parts = equal_parts _ _ h in
-    let pair : pair_of i.id.service i.id.country ≡ pair_of j.id.service j.id.country = one_number _ _ (tied _ _ parts.0) in
+    let pair : pair_of i.id.service i.id.country ≡ pair_of j.id.service j.id.country =
+    one_number _ _ (tied _ _ parts.0) in
     let serial : i.id.serial ≡ j.id.serial = one_number _ _ (tied _ _ parts.1) in
-    let letters = one_pair i.id.service i.id.country j.id.service j.id.country here.id.service here.id.country there.id.service there.id.country pair in
-    let same : j.id ≡ i.id = λ k. record { service = sym letters.0 k; serial = sym serial k; country = sym letters.1 k } in
+    let letters = one_pair i.id.service i.id.country j.id.service j.id.country here.id.service
+    here.id.country there.id.service there.id.country pair in
+    let same : j.id ≡ i.id = λ k. record {
+      service = sym letters.0 k;
+      serial = sym serial k;
+      country = sym letters.1 k;
+    } in
     id_same j.id i.id same
 
-apart_from : (f : Issuance → Bool) (i : Issuance) (js : List Issuance) → IsIssuance i → All IsIssuance js → list_any (is_of i.id) js ≡ false
-    → AllByRecursion (λ row. is_eq (by_key (serial_row (f i) i) row) ≡ false) (map (λ j. serial_row (f j) j) js)
+apart_from : (f : Issuance → Bool) (i : Issuance) (js : List Issuance) → IsIssuance i
+    → All IsIssuance js → list_any (is_of i.id) js ≡ false
+    → AllByRecursion (λ row. is_eq (by_key (serial_row (f i) i) row) ≡ false)
+    (map (λ j. serial_row (f j) j) js)
 apart_from f i [] here all none = tt
 apart_from f i (j ∷ js) here all none =
     let both = or_parts (is_of i.id j) (list_any (is_of i.id) js) none in (
-      false_from_ne_true _ (λ e. both_ways (is_of i.id j) both.0 (tied_ids (f i) (f j) i j here (All-head IsIssuance j js all) e)),
+      false_from_ne_true _ (λ e. both_ways (is_of i.id j) both.0
+          (tied_ids (f i) (f j) i j here (All-head IsIssuance j js all) e)),
       apart_from f i js here (All-tail IsIssuance j js all) both.1,
     )
 
-still_none : (x : Id) (is : List Issuance) → list_any (is_of x) is ≡ false → list_any (is_of x) (last_issues is) ≡ false
+still_none : (x : Id) (is : List Issuance) → list_any (is_of x) is ≡ false
+    → list_any (is_of x) (last_issues is) ≡ false
 still_none x [] none = refl
 still_none x (i ∷ is) none =
     let both = or_parts (is_of x i) (list_any (is_of x) is) none in
     at (is_issued is i.id) both.0 (still_none x is both.1)
   where
-    at : (b : Bool) → is_of x i ≡ false → list_any (is_of x) (last_issues is) ≡ false → list_any (is_of x) (cond b (last_issues is) (i ∷ last_issues is)) ≡ false
+    at : (b : Bool) → is_of x i ≡ false → list_any (is_of x) (last_issues is) ≡ false
+        → list_any (is_of x) (cond b (last_issues is) (i ∷ last_issues is)) ≡ false
     at true here rest = rest
     at false here rest = rw here rest
 
-no_ties : (f : Issuance → Bool) (is : List Issuance) → All IsIssuance is → IsAscending HaveKeys (map (λ i. serial_row (f i) i) (last_issues is))
+no_ties : (f : Issuance → Bool) (is : List Issuance) → All IsIssuance is
+    → IsAscending HaveKeys (map (λ i. serial_row (f i) i) (last_issues is))
 no_ties f [] all = tt
 no_ties f (i ∷ is) all =
     let here = All-head IsIssuance i is all in
     let rest = All-tail IsIssuance i is all in
     go (is_issued is i.id) refl here rest (no_ties f is rest)
   where
-    go : (b : Bool) → is_issued is i.id ≡ b → IsIssuance i → All IsIssuance is → IsAscending HaveKeys (map (λ j. serial_row (f j) j) (last_issues is))
-        → IsAscending HaveKeys (map (λ j. serial_row (f j) j) (cond b (last_issues is) (i ∷ last_issues is)))
+    go : (b : Bool) → is_issued is i.id ≡ b → IsIssuance i → All IsIssuance is
+        → IsAscending HaveKeys (map (λ j. serial_row (f j) j) (last_issues is))
+        → IsAscending HaveKeys
+        (map (λ j. serial_row (f j) j) (cond b (last_issues is) (i ∷ last_issues is)))
     go true e here rest apart = apart
-    go false e here rest apart = (apart_from f i (last_issues is) here (All-last_issues IsIssuance is rest) (still_none i.id is e), apart)
+    go false e here rest apart = (
+      apart_from f i (last_issues is) here (All-last_issues IsIssuance is rest)
+          (still_none i.id is e),
+      apart,
+    )
 
 -- no two rows of serials have one key
 pub serial_rows_apart : (h : List Entry) → All IsCall h → IsAscending HaveKeys (serial_rows h)
-serial_rows_apart h calls = no_ties (λ i. voided_after i.arrival h i.id) (issues_of h) (issues_of_fit h calls)
+serial_rows_apart h calls = no_ties (λ i. voided_after i.arrival h i.id) (issues_of h)
+    (issues_of_fit h calls)
 
 -- the calls of rows that are right have their parts in their ranges
 pub right_calls : (t : Terms) (rows : List StoredCall) → AreRight t rows → All IsCall (kept_of rows)
@@ -133,19 +174,83 @@ right_calls t rows right = All-map IsCall entry_of rows (λ k d lt.
     record { request = r.0; outcome = r.1; fitting = r.2; day = row.day_fits })
 
 -- whether two rows are the same
-pub range_decides : (a b : RangeRow) → Decides (int_eq a.num b.num && (int_eq a.holder b.holder && (int_eq a.pair b.pair && (int_eq a.low b.low && (int_eq a.high b.high && (int_eq a.mark b.mark)))))) (a ≡ b)
+pub range_decides : (a b : RangeRow)
+    → Decides (int_eq a.num b.num
+    && (int_eq a.holder b.holder
+    && (int_eq a.pair b.pair
+    && (int_eq a.low b.low && (int_eq a.high b.high && (int_eq a.mark b.mark)))))) (a ≡ b)
 range_decides a b =
-    Decides-like _ (λ p. λ i. record { num = p.0 i; holder = p.1.0 i; pair = p.1.1.0 i; low = p.1.1.1.0 i; high = p.1.1.1.1.0 i; mark = p.1.1.1.1.1 i })
-    (λ e. (ap (λ (r : RangeRow). r.num) e, (ap (λ (r : RangeRow). r.holder) e, (ap (λ (r : RangeRow). r.pair) e, (ap (λ (r : RangeRow). r.low) e, (ap (λ (r : RangeRow). r.high) e, ap (λ (r : RangeRow). r.mark) e))))))
-    (Decides-and _ _ (Decides-int_eq a.num b.num) (Decides-and _ _ (Decides-int_eq a.holder b.holder) (Decides-and _ _ (Decides-int_eq a.pair b.pair) (Decides-and _ _ (Decides-int_eq a.low b.low) (Decides-and _ _ (Decides-int_eq a.high b.high) (Decides-int_eq a.mark b.mark))))))
+    Decides-like _ (λ p. λ i. record {
+      num = p.0 i;
+      holder = p.1.0 i;
+      pair = p.1.1.0 i;
+      low = p.1.1.1.0 i;
+      high = p.1.1.1.1.0 i;
+      mark = p.1.1.1.1.1 i;
+    })
+    (λ e. (
+      ap (λ (r : RangeRow). r.num) e,
+      (
+        ap (λ (r : RangeRow). r.holder) e,
+        (
+          ap (λ (r : RangeRow). r.pair) e,
+          (
+            ap (λ (r : RangeRow). r.low) e,
+            (ap (λ (r : RangeRow). r.high) e, ap (λ (r : RangeRow). r.mark) e),
+          ),
+        ),
+      ),
+    ))
+    (Decides-and _ _ (Decides-int_eq a.num b.num)
+    (Decides-and _ _ (Decides-int_eq a.holder b.holder)
+    (Decides-and _ _ (Decides-int_eq a.pair b.pair)
+    (Decides-and _ _ (Decides-int_eq a.low b.low)
+    (Decides-and _ _ (Decides-int_eq a.high b.high) (Decides-int_eq a.mark b.mark))))))
 
-pub closed_decides : (a b : ClosedRow) → Decides (int_eq a.num b.num && (int_eq a.arrival b.arrival)) (a ≡ b)
+pub closed_decides : (a b : ClosedRow)
+    → Decides (int_eq a.num b.num && (int_eq a.arrival b.arrival)) (a ≡ b)
 closed_decides a b =
-    Decides-like _ (λ p. λ i. record { num = p.0 i; arrival = p.1 i }) (λ e. (ap (λ (r : ClosedRow). r.num) e, ap (λ (r : ClosedRow). r.arrival) e))
+    Decides-like _ (λ p. λ i. record { num = p.0 i; arrival = p.1 i })
+    (λ e. (ap (λ (r : ClosedRow). r.num) e, ap (λ (r : ClosedRow). r.arrival) e))
     (Decides-and _ _ (Decides-int_eq a.num b.num) (Decides-int_eq a.arrival b.arrival))
 
-pub serial_decides : (a b : SerialRow) → Decides (int_eq a.pair b.pair && (int_eq a.serial b.serial && (int_eq a.arrival b.arrival && (int_eq a.day b.day && (int_eq a.customer b.customer && (int_eq a.number b.number && (int_eq a.voided b.voided))))))) (a ≡ b)
+pub serial_decides : (a b : SerialRow)
+    → Decides (int_eq a.pair b.pair
+    && (int_eq a.serial b.serial
+    && (int_eq a.arrival b.arrival
+    && (int_eq a.day b.day
+    && (int_eq a.customer b.customer
+    && (int_eq a.number b.number && (int_eq a.voided b.voided))))))) (a ≡ b)
 serial_decides a b =
-    Decides-like _ (λ p. λ i. record { pair = p.0 i; serial = p.1.0 i; arrival = p.1.1.0 i; day = p.1.1.1.0 i; customer = p.1.1.1.1.0 i; number = p.1.1.1.1.1.0 i; voided = p.1.1.1.1.1.1 i })
-    (λ e. (ap (λ (r : SerialRow). r.pair) e, (ap (λ (r : SerialRow). r.serial) e, (ap (λ (r : SerialRow). r.arrival) e, (ap (λ (r : SerialRow). r.day) e, (ap (λ (r : SerialRow). r.customer) e, (ap (λ (r : SerialRow). r.number) e, ap (λ (r : SerialRow). r.voided) e)))))))
-    (Decides-and _ _ (Decides-int_eq a.pair b.pair) (Decides-and _ _ (Decides-int_eq a.serial b.serial) (Decides-and _ _ (Decides-int_eq a.arrival b.arrival) (Decides-and _ _ (Decides-int_eq a.day b.day) (Decides-and _ _ (Decides-int_eq a.customer b.customer) (Decides-and _ _ (Decides-int_eq a.number b.number) (Decides-int_eq a.voided b.voided)))))))
+    Decides-like _ (λ p. λ i. record {
+      pair = p.0 i;
+      serial = p.1.0 i;
+      arrival = p.1.1.0 i;
+      day = p.1.1.1.0 i;
+      customer = p.1.1.1.1.0 i;
+      number = p.1.1.1.1.1.0 i;
+      voided =
+          p.1.1.1.1.1.1 i;
+    })
+    (λ e. (
+      ap (λ (r : SerialRow). r.pair) e,
+      (
+        ap (λ (r : SerialRow). r.serial) e,
+        (
+          ap (λ (r : SerialRow). r.arrival) e,
+          (
+            ap (λ (r : SerialRow). r.day) e,
+            (
+              ap (λ (r : SerialRow). r.customer) e,
+              (ap (λ (r : SerialRow). r.number) e, ap (λ (r : SerialRow). r.voided) e),
+            ),
+          ),
+        ),
+      ),
+    ))
+    (Decides-and _ _ (Decides-int_eq a.pair b.pair)
+    (Decides-and _ _ (Decides-int_eq a.serial b.serial)
+    (Decides-and _ _ (Decides-int_eq a.arrival b.arrival)
+    (Decides-and _ _ (Decides-int_eq a.day b.day)
+    (Decides-and _ _ (Decides-int_eq a.customer b.customer)
+    (Decides-and _ _ (Decides-int_eq a.number b.number) (Decides-int_eq a.voided b.voided)))))))

@@ -1,5 +1,6 @@
 -- Of the issues that are the last of their identifier, one is of each identifier that was issued.
-use Rattle.std.proofs.Common.{◌≡◌, Bool, true, false, cond, List, [], ◌∷◌, Option, Some, None, refl, sym, ap, ◌∙◌}
+use Rattle.std.proofs.Common.{◌≡◌, Bool, true, false, cond, List, [], ◌∷◌, Option, Some, None, refl}
+use Rattle.std.proofs.Common.{sym, ap, ◌∙◌}
 use Rattle.std.specs.Prelude.{filter, All, option_to_list}
 use Rattle.std.specs.List.{list_any, last_or}
 use Rattle.std.proofs.lemmas.Bool.{or_parts}
@@ -11,20 +12,27 @@ use Rattle.s10_history.specs.Issues.{is_of, is_issued, last_issuance_of, last_is
 use Rattle.s10_book.proofs.Free.{id_equal, issued_latest}
 
 -- where none passes
-pub none_filter : {A : Type 0} (p : A → Bool) (xs : List A) → list_any p xs ≡ false → filter p xs ≡ []
+pub none_filter : {A : Type 0} (p : A → Bool) (xs : List A) → list_any p xs ≡ false
+    → filter p xs ≡ []
 none_filter p [] h = refl
-none_filter p (x ∷ xs) h = let both = or_parts (p x) (list_any p xs) h in rw both.0 (none_filter p xs both.1)
+none_filter p (x ∷ xs) h = let both = or_parts (p x) (list_any p xs) h in
+    rw both.0 (none_filter p xs both.1)
 
-last_or-more : {A : Type 0} (o : Option A) (xs : List A) (l : A) → last_or None xs ≡ Some l → last_or o xs ≡ Some l
+last_or-more : {A : Type 0} (o : Option A) (xs : List A) (l : A) → last_or None xs ≡ Some l
+    → last_or o xs ≡ Some l
 last_or-more o [] l e = absurd (none-some l e)
 last_or-more o (x ∷ xs) l e = e
 
 -- one more issue, which is or isn't issued again after, and is or isn't of the identifier
-at_first : (again here : Bool) (p : Issuance → Bool) (i : Issuance) (lasts passed : List Issuance) → p i ≡ here → filter p lasts ≡ option_to_list (last_or None passed)
-    → (here ≡ true → again ≡ true → (l : Issuance) × (last_or None passed ≡ Some l)) → (here ≡ true → again ≡ false → passed ≡ [])
-    → filter p (cond again lasts (i ∷ lasts)) ≡ option_to_list (last_or None (cond here (i ∷ passed) passed))
+at_first : (again here : Bool) (p : Issuance → Bool) (i : Issuance) (lasts passed : List Issuance)
+    → p i ≡ here → filter p lasts ≡ option_to_list (last_or None passed)
+    → (here ≡ true → again ≡ true → (l : Issuance) × (last_or None passed ≡ Some l))
+    → (here ≡ true → again ≡ false → passed ≡ [])
+    → filter p (cond again lasts (i ∷ lasts))
+    ≡ option_to_list (last_or None (cond here (i ∷ passed) passed))
 at_first true false p i lasts passed e rest more none = rest
-at_first false false p i lasts passed e rest more none = ap (λ t. cond t (i ∷ filter p lasts) (filter p lasts)) e ∙ rest
+at_first false false p i lasts passed e rest more none =
+    ap (λ t. cond t (i ∷ filter p lasts) (filter p lasts)) e ∙ rest
 at_first true true p i lasts passed e rest more none =
     let l = more refl refl in
     rest ∙ ap option_to_list l.1 ∙ sym (ap option_to_list (last_or-more (Some i) passed l.0 l.1))
@@ -35,18 +43,24 @@ at_first false true p i lasts passed e rest more none =
     ∙ sym (ap (λ l. option_to_list (last_or (Some i) l)) empty)
 
 -- the one that is of the identifier is its last issue
-pub last_of : (is : List Issuance) (x : Id) → filter (is_of x) (last_issues is) ≡ option_to_list (last_issuance_of is x)
+pub last_of : (is : List Issuance) (x : Id) → filter (is_of x) (last_issues is)
+    ≡ option_to_list (last_issuance_of is x)
 last_of [] x = refl
 last_of (i ∷ is) x =
-    at_first (is_issued is i.id) (is_of x i) (is_of x) i (last_issues is) (filter (is_of x) is) refl (last_of is x)
+    at_first (is_issued is i.id) (is_of x i) (is_of x) i (last_issues is) (filter (is_of x) is) refl
+    (last_of is x)
     (λ here again. issued_latest is x (ap (is_issued is) (sym (id_equal i.id x here)) ∙ again))
-    (λ here again. none_filter (is_of x) is (ap (is_issued is) (sym (id_equal i.id x here)) ∙ again))
+    (λ here again. none_filter (is_of x) is (ap (is_issued is) (sym (id_equal i.id x here))
+    ∙ again))
 
-all_at : (P : Issuance → Type 0) (b : Bool) (i : Issuance) (is : List Issuance) → P i → All P is → All P (cond b is (i ∷ is))
+all_at : (P : Issuance → Type 0) (b : Bool) (i : Issuance) (is : List Issuance) → P i → All P is
+    → All P (cond b is (i ∷ is))
 all_at P true i is here rest = rest
 all_at P false i is here rest = All-cons P i is here rest
 
 -- what holds of each issue holds of each that is the last of its identifier
-pub All-last_issues : (P : Issuance → Type 0) (is : List Issuance) → All P is → All P (last_issues is)
+pub All-last_issues : (P : Issuance → Type 0) (is : List Issuance) → All P is
+    → All P (last_issues is)
 All-last_issues P [] all = all
-All-last_issues P (i ∷ is) all = all_at P (is_issued is i.id) i (last_issues is) (All-head P i is all) (All-last_issues P is (All-tail P i is all))
+All-last_issues P (i ∷ is) all = all_at P (is_issued is i.id) i (last_issues is)
+    (All-head P i is all) (All-last_issues P is (All-tail P i is all))

@@ -1,5 +1,6 @@
 -- The row that a Done Void makes.
-use Rattle.std.proofs.Common.{◌≡◌, ℕ, ◌+◌, Bool, true, false, not, pos, List, [], ◌∷◌, ◌++◌, map, length, get_or, Some, sym, ap, ap₂, ◌∙◌, subst}
+use Rattle.std.proofs.Common.{◌≡◌, ℕ, ◌+◌, Bool, true, false, not, pos, List, [], ◌∷◌, ◌++◌, map}
+use Rattle.std.proofs.Common.{length, get_or, Some, sym, ap, ap₂, ◌∙◌, subst}
 use Rattle.std.specs.Prelude.{filter, All, option_to_list}
 use Rattle.std.proofs.lemmas.Bool.Decides.{same_from_decides}
 use Rattle.s10_core.specs.declared.id.Id.{Id}
@@ -13,7 +14,8 @@ use Rattle.s10_history.specs.declared.entry.Entry.{Entry}
 use Rattle.s10_history.specs.declared.issuance.Issuance.{Issuance}
 use Rattle.s10_history.specs.Settings.{Terms}
 use Rattle.s10_history.specs.History.{ranges_of}
-use Rattle.s10_history.specs.Issues.{issues_of, is_of, carried_by, voids, voids_by, last_issues, last_issuance_of}
+use Rattle.s10_history.specs.Issues.{issues_of, is_of, carried_by, voids, voids_by, last_issues}
+use Rattle.s10_history.specs.Issues.{last_issuance_of}
 use Rattle.s10_book.specs.Rules.{IsLegal}
 use Rattle.s10_book.proofs.Own.{IsOwned, owned}
 use Rattle.s10_book.proofs.Spaced.{id_same}
@@ -26,17 +28,22 @@ use Rattle.s10_rows.specs.RowWrites.{MakesWrites, is_at}
 use Rattle.s10_replay.proofs.LastIssues.{last_of}
 use Rattle.s10_replay.proofs.SerialRows.{issues_of_fit, last_passes}
 use Rattle.s10_rows.proofs.Replaced.{replaced, same_rows}
-use Rattle.s10_replay.proofs.MadeRows.{row_in, same_issues, same_range_rows, same_voided, now_voided, none_made}
+use Rattle.s10_replay.proofs.MadeRows.{row_in, same_issues, same_range_rows, same_voided}
+use Rattle.s10_replay.proofs.MadeRows.{now_voided, none_made}
 use Rattle.s10_replay.proofs.IssueRows.{few_at, rows_but_at}
 
 other_id : (x y : Id) → same_id x y ≡ same_id y x
-other_id x y = same_from_decides (same_id x y) (same_id y x) (id_equal x y, id_same x y) (λ e. sym (id_equal y x e), λ e. id_same y x (sym e))
+other_id x y = same_from_decides (same_id x y) (same_id y x) (id_equal x y, id_same x y)
+    (λ e. sym (id_equal y x e), λ e. id_same y x (sym e))
 
-voids_is : (e : Entry) (x y : Id) → e.request.body ≡ Void x → e.outcome ≡ Voided → voids y e ≡ same_id x y
+voids_is : (e : Entry) (x y : Id) → e.request.body ≡ Void x → e.outcome ≡ Voided
+    → voids y e ≡ same_id x y
 voids_is e x y asks done = ap₂ (λ (b : Body) (o : Outcome). voids_by y b o) asks done
 
 -- the row of the last issue is made again as voided
-pub void_makes : (h : List Entry) (t : Terms) (e : Entry) (x : Id) (i : Issuance) → IsLegal h t → All IsCall h → IsCall e → e.request.body ≡ Void x → e.outcome ≡ Voided → last_issuance_of (issues_of h) x ≡ Some i
+pub void_makes : (h : List Entry) (t : Terms) (e : Entry) (x : Id) (i : Issuance) → IsLegal h t
+    → All IsCall h → IsCall e → e.request.body ≡ Void x → e.outcome ≡ Voided
+    → last_issuance_of (issues_of h) x ≡ Some i
     → MakesWrites h e [] (Again (serial_row true i) ∷ [])
 void_makes h t e x i legal calls call asks done last =
     let body : IsBody (Void x) = subst IsBody asks call.request.2 in
@@ -47,19 +54,36 @@ void_makes h t e x i legal calls call asks done last =
     let lasts : List Issuance = last_issues (issues_of h) in
     let here = last_passes (IsOwned h) x (issues_of h) i (owned h t legal) last in
     let voided : new i ≡ serial_row true i =
-    ap (λ (b : Bool). serial_row b i) (now_voided i.arrival h e i.id here.0.1 (voids_is e x i.id asks done ∙ id_same x i.id (sym here.1))) in
+    ap (λ (b : Bool). serial_row b i) (now_voided i.arrival h e i.id here.0.1
+    (voids_is e x i.id asks done ∙ id_same x i.id (sym here.1))) in
     let left : (j : Issuance) → is_of x j ≡ false → row_in h j ≡ new j =
-    λ j fails. ap (λ (b : Bool). serial_row b j) (sym (same_voided j.arrival h e j.id (voids_is e x j.id asks done ∙ other_id x j.id ∙ fails))) in
-    let moved : HaveSameRows (map (row_in h) (filter (λ j. not (is_of x j)) lasts) ++ new i ∷ []) (map new lasts) =
-    replaced (is_of x) (row_in h) new lasts i (last_of (issues_of h) x ∙ ap option_to_list last) (λ k d lt. left (get_or lasts k d)) in
-    let front : map (row_in h) (filter (λ j. not (is_of x j)) lasts) ++ new i ∷ [] ≡ filter (λ row. not (is_at (pos (pair_of x.service x.country)) (pos x.serial) row)) (serial_rows h) ++ serial_row true i ∷ [] =
-    ap₂ (λ (l : List SerialRow) (row : SerialRow). l ++ row ∷ []) (sym (rows_but_at h (issues_of h) x fit body)) voided in
+    λ j fails. ap (λ (b : Bool). serial_row b j)
+    (sym (same_voided j.arrival h e j.id (voids_is e x j.id asks done ∙ other_id x j.id
+    ∙ fails))) in
+    let moved : HaveSameRows (map (row_in h) (filter (λ j. not (is_of x j)) lasts) ++ new i ∷ [])
+    (map new lasts) =
+    replaced (is_of x) (row_in h) new lasts i (last_of (issues_of h) x ∙ ap option_to_list last)
+    (λ k d lt. left (get_or lasts k d)) in
+    let front : map (row_in h) (filter (λ j. not (is_of x j)) lasts) ++ new i ∷ []
+    ≡ filter (λ row. not (is_at (pos (pair_of x.service x.country)) (pos x.serial) row))
+    (serial_rows h) ++ serial_row true i ∷ [] =
+    ap₂ (λ (l : List SerialRow) (row : SerialRow). l ++ row ∷ [])
+    (sym (rows_but_at h (issues_of h) x fit body)) voided in
     let P : List SerialRow → Type 0 = λ l. HaveSameRows l (map new lasts) in
-    let Q : List Issuance → Type 0 = λ is. HaveSameRows (filter (λ row. not (is_at (pos (pair_of x.service x.country)) (pos x.serial) row)) (serial_rows h) ++ serial_row true i ∷ []) (map new (last_issues is)) in
-    let R : Id → Type 0 = λ y. HaveSameRows (filter (λ row. not (is_at (pos (pair_of y.service y.country)) (pos y.serial) row)) (serial_rows h) ++ serial_row true i ∷ []) (serial_rows (h ++ e ∷ [])) in
+    let Q : List Issuance → Type 0 =
+    λ is. HaveSameRows
+    (filter (λ row. not (is_at (pos (pair_of x.service x.country)) (pos x.serial) row))
+    (serial_rows h) ++ serial_row true i ∷ []) (map new (last_issues is)) in
+    let R : Id → Type 0 =
+    λ y. HaveSameRows
+    (filter (λ row. not (is_at (pos (pair_of y.service y.country)) (pos y.serial) row))
+    (serial_rows h) ++ serial_row true i ∷ []) (serial_rows (h ++ e ∷ [])) in
     record {
-      ranges = same_rows (range_rows h) (range_rows (h ++ e ∷ [])) (same_range_rows h e carried (none_made (1 + length (ranges_of h)) e.request.body e.outcome other));
-      serials = subst R (sym here.1) (subst Q (sym (same_issues h e carried)) (subst P front moved));
+      ranges = same_rows (range_rows h) (range_rows (h ++ e ∷ []))
+          (same_range_rows h e carried (none_made (1 + length (ranges_of h)) e.request.body
+          e.outcome other));
+      serials = subst R (sym here.1) (subst Q (sym (same_issues h e carried))
+          (subst P front moved));
       few = (few_at h (issues_of h) i.id fit (subst IsId (sym here.1) body), tt);
     }
   where

@@ -1,13 +1,16 @@
 -- What is found of the rows of the five tables.
-use Rattle.std.specs.Prelude.{◌≡◌, ◌≢◌, ℕ, zero, suc, ℤ, pos, List, [], ◌∷◌, length, take, slice_get, Some, ⊤}
+use Rattle.std.specs.Prelude.{◌≡◌, ◌≢◌, ℕ, zero, suc, ℤ, pos, List, [], ◌∷◌, length, take}
+use Rattle.std.specs.Prelude.{slice_get, Some, ⊤}
 use Rattle.s10_history.specs.Settings.{Terms, AreTerms}
 use Rattle.s10_history.specs.History.{day_of}
 use Rattle.s10_rows.specs.declared.head_row.HeadRow.{HeadRow}
 use Rattle.s10_rows.specs.declared.open_fault.OpenFault.{OpenFault}
-use Rattle.s10_rows.specs.declared.open_fault.OpenFault.TheVariants.{NotALedger, Schema, Damaged, NotEmpty, Memory, Store}
+use Rattle.s10_rows.specs.declared.open_fault.OpenFault.TheVariants.{NotALedger, Schema, Damaged}
+use Rattle.s10_rows.specs.declared.open_fault.OpenFault.TheVariants.{NotEmpty, Memory, Store}
 use Rattle.s10_rows.specs.declared.ledger_summary.LedgerSummary.{LedgerSummary}
 use Rattle.s10_rows.specs.CallRow.{StoredCall}
-use Rattle.s10_rows.specs.Tables.{Tables, HaveSameRows, head_row, range_rows, serial_rows, closed_rows}
+use Rattle.s10_rows.specs.Tables.{Tables, HaveSameRows, head_row, range_rows, serial_rows}
+use Rattle.s10_rows.specs.Tables.{closed_rows}
 use Rattle.s10_replay.specs.RightRows.{IsRightRow, AreRight, kept_of}
 
 -- head is one row with that schema number, and with settings in their limits
@@ -40,8 +43,10 @@ pub record IsFirstWrong (t : Terms) (calls : List StoredCall) (k : ℕ) : Type 0
 abbrev pub IsRefusal : Tables → OpenFault → Type 0
 IsRefusal tables NotALedger = (schema : ℤ) (t : Terms) → ¬ IsHead tables.heads schema t
 IsRefusal tables (Schema n) = (t : Terms) × IsHead tables.heads n t × (n ≢ pos 1)
-IsRefusal tables (Damaged zero) = (t : Terms) × IsHead tables.heads (pos 1) t × AreRight t tables.calls × ¬ AreDerived tables
-IsRefusal tables (Damaged (suc k)) = (t : Terms) × IsHead tables.heads (pos 1) t × IsFirstWrong t tables.calls k
+IsRefusal tables (Damaged zero) = (t : Terms) × IsHead tables.heads (pos 1) t
+    × AreRight t tables.calls × ¬ AreDerived tables
+IsRefusal tables (Damaged (suc k)) = (t : Terms) × IsHead tables.heads (pos 1) t
+    × IsFirstWrong t tables.calls k
 IsRefusal tables NotEmpty = ⊥
 IsRefusal tables Memory = ⊤
 IsRefusal tables Store = ⊤

@@ -35,7 +35,8 @@ abbrev pub is_taken : ℕ → ℕ → SerialRow → Bool
 is_taken day interval row = not (nat_le interval (day - day_in row.day))
 
 -- the usage that the rows of a range say: of its serials those with a row were issued, and all are free but those of rows that are taken
-pub record IsUsageOf (rows : List SerialRow) (r : Range) (day interval : ℕ) (u : Usage) : Type 0 where
+pub record IsUsageOf (rows : List SerialRow) (r : Range) (day interval : ℕ) (u : Usage) :
+    Type 0 where
   pub used : u.used ≡ length rows
   pub voided : u.voided ≡ count_by is_voided_row rows
   pub free : u.free + count_by (is_taken day interval) rows ≡ r.last + 1 - r.first

@@ -1,5 +1,6 @@
 -- The rows of calls that are right, and the calls that they keep.
-use Rattle.std.specs.Prelude.{◌≡◌, ℕ, ◌+◌, ◌^◌, ◌<◌, ℤ, pos, negsuc, List, length, map, take, slice_get, Some}
+use Rattle.std.specs.Prelude.{◌≡◌, ℕ, ◌+◌, ◌^◌, ◌<◌, ℤ, pos, negsuc, List, length, map, take}
+use Rattle.std.specs.Prelude.{slice_get, Some}
 use Rattle.s10_wire.specs.Datagrams.{Replies}
 use Rattle.s10_history.specs.declared.entry.Entry.{Entry}
 use Rattle.s10_history.specs.Settings.{Terms}
@@ -13,7 +14,11 @@ day_in (negsuc _) = 0
 
 -- the call that a row stands for
 abbrev pub entry_of : StoredCall → Entry
-entry_of row = record { request = request_in row.reply; day = day_in row.day; outcome = outcome_in row.reply }
+entry_of row = record {
+  request = request_in row.reply;
+  day = day_in row.day;
+  outcome = outcome_in row.reply;
+}
 
 -- the row is the next one after the calls before it: its arrival is the next, its reply decodes, its key columns are those of
 -- the request, its day is a number of 32 bits, and the call may follow (its key is new, its day does not fall, there is room, and
@@ -33,4 +38,5 @@ kept_of rows = map entry_of rows
 
 -- each row is right after those before it
 abbrev pub AreRight : Terms → List StoredCall → Type 0
-AreRight t rows = (k : ℕ) (row : StoredCall) → slice_get rows k ≡ Some row → IsRightRow t (kept_of (take k rows)) row
+AreRight t rows = (k : ℕ) (row : StoredCall) → slice_get rows k ≡ Some row
+    → IsRightRow t (kept_of (take k rows)) row

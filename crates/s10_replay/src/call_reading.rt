@@ -15,7 +15,8 @@ use s10_wire::decode_reply;
 // The call that the row stands for. None where its reply does not decode, or its day is no number of 32 bits.
 pub(crate) fn entry_in_row(row: &CallRow) -> Option<Entry>
     ensures read { IfSome result (IsCallOf row.now) }
-    ensures none { IfNone result ((e : Entry) → IsCall e → Replies row.now.reply e.request e.outcome → ¬ (row.now.day ≡ pos e.day)) }
+    ensures none { IfNone result ((e : Entry) → IsCall e → Replies row.now.reply e.request e.outcome
+        → ¬ (row.now.day ≡ pos e.day)) }
     ensures kept { (n : ℕ) (e : Entry) → IsCall e → row.now ≡ call_row n e → result ≡ Some e }
 {
     let day = number_in(row.day())?;

@@ -1,6 +1,8 @@
 //! The rows that a kept call makes.
 
-ghost use Rattle.std.specs.Prelude.{◌≡◌, ℕ, ◌+◌, pos, true, false, List, [], ◌++◌, ◌∷◌, length, filter, option_to_list, slice_get, All, Contains, Some, None, IfOk, IfErr, IsOk, IsSome};
+ghost use Rattle.std.specs.Prelude.{◌≡◌, ℕ, ◌+◌, pos, true, false, List, [], ◌++◌, ◌∷◌, length};
+ghost use Rattle.std.specs.Prelude.{filter, option_to_list, slice_get, All, Contains, Some, None};
+ghost use Rattle.std.specs.Prelude.{IfOk, IfErr, IsOk, IsSome};
 ghost use Rattle.s10_core.specs.declared.id.Id.{Id};
 ghost use Rattle.s10_wire.specs.declared.body.Body.TheVariants.{Void};
 ghost use Rattle.s10_wire.specs.declared.outcome.Outcome.TheVariants.{Granted, Voided};
@@ -8,7 +10,8 @@ ghost use Rattle.s10_history.specs.declared.entry.Entry.{Entry};
 ghost use Rattle.s10_history.specs.Settings.{Terms};
 ghost use Rattle.s10_book.specs.Rules.{IsLegal, MayFollow};
 ghost use Rattle.s10_history.specs.History.{ranges_of, lies_in};
-ghost use Rattle.s10_history.specs.Issues.{issues_at, issues_of, is_issued, last_issuance_of, serial_after};
+ghost use Rattle.s10_history.specs.Issues.{issues_at, issues_of, is_issued, last_issuance_of};
+ghost use Rattle.s10_history.specs.Issues.{serial_after};
 ghost use Rattle.s10_rows.specs.declared.serial_row.SerialRow.{SerialRow};
 ghost use Rattle.s10_rows.specs.declared.range_write.RangeWrite.{RangeWrite};
 ghost use Rattle.s10_rows.specs.declared.serial_write.SerialWrite.{SerialWrite};
@@ -53,10 +56,13 @@ pub fn issue_writes(
     issued: PriorIssue,
     issuance: &Issuance,
 ) -> (RangeWrite, SerialWrite)
-    ensures { (h : List Entry) (t : Terms) (e : Entry) (place : ℕ) (ranges : List RangeWrite) (serials : List SerialWrite) → IsLegal h t → MayFollow h t e → All IsCall h → IsCall e
-        → slice_get (issues_at (1 + length h) e) place ≡ Some issuance.now → Contains (ranges_of h) range.now → lies_in range.now issuance.now.id ≡ true
+    ensures { (h : List Entry) (t : Terms) (e : Entry) (place : ℕ) (ranges : List RangeWrite)
+        (serials : List SerialWrite) → IsLegal h t → MayFollow h t e → All IsCall h → IsCall e
+        → slice_get (issues_at (1 + length h) e) place ≡ Some issuance.now
+        → Contains (ranges_of h) range.now → lies_in range.now issuance.now.id ≡ true
         → (issued ≡ PriorIssue.Never → is_issued (issues_before place h e) issuance.now.id ≡ false)
-        → IssueWritesMake h e place ranges serials → IssueWritesMake h e (place + 1) (ranges ++ result.0 ∷ []) (serials ++ result.1 ∷ []) }
+        → IssueWritesMake h e place ranges serials
+        → IssueWritesMake h e (place + 1) (ranges ++ result.0 ∷ []) (serials ++ result.1 ∷ []) }
 {
     let row = SerialRow::of(issuance, false);
     (
@@ -69,15 +75,20 @@ pub fn issue_writes(
 /// and no Done Void.
 pub fn issue_writes_are_complete()
     ensures none { (h : List Entry) (e : Entry) → IssueWritesMake h e 0 [] [] }
-    ensures all { (h : List Entry) (e : Entry) (place : ℕ) (ranges : List RangeWrite) (serials : List SerialWrite) → ((num : ℕ) → ¬ (e.outcome ≡ Granted num)) → ¬ (e.outcome ≡ Voided)
-        → slice_get (issues_at (1 + length h) e) place ≡ None → IssueWritesMake h e place ranges serials → MakesWrites h e ranges serials }
+    ensures all { (h : List Entry) (e : Entry) (place : ℕ) (ranges : List RangeWrite)
+        (serials : List SerialWrite) → ((num : ℕ) → ¬ (e.outcome ≡ Granted num))
+        → ¬ (e.outcome ≡ Voided)
+        → slice_get (issues_at (1 + length h) e) place ≡ None
+        → IssueWritesMake h e place ranges serials → MakesWrites h e ranges serials }
 {}
 
 /// The row of the range that a Grant makes where it is Done: its first serial is the mark. None for another call.
 pub fn grant_write(entry: &Entry) -> Option<RangeWrite>
-    ensures made { (h : List Entry) (t : Terms) (n : ℕ) → IsLegal h t → MayFollow h t entry.now → entry.now.outcome ≡ Granted n
+    ensures made { (h : List Entry) (t : Terms) (n : ℕ) → IsLegal h t → MayFollow h t entry.now
+        → entry.now.outcome ≡ Granted n
         → MakesWrites h entry.now (option_to_list result) [] }
-    ensures some { (h : List Entry) (t : Terms) (n : ℕ) → MayFollow h t entry.now → entry.now.outcome ≡ Granted n → IsSome result }
+    ensures some { (h : List Entry) (t : Terms) (n : ℕ) → MayFollow h t entry.now
+        → entry.now.outcome ≡ Granted n → IsSome result }
 {
     let Outcome::Granted { range: num } = entry.outcome else {
         return None;
@@ -88,7 +99,8 @@ pub fn grant_write(entry: &Entry) -> Option<RangeWrite>
 
 /// What a Done Void makes of the rows: that of the last issue of its identifier, voided.
 pub fn void_write(issuance: &Issuance) -> SerialWrite
-    ensures { (h : List Entry) (t : Terms) (e : Entry) (id : Id) → IsLegal h t → MayFollow h t e → All IsCall h → IsCall e → e.request.body ≡ Void id → e.outcome ≡ Voided
+    ensures { (h : List Entry) (t : Terms) (e : Entry) (id : Id) → IsLegal h t → MayFollow h t e
+        → All IsCall h → IsCall e → e.request.body ≡ Void id → e.outcome ≡ Voided
         → last_issuance_of (issues_of h) id ≡ Some issuance.now → MakesWrites h e [] (result ∷ []) }
 {
     SerialWrite::Again(SerialRow::of(issuance, true))

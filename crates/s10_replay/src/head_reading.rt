@@ -11,8 +11,10 @@ use s10_rows::{HeadRow, OpenFault};
 
 // The settings of the row, whatever its number of the schema.
 fn settings_of(head: &HeadRow) -> Option<Settings>
-    ensures some { IfSome result (λ t. AreTerms t × (head.now ≡ record (head_row t) { schema = head.now.schema })) }
-    ensures none { IfNone result ((schema : ℤ) (t : Terms) → AreTerms t → ¬ (head.now ≡ record (head_row t) { schema = schema })) }
+    ensures some { IfSome result (λ t. AreTerms t
+        × (head.now ≡ record (head_row t) { schema = head.now.schema })) }
+    ensures none { IfNone result ((schema : ℤ) (t : Terms) → AreTerms t
+        → ¬ (head.now ≡ record (head_row t) { schema = schema })) }
 {
     if head.one != 1 {
         return None;

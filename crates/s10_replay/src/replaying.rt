@@ -1,6 +1,7 @@
 //! The calls of a ledger are replayed.
 
-ghost use Rattle.std.specs.Prelude.{◌≡◌, ◌↔◌, ◌<◌, ◌≤◌, pos, length, IfSome, IfNone, IfOk, IfErr, IsTrue, None, OnOk, []};
+ghost use Rattle.std.specs.Prelude.{◌≡◌, ◌↔◌, ◌<◌, ◌≤◌, pos, length, IfSome, IfNone, IfOk, IfErr};
+ghost use Rattle.std.specs.Prelude.{IsTrue, None, OnOk, []};
 ghost use Rattle.s10_book.specs.Book.{Unchanged};
 ghost use Rattle.s10_history.specs.History.{day_of, find_entry};
 ghost use Rattle.s10_rows.specs.Tables.{Tables};
@@ -17,7 +18,9 @@ use s10_wire::same_outcome;
 
 // Whether the row is call number `arrival`, with the key of the call.
 fn has_key_columns(row: &CallRow, arrival: u32, call: &Entry) -> bool
-    ensures { IsTrue result ↔ ((row.now.arrival ≡ pos arrival) × (row.now.customer ≡ pos call.now.request.customer) × (row.now.number ≡ pos call.now.request.number)) }
+    ensures { IsTrue result
+        ↔ ((row.now.arrival ≡ pos arrival) × (row.now.customer ≡ pos call.now.request.customer)
+        × (row.now.number ≡ pos call.now.request.number)) }
 {
     row.arrival() == i64::from(arrival)
         && row.customer() == i64::from(call.request.customer)
@@ -27,7 +30,10 @@ fn has_key_columns(row: &CallRow, arrival: u32, call: &Entry) -> bool
 // Whether no call of the book has the key of the call.
 fn is_new<B: Book>(book: &mut B, call: &Entry) -> Result<bool, BookFault>
     ensures unchanged { Unchanged B.history B.terms B.honest book.old book.new }
-    ensures answer { B.honest book.new → IfOk result (λ b. IsTrue b ↔ (find_entry (B.history book.old) call.now.request.customer call.now.request.number ≡ None)) }
+    ensures answer { B.honest book.new
+        → IfOk result (λ b. IsTrue b
+        ↔ (find_entry (B.history book.old) call.now.request.customer call.now.request.number
+        ≡ None)) }
 {
     let found = book.find(call.request.customer, call.request.number)?;
     Ok(found.is_none())
@@ -36,9 +42,11 @@ fn is_new<B: Book>(book: &mut B, call: &Entry) -> Result<bool, BookFault>
 // Whether there is room for the call, its day is not before the book's, and its key is new.
 fn may_follow<B: Book>(book: &mut B, call: &Entry) -> Result<bool, BookFault>
     ensures unchanged { Unchanged B.history B.terms B.honest book.old book.new }
-    ensures answer { B.honest book.new → IfOk result (λ b. IsTrue b ↔ ((length (B.history book.old) < (B.terms book.old).limit)
+    ensures answer { B.honest book.new
+        → IfOk result (λ b. IsTrue b ↔ ((length (B.history book.old) < (B.terms book.old).limit)
         × (day_of (B.history book.old) ≤ call.now.day)
-        × (find_entry (B.history book.old) call.now.request.customer call.now.request.number ≡ None))) }
+        × (find_entry (B.history book.old) call.now.request.customer call.now.request.number
+        ≡ None))) }
 {
     if book.len() < book.settings().limit() && book.day() <= call.day {
         is_new(book, call)
@@ -50,8 +58,12 @@ fn may_follow<B: Book>(book: &mut B, call: &Entry) -> Result<bool, BookFault>
 // The call of the row, where it is right after the book's calls.
 fn right_call<B: Book>(book: &mut B, row: &CallRow) -> Result<Option<Entry>, BookFault>
     ensures unchanged { Unchanged B.history B.terms B.honest book.old book.new }
-    ensures right { B.honest book.new → IfOk result (λ found. IfSome found (λ e. (e ≡ entry_of row.now) × IsCall e × IsRightRow (B.terms book.old) (B.history book.old) row.now)) }
-    ensures wrong { B.honest book.new → IfOk result (λ found. IfNone found (¬ IsRightRow (B.terms book.old) (B.history book.old) row.now)) }
+    ensures right { B.honest book.new
+        → IfOk result (λ found. IfSome found (λ e. (e ≡ entry_of row.now) × IsCall e
+        × IsRightRow (B.terms book.old) (B.history book.old) row.now)) }
+    ensures wrong { B.honest book.new
+        → IfOk result (λ found. IfNone found (¬ IsRightRow (B.terms book.old) (B.history book.old)
+        row.now)) }
 {
     let Some(call) = entry_in_row(row) else {
         return Ok(None);
@@ -71,9 +83,13 @@ fn right_call<B: Book>(book: &mut B, row: &CallRow) -> Result<Option<Entry>, Boo
 pub fn replay_rows<B: Book>(book: &mut B, rows: &[CallRow]) -> Result<(), OpenFault>
     ensures was_honest { B.honest book.new → B.honest book.old }
     ensures same_terms { B.honest book.new → B.terms book.new ≡ B.terms book.old }
-    ensures right { B.honest book.new → B.history book.old ≡ [] → OnOk result (AreRight (B.terms book.old) rows.now) }
-    ensures history { B.honest book.new → B.history book.old ≡ [] → OnOk result (B.history book.new ≡ kept_of rows.now) }
-    ensures err { B.honest book.new → B.history book.old ≡ [] → (tables : Tables) → tables.calls ≡ rows.now → IsHead tables.heads (pos 1) (B.terms book.old) → IfErr result (IsRefusal tables) }
+    ensures right { B.honest book.new → B.history book.old ≡ []
+        → OnOk result (AreRight (B.terms book.old) rows.now) }
+    ensures history { B.honest book.new → B.history book.old ≡ []
+        → OnOk result (B.history book.new ≡ kept_of rows.now) }
+    ensures err { B.honest book.new → B.history book.old ≡ [] → (tables : Tables)
+        → tables.calls ≡ rows.now → IsHead tables.heads (pos 1) (B.terms book.old)
+        → IfErr result (IsRefusal tables) }
 {
     for row in rows {
         let call = match right_call(book, row) {

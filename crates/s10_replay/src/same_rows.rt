@@ -29,7 +29,8 @@ fn are_closed(rows: &[ClosedRow], others: &[ClosedRow]) -> bool
 
 /// Whether the rows are the same closed ranges, where those that were made rise by arrival.
 pub fn same_closed(made: &[ClosedRow], mut rows: Vec<ClosedRow>) -> bool
-    ensures { IsAscending (λ a b. int_cmp a.arrival b.arrival ≡ Less) made.now → IsTrue result ↔ HaveSameRows made.now rows.items }
+    ensures { IsAscending (λ a b. int_cmp a.arrival b.arrival ≡ Less) made.now → IsTrue result
+        ↔ HaveSameRows made.now rows.items }
 {
     rows.sort_unstable_by_key(|row| row.arrival);
     are_closed(made, &rows)
@@ -37,7 +38,8 @@ pub fn same_closed(made: &[ClosedRow], mut rows: Vec<ClosedRow>) -> bool
 
 /// Whether the rows are the same ranges, where those that were made rise by number.
 pub fn same_ranges(made: &[RangeRow], mut rows: Vec<RangeRow>) -> bool
-    ensures { IsAscending (λ a b. int_cmp a.num b.num ≡ Less) made.now → IsTrue result ↔ HaveSameRows made.now rows.items }
+    ensures { IsAscending (λ a b. int_cmp a.num b.num ≡ Less) made.now → IsTrue result
+        ↔ HaveSameRows made.now rows.items }
 {
     rows.sort_unstable_by_key(|row| row.num);
     are_ranges(made, &rows)
@@ -45,7 +47,10 @@ pub fn same_ranges(made: &[RangeRow], mut rows: Vec<RangeRow>) -> bool
 
 /// Whether the rows are the same serials, where no two of those that were made have one key.
 pub fn same_serials(mut made: Vec<SerialRow>, mut rows: Vec<SerialRow>) -> bool
-    ensures { (keyed : List SerialRow) → IsAscending (λ a b. is_eq (ordering_then (int_cmp a.pair b.pair) (int_cmp a.serial b.serial)) ≡ false) keyed → HaveSameRows keyed made.items
+    ensures { (keyed : List SerialRow)
+        → IsAscending
+        (λ a b. is_eq (ordering_then (int_cmp a.pair b.pair) (int_cmp a.serial b.serial)) ≡ false)
+        keyed → HaveSameRows keyed made.items
         → IsTrue result ↔ HaveSameRows made.items rows.items }
 {
     made.sort_unstable_by_key(|row| (row.pair, row.serial));

@@ -13,7 +13,8 @@ use s10_rows::SerialRow;
 // The issue that the row records. None where a column of it does not read.
 pub(crate) fn issue_in(row: &SerialRow) -> Option<Issue>
     ensures read { IfSome result (IsRowOfIssue row.now) }
-    ensures kept { (voided : Bool) (i : Issuance) → IsIssuance i → row.now ≡ serial_row voided i → result ≡ Some (issue_in_row voided i) }
+    ensures kept { (voided : Bool) (i : Issuance) → IsIssuance i → row.now ≡ serial_row voided i
+        → result ≡ Some (issue_in_row voided i) }
 {
     let day = number_in(row.day)?;
     let voided = flag_in(row.voided)?;

@@ -1,6 +1,7 @@
 //! How the serials of a range were used, by its rows of `serials`.
 
-ghost use Rattle.std.specs.Prelude.{◌≡◌, ℕ, ◌+◌, ◌-◌, ◌<◌, ◌≤◌, ◌^◌, pos, max, nat_le, not, if◌then◌else◌, List, filter, All, Ok, IfOk, IfErr};
+ghost use Rattle.std.specs.Prelude.{◌≡◌, ℕ, ◌+◌, ◌-◌, ◌<◌, ◌≤◌, ◌^◌, pos, max, nat_le, not};
+ghost use Rattle.std.specs.Prelude.{if◌then◌else◌, List, filter, All, Ok, IfOk, IfErr};
 ghost use Rattle.s10_history.specs.declared.entry.Entry.{Entry};
 ghost use Rattle.s10_history.specs.History.{day_of};
 ghost use Rattle.s10_history.specs.Usage.{usage_of};
@@ -20,7 +21,8 @@ fn count_issue(usage: Usage, issue: &Issue, day: u32, interval: u32) -> Usage
     requires free { 0 < usage.free }
     ensures used { result.used ≡ usage.used + 1 }
     ensures voided { result.voided ≡ usage.voided + (if issue.now.voided then 1 else 0) }
-    ensures free { result.free + (if not (nat_le interval (day - issue.now.day)) then 1 else 0) ≡ usage.free }
+    ensures free { result.free + (if not (nat_le interval (day - issue.now.day)) then 1 else 0)
+        ≡ usage.free }
 {
     let is_free = issue.is_free(day, interval);
     Usage {
@@ -52,8 +54,10 @@ pub fn usage_among(
 ) -> Result<Usage, BookFault>
     ensures store { IfErr result (λ f. f ≡ BookFault.Store) }
     ensures counted { IfOk result (IsUsageOf rows.now range.now day interval) }
-    ensures found { (h : List Entry) → All IsCall h → IsRange range.now → (asked : ℕ) → day ≡ max (day_of h) asked
-        → HaveSameRows (filter (is_within (pos (pair_of range.now.service range.now.country)) (pos range.now.first) (pos range.now.last)) (serial_rows h)) rows.now
+    ensures found { (h : List Entry) → All IsCall h → IsRange range.now → (asked : ℕ)
+        → day ≡ max (day_of h) asked
+        → HaveSameRows (filter (is_within (pos (pair_of range.now.service range.now.country))
+        (pos range.now.first) (pos range.now.last)) (serial_rows h)) rows.now
         → result ≡ Ok (usage_of h range.now asked interval) }
 {
     let serials = range_size(range);

@@ -8,9 +8,11 @@ use Rattle.s10_book.specs.BookFault.{CountsBookFault}
 use Rattle.s10_reports.specs.Reports.{joined}
 
 -- the whole report, or after a fault of the book n of its first lines
-abbrev pub Reported : {T : Type 0} → Option (List ℕ) → Option (List ℕ) → List (List ℕ) → Result T ReportFault → Type 0
+abbrev pub Reported : {T : Type 0} → Option (List ℕ) → Option (List ℕ) → List (List ℕ)
+    → Result T ReportFault → Type 0
 Reported old new lines (Ok _) = Appends old new (joined lines)
-Reported old new lines (Err (Book fault)) = (count : ℕ) × Appends old new (joined (take count lines))
+Reported old new lines (Err (Book fault)) = (count : ℕ)
+    × Appends old new (joined (take count lines))
 Reported old new lines (Err Write) = ⊤
 
 -- the counts are as before, but for a fault of the book

@@ -1,5 +1,6 @@
 -- The two reports of a ledger: a header, then a line for each range, or for each issue.
-use Rattle.std.specs.Prelude.{ℕ, ◌==◌, Bool, true, false, ◌&&◌, if◌then◌else◌, List, [], ◌∷◌, map, codes, decimal, Option, Some, None}
+use Rattle.std.specs.Prelude.{ℕ, ◌==◌, Bool, true, false, ◌&&◌, if◌then◌else◌, List, [], ◌∷◌, map}
+use Rattle.std.specs.Prelude.{codes, decimal, Option, Some, None}
 use Rattle.std.specs.List.{flat_map}
 use Rattle.s10_core.specs.Letters.{letters_of}
 use Rattle.s10_core.specs.Serial.{digits_of}
@@ -27,7 +28,8 @@ closed_words false = []
 unfoldable pub range_line : Range → Usage → Bool → List ℕ
 range_line r usage closed =
     line_of (decimal r.num)
-    (decimal r.holder ∷ letters_of r.service ∷ letters_of r.country ∷ digits_of r.first ∷ digits_of r.last
+    (decimal r.holder ∷ letters_of r.service ∷ letters_of r.country ∷ digits_of r.first
+    ∷ digits_of r.last
     ∷ decimal usage.used ∷ decimal usage.voided ∷ decimal usage.free ∷ closed_words closed)
 
 abbrev pub ranges_header : List ℕ
@@ -35,7 +37,9 @@ ranges_header = codes "range customer service country first last used voided fre
 
 -- the report of the ranges, in order of their numbers, on a day
 abbrev pub ranges_report : List Entry → ℕ → ℕ → List (List ℕ)
-ranges_report h day interval = ranges_header ∷ map (λ r. range_line r (usage_of h r day interval) (is_closed h r.num)) (ranges_of h)
+ranges_report h day interval =
+    ranges_header ∷ map (λ r. range_line r (usage_of h r day interval) (is_closed h r.num))
+    (ranges_of h)
 
 -- whether the identifier's last issue is that of the call
 abbrev pub is_last : Issuance → Issue → Bool
@@ -45,13 +49,15 @@ is_last i last = (last.customer == i.customer) && (last.number == i.number)
 abbrev pub state_of : Issuance → Option Issue → List ℕ
 state_of i None = codes "reissued"
 state_of i (Some last) =
-    if is_last i last then (if last.voided then codes "voided" else codes "issued") else codes "reissued"
+    if is_last i last then (if last.voided then codes "voided" else codes "issued")
+    else codes "reissued"
 
 -- an issue and what became of it
 unfoldable pub issue_line : Issuance → Option Issue → List ℕ
 issue_line i last =
     line_of (decimal i.arrival)
-    (decimal i.day ∷ decimal i.customer ∷ decimal i.number ∷ spelling_of i.id ∷ state_of i last ∷ [])
+    (decimal i.day ∷ decimal i.customer ∷ decimal i.number ∷ spelling_of i.id ∷ state_of i last
+    ∷ [])
 
 abbrev pub issues_header : List ℕ
 issues_header = codes "arrival day customer number identifier state\n"

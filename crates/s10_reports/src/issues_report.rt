@@ -20,7 +20,8 @@ pub fn write_issues<B: Book, W: Write>(book: &mut B, out: &mut W) -> Result<(), 
     ensures faults { CountsReport result (B.faults book.old) (B.faults book.new) }
     ensures unchanged { Unchanged B.history B.terms B.honest book.old book.new }
     ensures written { B.honest book.new
-        → Reported (W.contents out.old) (W.contents out.new) (issues_report (B.history book.old)) result }
+        → Reported (W.contents out.old) (W.contents out.new) (issues_report (B.history book.old))
+        result }
 {
     write_text(b"arrival day customer number identifier state\n", out)?;
     for done in 0..book.len() {
@@ -43,7 +44,8 @@ fn write_call<B: Book, W: Write>(
     ensures faults { CountsReport result (B.faults book.old) (B.faults book.new) }
     ensures unchanged { Unchanged B.history B.terms B.honest book.old book.new }
     ensures written { B.honest book.new
-        → Reported (W.contents out.old) (W.contents out.new) (issue_lines (B.history book.old) (issues_at arrival entry.now)) result }
+        → Reported (W.contents out.old) (W.contents out.new)
+        (issue_lines (B.history book.old) (issues_at arrival entry.now)) result }
 {
     for place in 0..entry.issued() {
         let issuance = match entry.issue(arrival, place) {
@@ -61,7 +63,8 @@ fn write_issue<W: Write>(
     last: &Option<Issue>,
     out: &mut W,
 ) -> Result<(), WriteFault>
-    ensures { OnOk result (Appends (W.contents out.old) (W.contents out.new) (issue_line issuance.now last.now)) }
+    ensures { OnOk result (Appends (W.contents out.old) (W.contents out.new)
+        (issue_line issuance.now last.now)) }
 {
     write_first_decimal(issuance.arrival, out)?;
     write_decimal(issuance.day, out)?;

@@ -51,7 +51,8 @@ fn write_range<W: Write>(
     closed: bool,
     out: &mut W,
 ) -> Result<(), WriteFault>
-    ensures { OnOk result (Appends (W.contents out.old) (W.contents out.new) (range_line range.now usage.now closed)) }
+    ensures { OnOk result (Appends (W.contents out.old) (W.contents out.new)
+        (range_line range.now usage.now closed)) }
 {
     write_first_decimal(range.num, out)?;
     write_decimal(range.holder, out)?;
@@ -64,7 +65,8 @@ fn write_range<W: Write>(
 
 fn write_usage<W: Write>(usage: &Usage, out: &mut W) -> Result<(), WriteFault>
     ensures { OnOk result (Appends (W.contents out.old) (W.contents out.new)
-        (spaced (decimal usage.now.used ∷ decimal usage.now.voided ∷ decimal usage.now.free ∷ []))) }
+        (spaced (decimal usage.now.used ∷ decimal usage.now.voided ∷ decimal usage.now.free
+        ∷ []))) }
 {
     write_decimal(usage.used, out)?;
     write_decimal(usage.voided, out)?;
@@ -73,7 +75,8 @@ fn write_usage<W: Write>(usage: &Usage, out: &mut W) -> Result<(), WriteFault>
 
 // The word at the end of a closed range's line.
 fn write_closed<W: Write>(closed: bool, out: &mut W) -> Result<(), WriteFault>
-    ensures { OnOk result (Appends (W.contents out.old) (W.contents out.new) (spaced (closed_words closed))) }
+    ensures { OnOk result (Appends (W.contents out.old) (W.contents out.new)
+        (spaced (closed_words closed))) }
 {
     if closed {
         write_word(b"closed", out)

@@ -7,7 +7,13 @@ use Rattle.s10_rows.specs.declared.call_write.CallWrite.{CallWrite}
 
 -- the row of the call
 abbrev pub row_written : CallWrite → StoredCall
-row_written w = record { arrival = pos w.arrival; customer = pos w.entry.request.customer; number = pos w.entry.request.number; day = pos w.entry.day; reply = w.reply }
+row_written w = record {
+  arrival = pos w.arrival;
+  customer = pos w.entry.request.customer;
+  number = pos w.entry.request.number;
+  day = pos w.entry.day;
+  reply = w.reply;
+}
 
 -- the tables after a call
 abbrev pub with_call : CallWrite → Tables → Tables
@@ -30,4 +36,5 @@ pub record Writes (w : CallWrite) (before after : Tables) : Type 0 where
 -- the calls do so, one after another
 unfoldable pub AreWritten : List CallWrite → Tables → Tables → Type 0
 AreWritten [] before after = after ≡ before
-AreWritten (w ∷ ws) before after = (between : Tables) × Writes w before between × AreWritten ws between after
+AreWritten (w ∷ ws) before after = (between : Tables) × Writes w before between
+    × AreWritten ws between after

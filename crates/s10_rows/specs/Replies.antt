@@ -1,14 +1,21 @@
 -- What the bytes of a reply say, by their offsets. Where they are the datagram of a reply, these are its request and its outcome.
-use Rattle.std.specs.Prelude.{ℕ, zero, suc, ◌+◌, ◌/◌, ◌==◌, if◌then◌else◌, List, [], ◌∷◌, ◌++◌, length, take, drop}
+use Rattle.std.specs.Prelude.{ℕ, zero, suc, ◌+◌, ◌/◌, ◌==◌, if◌then◌else◌, List, [], ◌∷◌, ◌++◌}
+use Rattle.std.specs.Prelude.{length, take, drop}
 use Rattle.s10_core.specs.declared.id.Id.{Id}
 use Rattle.s10_core.specs.Serial.{number_of}
 use Rattle.s10_wire.specs.declared.body.Body.{Body}
-use Rattle.s10_wire.specs.declared.body.Body.TheVariants.{Grant, Draw, Void, Query, DrawMany, Withdraw}
+use Rattle.s10_wire.specs.declared.body.Body.TheVariants.{Grant, Draw, Void, Query, DrawMany}
+use Rattle.s10_wire.specs.declared.body.Body.TheVariants.{Withdraw}
 use Rattle.s10_wire.specs.declared.request.Request.{Request}
 use Rattle.s10_wire.specs.declared.status.Status.{Status}
 use Rattle.s10_wire.specs.declared.status.Status.TheVariants as statuses
 use Rattle.s10_wire.specs.declared.outcome.Outcome.{Outcome}
-use Rattle.s10_wire.specs.declared.outcome.Outcome.TheVariants.{Granted, Drawn, DrawnMany, Voided, Told, Withdrawn, NotThePost, BadGrant, Overlap, NoRange, NoneFree, NotYours, NotIssued, AlreadyVoid, NoSuchRange, Closed, NumberReused}
+use Rattle.s10_wire.specs.declared.outcome.Outcome.TheVariants.{Granted, Drawn, DrawnMany, Voided}
+use Rattle.s10_wire.specs.declared.outcome.Outcome.TheVariants.{Told, Withdrawn, NotThePost}
+use Rattle.s10_wire.specs.declared.outcome.Outcome.TheVariants.{BadGrant, Overlap, NoRange}
+use Rattle.s10_wire.specs.declared.outcome.Outcome.TheVariants.{NoneFree, NotYours, NotIssued}
+use Rattle.s10_wire.specs.declared.outcome.Outcome.TheVariants.{AlreadyVoid, NoSuchRange, Closed}
+use Rattle.s10_wire.specs.declared.outcome.Outcome.TheVariants.{NumberReused}
 use Rattle.s10_wire.specs.declared.kind.Kind.{Kind}
 use Rattle.s10_wire.specs.declared.kind.Kind.TheVariants as kinds
 use Rattle.s10_wire.specs.Kind.{kind_of, request_length}
@@ -19,7 +26,11 @@ abbrev pub pair_in : List ℕ → ℕ → ℕ × ℕ
 pair_in b at = (byte b at, byte b (at + 1))
 
 abbrev pub id_in : List ℕ → ℕ → Id
-id_in b at = record { service = pair_in b at; serial = number_of (take 8 (drop (at + 2) b)); country = pair_in b (at + 11) }
+id_in b at = record {
+  service = pair_in b at;
+  serial = number_of (take 8 (drop (at + 2) b));
+  country = pair_in b (at + 11);
+}
 
 -- n identifiers, one after the other
 abbrev pub ids_in : ℕ → List ℕ → List Id
@@ -30,7 +41,8 @@ ids_in (suc count) b = id_in b 0 ∷ ids_in count (drop 13 b)
 unfoldable pub body_in : List ℕ → Body
 body_in b =
     let code = byte b 3 in
-    if code == 0x81 then Grant (number b 12) (pair_in b 16) (pair_in b 18) (number b 20) (number b 24)
+    if code == 0x81 then Grant (number b 12) (pair_in b 16) (pair_in b 18) (number b 20)
+    (number b 24)
     else if code == 0x82 then Draw (pair_in b 12) (pair_in b 14)
     else if code == 0x83 then Void (id_in b 12)
     else if code == 0x85 then DrawMany (pair_in b 12) (pair_in b 14) (byte b 16)

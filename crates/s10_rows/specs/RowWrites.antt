@@ -1,5 +1,6 @@
 -- What keeping a call makes of the rows.
-use Rattle.std.specs.Prelude.{◌≡◌, ⊤, ℕ, ◌+◌, ◌≤◌, ℤ, Bool, not, ◌&&◌, if◌then◌else◌, List, [], ◌∷◌, ◌++◌, map, length, filter, take}
+use Rattle.std.specs.Prelude.{◌≡◌, ⊤, ℕ, ◌+◌, ◌≤◌, ℤ, Bool, not, ◌&&◌, if◌then◌else◌, List, [], ◌∷◌}
+use Rattle.std.specs.Prelude.{◌++◌, map, length, filter, take}
 use Rattle.std.specs.Ordering.{int_eq}
 use Rattle.s10_history.specs.declared.entry.Entry.{Entry}
 use Rattle.s10_history.specs.declared.issuance.Issuance.{Issuance}
@@ -55,7 +56,8 @@ row_of (Again row) = row
 -- each write finds at most one row of its pair and serial, of those that the writes before it leave
 abbrev pub FindAtMostOne : List SerialWrite → List SerialRow → Type 0
 FindAtMostOne [] rows = ⊤
-FindAtMostOne (w ∷ ws) rows = (length (filter (is_at (row_of w).pair (row_of w).serial) rows) ≤ 1) × FindAtMostOne ws (with_serial w rows)
+FindAtMostOne (w ∷ ws) rows = (length (filter (is_at (row_of w).pair (row_of w).serial) rows) ≤ 1)
+    × FindAtMostOne ws (with_serial w rows)
 
 -- the write of an issue, by whether its identifier was issued before
 abbrev pub write_of : PriorIssue → SerialRow → SerialWrite
@@ -67,13 +69,18 @@ abbrev pub issues_before : ℕ → List Entry → Entry → List Issuance
 issues_before place h e = issues_of h ++ take place (issues_at (1 + length h) e)
 
 -- what the call after the history issues before a place makes these rows
-pub record IssueWritesMake (h : List Entry) (e : Entry) (place : ℕ) (made_ranges : List RangeWrite) (made_serials : List SerialWrite) : Type 0 where
-  pub ranges : with_ranges made_ranges (range_rows h) ≡ map (λ r. range_row (pick_of (issues_before place h e) r) r) (ranges_of h)
-  pub serials : with_serials made_serials (serial_rows h) ≡ map (λ i. serial_row (voided_after i.arrival h i.id) i) (last_issues (issues_before place h e))
+pub record IssueWritesMake (h : List Entry) (e : Entry) (place : ℕ) (made_ranges : List RangeWrite)
+    (made_serials : List SerialWrite) : Type 0 where
+  pub ranges : with_ranges made_ranges (range_rows h)
+      ≡ map (λ r. range_row (pick_of (issues_before place h e) r) r) (ranges_of h)
+  pub serials : with_serials made_serials (serial_rows h)
+      ≡ map (λ i. serial_row (voided_after i.arrival h i.id) i)
+      (last_issues (issues_before place h e))
   pub few : FindAtMostOne made_serials (serial_rows h)
 
 -- the call after the history makes these rows
-pub record MakesWrites (h : List Entry) (e : Entry) (made_ranges : List RangeWrite) (made_serials : List SerialWrite) : Type 0 where
+pub record MakesWrites (h : List Entry) (e : Entry) (made_ranges : List RangeWrite)
+    (made_serials : List SerialWrite) : Type 0 where
   pub ranges : HaveSameRows (with_ranges made_ranges (range_rows h)) (range_rows (h ++ e ∷ []))
   pub serials : HaveSameRows (with_serials made_serials (serial_rows h)) (serial_rows (h ++ e ∷ []))
   pub few : FindAtMostOne made_serials (serial_rows h)

@@ -38,7 +38,12 @@ pub record IsIssuance (i : Issuance) : Type 0 where
 
 -- the issue that its row records
 abbrev pub issue_in_row : Bool → Issuance → Issue
-issue_in_row voided i = record { day = i.day; voided = voided; customer = i.customer; number = i.number }
+issue_in_row voided i = record {
+  day = i.day;
+  voided = voided;
+  customer = i.customer;
+  number = i.number;
+}
 
 -- whether the arrival is one of these
 abbrev pub arrives_between : ℤ → ℤ → StoredCall → Bool

@@ -1,5 +1,6 @@
 -- What the rows of the five tables are for a history.
-use Rattle.std.specs.Prelude.{ℕ, ◌+◌, pos, Bool, if◌then◌else◌, List, [], ◌∷◌, ◌++◌, map, IsPermutation, Option, Some, None, option_to_list}
+use Rattle.std.specs.Prelude.{ℕ, ◌+◌, pos, Bool, if◌then◌else◌, List, [], ◌∷◌, ◌++◌, map}
+use Rattle.std.specs.Prelude.{IsPermutation, Option, Some, None, option_to_list}
 use Rattle.std.specs.Int.{w32, from_be_bytes}
 use Rattle.s10_core.specs.Letters.{letters_of}
 use Rattle.s10_wire.specs.declared.body.Body.{Body}
@@ -93,13 +94,15 @@ serial_rows h = map (λ i. serial_row (voided_after i.arrival h i.id) i) (last_i
 
 -- the row that call number arrival makes of this body and this outcome: that of the range that it closes
 abbrev pub closing : ℕ → Body → Outcome → Option ClosedRow
-closing arrival (Withdraw range) Withdrawn = Some (record { num = pos range; arrival = pos arrival })
+closing arrival (Withdraw range) Withdrawn =
+    Some (record { num = pos range; arrival = pos arrival })
 closing arrival body outcome = None
 
 -- the rows of the ranges that the calls close, the first of them being call number arrival
 abbrev pub closed_rows_from : ℕ → List Entry → List ClosedRow
 closed_rows_from arrival [] = []
-closed_rows_from arrival (e ∷ es) = option_to_list (closing arrival e.request.body e.outcome) ++ closed_rows_from (arrival + 1) es
+closed_rows_from arrival (e ∷ es) = option_to_list (closing arrival e.request.body e.outcome)
+    ++ closed_rows_from (arrival + 1) es
 
 -- the closed ranges, in order of the calls that closed them
 abbrev pub closed_rows : List Entry → List ClosedRow
@@ -107,7 +110,13 @@ closed_rows h = closed_rows_from 1 h
 
 -- the tables that a history makes
 abbrev pub tables_of : List Entry → Terms → Tables
-tables_of h t = record { heads = head_row t ∷ []; calls = call_rows h; ranges = range_rows h; serials = serial_rows h; closed = closed_rows h }
+tables_of h t = record {
+  heads = head_row t ∷ [];
+  calls = call_rows h;
+  ranges = range_rows h;
+  serials = serial_rows h;
+  closed = closed_rows h;
+}
 
 abbrev pub no_rows : Tables
 no_rows = record { heads = []; calls = []; ranges = []; serials = []; closed = [] }

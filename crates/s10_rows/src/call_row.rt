@@ -20,13 +20,25 @@ impl Model for CallRow {
 
     ghost Value = { StoredCall };
 
-    ghost view = { λ c. record { arrival = c.arrival; customer = c.customer; number = c.number; day = c.day; reply = c.reply.items } };
+    ghost view = { λ c. record {
+      arrival = c.arrival;
+      customer = c.customer;
+      number = c.number;
+      day = c.day;
+      reply = c.reply.items;
+    } };
 }
 
 impl CallRow {
     /// The row with these columns: the arrival from 1, the key of the call, its day, and the datagram of its reply.
     pub fn new(arrival: i64, customer: i64, number: i64, day: i64, reply: Vec<u8>) -> CallRow
-        ensures { let row : StoredCall = record { arrival = arrival; customer = customer; number = number; day = day; reply = reply.items } in result ≡ row }
+        ensures { let row : StoredCall = record {
+          arrival = arrival;
+          customer = customer;
+          number = number;
+          day = day;
+          reply = reply.items;
+        } in result ≡ row }
     {
         CallRow {
             arrival,

@@ -1,6 +1,7 @@
 -- The five tables of a ledger, as CREATE TABLE makes them in an empty database, each with its tree, and what may follow them.
 -- Ledgers of earlier builds have the first four alone.
-use Rattle.std.specs.Prelude.{◌≡◌, true, false, [], ◌∷◌, Some, None, codes, List, ℕ, Bool, not, ◌&&◌, ◌||◌, ◌==◌, drop, slice_index_or}
+use Rattle.std.specs.Prelude.{◌≡◌, true, false, [], ◌∷◌, Some, None, codes, List, ℕ, Bool, not}
+use Rattle.std.specs.Prelude.{◌&&◌, ◌||◌, ◌==◌, drop, slice_index_or}
 use Rattle.std.specs.List.{list_all}
 use Rattle.sqlite_value.specs.declared.keys.Collation.TheVariants.{Binary}
 use Rattle.sqlite_value.specs.declared.value.Value.TheVariants.{Null, Int}
@@ -22,7 +23,14 @@ use Rattle.sqlite_schema.specs.declared.schema.Kind.TheVariants.{Integer, Blob}
 
 -- a column of this type that is never NULL
 abbrev pub column_of : List ℕ → Kind → Column
-column_of name kind = record { name = name; kind = kind; is_strict = true; not_null = true; default = Null; collation = Binary }
+column_of name kind = record {
+  name = name;
+  kind = kind;
+  is_strict = true;
+  not_null = true;
+  default = Null;
+  collation = Binary;
+}
 
 abbrev pub integer : List ℕ → Column
 integer name = column_of name Integer
@@ -46,7 +54,8 @@ abbrev pub head_table : Table
 head_table = record {
   name = codes "head";
   tree = 0;
-  columns = integer (codes "one") ∷ integer (codes "schema") ∷ integer (codes "interval") ∷ integer (codes "cap") ∷ [];
+  columns = integer (codes "one") ∷ integer (codes "schema") ∷ integer (codes "interval")
+      ∷ integer (codes "cap") ∷ [];
   key = Some 0;
   primary = 0 ∷ [];
   uniques = [];
@@ -62,7 +71,8 @@ abbrev pub calls_table : Table
 calls_table = record {
   name = codes "calls";
   tree = 1;
-  columns = integer (codes "arrival") ∷ integer (codes "customer") ∷ integer (codes "number") ∷ integer (codes "day") ∷ column_of (codes "reply") Blob ∷ [];
+  columns = integer (codes "arrival") ∷ integer (codes "customer") ∷ integer (codes "number")
+      ∷ integer (codes "day") ∷ column_of (codes "reply") Blob ∷ [];
   key = Some 0;
   primary = 0 ∷ [];
   uniques = (2 ∷ 3 ∷ []) ∷ [];
@@ -78,7 +88,8 @@ abbrev pub ranges_table : Table
 ranges_table = record {
   name = codes "ranges";
   tree = 3;
-  columns = integer (codes "num") ∷ integer (codes "holder") ∷ integer (codes "pair") ∷ integer (codes "low") ∷ integer (codes "high") ∷ integer (codes "mark") ∷ [];
+  columns = integer (codes "num") ∷ integer (codes "holder") ∷ integer (codes "pair")
+      ∷ integer (codes "low") ∷ integer (codes "high") ∷ integer (codes "mark") ∷ [];
   key = Some 0;
   primary = 0 ∷ [];
   uniques = [];
@@ -94,7 +105,9 @@ abbrev pub serials_table : Table
 serials_table = record {
   name = codes "serials";
   tree = 4;
-  columns = integer (codes "pair") ∷ integer (codes "serial") ∷ integer (codes "arrival") ∷ integer (codes "day") ∷ integer (codes "customer") ∷ integer (codes "number") ∷ integer (codes "voided") ∷ [];
+  columns = integer (codes "pair") ∷ integer (codes "serial") ∷ integer (codes "arrival")
+      ∷ integer (codes "day") ∷ integer (codes "customer") ∷ integer (codes "number")
+      ∷ integer (codes "voided") ∷ [];
   key = None;
   primary = 1 ∷ 2 ∷ [];
   uniques = (1 ∷ 2 ∷ []) ∷ [];
@@ -123,10 +136,24 @@ closed_table = record {
 }
 
 abbrev pub calls_index : Index
-calls_index = record { name = codes "sqlite_autoindex_calls_1"; tree = 2; table = 1; columns = 2 ∷ 3 ∷ []; order = plain; is_unique = true }
+calls_index = record {
+  name = codes "sqlite_autoindex_calls_1";
+  tree = 2;
+  table = 1;
+  columns = 2 ∷ 3 ∷ [];
+  order = plain;
+  is_unique = true;
+}
 
 abbrev pub serials_index : Index
-serials_index = record { name = codes "sqlite_autoindex_serials_1"; tree = 5; table = 4; columns = 1 ∷ 2 ∷ []; order = plain; is_unique = true }
+serials_index = record {
+  name = codes "sqlite_autoindex_serials_1";
+  tree = 5;
+  table = 4;
+  columns = 1 ∷ 2 ∷ [];
+  order = plain;
+  is_unique = true;
+}
 
 -- the schema of an empty database
 abbrev pub no_schema : Schema
@@ -134,7 +161,12 @@ no_schema = record { tables = []; indexes = []; views = [] }
 
 -- the first four tables of a ledger, and others after them
 abbrev pub with_others : Schema → Schema
-with_others o = record { tables = head_table ∷ calls_table ∷ ranges_table ∷ serials_table ∷ o.tables; indexes = calls_index ∷ serials_index ∷ o.indexes; views = o.views }
+with_others o = record {
+  tables = head_table ∷ calls_table ∷ ranges_table ∷ serials_table
+      ∷ o.tables;
+  indexes = calls_index ∷ serials_index ∷ o.indexes;
+  views = o.views;
+}
 
 -- closed, and others after it
 abbrev pub closed_first : Schema → Schema
@@ -158,13 +190,18 @@ others_in s = record { tables = drop 4 s.tables; indexes = drop 2 s.indexes; vie
 
 -- and what follows the first five
 abbrev pub others_after_closed : Schema → Schema
-others_after_closed s = record { tables = drop 5 s.tables; indexes = drop 2 s.indexes; views = s.views }
+others_after_closed s = record {
+  tables = drop 5 s.tables;
+  indexes = drop 2 s.indexes;
+  views = s.views;
+}
 
 abbrev pub is_own_tree : ℕ → Bool
 is_own_tree t = (t == 0) || ((t == 1) || ((t == 3) || (t == 4)))
 
 abbrev pub is_own_name : List ℕ → Bool
-is_own_name name = same_name (codes "head") name || (same_name (codes "calls") name || (same_name (codes "ranges") name || same_name (codes "serials") name))
+is_own_name name = same_name (codes "head") name || (same_name (codes "calls") name
+    || (same_name (codes "ranges") name || same_name (codes "serials") name))
 
 abbrev pub refer_apart : List Reference → Bool
 refer_apart refs = list_all (λ r. not (is_own_name r.parent)) refs
@@ -186,7 +223,8 @@ abbrev pub refer_apart_from_closed : List Reference → Bool
 refer_apart_from_closed refs = list_all (λ r. not (same_name (codes "closed") r.parent)) refs
 
 abbrev pub are_apart_from_closed : List Table → Bool
-are_apart_from_closed tables = list_all (λ t. not (t.tree == 6) && refer_apart_from_closed t.references) tables
+are_apart_from_closed tables =
+    list_all (λ t. not (t.tree == 6) && refer_apart_from_closed t.references) tables
 
 abbrev pub index_apart_from_closed : List Index → Bool
 index_apart_from_closed indexes = list_all (λ i. not (i.table == 6)) indexes

@@ -41,7 +41,8 @@ fn refer_apart(references: &[Reference]) -> bool
 }
 
 fn is_apart(table: &Table) -> bool
-    ensures apart { result ≡ (not (table.now.tree == 6) && spec.refer_apart_from_closed table.now.references) }
+    ensures apart { result ≡ (not (table.now.tree == 6) && spec.refer_apart_from_closed
+        table.now.references) }
 {
     table.tree != 6 && refer_apart(table.references.as_slice())
 }
@@ -62,7 +63,8 @@ fn index_apart(indexes: &[Index]) -> bool
 
 // Whether the fifth table is `closed`, and no other has a part in it.
 fn has_closed(tables: &[Table]) -> bool
-    ensures known { IsTrue result ↔ ((drop 4 tables.now ≡ closed_table ∷ drop 5 tables.now) × (spec.are_apart_from_closed (drop 5 tables.now) ≡ true)) }
+    ensures known { IsTrue result ↔ ((drop 4 tables.now ≡ closed_table ∷ drop 5 tables.now)
+        × (spec.are_apart_from_closed (drop 5 tables.now) ≡ true)) }
 {
     let [_, _, _, _, closed, others @ ..] = tables else {
         return false;

@@ -1,13 +1,16 @@
 //! The declared tables are compared with the first four of a ledger.
 
-ghost use Rattle.std.specs.Prelude.{◌≡◌, not, ◌&&◌, ◌↔◌, ℕ, pos, true, [], ◌∷◌, drop, IsTrue, IfSome, IfNone};
+ghost use Rattle.std.specs.Prelude.{◌≡◌, not, ◌&&◌, ◌↔◌, ℕ, pos, true, [], ◌∷◌, drop, IsTrue};
+ghost use Rattle.std.specs.Prelude.{IfSome, IfNone};
 ghost use Rattle.sqlite_value.specs.declared.keys.Collation.TheVariants.{Binary};
 ghost use Rattle.sqlite_value.specs.declared.value.Value.TheVariants.{Int};
 ghost use Rattle.sqlite_sql.specs.declared.ops.BinaryOp.TheVariants.{Compare};
 ghost use Rattle.sqlite_sql.specs.declared.ops.CompareOp.TheVariants.{Eq};
 ghost use Rattle.sqlite_schema.specs.Code.{term_in};
 ghost use Rattle.sqlite_value.specs.Keys.{plain};
-ghost use Rattle.s10_schema.specs.Schema.{column_of, integer, one_is_one, head_table, calls_table, ranges_table, serials_table, calls_index, serials_index, IsLedgerSchema, IsBare, node_at};
+ghost use Rattle.s10_schema.specs.Schema.{column_of, integer, one_is_one, head_table, calls_table};
+ghost use Rattle.s10_schema.specs.Schema.{ranges_table, serials_table, calls_index, serials_index};
+ghost use Rattle.s10_schema.specs.Schema.{IsLedgerSchema, IsBare, node_at};
 ghost use Rattle.s10_schema.specs.Schema as spec;
 
 use sqlite_items::{Items, at};
@@ -166,7 +169,8 @@ fn is_plain_alone(orders: &[Order]) -> bool
 
 // Whether no two rows have the same values at the places.
 fn is_unique_at(table: &Table, expected: &[usize]) -> bool
-    ensures { IsTrue result ↔ ((table.now.uniques ≡ expected.now ∷ []) × (table.now.orders ≡ plain ∷ [])) }
+    ensures { IsTrue result ↔ ((table.now.uniques ≡ expected.now ∷ [])
+        × (table.now.orders ≡ plain ∷ [])) }
 {
     is_one_list(table.uniques.as_slice(), expected) && is_plain_alone(table.orders.as_slice())
 }
@@ -286,7 +290,14 @@ fn is_serials(table: &Table) -> bool
 }
 
 fn is_index(index: &Index, name: &[u8], tree: u32, table: u32, places: &[usize]) -> bool
-    ensures { IsTrue result ↔ (index.now ≡ record { name = name.now; tree = tree; table = table; columns = places.now; order = plain; is_unique = true }) }
+    ensures { IsTrue result ↔ (index.now ≡ record {
+      name = name.now;
+      tree = tree;
+      table = table;
+      columns = places.now;
+      order = plain;
+      is_unique = true;
+    }) }
 {
     index.name.as_slice() == name
         && index.tree == tree
@@ -321,7 +332,8 @@ fn refer_apart(references: &[Reference]) -> bool
 }
 
 fn is_apart(table: &Table) -> bool
-    ensures apart { result ≡ (not (spec.is_own_tree table.now.tree) && spec.refer_apart table.now.references) }
+    ensures apart { result ≡ (not (spec.is_own_tree table.now.tree) && spec.refer_apart
+        table.now.references) }
 {
     !is_own_tree(table.tree) && refer_apart(table.references.as_slice())
 }
@@ -341,7 +353,9 @@ fn index_apart(indexes: &[Index]) -> bool
 }
 
 fn are_tables(tables: &[Table]) -> bool
-    ensures known { IsTrue result ↔ ((tables.now ≡ head_table ∷ calls_table ∷ ranges_table ∷ serials_table ∷ drop 4 tables.now) × (spec.are_apart (drop 4 tables.now) ≡ true)) }
+    ensures known { IsTrue result
+        ↔ ((tables.now ≡ head_table ∷ calls_table ∷ ranges_table ∷ serials_table
+        ∷ drop 4 tables.now) × (spec.are_apart (drop 4 tables.now) ≡ true)) }
 {
     let [head, calls, ranges, serials, others @ ..] = tables else {
         return false;
@@ -354,7 +368,9 @@ fn are_tables(tables: &[Table]) -> bool
 }
 
 fn are_indexes(indexes: &[Index]) -> bool
-    ensures known { IsTrue result ↔ ((indexes.now ≡ calls_index ∷ serials_index ∷ drop 2 indexes.now) × (spec.index_apart (drop 2 indexes.now) ≡ true)) }
+    ensures known { IsTrue result
+        ↔ ((indexes.now ≡ calls_index ∷ serials_index ∷ drop 2 indexes.now)
+        × (spec.index_apart (drop 2 indexes.now) ≡ true)) }
 {
     let [calls, serials, others @ ..] = indexes else {
         return false;

@@ -27,16 +27,20 @@ use Rattle.s10_jobs.specs.Questions.{refusal_words, WordsAsk, IsQuestionRefusal}
 use Rattle.s10_sockets.specs.Questioning.{IsUnasked, IsAsked}
 
 -- of a text that does not read
-pub refused_unasked : (question : Question) (refusal : Refusal) (old new : Option (List ℕ)) (r : Result JobStatus WriteFault) → IsQuestionRefusal question refusal
+pub refused_unasked : (question : Question) (refusal : Refusal) (old new : Option (List ℕ))
+    (r : Result JobStatus WriteFault) → IsQuestionRefusal question refusal
     → IfOk r (λ status. (status ≡ Refused) × Appends old new (refused_line (refusal_words refusal)))
     → IfOk r (λ status. (line : List ℕ) × IsUnasked question status line × Appends old new line)
-refused_unasked question refusal old new (Ok status) is (same, line) = (refused_line (refusal_words refusal), inl (refusal, is, same, refl), line)
+refused_unasked question refusal old new (Ok status) is (same, line) =
+    (refused_line (refusal_words refusal), inl (refusal, is, same, refl), line)
 refused_unasked question refusal old new (Err fault) is says = tt
 
 -- of a link that there is not
-pub unbound_unasked : (question : Question) (to : Peer) (body : Body) (fault : LinkFault) (old new : Option (List ℕ)) (r : Result JobStatus WriteFault)
+pub unbound_unasked : (question : Question) (to : Peer) (body : Body) (fault : LinkFault)
+    (old new : Option (List ℕ)) (r : Result JobStatus WriteFault)
     → SpellsPeer question.to.now to → WordsAsk question.body body → fault ≡ Bind
-    → IfOk r (λ status. (status ≡ Failed) × Appends old new (line_of (codes "link") (link_fault_words fault)))
+    → IfOk r (λ status. (status ≡ Failed)
+    × Appends old new (line_of (codes "link") (link_fault_words fault)))
     → IfOk r (λ status. (line : List ℕ) × IsUnasked question status line × Appends old new line)
 unbound_unasked question to body Bind old new (Ok status) peer asks is (same, line) =
     (line_of (codes "link") (link_fault_words Bind), inr (to, body, peer, asks, same, refl), line)
@@ -44,19 +48,23 @@ unbound_unasked question to body fault old new (Ok status) peer asks is says = a
 unbound_unasked question to body fault old new (Err failed) peer asks is says = tt
 
 -- of a call that began on a new link
-pub asked_over : (question : Question) (to : Peer) (body : Body) (begun : Trace) (link : BoundLink) (old new : Option (List ℕ)) (r : Result JobStatus WriteFault)
+pub asked_over : (question : Question) (to : Peer) (body : Body) (begun : Trace) (link : BoundLink)
+    (old new : Option (List ℕ)) (r : Result JobStatus WriteFault)
     → SpellsPeer question.to.now to → WordsAsk question.body body → begun ≡ new_trace
     → ((client : ClientState) × (called : Result Reply CallFault)
-    × Calls (new_client question.customer question.number question.number) client begun link.trace to body question.tries called
+    × Calls (new_client question.customer question.number question.number) client begun link.trace
+    to body question.tries called
     × IfOk r (λ status. (status ≡ asked_status called) × Appends old new (asked_line called)))
     → IsAsked question link old new r
-asked_over question to body begun link old new r peer asks fresh (client, called, calls, shows) = record {
-  to = to;
-  body = body;
-  peer = peer;
-  asks = asks;
-  left = client;
-  called = called;
-  calls = subst (λ (t : Trace). Calls (new_client question.customer question.number question.number) client t link.trace to body question.tries called) fresh calls;
-  shows = shows;
-}
+asked_over question to body begun link old new r peer asks fresh (client, called, calls, shows) =
+    record {
+      to = to;
+      body = body;
+      peer = peer;
+      asks = asks;
+      left = client;
+      called = called;
+      calls = subst (λ (t : Trace). Calls (new_client question.customer question.number question.number)
+          client t link.trace to body question.tries called) fresh calls;
+      shows = shows;
+    }

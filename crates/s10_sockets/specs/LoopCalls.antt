@@ -39,13 +39,18 @@ calls_of c (body ∷ bodies) = (c, body) ∷ calls_of (without_pending (after_su
 
 -- the post's number 1, then customer 7's numbers 1 to 4
 abbrev pub loop_calls : List (ClientState × Body)
-loop_calls = calls_of (new_client 0 1 1) (granted_range ∷ []) ++ calls_of (new_client 7 1 4) customer_calls
+loop_calls = calls_of (new_client 0 1 1) (granted_range ∷ []) ++ calls_of (new_client 7 1 4)
+    customer_calls
 
 -- the calls went over a link one after another, each in five tries, up to the first that was not done: the text has the line of
 -- each, and the status is that of the last
-abbrev pub AreMadeInTurn : Peer → List (ClientState × Body) → Trace → Trace → JobStatus → List ℕ → Type 0
+abbrev pub AreMadeInTurn : Peer → List (ClientState × Body) → Trace → Trace → JobStatus → List ℕ
+    → Type 0
 AreMadeInTurn to [] old new status text = (new ≡ old) × (status ≡ Done) × (text ≡ [])
 AreMadeInTurn to (call ∷ calls) old new status text =
-    (left : ClientState) × (between : Trace) × (called : Result Reply CallFault) × Calls call.0 left old between to call.1 5 called
-    × (((asked_status called ≡ Done) × (rest : List ℕ) × (text ≡ asked_line called ++ rest) × AreMadeInTurn to calls between new status rest)
-    ⊎ ((asked_status called ≢ Done) × (new ≡ between) × (status ≡ asked_status called) × (text ≡ asked_line called)))
+    (left : ClientState) × (between : Trace) × (called : Result Reply CallFault)
+    × Calls call.0 left old between to call.1 5 called
+    × (((asked_status called ≡ Done) × (rest : List ℕ) × (text ≡ asked_line called ++ rest)
+    × AreMadeInTurn to calls between new status rest)
+    ⊎ ((asked_status called ≢ Done) × (new ≡ between) × (status ≡ asked_status called)
+    × (text ≡ asked_line called)))

@@ -23,17 +23,22 @@ use Rattle.s10_jobs.specs.Questions.{refusal_words, WordsAsk, IsQuestionRefusal}
 -- nothing was asked: the first text that does not read is refused; else there is no link
 abbrev pub IsUnasked : Question → JobStatus → List ℕ → Type 0
 IsUnasked question status line =
-    ((refusal : Refusal) × IsQuestionRefusal question refusal × (status ≡ Refused) × (line ≡ refused_line (refusal_words refusal)))
-    ⊎ ((to : Peer) × (body : Body) × SpellsPeer question.to.now to × WordsAsk question.body body × (status ≡ Failed) × (line ≡ line_of (codes "link") (codes "bind" ∷ [])))
+    ((refusal : Refusal) × IsQuestionRefusal question refusal × (status ≡ Refused)
+    × (line ≡ refused_line (refusal_words refusal)))
+    ⊎ ((to : Peer) × (body : Body) × SpellsPeer question.to.now to × WordsAsk question.body body
+    × (status ≡ Failed) × (line ≡ line_of (codes "link") (codes "bind" ∷ [])))
 
 -- what the words say was asked in one call of a new client of the customer, with the question's one number, and that is all that
 -- this link carried; where the writer did not fail the call's line was written
-pub record IsAsked (question : Question) (link : BoundLink) (old new : Option (List ℕ)) (result : Result JobStatus WriteFault) : Type 0 where
+pub record IsAsked (question : Question) (link : BoundLink) (old new : Option (List ℕ))
+    (result : Result JobStatus WriteFault) : Type 0 where
   pub to : Peer
   pub body : Body
   pub peer : SpellsPeer question.to.now to
   pub asks : WordsAsk question.body body
   pub left : ClientState
   pub called : Result Reply CallFault
-  pub calls : Calls (new_client question.customer question.number question.number) left new_trace link.trace to body question.tries called
-  pub shows : IfOk result (λ status. (status ≡ asked_status called) × Appends old new (asked_line called))
+  pub calls : Calls (new_client question.customer question.number question.number) left new_trace
+      link.trace to body question.tries called
+  pub shows : IfOk result (λ status. (status ≡ asked_status called)
+      × Appends old new (asked_line called))

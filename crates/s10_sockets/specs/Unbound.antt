@@ -7,6 +7,8 @@ use Rattle.s10_jobs.specs.declared.job_status.JobStatus.{JobStatus}
 use Rattle.s10_jobs.specs.declared.job_status.JobStatus.TheVariants.{Failed}
 
 -- there is no link: the book is as it was, and the line says so
-abbrev pub IsUnbound : {B : Type 0} → B → B → Option (List ℕ) → Option (List ℕ) → Result JobStatus WriteFault → Type 0
+abbrev pub IsUnbound : {B : Type 0} → B → B → Option (List ℕ) → Option (List ℕ)
+    → Result JobStatus WriteFault → Type 0
 IsUnbound old new held now result =
-    (new ≡ old) × IfOk result (λ status. (status ≡ Failed) × Appends held now (line_of (codes "link") (codes "bind" ∷ [])))
+    (new ≡ old) × IfOk result (λ status. (status ≡ Failed)
+    × Appends held now (line_of (codes "link") (codes "bind" ∷ [])))

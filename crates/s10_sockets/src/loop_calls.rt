@@ -4,7 +4,8 @@ ghost use Rattle.std.specs.Prelude.{◌≡◌, ◌∷◌, [], IfOk};
 ghost use Rattle.s10_wire.specs.declared.body.Body.TheVariants.{Draw};
 ghost use Rattle.s10_link.specs.Link.{LeadsTo};
 ghost use Rattle.s10_jobs.specs.Shown.{Prints};
-ghost use Rattle.s10_sockets.specs.LoopCalls.{ra, gb, first_of_range, granted_range, customer_calls, calls_of, loop_calls, AreMadeInTurn};
+ghost use Rattle.s10_sockets.specs.LoopCalls.{ra, gb, first_of_range, granted_range};
+ghost use Rattle.s10_sockets.specs.LoopCalls.{customer_calls, calls_of, loop_calls, AreMadeInTurn};
 
 use s10_core::{Country, Id, Serial, Service};
 use s10_ends::Client;
@@ -50,7 +51,8 @@ fn ask_all<L: Link, W: Write>(
     out: &mut W,
 ) -> Result<JobStatus, WriteFault>
     ensures asked { IfOk result (λ status. Prints (W.contents out.old) (W.contents out.new)
-        (AreMadeInTurn to (calls_of client.old bodies.now) (L.trace_of link.old) (L.trace_of link.new) status)) }
+        (AreMadeInTurn to (calls_of client.old bodies.now) (L.trace_of link.old)
+        (L.trace_of link.new) status)) }
     ensures led { LeadsTo L.step link.old link.new }
 {
     for body in bodies {

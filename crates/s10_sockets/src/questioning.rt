@@ -31,9 +31,11 @@ pub fn run_question<R: Net + Eprint, W: Write>(
     question: &Question<'_>,
     out: &mut W,
 ) -> (Result<JobStatus, WriteFault>, Option<UdpLink>)
-    ensures unasked { result.1 ≡ None → IfOk result.0 (λ status. (line : List ℕ) × IsUnasked question.now status line
+    ensures unasked { result.1 ≡ None
+        → IfOk result.0 (λ status. (line : List ℕ) × IsUnasked question.now status line
         × Appends (W.contents out.old) (W.contents out.new) line) }
-    ensures asked { IfSome result.1 (λ link. IsAsked question.now link (W.contents out.old) (W.contents out.new) result.0) }
+    ensures asked { IfSome result.1 (λ link. IsAsked question.now link (W.contents out.old)
+        (W.contents out.new) result.0) }
 {
     let (to, body) = match question.read() {
         Ok(read) => read,

@@ -31,8 +31,10 @@ where
     R: Net + Clock + Eprint,
     B: GroupCommit,
     W: Write,
-    ensures unbound { result.1 ≡ None → IsUnbound book result.2 (W.contents out.old) (W.contents out.new) result.0 }
-    ensures served { IfSome result.1 (λ link. Serves (IsBatch B.faults B.honest B.terms B.history B.committed day)
+    ensures unbound { result.1 ≡ None → IsUnbound book result.2 (W.contents out.old)
+        (W.contents out.new) result.0 }
+    ensures served { IfSome result.1
+        (λ link. Serves (IsBatch B.faults B.honest B.terms B.history B.committed day)
         (new_trace, book) (link.trace, result.2)
         (W.contents out.old) (W.contents out.new) count result.0) }
 {

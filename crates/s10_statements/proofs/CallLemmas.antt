@@ -1,5 +1,6 @@
 -- The calls that are written so far, of those that are kept together.
-use Rattle.std.proofs.Common.{◌≡◌, ◌≢◌, inl, ℕ, ◌+◌, ◌<◌, List, [], ◌∷◌, map, ◌++◌, length, take, get_or, IsTrue, refl, sym, ap, subst, ◌∙◌, arith}
+use Rattle.std.proofs.Common.{◌≡◌, ◌≢◌, inl, ℕ, ◌+◌, ◌<◌, List, [], ◌∷◌, map, ◌++◌, length, take}
+use Rattle.std.proofs.Common.{get_or, IsTrue, refl, sym, ap, subst, ◌∙◌, arith}
 use Rattle.std.proofs.Math.Logic.{∥∥₁_map, ∥∥₁_elim, ∥∥₁_prop}
 use Rattle.std.proofs.lemmas.List.{take_more}
 use Rattle.std.proofs.lemmas.List.Sorted.{IsPermutation-map, IsPermutation-trans, IsPermutation-sym}
@@ -13,11 +14,16 @@ use Rattle.sqlite.proofs.InsideLemmas.{keeps_then}
 use Rattle.sqlite.proofs.StateLemmas.{survives_then}
 use Rattle.s10_rows.specs.RowWrites.{FindAtMostOne}
 
-shown_same : {X Y : Type 0} (shown : X → Y) (xs ys : List X) (vs : List Y) → HaveSameRows (map shown xs) vs → HaveSameRows xs ys → HaveSameRows (map shown ys) vs
-shown_same shown xs ys vs p q = ∥∥₁_elim p ∥∥₁_prop (λ a. ∥∥₁_map q (λ b. IsPermutation-trans _ _ _ (IsPermutation-sym _ _ (IsPermutation-map shown xs ys b)) a))
+shown_same : {X Y : Type 0} (shown : X → Y) (xs ys : List X) (vs : List Y)
+    → HaveSameRows (map shown xs) vs → HaveSameRows xs ys → HaveSameRows (map shown ys) vs
+shown_same shown xs ys vs p q =
+    ∥∥₁_elim p ∥∥₁_prop
+    (λ a. ∥∥₁_map q
+    (λ b. IsPermutation-trans _ _ _ (IsPermutation-sym _ _ (IsPermutation-map shown xs ys b)) a))
 
 -- tables with the rows of a call are those that it makes, in any order
-pub written_so : (db : Database) (w : CallWrite) (before after : Tables) → Writes w before after → HasTables db (with_call w before) → HasTables db after
+pub written_so : (db : Database) (w : CallWrite) (before after : Tables) → Writes w before after
+    → HasTables db (with_call w before) → HasTables db after
 written_so db w before after it held = record {
   schema = held.schema;
   heads = rw it.heads held.heads;
@@ -29,7 +35,9 @@ written_so db w before after it held = record {
 }
 
 -- of calls the last one comes after those before it
-last_written : (ws : List CallWrite) (w : CallWrite) (before after : Tables) → AreWritten (ws ++ w ∷ []) before after → (between : Tables) × AreWritten ws before between × Writes w between after
+last_written : (ws : List CallWrite) (w : CallWrite) (before after : Tables)
+    → AreWritten (ws ++ w ∷ []) before after → (between : Tables) × AreWritten ws before between
+    × Writes w between after
 unfolding AreWritten
 last_written [] w before after it = (before, refl, subst (Writes w before) (sym it.2) it.1)
 last_written (x ∷ ws) w before after it =
@@ -38,7 +46,8 @@ last_written (x ∷ ws) w before after it =
 
 -- in a transaction, tables are made into what the calls make of them
 pub record AreCalled (old new : State) (ws : List CallWrite) : Type 0 where
-  pub made : HasCleanDisk new → IsTrue old.in_transaction → (before after : Tables) → AreWritten ws before after → HasTables old.now before → HasTables new.now after
+  pub made : HasCleanDisk new → IsTrue old.in_transaction → (before after : Tables)
+      → AreWritten ws before after → HasTables old.now before → HasTables new.now after
   pub inside : HasCleanDisk new → IsTrue old.in_transaction → IsTrue new.in_transaction
   pub kept : HasCleanDisk new → IsTrue old.in_transaction → KeepsCommit old new
   pub survives : Survives old new (λ _. ⊥)
@@ -50,33 +59,52 @@ none_called s = record {
   made = λ clean inside before after written held. subst (HasTables s.now) (sym written) held;
   inside = λ clean inside. inside;
   kept = λ clean inside. record { was_open = λ h. h; committed = λ _. refl };
-  survives = record { clean = omega arith; shield = λ h. h; counts = omega arith; limit = refl; closes = λ _ h. inl h; crash = λ _ db h. inl h };
+  survives = record {
+    clean = omega arith;
+    shield = λ h. h;
+    counts = omega arith;
+    limit = refl;
+    closes = λ _ h. inl h;
+    crash = λ _ db h. inl h;
+  };
   was_open = λ clean inside some. absurd (some refl);
 }
 
-module _ (a b c : State) (ws : List CallWrite) (so_far : AreCalled a b ws) (survives : Survives b c (λ _. ⊥)) (kept : HasCleanDisk c → IsTrue b.in_transaction → KeepsCommit b c) where
+module _ (a b c : State) (ws : List CallWrite) (so_far : AreCalled a b ws)
+    (survives : Survives b c (λ _. ⊥)) (kept : HasCleanDisk c → IsTrue b.in_transaction
+    → KeepsCommit b c) where
   mid : HasCleanDisk c → HasCleanDisk b
   mid clean = omega (arith, survives.clean, clean)
 
   pub kept_still : HasCleanDisk c → IsTrue a.in_transaction → KeepsCommit a c
-  kept_still clean inside = keeps_then a b c (so_far.kept (mid clean) inside) (kept clean (so_far.inside (mid clean) inside))
+  kept_still clean inside = keeps_then a b c (so_far.kept (mid clean) inside)
+      (kept clean (so_far.inside (mid clean) inside))
 
   pub survives_still : Survives a c (λ _. ⊥)
-  survives_still = survives_then a b c _ _ _ (λ _ db none. none) (λ _ db none. none) so_far.survives survives
+  survives_still = survives_then a b c _ _ _ (λ _ db none. none) (λ _ db none. none) so_far.survives
+      survives
 
 -- one more call of the list is written
-pub one_called : (a b c : State) (ws : List CallWrite) (i : ℕ) (w : CallWrite) → i < length ws → w ≡ get_or ws i w → AreCalled a b (take i ws) → Survives b c (λ _. ⊥)
-    → (HasCleanDisk c → IsTrue b.in_transaction → IsTrue b.is_open) → (HasCleanDisk c → IsTrue b.in_transaction → KeepsCommit b c) → (HasCleanDisk c → IsTrue b.in_transaction → IsTrue c.in_transaction)
-    → (HasCleanDisk c → IsTrue b.in_transaction → (tables : Tables) → HasTables b.now tables → FindAtMostOne w.serials.items tables.serials → HasTables c.now (with_call w tables)) → AreCalled a c (take (i + 1) ws)
+pub one_called : (a b c : State) (ws : List CallWrite) (i : ℕ) (w : CallWrite) → i < length ws
+    → w ≡ get_or ws i w → AreCalled a b (take i ws) → Survives b c (λ _. ⊥)
+    → (HasCleanDisk c → IsTrue b.in_transaction → IsTrue b.is_open)
+    → (HasCleanDisk c → IsTrue b.in_transaction → KeepsCommit b c)
+    → (HasCleanDisk c → IsTrue b.in_transaction → IsTrue c.in_transaction)
+    → (HasCleanDisk c → IsTrue b.in_transaction → (tables : Tables) → HasTables b.now tables
+    → FindAtMostOne w.serials.items tables.serials → HasTables c.now (with_call w tables))
+    → AreCalled a c (take (i + 1) ws)
 one_called a b c ws i w within is so_far survives opened kept goes_on made =
-    let more : take (i + 1) ws ≡ take i ws ++ w ∷ [] = take_more ws i w within ∙ ap (λ (x : CallWrite). take i ws ++ x ∷ []) (sym is) in
+    let more : take (i + 1) ws ≡ take i ws ++ w ∷ [] = take_more ws i w within
+    ∙ ap (λ (x : CallWrite). take i ws ++ x ∷ []) (sym is) in
     let mid : HasCleanDisk c → HasCleanDisk b = λ clean. omega (arith, survives.clean, clean) in
     record {
       made = λ clean inside before after written held.
           let last = last_written (take i ws) w before after (rw more at written) in
-          written_so c.now w last.0 after last.2 (made clean (so_far.inside (mid clean) inside) last.0 (so_far.made (mid clean) inside before last.0 last.1 held) last.2.few);
+          written_so c.now w last.0 after last.2 (made clean (so_far.inside (mid clean) inside)
+          last.0 (so_far.made (mid clean) inside before last.0 last.1 held) last.2.few);
       inside = λ clean inside. goes_on clean (so_far.inside (mid clean) inside);
       kept = kept_still a b c (take i ws) so_far survives kept;
       survives = survives_still a b c (take i ws) so_far survives kept;
-      was_open = λ clean inside some. (so_far.kept (mid clean) inside).was_open (opened clean (so_far.inside (mid clean) inside));
+      was_open = λ clean inside some. (so_far.kept (mid clean) inside).was_open
+          (opened clean (so_far.inside (mid clean) inside));
     }

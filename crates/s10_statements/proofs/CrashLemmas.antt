@@ -20,7 +20,9 @@ either (inl a) f h = inl (f a)
 either (inr b) f h = inr (h b)
 
 -- a query that only reads commits nothing
-pub commits_none : (sql : List ℕ) (params : Row) (old : State) (schema : Schema) → old.now.schema ≡ schema → IsPlain (understood schema sql) → (db : Trees) → ¬ CommitsShowing sql params old db
+pub commits_none : (sql : List ℕ) (params : Row) (old : State) (schema : Schema)
+    → old.now.schema ≡ schema → IsPlain (understood schema sql) → (db : Trees)
+    → ¬ CommitsShowing sql params old db
 unfolding CommitsShowing
 commits_none sql params old schema has plain db h =
     let known = sym (ap (λ s. understood s sql) has) ∙ h.1.is in
@@ -29,12 +31,22 @@ commits_none sql params old schema has plain db h =
     differ (subst IsSome none h.2)
 
 -- what commits nothing leaves what it left before
-pub spared : (old new : State) → Survives old new (λ _. ⊥) → HasCleanDisk new → (db : Trees) → new.may_leave db → old.may_leave db
+pub spared : (old new : State) → Survives old new (λ _. ⊥) → HasCleanDisk new → (db : Trees)
+    → new.may_leave db → old.may_leave db
 spared old new it clean db left = first (λ x. x) (it.crash clean db left)
 
 -- the trees that were shown, under the declarations of a ledger
-pub tables_left : (shown : Database) (schema : Schema) (db : Trees) (tables : Tables) → IsClosedSchema schema → db ≡ shown.trees → HasTables shown tables
+pub tables_left : (shown : Database) (schema : Schema) (db : Trees) (tables : Tables)
+    → IsClosedSchema schema → db ≡ shown.trees → HasTables shown tables
     → HasTables (record { schema = schema; trees = db }) tables
 tables_left shown schema db tables has is it =
     subst (λ (trees : Trees). HasTables (record { schema = schema; trees = trees }) tables) (sym is)
-    (record { schema = has; heads = it.heads; calls = it.calls; ranges = it.ranges; serials = it.serials; numbered = it.numbered; closed = it.closed })
+    (record {
+      schema = has;
+      heads = it.heads;
+      calls = it.calls;
+      ranges = it.ranges;
+      serials = it.serials;
+      numbered = it.numbered;
+      closed = it.closed;
+    })

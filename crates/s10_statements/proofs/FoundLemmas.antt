@@ -1,5 +1,6 @@
 -- What the reads find, as typed rows.
-use Rattle.std.proofs.Common.{◌≡◌, ℤ, List, [], ◌∷◌, map, filter, refl, sym, subst, ◌∙◌, int_cmp, Less, All, IsTrue, arith}
+use Rattle.std.proofs.Common.{◌≡◌, ℤ, List, [], ◌∷◌, map, filter, refl, sym, subst, ◌∙◌, int_cmp}
+use Rattle.std.proofs.Common.{Less, All, IsTrue, arith}
 use Rattle.std.proofs.Math.Logic.{∥∥₁_elim, ∥∥₁_map}
 use Rattle.std.specs.List.Sorted.{IsPermutation}
 use Rattle.std.proofs.lemmas.List.Sorted.{IsPermutation-sym, IsPermutation-map}
@@ -18,66 +19,115 @@ use Rattle.s10_rows.specs.declared.closed_row.ClosedRow.{ClosedRow}
 use Rattle.s10_rows.specs.CallRow.{StoredCall}
 use Rattle.s10_schema.specs.Schema.{IsLedgerSchema, IsClosedSchema}
 use Rattle.s10_rows.specs.Tables.{Tables, HaveSameRows}
-use Rattle.s10_statements.specs.Shown.{HasTables, shown_head, shown_call, shown_range, shown_serial, shown_closed, head_columns, call_columns, range_columns, serial_columns, closed_columns, serial_front, HasIntegerRowid}
+use Rattle.s10_statements.specs.Shown.{HasTables, shown_head, shown_call, shown_range, shown_serial}
+use Rattle.s10_statements.specs.Shown.{shown_closed, head_columns, call_columns, range_columns}
+use Rattle.s10_statements.specs.Shown.{serial_columns, closed_columns, serial_front}
+use Rattle.s10_statements.specs.Shown.{HasIntegerRowid}
 use Rattle.s10_rows.specs.Selected.{is_within}
-use Rattle.s10_statements.specs.Statements.{select_head_sql, select_calls_sql, select_ranges_sql, select_serials_within_sql, select_serials_sql, select_closed_sql}
+use Rattle.s10_statements.specs.Statements.{select_head_sql, select_calls_sql, select_ranges_sql}
+use Rattle.s10_statements.specs.Statements.{select_serials_within_sql, select_serials_sql}
+use Rattle.s10_statements.specs.Statements.{select_closed_sql}
 use Rattle.s10_statements.proofs.ReadLemmas.{read_back}
 use Rattle.s10_statements.proofs.GoneLemmas.{all_moved, all_of_map}
-use Rattle.s10_statements.proofs.AnswerLemmas.{wide_columns, call_from, range_from, head_shows, calls_shows, calls_rise, ranges_shows, ranges_rise, within_shows, within_params, within_test, within_selects, serials_shows, closed_from, closed_shows, closed_rise}
+use Rattle.s10_statements.proofs.AnswerLemmas.{wide_columns, call_from, range_from, head_shows}
+use Rattle.s10_statements.proofs.AnswerLemmas.{calls_shows, calls_rise, ranges_shows, ranges_rise}
+use Rattle.s10_statements.proofs.AnswerLemmas.{within_shows, within_params, within_test}
+use Rattle.s10_statements.proofs.AnswerLemmas.{within_selects, serials_shows, closed_from}
+use Rattle.s10_statements.proofs.AnswerLemmas.{closed_shows, closed_rise}
 
 all_in_turn : {X : Type 0} (P : X → Type 0) (xs : List X) → All P xs → AllByRecursion P xs
 all_in_turn P [] each = tt
 all_in_turn P (x ∷ xs) each = (each 0 x (omega arith), all_in_turn P xs (All-tail P x xs each))
 
-whole : {X : Type 0} (shown : X → Row) (vs rows : List Row) (found : List X) → IsPermutation vs rows → map shown found ≡ rows → HaveSameRows (map shown found) vs
-whole shown vs rows found p e = ∣ IsPermutation-sym vs (map shown found) (subst (IsPermutation vs) (sym e) p) ∣₁
+whole : {X : Type 0} (shown : X → Row) (vs rows : List Row) (found : List X) → IsPermutation vs rows
+    → map shown found ≡ rows → HaveSameRows (map shown found) vs
+whole shown vs rows found p e = ∣ IsPermutation-sym vs (map shown found)
+    (subst (IsPermutation vs) (sym e) p) ∣₁
 
-module _ (params : Row) (old new : State) (rows : List Row) (has : IsLedgerSchema old.now.schema) where
-  pub head_found : (found : List HeadRow) → Shown select_head_sql params old new rows → map shown_head found ≡ rows → HaveSameRows (map shown_head found) (map head_columns (old.now.trees 0))
-  head_found found h typed = whole shown_head (map head_columns (old.now.trees 0)) rows found (head_shows params old new rows has h) typed
+module _ (params : Row) (old new : State) (rows : List Row)
+    (has : IsLedgerSchema old.now.schema) where
+  pub head_found : (found : List HeadRow) → Shown select_head_sql params old new rows
+      → map shown_head found ≡ rows → HaveSameRows (map shown_head found)
+      (map head_columns (old.now.trees 0))
+  head_found found h typed = whole shown_head (map head_columns (old.now.trees 0)) rows found
+      (head_shows params old new rows has h) typed
 
-  pub calls_found : (found : List StoredCall) → Shown select_calls_sql params old new rows → map shown_call found ≡ rows → HaveSameRows (map shown_call found) (map call_columns (old.now.trees 1))
-  calls_found found h typed = whole shown_call (map call_columns (old.now.trees 1)) rows found (calls_shows params old new rows has h) typed
+  pub calls_found : (found : List StoredCall) → Shown select_calls_sql params old new rows
+      → map shown_call found ≡ rows → HaveSameRows (map shown_call found)
+      (map call_columns (old.now.trees 1))
+  calls_found found h typed = whole shown_call (map call_columns (old.now.trees 1)) rows found
+      (calls_shows params old new rows has h) typed
 
-  pub ranges_found : (found : List RangeRow) → Shown select_ranges_sql params old new rows → map shown_range found ≡ rows → HaveSameRows (map shown_range found) (map range_columns (old.now.trees 3))
-  ranges_found found h typed = whole shown_range (map range_columns (old.now.trees 3)) rows found (ranges_shows params old new rows has h) typed
+  pub ranges_found : (found : List RangeRow) → Shown select_ranges_sql params old new rows
+      → map shown_range found ≡ rows → HaveSameRows (map shown_range found)
+      (map range_columns (old.now.trees 3))
+  ranges_found found h typed = whole shown_range (map range_columns (old.now.trees 3)) rows found
+      (ranges_shows params old new rows has h) typed
 
-  pub serials_found : (found : List SerialRow) → Shown select_serials_sql params old new rows → map shown_serial found ≡ map serial_front rows
+  pub serials_found : (found : List SerialRow) → Shown select_serials_sql params old new rows
+      → map shown_serial found ≡ map serial_front rows
       → HaveSameRows (map shown_serial found) (map serial_columns (old.now.trees 4))
   serials_found found h typed =
-      let wide : IsPermutation (map serial_front (map wide_columns (old.now.trees 4))) (map serial_front rows) = IsPermutation-map serial_front _ _ (serials_shows params old new rows has h) in
-      whole shown_serial (map serial_columns (old.now.trees 4)) (map serial_front rows) found (rw (map-map serial_front wide_columns (old.now.trees 4)) at wide) typed
+      let wide : IsPermutation (map serial_front (map wide_columns (old.now.trees 4)))
+      (map serial_front rows) =
+      IsPermutation-map serial_front _ _ (serials_shows params old new rows has h) in
+      whole shown_serial (map serial_columns (old.now.trees 4)) (map serial_front rows) found
+      (rw (map-map serial_front wide_columns (old.now.trees 4)) at wide) typed
 
-  pub serials_numbered : Shown select_serials_sql params old new rows → All (λ v. IsTrue (is_int (column v 7))) rows → AllByRecursion HasIntegerRowid (old.now.trees 4)
+  pub serials_numbered : Shown select_serials_sql params old new rows
+      → All (λ v. IsTrue (is_int (column v 7))) rows
+      → AllByRecursion HasIntegerRowid (old.now.trees 4)
   serials_numbered h each =
       all_of_map (λ v. IsTrue (is_int (column v 7))) wide_columns (old.now.trees 4)
-      (all_moved (λ v. IsTrue (is_int (column v 7))) rows (map wide_columns (old.now.trees 4)) (IsPermutation-sym _ _ (serials_shows params old new rows has h)) (all_in_turn (λ v. IsTrue (is_int (column v 7))) rows each))
+      (all_moved (λ v. IsTrue (is_int (column v 7))) rows (map wide_columns (old.now.trees 4))
+      (IsPermutation-sym _ _ (serials_shows params old new rows has h))
+      (all_in_turn (λ v. IsTrue (is_int (column v 7))) rows each))
 
-  pub calls_in_order : (tables : Tables) → HasTables old.now tables → IsAscending (λ a b. int_cmp a.arrival b.arrival ≡ Less) tables.calls → (found : List StoredCall) → Shown select_calls_sql params old new rows
+  pub calls_in_order : (tables : Tables) → HasTables old.now tables
+      → IsAscending (λ a b. int_cmp a.arrival b.arrival ≡ Less) tables.calls
+      → (found : List StoredCall) → Shown select_calls_sql params old new rows
       → map shown_call found ≡ rows → found ≡ tables.calls
   calls_in_order tables held up found h typed =
-      let same : rows ≡ map shown_call tables.calls = ∥∥₁_elim held.calls (rows_set _ _) (λ p. calls_rise params old new rows has tables.calls up p h) in
+      let same : rows ≡ map shown_call tables.calls = ∥∥₁_elim held.calls (rows_set _ _)
+      (λ p. calls_rise params old new rows has tables.calls up p h) in
       read_back shown_call call_from (λ x. refl) found tables.calls (typed ∙ same)
 
-  pub ranges_in_order : (tables : Tables) → HasTables old.now tables → IsAscending (λ a b. int_cmp a.num b.num ≡ Less) tables.ranges → (found : List RangeRow) → Shown select_ranges_sql params old new rows
+  pub ranges_in_order : (tables : Tables) → HasTables old.now tables
+      → IsAscending (λ a b. int_cmp a.num b.num ≡ Less) tables.ranges → (found : List RangeRow)
+      → Shown select_ranges_sql params old new rows
       → map shown_range found ≡ rows → found ≡ tables.ranges
   ranges_in_order tables held up found h typed =
-      let same : rows ≡ map shown_range tables.ranges = ∥∥₁_elim held.ranges (rows_set _ _) (λ p. ranges_rise params old new rows has tables.ranges up p h) in
+      let same : rows ≡ map shown_range tables.ranges = ∥∥₁_elim held.ranges (rows_set _ _)
+      (λ p. ranges_rise params old new rows has tables.ranges up p h) in
       read_back shown_range range_from (λ x. refl) found tables.ranges (typed ∙ same)
 
-module _ (params : Row) (old new : State) (rows : List Row) (has : IsClosedSchema old.now.schema) where
-  pub closed_found : (found : List ClosedRow) → Shown select_closed_sql params old new rows → map shown_closed found ≡ rows → HaveSameRows (map shown_closed found) (map closed_columns (old.now.trees 6))
-  closed_found found h typed = whole shown_closed (map closed_columns (old.now.trees 6)) rows found (closed_shows params old new rows has h) typed
+module _ (params : Row) (old new : State) (rows : List Row)
+    (has : IsClosedSchema old.now.schema) where
+  pub closed_found : (found : List ClosedRow) → Shown select_closed_sql params old new rows
+      → map shown_closed found ≡ rows → HaveSameRows (map shown_closed found)
+      (map closed_columns (old.now.trees 6))
+  closed_found found h typed = whole shown_closed (map closed_columns (old.now.trees 6)) rows found
+      (closed_shows params old new rows has h) typed
 
-  pub closed_in_order : (tables : Tables) → HasTables old.now tables → IsAscending (λ a b. int_cmp a.num b.num ≡ Less) tables.closed → (found : List ClosedRow) → Shown select_closed_sql params old new rows
+  pub closed_in_order : (tables : Tables) → HasTables old.now tables
+      → IsAscending (λ a b. int_cmp a.num b.num ≡ Less) tables.closed → (found : List ClosedRow)
+      → Shown select_closed_sql params old new rows
       → map shown_closed found ≡ rows → found ≡ tables.closed
   closed_in_order tables held up found h typed =
-      let same : rows ≡ map shown_closed tables.closed = ∥∥₁_elim held.closed (rows_set _ _) (λ p. closed_rise params old new rows has tables.closed up p h) in
+      let same : rows ≡ map shown_closed tables.closed = ∥∥₁_elim held.closed (rows_set _ _)
+      (λ p. closed_rise params old new rows has tables.closed up p h) in
       read_back shown_closed closed_from (λ x. refl) found tables.closed (typed ∙ same)
 
-pub within_found : (pair low high : ℤ) (old new : State) (rows : List Row) → (tables : Tables) → HasTables old.now tables → (found : List SerialRow) → Shown select_serials_within_sql (within_params pair low high) old new rows
-    → map shown_serial found ≡ rows → HaveSameRows (filter (is_within pair low high) tables.serials) found
+pub within_found : (pair low high : ℤ) (old new : State) (rows : List Row) → (tables : Tables)
+    → HasTables old.now tables → (found : List SerialRow)
+    → Shown select_serials_within_sql (within_params pair low high) old new rows
+    → map shown_serial found ≡ rows → HaveSameRows (filter (is_within pair low high) tables.serials)
+    found
 within_found pair low high old new rows tables held found h typed =
-    let shows : IsPermutation (filter (within_test (within_params pair low high)) (map serial_columns (old.now.trees 4))) (map shown_serial found) =
-    subst (IsPermutation (filter (within_test (within_params pair low high)) (map serial_columns (old.now.trees 4)))) (sym typed) (within_shows (within_params pair low high) old new rows held.schema.ledger h) in
-    ∥∥₁_map held.serials (λ p. within_selects pair low high tables.serials found (map serial_columns (old.now.trees 4)) p shows)
+    let shows : IsPermutation (filter (within_test (within_params pair low high))
+    (map serial_columns (old.now.trees 4))) (map shown_serial found) =
+    subst (IsPermutation (filter (within_test (within_params pair low high))
+    (map serial_columns (old.now.trees 4)))) (sym typed)
+    (within_shows (within_params pair low high) old new rows held.schema.ledger h) in
+    ∥∥₁_map held.serials (λ p. within_selects pair low high tables.serials found
+    (map serial_columns (old.now.trees 4)) p shows)

@@ -1,5 +1,6 @@
 -- Which rows a write takes out of a tree.
-use Rattle.std.proofs.Common.{◌≡◌, inl, inr, ℤ, List, [], ◌∷◌, map, filter, Bool, true, false, not, cond, refl, sym, ap, subst, ◌∙◌, arith, int_eq, is_eq}
+use Rattle.std.proofs.Common.{◌≡◌, inl, inr, ℤ, List, [], ◌∷◌, map, filter, Bool, true, false, not}
+use Rattle.std.proofs.Common.{cond, refl, sym, ap, subst, ◌∙◌, arith, int_eq, is_eq}
 use Rattle.std.proofs.lemmas.Int.{ints}
 use Rattle.std.specs.List.{AllByRecursion}
 use Rattle.std.specs.List.Sorted.{IsPermutation}
@@ -13,19 +14,24 @@ use Rattle.sqlite_keyed.proofs.ListLemmas.{along_permutation}
 use Rattle.sqlite_trees.specs.View.{is_int}
 use Rattle.s10_statements.specs.Shown.{HasIntegerRowid}
 
-pub all_moved : {X : Type 0} (P : X → Type 0) (xs ys : List X) → IsPermutation xs ys → AllByRecursion P xs → AllByRecursion P ys
-all_moved P = along_permutation (λ us vs. AllByRecursion P us → AllByRecursion P vs) (λ us h. h) (λ x us vs f h. (h.0, f h.1)) (λ x y us h. (h.1.0, (h.0, h.1.1)))
+pub all_moved : {X : Type 0} (P : X → Type 0) (xs ys : List X) → IsPermutation xs ys
+    → AllByRecursion P xs → AllByRecursion P ys
+all_moved P = along_permutation (λ us vs. AllByRecursion P us → AllByRecursion P vs) (λ us h. h)
+    (λ x us vs f h. (h.0, f h.1)) (λ x y us h. (h.1.0, (h.0, h.1.1)))
     (λ us vs ws f g h. g (f h))
 
-pub all_of_map : {X Y : Type 0} (P : Y → Type 0) (f : X → Y) (xs : List X) → AllByRecursion P (map f xs) → AllByRecursion (λ x. P (f x)) xs
+pub all_of_map : {X Y : Type 0} (P : Y → Type 0) (f : X → Y) (xs : List X)
+    → AllByRecursion P (map f xs) → AllByRecursion (λ x. P (f x)) xs
 all_of_map P f [] h = tt
 all_of_map P f (x ∷ xs) h = (h.0, all_of_map P f xs h.1)
 
-pub all_shown : {X Y : Type 0} (P : Y → Type 0) (f : X → Y) → ((x : X) → P (f x)) → (xs : List X) → AllByRecursion P (map f xs)
+pub all_shown : {X Y : Type 0} (P : Y → Type 0) (f : X → Y) → ((x : X) → P (f x)) → (xs : List X)
+    → AllByRecursion P (map f xs)
 all_shown P f each [] = tt
 all_shown P f each (x ∷ xs) = (each x, all_shown P f each xs)
 
-pub all_has : {X : Type 0} (P : X → Type 0) (xs : List X) (x : X) → AllByRecursion P xs → Has xs x → P x
+pub all_has : {X : Type 0} (P : X → Type 0) (xs : List X) (x : X) → AllByRecursion P xs → Has xs x
+    → P x
 all_has P [] x all has = absurd has
 all_has P (y ∷ ys) x all (inl same) = subst P (sym same) all.0
 all_has P (y ∷ ys) x all (inr more) = all_has P ys x all.1 more
@@ -52,11 +58,13 @@ pub has_id : (num n : ℤ) (r : Row) → rowid r ≡ Int n → has_rowid num r �
 has_id num n r e = ap (λ v. is_eq (value_cmp v (Int num))) e ∙ ap is_eq (value_cmp-Int n num)
 
 -- what is kept passes
-pub passing : {X : Type 0} (p : X → Bool) (xs : List X) → AllByRecursion (λ x. p x ≡ true) (filter p xs)
+pub passing : {X : Type 0} (p : X → Bool) (xs : List X)
+    → AllByRecursion (λ x. p x ≡ true) (filter p xs)
 passing {X} p [] = tt
 passing {X} p (x ∷ xs) = go (p x) refl (passing p xs)
   where
-    go : (b : Bool) → p x ≡ b → AllByRecursion (λ y. p y ≡ true) (filter p xs) → AllByRecursion (λ y. p y ≡ true) (cond b (x ∷ filter p xs) (filter p xs))
+    go : (b : Bool) → p x ≡ b → AllByRecursion (λ y. p y ≡ true) (filter p xs)
+        → AllByRecursion (λ y. p y ≡ true) (cond b (x ∷ filter p xs) (filter p xs))
     go true e more = (e, more)
     go false e more = more
 

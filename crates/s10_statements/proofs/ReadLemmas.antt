@@ -1,5 +1,6 @@
 -- What a read of one table shows.
-use Rattle.std.proofs.Common.{◌≡◌, List, [], ◌∷◌, ◌++◌, map, filter, flat_map, Bool, true, false, cond, refl, sym, ap, subst, ◌∙◌, Less}
+use Rattle.std.proofs.Common.{◌≡◌, List, [], ◌∷◌, ◌++◌, map, filter, flat_map, Bool, true, false}
+use Rattle.std.proofs.Common.{cond, refl, sym, ap, subst, ◌∙◌, Less}
 use Rattle.std.specs.List.{list_all}
 use Rattle.std.specs.List.Sorted.{IsPermutation}
 use Rattle.std.specs.Prelude.{IsSorted}
@@ -12,17 +13,21 @@ use Rattle.sqlite_sql.proofs.QueryLemmas.{output_cmp_total}
 use Rattle.sqlite_keyed.proofs.SortLemmas.{sorted_unique}
 use Rattle.sqlite_keyed.proofs.ListLemmas.{map-map, filter-map, ascending-map, IsPermutation-filter}
 
-picked : {A B : Type 0} (p : A → Bool) (f : A → B) (xs : List A) → flat_map (λ x. cond (p x) (f x ∷ []) []) xs ≡ map f (filter p xs)
+picked : {A B : Type 0} (p : A → Bool) (f : A → B) (xs : List A)
+    → flat_map (λ x. cond (p x) (f x ∷ []) []) xs ≡ map f (filter p xs)
 picked p f [] = refl
 picked {A} {B} p f (x ∷ xs) =
-    elim (p x) as (λ b. cond b (f x ∷ []) [] ++ flat_map (λ y. cond (p y) (f y ∷ []) []) xs ≡ map f (cond b (x ∷ filter p xs) (filter p xs)))
+    elim (p x) as (λ b. cond b (f x ∷ []) [] ++ flat_map (λ y. cond (p y) (f y ∷ []) []) xs
+    ≡ map f (cond b (x ∷ filter p xs) (filter p xs)))
     [ true ↦ ap (λ l. f x ∷ l) (picked p f xs) | false ↦ picked p f xs ]
 
-map_each : {A B : Type 0} (f g : A → B) → ((x : A) → f x ≡ g x) → (xs : List A) → map f xs ≡ map g xs
+map_each : {A B : Type 0} (f g : A → B) → ((x : A) → f x ≡ g x) → (xs : List A)
+    → map f xs ≡ map g xs
 map_each f g same [] = refl
 map_each f g same (x ∷ xs) = rw (same x, map_each f g same xs)
 
-pub filter_each : {A : Type 0} (p q : A → Bool) → ((x : A) → p x ≡ q x) → (xs : List A) → filter p xs ≡ filter q xs
+pub filter_each : {A : Type 0} (p q : A → Bool) → ((x : A) → p x ≡ q x) → (xs : List A)
+    → filter p xs ≡ filter q xs
 filter_each p q same [] = refl
 filter_each p q same (x ∷ xs) = rw (same x, filter_each p q same xs)
 
@@ -33,15 +38,21 @@ module _ (params : Row) (q : Query) (raw : List Row) (columns key : Row → Row)
   abbrev out : Row → Output
   out v = (key v, v)
 
-  pub kept_are : (staged : List Env) (kept : List Output) → staged ≡ flat_map (λ r. cond (list_all (holds (params ∷ r ∷ [])) q.filter) ((params ∷ r ∷ []) ∷ []) []) raw
+  pub kept_are : (staged : List Env) (kept : List Output)
+      → staged ≡ flat_map (λ r. cond (list_all (holds (params ∷ r ∷ [])) q.filter)
+      ((params ∷ r ∷ []) ∷ []) []) raw
       → kept ≡ map (output q) staged → kept ≡ map out (filter test (map columns raw))
   kept_are staged kept s k =
       let f : Row → Env = λ r. params ∷ r ∷ [] in
       let p : Row → Bool = λ r. list_all (holds (params ∷ r ∷ [])) q.filter in
-      let one : kept ≡ map (output q) (map f (filter p raw)) = k ∙ ap (map (output q)) (s ∙ picked p f raw) in
-      let two : map (output q) (map f (filter p raw)) ≡ map (λ r. out (columns r)) (filter p raw) = map-map (output q) f (filter p raw) ∙ map_each _ _ outs (filter p raw) in
-      let three : map (λ r. out (columns r)) (filter p raw) ≡ map out (map columns (filter (λ r. test (columns r)) raw)) =
-      ap (map (λ r. out (columns r))) (filter_each p (λ r. test (columns r)) tests raw) ∙ sym (map-map out columns (filter (λ r. test (columns r)) raw)) in
+      let one : kept ≡ map (output q) (map f (filter p raw)) =
+      k ∙ ap (map (output q)) (s ∙ picked p f raw) in
+      let two : map (output q) (map f (filter p raw)) ≡ map (λ r. out (columns r)) (filter p raw) =
+      map-map (output q) f (filter p raw) ∙ map_each _ _ outs (filter p raw) in
+      let three : map (λ r. out (columns r)) (filter p raw)
+      ≡ map out (map columns (filter (λ r. test (columns r)) raw)) =
+      ap (map (λ r. out (columns r))) (filter_each p (λ r. test (columns r)) tests raw)
+      ∙ sym (map-map out columns (filter (λ r. test (columns r)) raw)) in
       one ∙ two ∙ three ∙ ap (map out) (sym (filter-map test columns raw))
 
   seconds : (vs : List Row) → map (λ (o : Output). o.1) (map out vs) ≡ vs
@@ -49,41 +60,64 @@ module _ (params : Row) (q : Query) (raw : List Row) (columns key : Row → Row)
   seconds (v ∷ vs) = ap (λ l. v ∷ l) (seconds vs)
 
   -- the rows that pass, in some order
-  pub rows_are : (kept ordered : List Output) (rows : List Row) → kept ≡ map out (filter test (map columns raw)) → IsPermutation kept ordered → rows ≡ map (λ (o : Output). o.1) ordered
+  pub rows_are : (kept ordered : List Output) (rows : List Row)
+      → kept ≡ map out (filter test (map columns raw)) → IsPermutation kept ordered
+      → rows ≡ map (λ (o : Output). o.1) ordered
       → IsPermutation (filter test (map columns raw)) rows
   rows_are kept ordered rows k same shown =
-      let moved : IsPermutation (map (λ (o : Output). o.1) (map out (filter test (map columns raw)))) (map (λ (o : Output). o.1) ordered) =
-      IsPermutation-map (λ (o : Output). o.1) _ ordered (subst (λ l. IsPermutation l ordered) k same) in
-      rw shown (subst (λ l. IsPermutation l (map (λ (o : Output). o.1) ordered)) (seconds (filter test (map columns raw))) moved)
+      let moved : IsPermutation
+      (map (λ (o : Output). o.1) (map out (filter test (map columns raw))))
+      (map (λ (o : Output). o.1) ordered) =
+      IsPermutation-map (λ (o : Output). o.1) _ ordered (subst (λ l. IsPermutation l ordered) k
+      same) in
+      rw shown (subst (λ l. IsPermutation l (map (λ (o : Output). o.1) ordered))
+      (seconds (filter test (map columns raw))) moved)
 
   -- where the rows that pass are these in some order, and these rise, the rows come in this order
-  pub rows_rise : {X : Type 0} (shown : X → Row) (xs : List X) → IsAscending (λ a b. output_cmp q (out (shown a)) (out (shown b)) ≡ Less) xs
-      → IsPermutation (map shown xs) (filter test (map columns raw)) → (kept ordered : List Output) (rows : List Row) → kept ≡ map out (filter test (map columns raw))
-      → IsPermutation kept ordered → IsSorted (output_cmp q) ordered → rows ≡ map (λ (o : Output). o.1) ordered → rows ≡ map shown xs
+  pub rows_rise : {X : Type 0} (shown : X → Row) (xs : List X)
+      → IsAscending (λ a b. output_cmp q (out (shown a)) (out (shown b)) ≡ Less) xs
+      → IsPermutation (map shown xs) (filter test (map columns raw))
+      → (kept ordered : List Output) (rows : List Row)
+      → kept ≡ map out (filter test (map columns raw))
+      → IsPermutation kept ordered → IsSorted (output_cmp q) ordered
+      → rows ≡ map (λ (o : Output). o.1) ordered → rows ≡ map shown xs
   rows_rise {X} shown xs up has kept ordered rows k same sorted rows-is =
       let of : X → Output = λ x. out (shown x) in
-      let moved : IsPermutation (map out (map shown xs)) (map out (filter test (map columns raw))) = IsPermutation-map out _ _ has in
+      let moved : IsPermutation (map out (map shown xs)) (map out (filter test (map columns raw))) =
+      IsPermutation-map out _ _ has in
       let near : IsPermutation (map of xs) kept = rw (k, ← map-map out shown xs) moved in
       let in_order : ordered ≡ map of xs =
-      sorted_unique (output_cmp q) (output_cmp_total q) (map of xs) ordered (ascending-map (λ a b. output_cmp q a b ≡ Less) of xs up) (IsPermutation-trans _ _ _ near same) sorted in
-      rows-is ∙ ap (map (λ (o : Output). o.1)) (in_order ∙ sym (map-map out shown xs)) ∙ seconds (map shown xs)
+      sorted_unique (output_cmp q) (output_cmp_total q) (map of xs) ordered
+      (ascending-map (λ a b. output_cmp q a b ≡ Less) of xs up)
+      (IsPermutation-trans _ _ _ near same) sorted in
+      rows-is ∙ ap (map (λ (o : Output). o.1)) (in_order ∙ sym (map-map out shown xs))
+      ∙ seconds (map shown xs)
 
 same_list : {X : Type 0} (xs : List X) → map (λ x. x) xs ≡ xs
 same_list [] = refl
 same_list (x ∷ xs) = ap (λ l. x ∷ l) (same_list xs)
 
-pub again : {X : Type 0} (shown : X → Row) (read : Row → X) → ((x : X) → read (shown x) ≡ x) → (xs : List X) → map read (map shown xs) ≡ xs
-again shown read back xs = map-map read shown xs ∙ map_each (λ x. read (shown x)) (λ x. x) back xs ∙ same_list xs
+pub again : {X : Type 0} (shown : X → Row) (read : Row → X) → ((x : X) → read (shown x) ≡ x)
+    → (xs : List X) → map read (map shown xs) ≡ xs
+again shown read back xs = map-map read shown xs ∙ map_each (λ x. read (shown x)) (λ x. x) back xs
+    ∙ same_list xs
 
 -- typed rows that show alike are the same
-pub read_back : {X : Type 0} (shown : X → Row) (read : Row → X) → ((x : X) → read (shown x) ≡ x) → (xs ys : List X) → map shown xs ≡ map shown ys → xs ≡ ys
-read_back shown read back xs ys e = sym (again shown read back xs) ∙ ap (map read) e ∙ again shown read back ys
+pub read_back : {X : Type 0} (shown : X → Row) (read : Row → X) → ((x : X) → read (shown x) ≡ x)
+    → (xs ys : List X) → map shown xs ≡ map shown ys → xs ≡ ys
+read_back shown read back xs ys e = sym (again shown read back xs) ∙ ap (map read) e
+    ∙ again shown read back ys
 
 -- typed rows that show as the rows that pass are those that pass
-pub selected : {X : Type 0} (shown : X → Row) (read : Row → X) → ((x : X) → read (shown x) ≡ x) → (test : Row → Bool) (p : X → Bool) → ((x : X) → test (shown x) ≡ p x)
-    → (xs ys : List X) (vs : List Row) → IsPermutation (map shown xs) vs → IsPermutation (filter test vs) (map shown ys) → IsPermutation (filter p xs) ys
+pub selected : {X : Type 0} (shown : X → Row) (read : Row → X) → ((x : X) → read (shown x) ≡ x)
+    → (test : Row → Bool) (p : X → Bool) → ((x : X) → test (shown x) ≡ p x)
+    → (xs ys : List X) (vs : List Row) → IsPermutation (map shown xs) vs
+    → IsPermutation (filter test vs) (map shown ys) → IsPermutation (filter p xs) ys
 selected {X} shown read back test p agree xs ys vs has got =
-    let all : IsPermutation (filter test (map shown xs)) (map shown ys) = IsPermutation-trans _ _ _ (IsPermutation-filter test _ _ has) got in
-    let typed : filter test (map shown xs) ≡ map shown (filter p xs) = filter-map test shown xs ∙ ap (map shown) (filter_each (λ x. test (shown x)) p agree xs) in
-    let turned : IsPermutation (map read (map shown (filter p xs))) (map read (map shown ys)) = IsPermutation-map read _ _ (rw (← typed) all) in
+    let all : IsPermutation (filter test (map shown xs)) (map shown ys) =
+    IsPermutation-trans _ _ _ (IsPermutation-filter test _ _ has) got in
+    let typed : filter test (map shown xs) ≡ map shown (filter p xs) = filter-map test shown xs
+    ∙ ap (map shown) (filter_each (λ x. test (shown x)) p agree xs) in
+    let turned : IsPermutation (map read (map shown (filter p xs))) (map read (map shown ys)) =
+    IsPermutation-map read _ _ (rw (← typed) all) in
     rw (again shown read back (filter p xs), again shown read back ys) at turned

@@ -1,5 +1,7 @@
 -- What rows that are read one at a time leave, and what they are.
-use Rattle.std.proofs.Common.{◌≡◌, ◌≤◌, ◌⊎◌, inl, inr, IfOk, IfErr, OnErr, refl, ap, map, List, [], ◌∷◌, ◌++◌, ℕ, Some, None, Ok, Err, Result, IsTrue, false, sym, subst, ◌∙◌, arith}
+use Rattle.std.proofs.Common.{◌≡◌, ◌≤◌, ◌⊎◌, inl, inr, IfOk, IfErr, OnErr, refl, ap, map, List, []}
+use Rattle.std.proofs.Common.{◌∷◌, ◌++◌, ℕ, Some, None, Ok, Err, Result, IsTrue, false, sym, subst}
+use Rattle.std.proofs.Common.{◌∙◌, arith}
 use Rattle.sqlite_value.specs.Order.{Row}
 use Rattle.sqlite_trees.specs.View.{doubt}
 use Rattle.sqlite_trees.specs.declared.store.Store.{Ghosts}
@@ -10,7 +12,8 @@ use Rattle.sqlite.specs.Effect.{Database}
 use Rattle.sqlite.specs.Given.{IsPlain, HasGiven, HasBegun, Advances}
 use Rattle.sqlite.specs.Held.{Held, state}
 use Rattle.sqlite.specs.Listing.{understood, reads_listing, IsSourceOf}
-use Rattle.sqlite.specs.State.{State, HasCleanDisk, Shown, ShowsRows, IsUnchanged, IsRolledBack, Fails, FailsToQuery, Survives, CommitsShowing}
+use Rattle.sqlite.specs.State.{State, HasCleanDisk, Shown, ShowsRows, IsUnchanged, IsRolledBack}
+use Rattle.sqlite.specs.State.{Fails, FailsToQuery, Survives, CommitsShowing}
 use Rattle.sqlite.proofs.Callers.{begun_plain, unchanged_then}
 use Rattle.s10_schema.specs.Schema.{IsLedgerSchema, with_others, others_in}
 use Rattle.s10_statements.specs.ConnectionState.{IsQuiescent, AddsNoCrashState}
@@ -26,7 +29,8 @@ OnlyReads sql = (o : Schema) → IsPlain (understood (with_others o) sql)
 abbrev pub Moves : State → State → Type 0
 Moves old new = IsUnchanged old new ⊎ IsRolledBack old new
 
-pub failed_moves : (old new : State) (e : Error) → Fails old new ⊥ e ⊎ IsUnchanged old new → Moves old new
+pub failed_moves : (old new : State) (e : Error) → Fails old new ⊥ e ⊎ IsUnchanged old new
+    → Moves old new
 failed_moves old new e (inl f) = inr f.3
 failed_moves old new e (inr same) = inl same
 
@@ -34,80 +38,121 @@ moved_open : (old new : State) → Moves old new → IsTrue new.is_open → IsTr
 moved_open old new (inl same) opened = same.0.was_open
 moved_open old new (inr back) opened = back.was_open opened
 
-moved_now : (old new : State) → Moves old new → (IsTrue old.is_open → old.committed ≡ old.now) → IsTrue new.is_open → new.now ≡ old.now
+moved_now : (old new : State) → Moves old new → (IsTrue old.is_open → old.committed ≡ old.now)
+    → IsTrue new.is_open → new.now ≡ old.now
 moved_now old new (inl same) settled opened = same.0.now_is
-moved_now old new (inr back) settled opened = (back.undone opened).0 ∙ settled (back.was_open opened)
+moved_now old new (inr back) settled opened = (back.undone opened).0
+    ∙ settled (back.was_open opened)
 
-moved_settled : (old new : State) → Moves old new → (IsTrue old.is_open → old.committed ≡ old.now) → IsTrue new.is_open → new.committed ≡ new.now
-moved_settled old new (inl same) settled opened = same.0.committed_is ∙ settled same.0.was_open ∙ sym same.0.now_is
-moved_settled old new (inr back) settled opened = (back.undone opened).1 ∙ sym (back.undone opened).0
+moved_settled : (old new : State) → Moves old new → (IsTrue old.is_open → old.committed ≡ old.now)
+    → IsTrue new.is_open → new.committed ≡ new.now
+moved_settled old new (inl same) settled opened = same.0.committed_is ∙ settled same.0.was_open
+    ∙ sym same.0.now_is
+moved_settled old new (inr back) settled opened = (back.undone opened).1
+    ∙ sym (back.undone opened).0
 
-pub moved_leaves : {S : Type 0} (g : Ghosts S) (old new : Held S) → doubt (state g old).is_clean ≤ doubt (state g new).is_clean → (old.in_transaction ≡ false → new.in_transaction ≡ false)
+pub moved_leaves : {S : Type 0} (g : Ghosts S) (old new : Held S) → doubt (state g old).is_clean
+    ≤ doubt (state g new).is_clean → (old.in_transaction ≡ false → new.in_transaction ≡ false)
     → (HasCleanDisk (state g new) → Moves (state g old) (state g new)) → LeavesTables g old new
 moved_leaves g old new clean mode moves =
-    let before : HasCleanDisk (state g new) → HasCleanDisk (state g old) = λ c. omega (arith, clean, c) in
+    let before : HasCleanDisk (state g new) → HasCleanDisk (state g old) =
+    λ c. omega (arith, clean, c) in
     record {
       clean = clean;
       was_open = λ c opened. moved_open (state g old) (state g new) (moves c) opened;
-      now = λ c opened settled has. moved_now (state g old) (state g new) (moves c) (settled.committed (before c)) opened;
+      now = λ c opened settled has. moved_now (state g old) (state g new) (moves c)
+          (settled.committed (before c)) opened;
       settled = λ settled. record {
         idle = mode settled.idle;
-        committed = λ c opened. moved_settled (state g old) (state g new) (moves c) (settled.committed (before c)) opened;
+        committed = λ c opened. moved_settled (state g old) (state g new) (moves c)
+            (settled.committed (before c)) opened;
       };
     }
 
-module _ {S : Type 0} (g : Ghosts S) (sql : List ℕ) (params : Row) (plain : OnlyReads sql) (old new : Held S)
-    (clean : doubt (state g old).is_clean ≤ doubt (state g new).is_clean) (mode : old.in_transaction ≡ false → new.in_transaction ≡ false) where
+module _ {S : Type 0} (g : Ghosts S) (sql : List ℕ) (params : Row) (plain : OnlyReads sql)
+    (old new : Held S)
+    (clean : doubt (state g old).is_clean ≤ doubt (state g new).is_clean) (mode : old.in_transaction
+    ≡ false → new.in_transaction ≡ false) where
   -- what the query answered, all of it or with an error, leaves
   answered_leaves : (r : HasCleanDisk (state g new) → Result (List Row) Error)
-      → ((c : HasCleanDisk (state g new)) → IfOk (r c) (Shown sql params (state g old) (state g new)))
-      → ((c : HasCleanDisk (state g new)) → IfErr (r c) (FailsToQuery sql params (state g old) (state g new))) → LeavesTables g old new
+      → ((c : HasCleanDisk (state g new))
+      → IfOk (r c) (Shown sql params (state g old) (state g new)))
+      → ((c : HasCleanDisk (state g new))
+      → IfErr (r c) (FailsToQuery sql params (state g old) (state g new)))
+      → LeavesTables g old new
   answered_leaves r ok err =
-      let before : HasCleanDisk (state g new) → HasCleanDisk (state g old) = λ c. omega (arith, clean, c) in
+      let before : HasCleanDisk (state g new) → HasCleanDisk (state g old) =
+      λ c. omega (arith, clean, c) in
       record {
         clean = clean;
-        was_open = λ c opened. read_open (λ (rows : List Row). rows) sql params (state g old) (state g new) (r c) (ok c) (err c) opened;
-        now = λ c opened settled has. read_same (λ (rows : List Row). rows) sql params (state g old) (state g new) (r c) (ok c) (err c)
-            (with_others (others_in (state g old).now.schema)) (plain (others_in (state g old).now.schema)) has.is (λ was. sym (settled.committed (before c) was)) opened;
+        was_open = λ c opened. read_open (λ (rows : List Row). rows) sql params (state g old)
+            (state g new) (r c) (ok c) (err c) opened;
+        now = λ c opened settled has. read_same (λ (rows : List Row). rows) sql params (state g old)
+            (state g new) (r c) (ok c) (err c)
+            (with_others (others_in (state g old).now.schema))
+            (plain (others_in (state g old).now.schema)) has.is
+            (λ was. sym (settled.committed (before c) was)) opened;
         settled = λ settled. record {
           idle = mode settled.idle;
-          committed = λ c opened. read_settled (λ (rows : List Row). rows) sql params (state g old) (state g new) (r c) (ok c) (err c) settled.idle (settled.committed (before c)) opened;
+          committed = λ c opened. read_settled (λ (rows : List Row). rows) sql params (state g old)
+              (state g new) (r c) (ok c) (err c) settled.idle (settled.committed (before c)) opened;
         };
       }
 
-  pub failed_leaves : (e : Error) → (HasCleanDisk (state g new) → FailsToQuery sql params (state g old) (state g new) e) → LeavesTables g old new
+  pub failed_leaves : (e : Error)
+      → (HasCleanDisk (state g new) → FailsToQuery sql params (state g old) (state g new) e)
+      → LeavesTables g old new
   failed_leaves e fails = answered_leaves (λ c. Err e) (λ c. tt) fails
 
-  begun_was : HasBegun g sql params old new → IsTrue (state g new).is_open → IsTrue (state g old).is_open
+  begun_was : HasBegun g sql params old new → IsTrue (state g new).is_open
+      → IsTrue (state g old).is_open
   begun_was (inl it) opened = it.1.0.was_open
-  begun_was (inr it) opened = read_open (λ (rows : List Row). rows) sql params (state g old) (state g new) (Ok _) it.1 tt opened
+  begun_was (inr it) opened = read_open (λ (rows : List Row). rows) sql params (state g old)
+      (state g new) (Ok _) it.1 tt opened
 
-  begun_now : HasBegun g sql params old new → IsQuiescent g old → HasCleanDisk (state g old) → IsLedgerSchema (state g old).now.schema → IsTrue (state g new).is_open → (state g new).now ≡ (state g old).now
+  begun_now : HasBegun g sql params old new → IsQuiescent g old → HasCleanDisk (state g old)
+      → IsLedgerSchema (state g old).now.schema → IsTrue (state g new).is_open → (state g new).now
+      ≡ (state g old).now
   begun_now (inl it) settled c has opened = it.1.0.now_is
   begun_now (inr it) settled c has opened =
       read_same (λ (rows : List Row). rows) sql params (state g old) (state g new) (Ok _) it.1 tt
-      (with_others (others_in (state g old).now.schema)) (plain (others_in (state g old).now.schema)) has.is (λ was. sym (settled.committed c was)) opened
+      (with_others (others_in (state g old).now.schema))
+      (plain (others_in (state g old).now.schema)) has.is (λ was. sym (settled.committed c was))
+      opened
 
-  begun_settled : HasBegun g sql params old new → IsQuiescent g old → HasCleanDisk (state g old) → IsTrue (state g new).is_open → (state g new).committed ≡ (state g new).now
-  begun_settled (inl it) settled c opened = moved_settled (state g old) (state g new) (inl it.1) (settled.committed c) opened
-  begun_settled (inr it) settled c opened = read_settled (λ (rows : List Row). rows) sql params (state g old) (state g new) (Ok _) it.1 tt settled.idle (settled.committed c) opened
+  begun_settled : HasBegun g sql params old new → IsQuiescent g old → HasCleanDisk (state g old)
+      → IsTrue (state g new).is_open → (state g new).committed ≡ (state g new).now
+  begun_settled (inl it) settled c opened = moved_settled (state g old) (state g new) (inl it.1)
+      (settled.committed c) opened
+  begun_settled (inr it) settled c opened = read_settled (λ (rows : List Row). rows) sql params
+      (state g old) (state g new) (Ok _) it.1 tt settled.idle (settled.committed c) opened
 
-  pub begun_leaves : (HasCleanDisk (state g new) → HasBegun g sql params old new) → LeavesTables g old new
+  pub begun_leaves : (HasCleanDisk (state g new) → HasBegun g sql params old new)
+      → LeavesTables g old new
   begun_leaves begun =
-      let before : HasCleanDisk (state g new) → HasCleanDisk (state g old) = λ c. omega (arith, clean, c) in
+      let before : HasCleanDisk (state g new) → HasCleanDisk (state g old) =
+      λ c. omega (arith, clean, c) in
       record {
         clean = clean;
         was_open = λ c opened. begun_was (begun c) opened;
         now = λ c opened settled has. begun_now (begun c) settled (before c) has opened;
-        settled = λ settled. record { idle = mode settled.idle; committed = λ c opened. begun_settled (begun c) settled (before c) opened };
+        settled = λ settled. record {
+          idle = mode settled.idle;
+          committed = λ c opened. begun_settled (begun c) settled (before c) opened;
+        };
       }
 
-  pub begun_spares : Survives (state g old) (state g new) (CommitsShowing sql params (state g old)) → AddsNoCrashState g old new
+  pub begun_spares : Survives (state g old) (state g new) (CommitsShowing sql params (state g old))
+      → AddsNoCrashState g old new
   begun_spares survives c has db left =
-      first (commits_none sql params (state g old) (with_others (others_in (state g old).now.schema)) has.is (plain (others_in (state g old).now.schema)) db) (survives.crash c db left)
+      first (commits_none sql params (state g old)
+      (with_others (others_in (state g old).now.schema)) has.is
+      (plain (others_in (state g old).now.schema)) db) (survives.crash c db left)
 
 -- an answer that came after what changed nothing
-shown_before : (sql : List ℕ) (params : Row) (a b c : State) (rows : List Row) → IsPlain (understood b.now.schema sql) → IsUnchanged a b → Shown sql params b c rows → Shown sql params a c rows
+shown_before : (sql : List ℕ) (params : Row) (a b c : State) (rows : List Row)
+    → IsPlain (understood b.now.schema sql) → IsUnchanged a b → Shown sql params b c rows
+    → Shown sql params a c rows
 unfolding Shown
 shown_before sql params a b c rows plain same h =
     let none = (subst IsPlain h.1.is plain).0 in
@@ -115,64 +160,103 @@ shown_before sql params a b c rows plain same h =
     let it = subst (ShowsRows b c sql h.0 full rows) none h.2 in
     let back = same.0.now_is in (
       h.0,
-      record { is = subst (λ (d : Database). understood d.schema sql ≡ Ok h.0) back h.1.is; whole = h.1.whole; given = h.1.given; now = h.1.now },
-      subst (ShowsRows a c sql h.0 full rows) (sym none)
-          (it.0, subst (λ (d : Database). IsSourceOf (reads_listing d.schema sql) d it.0) back it.1, it.2, unchanged_then a b c same it.3),
+      record {
+        is = subst (λ (d : Database). understood d.schema sql ≡ Ok h.0) back h.1.is;
+        whole = h.1.whole;
+        given = h.1.given;
+        now = h.1.now;
+      },
+      subst (ShowsRows a c sql h.0 full rows) (sym none) (
+        it.0,
+        subst (λ (d : Database). IsSourceOf (reads_listing d.schema sql) d it.0) back it.1,
+        it.2,
+        unchanged_then a b c same it.3,
+      ),
     )
 
 -- so far rows were given of which P holds
-pub record IsUnderWay {S : Type 0} (g : Ghosts S) (sql : List ℕ) (params : Row) (P : List Row → Type 0) (old now : Held S) : Type 0 where
+pub record IsUnderWay {S : Type 0} (g : Ghosts S) (sql : List ℕ) (params : Row)
+    (P : List Row → Type 0) (old now : Held S) : Type 0 where
   pub leaves : LeavesTables g old now
   pub spares : AddsNoCrashState g old now
-  pub given : HasCleanDisk (state g now) → IsLedgerSchema (state g old).now.schema → (rows : List Row) × HasGiven g sql params now rows × IsUnchanged (state g old) (state g now) × P rows
+  pub given : HasCleanDisk (state g now) → IsLedgerSchema (state g old).now.schema
+      → (rows : List Row) × HasGiven g sql params now rows × IsUnchanged (state g old) (state g now)
+      × P rows
 
 -- and so in that of one
-pub known_plain : (sql : List ℕ) → OnlyReads sql → (schema : Schema) → IsLedgerSchema schema → IsPlain (understood schema sql)
-known_plain sql plain schema has = subst (λ (s : Schema). IsPlain (understood s sql)) (sym has.is) (plain (others_in schema))
+pub known_plain : (sql : List ℕ) → OnlyReads sql → (schema : Schema) → IsLedgerSchema schema
+    → IsPlain (understood schema sql)
+known_plain sql plain schema has = subst (λ (s : Schema). IsPlain (understood s sql)) (sym has.is)
+    (plain (others_in schema))
 
 module _ {S : Type 0} (g : Ghosts S) (sql : List ℕ) (params : Row) (plain : OnlyReads sql) where
-  pub begun : (P : List Row → Type 0) (old new : Held S) → (old.in_transaction ≡ false → new.in_transaction ≡ false) → Survives (state g old) (state g new) (CommitsShowing sql params (state g old))
-      → (HasCleanDisk (state g new) → HasBegun g sql params old new) → P [] → IsUnderWay g sql params P old new
+  pub begun : (P : List Row → Type 0) (old new : Held S)
+      → (old.in_transaction ≡ false → new.in_transaction ≡ false)
+      → Survives (state g old) (state g new) (CommitsShowing sql params (state g old))
+      → (HasCleanDisk (state g new) → HasBegun g sql params old new) → P []
+      → IsUnderWay g sql params P old new
   begun P old new mode survives begins none = record {
     leaves = begun_leaves g sql params plain old new survives.clean mode begins;
     spares = begun_spares g sql params plain old new survives.clean mode survives;
-    given = λ c has. let it = begun_plain g sql params old new (known_plain sql plain old.schema has) (begins c) in ([], it.0, it.1, none);
+    given = λ c has. let it =
+        begun_plain g sql params old new (known_plain sql plain old.schema has) (begins c) in
+        ([], it.0, it.1, none);
   }
 
-  module _ (P : List Row → Type 0) (old a b : Held S) (it : IsUnderWay g sql params P old a) (mode : a.in_transaction ≡ false → b.in_transaction ≡ false)
+  module _ (P : List Row → Type 0) (old a b : Held S) (it : IsUnderWay g sql params P old a)
+      (mode : a.in_transaction ≡ false → b.in_transaction ≡ false)
       (survives : Survives (state g a) (state g b) (λ _. ⊥)) where
-    pub stepped_leaves : (HasCleanDisk (state g b) → Moves (state g a) (state g b)) → LeavesTables g old b
-    stepped_leaves moves = leaves_then g old a b it.leaves (moved_leaves g a b survives.clean mode moves)
+    pub stepped_leaves : (HasCleanDisk (state g b) → Moves (state g a) (state g b))
+        → LeavesTables g old b
+    stepped_leaves moves = leaves_then g old a b it.leaves (moved_leaves g a b survives.clean mode
+        moves)
 
     before : HasCleanDisk (state g b) → HasCleanDisk (state g a)
     before c = omega (arith, survives.clean, c)
 
     pub stepped_spares : AddsNoCrashState g old b
-    stepped_spares c has db left = it.spares (before c) has db (spared (state g a) (state g b) survives c db left)
+    stepped_spares c has db left =
+        it.spares (before c) has db (spared (state g a) (state g b) survives c db left)
 
-    pub stepped : (row : Row) (Q : List Row → Type 0) → (HasCleanDisk (state g b) → IsUnchanged (state g a) (state g b)) → (HasCleanDisk (state g b) → Advances g a b (Some row))
+    pub stepped : (row : Row) (Q : List Row → Type 0)
+        → (HasCleanDisk (state g b) → IsUnchanged (state g a) (state g b))
+        → (HasCleanDisk (state g b) → Advances g a b (Some row))
         → ((rows : List Row) → P rows → Q (rows ++ row ∷ [])) → IsUnderWay g sql params Q old b
     stepped row Q same moves more = record {
       leaves = stepped_leaves (λ c. inl (same c));
       spares = stepped_spares;
-      given = λ c has. let was = it.given (before c) has in
-          (was.0 ++ row ∷ [], moves c sql params was.0 was.1, unchanged_then (state g old) (state g a) (state g b) was.2 (same c), more was.0 was.3);
+      given = λ c has. let was = it.given (before c) has in (
+        was.0 ++ row ∷ [],
+        moves c sql params was.0 was.1,
+        unchanged_then (state g old) (state g a) (state g b) was.2 (same c),
+        more was.0 was.3,
+      );
     }
 
-    pub ended : (HasCleanDisk (state g b) → Advances g a b None) → HasCleanDisk (state g b) → IsLedgerSchema (state g old).now.schema
+    pub ended : (HasCleanDisk (state g b) → Advances g a b None) → HasCleanDisk (state g b)
+        → IsLedgerSchema (state g old).now.schema
         → (rows : List Row) × Shown sql params (state g old) (state g b) rows × P rows
     ended moves c has =
         let was = it.given (before c) has in
-        let known : IsPlain (understood (state g a).now.schema sql) = subst (λ (d : Database). IsPlain (understood d.schema sql)) (sym was.2.0.now_is) (known_plain sql plain (state g old).now.schema has) in
-        (was.0, shown_before sql params (state g old) (state g a) (state g b) was.0 known was.2 (moves c sql params was.0 was.1), was.3)
+        let known : IsPlain (understood (state g a).now.schema sql) =
+        subst (λ (d : Database). IsPlain (understood d.schema sql)) (sym was.2.0.now_is)
+        (known_plain sql plain (state g old).now.schema has) in (
+          was.0,
+          shown_before sql params (state g old) (state g a) (state g b) was.0 known was.2
+              (moves c sql params was.0 was.1),
+          was.3,
+        )
 
-pub map_snoc : {A B : Type 0} (f : A → B) (xs : List A) (x : A) → map f (xs ++ x ∷ []) ≡ map f xs ++ f x ∷ []
+pub map_snoc : {A B : Type 0} (f : A → B) (xs : List A) (x : A) → map f (xs ++ x ∷ []) ≡ map f xs
+    ++ f x ∷ []
 map_snoc f [] x = refl
 map_snoc f (y ∷ ys) x = ap (λ l. f y ∷ l) (map_snoc f ys x)
 
 -- a typed row after those that are typed
-pub map_push : {A B : Type 0} (f : A → B) (xs new : List A) (x : A) (ys : List B) (y : B) → new ≡ xs ++ x ∷ [] → map f xs ≡ ys → f x ≡ y → map f new ≡ ys ++ y ∷ []
-map_push f xs new x ys y e was is = ap (map f) e ∙ map_snoc f xs x ∙ ap (λ l. l ++ f x ∷ []) was ∙ ap (λ z. ys ++ z ∷ []) is
+pub map_push : {A B : Type 0} (f : A → B) (xs new : List A) (x : A) (ys : List B) (y : B)
+    → new ≡ xs ++ x ∷ [] → map f xs ≡ ys → f x ≡ y → map f new ≡ ys ++ y ∷ []
+map_push f xs new x ys y e was is = ap (map f) e ∙ map_snoc f xs x ∙ ap (λ l. l ++ f x ∷ []) was
+    ∙ ap (λ z. ys ++ z ∷ []) is
 
 pub on_err : {T E : Type 0} (r : Result T E) (P : Type 0) (e : E) → r ≡ Err e → OnErr r P → P
 on_err (Ok x) P e is h = absurd cc

@@ -15,13 +15,16 @@ pub record Passed (a b : State) : Type 0 where
   pub inside : HasCleanDisk b → IsTrue a.in_transaction → IsTrue b.in_transaction
   pub kept : Keeps a b
 
-pub clean_then : {a b : State} (c : State) → Passed a b → doubt b.is_clean ≤ doubt c.is_clean → doubt a.is_clean ≤ doubt c.is_clean
+pub clean_then : {a b : State} (c : State) → Passed a b → doubt b.is_clean ≤ doubt c.is_clean
+    → doubt a.is_clean ≤ doubt c.is_clean
 clean_then c passed clean = omega (arith, passed.clean, clean)
 
-pub inside_then : {a b : State} (c : State) → Passed a b → doubt b.is_clean ≤ doubt c.is_clean → HasCleanDisk c → IsTrue a.in_transaction → IsTrue b.in_transaction
+pub inside_then : {a b : State} (c : State) → Passed a b → doubt b.is_clean ≤ doubt c.is_clean
+    → HasCleanDisk c → IsTrue a.in_transaction → IsTrue b.in_transaction
 inside_then c passed clean is inside = passed.inside (omega (arith, clean, is)) inside
 
-pub kept_then : {a b : State} (c : State) → Passed a b → doubt b.is_clean ≤ doubt c.is_clean → Keeps b c → Keeps a c
+pub kept_then : {a b : State} (c : State) → Passed a b → doubt b.is_clean ≤ doubt c.is_clean
+    → Keeps b c → Keeps a c
 kept_then {a} {b} c passed clean kept is inside =
     let before : HasCleanDisk b = omega (arith, clean, is) in
     keeps_then a b c (passed.kept before inside) (kept is (passed.inside before inside))
@@ -33,5 +36,7 @@ passed_then {a} {b} {c} first second = record {
   kept = kept_then c first second.clean second.kept;
 }
 
-pub survives_both : {a b c : State} → Survives a b (λ _. ⊥) → Survives b c (λ _. ⊥) → Survives a c (λ _. ⊥)
-survives_both {a} {b} {c} first second = survives_then a b c _ _ _ (λ _ db none. none) (λ _ db none. none) first second
+pub survives_both : {a b c : State} → Survives a b (λ _. ⊥) → Survives b c (λ _. ⊥)
+    → Survives a c (λ _. ⊥)
+survives_both {a} {b} {c} first second = survives_then a b c _ _ _ (λ _ db none. none)
+    (λ _ db none. none) first second

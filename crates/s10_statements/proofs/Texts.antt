@@ -1,5 +1,6 @@
 -- What the texts of the reads mean under the schema.
-use Rattle.std.proofs.Common.{◌≡◌, ℕ, pos, negsuc, List, [], ◌∷◌, codes, false, None, refl, sym, subst}
+use Rattle.std.proofs.Common.{◌≡◌, ℕ, pos, negsuc, List, [], ◌∷◌, codes, false, None, refl, sym}
+use Rattle.std.proofs.Common.{subst}
 use Rattle.sqlite_value.specs.declared.keys.Collation.TheVariants.{Binary}
 use Rattle.sqlite_value.specs.declared.value.Value.TheVariants.{Int}
 use Rattle.sqlite_value.specs.Keys.{ascending}
@@ -14,7 +15,9 @@ use Rattle.sqlite.specs.Listing.{understood, reads_listing}
 use Rattle.sqlite.specs.Given.{IsPlain}
 use Rattle.sqlite.proofs.Callers.{command_of}
 use Rattle.s10_schema.specs.Schema.{IsClosedSchema, with_others, with_closed, others_after_closed}
-use Rattle.s10_statements.specs.Statements.{select_head_sql, select_calls_sql, select_ranges_sql, select_serials_within_sql, select_serials_sql, select_closed_sql}
+use Rattle.s10_statements.specs.Statements.{select_head_sql, select_calls_sql, select_ranges_sql}
+use Rattle.s10_statements.specs.Statements.{select_serials_within_sql, select_serials_sql}
+use Rattle.s10_statements.specs.Statements.{select_closed_sql}
 
 -- a read of one table
 abbrev pub read_of : ℕ → List Term → List Term → List Term → Query
@@ -43,18 +46,22 @@ abbrev pub equals : ℕ → ℕ → Term
 equals place at = op2 (Compare Eq Binary) (col 1 place) (col 0 at)
 
 abbrev pub from_to : ℕ → ℕ → ℕ → List Term
-from_to place low high = op2 (Compare Ge Binary) (col 1 place) (col 0 low) ∷ op2 (Compare Le Binary) (col 1 place) (col 0 high) ∷ []
+from_to place low high = op2 (Compare Ge Binary) (col 1 place) (col 0 low) ∷ op2 (Compare Le Binary)
+    (col 1 place) (col 0 high) ∷ []
 
 abbrev pub call_names : List (List ℕ)
 call_names = codes "arrival" ∷ codes "customer" ∷ codes "number" ∷ codes "day" ∷ codes "reply" ∷ []
 
 abbrev pub serial_names : List (List ℕ)
-serial_names = codes "pair" ∷ codes "serial" ∷ codes "arrival" ∷ codes "day" ∷ codes "customer" ∷ codes "number" ∷ codes "voided" ∷ []
+serial_names = codes "pair" ∷ codes "serial" ∷ codes "arrival" ∷ codes "day" ∷ codes "customer"
+    ∷ codes "number" ∷ codes "voided" ∷ []
 
 abbrev pub head_query : Query
 head_query = read_of 0 [] (col 1 0 ∷ col 1 2 ∷ col 1 3 ∷ col 1 4 ∷ []) by_one
 
-pub head_is : (o : Schema) → command_of (understood (with_others o) select_head_sql) ≡ Select (record { lets = []; body = head_query }) (codes "one" ∷ codes "schema" ∷ codes "interval" ∷ codes "cap" ∷ [])
+pub head_is : (o : Schema) → command_of (understood (with_others o) select_head_sql)
+    ≡ Select (record { lets = []; body = head_query }) (codes "one" ∷ codes "schema"
+    ∷ codes "interval" ∷ codes "cap" ∷ [])
 unfolding understood everything
 head_is o = refl
 
@@ -69,7 +76,8 @@ head_unlisted o = refl
 abbrev pub calls_query : Query
 calls_query = read_of 1 [] call_terms by_one
 
-pub calls_is : (o : Schema) → command_of (understood (with_others o) select_calls_sql) ≡ Select (record { lets = []; body = calls_query }) (call_names)
+pub calls_is : (o : Schema) → command_of (understood (with_others o) select_calls_sql)
+    ≡ Select (record { lets = []; body = calls_query }) (call_names)
 unfolding understood everything
 calls_is o = refl
 
@@ -84,7 +92,9 @@ calls_unlisted o = refl
 abbrev pub ranges_query : Query
 ranges_query = read_of 3 [] (col 1 0 ∷ col 1 2 ∷ col 1 3 ∷ col 1 4 ∷ col 1 5 ∷ col 1 6 ∷ []) by_one
 
-pub ranges_is : (o : Schema) → command_of (understood (with_others o) select_ranges_sql) ≡ Select (record { lets = []; body = ranges_query }) (codes "num" ∷ codes "holder" ∷ codes "pair" ∷ codes "low" ∷ codes "high" ∷ codes "mark" ∷ [])
+pub ranges_is : (o : Schema) → command_of (understood (with_others o) select_ranges_sql)
+    ≡ Select (record { lets = []; body = ranges_query }) (codes "num" ∷ codes "holder"
+    ∷ codes "pair" ∷ codes "low" ∷ codes "high" ∷ codes "mark" ∷ [])
 unfolding understood everything
 ranges_is o = refl
 
@@ -99,7 +109,8 @@ ranges_unlisted o = refl
 abbrev pub within_query : Query
 within_query = read_of 4 (equals 1 0 ∷ from_to 2 1 2) serial_terms (col 1 1 ∷ col 1 2 ∷ [])
 
-pub within_is : (o : Schema) → command_of (understood (with_others o) select_serials_within_sql) ≡ Select (record { lets = []; body = within_query }) (serial_names)
+pub within_is : (o : Schema) → command_of (understood (with_others o) select_serials_within_sql)
+    ≡ Select (record { lets = []; body = within_query }) (serial_names)
 unfolding understood everything
 within_is o = refl
 
@@ -112,9 +123,13 @@ unfolding understood everything
 within_unlisted o = refl
 
 abbrev pub serials_query : Query
-serials_query = read_of 4 [] (col 1 1 ∷ col 1 2 ∷ col 1 3 ∷ col 1 4 ∷ col 1 5 ∷ col 1 6 ∷ col 1 7 ∷ col 1 0 ∷ []) (col 1 1 ∷ col 1 2 ∷ [])
+serials_query = read_of 4 [] (col 1 1 ∷ col 1 2 ∷ col 1 3 ∷ col 1 4 ∷ col 1 5 ∷ col 1 6 ∷ col 1 7
+    ∷ col 1 0 ∷ []) (col 1 1 ∷ col 1 2 ∷ [])
 
-pub serials_is : (o : Schema) → command_of (understood (with_others o) select_serials_sql) ≡ Select (record { lets = []; body = serials_query }) (codes "pair" ∷ codes "serial" ∷ codes "arrival" ∷ codes "day" ∷ codes "customer" ∷ codes "number" ∷ codes "voided" ∷ codes "rowid" ∷ [])
+pub serials_is : (o : Schema) → command_of (understood (with_others o) select_serials_sql)
+    ≡ Select (record { lets = []; body = serials_query }) (codes "pair" ∷ codes "serial"
+    ∷ codes "arrival" ∷ codes "day" ∷ codes "customer" ∷ codes "number" ∷ codes "voided"
+    ∷ codes "rowid" ∷ [])
 unfolding understood everything
 serials_is o = refl
 
@@ -129,7 +144,8 @@ serials_unlisted o = refl
 abbrev pub closed_query : Query
 closed_query = read_of 6 [] (col 1 0 ∷ col 1 2 ∷ []) by_one
 
-pub closed_is : (o : Schema) → command_of (understood (with_closed o) select_closed_sql) ≡ Select (record { lets = []; body = closed_query }) (codes "num" ∷ codes "arrival" ∷ [])
+pub closed_is : (o : Schema) → command_of (understood (with_closed o) select_closed_sql)
+    ≡ Select (record { lets = []; body = closed_query }) (codes "num" ∷ codes "arrival" ∷ [])
 unfolding understood everything
 closed_is o = refl
 
@@ -138,7 +154,8 @@ unfolding understood everything
 closed_plain o = (refl, refl)
 
 pub known_closed : (s : Schema) → IsClosedSchema s → IsPlain (understood s select_closed_sql)
-known_closed s has = subst (λ (x : Schema). IsPlain (understood x select_closed_sql)) (sym has.is) (closed_plain (others_after_closed s))
+known_closed s has = subst (λ (x : Schema). IsPlain (understood x select_closed_sql)) (sym has.is)
+    (closed_plain (others_after_closed s))
 
 pub closed_unlisted : (o : Schema) → reads_listing (with_closed o) select_closed_sql ≡ false
 unfolding understood everything

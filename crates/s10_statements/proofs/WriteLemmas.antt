@@ -1,5 +1,6 @@
 -- The writes so far, of those that a call makes.
-use Rattle.std.proofs.Common.{◌≡◌, inl, ℕ, zero, suc, ◌+◌, ◌≤◌, ◌<◌, List, [], ◌∷◌, ◌++◌, length, filter, take, get_or, IsTrue, true, refl, sym, ap, subst, ◌∙◌, arith}
+use Rattle.std.proofs.Common.{◌≡◌, inl, ℕ, zero, suc, ◌+◌, ◌≤◌, ◌<◌, List, [], ◌∷◌, ◌++◌, length}
+use Rattle.std.proofs.Common.{filter, take, get_or, IsTrue, true, refl, sym, ap, subst, ◌∙◌, arith}
 use Rattle.std.proofs.lemmas.List.{take_more}
 use Rattle.sqlite.specs.Effect.{Database}
 use Rattle.sqlite.specs.State.{State, HasCleanDisk, KeepsCommit, Shows, Survives}
@@ -10,64 +11,92 @@ use Rattle.s10_rows.specs.declared.range_write.RangeWrite.{RangeWrite}
 use Rattle.s10_rows.specs.declared.serial_row.SerialRow.{SerialRow}
 use Rattle.s10_rows.specs.declared.serial_write.SerialWrite.{SerialWrite}
 use Rattle.s10_rows.specs.Tables.{Tables}
-use Rattle.s10_rows.specs.RowWrites.{FindAtMostOne, is_at, row_of, with_range, with_ranges, with_serial, with_serials}
+use Rattle.s10_rows.specs.RowWrites.{FindAtMostOne, is_at, row_of, with_range, with_ranges}
+use Rattle.s10_rows.specs.RowWrites.{with_serial, with_serials}
 use Rattle.s10_statements.specs.Shown.{HasTables}
 
 -- in a transaction, the tables that fit are made into these
-pub record AreMade (old new : State) (Fits : Tables → Type 0) (after : Tables → Tables) : Type 0 where
-  pub made : HasCleanDisk new → IsTrue old.in_transaction → (tables : Tables) → Fits tables → HasTables old.now tables → HasTables new.now (after tables)
+pub record AreMade (old new : State) (Fits : Tables → Type 0) (after : Tables → Tables) :
+    Type 0 where
+  pub made : HasCleanDisk new → IsTrue old.in_transaction → (tables : Tables) → Fits tables
+      → HasTables old.now tables → HasTables new.now (after tables)
   pub inside : HasCleanDisk new → IsTrue old.in_transaction → IsTrue new.in_transaction
   pub kept : HasCleanDisk new → IsTrue old.in_transaction → KeepsCommit old new
   pub survives : Survives old new (λ _. ⊥)
 
-pub none_made : (s : State) (Fits : Tables → Type 0) (after : Tables → Tables) → ((tables : Tables) → after tables ≡ tables) → AreMade s s Fits after
+pub none_made : (s : State) (Fits : Tables → Type 0) (after : Tables → Tables)
+    → ((tables : Tables) → after tables ≡ tables) → AreMade s s Fits after
 none_made s Fits after same = record {
-  made = λ clean inside tables fits held. subst (λ (t : Tables). HasTables s.now t) (sym (same tables)) held;
+  made = λ clean inside tables fits held. subst (λ (t : Tables). HasTables s.now t)
+      (sym (same tables)) held;
   inside = λ clean inside. inside;
   kept = λ clean inside. record { was_open = λ h. h; committed = λ _. refl };
-  survives = record { clean = omega arith; shield = λ h. h; counts = omega arith; limit = refl; closes = λ _ h. inl h; crash = λ _ db h. inl h };
+  survives = record {
+    clean = omega arith;
+    shield = λ h. h;
+    counts = omega arith;
+    limit = refl;
+    closes = λ _ h. inl h;
+    crash = λ _ db h. inl h;
+  };
 }
 
-module _ (a b c : State) (Fits : Tables → Type 0) (before after : Tables → Tables) (so_far : AreMade a b Fits before) (survives : Survives b c (λ _. ⊥))
+module _ (a b c : State) (Fits : Tables → Type 0) (before after : Tables → Tables)
+    (so_far : AreMade a b Fits before) (survives : Survives b c (λ _. ⊥))
     (kept : HasCleanDisk c → IsTrue b.in_transaction → KeepsCommit b c) where
   mid : HasCleanDisk c → HasCleanDisk b
   mid clean = omega (arith, survives.clean, clean)
 
   pub still_kept : HasCleanDisk c → IsTrue a.in_transaction → KeepsCommit a c
-  still_kept clean inside = keeps_then a b c (so_far.kept (mid clean) inside) (kept clean (so_far.inside (mid clean) inside))
+  still_kept clean inside = keeps_then a b c (so_far.kept (mid clean) inside)
+      (kept clean (so_far.inside (mid clean) inside))
 
   pub still_survives : Survives a c (λ _. ⊥)
-  still_survives = survives_then a b c _ _ _ (λ _ db none. none) (λ _ db none. none) so_far.survives survives
+  still_survives = survives_then a b c _ _ _ (λ _ db none. none) (λ _ db none. none) so_far.survives
+      survives
 
   pub one_made : (HasCleanDisk c → IsTrue b.in_transaction → Shows b c c.now b.committed true)
-      → (HasCleanDisk c → IsTrue b.in_transaction → (tables : Tables) → Fits tables → HasTables b.now (before tables) → HasTables c.now (after tables)) → AreMade a c Fits after
+      → (HasCleanDisk c → IsTrue b.in_transaction → (tables : Tables) → Fits tables
+      → HasTables b.now (before tables) → HasTables c.now (after tables))
+      → AreMade a c Fits after
   one_made shows made = record {
-    made = λ clean inside tables fits held. made clean (so_far.inside (mid clean) inside) tables fits (so_far.made (mid clean) inside tables fits held);
+    made = λ clean inside tables fits held. made clean (so_far.inside (mid clean) inside) tables
+        fits (so_far.made (mid clean) inside tables fits held);
     inside = λ clean inside. (shows clean (so_far.inside (mid clean) inside)).mode;
     kept = still_kept;
     survives = still_survives;
   }
 
-ranges_then : (ws : List RangeWrite) (w : RangeWrite) (rows : List RangeRow) → with_ranges (ws ++ w ∷ []) rows ≡ with_range w (with_ranges ws rows)
+ranges_then : (ws : List RangeWrite) (w : RangeWrite) (rows : List RangeRow)
+    → with_ranges (ws ++ w ∷ []) rows ≡ with_range w (with_ranges ws rows)
 ranges_then [] w rows = refl
 ranges_then (x ∷ ws) w rows = ranges_then ws w (with_range x rows)
 
-ranges_more : (ws : List RangeWrite) (i : ℕ) (d : RangeWrite) (rows : List RangeRow) → i < length ws → with_ranges (take (i + 1) ws) rows ≡ with_range (get_or ws i d) (with_ranges (take i ws) rows)
-ranges_more ws i d rows within = ap (λ (l : List RangeWrite). with_ranges l rows) (take_more ws i d within) ∙ ranges_then (take i ws) (get_or ws i d) rows
+ranges_more : (ws : List RangeWrite) (i : ℕ) (d : RangeWrite) (rows : List RangeRow) → i < length ws
+    → with_ranges (take (i + 1) ws) rows ≡ with_range (get_or ws i d) (with_ranges (take i ws) rows)
+ranges_more ws i d rows within = ap (λ (l : List RangeWrite). with_ranges l rows)
+    (take_more ws i d within) ∙ ranges_then (take i ws) (get_or ws i d) rows
 
-serials_then : (ws : List SerialWrite) (w : SerialWrite) (rows : List SerialRow) → with_serials (ws ++ w ∷ []) rows ≡ with_serial w (with_serials ws rows)
+serials_then : (ws : List SerialWrite) (w : SerialWrite) (rows : List SerialRow)
+    → with_serials (ws ++ w ∷ []) rows ≡ with_serial w (with_serials ws rows)
 serials_then [] w rows = refl
 serials_then (x ∷ ws) w rows = serials_then ws w (with_serial x rows)
 
-serials_more : (ws : List SerialWrite) (i : ℕ) (d : SerialWrite) (rows : List SerialRow) → i < length ws → with_serials (take (i + 1) ws) rows ≡ with_serial (get_or ws i d) (with_serials (take i ws) rows)
-serials_more ws i d rows within = ap (λ (l : List SerialWrite). with_serials l rows) (take_more ws i d within) ∙ serials_then (take i ws) (get_or ws i d) rows
+serials_more : (ws : List SerialWrite) (i : ℕ) (d : SerialWrite) (rows : List SerialRow)
+    → i < length ws → with_serials (take (i + 1) ws) rows ≡ with_serial (get_or ws i d)
+    (with_serials (take i ws) rows)
+serials_more ws i d rows within = ap (λ (l : List SerialWrite). with_serials l rows)
+    (take_more ws i d within) ∙ serials_then (take i ws) (get_or ws i d) rows
 
 -- the write at a place finds at most one row, as the writes before it left them
-pub finds_at : (ws : List SerialWrite) (i : ℕ) (d : SerialWrite) (rows : List SerialRow) → i < length ws → FindAtMostOne ws rows
-    → length (filter (is_at (row_of (get_or ws i d)).pair (row_of (get_or ws i d)).serial) (with_serials (take i ws) rows)) ≤ 1
+pub finds_at : (ws : List SerialWrite) (i : ℕ) (d : SerialWrite) (rows : List SerialRow)
+    → i < length ws → FindAtMostOne ws rows
+    → length (filter (is_at (row_of (get_or ws i d)).pair (row_of (get_or ws i d)).serial)
+    (with_serials (take i ws) rows)) ≤ 1
 finds_at [] i d rows within find = absurd (omega (arith, within))
 finds_at (w ∷ ws) zero d rows within find = find.0
-finds_at (w ∷ ws) (suc i) d rows within find = finds_at ws i d (with_serial w rows) (omega (arith, within)) find.1
+finds_at (w ∷ ws) (suc i) d rows within find = finds_at ws i d (with_serial w rows)
+    (omega (arith, within)) find.1
 
 abbrev pub with_ranges_in : List RangeWrite → Tables → Tables
 with_ranges_in ws tables = record tables { ranges = with_ranges ws tables.ranges }
@@ -75,10 +104,22 @@ with_ranges_in ws tables = record tables { ranges = with_ranges ws tables.ranges
 abbrev pub with_serials_in : List SerialWrite → Tables → Tables
 with_serials_in ws tables = record tables { serials = with_serials ws tables.serials }
 
-pub ranges_one : (db : Database) (ws : List RangeWrite) (i : ℕ) (d : RangeWrite) (tables : Tables) → i < length ws → HasTables db (record tables { ranges = with_range (get_or ws i d) (with_ranges (take i ws) tables.ranges) })
+pub ranges_one : (db : Database) (ws : List RangeWrite) (i : ℕ) (d : RangeWrite) (tables : Tables)
+    → i < length ws
+    → HasTables db
+    (record tables { ranges = with_range (get_or ws i d) (with_ranges (take i ws) tables.ranges) })
     → HasTables db (with_ranges_in (take (i + 1) ws) tables)
-ranges_one db ws i d tables within held = subst (λ (rows : List RangeRow). HasTables db (record tables { ranges = rows })) (sym (ranges_more ws i d tables.ranges within)) held
+ranges_one db ws i d tables within held =
+    subst (λ (rows : List RangeRow). HasTables db (record tables { ranges = rows }))
+    (sym (ranges_more ws i d tables.ranges within)) held
 
-pub serials_one : (db : Database) (ws : List SerialWrite) (i : ℕ) (d : SerialWrite) (tables : Tables) → i < length ws → HasTables db (record tables { serials = with_serial (get_or ws i d) (with_serials (take i ws) tables.serials) })
+pub serials_one : (db : Database) (ws : List SerialWrite) (i : ℕ) (d : SerialWrite)
+    (tables : Tables) → i < length ws
+    → HasTables db
+    (record tables {
+      serials = with_serial (get_or ws i d) (with_serials (take i ws) tables.serials);
+    })
     → HasTables db (with_serials_in (take (i + 1) ws) tables)
-serials_one db ws i d tables within held = subst (λ (rows : List SerialRow). HasTables db (record tables { serials = rows })) (sym (serials_more ws i d tables.serials within)) held
+serials_one db ws i d tables within held =
+    subst (λ (rows : List SerialRow). HasTables db (record tables { serials = rows }))
+    (sym (serials_more ws i d tables.serials within)) held

@@ -16,12 +16,14 @@ use Rattle.sqlite.specs.Listing.{understood}
 use Rattle.sqlite.specs.Given.{IsPlain}
 use Rattle.sqlite.proofs.Callers.{command_of}
 use Rattle.s10_schema.specs.Schema.{with_others, with_closed}
-use Rattle.s10_statements.specs.Statements.{insert_call_sql, insert_range_sql, update_mark_sql, insert_serial_sql, upsert_serial_sql, insert_closed_sql}
+use Rattle.s10_statements.specs.Statements.{insert_call_sql, insert_range_sql, update_mark_sql}
+use Rattle.s10_statements.specs.Statements.{insert_serial_sql, upsert_serial_sql, insert_closed_sql}
 
 abbrev pub keep_terms : List Term
 keep_terms = col 0 0 ∷ lit Null ∷ col 0 1 ∷ col 0 2 ∷ col 0 3 ∷ col 0 4 ∷ []
 
-pub keep_is : (o : Schema) → command_of (understood (with_others o) insert_call_sql) ≡ Insert 1 (Values keep_terms 6)
+pub keep_is : (o : Schema) → command_of (understood (with_others o) insert_call_sql)
+    ≡ Insert 1 (Values keep_terms 6)
 unfolding understood everything
 keep_is o = refl
 
@@ -32,7 +34,8 @@ keep_plain o = (refl, refl)
 abbrev pub grant_terms : List Term
 grant_terms = col 0 0 ∷ lit Null ∷ col 0 1 ∷ col 0 2 ∷ col 0 3 ∷ col 0 4 ∷ col 0 5 ∷ []
 
-pub grant_is : (o : Schema) → command_of (understood (with_others o) insert_range_sql) ≡ Insert 2 (Values grant_terms 7)
+pub grant_is : (o : Schema) → command_of (understood (with_others o) insert_range_sql)
+    ≡ Insert 2 (Values grant_terms 7)
 unfolding understood everything
 grant_is o = refl
 
@@ -53,7 +56,8 @@ mark_query = record {
   offset = lit (Int (pos 0));
 }
 
-pub mark_is : (o : Schema) → command_of (understood (with_others o) update_mark_sql) ≡ Update 2 (record { lets = []; body = mark_query })
+pub mark_is : (o : Schema) → command_of (understood (with_others o) update_mark_sql)
+    ≡ Update 2 (record { lets = []; body = mark_query })
 unfolding understood everything
 mark_is o = refl
 
@@ -69,7 +73,8 @@ update_query = record {
   from = inner 4 end;
   filter = op2 (Compare Eq Binary) (col 1 0) (col 0 7) ∷ [];
   group = None;
-  project = col 1 0 ∷ col 1 0 ∷ col 1 1 ∷ col 1 2 ∷ col 0 2 ∷ col 0 3 ∷ col 0 4 ∷ col 0 5 ∷ col 0 6 ∷ [];
+  project = col 1 0 ∷ col 1 0 ∷ col 1 1 ∷ col 1 2 ∷ col 0 2 ∷ col 0 3 ∷ col 0 4 ∷ col 0 5 ∷ col 0 6
+      ∷ [];
   distinct = false;
   collations = [];
   order = [];
@@ -78,9 +83,13 @@ update_query = record {
 }
 
 abbrev pub issue_upsert : Upsert
-issue_upsert = record { target = Some (1 ∷ 2 ∷ []); update = Some (record { lets = []; body = update_query }) }
+issue_upsert = record {
+  target = Some (1 ∷ 2 ∷ []);
+  update = Some (record { lets = []; body = update_query });
+}
 
-pub issue_is : (o : Schema) → command_of (understood (with_others o) insert_serial_sql) ≡ Insert 3 (Values issue_terms 8)
+pub issue_is : (o : Schema) → command_of (understood (with_others o) insert_serial_sql)
+    ≡ Insert 3 (Values issue_terms 8)
 unfolding understood everything
 issue_is o = refl
 
@@ -88,7 +97,8 @@ pub issue_plain : (o : Schema) → IsPlain (understood (with_others o) insert_se
 unfolding understood everything
 issue_plain o = (refl, refl)
 
-pub again_is : (o : Schema) → command_of (understood (with_others o) upsert_serial_sql) ≡ InsertOr 3 Abort (Values issue_terms 8) (issue_upsert ∷ [])
+pub again_is : (o : Schema) → command_of (understood (with_others o) upsert_serial_sql)
+    ≡ InsertOr 3 Abort (Values issue_terms 8) (issue_upsert ∷ [])
 unfolding understood everything
 again_is o = refl
 
@@ -99,7 +109,8 @@ again_plain o = (refl, refl)
 abbrev pub close_terms : List Term
 close_terms = col 0 0 ∷ lit Null ∷ col 0 1 ∷ []
 
-pub close_is : (o : Schema) → command_of (understood (with_closed o) insert_closed_sql) ≡ Insert 4 (Values close_terms 3)
+pub close_is : (o : Schema) → command_of (understood (with_closed o) insert_closed_sql)
+    ≡ Insert 4 (Values close_terms 3)
 unfolding understood everything
 close_is o = refl
 

@@ -38,8 +38,10 @@ abbrev pub IsOpenIf : {S : Type 0} → Ghosts S → Held S → Bool → Type 0
 IsOpenIf g conn answered = answered ≡ true → IsClean g conn → IsOpen g conn
 
 -- under a schema that fits, what an opening after a crash may find, it could find before
-abbrev pub AddsNoCrashStateWhere : {S : Type 0} → (Schema → Type 0) → Ghosts S → Held S → Held S → Type 0
-AddsNoCrashStateWhere Fits g old new = IsClean g new → Fits (state g old).now.schema → (db : Trees) → (state g new).may_leave db → (state g old).may_leave db
+abbrev pub AddsNoCrashStateWhere : {S : Type 0} → (Schema → Type 0) → Ghosts S → Held S → Held S
+    → Type 0
+AddsNoCrashStateWhere Fits g old new = IsClean g new → Fits (state g old).now.schema → (db : Trees)
+    → (state g new).may_leave db → (state g old).may_leave db
 
 -- so it is in any ledger
 abbrev pub AddsNoCrashState : {S : Type 0} → Ghosts S → Held S → Held S → Type 0

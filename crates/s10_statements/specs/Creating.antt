@@ -3,11 +3,15 @@ use Rattle.std.specs.Prelude.{◌⊎◌, codes, IsSome, ⊤}
 use Rattle.sqlite_schema.specs.declared.schema.Schema.{Schema}
 use Rattle.sqlite_schema.specs.Names.{table_named}
 use Rattle.s10_rows.specs.declared.open_fault.OpenFault.{OpenFault}
-use Rattle.s10_rows.specs.declared.open_fault.OpenFault.TheVariants.{NotALedger, Schema as OtherSchema, Damaged, NotEmpty, Memory, Store}
+use Rattle.s10_rows.specs.declared.open_fault.OpenFault.TheVariants.{NotALedger}
+use Rattle.s10_rows.specs.declared.open_fault.OpenFault.TheVariants.{Schema as OtherSchema, Damaged}
+use Rattle.s10_rows.specs.declared.open_fault.OpenFault.TheVariants.{NotEmpty, Memory, Store}
 
 -- a table of one of the five names is there
 abbrev pub HasOneOfTheNames : Schema → Type 0
-HasOneOfTheNames s = IsSome (table_named s (codes "head")) ⊎ (IsSome (table_named s (codes "calls")) ⊎ (IsSome (table_named s (codes "ranges")) ⊎ (IsSome (table_named s (codes "serials")) ⊎ IsSome (table_named s (codes "closed")))))
+HasOneOfTheNames s = IsSome (table_named s (codes "head")) ⊎ (IsSome (table_named s (codes "calls"))
+    ⊎ (IsSome (table_named s (codes "ranges")) ⊎ (IsSome (table_named s (codes "serials"))
+    ⊎ IsSome (table_named s (codes "closed")))))
 
 -- what the making of a ledger is refused for
 abbrev pub IsCreateRefusal : Schema → OpenFault → Type 0

@@ -26,14 +26,16 @@ abbrev pub shown_range : RangeRow → Row
 shown_range r = Int r.num ∷ Int r.holder ∷ Int r.pair ∷ Int r.low ∷ Int r.high ∷ Int r.mark ∷ []
 
 abbrev pub shown_serial : SerialRow → Row
-shown_serial r = Int r.pair ∷ Int r.serial ∷ Int r.arrival ∷ Int r.day ∷ Int r.customer ∷ Int r.number ∷ Int r.voided ∷ []
+shown_serial r = Int r.pair ∷ Int r.serial ∷ Int r.arrival ∷ Int r.day ∷ Int r.customer
+    ∷ Int r.number ∷ Int r.voided ∷ []
 
 abbrev pub shown_closed : ClosedRow → Row
 shown_closed r = Int r.num ∷ Int r.arrival ∷ []
 
 -- the columns of a row of serials that is shown with its rowid after them
 abbrev pub serial_front : Row → Row
-serial_front v = column v 0 ∷ column v 1 ∷ column v 2 ∷ column v 3 ∷ column v 4 ∷ column v 5 ∷ column v 6 ∷ []
+serial_front v = column v 0 ∷ column v 1 ∷ column v 2 ∷ column v 3 ∷ column v 4 ∷ column v 5
+    ∷ column v 6 ∷ []
 
 -- the columns of a stored row. It begins with its rowid: that stands for the primary key of each table but serials, which has
 -- nothing in the place of that column.
@@ -47,7 +49,8 @@ abbrev pub range_columns : Row → Row
 range_columns r = column r 0 ∷ column r 2 ∷ column r 3 ∷ column r 4 ∷ column r 5 ∷ column r 6 ∷ []
 
 abbrev pub serial_columns : Row → Row
-serial_columns r = column r 1 ∷ column r 2 ∷ column r 3 ∷ column r 4 ∷ column r 5 ∷ column r 6 ∷ column r 7 ∷ []
+serial_columns r = column r 1 ∷ column r 2 ∷ column r 3 ∷ column r 4 ∷ column r 5 ∷ column r 6
+    ∷ column r 7 ∷ []
 
 abbrev pub closed_columns : Row → Row
 closed_columns r = column r 0 ∷ column r 2 ∷ []

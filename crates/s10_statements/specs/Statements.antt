@@ -16,56 +16,69 @@ abbrev pub select_ranges_sql : List ℕ
 select_ranges_sql = codes "SELECT num, holder, pair, low, high, mark FROM ranges ORDER BY num"
 
 abbrev pub select_serials_within_sql : List ℕ
-select_serials_within_sql = codes "SELECT pair, serial, arrival, day, customer, number, voided FROM serials WHERE pair = ?1 AND serial BETWEEN ?2 AND ?3 ORDER BY pair, serial"
+select_serials_within_sql =
+    codes "SELECT pair, serial, arrival, day, customer, number, voided FROM serials WHERE pair = ?1 AND serial BETWEEN ?2 AND ?3 ORDER BY pair, serial"
 
 abbrev pub select_serials_sql : List ℕ
-select_serials_sql = codes "SELECT pair, serial, arrival, day, customer, number, voided, rowid FROM serials ORDER BY pair, serial"
+select_serials_sql =
+    codes "SELECT pair, serial, arrival, day, customer, number, voided, rowid FROM serials ORDER BY pair, serial"
 
 abbrev pub select_closed_sql : List ℕ
 select_closed_sql = codes "SELECT num, arrival FROM closed ORDER BY num"
 
 abbrev pub create_head_sql : List ℕ
-create_head_sql = codes "CREATE TABLE head (one INTEGER NOT NULL PRIMARY KEY CHECK (one = 1), schema INTEGER NOT NULL, interval INTEGER NOT NULL, cap INTEGER NOT NULL) STRICT"
+create_head_sql =
+    codes "CREATE TABLE head (one INTEGER NOT NULL PRIMARY KEY CHECK (one = 1), schema INTEGER NOT NULL, interval INTEGER NOT NULL, cap INTEGER NOT NULL) STRICT"
 
 abbrev pub create_calls_sql : List ℕ
-create_calls_sql = codes "CREATE TABLE calls (arrival INTEGER NOT NULL PRIMARY KEY, customer INTEGER NOT NULL, number INTEGER NOT NULL, day INTEGER NOT NULL, reply BLOB NOT NULL, UNIQUE (customer, number)) STRICT"
+create_calls_sql =
+    codes "CREATE TABLE calls (arrival INTEGER NOT NULL PRIMARY KEY, customer INTEGER NOT NULL, number INTEGER NOT NULL, day INTEGER NOT NULL, reply BLOB NOT NULL, UNIQUE (customer, number)) STRICT"
 
 abbrev pub create_ranges_sql : List ℕ
-create_ranges_sql = codes "CREATE TABLE ranges (num INTEGER NOT NULL PRIMARY KEY, holder INTEGER NOT NULL, pair INTEGER NOT NULL, low INTEGER NOT NULL, high INTEGER NOT NULL, mark INTEGER NOT NULL) STRICT"
+create_ranges_sql =
+    codes "CREATE TABLE ranges (num INTEGER NOT NULL PRIMARY KEY, holder INTEGER NOT NULL, pair INTEGER NOT NULL, low INTEGER NOT NULL, high INTEGER NOT NULL, mark INTEGER NOT NULL) STRICT"
 
 abbrev pub create_serials_sql : List ℕ
-create_serials_sql = codes "CREATE TABLE serials (pair INTEGER NOT NULL, serial INTEGER NOT NULL, arrival INTEGER NOT NULL, day INTEGER NOT NULL, customer INTEGER NOT NULL, number INTEGER NOT NULL, voided INTEGER NOT NULL, PRIMARY KEY (pair, serial)) STRICT"
+create_serials_sql =
+    codes "CREATE TABLE serials (pair INTEGER NOT NULL, serial INTEGER NOT NULL, arrival INTEGER NOT NULL, day INTEGER NOT NULL, customer INTEGER NOT NULL, number INTEGER NOT NULL, voided INTEGER NOT NULL, PRIMARY KEY (pair, serial)) STRICT"
 
 abbrev pub create_closed_sql : List ℕ
-create_closed_sql = codes "CREATE TABLE closed (num INTEGER NOT NULL PRIMARY KEY, arrival INTEGER NOT NULL) STRICT"
+create_closed_sql =
+    codes "CREATE TABLE closed (num INTEGER NOT NULL PRIMARY KEY, arrival INTEGER NOT NULL) STRICT"
 
 abbrev pub insert_head_sql : List ℕ
 insert_head_sql = codes "INSERT INTO head (one, schema, interval, cap) VALUES (1, 1, ?1, ?2)"
 
 abbrev pub insert_call_sql : List ℕ
-insert_call_sql = codes "INSERT INTO calls (arrival, customer, number, day, reply) VALUES (?1, ?2, ?3, ?4, ?5)"
+insert_call_sql =
+    codes "INSERT INTO calls (arrival, customer, number, day, reply) VALUES (?1, ?2, ?3, ?4, ?5)"
 
 abbrev pub insert_range_sql : List ℕ
-insert_range_sql = codes "INSERT INTO ranges (num, holder, pair, low, high, mark) VALUES (?1, ?2, ?3, ?4, ?5, ?6)"
+insert_range_sql =
+    codes "INSERT INTO ranges (num, holder, pair, low, high, mark) VALUES (?1, ?2, ?3, ?4, ?5, ?6)"
 
 abbrev pub update_mark_sql : List ℕ
 update_mark_sql = codes "UPDATE ranges SET mark = ?2 WHERE num = ?1"
 
 abbrev pub insert_serial_sql : List ℕ
-insert_serial_sql = codes "INSERT INTO serials (pair, serial, arrival, day, customer, number, voided) VALUES (?1, ?2, ?3, ?4, ?5, ?6, ?7)"
+insert_serial_sql =
+    codes "INSERT INTO serials (pair, serial, arrival, day, customer, number, voided) VALUES (?1, ?2, ?3, ?4, ?5, ?6, ?7)"
 
 abbrev pub upsert_serial_sql : List ℕ
-upsert_serial_sql = codes "INSERT INTO serials (pair, serial, arrival, day, customer, number, voided) VALUES (?1, ?2, ?3, ?4, ?5, ?6, ?7) ON CONFLICT (pair, serial) DO UPDATE SET arrival = ?3, day = ?4, customer = ?5, number = ?6, voided = ?7"
+upsert_serial_sql =
+    codes "INSERT INTO serials (pair, serial, arrival, day, customer, number, voided) VALUES (?1, ?2, ?3, ?4, ?5, ?6, ?7) ON CONFLICT (pair, serial) DO UPDATE SET arrival = ?3, day = ?4, customer = ?5, number = ?6, voided = ?7"
 
 abbrev pub insert_closed_sql : List ℕ
 insert_closed_sql = codes "INSERT INTO closed (num, arrival) VALUES (?1, ?2)"
 
 -- A read under a schema that fits leaves the tables as they were, and a connection that has nothing to commit. What is said of them
 -- holds where the store is clean and the connection open as the read ends; the disk does not come clean again.
-pub record LeavesTablesWhere {S : Type 0} (Fits : Schema → Type 0) (g : Ghosts S) (old new : Held S) : Type 0 where
+pub record LeavesTablesWhere {S : Type 0} (Fits : Schema → Type 0) (g : Ghosts S)
+    (old new : Held S) : Type 0 where
   pub clean : StaysUnclean g old new
   pub was_open : IsClean g new → IsOpen g new → IsOpen g old
-  pub now : IsClean g new → IsOpen g new → IsQuiescent g old → Fits (state g old).now.schema → (state g new).now ≡ (state g old).now
+  pub now : IsClean g new → IsOpen g new → IsQuiescent g old → Fits (state g old).now.schema
+      → (state g new).now ≡ (state g old).now
   pub settled : IsQuiescent g old → IsQuiescent g new
 
 -- so it is in any ledger

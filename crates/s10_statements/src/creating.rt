@@ -1,6 +1,7 @@
 //! The five tables of a new ledger are made.
 
-ghost use Rattle.std.specs.Prelude.{◌≡◌, ℕ, ◌++◌, ◌∷◌, [], codes, false, IsSome, IfSome, None, Ok, OnOk, OnErr};
+ghost use Rattle.std.specs.Prelude.{◌≡◌, ℕ, ◌++◌, ◌∷◌, [], codes, false, IsSome, IfSome, None, Ok};
+ghost use Rattle.std.specs.Prelude.{OnOk, OnErr};
 ghost use Rattle.sqlite.specs.Held.{state};
 ghost use Rattle.sqlite.specs.State.{KeepsCommit, Survives, Executes};
 ghost use Rattle.sqlite_schema.specs.Names.{table_named};
@@ -8,7 +9,8 @@ ghost use Rattle.s10_statements.specs.Creating.{HasOneOfTheNames, IsCreateRefusa
 ghost use Rattle.s10_schema.specs.Schema.{no_schema, ledger_schema};
 ghost use Rattle.s10_rows.specs.Tables.{Tables, no_rows, head_row};
 ghost use Rattle.s10_statements.specs.Shown.{HasTables, StandsFor};
-ghost use Rattle.s10_statements.specs.ConnectionState.{IsQuiescent, WasSound, IsClean, IsOpen, IsInTransaction, StaysUnclean};
+ghost use Rattle.s10_statements.specs.ConnectionState.{IsQuiescent, WasSound, IsClean, IsOpen};
+ghost use Rattle.s10_statements.specs.ConnectionState.{IsInTransaction, StaysUnclean};
 
 use s10_history::Settings;
 use s10_rows::OpenFault;
@@ -33,13 +35,16 @@ pub(crate) const CLOSED: &str =
 pub(crate) fn run<S: Alter>(tx: &mut Transaction<'_, S>, sql: &str) -> Result<(), Error>
     ensures same_reference { tx.new.conn.ghost_name ≡ tx.old.conn.ghost_name }
     ensures runs { IsClean S.Store tx.new.conn.now → IsInTransaction S.Store tx.old.conn.now
-        → OnOk result ((count : ℕ) × Executes sql.now [] (state S.Store tx.old.conn.now) (state S.Store tx.new.conn.now) (Ok count)) }
+        → OnOk result ((count : ℕ) × Executes sql.now [] (state S.Store tx.old.conn.now)
+        (state S.Store tx.new.conn.now) (Ok count)) }
     ensures opened { IsClean S.Store tx.new.conn.now → IsInTransaction S.Store tx.old.conn.now
         → OnOk result (IsOpen S.Store tx.old.conn.now) }
     ensures inside { IsClean S.Store tx.new.conn.now → IsInTransaction S.Store tx.old.conn.now
         → OnOk result (IsInTransaction S.Store tx.new.conn.now) }
-    ensures kept { IsClean S.Store tx.new.conn.now → IsInTransaction S.Store tx.old.conn.now → KeepsCommit (state S.Store tx.old.conn.now) (state S.Store tx.new.conn.now) }
-    ensures survives { Survives (state S.Store tx.old.conn.now) (state S.Store tx.new.conn.now) (λ _. ⊥) }
+    ensures kept { IsClean S.Store tx.new.conn.now → IsInTransaction S.Store tx.old.conn.now
+        → KeepsCommit (state S.Store tx.old.conn.now) (state S.Store tx.new.conn.now) }
+    ensures survives { Survives (state S.Store tx.old.conn.now) (state S.Store tx.new.conn.now)
+        (λ _. ⊥) }
     ensures clean { StaysUnclean S.Store tx.old.conn.now tx.new.conn.now }
 {
     tx.execute(sql, &[])?;
@@ -49,13 +54,16 @@ pub(crate) fn run<S: Alter>(tx: &mut Transaction<'_, S>, sql: &str) -> Result<()
 // Makes the five tables, with no row.
 fn create_each_table<S: Alter>(tx: &mut Transaction<'_, S>) -> Result<(), Error>
     ensures same_reference { tx.new.conn.ghost_name ≡ tx.old.conn.ghost_name }
-    ensures made { IsClean S.Store tx.new.conn.now → IsInTransaction S.Store tx.old.conn.now → (state S.Store tx.old.conn.now).now.schema ≡ no_schema
+    ensures made { IsClean S.Store tx.new.conn.now → IsInTransaction S.Store tx.old.conn.now
+        → (state S.Store tx.old.conn.now).now.schema ≡ no_schema
         → OnOk result (HasTables (state S.Store tx.new.conn.now).now no_rows) }
-    ensures alone { IsClean S.Store tx.new.conn.now → IsInTransaction S.Store tx.old.conn.now → (state S.Store tx.old.conn.now).now.schema ≡ no_schema
+    ensures alone { IsClean S.Store tx.new.conn.now → IsInTransaction S.Store tx.old.conn.now
+        → (state S.Store tx.old.conn.now).now.schema ≡ no_schema
         → OnOk result ((state S.Store tx.new.conn.now).now.schema ≡ ledger_schema) }
     ensures inside { IsClean S.Store tx.new.conn.now → IsInTransaction S.Store tx.old.conn.now
         → OnOk result (IsInTransaction S.Store tx.new.conn.now) }
-    ensures kept { IsClean S.Store tx.new.conn.now → IsInTransaction S.Store tx.old.conn.now → KeepsCommit (state S.Store tx.old.conn.now) (state S.Store tx.new.conn.now) }
+    ensures kept { IsClean S.Store tx.new.conn.now → IsInTransaction S.Store tx.old.conn.now
+        → KeepsCommit (state S.Store tx.old.conn.now) (state S.Store tx.new.conn.now) }
     ensures clean { StaysUnclean S.Store tx.old.conn.now tx.new.conn.now }
 {
     run(tx, HEAD)?;
@@ -68,13 +76,17 @@ fn create_each_table<S: Alter>(tx: &mut Transaction<'_, S>) -> Result<(), Error>
 // Adds the row of the settings.
 fn insert_head<S: Alter>(tx: &mut Transaction<'_, S>, settings: Settings) -> Result<(), Error>
     ensures same_reference { tx.new.conn.ghost_name ≡ tx.old.conn.ghost_name }
-    ensures made { IsClean S.Store tx.new.conn.now → IsInTransaction S.Store tx.old.conn.now → OnOk result ((tables : Tables) → HasTables (state S.Store tx.old.conn.now).now tables
-        → HasTables (state S.Store tx.new.conn.now).now (record tables { heads = tables.heads ++ head_row settings ∷ [] })) }
-    ensures alone { IsClean S.Store tx.new.conn.now → IsInTransaction S.Store tx.old.conn.now → OnOk result ((tables : Tables) → HasTables (state S.Store tx.old.conn.now).now tables
+    ensures made { IsClean S.Store tx.new.conn.now → IsInTransaction S.Store tx.old.conn.now
+        → OnOk result ((tables : Tables) → HasTables (state S.Store tx.old.conn.now).now tables
+        → HasTables (state S.Store tx.new.conn.now).now
+        (record tables { heads = tables.heads ++ head_row settings ∷ [] })) }
+    ensures alone { IsClean S.Store tx.new.conn.now → IsInTransaction S.Store tx.old.conn.now
+        → OnOk result ((tables : Tables) → HasTables (state S.Store tx.old.conn.now).now tables
         → (state S.Store tx.new.conn.now).now.schema ≡ (state S.Store tx.old.conn.now).now.schema) }
     ensures inside { IsClean S.Store tx.new.conn.now → IsInTransaction S.Store tx.old.conn.now
         → OnOk result (IsInTransaction S.Store tx.new.conn.now) }
-    ensures kept { IsClean S.Store tx.new.conn.now → IsInTransaction S.Store tx.old.conn.now → KeepsCommit (state S.Store tx.old.conn.now) (state S.Store tx.new.conn.now) }
+    ensures kept { IsClean S.Store tx.new.conn.now → IsInTransaction S.Store tx.old.conn.now
+        → KeepsCommit (state S.Store tx.old.conn.now) (state S.Store tx.new.conn.now) }
     ensures clean { StaysUnclean S.Store tx.old.conn.now tx.new.conn.now }
 {
     let interval = settings.interval();
@@ -93,9 +105,12 @@ pub fn create_tables<S: Alter>(conn: &mut Connection<S>, settings: Settings) -> 
     ensures settled { IsQuiescent S.Store conn.new }
     ensures was { WasSound S.Store conn.old conn.new }
     ensures opened { IsClean S.Store conn.new → OnOk result (IsOpen S.Store conn.new) }
-    ensures all { IsClean S.Store conn.new → (state S.Store conn.old).now.schema ≡ no_schema → OnOk result (StandsFor (state S.Store conn.new).now [] settings) }
-    ensures alone { IsClean S.Store conn.new → (state S.Store conn.old).now.schema ≡ no_schema → OnOk result ((state S.Store conn.new).now.schema ≡ ledger_schema) }
-    ensures none { IsClean S.Store conn.new → IsOpen S.Store conn.new → OnErr result ((state S.Store conn.new).now ≡ (state S.Store conn.old).now) }
+    ensures all { IsClean S.Store conn.new → (state S.Store conn.old).now.schema ≡ no_schema
+        → OnOk result (StandsFor (state S.Store conn.new).now [] settings) }
+    ensures alone { IsClean S.Store conn.new → (state S.Store conn.old).now.schema ≡ no_schema
+        → OnOk result ((state S.Store conn.new).now.schema ≡ ledger_schema) }
+    ensures none { IsClean S.Store conn.new → IsOpen S.Store conn.new
+        → OnErr result ((state S.Store conn.new).now ≡ (state S.Store conn.old).now) }
 {
     // A connection that is in no transaction has nothing to commit.
     prove!(conn.is_autocommit());

@@ -17,12 +17,18 @@ pub fn create_closed<S: Alter>(conn: &mut Connection<S>) -> Result<(), Error>
     requires settled { IsQuiescent S.Store conn.old }
     ensures settled { IsQuiescent S.Store conn.new }
     ensures opened { IsClean S.Store conn.new → OnOk result (IsOpen S.Store conn.new) }
-    ensures all { IsClean S.Store conn.new → OnOk result ((tables : Tables) → HasOldTables (state S.Store conn.old).now tables → HasTables (state S.Store conn.new).now tables) }
-    ensures none { IsClean S.Store conn.new → IsOpen S.Store conn.new → OnErr result ((state S.Store conn.new).now ≡ (state S.Store conn.old).now) }
-    ensures was_open { IsClean S.Store conn.new → IsOpen S.Store conn.new → IsOpen S.Store conn.old }
+    ensures all { IsClean S.Store conn.new
+        → OnOk result ((tables : Tables) → HasOldTables (state S.Store conn.old).now tables
+        → HasTables (state S.Store conn.new).now tables) }
+    ensures none { IsClean S.Store conn.new → IsOpen S.Store conn.new
+        → OnErr result ((state S.Store conn.new).now ≡ (state S.Store conn.old).now) }
+    ensures was_open { IsClean S.Store conn.new → IsOpen S.Store conn.new
+        → IsOpen S.Store conn.old }
     ensures clean { StaysUnclean S.Store conn.old conn.new }
     ensures crash { IsClean S.Store conn.new → (db : Trees) → (state S.Store conn.new).may_leave db
-        → (state S.Store conn.old).may_leave db ⊎ (IsOpen S.Store conn.old × ((tables : Tables) → HasOldTables (state S.Store conn.old).now tables
+        → (state S.Store conn.old).may_leave db
+        ⊎ (IsOpen S.Store conn.old × ((tables : Tables) → HasOldTables (state S.Store conn.old).now
+        tables
         → HasTables (record { schema = ledger_schema; trees = db }) tables)) }
 {
     let mut tx = conn.transaction();

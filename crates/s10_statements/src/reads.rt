@@ -12,9 +12,13 @@ ghost use Rattle.sqlite.specs.Listing.{understood};
 ghost use Rattle.sqlite.specs.Values.{bound};
 ghost use Rattle.s10_rows.specs.Tables.{Tables, HaveSameRows};
 ghost use Rattle.s10_schema.specs.Schema.{IsLedgerSchema, IsClosedSchema};
-ghost use Rattle.s10_statements.specs.Shown.{HasTables, shown_head, shown_call, shown_range, shown_serial, shown_closed, head_columns, call_columns, range_columns, serial_columns, closed_columns, HasIntegerRowid};
+ghost use Rattle.s10_statements.specs.Shown.{HasTables, shown_head, shown_call, shown_range};
+ghost use Rattle.s10_statements.specs.Shown.{shown_serial, shown_closed, head_columns};
+ghost use Rattle.s10_statements.specs.Shown.{call_columns, range_columns, serial_columns};
+ghost use Rattle.s10_statements.specs.Shown.{closed_columns, HasIntegerRowid};
 ghost use Rattle.s10_rows.specs.Selected.{is_within};
-ghost use Rattle.s10_statements.specs.ConnectionState.{AddsNoCrashState, AddsNoCrashStateWhere, IsClean, IsOpen};
+ghost use Rattle.s10_statements.specs.ConnectionState.{AddsNoCrashState, AddsNoCrashStateWhere};
+ghost use Rattle.s10_statements.specs.ConnectionState.{IsClean, IsOpen};
 ghost use Rattle.s10_statements.specs.Statements.{LeavesTables, LeavesTablesWhere};
 
 use crate::observer::Observer;
@@ -31,9 +35,13 @@ fn read<S: Alter>(
     sql: &str,
     params: &[ValueRef<'_>],
 ) -> Result<Vec<Row>, Error>
-    ensures leaves { LeavesTablesWhere (λ schema. IsPlain (understood schema sql.now)) S.Store conn.old conn.new }
-    ensures spares { AddsNoCrashStateWhere (λ schema. IsPlain (understood schema sql.now)) S.Store conn.old conn.new }
-    ensures rows { IsClean S.Store conn.new → IfOk result (λ rows. Shown sql.now (bound params.now) (state S.Store conn.old) (state S.Store conn.new) rows.items) }
+    ensures leaves { LeavesTablesWhere (λ schema. IsPlain (understood schema sql.now)) S.Store
+        conn.old conn.new }
+    ensures spares { AddsNoCrashStateWhere (λ schema. IsPlain (understood schema sql.now)) S.Store
+        conn.old conn.new }
+    ensures rows { IsClean S.Store conn.new
+        → IfOk result (λ rows. Shown sql.now (bound params.now) (state S.Store conn.old)
+        (state S.Store conn.new) rows.items) }
     ensures opened { IsClean S.Store conn.new → OnOk result (IsOpen S.Store conn.new) }
 {
     conn.query_all(sql, params)
@@ -44,8 +52,10 @@ pub fn all_heads<S: Alter>(alloc: Global, conn: &mut Connection<S>) -> Result<Ve
     ensures spares { AddsNoCrashState S.Store conn.old conn.new }
     ensures leaves { LeavesTables S.Store conn.old conn.new }
     ensures opened { IsClean S.Store conn.new → OnOk result (IsOpen S.Store conn.new) }
-    ensures rows { IsClean S.Store conn.new → IfOk result (λ rows. IsLedgerSchema (state S.Store conn.old).now.schema
-        → HaveSameRows (map shown_head rows.items) (map head_columns ((state S.Store conn.old).now.trees 0))) }
+    ensures rows { IsClean S.Store conn.new
+        → IfOk result (λ rows. IsLedgerSchema (state S.Store conn.old).now.schema
+        → HaveSameRows (map shown_head rows.items)
+        (map head_columns ((state S.Store conn.old).now.trees 0))) }
 {
     let rows = read(
         conn,
@@ -63,11 +73,16 @@ pub fn all_calls<S: Alter, W: Observer>(
 ) -> Result<Vec<CallRow>, Error>
     ensures leaves { LeavesTables S.Store conn.old conn.new }
     ensures opened { IsClean S.Store conn.new → OnOk result (IsOpen S.Store conn.new) }
-    ensures rows { IsClean S.Store conn.new → IfOk result (λ rows. IsLedgerSchema (state S.Store conn.old).now.schema
-        → HaveSameRows (map shown_call rows.items) (map call_columns ((state S.Store conn.old).now.trees 1))) }
-    ensures in_order { IsClean S.Store conn.new → IfOk result (λ rows. (tables : Tables) → HasTables (state S.Store conn.old).now tables
-        → IsAscending (λ a b. int_cmp a.arrival b.arrival ≡ Ordering.Less) tables.calls → rows.items ≡ tables.calls) }
-    ensures sorted { IsClean S.Store conn.new → IfOk result (λ rows. IsLedgerSchema (state S.Store conn.old).now.schema
+    ensures rows { IsClean S.Store conn.new
+        → IfOk result (λ rows. IsLedgerSchema (state S.Store conn.old).now.schema
+        → HaveSameRows (map shown_call rows.items)
+        (map call_columns ((state S.Store conn.old).now.trees 1))) }
+    ensures in_order { IsClean S.Store conn.new → IfOk result (λ rows. (tables : Tables)
+        → HasTables (state S.Store conn.old).now tables
+        → IsAscending (λ a b. int_cmp a.arrival b.arrival ≡ Ordering.Less) tables.calls
+        → rows.items ≡ tables.calls) }
+    ensures sorted { IsClean S.Store conn.new
+        → IfOk result (λ rows. IsLedgerSchema (state S.Store conn.old).now.schema
         → IsAscending (λ a b. int_cmp a.arrival b.arrival ≢ Ordering.Greater) rows.items) }
 {
     stream_calls(
@@ -84,10 +99,14 @@ pub fn all_ranges<S: Alter>(alloc: Global, conn: &mut Connection<S>) -> Result<V
     ensures spares { AddsNoCrashState S.Store conn.old conn.new }
     ensures leaves { LeavesTables S.Store conn.old conn.new }
     ensures opened { IsClean S.Store conn.new → OnOk result (IsOpen S.Store conn.new) }
-    ensures rows { IsClean S.Store conn.new → IfOk result (λ rows. IsLedgerSchema (state S.Store conn.old).now.schema
-        → HaveSameRows (map shown_range rows.items) (map range_columns ((state S.Store conn.old).now.trees 3))) }
-    ensures in_order { IsClean S.Store conn.new → IfOk result (λ rows. (tables : Tables) → HasTables (state S.Store conn.old).now tables
-        → IsAscending (λ a b. int_cmp a.num b.num ≡ Ordering.Less) tables.ranges → rows.items ≡ tables.ranges) }
+    ensures rows { IsClean S.Store conn.new
+        → IfOk result (λ rows. IsLedgerSchema (state S.Store conn.old).now.schema
+        → HaveSameRows (map shown_range rows.items)
+        (map range_columns ((state S.Store conn.old).now.trees 3))) }
+    ensures in_order { IsClean S.Store conn.new → IfOk result (λ rows. (tables : Tables)
+        → HasTables (state S.Store conn.old).now tables
+        → IsAscending (λ a b. int_cmp a.num b.num ≡ Ordering.Less) tables.ranges
+        → rows.items ≡ tables.ranges) }
 {
     let rows = read(
         conn,
@@ -108,8 +127,10 @@ pub fn serials_within<S: Alter>(
     ensures spares { AddsNoCrashState S.Store conn.old conn.new }
     ensures leaves { LeavesTables S.Store conn.old conn.new }
     ensures opened { IsClean S.Store conn.new → OnOk result (IsOpen S.Store conn.new) }
-    ensures rows { IsClean S.Store conn.new → IfOk result (λ rows. (tables : Tables) → HasTables (state S.Store conn.old).now tables
-        → HaveSameRows (filter (is_within (pos pair) (pos low) (pos high)) tables.serials) rows.items) }
+    ensures rows { IsClean S.Store conn.new → IfOk result (λ rows. (tables : Tables)
+        → HasTables (state S.Store conn.old).now tables
+        → HaveSameRows (filter (is_within (pos pair) (pos low) (pos high)) tables.serials)
+        rows.items) }
 {
     let rows = read(
         conn,
@@ -127,9 +148,13 @@ pub fn all_serials<S: Alter, W: Observer>(
 ) -> Result<Vec<SerialRow>, Error>
     ensures leaves { LeavesTables S.Store conn.old conn.new }
     ensures opened { IsClean S.Store conn.new → OnOk result (IsOpen S.Store conn.new) }
-    ensures rows { IsClean S.Store conn.new → IfOk result (λ rows. IsLedgerSchema (state S.Store conn.old).now.schema
-        → HaveSameRows (map shown_serial rows.items) (map serial_columns ((state S.Store conn.old).now.trees 4))) }
-    ensures numbered { IsClean S.Store conn.new → OnOk result (IsLedgerSchema (state S.Store conn.old).now.schema → AllByRecursion HasIntegerRowid ((state S.Store conn.old).now.trees 4)) }
+    ensures rows { IsClean S.Store conn.new
+        → IfOk result (λ rows. IsLedgerSchema (state S.Store conn.old).now.schema
+        → HaveSameRows (map shown_serial rows.items)
+        (map serial_columns ((state S.Store conn.old).now.trees 4))) }
+    ensures numbered { IsClean S.Store conn.new
+        → OnOk result (IsLedgerSchema (state S.Store conn.old).now.schema
+        → AllByRecursion HasIntegerRowid ((state S.Store conn.old).now.trees 4)) }
 {
     stream_serials(
         alloc,
@@ -147,10 +172,14 @@ pub fn all_closed<S: Alter>(
     ensures spares { AddsNoCrashStateWhere IsClosedSchema S.Store conn.old conn.new }
     ensures leaves { LeavesTablesWhere IsClosedSchema S.Store conn.old conn.new }
     ensures opened { IsClean S.Store conn.new → OnOk result (IsOpen S.Store conn.new) }
-    ensures rows { IsClean S.Store conn.new → IfOk result (λ rows. IsClosedSchema (state S.Store conn.old).now.schema
-        → HaveSameRows (map shown_closed rows.items) (map closed_columns ((state S.Store conn.old).now.trees 6))) }
-    ensures in_order { IsClean S.Store conn.new → IfOk result (λ rows. (tables : Tables) → HasTables (state S.Store conn.old).now tables
-        → IsAscending (λ a b. int_cmp a.num b.num ≡ Ordering.Less) tables.closed → rows.items ≡ tables.closed) }
+    ensures rows { IsClean S.Store conn.new
+        → IfOk result (λ rows. IsClosedSchema (state S.Store conn.old).now.schema
+        → HaveSameRows (map shown_closed rows.items)
+        (map closed_columns ((state S.Store conn.old).now.trees 6))) }
+    ensures in_order { IsClean S.Store conn.new → IfOk result (λ rows. (tables : Tables)
+        → HasTables (state S.Store conn.old).now tables
+        → IsAscending (λ a b. int_cmp a.num b.num ≡ Ordering.Less) tables.closed
+        → rows.items ≡ tables.closed) }
 {
     let rows = read(conn, "SELECT num, arrival FROM closed ORDER BY num", &[])?;
     rows_in(alloc, &rows)

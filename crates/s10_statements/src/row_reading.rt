@@ -3,7 +3,8 @@
 ghost use Rattle.std.specs.Prelude.{◌≡◌, length, IfOk, OnOk, IsTrue, map};
 ghost use Rattle.sqlite_value.specs.Order.{column};
 ghost use Rattle.sqlite_trees.specs.View.{is_int};
-ghost use Rattle.s10_statements.specs.Shown.{shown_head, shown_call, shown_range, shown_serial, shown_closed, serial_front};
+ghost use Rattle.s10_statements.specs.Shown.{shown_head, shown_call, shown_range, shown_serial};
+ghost use Rattle.s10_statements.specs.Shown.{shown_closed, serial_front};
 
 use crate::from_row::FromRow;
 use s10_rows::{CallRow, ClosedRow, HeadRow, RangeRow, SerialRow};

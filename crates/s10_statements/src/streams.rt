@@ -36,8 +36,10 @@ pub(crate) fn stream_calls<S: Alter, W: Observer>(
     ensures leaves { LeavesTables S.Store conn.old conn.new }
     ensures spares { AddsNoCrashState S.Store conn.old conn.new }
     ensures opened { IsClean S.Store conn.new → OnOk result (IsOpen S.Store conn.new) }
-    ensures rows { IsClean S.Store conn.new → IfOk result (λ calls. IsLedgerSchema (state S.Store conn.old).now.schema
-        → (rows : List Row) × Shown sql.now (bound params.now) (state S.Store conn.old) (state S.Store conn.new) rows × (map shown_call calls.items ≡ rows)) }
+    ensures rows { IsClean S.Store conn.new
+        → IfOk result (λ calls. IsLedgerSchema (state S.Store conn.old).now.schema
+        → (rows : List Row) × Shown sql.now (bound params.now) (state S.Store conn.old)
+        (state S.Store conn.new) rows × (map shown_call calls.items ≡ rows)) }
 {
     let mut calls = Vec::new(alloc);
     let mut shown = conn.query(sql, params)?;
@@ -62,8 +64,11 @@ pub(crate) fn stream_serials<S: Alter, W: Observer>(
     requires plain { (o : Schema) → IsPlain (understood (with_others o) sql.now) }
     ensures leaves { LeavesTables S.Store conn.old conn.new }
     ensures opened { IsClean S.Store conn.new → OnOk result (IsOpen S.Store conn.new) }
-    ensures rows { IsClean S.Store conn.new → IfOk result (λ serials. IsLedgerSchema (state S.Store conn.old).now.schema
-        → (rows : List Row) × Shown sql.now (bound []) (state S.Store conn.old) (state S.Store conn.new) rows × (map shown_serial serials.items ≡ map serial_front rows) × All (λ row. IsTrue (is_int (column row 7))) rows) }
+    ensures rows { IsClean S.Store conn.new
+        → IfOk result (λ serials. IsLedgerSchema (state S.Store conn.old).now.schema
+        → (rows : List Row) × Shown sql.now (bound []) (state S.Store conn.old)
+        (state S.Store conn.new) rows × (map shown_serial serials.items ≡ map serial_front rows)
+        × All (λ row. IsTrue (is_int (column row 7))) rows) }
 {
     let mut serials = Vec::new(alloc);
     let mut shown = conn.query(sql, &[])?;

@@ -1,14 +1,17 @@
 //! The writes of a kept call.
 
-ghost use Rattle.std.specs.Prelude.{◌≡◌, ◌≢◌, ◌≤◌, ◌⊎◌, ◌++◌, ◌∷◌, [], pos, true, List, length, filter, option_to_list, OnOk, OnErr};
+ghost use Rattle.std.specs.Prelude.{◌≡◌, ◌≢◌, ◌≤◌, ◌⊎◌, ◌++◌, ◌∷◌, [], pos, true, List, length};
+ghost use Rattle.std.specs.Prelude.{filter, option_to_list, OnOk, OnErr};
 ghost use Rattle.sqlite_trees.specs.Tree.{Trees};
 ghost use Rattle.sqlite.specs.Held.{state};
 ghost use Rattle.sqlite.specs.State.{Shows, KeepsCommit, Survives};
 ghost use Rattle.s10_rows.specs.CallRow.{StoredCall};
 ghost use Rattle.s10_rows.specs.Tables.{Tables, closing};
 ghost use Rattle.s10_statements.specs.Shown.{HasTables};
-ghost use Rattle.s10_statements.specs.ConnectionState.{IsQuiescent, IsClean, IsOpen, IsInTransaction, StaysUnclean};
-ghost use Rattle.s10_rows.specs.RowWrites.{FindAtMostOne, is_at, row_of, with_range, with_ranges, with_serial, with_serials};
+ghost use Rattle.s10_statements.specs.ConnectionState.{IsQuiescent, IsClean, IsOpen};
+ghost use Rattle.s10_statements.specs.ConnectionState.{IsInTransaction, StaysUnclean};
+ghost use Rattle.s10_rows.specs.RowWrites.{FindAtMostOne, is_at, row_of, with_range, with_ranges};
+ghost use Rattle.s10_rows.specs.RowWrites.{with_serial, with_serials};
 ghost use Rattle.s10_rows.specs.CallWrite.{AreWritten, with_call};
 
 use s10_history::Entry;
@@ -23,13 +26,25 @@ fn insert_call<S: Alter>(
     reply: &[u8],
 ) -> Result<(), Error>
     ensures same_reference { tx.new.conn.ghost_name ≡ tx.old.conn.ghost_name }
-    ensures made { let row : StoredCall = record { arrival = pos arrival; customer = pos entry.now.request.customer; number = pos entry.now.request.number; day = pos entry.now.day; reply = reply.now } in
-        IsClean S.Store tx.new.conn.now → IsInTransaction S.Store tx.old.conn.now → OnOk result ((tables : Tables) → HasTables (state S.Store tx.old.conn.now).now tables
-        → HasTables (state S.Store tx.new.conn.now).now (record tables { calls = tables.calls ++ row ∷ [] })) }
+    ensures made { let row : StoredCall = record {
+      arrival = pos arrival;
+      customer = pos entry.now.request.customer;
+      number = pos entry.now.request.number;
+      day =
+          pos entry.now.day;
+      reply = reply.now;
+    } in
+        IsClean S.Store tx.new.conn.now → IsInTransaction S.Store tx.old.conn.now
+        → OnOk result ((tables : Tables) → HasTables (state S.Store tx.old.conn.now).now tables
+        → HasTables (state S.Store tx.new.conn.now).now
+        (record tables { calls = tables.calls ++ row ∷ [] })) }
     ensures inside { IsClean S.Store tx.new.conn.now → IsInTransaction S.Store tx.old.conn.now
-        → OnOk result (Shows (state S.Store tx.old.conn.now) (state S.Store tx.new.conn.now) (state S.Store tx.new.conn.now).now (state S.Store tx.old.conn.now).committed true) }
-    ensures kept { IsClean S.Store tx.new.conn.now → IsInTransaction S.Store tx.old.conn.now → KeepsCommit (state S.Store tx.old.conn.now) (state S.Store tx.new.conn.now) }
-    ensures survives { Survives (state S.Store tx.old.conn.now) (state S.Store tx.new.conn.now) (λ _. ⊥) }
+        → OnOk result (Shows (state S.Store tx.old.conn.now) (state S.Store tx.new.conn.now)
+        (state S.Store tx.new.conn.now).now (state S.Store tx.old.conn.now).committed true) }
+    ensures kept { IsClean S.Store tx.new.conn.now → IsInTransaction S.Store tx.old.conn.now
+        → KeepsCommit (state S.Store tx.old.conn.now) (state S.Store tx.new.conn.now) }
+    ensures survives { Survives (state S.Store tx.old.conn.now) (state S.Store tx.new.conn.now)
+        (λ _. ⊥) }
 {
     tx.execute(
         "INSERT INTO calls (arrival, customer, number, day, reply) VALUES (?1, ?2, ?3, ?4, ?5)",
@@ -47,12 +62,17 @@ fn insert_call<S: Alter>(
 /// Adds the row of a range.
 fn insert_range<S: Alter>(tx: &mut Transaction<'_, S>, range: &RangeRow) -> Result<(), Error>
     ensures same_reference { tx.new.conn.ghost_name ≡ tx.old.conn.ghost_name }
-    ensures made { IsClean S.Store tx.new.conn.now → IsInTransaction S.Store tx.old.conn.now → OnOk result ((tables : Tables) → HasTables (state S.Store tx.old.conn.now).now tables
-        → HasTables (state S.Store tx.new.conn.now).now (record tables { ranges = with_range (RangeWrite.New range.now) tables.ranges })) }
+    ensures made { IsClean S.Store tx.new.conn.now → IsInTransaction S.Store tx.old.conn.now
+        → OnOk result ((tables : Tables) → HasTables (state S.Store tx.old.conn.now).now tables
+        → HasTables (state S.Store tx.new.conn.now).now
+        (record tables { ranges = with_range (RangeWrite.New range.now) tables.ranges })) }
     ensures inside { IsClean S.Store tx.new.conn.now → IsInTransaction S.Store tx.old.conn.now
-        → OnOk result (Shows (state S.Store tx.old.conn.now) (state S.Store tx.new.conn.now) (state S.Store tx.new.conn.now).now (state S.Store tx.old.conn.now).committed true) }
-    ensures kept { IsClean S.Store tx.new.conn.now → IsInTransaction S.Store tx.old.conn.now → KeepsCommit (state S.Store tx.old.conn.now) (state S.Store tx.new.conn.now) }
-    ensures survives { Survives (state S.Store tx.old.conn.now) (state S.Store tx.new.conn.now) (λ _. ⊥) }
+        → OnOk result (Shows (state S.Store tx.old.conn.now) (state S.Store tx.new.conn.now)
+        (state S.Store tx.new.conn.now).now (state S.Store tx.old.conn.now).committed true) }
+    ensures kept { IsClean S.Store tx.new.conn.now → IsInTransaction S.Store tx.old.conn.now
+        → KeepsCommit (state S.Store tx.old.conn.now) (state S.Store tx.new.conn.now) }
+    ensures survives { Survives (state S.Store tx.old.conn.now) (state S.Store tx.new.conn.now)
+        (λ _. ⊥) }
 {
     let RangeRow {
         num,
@@ -72,12 +92,17 @@ fn insert_range<S: Alter>(tx: &mut Transaction<'_, S>, range: &RangeRow) -> Resu
 /// Sets the mark of the range of that number. It fails unless one row is changed.
 fn update_mark<S: Alter>(tx: &mut Transaction<'_, S>, num: i64, mark: i64) -> Result<(), Error>
     ensures same_reference { tx.new.conn.ghost_name ≡ tx.old.conn.ghost_name }
-    ensures made { IsClean S.Store tx.new.conn.now → IsInTransaction S.Store tx.old.conn.now → OnOk result ((tables : Tables) → HasTables (state S.Store tx.old.conn.now).now tables
-        → HasTables (state S.Store tx.new.conn.now).now (record tables { ranges = with_range (RangeWrite.Mark num mark) tables.ranges })) }
+    ensures made { IsClean S.Store tx.new.conn.now → IsInTransaction S.Store tx.old.conn.now
+        → OnOk result ((tables : Tables) → HasTables (state S.Store tx.old.conn.now).now tables
+        → HasTables (state S.Store tx.new.conn.now).now
+        (record tables { ranges = with_range (RangeWrite.Mark num mark) tables.ranges })) }
     ensures inside { IsClean S.Store tx.new.conn.now → IsInTransaction S.Store tx.old.conn.now
-        → OnOk result (Shows (state S.Store tx.old.conn.now) (state S.Store tx.new.conn.now) (state S.Store tx.new.conn.now).now (state S.Store tx.old.conn.now).committed true) }
-    ensures kept { IsClean S.Store tx.new.conn.now → IsInTransaction S.Store tx.old.conn.now → KeepsCommit (state S.Store tx.old.conn.now) (state S.Store tx.new.conn.now) }
-    ensures survives { Survives (state S.Store tx.old.conn.now) (state S.Store tx.new.conn.now) (λ _. ⊥) }
+        → OnOk result (Shows (state S.Store tx.old.conn.now) (state S.Store tx.new.conn.now)
+        (state S.Store tx.new.conn.now).now (state S.Store tx.old.conn.now).committed true) }
+    ensures kept { IsClean S.Store tx.new.conn.now → IsInTransaction S.Store tx.old.conn.now
+        → KeepsCommit (state S.Store tx.old.conn.now) (state S.Store tx.new.conn.now) }
+    ensures survives { Survives (state S.Store tx.old.conn.now) (state S.Store tx.new.conn.now)
+        (λ _. ⊥) }
 {
     let changed = tx.execute(
         "UPDATE ranges SET mark = ?2 WHERE num = ?1",
@@ -93,12 +118,17 @@ fn update_mark<S: Alter>(tx: &mut Transaction<'_, S>, num: i64, mark: i64) -> Re
 /// Makes of the ranges what a call makes of them.
 fn apply_range_write<S: Alter>(tx: &mut Transaction<'_, S>, write: &RangeWrite) -> Result<(), Error>
     ensures same_reference { tx.new.conn.ghost_name ≡ tx.old.conn.ghost_name }
-    ensures made { IsClean S.Store tx.new.conn.now → IsInTransaction S.Store tx.old.conn.now → OnOk result ((tables : Tables) → HasTables (state S.Store tx.old.conn.now).now tables
-        → HasTables (state S.Store tx.new.conn.now).now (record tables { ranges = with_range write.now tables.ranges })) }
+    ensures made { IsClean S.Store tx.new.conn.now → IsInTransaction S.Store tx.old.conn.now
+        → OnOk result ((tables : Tables) → HasTables (state S.Store tx.old.conn.now).now tables
+        → HasTables (state S.Store tx.new.conn.now).now
+        (record tables { ranges = with_range write.now tables.ranges })) }
     ensures inside { IsClean S.Store tx.new.conn.now → IsInTransaction S.Store tx.old.conn.now
-        → OnOk result (Shows (state S.Store tx.old.conn.now) (state S.Store tx.new.conn.now) (state S.Store tx.new.conn.now).now (state S.Store tx.old.conn.now).committed true) }
-    ensures kept { IsClean S.Store tx.new.conn.now → IsInTransaction S.Store tx.old.conn.now → KeepsCommit (state S.Store tx.old.conn.now) (state S.Store tx.new.conn.now) }
-    ensures survives { Survives (state S.Store tx.old.conn.now) (state S.Store tx.new.conn.now) (λ _. ⊥) }
+        → OnOk result (Shows (state S.Store tx.old.conn.now) (state S.Store tx.new.conn.now)
+        (state S.Store tx.new.conn.now).now (state S.Store tx.old.conn.now).committed true) }
+    ensures kept { IsClean S.Store tx.new.conn.now → IsInTransaction S.Store tx.old.conn.now
+        → KeepsCommit (state S.Store tx.old.conn.now) (state S.Store tx.new.conn.now) }
+    ensures survives { Survives (state S.Store tx.old.conn.now) (state S.Store tx.new.conn.now)
+        (λ _. ⊥) }
 {
     match *write {
         RangeWrite::New(row) => insert_range(tx, &row),
@@ -109,12 +139,17 @@ fn apply_range_write<S: Alter>(tx: &mut Transaction<'_, S>, write: &RangeWrite) 
 /// Adds the row of a serial.
 fn insert_serial<S: Alter>(tx: &mut Transaction<'_, S>, serial: &SerialRow) -> Result<(), Error>
     ensures same_reference { tx.new.conn.ghost_name ≡ tx.old.conn.ghost_name }
-    ensures made { IsClean S.Store tx.new.conn.now → IsInTransaction S.Store tx.old.conn.now → OnOk result ((tables : Tables) → HasTables (state S.Store tx.old.conn.now).now tables
-        → HasTables (state S.Store tx.new.conn.now).now (record tables { serials = with_serial (SerialWrite.New serial.now) tables.serials })) }
+    ensures made { IsClean S.Store tx.new.conn.now → IsInTransaction S.Store tx.old.conn.now
+        → OnOk result ((tables : Tables) → HasTables (state S.Store tx.old.conn.now).now tables
+        → HasTables (state S.Store tx.new.conn.now).now
+        (record tables { serials = with_serial (SerialWrite.New serial.now) tables.serials })) }
     ensures inside { IsClean S.Store tx.new.conn.now → IsInTransaction S.Store tx.old.conn.now
-        → OnOk result (Shows (state S.Store tx.old.conn.now) (state S.Store tx.new.conn.now) (state S.Store tx.new.conn.now).now (state S.Store tx.old.conn.now).committed true) }
-    ensures kept { IsClean S.Store tx.new.conn.now → IsInTransaction S.Store tx.old.conn.now → KeepsCommit (state S.Store tx.old.conn.now) (state S.Store tx.new.conn.now) }
-    ensures survives { Survives (state S.Store tx.old.conn.now) (state S.Store tx.new.conn.now) (λ _. ⊥) }
+        → OnOk result (Shows (state S.Store tx.old.conn.now) (state S.Store tx.new.conn.now)
+        (state S.Store tx.new.conn.now).now (state S.Store tx.old.conn.now).committed true) }
+    ensures kept { IsClean S.Store tx.new.conn.now → IsInTransaction S.Store tx.old.conn.now
+        → KeepsCommit (state S.Store tx.old.conn.now) (state S.Store tx.new.conn.now) }
+    ensures survives { Survives (state S.Store tx.old.conn.now) (state S.Store tx.new.conn.now)
+        (λ _. ⊥) }
 {
     let SerialRow {
         pair,
@@ -135,12 +170,20 @@ fn insert_serial<S: Alter>(tx: &mut Transaction<'_, S>, serial: &SerialRow) -> R
 /// Puts the row of a serial in the place of the one of its identifier, or adds it. It fails unless one row is changed.
 fn upsert_serial<S: Alter>(tx: &mut Transaction<'_, S>, serial: &SerialRow) -> Result<(), Error>
     ensures same_reference { tx.new.conn.ghost_name ≡ tx.old.conn.ghost_name }
-    ensures made { IsClean S.Store tx.new.conn.now → IsInTransaction S.Store tx.old.conn.now → OnOk result ((tables : Tables) → HasTables (state S.Store tx.old.conn.now).now tables
-        → length (filter (is_at serial.now.pair serial.now.serial) tables.serials) ≤ 1 → HasTables (state S.Store tx.new.conn.now).now (record tables { serials = with_serial (SerialWrite.Again serial.now) tables.serials })) }
+    ensures made { IsClean S.Store tx.new.conn.now → IsInTransaction S.Store tx.old.conn.now
+        → OnOk result ((tables : Tables) → HasTables (state S.Store tx.old.conn.now).now tables
+        → length (filter (is_at serial.now.pair serial.now.serial) tables.serials) ≤ 1
+        → HasTables (state S.Store tx.new.conn.now).now
+        (record tables {
+          serials = with_serial (SerialWrite.Again serial.now) tables.serials;
+        })) }
     ensures inside { IsClean S.Store tx.new.conn.now → IsInTransaction S.Store tx.old.conn.now
-        → OnOk result (Shows (state S.Store tx.old.conn.now) (state S.Store tx.new.conn.now) (state S.Store tx.new.conn.now).now (state S.Store tx.old.conn.now).committed true) }
-    ensures kept { IsClean S.Store tx.new.conn.now → IsInTransaction S.Store tx.old.conn.now → KeepsCommit (state S.Store tx.old.conn.now) (state S.Store tx.new.conn.now) }
-    ensures survives { Survives (state S.Store tx.old.conn.now) (state S.Store tx.new.conn.now) (λ _. ⊥) }
+        → OnOk result (Shows (state S.Store tx.old.conn.now) (state S.Store tx.new.conn.now)
+        (state S.Store tx.new.conn.now).now (state S.Store tx.old.conn.now).committed true) }
+    ensures kept { IsClean S.Store tx.new.conn.now → IsInTransaction S.Store tx.old.conn.now
+        → KeepsCommit (state S.Store tx.old.conn.now) (state S.Store tx.new.conn.now) }
+    ensures survives { Survives (state S.Store tx.old.conn.now) (state S.Store tx.new.conn.now)
+        (λ _. ⊥) }
 {
     let SerialRow {
         pair,
@@ -168,12 +211,18 @@ fn apply_serial_write<S: Alter>(
     write: &SerialWrite,
 ) -> Result<(), Error>
     ensures same_reference { tx.new.conn.ghost_name ≡ tx.old.conn.ghost_name }
-    ensures made { IsClean S.Store tx.new.conn.now → IsInTransaction S.Store tx.old.conn.now → OnOk result ((tables : Tables) → HasTables (state S.Store tx.old.conn.now).now tables
-        → length (filter (is_at (row_of write.now).pair (row_of write.now).serial) tables.serials) ≤ 1 → HasTables (state S.Store tx.new.conn.now).now (record tables { serials = with_serial write.now tables.serials })) }
+    ensures made { IsClean S.Store tx.new.conn.now → IsInTransaction S.Store tx.old.conn.now
+        → OnOk result ((tables : Tables) → HasTables (state S.Store tx.old.conn.now).now tables
+        → length (filter (is_at (row_of write.now).pair (row_of write.now).serial) tables.serials)
+        ≤ 1 → HasTables (state S.Store tx.new.conn.now).now
+        (record tables { serials = with_serial write.now tables.serials })) }
     ensures inside { IsClean S.Store tx.new.conn.now → IsInTransaction S.Store tx.old.conn.now
-        → OnOk result (Shows (state S.Store tx.old.conn.now) (state S.Store tx.new.conn.now) (state S.Store tx.new.conn.now).now (state S.Store tx.old.conn.now).committed true) }
-    ensures kept { IsClean S.Store tx.new.conn.now → IsInTransaction S.Store tx.old.conn.now → KeepsCommit (state S.Store tx.old.conn.now) (state S.Store tx.new.conn.now) }
-    ensures survives { Survives (state S.Store tx.old.conn.now) (state S.Store tx.new.conn.now) (λ _. ⊥) }
+        → OnOk result (Shows (state S.Store tx.old.conn.now) (state S.Store tx.new.conn.now)
+        (state S.Store tx.new.conn.now).now (state S.Store tx.old.conn.now).committed true) }
+    ensures kept { IsClean S.Store tx.new.conn.now → IsInTransaction S.Store tx.old.conn.now
+        → KeepsCommit (state S.Store tx.old.conn.now) (state S.Store tx.new.conn.now) }
+    ensures survives { Survives (state S.Store tx.old.conn.now) (state S.Store tx.new.conn.now)
+        (λ _. ⊥) }
 {
     match *write {
         SerialWrite::New(row) => insert_serial(tx, &row),
@@ -187,12 +236,16 @@ fn apply_range_writes<S: Alter>(
     ranges: &[RangeWrite],
 ) -> Result<(), Error>
     ensures same_reference { tx.new.conn.ghost_name ≡ tx.old.conn.ghost_name }
-    ensures made { IsClean S.Store tx.new.conn.now → IsInTransaction S.Store tx.old.conn.now → OnOk result ((tables : Tables) → HasTables (state S.Store tx.old.conn.now).now tables
-        → HasTables (state S.Store tx.new.conn.now).now (record tables { ranges = with_ranges ranges.now tables.ranges })) }
+    ensures made { IsClean S.Store tx.new.conn.now → IsInTransaction S.Store tx.old.conn.now
+        → OnOk result ((tables : Tables) → HasTables (state S.Store tx.old.conn.now).now tables
+        → HasTables (state S.Store tx.new.conn.now).now
+        (record tables { ranges = with_ranges ranges.now tables.ranges })) }
     ensures inside { IsClean S.Store tx.new.conn.now → IsInTransaction S.Store tx.old.conn.now
         → OnOk result (IsInTransaction S.Store tx.new.conn.now) }
-    ensures kept { IsClean S.Store tx.new.conn.now → IsInTransaction S.Store tx.old.conn.now → KeepsCommit (state S.Store tx.old.conn.now) (state S.Store tx.new.conn.now) }
-    ensures survives { Survives (state S.Store tx.old.conn.now) (state S.Store tx.new.conn.now) (λ _. ⊥) }
+    ensures kept { IsClean S.Store tx.new.conn.now → IsInTransaction S.Store tx.old.conn.now
+        → KeepsCommit (state S.Store tx.old.conn.now) (state S.Store tx.new.conn.now) }
+    ensures survives { Survives (state S.Store tx.old.conn.now) (state S.Store tx.new.conn.now)
+        (λ _. ⊥) }
     ensures clean { StaysUnclean S.Store tx.old.conn.now tx.new.conn.now }
 {
     for write in ranges {
@@ -207,12 +260,16 @@ fn apply_serial_writes<S: Alter>(
     serials: &[SerialWrite],
 ) -> Result<(), Error>
     ensures same_reference { tx.new.conn.ghost_name ≡ tx.old.conn.ghost_name }
-    ensures made { IsClean S.Store tx.new.conn.now → IsInTransaction S.Store tx.old.conn.now → OnOk result ((tables : Tables) → HasTables (state S.Store tx.old.conn.now).now tables
-        → FindAtMostOne serials.now tables.serials → HasTables (state S.Store tx.new.conn.now).now (record tables { serials = with_serials serials.now tables.serials })) }
+    ensures made { IsClean S.Store tx.new.conn.now → IsInTransaction S.Store tx.old.conn.now
+        → OnOk result ((tables : Tables) → HasTables (state S.Store tx.old.conn.now).now tables
+        → FindAtMostOne serials.now tables.serials → HasTables (state S.Store tx.new.conn.now).now
+        (record tables { serials = with_serials serials.now tables.serials })) }
     ensures inside { IsClean S.Store tx.new.conn.now → IsInTransaction S.Store tx.old.conn.now
         → OnOk result (IsInTransaction S.Store tx.new.conn.now) }
-    ensures kept { IsClean S.Store tx.new.conn.now → IsInTransaction S.Store tx.old.conn.now → KeepsCommit (state S.Store tx.old.conn.now) (state S.Store tx.new.conn.now) }
-    ensures survives { Survives (state S.Store tx.old.conn.now) (state S.Store tx.new.conn.now) (λ _. ⊥) }
+    ensures kept { IsClean S.Store tx.new.conn.now → IsInTransaction S.Store tx.old.conn.now
+        → KeepsCommit (state S.Store tx.old.conn.now) (state S.Store tx.new.conn.now) }
+    ensures survives { Survives (state S.Store tx.old.conn.now) (state S.Store tx.new.conn.now)
+        (λ _. ⊥) }
     ensures clean { StaysUnclean S.Store tx.old.conn.now tx.new.conn.now }
 {
     for write in serials {
@@ -224,12 +281,16 @@ fn apply_serial_writes<S: Alter>(
 /// Adds the row of a closed range.
 fn insert_closed<S: Alter>(tx: &mut Transaction<'_, S>, closed: &ClosedRow) -> Result<(), Error>
     ensures same_reference { tx.new.conn.ghost_name ≡ tx.old.conn.ghost_name }
-    ensures made { IsClean S.Store tx.new.conn.now → IsInTransaction S.Store tx.old.conn.now → OnOk result ((tables : Tables) → HasTables (state S.Store tx.old.conn.now).now tables
-        → HasTables (state S.Store tx.new.conn.now).now (record tables { closed = tables.closed ++ closed.now ∷ [] })) }
+    ensures made { IsClean S.Store tx.new.conn.now → IsInTransaction S.Store tx.old.conn.now
+        → OnOk result ((tables : Tables) → HasTables (state S.Store tx.old.conn.now).now tables
+        → HasTables (state S.Store tx.new.conn.now).now
+        (record tables { closed = tables.closed ++ closed.now ∷ [] })) }
     ensures inside { IsClean S.Store tx.new.conn.now → IsInTransaction S.Store tx.old.conn.now
         → OnOk result (IsInTransaction S.Store tx.new.conn.now) }
-    ensures kept { IsClean S.Store tx.new.conn.now → IsInTransaction S.Store tx.old.conn.now → KeepsCommit (state S.Store tx.old.conn.now) (state S.Store tx.new.conn.now) }
-    ensures survives { Survives (state S.Store tx.old.conn.now) (state S.Store tx.new.conn.now) (λ _. ⊥) }
+    ensures kept { IsClean S.Store tx.new.conn.now → IsInTransaction S.Store tx.old.conn.now
+        → KeepsCommit (state S.Store tx.old.conn.now) (state S.Store tx.new.conn.now) }
+    ensures survives { Survives (state S.Store tx.old.conn.now) (state S.Store tx.new.conn.now)
+        (λ _. ⊥) }
 {
     let ClosedRow { num, arrival } = *closed;
     tx.execute(
@@ -246,12 +307,19 @@ fn insert_if_closed<S: Alter>(
     entry: &Entry,
 ) -> Result<(), Error>
     ensures same_reference { tx.new.conn.ghost_name ≡ tx.old.conn.ghost_name }
-    ensures made { IsClean S.Store tx.new.conn.now → IsInTransaction S.Store tx.old.conn.now → OnOk result ((tables : Tables) → HasTables (state S.Store tx.old.conn.now).now tables
-        → HasTables (state S.Store tx.new.conn.now).now (record tables { closed = tables.closed ++ option_to_list (closing arrival entry.now.request.body entry.now.outcome) })) }
+    ensures made { IsClean S.Store tx.new.conn.now → IsInTransaction S.Store tx.old.conn.now
+        → OnOk result ((tables : Tables) → HasTables (state S.Store tx.old.conn.now).now tables
+        → HasTables (state S.Store tx.new.conn.now).now
+        (record tables {
+          closed = tables.closed ++ option_to_list
+              (closing arrival entry.now.request.body entry.now.outcome);
+        })) }
     ensures inside { IsClean S.Store tx.new.conn.now → IsInTransaction S.Store tx.old.conn.now
         → OnOk result (IsInTransaction S.Store tx.new.conn.now) }
-    ensures kept { IsClean S.Store tx.new.conn.now → IsInTransaction S.Store tx.old.conn.now → KeepsCommit (state S.Store tx.old.conn.now) (state S.Store tx.new.conn.now) }
-    ensures survives { Survives (state S.Store tx.old.conn.now) (state S.Store tx.new.conn.now) (λ _. ⊥) }
+    ensures kept { IsClean S.Store tx.new.conn.now → IsInTransaction S.Store tx.old.conn.now
+        → KeepsCommit (state S.Store tx.old.conn.now) (state S.Store tx.new.conn.now) }
+    ensures survives { Survives (state S.Store tx.old.conn.now) (state S.Store tx.new.conn.now)
+        (λ _. ⊥) }
     ensures clean { StaysUnclean S.Store tx.old.conn.now tx.new.conn.now }
 {
     match ClosedRow::made_by(arrival, entry) {
@@ -266,13 +334,18 @@ fn insert_call_and_writes<S: Alter>(
     write: &CallWrite,
 ) -> Result<(), Error>
     ensures same_reference { tx.new.conn.ghost_name ≡ tx.old.conn.ghost_name }
-    ensures made { IsClean S.Store tx.new.conn.now → IsInTransaction S.Store tx.old.conn.now → OnOk result ((tables : Tables) → HasTables (state S.Store tx.old.conn.now).now tables
-        → FindAtMostOne write.now.serials.items tables.serials → HasTables (state S.Store tx.new.conn.now).now (with_call write.now tables)) }
-    ensures was_open { IsClean S.Store tx.new.conn.now → IsInTransaction S.Store tx.old.conn.now → OnOk result (IsOpen S.Store tx.old.conn.now) }
+    ensures made { IsClean S.Store tx.new.conn.now → IsInTransaction S.Store tx.old.conn.now
+        → OnOk result ((tables : Tables) → HasTables (state S.Store tx.old.conn.now).now tables
+        → FindAtMostOne write.now.serials.items tables.serials
+        → HasTables (state S.Store tx.new.conn.now).now (with_call write.now tables)) }
+    ensures was_open { IsClean S.Store tx.new.conn.now → IsInTransaction S.Store tx.old.conn.now
+        → OnOk result (IsOpen S.Store tx.old.conn.now) }
     ensures inside { IsClean S.Store tx.new.conn.now → IsInTransaction S.Store tx.old.conn.now
         → OnOk result (IsInTransaction S.Store tx.new.conn.now) }
-    ensures kept { IsClean S.Store tx.new.conn.now → IsInTransaction S.Store tx.old.conn.now → KeepsCommit (state S.Store tx.old.conn.now) (state S.Store tx.new.conn.now) }
-    ensures survives { Survives (state S.Store tx.old.conn.now) (state S.Store tx.new.conn.now) (λ _. ⊥) }
+    ensures kept { IsClean S.Store tx.new.conn.now → IsInTransaction S.Store tx.old.conn.now
+        → KeepsCommit (state S.Store tx.old.conn.now) (state S.Store tx.new.conn.now) }
+    ensures survives { Survives (state S.Store tx.old.conn.now) (state S.Store tx.new.conn.now)
+        (λ _. ⊥) }
 {
     insert_call(tx, write.arrival, &write.entry, write.reply.bytes())?;
     apply_range_writes(tx, &write.ranges)?;
@@ -283,13 +356,18 @@ fn insert_call_and_writes<S: Alter>(
 /// Writes the rows of calls, call by call.
 fn insert_calls<S: Alter>(tx: &mut Transaction<'_, S>, writes: &[CallWrite]) -> Result<(), Error>
     ensures same_reference { tx.new.conn.ghost_name ≡ tx.old.conn.ghost_name }
-    ensures made { IsClean S.Store tx.new.conn.now → IsInTransaction S.Store tx.old.conn.now → OnOk result ((before after : Tables) → AreWritten writes.now before after
-        → HasTables (state S.Store tx.old.conn.now).now before → HasTables (state S.Store tx.new.conn.now).now after) }
-    ensures was_open { IsClean S.Store tx.new.conn.now → IsInTransaction S.Store tx.old.conn.now → OnOk result (writes.now ≢ [] → IsOpen S.Store tx.old.conn.now) }
+    ensures made { IsClean S.Store tx.new.conn.now → IsInTransaction S.Store tx.old.conn.now
+        → OnOk result ((before after : Tables) → AreWritten writes.now before after
+        → HasTables (state S.Store tx.old.conn.now).now before
+        → HasTables (state S.Store tx.new.conn.now).now after) }
+    ensures was_open { IsClean S.Store tx.new.conn.now → IsInTransaction S.Store tx.old.conn.now
+        → OnOk result (writes.now ≢ [] → IsOpen S.Store tx.old.conn.now) }
     ensures inside { IsClean S.Store tx.new.conn.now → IsInTransaction S.Store tx.old.conn.now
         → OnOk result (IsInTransaction S.Store tx.new.conn.now) }
-    ensures kept { IsClean S.Store tx.new.conn.now → IsInTransaction S.Store tx.old.conn.now → KeepsCommit (state S.Store tx.old.conn.now) (state S.Store tx.new.conn.now) }
-    ensures survives { Survives (state S.Store tx.old.conn.now) (state S.Store tx.new.conn.now) (λ _. ⊥) }
+    ensures kept { IsClean S.Store tx.new.conn.now → IsInTransaction S.Store tx.old.conn.now
+        → KeepsCommit (state S.Store tx.old.conn.now) (state S.Store tx.new.conn.now) }
+    ensures survives { Survives (state S.Store tx.old.conn.now) (state S.Store tx.new.conn.now)
+        (λ _. ⊥) }
     ensures clean { StaysUnclean S.Store tx.old.conn.now tx.new.conn.now }
 {
     for write in writes {
@@ -303,14 +381,20 @@ pub fn commit_rows<S: Alter>(conn: &mut Connection<S>, writes: &[CallWrite]) -> 
     requires settled { IsQuiescent S.Store conn.old }
     ensures settled { IsQuiescent S.Store conn.new }
     ensures opened { IsClean S.Store conn.new → OnOk result (IsOpen S.Store conn.new) }
-    ensures all { IsClean S.Store conn.new → OnOk result ((before after : Tables) → AreWritten writes.now before after
-        → HasTables (state S.Store conn.old).now before → HasTables (state S.Store conn.new).now after) }
-    ensures none { IsClean S.Store conn.new → IsOpen S.Store conn.new → OnErr result ((state S.Store conn.new).now ≡ (state S.Store conn.old).now) }
-    ensures was_open { IsClean S.Store conn.new → IsOpen S.Store conn.new → IsOpen S.Store conn.old }
+    ensures all { IsClean S.Store conn.new → OnOk result ((before after : Tables)
+        → AreWritten writes.now before after
+        → HasTables (state S.Store conn.old).now before → HasTables (state S.Store conn.new).now
+        after) }
+    ensures none { IsClean S.Store conn.new → IsOpen S.Store conn.new
+        → OnErr result ((state S.Store conn.new).now ≡ (state S.Store conn.old).now) }
+    ensures was_open { IsClean S.Store conn.new → IsOpen S.Store conn.new
+        → IsOpen S.Store conn.old }
     ensures clean { StaysUnclean S.Store conn.old conn.new }
     ensures crash { IsClean S.Store conn.new → (db : Trees) → (state S.Store conn.new).may_leave db
-        → (state S.Store conn.old).may_leave db ⊎ ((writes.now ≢ [] → IsOpen S.Store conn.old) × ((before after : Tables) → AreWritten writes.now before after
-        → HasTables (state S.Store conn.old).now before → HasTables (record (state S.Store conn.old).now { trees = db }) after)) }
+        → (state S.Store conn.old).may_leave db ⊎ ((writes.now ≢ [] → IsOpen S.Store conn.old)
+        × ((before after : Tables) → AreWritten writes.now before after
+        → HasTables (state S.Store conn.old).now before
+        → HasTables (record (state S.Store conn.old).now { trees = db }) after)) }
 {
     let mut tx = conn.transaction();
     insert_calls(&mut tx, writes)?;

@@ -1,5 +1,6 @@
 -- The test of a text, and the identifier that it spells.
-use Rattle.std.proofs.Common.{◌≡◌, ℕ, ◌+◌, ◌^◌, ◌%◌, ◌/◌, Bool, true, false, List, [], ◌∷◌, ◌++◌, length, take, drop, refl, sym, ap, ◌∙◌, arith}
+use Rattle.std.proofs.Common.{◌≡◌, ℕ, ◌+◌, ◌^◌, ◌%◌, ◌/◌, Bool, true, false, List, [], ◌∷◌, ◌++◌}
+use Rattle.std.proofs.Common.{length, take, drop, refl, sym, ap, ◌∙◌, arith}
 use Rattle.std.specs.Prelude.{nat_le, ◌&&◌, ◌==◌}
 use Rattle.std.specs.Char.{IsAsciiDigit, is_ascii_digit}
 use Rattle.std.specs.List.{AllByRecursion}
@@ -27,7 +28,8 @@ pub capital_of : (c : ℕ) → is_capital c ≡ true → IsCapital c
 capital_of c e = let p = both (nat_le 65 c) (nat_le c 90) e in (leb-true _ _ p.0, leb-true _ _ p.1)
 
 digit_of_test : (c : ℕ) → is_ascii_digit c ≡ true → IsAsciiDigit c
-digit_of_test c e = let p = both (nat_le 48 c) (nat_le c 57) e in (leb-true _ _ p.0, leb-true _ _ p.1)
+digit_of_test c e = let p = both (nat_le 48 c) (nat_le c 57) e in
+    (leb-true _ _ p.0, leb-true _ _ p.1)
 
 digit_passes : (n : ℕ) → is_ascii_digit (character_of (n % 10)) ≡ true
 digit_passes n = grind (arith, common_steps)
@@ -54,14 +56,43 @@ passed a b d1 d2 d3 d4 d5 d6 d7 d8 k c d e =
     let e6 = both (is_ascii_digit d6) _ e5.1 in
     let e7 = both (is_ascii_digit d7) _ e6.1 in
     let e8 = both (is_ascii_digit d8) _ e7.1 in
-    let all : AllByRecursion IsAsciiDigit digits = (digit_of_test d1 e1.0, (digit_of_test d2 e2.0, (digit_of_test d3 e3.0, (digit_of_test d4 e4.0, (digit_of_test d5 e5.0, (digit_of_test d6 e6.0, (digit_of_test d7 e7.0, (digit_of_test d8 e8.0, tt)))))))) in
+    let all : AllByRecursion IsAsciiDigit digits = (
+      digit_of_test d1 e1.0,
+      (
+        digit_of_test d2 e2.0,
+        (
+          digit_of_test d3 e3.0,
+          (
+            digit_of_test d4 e4.0,
+            (
+              digit_of_test d5 e5.0,
+              (digit_of_test d6 e6.0, (digit_of_test d7 e7.0, (digit_of_test d8 e8.0, tt))),
+            ),
+          ),
+        ),
+      ),
+    ) in
     let check : k ≡ character_of (check_digit_of (number_of digits)) = eqb-true _ _ p2.1 in
     let id : Id = record { service = (a, b); serial = number_of digits; country = (c, d) } in
-    let in_range : IsId id = record { service = (capital_of a front.0, capital_of b front.1); serial = number_of-lt d1 d2 d3 d4 d5 d6 d7 d8 all; country = (capital_of c back.0, capital_of d back.1) } in
-    (id, record { in_range = in_range; spelled = ap (λ (x : ℕ). a ∷ b ∷ digits ++ x ∷ c ∷ d ∷ []) check ∙ ap (λ (x : List ℕ). a ∷ b ∷ x ++ character_of (check_digit_of (number_of digits)) ∷ c ∷ d ∷ []) (sym (digits_of-number_of d1 d2 d3 d4 d5 d6 d7 d8 all)) })
+    let in_range : IsId id = record {
+      service = (capital_of a front.0, capital_of b front.1);
+      serial = number_of-lt d1 d2 d3 d4 d5 d6 d7 d8 all;
+      country =
+          (capital_of c back.0, capital_of d back.1);
+    } in (
+      id,
+      record {
+        in_range = in_range;
+        spelled = ap (λ (x : ℕ). a ∷ b ∷ digits ++ x ∷ c ∷ d ∷ [])
+            check ∙ ap (λ (x : List ℕ). a ∷ b ∷ x ++ character_of (check_digit_of (number_of digits))
+            ∷ c ∷ d ∷ []) (sym (digits_of-number_of d1 d2 d3 d4 d5 d6 d7 d8 all));
+      },
+    )
 
-pub passed_text : (text : List ℕ) → length text ≡ 13 → is_spelling text ≡ true → (id : Id) × Spells text id
-passed_text (a ∷ b ∷ d1 ∷ d2 ∷ d3 ∷ d4 ∷ d5 ∷ d6 ∷ d7 ∷ d8 ∷ k ∷ c ∷ d ∷ []) len e = passed a b d1 d2 d3 d4 d5 d6 d7 d8 k c d e
+pub passed_text : (text : List ℕ) → length text ≡ 13 → is_spelling text ≡ true → (id : Id)
+    × Spells text id
+passed_text (a ∷ b ∷ d1 ∷ d2 ∷ d3 ∷ d4 ∷ d5 ∷ d6 ∷ d7 ∷ d8 ∷ k ∷ c ∷ d ∷ []) len e =
+    passed a b d1 d2 d3 d4 d5 d6 d7 d8 k c d e
 passed_text _ len e = absurd (omega arith)
 
 -- a spelling passes the test
@@ -92,10 +123,15 @@ fails_of true wrong = absurd (wrong refl)
 fails_of false wrong = refl
 
 -- a text that is refused fails it
-pub refused_fails : (text : List ℕ) (fault : TextFault) → length text ≡ 13 → IsFirstRefusal text fault → is_spelling text ≡ false
+pub refused_fails : (text : List ℕ) (fault : TextFault) → length text ≡ 13
+    → IsFirstRefusal text fault → is_spelling text ≡ false
 refused_fails text fault len refused =
-    fails_of (is_spelling text) (λ e. let p = passed_text text len e in spelled_unrefused text p.0 fault p.1 refused)
+    fails_of (is_spelling text) (λ e. let p = passed_text text len e in
+    spelled_unrefused text p.0 fault p.1 refused)
 
 -- the identifier stands at the offset
-pub stands_at : (b : List ℕ) (at : ℕ) (id : Id) → Spells (take 13 (drop at b)) id → drop at b ≡ spelling_of id ++ drop (at + 13) b
-stands_at b at id s = sym (take-append-drop 13 (drop at b)) ∙ ap (λ (x : List ℕ). x ++ drop 13 (drop at b)) s.spelled ∙ ap (λ (x : List ℕ). spelling_of id ++ x) (drop-drop 13 at b)
+pub stands_at : (b : List ℕ) (at : ℕ) (id : Id) → Spells (take 13 (drop at b)) id
+    → drop at b ≡ spelling_of id ++ drop (at + 13) b
+stands_at b at id s = sym (take-append-drop 13 (drop at b))
+    ∙ ap (λ (x : List ℕ). x ++ drop 13 (drop at b)) s.spelled
+    ∙ ap (λ (x : List ℕ). spelling_of id ++ x) (drop-drop 13 at b)

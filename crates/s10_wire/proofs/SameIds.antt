@@ -22,4 +22,5 @@ same xs ys room long = sym (unroomed xs) ∙ (λ i. take (long i) (room i)) ∙ 
 pub ids_decides : (xs ys : List Id) → Decides (ids_equality.ghosts.eq xs ys) (xs ≡ ys)
 ids_decides xs ys =
     Decides-like _ (λ p. same xs ys p.0 p.1) (λ e. (ap zero_padded e, ap length e))
-    (Decides-and _ _ (slice_eq-Decides id_decides (zero_padded xs) (zero_padded ys) _ refl) (Decides-eqb (length xs) (length ys)))
+    (Decides-and _ _ (slice_eq-Decides id_decides (zero_padded xs) (zero_padded ys) _ refl)
+    (Decides-eqb (length xs) (length ys)))

@@ -5,12 +5,19 @@ use Rattle.s10_core.specs.Letters.{AreCapitals, letters_of}
 use Rattle.s10_core.specs.Serial.{IsSerial}
 use Rattle.s10_core.specs.Id.{IsId, spelling_of}
 use Rattle.s10_wire.specs.declared.body.Body.{Body}
-use Rattle.s10_wire.specs.declared.body.Body.TheVariants.{Grant, Draw, Void, Query, DrawMany, Withdraw}
+use Rattle.s10_wire.specs.declared.body.Body.TheVariants.{Grant, Draw, Void, Query, DrawMany}
+use Rattle.s10_wire.specs.declared.body.Body.TheVariants.{Withdraw}
 use Rattle.s10_wire.specs.declared.request.Request.{Request}
 use Rattle.s10_wire.specs.declared.status.Status.{Status}
-use Rattle.s10_wire.specs.declared.status.Status.TheVariants.{Unknown, Never, Issued, Voided as StatusVoided}
+use Rattle.s10_wire.specs.declared.status.Status.TheVariants.{Unknown, Never, Issued}
+use Rattle.s10_wire.specs.declared.status.Status.TheVariants.{Voided as StatusVoided}
 use Rattle.s10_wire.specs.declared.outcome.Outcome.{Outcome}
-use Rattle.s10_wire.specs.declared.outcome.Outcome.TheVariants.{Granted, Drawn, DrawnMany, Voided, Told, Withdrawn, NotThePost, BadGrant, Overlap, NoRange, NoneFree, NotYours, NotIssued, AlreadyVoid, NoSuchRange, Closed, NumberReused}
+use Rattle.s10_wire.specs.declared.outcome.Outcome.TheVariants.{Granted, Drawn, DrawnMany, Voided}
+use Rattle.s10_wire.specs.declared.outcome.Outcome.TheVariants.{Told, Withdrawn, NotThePost}
+use Rattle.s10_wire.specs.declared.outcome.Outcome.TheVariants.{BadGrant, Overlap, NoRange}
+use Rattle.s10_wire.specs.declared.outcome.Outcome.TheVariants.{NoneFree, NotYours, NotIssued}
+use Rattle.s10_wire.specs.declared.outcome.Outcome.TheVariants.{AlreadyVoid, NoSuchRange, Closed}
+use Rattle.s10_wire.specs.declared.outcome.Outcome.TheVariants.{NumberReused}
 use Rattle.s10_wire.specs.Ids.{IsCount, AreIds, spellings_of}
 use Rattle.s10_wire.specs.Kind.{kind_of, code_of, version_of, fits}
 
@@ -21,7 +28,8 @@ u32_bytes n = to_be_bytes w32 n
 -- what a request has after its header
 abbrev pub fields : Body → List ℕ
 fields (Grant holder service country first last) =
-    u32_bytes holder ++ letters_of service ++ letters_of country ++ u32_bytes first ++ u32_bytes last
+    u32_bytes holder ++ letters_of service ++ letters_of country ++ u32_bytes first
+    ++ u32_bytes last
 fields (Draw service country) = letters_of service ++ letters_of country
 fields (Void id) = spelling_of id
 fields (Query id) = spelling_of id
@@ -31,7 +39,8 @@ fields (Withdraw range) = u32_bytes range
 -- the bytes of a request, where mark is added to the kind byte
 abbrev pub datagram : ℕ → Request → List ℕ
 datagram mark q =
-    0x53 ∷ 0x31 ∷ version_of (kind_of q.body) ∷ (code_of (kind_of q.body) + mark) ∷ [] ++ u32_bytes q.customer ++ u32_bytes q.number ++ fields q.body
+    0x53 ∷ 0x31 ∷ version_of (kind_of q.body) ∷ (code_of (kind_of q.body) + mark) ∷ []
+    ++ u32_bytes q.customer ++ u32_bytes q.number ++ fields q.body
 
 -- a number of four bytes
 abbrev pub IsU32 : ℕ → Type 0

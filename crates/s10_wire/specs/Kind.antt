@@ -1,11 +1,18 @@
 -- The kinds of calls, and the outcomes that fit each.
-use Rattle.std.specs.Prelude.{ℕ, ◌+◌, ◌*◌, ◌==◌, Bool, ◌&&◌, List, nat_lt, length, slice_index, true, false, if◌then◌else◌, Option, Some, None}
+use Rattle.std.specs.Prelude.{ℕ, ◌+◌, ◌*◌, ◌==◌, Bool, ◌&&◌, List, nat_lt, length, slice_index}
+use Rattle.std.specs.Prelude.{true, false, if◌then◌else◌, Option, Some, None}
 use Rattle.s10_wire.specs.declared.kind.Kind.{Kind}
 use Rattle.s10_wire.specs.declared.kind.Kind.TheVariants as kinds
 use Rattle.s10_wire.specs.declared.body.Body.{Body}
-use Rattle.s10_wire.specs.declared.body.Body.TheVariants.{Grant, Draw, Void, Query, DrawMany, Withdraw}
+use Rattle.s10_wire.specs.declared.body.Body.TheVariants.{Grant, Draw, Void, Query, DrawMany}
+use Rattle.s10_wire.specs.declared.body.Body.TheVariants.{Withdraw}
 use Rattle.s10_wire.specs.declared.outcome.Outcome.{Outcome}
-use Rattle.s10_wire.specs.declared.outcome.Outcome.TheVariants.{Granted, Drawn, DrawnMany, Voided, Told, Withdrawn, NotThePost, BadGrant, Overlap, NoRange, NoneFree, NotYours, NotIssued, AlreadyVoid, NoSuchRange, Closed, NumberReused}
+use Rattle.s10_wire.specs.declared.outcome.Outcome.TheVariants.{Granted, Drawn, DrawnMany, Voided}
+use Rattle.s10_wire.specs.declared.outcome.Outcome.TheVariants.{Told, Withdrawn, NotThePost}
+use Rattle.s10_wire.specs.declared.outcome.Outcome.TheVariants.{BadGrant, Overlap, NoRange}
+use Rattle.s10_wire.specs.declared.outcome.Outcome.TheVariants.{NoneFree, NotYours, NotIssued}
+use Rattle.s10_wire.specs.declared.outcome.Outcome.TheVariants.{AlreadyVoid, NoSuchRange, Closed}
+use Rattle.s10_wire.specs.declared.outcome.Outcome.TheVariants.{NumberReused}
 
 -- the kind of what is asked
 abbrev pub kind_of : Body → Kind

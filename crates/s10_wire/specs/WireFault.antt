@@ -1,13 +1,18 @@
 -- Why bytes are no request, or no reply: conditions in order, each on the bytes alone.
-use Rattle.std.specs.Prelude.{◌≡◌, ℕ, zero, suc, ◌+◌, ◌-◌, ◌==◌, nat_le, nat_lt, Bool, not, ◌&&◌, ◌||◌, if◌then◌else◌, List, [], ◌∷◌, ◌++◌, length, take, drop, slice_index, Option, Some, None, is_none}
+use Rattle.std.specs.Prelude.{◌≡◌, ℕ, zero, suc, ◌+◌, ◌-◌, ◌==◌, nat_le, nat_lt, Bool, not, ◌&&◌}
+use Rattle.std.specs.Prelude.{◌||◌, if◌then◌else◌, List, [], ◌∷◌, ◌++◌, length, take, drop}
+use Rattle.std.specs.Prelude.{slice_index, Option, Some, None, is_none}
 use Rattle.std.specs.Int.{w32, from_be_bytes}
 use Rattle.std.specs.Char.{is_ascii_digit}
 use Rattle.std.specs.List.{list_all}
 use Rattle.s10_core.specs.Serial.{number_of, check_digit_of, character_of}
 use Rattle.s10_wire.specs.declared.wire_fault.WireFault.{WireFault}
-use Rattle.s10_wire.specs.declared.wire_fault.WireFault.TheVariants.{Short, Magic, Version, Kind as KindFault, Length, Field, Outcome}
+use Rattle.s10_wire.specs.declared.wire_fault.WireFault.TheVariants.{Short, Magic, Version}
+use Rattle.s10_wire.specs.declared.wire_fault.WireFault.TheVariants.{Kind as KindFault, Length}
+use Rattle.s10_wire.specs.declared.wire_fault.WireFault.TheVariants.{Field, Outcome}
 use Rattle.s10_wire.specs.declared.kind.Kind.{Kind}
-use Rattle.s10_wire.specs.declared.kind.Kind.TheVariants.{Grant, Draw, Void, Query, DrawMany, Withdraw}
+use Rattle.s10_wire.specs.declared.kind.Kind.TheVariants.{Grant, Draw, Void, Query, DrawMany}
+use Rattle.s10_wire.specs.declared.kind.Kind.TheVariants.{Withdraw}
 use Rattle.s10_wire.specs.Kind.{kind_of_codes, request_length, is_reply_long}
 
 -- of refusals in order, each after its condition, the first whose condition holds
@@ -75,13 +80,15 @@ request_fields Draw b = (not (are_letters b 12), Field 12) ∷ (not (are_letters
 request_fields Void b = (not (is_identifier b 12), Field 12) ∷ []
 request_fields Query b = (not (is_identifier b 12), Field 12) ∷ []
 request_fields DrawMany b =
-    (not (are_letters b 12), Field 12) ∷ (not (are_letters b 14), Field 14) ∷ (not (is_count (byte b 16)), Field 16) ∷ []
+    (not (are_letters b 12), Field 12) ∷ (not (are_letters b 14), Field 14)
+    ∷ (not (is_count (byte b 16)), Field 16) ∷ []
 request_fields Withdraw b = []
 
 -- n identifiers one after the other, from an offset on
 abbrev pub identifier_fields : ℕ → ℕ → List ℕ → List (Bool × WireFault)
 identifier_fields at zero b = []
-identifier_fields at (suc count) b = (not (is_identifier b at), Field at) ∷ identifier_fields (at + 13) count b
+identifier_fields at (suc count) b = (not (is_identifier b at), Field at) ∷ identifier_fields
+    (at + 13) count b
 
 -- the fields after the outcome byte of a Done reply that can be wrong, from left to right
 abbrev pub done_fields : Kind → List ℕ → List (Bool × WireFault)
@@ -89,7 +96,8 @@ done_fields Grant b = []
 done_fields Draw b = (not (is_identifier b 21), Field 21) ∷ []
 done_fields Void b = []
 done_fields Query b =
-    (nat_lt 3 (byte b 26), Field 26) ∷ (nat_lt (byte b 26) 2 && not (number b 27 == 0), Field 27) ∷ []
+    (nat_lt 3 (byte b 26), Field 26) ∷ (nat_lt (byte b 26) 2 && not (number b 27 == 0), Field 27)
+    ∷ []
 done_fields DrawMany b = identifier_fields 22 (byte b 16) b
 done_fields Withdraw b = []
 
@@ -110,7 +118,8 @@ outcome_refusals kind b =
 
 -- the refusals of a request of this kind, after its header
 abbrev pub refusals_after_request : List ℕ → Kind → List (Bool × WireFault)
-refusals_after_request b kind = (not (length b == request_length kind), Length) ∷ request_fields kind b
+refusals_after_request b kind = (not (length b == request_length kind), Length) ∷ request_fields
+    kind b
 
 -- the refusals of a request
 abbrev pub request_refusals : List ℕ → List (Bool × WireFault)

@@ -6,7 +6,9 @@ ghost use Rattle.s10_core.specs.Serial.{IsSerial};
 ghost use Rattle.s10_core.specs.Id.{IsId, spelling_of};
 ghost use Rattle.s10_wire.specs.Ids.{spellings_of};
 ghost use Rattle.s10_wire.specs.Kind.{kind_of};
-ghost use Rattle.s10_wire.specs.Datagrams.{u32_bytes, fields, datagram, outcome_bytes, status_bytes, IsU32, IsBody, IsRequest, IsStatus, IsOutcome, Asks, Replies};
+ghost use Rattle.s10_wire.specs.Datagrams.{u32_bytes, fields, datagram, outcome_bytes};
+ghost use Rattle.s10_wire.specs.Datagrams.{status_bytes, IsU32, IsBody, IsRequest, IsStatus};
+ghost use Rattle.s10_wire.specs.Datagrams.{IsOutcome, Asks, Replies};
 ghost use Rattle.s10_wire.specs.Reply.{request_of, outcome_of};
 
 use crate::body::Body;

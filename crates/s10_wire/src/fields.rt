@@ -1,12 +1,14 @@
 //! The fields of a datagram, each at its offset.
 
-ghost use Rattle.std.specs.Prelude.{◌≡◌, ℕ, ◌+◌, ◌<◌, ◌≤◌, ◌^◌, ◌++◌, ◌∷◌, Bool, true, false, length, take, drop, IfOk, IfErr};
+ghost use Rattle.std.specs.Prelude.{◌≡◌, ℕ, ◌+◌, ◌<◌, ◌≤◌, ◌^◌, ◌++◌, ◌∷◌, Bool, true, false};
+ghost use Rattle.std.specs.Prelude.{length, take, drop, IfOk, IfErr};
 ghost use Rattle.s10_core.specs.Serial.{IsSerial};
 ghost use Rattle.s10_wire.specs.Datagrams.{u32_bytes};
 ghost use Rattle.s10_core.specs.Letters.{AreCapitals, letters_of};
 ghost use Rattle.s10_core.specs.Id.{IsId, spelling_of};
 ghost use Rattle.s10_wire.specs.Ids.{IsCount};
-ghost use Rattle.s10_wire.specs.WireFault.{are_letters, is_serial, is_identifier, is_count, byte, number};
+ghost use Rattle.s10_wire.specs.WireFault.{are_letters, is_serial, is_identifier, is_count, byte};
+ghost use Rattle.s10_wire.specs.WireFault.{number};
 
 use crate::count::Count;
 use crate::wire_fault::WireFault;
@@ -25,8 +27,10 @@ pub fn number_at(bytes: &[u8], at: usize) -> u32
 pub fn service_at(bytes: &[u8], at: u16) -> Result<Service, WireFault>
     requires { at + 2 ≤ length bytes.now }
     ensures ok { IfOk result (λ s. are_letters bytes.now at ≡ true) }
-    ensures read { IfOk result (λ s. AreCapitals s × (drop at bytes.now ≡ letters_of s ++ drop (at + 2) bytes.now)) }
-    ensures err { IfErr result (λ f. (f ≡ WireFault.Field at) × (are_letters bytes.now at ≡ false)) }
+    ensures read { IfOk result (λ s. AreCapitals s
+        × (drop at bytes.now ≡ letters_of s ++ drop (at + 2) bytes.now)) }
+    ensures err { IfErr result (λ f. (f ≡ WireFault.Field at)
+        × (are_letters bytes.now at ≡ false)) }
 {
     let start = at as usize;
     match Service::new([bytes[start], bytes[start + 1]]) {
@@ -39,8 +43,10 @@ pub fn service_at(bytes: &[u8], at: u16) -> Result<Service, WireFault>
 pub fn country_at(bytes: &[u8], at: u16) -> Result<Country, WireFault>
     requires { at + 2 ≤ length bytes.now }
     ensures ok { IfOk result (λ s. are_letters bytes.now at ≡ true) }
-    ensures read { IfOk result (λ s. AreCapitals s × (drop at bytes.now ≡ letters_of s ++ drop (at + 2) bytes.now)) }
-    ensures err { IfErr result (λ f. (f ≡ WireFault.Field at) × (are_letters bytes.now at ≡ false)) }
+    ensures read { IfOk result (λ s. AreCapitals s
+        × (drop at bytes.now ≡ letters_of s ++ drop (at + 2) bytes.now)) }
+    ensures err { IfErr result (λ f. (f ≡ WireFault.Field at)
+        × (are_letters bytes.now at ≡ false)) }
 {
     let start = at as usize;
     match Country::new([bytes[start], bytes[start + 1]]) {
@@ -53,7 +59,8 @@ pub fn country_at(bytes: &[u8], at: u16) -> Result<Country, WireFault>
 pub fn serial_at(bytes: &[u8], at: u16) -> Result<Serial, WireFault>
     requires { at + 4 ≤ length bytes.now }
     ensures ok { IfOk result (λ v. is_serial bytes.now at ≡ true) }
-    ensures read { IfOk result (λ v. IsSerial v × (drop at bytes.now ≡ u32_bytes v ++ drop (at + 4) bytes.now)) }
+    ensures read { IfOk result (λ v. IsSerial v
+        × (drop at bytes.now ≡ u32_bytes v ++ drop (at + 4) bytes.now)) }
     ensures err { IfErr result (λ f. (f ≡ WireFault.Field at) × (is_serial bytes.now at ≡ false)) }
 {
     match Serial::new(number_at(bytes, at as usize)) {
@@ -67,8 +74,10 @@ pub fn serial_at(bytes: &[u8], at: u16) -> Result<Serial, WireFault>
 pub fn id_at(bytes: &[u8], at: u16) -> Result<Id, WireFault>
     requires { at + 13 ≤ length bytes.now }
     ensures ok { IfOk result (λ id. is_identifier bytes.now at ≡ true) }
-    ensures read { IfOk result (λ id. IsId id × (drop at bytes.now ≡ spelling_of id ++ drop (at + 13) bytes.now)) }
-    ensures err { IfErr result (λ f. (f ≡ WireFault.Field at) × (is_identifier bytes.now at ≡ false)) }
+    ensures read { IfOk result (λ id. IsId id
+        × (drop at bytes.now ≡ spelling_of id ++ drop (at + 13) bytes.now)) }
+    ensures err { IfErr result (λ f. (f ≡ WireFault.Field at)
+        × (is_identifier bytes.now at ≡ false)) }
 {
     let (_, rest) = bytes.split_at(at as usize);
     let (text, _) = rest.split_at(13);
@@ -82,8 +91,10 @@ pub fn id_at(bytes: &[u8], at: u16) -> Result<Id, WireFault>
 pub fn count_at(bytes: &[u8], at: u16) -> Result<Count, WireFault>
     requires { at + 1 ≤ length bytes.now }
     ensures ok { IfOk result (λ n. is_count (byte bytes.now at) ≡ true) }
-    ensures read { IfOk result (λ n. IsCount n × (drop at bytes.now ≡ n ∷ drop (at + 1) bytes.now)) }
-    ensures err { IfErr result (λ f. (f ≡ WireFault.Field at) × (is_count (byte bytes.now at) ≡ false)) }
+    ensures read { IfOk result (λ n. IsCount n
+        × (drop at bytes.now ≡ n ∷ drop (at + 1) bytes.now)) }
+    ensures err { IfErr result (λ f. (f ≡ WireFault.Field at)
+        × (is_count (byte bytes.now at) ≡ false)) }
 {
     match Count::new(bytes[at as usize]) {
         Some(count) => Ok(count),

@@ -1,7 +1,8 @@
 //! The kinds of calls.
 
 ghost use Rattle.std.specs.Prelude.{◌≡◌, ◌≤◌, length};
-ghost use Rattle.s10_wire.specs.Kind.{kind_of, code_of, version_of, kind_of_codes, request_length, done_length, is_reply_long};
+ghost use Rattle.s10_wire.specs.Kind.{kind_of, code_of, version_of, kind_of_codes, request_length};
+ghost use Rattle.s10_wire.specs.Kind.{done_length, is_reply_long};
 
 use crate::body::Body;
 

@@ -1,6 +1,7 @@
 //! What holds of all datagrams.
 
-ghost use Rattle.std.specs.Prelude.{◌≡◌, ◌≤◌, ◌↔◌, ℕ, List, length, IsTrue, IsOk, Ok, IfOk, IsOkAnd};
+ghost use Rattle.std.specs.Prelude.{◌≡◌, ◌≤◌, ◌↔◌, ℕ, List, length, IsTrue, IsOk, Ok, IfOk};
+ghost use Rattle.std.specs.Prelude.{IsOkAnd};
 ghost use Rattle.s10_core.specs.declared.id.Id.{Id};
 ghost use Rattle.s10_core.specs.Id.{Spells};
 ghost use Rattle.s10_wire.specs.declared.request.Request.{Request};
@@ -8,7 +9,8 @@ ghost use Rattle.s10_wire.specs.declared.outcome.Outcome.{Outcome};
 ghost use Rattle.s10_wire.specs.Datagrams.{Asks, Replies};
 ghost use Rattle.s10_wire.specs.Reply.{request_of, outcome_of};
 ghost use Rattle.s10_wire.specs.declared.wire_fault.WireFault.{WireFault};
-ghost use Rattle.s10_wire.specs.WireFault.{is_spelling, IsFirstRefusalOfRequest, IsFirstRefusalOfReply};
+ghost use Rattle.s10_wire.specs.WireFault.{is_spelling, IsFirstRefusalOfRequest};
+ghost use Rattle.s10_wire.specs.WireFault.{IsFirstRefusalOfReply};
 
 use crate::encoders::{encode_reply, encode_request};
 use crate::frame::Frame;
@@ -80,5 +82,6 @@ pub fn decoded_reply_encodes(bytes: &[u8]) -> Result<Frame, WireFault>
 
 /// Thirteen bytes pass the test of an identifier's field exactly where they spell one.
 pub fn identifier_fields_are_spellings()
-    ensures { (text : List ℕ) → length text ≡ 13 → (IsTrue (is_spelling text) ↔ ((id : Id) × Spells text id)) }
+    ensures { (text : List ℕ) → length text ≡ 13
+        → (IsTrue (is_spelling text) ↔ ((id : Id) × Spells text id)) }
 {}

@@ -21,7 +21,8 @@ impl Reply {
     /// None where the outcome doesn't fit the kind of the request.
     pub fn new(request: Request, outcome: Outcome) -> Option<Reply>
         ensures fits { IsSome result ↔ IsTrue (fits_body request.body outcome) }
-        ensures parts { IfSome result (λ reply. (request_of reply ≡ request) × (outcome_of reply ≡ outcome)) }
+        ensures parts { IfSome result (λ reply. (request_of reply ≡ request)
+            × (outcome_of reply ≡ outcome)) }
     {
         if fits(&request.body, &outcome) {
             Some(Reply { request, outcome })

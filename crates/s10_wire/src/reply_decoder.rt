@@ -1,15 +1,21 @@
 //! Replies are read.
 
-ghost use Rattle.std.specs.Prelude.{◌≡◌, ◌≢◌, ℕ, ◌+◌, ◌*◌, ◌<◌, ◌≤◌, ◌∷◌, [], ◌++◌, ◌==◌, if◌then◌else◌, Bool, true, None, Some, length, drop, slice_index, IfOk, IfErr, IsTrue, IsOkAnd, Ok};
+ghost use Rattle.std.specs.Prelude.{◌≡◌, ◌≢◌, ℕ, ◌+◌, ◌*◌, ◌<◌, ◌≤◌, ◌∷◌, [], ◌++◌, ◌==◌};
+ghost use Rattle.std.specs.Prelude.{if◌then◌else◌, Bool, true, None, Some, length, drop};
+ghost use Rattle.std.specs.Prelude.{slice_index, IfOk, IfErr, IsTrue, IsOkAnd, Ok};
 ghost use Rattle.std.specs.Result.{result_err};
 ghost use Rattle.s10_wire.specs.declared.kind.Kind.TheVariants as kinds;
 ghost use Rattle.s10_wire.specs.declared.request.Request.{Request};
 ghost use Rattle.s10_wire.specs.declared.outcome.Outcome.{Outcome};
-ghost use Rattle.s10_wire.specs.Kind.{kind_of, code_of, version_of, request_length, done_length, is_reply_long, fits};
-ghost use Rattle.s10_wire.specs.Datagrams.{fields, outcome_bytes, status_bytes, IsOutcome, IsStatus, Replies};
+ghost use Rattle.s10_wire.specs.Kind.{kind_of, code_of, version_of, request_length, done_length};
+ghost use Rattle.s10_wire.specs.Kind.{is_reply_long, fits};
+ghost use Rattle.s10_wire.specs.Datagrams.{fields, outcome_bytes, status_bytes, IsOutcome};
+ghost use Rattle.s10_wire.specs.Datagrams.{IsStatus, Replies};
 ghost use Rattle.s10_wire.specs.Ids.{AreIds, spellings_of};
 ghost use Rattle.s10_wire.specs.Reply.{request_of, outcome_of};
-ghost use Rattle.s10_wire.specs.WireFault.{first_refusal, identifier_fields, done_fields, code_fits, outcome_refusals, reply_refusals, IsFirstRefusalOfReply};
+ghost use Rattle.s10_wire.specs.WireFault.{first_refusal, identifier_fields, done_fields};
+ghost use Rattle.s10_wire.specs.WireFault.{code_fits, outcome_refusals, reply_refusals};
+ghost use Rattle.s10_wire.specs.WireFault.{IsFirstRefusalOfReply};
 
 use crate::body::Body;
 use crate::count::Count;
@@ -25,7 +31,8 @@ use crate::wire_fault::WireFault;
 /// The status and the day of a Query's reply.
 fn status_at(bytes: &[u8]) -> Result<Status, WireFault>
     requires { 31 ≤ length bytes.now }
-    ensures read { IfOk result (λ status. IsStatus status × (drop 26 bytes.now ≡ status_bytes status ++ drop 31 bytes.now)) }
+    ensures read { IfOk result (λ status. IsStatus status
+        × (drop 26 bytes.now ≡ status_bytes status ++ drop 31 bytes.now)) }
     ensures refused { result_err result ≡ first_refusal (done_fields kinds.Query bytes.now) }
 {
     let code = bytes[26];
@@ -43,7 +50,8 @@ fn status_at(bytes: &[u8]) -> Result<Status, WireFault>
 /// The identifiers, n, that stand one after the other from byte 22 on.
 fn ids_at(bytes: &[u8], count: Count) -> Result<Ids, WireFault>
     requires { 22 + 13 * count ≤ length bytes.now }
-    ensures read { IfOk result (λ ids. AreIds ids × (length ids ≡ count) × (drop 22 bytes.now ≡ spellings_of ids ++ drop (22 + 13 * count) bytes.now)) }
+    ensures read { IfOk result (λ ids. AreIds ids × (length ids ≡ count)
+        × (drop 22 bytes.now ≡ spellings_of ids ++ drop (22 + 13 * count) bytes.now)) }
     ensures refused { result_err result ≡ first_refusal (identifier_fields 22 count bytes.now) }
 {
     let count = count.value() as usize;
@@ -58,7 +66,8 @@ fn ids_at(bytes: &[u8], count: Count) -> Result<Ids, WireFault>
 fn done_at(body: &Body, bytes: &[u8]) -> Result<Outcome, WireFault>
     requires long { done_length (kind_of body.now) bytes.now ≤ length bytes.now }
     requires done { slice_index bytes.now (request_length (kind_of body.now)) ≡ 0 }
-    requires begins { drop 12 bytes.now ≡ fields body.now ++ drop (request_length (kind_of body.now)) bytes.now }
+    requires begins { drop 12 bytes.now ≡ fields body.now
+        ++ drop (request_length (kind_of body.now)) bytes.now }
     ensures fits { IfOk result (λ outcome. IsTrue (fits body.now outcome)) }
     ensures read { IfOk result (λ outcome. IsOutcome outcome
         × (drop (request_length (kind_of body.now)) bytes.now
@@ -92,7 +101,8 @@ fn done_at(body: &Body, bytes: &[u8]) -> Result<Outcome, WireFault>
 fn refusal_of(body: &Body, code: u8) -> Result<Outcome, WireFault>
     requires { code ≢ 0 }
     ensures fits { IfOk result (λ outcome. IsTrue (fits body.now outcome)) }
-    ensures read { IfOk result (λ outcome. IsOutcome outcome × (outcome_bytes outcome ≡ code ∷ [])) }
+    ensures read { IfOk result (λ outcome. IsOutcome outcome
+        × (outcome_bytes outcome ≡ code ∷ [])) }
     ensures refused { result_err result
         ≡ (if code_fits (kind_of body.now) code then None else Some WireFault.Outcome) }
 {
@@ -115,11 +125,13 @@ fn refusal_of(body: &Body, code: u8) -> Result<Outcome, WireFault>
 /// The outcome after the request.
 fn outcome_at(body: &Body, bytes: &[u8]) -> Result<Outcome, WireFault>
     requires long { IsTrue (is_reply_long (kind_of body.now) bytes.now) }
-    requires begins { drop 12 bytes.now ≡ fields body.now ++ drop (request_length (kind_of body.now)) bytes.now }
+    requires begins { drop 12 bytes.now ≡ fields body.now
+        ++ drop (request_length (kind_of body.now)) bytes.now }
     ensures fits { IfOk result (λ outcome. IsTrue (fits body.now outcome)) }
     ensures read { IfOk result (λ outcome. IsOutcome outcome
         × (drop (request_length (kind_of body.now)) bytes.now ≡ outcome_bytes outcome)) }
-    ensures refused { result_err result ≡ first_refusal (outcome_refusals (kind_of body.now) bytes.now) }
+    ensures refused { result_err result
+        ≡ first_refusal (outcome_refusals (kind_of body.now) bytes.now) }
 {
     let code = bytes[Kind::of(body).request_length()];
     if code == 0 {
@@ -152,7 +164,8 @@ pub fn decode_reply(bytes: &[u8]) -> Result<Reply, WireFault>
         → IsOkAnd result (λ reply. (request_of reply ≡ q) × (outcome_of reply ≡ o)) }
     ensures refused { IfErr result (IsFirstRefusalOfReply bytes.now) }
     // Bytes that are refused reply nothing.
-    ensures nothing { IfErr result (λ fault. (q : Request) (o : Outcome) → ¬ Replies bytes.now q o) }
+    ensures nothing { IfErr result (λ fault. (q : Request) (o : Outcome)
+        → ¬ Replies bytes.now q o) }
 {
     reply_of(bytes)
 }

@@ -1,12 +1,15 @@
 //! Requests as datagrams.
 
-ghost use Rattle.std.specs.Prelude.{◌≡◌, ℕ, ◌+◌, ◌-◌, ◌≤◌, ◌∷◌, ◌++◌, length, drop, IfOk, IfErr, Ok, Some};
+ghost use Rattle.std.specs.Prelude.{◌≡◌, ℕ, ◌+◌, ◌-◌, ◌≤◌, ◌∷◌, ◌++◌, length, drop, IfOk, IfErr};
+ghost use Rattle.std.specs.Prelude.{Ok, Some};
 ghost use Rattle.std.specs.Result.{result_err};
 ghost use Rattle.s10_wire.specs.declared.kind.Kind.TheVariants as kinds;
 ghost use Rattle.s10_wire.specs.declared.request.Request.{Request};
 ghost use Rattle.s10_wire.specs.Kind.{kind_of, code_of, version_of, request_length};
 ghost use Rattle.s10_wire.specs.Datagrams.{u32_bytes, fields, IsBody, IsRequest, Asks};
-ghost use Rattle.s10_wire.specs.WireFault.{first_refusal, kind_named, header_refusals, request_fields, request_refusals, IsFirstRefusalOfRequest};
+ghost use Rattle.s10_wire.specs.WireFault.{first_refusal, kind_named, header_refusals};
+ghost use Rattle.s10_wire.specs.WireFault.{request_fields, request_refusals};
+ghost use Rattle.s10_wire.specs.WireFault.{IsFirstRefusalOfRequest};
 
 use crate::body::Body;
 use crate::fields::{count_at, country_at, id_at, number_at, serial_at, service_at};
@@ -19,7 +22,8 @@ pub fn kind_at(bytes: &[u8], mark: u8) -> Result<Kind, WireFault>
     ensures refused { result_err result ≡ first_refusal (header_refusals mark bytes.now) }
     ensures named { IfOk result (λ kind. kind_named mark bytes.now ≡ Some kind) }
     ensures long { IfOk result (λ kind. 12 ≤ length bytes.now) }
-    ensures read { IfOk result (λ kind. bytes.now ≡ 0x53 ∷ 0x31 ∷ version_of kind ∷ (code_of kind + mark) ∷ drop 4 bytes.now) }
+    ensures read { IfOk result (λ kind. bytes.now ≡ 0x53 ∷ 0x31 ∷ version_of kind
+        ∷ (code_of kind + mark) ∷ drop 4 bytes.now) }
 {
     if bytes.len() < 12 {
         return Err(WireFault::Short);
@@ -40,7 +44,8 @@ pub fn kind_at(bytes: &[u8], mark: u8) -> Result<Kind, WireFault>
 fn grant_at(bytes: &[u8]) -> Result<Body, WireFault>
     requires { 28 ≤ length bytes.now }
     ensures kind { IfOk result (λ body. kind_of body ≡ kinds.Grant) }
-    ensures read { IfOk result (λ body. IsBody body × (drop 12 bytes.now ≡ fields body ++ drop 28 bytes.now)) }
+    ensures read { IfOk result (λ body. IsBody body
+        × (drop 12 bytes.now ≡ fields body ++ drop 28 bytes.now)) }
     ensures refused { result_err result ≡ first_refusal (request_fields kinds.Grant bytes.now) }
 {
     let holder = number_at(bytes, 12);
@@ -61,7 +66,8 @@ fn grant_at(bytes: &[u8]) -> Result<Body, WireFault>
 fn draw_many_at(bytes: &[u8]) -> Result<Body, WireFault>
     requires { 17 ≤ length bytes.now }
     ensures kind { IfOk result (λ body. kind_of body ≡ kinds.DrawMany) }
-    ensures read { IfOk result (λ body. IsBody body × (drop 12 bytes.now ≡ fields body ++ drop 17 bytes.now)) }
+    ensures read { IfOk result (λ body. IsBody body
+        × (drop 12 bytes.now ≡ fields body ++ drop 17 bytes.now)) }
     ensures refused { result_err result ≡ first_refusal (request_fields kinds.DrawMany bytes.now) }
 {
     let service = service_at(bytes, 12)?;
@@ -78,7 +84,8 @@ fn draw_many_at(bytes: &[u8]) -> Result<Body, WireFault>
 fn body_at(kind: Kind, bytes: &[u8]) -> Result<Body, WireFault>
     requires { request_length kind ≤ length bytes.now }
     ensures kind { IfOk result (λ body. kind_of body ≡ kind) }
-    ensures read { IfOk result (λ body. IsBody body × (drop 12 bytes.now ≡ fields body ++ drop (request_length kind) bytes.now)) }
+    ensures read { IfOk result (λ body. IsBody body
+        × (drop 12 bytes.now ≡ fields body ++ drop (request_length kind) bytes.now)) }
     ensures refused { result_err result ≡ first_refusal (request_fields kind bytes.now) }
 {
     match kind {
@@ -106,8 +113,10 @@ pub fn request_at(kind: Kind, bytes: &[u8]) -> Result<Request, WireFault>
     ensures kind { IfOk result (λ q. kind_of q.body ≡ kind) }
     ensures in_range { IfOk result IsRequest }
     ensures read { IfOk result (λ q. drop 4 bytes.now
-        ≡ u32_bytes q.customer ++ u32_bytes q.number ++ fields q.body ++ drop (request_length kind) bytes.now) }
-    ensures begins { IfOk result (λ q. drop 12 bytes.now ≡ fields q.body ++ drop (request_length kind) bytes.now) }
+        ≡ u32_bytes q.customer ++ u32_bytes q.number ++ fields q.body ++ drop (request_length kind)
+        bytes.now) }
+    ensures begins { IfOk result (λ q. drop 12 bytes.now ≡ fields q.body
+        ++ drop (request_length kind) bytes.now) }
     ensures refused { result_err result ≡ first_refusal (request_fields kind bytes.now) }
 {
     let customer = number_at(bytes, 4);

@@ -1,5 +1,6 @@
 -- What the clients accepted, and what the server executed.
-use Rattle.std.specs.Prelude.{◌≡◌, ◌≢◌, ℕ, ◌+◌, ◌≤◌, ◌⊎◌, All, AllPairs, Contains, IsTrue, List, Some, slice_get}
+use Rattle.std.specs.Prelude.{◌≡◌, ◌≢◌, ℕ, ◌+◌, ◌≤◌, ◌⊎◌, All, AllPairs, Contains, IsTrue, List}
+use Rattle.std.specs.Prelude.{Some, slice_get}
 use Rattle.s10_core.specs.declared.id.Id.{Id}
 use Rattle.s10_wire.specs.declared.request.Request.{Request}
 use Rattle.s10_wire.specs.declared.outcome.Outcome.{Outcome}
@@ -20,13 +21,15 @@ HasOther h q = (e : Entry) × Contains h e × IsTrue (has_key q.customer q.numbe
 
 -- what was accepted is the outcome of the request in the history, or NumberReused where another request has its key there
 abbrev pub IsOutcomeIn : List Entry → Acceptance → Type 0
-IsOutcomeIn h a = HasOutcome h a.request a.outcome ⊎ ((a.outcome ≡ NumberReused) × HasOther h a.request)
+IsOutcomeIn h a = HasOutcome h a.request a.outcome
+    ⊎ ((a.outcome ≡ NumberReused) × HasOther h a.request)
 
 -- what was accepted agrees with the history: it was submitted by that client, of one client the accepted numbers are
 -- distinct, and each outcome is that of the history
 pub record Agrees (w : WorldState) : Type 0 where
   pub submitted : All (λ a. Contains w.submitted (a.client, a.request)) w.accepted
-  pub distinct : AllPairs (λ a b. a.client ≡ b.client → a.request.number ≢ b.request.number) w.accepted
+  pub distinct : AllPairs (λ a b. a.client ≡ b.client → a.request.number ≢ b.request.number)
+      w.accepted
   pub outcomes : All (IsOutcomeIn w.history) w.accepted
 
 -- the call at the place, counted from 0, is the request
@@ -41,23 +44,27 @@ IsExecutedAtMostOnce h q = (i j : ℕ) → IsExecutedAt h q i → IsExecutedAt h
 
 -- a reply other than NumberReused says that the request was executed exactly once, and NumberReused that it was not
 pub record RevealsExecution (h : List Entry) (a : Acceptance) : Type 0 where
-  pub executed : a.outcome ≢ NumberReused → IsExecuted h a.request × IsExecutedAtMostOnce h a.request
+  pub executed : a.outcome ≢ NumberReused → IsExecuted h a.request
+      × IsExecutedAtMostOnce h a.request
   pub reused : a.outcome ≡ NumberReused → ¬ (IsExecuted h a.request)
 
 -- no two clients of one customer have a number in common
 abbrev pub IsApartFrom : ClientState → ClientState → Type 0
-IsApartFrom c d = c.customer ≡ d.customer → (n : ℕ) → c.first ≤ n → n ≤ c.last → d.first ≤ n → ¬ (n ≤ d.last)
+IsApartFrom c d = c.customer ≡ d.customer → (n : ℕ) → c.first ≤ n → n ≤ c.last → d.first ≤ n
+    → ¬ (n ≤ d.last)
 
 abbrev pub HaveOwnNumbers : List ClientState → Type 0
 HaveOwnNumbers clients = AllPairs IsApartFrom clients
 
 -- no two of the submitted requests have one key, so each request is that of one call
 abbrev pub AreOneCallEach : List (ℕ × Request) → Type 0
-AreOneCallEach submitted = AllPairs (λ s u. s.1.customer ≡ u.1.customer → s.1.number ≢ u.1.number) submitted
+AreOneCallEach submitted = AllPairs (λ s u. s.1.customer ≡ u.1.customer → s.1.number ≢ u.1.number)
+    submitted
 
 -- two accepted replies that carry one identifier do so on days at least the interval apart
 abbrev pub AreDaysApart : ℕ → Acceptance → Acceptance → Type 0
-AreDaysApart interval a b = (x : Id) (d e : ℕ) → Contains (carried_by a.outcome) (d, x) → Contains (carried_by b.outcome) (e, x) → (d + interval ≤ e) ⊎ (e + interval ≤ d)
+AreDaysApart interval a b = (x : Id) (d e : ℕ) → Contains (carried_by a.outcome) (d, x)
+    → Contains (carried_by b.outcome) (e, x) → (d + interval ≤ e) ⊎ (e + interval ≤ d)
 
 -- each submitted request was executed at most once, also where its client gave it up, and each accepted reply tells
 -- whether its request was executed

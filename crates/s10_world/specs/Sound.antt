@@ -1,5 +1,6 @@
 -- What every step keeps.
-use Rattle.std.specs.Prelude.{◌≡◌, ℕ, ◌+◌, ◌<◌, ◌≤◌, All, AllPairs, Contains, List, [], Some, slice_get}
+use Rattle.std.specs.Prelude.{◌≡◌, ℕ, ◌+◌, ◌<◌, ◌≤◌, All, AllPairs, Contains, List, [], Some}
+use Rattle.std.specs.Prelude.{slice_get}
 use Rattle.s10_wire.specs.declared.request.Request.{Request}
 use Rattle.s10_wire.specs.declared.outcome.Outcome.{Outcome}
 use Rattle.s10_wire.specs.Datagrams.{Replies}
@@ -19,7 +20,8 @@ IsGivenBy h b = (q : Request) × (o : Outcome) × GivesIn h q o × Replies b q o
 
 -- the request is the customer's, with a number that the client took
 abbrev pub IsTakenBy : ClientState → Request → Type 0
-IsTakenBy c q = (q.customer ≡ c.customer) × (c.first ≤ q.number) × (q.number < next_number c) × (q.number ≤ c.last)
+IsTakenBy c q = (q.customer ≡ c.customer) × (c.first ≤ q.number) × (q.number < next_number c)
+    × (q.number ≤ c.last)
 
 -- it is a request of the client at the place
 abbrev pub IsOfClient : List ClientState → ℕ × Request → Type 0
@@ -27,7 +29,8 @@ IsOfClient clients s = (c : ClientState) × (slice_get clients s.0 ≡ Some c) �
 
 -- what is pending at the place was submitted there last, and no number from it on was accepted there
 abbrev pub IsAwaited : WorldState → ℕ → ClientState → Request → Type 0
-IsAwaited w k c q = Contains w.submitted (k, q) × (q.number + 1 ≡ next_number c) × All (λ a. a.client ≡ k → a.request.number < q.number) w.accepted
+IsAwaited w k c q = Contains w.submitted (k, q) × (q.number + 1 ≡ next_number c)
+    × All (λ a. a.client ≡ k → a.request.number < q.number) w.accepted
 
 -- nothing was sent yet, and no client took a number
 pub record IsStart (w : WorldState) : Type 0 where
@@ -41,7 +44,9 @@ pub record IsSoundWorld (w : WorldState) : Type 0 where
   pub replied : All (IsGivenBy w.history) w.replied
   pub taken : All (IsOfClient w.clients) w.submitted
   pub in_turn : AllPairs (λ s u. s.0 ≡ u.0 → s.1.number < u.1.number) w.submitted
-  pub awaited : (k : ℕ) (c : ClientState) (q : Request) → slice_get w.clients k ≡ Some c → c.pending ≡ Some q → IsAwaited w k c q
+  pub awaited : (k : ℕ) (c : ClientState) (q : Request) → slice_get w.clients k ≡ Some c
+      → c.pending ≡ Some q → IsAwaited w k c q
   pub submitted : All (λ a. Contains w.submitted (a.client, a.request)) w.accepted
-  pub accepted_in_turn : AllPairs (λ a b. a.client ≡ b.client → a.request.number < b.request.number) w.accepted
+  pub accepted_in_turn : AllPairs (λ a b. a.client ≡ b.client → a.request.number < b.request.number)
+      w.accepted
   pub given : All (λ a. GivesIn w.history a.request a.outcome) w.accepted

@@ -1,5 +1,6 @@
 -- A server, its clients and everything that was sent between them, and the steps that they take.
-use Rattle.std.specs.Prelude.{◌≡◌, ℕ, ◌<◌, ◌⊎◌, is_some, if◌then◌else◌, IsSome, List, [], ◌∷◌, ◌++◌, length, Option, Some, None, slice_get, slice_set}
+use Rattle.std.specs.Prelude.{◌≡◌, ℕ, ◌<◌, ◌⊎◌, is_some, if◌then◌else◌, IsSome, List, [], ◌∷◌, ◌++◌}
+use Rattle.std.specs.Prelude.{length, Option, Some, None, slice_get, slice_set}
 use Rattle.s10_wire.specs.declared.body.Body.{Body}
 use Rattle.s10_wire.specs.declared.request.Request.{Request}
 use Rattle.s10_wire.specs.declared.outcome.Outcome.{Outcome}
@@ -11,9 +12,11 @@ use Rattle.s10_book.specs.Once.{applied_once}
 use Rattle.s10_book.specs.declared.faults.Faults.{Faults}
 use Rattle.s10_book.specs.BookFault.{MemoryRises, StoreRises}
 use Rattle.s10_ends.specs.Served.{AskNothing, IsOwed, IsFullFor}
-use Rattle.s10_ends.specs.Client.{ClientState, next_request, after_submit, submit_fault, without_pending, IsOwnReply}
+use Rattle.s10_ends.specs.Client.{ClientState, next_request, after_submit, submit_fault}
+use Rattle.s10_ends.specs.Client.{without_pending, IsOwnReply}
 use Rattle.s10_world.specs.declared.event.Event.{Event}
-use Rattle.s10_world.specs.declared.event.Event.TheVariants.{Submit, Resend, GiveUp, ToServer, Strange, ToClient}
+use Rattle.s10_world.specs.declared.event.Event.TheVariants.{Submit, Resend, GiveUp, ToServer}
+use Rattle.s10_world.specs.declared.event.Event.TheVariants.{Strange, ToClient}
 
 -- an accepted reply: the place of its client, the request and the outcome
 pub record Acceptance : Type 0 where
@@ -38,7 +41,10 @@ abbrev pub after_submit_by : WorldState → ℕ → Body → Option ClientState 
 after_submit_by w k body None = w
 after_submit_by w k body (Some c) =
     if is_some (submit_fault c) then w
-    else record w { submitted = w.submitted ++ (k, next_request c body) ∷ []; clients = slice_set w.clients k (after_submit c body) }
+    else record w {
+      submitted = w.submitted ++ (k, next_request c body) ∷ [];
+      clients = slice_set w.clients k (after_submit c body);
+    }
 
 -- Resend: where something is pending, the bytes that ask it are sent
 abbrev pub SendsPending : WorldState → Option Request → WorldState → Type 0
@@ -56,7 +62,8 @@ after_give_up_by w k (Some c) = record w { clients = slice_set w.clients k (with
 
 -- a fault of the book: one of its counts rises, or is the greatest number
 abbrev pub Fails : WorldState → WorldState → Type 0
-Fails w w' = (MemoryRises w.faults w'.faults ⊎ StoreRises w.faults w'.faults) × (w' ≡ record w { faults = w'.faults })
+Fails w w' = (MemoryRises w.faults w'.faults ⊎ StoreRises w.faults w'.faults)
+    × (w' ≡ record w { faults = w'.faults })
 
 -- there are fewer calls than the limit allows, or one has the key of the request
 abbrev pub HasPlaceFor : List Entry → Terms → Request → Type 0
@@ -66,15 +73,18 @@ HasPlaceFor h t q = (length h < t.limit) ⊎ IsSome (find_entry h q.customer q.n
 abbrev pub RepliesTo : Terms → WorldState → List ℕ → Request → ℕ → WorldState → Type 0
 RepliesTo t w b q day w' =
     let h = applied_once w.history ((q, day) ∷ []) t.interval in
-    HasPlaceFor w.history t q × (f : List ℕ) × IsOwed h b f × (w' ≡ record w { history = h; replied = w.replied ++ f ∷ [] })
+    HasPlaceFor w.history t q × (f : List ℕ) × IsOwed h b f
+    × (w' ≡ record w { history = h; replied = w.replied ++ f ∷ [] })
 
 -- a request reaches the server on a day
 abbrev pub ServesRequest : Terms → WorldState → List ℕ → Request → ℕ → WorldState → Type 0
-ServesRequest t w b q day w' = Fails w w' ⊎ ((IsFullFor w.history t q × (w' ≡ w)) ⊎ RepliesTo t w b q day w')
+ServesRequest t w b q day w' = Fails w w' ⊎ ((IsFullFor w.history t q × (w' ≡ w))
+    ⊎ RepliesTo t w b q day w')
 
 -- bytes reach the server on a day
 abbrev pub ReachesServer : Terms → WorldState → List ℕ → ℕ → WorldState → Type 0
-ReachesServer t w b day w' = (AskNothing b × (w' ≡ w)) ⊎ ((q : Request) × Asks b q × ServesRequest t w b q day w')
+ReachesServer t w b day w' = (AskNothing b × (w' ≡ w))
+    ⊎ ((q : Request) × Asks b q × ServesRequest t w b q day w')
 
 -- ToServer: bytes that were sent
 abbrev pub DeliversRequest : Terms → WorldState → Option (List ℕ) → ℕ → WorldState → Type 0
@@ -84,13 +94,19 @@ DeliversRequest t w (Some b) day w' = ReachesServer t w b day w'
 -- the bytes reply to exactly what is pending: nothing is pending any more, and the reply joins those accepted
 abbrev pub Accepts : WorldState → ℕ → ClientState → List ℕ → WorldState → Type 0
 Accepts w k c b w' = (q : Request) × (o : Outcome) × IsOwnReply c b q o
-    × (w' ≡ record w { accepted = w.accepted ++ record { client = k; request = q; outcome = o } ∷ []; clients = slice_set w.clients k (without_pending c) })
+    × (w' ≡ record w {
+      accepted = w.accepted ++ record { client = k; request = q; outcome = o }
+          ∷ [];
+      clients = slice_set w.clients k (without_pending c);
+    })
 
 -- ToClient: bytes that were sent in reply
-abbrev pub DeliversReply : WorldState → ℕ → Option ClientState → Option (List ℕ) → WorldState → Type 0
+abbrev pub DeliversReply : WorldState → ℕ → Option ClientState → Option (List ℕ) → WorldState
+    → Type 0
 DeliversReply w k None b w' = w' ≡ w
 DeliversReply w k (Some c) None w' = w' ≡ w
-DeliversReply w k (Some c) (Some b) w' = Accepts w k c b w' ⊎ (((q : Request) (o : Outcome) → ¬ (IsOwnReply c b q o)) × (w' ≡ w))
+DeliversReply w k (Some c) (Some b) w' = Accepts w k c b w'
+    ⊎ (((q : Request) (o : Outcome) → ¬ (IsOwnReply c b q o)) × (w' ≡ w))
 
 -- one step, by its event
 abbrev pub Step : Terms → WorldState → Event → WorldState → Type 0
@@ -99,7 +115,8 @@ Step t w (Resend k) w' = Resends w (slice_get w.clients k) w'
 Step t w (GiveUp k) w' = w' ≡ after_give_up_by w k (slice_get w.clients k)
 Step t w (ToServer index day) w' = DeliversRequest t w (slice_get w.asked index) day w'
 Step t w (Strange packet day) w' = ReachesServer t w packet day w'
-Step t w (ToClient k index) w' = DeliversReply w k (slice_get w.clients k) (slice_get w.replied index) w'
+Step t w (ToClient k index) w' = DeliversReply w k (slice_get w.clients k)
+    (slice_get w.replied index) w'
 
 -- the steps of the world, one event after another
 abbrev pub Steps : Terms → WorldState → List Event → WorldState → Type 0

@@ -20,21 +20,28 @@ pub struct Network<B> {
 
 impl<B: Book> Network<B> {
     ghost use Rattle.std.specs.Prelude.{◌≡◌, ◌<◌, length, take, slice_get, OnOk, OnErr, IfErr};
-    ghost use Rattle.s10_world.specs.World.{Step, Steps, Resends, ReachesServer, DeliversRequest, DeliversReply, after_submit_by, after_give_up_by};
-    ghost use Rattle.s10_world.specs.Parts.{server_of, book_in, clients_of, asked_of, replied_of, world_state_of, place_of};
+    ghost use Rattle.s10_world.specs.World.{Step, Steps, Resends, ReachesServer, DeliversRequest};
+    ghost use Rattle.s10_world.specs.World.{DeliversReply, after_submit_by, after_give_up_by};
+    ghost use Rattle.s10_world.specs.Parts.{server_of, book_in, clients_of, asked_of, replied_of};
+    ghost use Rattle.s10_world.specs.Parts.{world_state_of, place_of};
 
     // The events in order. All memory that one may take is taken before it changes anything.
     pub(crate) fn run(&mut self, events: &[Event]) -> Result<(), WorldFault>
         ensures was_honest { B.honest (book_in self.new) → B.honest (book_in self.old) }
-        ensures same_terms { B.honest (book_in self.new) → B.terms (book_in self.new) ≡ B.terms (book_in self.old) }
+        ensures same_terms { B.honest (book_in self.new) → B.terms (book_in self.new)
+            ≡ B.terms (book_in self.old) }
 
         // The state is one that the steps reach by the events in order.
-        ensures ok { B.honest (book_in self.new) → OnOk result (Steps (B.terms (book_in self.old)) (world_state_of B.history B.faults self.old) events.now (world_state_of B.history B.faults self.new)) }
+        ensures ok { B.honest (book_in self.new)
+            → OnOk result (Steps (B.terms (book_in self.old))
+            (world_state_of B.history B.faults self.old) events.now
+            (world_state_of B.history B.faults self.new)) }
 
         // Where memory was wanting, by the events before that place.
         ensures place { IfErr result (λ fault. place_of fault < length events.now) }
         ensures memory { B.honest (book_in self.new) → IfErr result (λ fault.
-            Steps (B.terms (book_in self.old)) (world_state_of B.history B.faults self.old) (take (place_of fault) events.now) (world_state_of B.history B.faults self.new)) }
+            Steps (B.terms (book_in self.old)) (world_state_of B.history B.faults self.old)
+            (take (place_of fault) events.now) (world_state_of B.history B.faults self.new)) }
     {
         for (place, event) in events.iter().enumerate() {
             let Ok(()) = self.step(event) else {
@@ -47,9 +54,15 @@ impl<B: Book> Network<B> {
     // One event. Where there is no memory for it, nothing is done.
     pub(crate) fn step(&mut self, event: &Event) -> Result<(), AllocError>
         ensures was_honest { B.honest (book_in self.new) → B.honest (book_in self.old) }
-        ensures same_terms { B.honest (book_in self.new) → B.terms (book_in self.new) ≡ B.terms (book_in self.old) }
-        ensures ok { B.honest (book_in self.new) → OnOk result (Step (B.terms (book_in self.old)) (world_state_of B.history B.faults self.old) event.now (world_state_of B.history B.faults self.new)) }
-        ensures err { OnErr result ((server_of self.new ≡ server_of self.old) × (world_state_of B.history B.faults self.new ≡ world_state_of B.history B.faults self.old)) }
+        ensures same_terms { B.honest (book_in self.new) → B.terms (book_in self.new)
+            ≡ B.terms (book_in self.old) }
+        ensures ok { B.honest (book_in self.new)
+            → OnOk result
+            (Step (B.terms (book_in self.old)) (world_state_of B.history B.faults self.old)
+            event.now (world_state_of B.history B.faults self.new)) }
+        ensures err { OnErr result ((server_of self.new ≡ server_of self.old)
+            × (world_state_of B.history B.faults self.new ≡ world_state_of B.history B.faults
+            self.old)) }
     {
         match *event {
             Event::Submit { client, body } => self.submit(client, body),
@@ -66,8 +79,11 @@ impl<B: Book> Network<B> {
 
     fn submit(&mut self, client: u32, body: Body) -> Result<(), AllocError>
         ensures server { server_of self.new ≡ server_of self.old }
-        ensures ok { OnOk result (world_state_of B.history B.faults self.new ≡ after_submit_by (world_state_of B.history B.faults self.old) client body (slice_get (clients_of self.old) client)) }
-        ensures err { OnErr result (world_state_of B.history B.faults self.new ≡ world_state_of B.history B.faults self.old) }
+        ensures ok { OnOk result (world_state_of B.history B.faults self.new
+            ≡ after_submit_by (world_state_of B.history B.faults self.old) client body
+            (slice_get (clients_of self.old) client)) }
+        ensures err { OnErr result (world_state_of B.history B.faults self.new
+            ≡ world_state_of B.history B.faults self.old) }
     {
         self.submitted.reserve(1)?;
         let Some(caller) = self.clients.get_mut(client as usize) else {
@@ -82,8 +98,10 @@ impl<B: Book> Network<B> {
 
     fn resend(&mut self, client: u32) -> Result<(), AllocError>
         ensures server { server_of self.new ≡ server_of self.old }
-        ensures ok { OnOk result (Resends (world_state_of B.history B.faults self.old) (slice_get (clients_of self.old) client) (world_state_of B.history B.faults self.new)) }
-        ensures err { OnErr result (world_state_of B.history B.faults self.new ≡ world_state_of B.history B.faults self.old) }
+        ensures ok { OnOk result (Resends (world_state_of B.history B.faults self.old)
+            (slice_get (clients_of self.old) client) (world_state_of B.history B.faults self.new)) }
+        ensures err { OnErr result (world_state_of B.history B.faults self.new
+            ≡ world_state_of B.history B.faults self.old) }
     {
         self.asked.reserve(1)?;
         let Some(caller) = self.clients.get(client as usize) else {
@@ -98,7 +116,9 @@ impl<B: Book> Network<B> {
 
     fn give_up(&mut self, client: u32)
         ensures server { server_of self.new ≡ server_of self.old }
-        ensures state { world_state_of B.history B.faults self.new ≡ after_give_up_by (world_state_of B.history B.faults self.old) client (slice_get (clients_of self.old) client) }
+        ensures state { world_state_of B.history B.faults self.new
+            ≡ after_give_up_by (world_state_of B.history B.faults self.old) client
+            (slice_get (clients_of self.old) client) }
     {
         let Some(caller) = self.clients.get_mut(client as usize) else {
             return;
@@ -109,9 +129,15 @@ impl<B: Book> Network<B> {
     // Hands bytes to the server. A reply is sent; what was dropped or faulted leaves no trace here.
     fn reach_server(&mut self, bytes: &[u8], day: u32) -> Result<(), AllocError>
         ensures was_honest { B.honest (book_in self.new) → B.honest (book_in self.old) }
-        ensures same_terms { B.honest (book_in self.new) → B.terms (book_in self.new) ≡ B.terms (book_in self.old) }
-        ensures ok { B.honest (book_in self.new) → OnOk result (ReachesServer (B.terms (book_in self.old)) (world_state_of B.history B.faults self.old) bytes.now day (world_state_of B.history B.faults self.new)) }
-        ensures err { OnErr result ((server_of self.new ≡ server_of self.old) × (world_state_of B.history B.faults self.new ≡ world_state_of B.history B.faults self.old)) }
+        ensures same_terms { B.honest (book_in self.new) → B.terms (book_in self.new)
+            ≡ B.terms (book_in self.old) }
+        ensures ok { B.honest (book_in self.new)
+            → OnOk result (ReachesServer (B.terms (book_in self.old))
+            (world_state_of B.history B.faults self.old) bytes.now day
+            (world_state_of B.history B.faults self.new)) }
+        ensures err { OnErr result ((server_of self.new ≡ server_of self.old)
+            × (world_state_of B.history B.faults self.new ≡ world_state_of B.history B.faults
+            self.old)) }
     {
         self.replied.reserve(1)?;
         match self.server.handle(bytes, day) {
@@ -126,9 +152,15 @@ impl<B: Book> Network<B> {
 
     fn deliver_request(&mut self, index: usize, day: u32) -> Result<(), AllocError>
         ensures was_honest { B.honest (book_in self.new) → B.honest (book_in self.old) }
-        ensures same_terms { B.honest (book_in self.new) → B.terms (book_in self.new) ≡ B.terms (book_in self.old) }
-        ensures ok { B.honest (book_in self.new) → OnOk result (DeliversRequest (B.terms (book_in self.old)) (world_state_of B.history B.faults self.old) (slice_get (asked_of self.old) index) day (world_state_of B.history B.faults self.new)) }
-        ensures err { OnErr result ((server_of self.new ≡ server_of self.old) × (world_state_of B.history B.faults self.new ≡ world_state_of B.history B.faults self.old)) }
+        ensures same_terms { B.honest (book_in self.new) → B.terms (book_in self.new)
+            ≡ B.terms (book_in self.old) }
+        ensures ok { B.honest (book_in self.new)
+            → OnOk result (DeliversRequest (B.terms (book_in self.old))
+            (world_state_of B.history B.faults self.old) (slice_get (asked_of self.old) index) day
+            (world_state_of B.history B.faults self.new)) }
+        ensures err { OnErr result ((server_of self.new ≡ server_of self.old)
+            × (world_state_of B.history B.faults self.new ≡ world_state_of B.history B.faults
+            self.old)) }
     {
         let Some(frame) = self.asked.get(index) else {
             return Ok(());
@@ -139,8 +171,11 @@ impl<B: Book> Network<B> {
 
     fn deliver_reply(&mut self, client: u32, index: usize) -> Result<(), AllocError>
         ensures server { server_of self.new ≡ server_of self.old }
-        ensures ok { OnOk result (DeliversReply (world_state_of B.history B.faults self.old) client (slice_get (clients_of self.old) client) (slice_get (replied_of self.old) index) (world_state_of B.history B.faults self.new)) }
-        ensures err { OnErr result (world_state_of B.history B.faults self.new ≡ world_state_of B.history B.faults self.old) }
+        ensures ok { OnOk result (DeliversReply (world_state_of B.history B.faults self.old) client
+            (slice_get (clients_of self.old) client) (slice_get (replied_of self.old) index)
+            (world_state_of B.history B.faults self.new)) }
+        ensures err { OnErr result (world_state_of B.history B.faults self.new
+            ≡ world_state_of B.history B.faults self.old) }
     {
         self.accepted.reserve(1)?;
         let Some(frame) = self.replied.get(index) else {

@@ -26,16 +26,19 @@ impl<B: Book> Model for World<B> {
 
     ghost view = { λ w. w.network };
 
-    ghost invariant = { λ w. B.honest (book_in w.network) → IsSoundWorld (world_state_of B.history B.faults w.network) };
+    ghost invariant = { λ w. B.honest (book_in w.network)
+        → IsSoundWorld (world_state_of B.history B.faults w.network) };
 }
 
 impl<B: Book> World<B> {
-    ghost use Rattle.std.specs.Prelude.{◌≡◌, ◌<◌, ◌^◌, ℕ, [], length, map, take, slice_get, All, OnOk, OnErr, IfErr};
+    ghost use Rattle.std.specs.Prelude.{◌≡◌, ◌<◌, ◌^◌, ℕ, [], length, map, take, slice_get, All};
+    ghost use Rattle.std.specs.Prelude.{OnOk, OnErr, IfErr};
     ghost use Rattle.s10_ends.specs.Client.{IsNew};
     ghost use Rattle.s10_ends.specs.Runs.{KeepsPromises};
     ghost use Rattle.s10_world.specs.World.{Steps};
     ghost use Rattle.s10_world.specs.Agreement.{Agrees, IsAtMostOnce, HaveOwnNumbers, IsUnshared};
-    ghost use Rattle.s10_world.specs.Parts.{server_of, book_in, clients_of, asked_of, replied_of, submitted_of, accepted_of, world_state_of, place_of};
+    ghost use Rattle.s10_world.specs.Parts.{server_of, book_in, clients_of, asked_of, replied_of};
+    ghost use Rattle.s10_world.specs.Parts.{submitted_of, accepted_of, world_state_of, place_of};
 
     /// A world in which nothing was sent yet.
     pub fn new(alloc: Global, server: Server<B>, clients: Vec<Client>) -> World<B>
@@ -104,28 +107,37 @@ impl<B: Book> World<B> {
     /// changes anything.
     pub fn run(&mut self, events: &[Event]) -> Result<(), WorldFault>
         ensures was_honest { B.honest (book_in self.new) → B.honest (book_in self.old) }
-        ensures same_terms { B.honest (book_in self.new) → B.terms (book_in self.new) ≡ B.terms (book_in self.old) }
+        ensures same_terms { B.honest (book_in self.new) → B.terms (book_in self.new)
+            ≡ B.terms (book_in self.old) }
 
         // The state is one that the steps reach by the events in order.
-        ensures ok { B.honest (book_in self.new) → OnOk result (Steps (B.terms (book_in self.old)) (world_state_of B.history B.faults self.old) events.now (world_state_of B.history B.faults self.new)) }
+        ensures ok { B.honest (book_in self.new)
+            → OnOk result (Steps (B.terms (book_in self.old))
+            (world_state_of B.history B.faults self.old) events.now
+            (world_state_of B.history B.faults self.new)) }
 
         // Where memory was wanting, by the events before that place.
         ensures place { IfErr result (λ fault. place_of fault < length events.now) }
         ensures memory { B.honest (book_in self.new) → IfErr result (λ fault.
-            Steps (B.terms (book_in self.old)) (world_state_of B.history B.faults self.old) (take (place_of fault) events.now) (world_state_of B.history B.faults self.new)) }
+            Steps (B.terms (book_in self.old)) (world_state_of B.history B.faults self.old)
+            (take (place_of fault) events.now) (world_state_of B.history B.faults self.new)) }
 
         // What was accepted agrees with the history, which keeps what legal histories keep.
-        ensures kept { B.honest (book_in self.new) → KeepsPromises (B.history (book_in self.new)) (B.terms (book_in self.new)) }
-        ensures agrees { B.honest (book_in self.new) → Agrees (world_state_of B.history B.faults self.new) }
+        ensures kept { B.honest (book_in self.new) → KeepsPromises (B.history (book_in self.new))
+            (B.terms (book_in self.new)) }
+        ensures agrees { B.honest (book_in self.new)
+            → Agrees (world_state_of B.history B.faults self.new) }
 
         // Each submitted request was executed at most once; a call whose reply was accepted exactly once, or not at all
         // where that is NumberReused.
-        ensures once { B.honest (book_in self.new) → IsAtMostOnce (world_state_of B.history B.faults self.new) }
+        ensures once { B.honest (book_in self.new)
+            → IsAtMostOnce (world_state_of B.history B.faults self.new) }
 
         // Where no two clients of one customer had a number in common, each request is that of one call, and no
         // identifier is accepted twice within the interval.
         ensures unshared { B.honest (book_in self.new) → HaveOwnNumbers (clients_of self.old)
-            → IsUnshared (B.terms (book_in self.new)).interval (world_state_of B.history B.faults self.new) }
+            → IsUnshared (B.terms (book_in self.new)).interval
+            (world_state_of B.history B.faults self.new) }
     {
         self.network.run(events)
     }

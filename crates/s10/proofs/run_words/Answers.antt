@@ -5,8 +5,10 @@ use Rattle.s10.proofs.run_words.Goals as goal
 
 pub returns-in-Ok : goal.returns-in-Ok
 returns-in-Ok g c =
-    let unwritten : writer_contents g.O.Write.contents c.in_ok-output.output ≡ g.O.Write.contents c.args.output =
-    new_writer g.O.Write.contents c.in_ok-output.output c.args.output c.in_ok-output.ensures.inner c.in_ok-output.ensures.empty in (
+    let unwritten : writer_contents g.O.Write.contents c.in_ok-output.output ≡ g.O.Write.contents
+    c.args.output =
+    new_writer g.O.Write.contents c.in_ok-output.output c.args.output c.in_ok-output.ensures.inner
+    c.in_ok-output.ensures.empty in (
       c.in-Ok-Some.job,
       c.run_job-done.result.0,
       writer_contents g.O.Write.contents c.run_job-done.new.out,

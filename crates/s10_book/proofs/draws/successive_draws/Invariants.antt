@@ -14,7 +14,9 @@ invariant-loop-held g l =
       interval : g.B.Book.honest l.book → l.interval ≡ (g.B.Book.terms l.fn.book).interval;
       few : length l.picks ≤ l.wanted;
       fewer : l.issued ≤ length l.picks;
-      walk : g.B.Book.honest l.book → IsAt (ranges_of history) (is_open history l.held.holder l.held.service l.held.country) (drawn_on l.day) l.day l.interval (issues_of history) l.wanted l.range l.issued l.picks;
+      walk : g.B.Book.honest l.book
+          → IsAt (ranges_of history) (is_open history l.held.holder l.held.service l.held.country)
+          (drawn_on l.day) l.day l.interval (issues_of history) l.wanted l.range l.issued l.picks;
     }
 
 abbrev pub decreases-loop-held : goal.decreases-loop-held

@@ -1,4 +1,5 @@
-use Rattle.s10_book.proofs.Withdrawn.{stays_closed, none_withdrawn, same_grants, same_voids, same_queries}
+use Rattle.s10_book.proofs.Withdrawn.{stays_closed, none_withdrawn, same_grants, same_voids}
+use Rattle.s10_book.proofs.Withdrawn.{same_queries}
 use Rattle.s10_book.proofs.laws.withdrawn_ranges.Goals as goal
 
 pub returns-clause-closed : goal.returns-clause-closed

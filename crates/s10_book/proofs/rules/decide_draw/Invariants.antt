@@ -13,7 +13,9 @@ invariant-loop-range g l =
       faults : g.B.Book.faults l.book ≡ g.B.Book.faults l.fn.book;
       unchanged : Unchanged g.B.Book.history g.B.Book.terms g.B.Book.honest l.fn.book l.book;
       interval : g.B.Book.honest l.book → l.interval ≡ (g.B.Book.terms l.fn.book).interval;
-      remaining : g.B.Book.honest l.book → Remaining (has_free_pick (issues_of history) l.day l.interval) (is_open history l.held.holder l.held.service l.held.country) (ranges_of history) l.after;
+      remaining : g.B.Book.honest l.book
+          → Remaining (has_free_pick (issues_of history) l.day l.interval)
+          (is_open history l.held.holder l.held.service l.held.country) (ranges_of history) l.after;
     }
 
 abbrev pub decreases-loop-range : goal.decreases-loop-range

@@ -11,7 +11,8 @@ invariant-loop-low g l =
       unchanged : Unchanged g.B.Book.history g.B.Book.terms g.B.Book.honest l.fn.book l.book;
       few : l.high ≤ MAX_LIMIT;
       ordered : l.low ≤ l.high;
-      between : g.B.Book.honest l.book → (l.low ≤ length (ranges_of (g.B.Book.history l.fn.book))) × (length (ranges_of (g.B.Book.history l.fn.book)) ≤ l.high);
+      between : g.B.Book.honest l.book → (l.low ≤ length (ranges_of (g.B.Book.history l.fn.book)))
+          × (length (ranges_of (g.B.Book.history l.fn.book)) ≤ l.high);
     }
 
 abbrev pub decreases-loop-low : goal.decreases-loop-low

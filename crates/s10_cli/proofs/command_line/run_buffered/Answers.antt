@@ -6,8 +6,10 @@ returns g c = (
   _,
   _,
   runs_from _ _ _ _ _ _ _ _
-      (new_reader g.I.Read.remaining c.in_ok-input.input c.args.input c.in_ok-input.ensures.inner c.in_ok-input.ensures.empty c.in_ok-input.ensures.capacity)
-      (new_writer g.O.Write.contents c.in_ok-output.output c.args.output c.in_ok-output.ensures.inner c.in_ok-output.ensures.empty)
+      (new_reader g.I.Read.remaining c.in_ok-input.input c.args.input c.in_ok-input.ensures.inner
+      c.in_ok-input.ensures.empty c.in_ok-input.ensures.capacity)
+      (new_writer g.O.Write.contents c.in_ok-output.output c.args.output
+      c.in_ok-output.ensures.inner c.in_ok-output.ensures.empty)
       c.run_line-status.ensures,
   c.in_ok-flush_buffer.ensures,
 )

@@ -4,7 +4,8 @@ use Rattle.s10_cli.proofs.command_line.run_named.Goals as goal
 
 pub returns-in-make : goal.returns-in-make
 returns-in-make g c =
-    done_make _ _ _ _ _ _ c.make.result _ _ _ c.in-make.is c.value_of-service.ensures c.value_of-serial.ensures c.value_of-country.ensures
+    done_make _ _ _ _ _ _ c.make.result _ _ _ c.in-make.is c.value_of-service.ensures
+    c.value_of-serial.ensures c.value_of-country.ensures
     (record {
       made = c.make.ensures.made;
       no_service = c.make.ensures.service;

@@ -9,4 +9,5 @@ returns-in_default c = no_count _ _ c.in_ok-count.ensures c.in_default.ensures
 pub returns : goal.returns
 returns c =
     finds_count _ c.in-Ok.count c.new.result
-    (subst (λ (n : ℕ). HasNumber (rows_in c.args.found.now) (codes "count") n) (sym c.in-Ok.ensures.1) c.in_ok-count.ensures) c.new.ensures
+    (subst (λ (n : ℕ). HasNumber (rows_in c.args.found.now) (codes "count") n)
+    (sym c.in-Ok.ensures.1) c.in_ok-count.ensures) c.new.ensures

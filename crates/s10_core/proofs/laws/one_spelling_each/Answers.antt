@@ -1,4 +1,5 @@
-use Rattle.s10_core.proofs.Spellings.{number_of-spelled, digits_of-number_of_text, one_refusal, spelled_unrefused}
+use Rattle.s10_core.proofs.Spellings.{number_of-spelled, digits_of-number_of_text, one_refusal}
+use Rattle.s10_core.proofs.Spellings.{spelled_unrefused}
 use Rattle.s10_core.proofs.laws.one_spelling_each.Goals as goal
 
 pub returns-clause-serial : goal.returns-clause-serial

@@ -10,9 +10,13 @@ returns-clause-led g c = led_on (led_once c.send.ensures.step) c.first_accepted.
 
 pub returns-in_err-send-clause-attempts : goal.returns-in_err-send-clause-attempts
 returns-in_err-send-clause-attempts g c =
-    unsent c.args.client.now (g.L.Link.trace_of c.args.link.now) (g.L.Link.trace_of c.send.new.self) (c.args.to, c.args.frame.now) c.in_err-send.field-0.0 c.from_residual.result c.in_err-send.ensures.trace c.from_residual.ensures.1
+    unsent c.args.client.now (g.L.Link.trace_of c.args.link.now) (g.L.Link.trace_of c.send.new.self)
+    (c.args.to, c.args.frame.now) c.in_err-send.field-0.0 c.from_residual.result
+    c.in_err-send.ensures.trace c.from_residual.ensures.1
 
 pub returns-clause-attempts : goal.returns-clause-attempts
 returns-clause-attempts g c =
-    listened c.args.client.now c.first_accepted.new.client (g.L.Link.trace_of c.args.link.now) (g.L.Link.trace_of c.send.new.self) (g.L.Link.trace_of c.first_accepted.new.link) (c.args.to, c.args.frame.now) c.first_accepted.result
+    listened c.args.client.now c.first_accepted.new.client (g.L.Link.trace_of c.args.link.now)
+    (g.L.Link.trace_of c.send.new.self) (g.L.Link.trace_of c.first_accepted.new.link)
+    (c.args.to, c.args.frame.now) c.first_accepted.result
     c.in_ok-send.ensures.trace c.first_accepted.ensures.listens

@@ -7,8 +7,10 @@ use Rattle.s10_ends.proofs.calls.call.Given as goal
 -- n tries, and no reply yet
 abbrev pub invariant-loop-done : goal.invariant-loop-done
 invariant-loop-done g l = record {
-  tried : Tried (g.L.Link.trace_of l.fn.link) (g.L.Link.trace_of l.link) (l.fn.to, l.frame) l._done 0;
+  tried : Tried (g.L.Link.trace_of l.fn.link) (g.L.Link.trace_of l.link) (l.fn.to, l.frame) l._done
+      0;
   led : LeadsTo g.L.Link.step l.fn.link l.link;
   client : l.client ≡ after_submit l.fn.client l.fn.body;
-  unanswered : IsUnanswered (g.L.Link.trace_of l.fn.link) (g.L.Link.trace_of l.link) (Some (next_request l.fn.client l.fn.body));
+  unanswered : IsUnanswered (g.L.Link.trace_of l.fn.link) (g.L.Link.trace_of l.link)
+      (Some (next_request l.fn.client l.fn.body));
 }

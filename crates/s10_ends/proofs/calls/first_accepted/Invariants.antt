@@ -10,5 +10,6 @@ invariant-loop-read g l = record {
   hearing : Hearing (g.L.Link.trace_of l.fn.link) (g.L.Link.trace_of l.link) l._read;
   led : LeadsTo g.L.Link.step l.fn.link l.link;
   client : l.client ≡ l.fn.client;
-  unanswered : IsUnanswered (g.L.Link.trace_of l.fn.link) (g.L.Link.trace_of l.link) l.fn.client.pending;
+  unanswered : IsUnanswered (g.L.Link.trace_of l.fn.link) (g.L.Link.trace_of l.link)
+      l.fn.client.pending;
 }

@@ -5,7 +5,9 @@ use Rattle.s10_ends.proofs.receiving.handle_packet.Goals as goal
 
 pub returns : goal.returns
 returns g c =
-    let P : List ℕ → Type 0 = λ b. Handles g.B.Book.faults g.B.Book.honest g.B.Book.terms g.B.Book.history (book_of c.args.server.now) (book_of c.handle.new.self) c.args.day b c.handle.result in
+    let P : List ℕ → Type 0 = λ b. Handles g.B.Book.faults g.B.Book.honest g.B.Book.terms
+    g.B.Book.history (book_of c.args.server.now) (book_of c.handle.new.self) c.args.day b
+    c.handle.result in
     subst P c.bytes.ensures.bytes (
     record {
       counts = c.handle.ensures.faults;

@@ -1,6 +1,8 @@
 use Rattle.std.proofs.Common.{◌≡◌, ℕ, ◌<◌, ◌≤◌, [], refl, arith}
 use Rattle.s10_ends.specs.Batch.ReceivesAll.{none}
-use Rattle.s10_ends.proofs.Filling.{room_for_next, room_for_first, room_kept, one_longer, one_pushed, first_pushed, few_of_none, fewer, no_more_than, all_held}
+use Rattle.s10_ends.proofs.Filling.{room_for_next, room_for_first, room_kept, one_longer}
+use Rattle.s10_ends.proofs.Filling.{one_pushed, first_pushed, few_of_none, fewer, no_more_than}
+use Rattle.s10_ends.proofs.Filling.{all_held}
 use Rattle.s10_ends.proofs.Batches.{taken_all, one_more, no_more, failed}
 use Rattle.s10_ends.proofs.receiving.receive_batch.Goals as goal
 
@@ -17,47 +19,72 @@ pub returns-in_default-clause-few : goal.returns-in_default-clause-few
 returns-in_default-clause-few g c = few_of_none c.args.taken.now.items c.args.most c.requires.none
 
 pub push_reserved-requires : goal.push_reserved-requires
-push_reserved-requires g c = room_for_first c.args.taken.now.items _ _ c.args.most c.args.taken.now.ok.0 c.requires.none c.requires.some c.requires.room
+push_reserved-requires g c = room_for_first c.args.taken.now.items _ _ c.args.most
+    c.args.taken.now.ok.0 c.requires.none c.requires.some c.requires.room
 
 pub returns-in_err-next-clause-few : goal.returns-in_err-next-clause-few
-returns-in_err-next-clause-few g c = no_more_than _ c.loop-more._more c.args.most c.loop-more.invariant.count c.loop-more-test.true
+returns-in_err-next-clause-few g c = no_more_than _ c.loop-more._more c.args.most
+    c.loop-more.invariant.count c.loop-more-test.true
 
 pub returns-in_default-2-clause-few : goal.returns-in_default-2-clause-few
-returns-in_default-2-clause-few g c = no_more_than _ c.loop-more._more c.args.most c.loop-more.invariant.count c.loop-more-test.true
+returns-in_default-2-clause-few g c = no_more_than _ c.loop-more._more c.args.most
+    c.loop-more.invariant.count c.loop-more-test.true
 
 pub push_reserved-requires-in-loop-more : goal.push_reserved-requires-in-loop-more
-push_reserved-requires-in-loop-more g c = room_for_next _ _ c.loop-more._more c.args.most c.loop-more.invariant.many c.loop-more-test.true c.loop-more.invariant.room
+push_reserved-requires-in-loop-more g c = room_for_next _ _ c.loop-more._more c.args.most
+    c.loop-more.invariant.many c.loop-more-test.true c.loop-more.invariant.room
 
 pub returns-clause-few : goal.returns-clause-few
-returns-clause-few g c = held_few _ c.loop-more._more c.args.most c.loop-more.invariant.count (c.loop-more.auto._more-end c.requires.some)
+returns-clause-few g c = held_few _ c.loop-more._more c.args.most c.loop-more.invariant.count
+    (c.loop-more.auto._more-end c.requires.some)
 
 pub returns-in_err-first-clause-taken : goal.returns-in_err-first-clause-taken
-returns-in_err-first-clause-taken g c = rw c.requires.none (failed _ c.args.most (g.L.Link.trace_of c.args.link.now, c.args.server.now.book) _ [] none _ c.in_err-first.field-0.0 c.from_residual.result (none_yet c.args.most c.requires.some) c.in_err-first.ensures c.from_residual.ensures.1)
+returns-in_err-first-clause-taken g c =
+    rw c.requires.none (failed _ c.args.most (
+      g.L.Link.trace_of c.args.link.now,
+      c.args.server.now.book,
+    ) _ [] none _ c.in_err-first.field-0.0 c.from_residual.result
+    (none_yet c.args.most c.requires.some) c.in_err-first.ensures c.from_residual.ensures.1)
 
 pub returns-in_default-clause-taken : goal.returns-in_default-clause-taken
-returns-in_default-clause-taken g c = rw c.requires.none (no_more _ c.args.most _ _ [] none _ c.in_ok-first.field-0 c.in_ok-first.ensures c.in_default.is)
+returns-in_default-clause-taken g c =
+    rw c.requires.none (no_more _ c.args.most _ _ [] none _ c.in_ok-first.field-0
+    c.in_ok-first.ensures c.in_default.is)
 
 pub loop-more-init : goal.loop-more-init
 loop-more-init g c = record {
   room = room_kept _ _ c.args.most c.requires.room c.push_reserved.ensures.capacity;
-  many = first_pushed c.args.taken.now.items _ _ c.args.taken.now.ok.0 c.requires.none c.push_reserved.ensures.len;
+  many = first_pushed c.args.taken.now.items _ _ c.args.taken.now.ok.0 c.requires.none
+      c.push_reserved.ensures.len;
   count = rw (c.push_reserved.ensures.items, c.requires.none) refl;
-  takes = rw (c.push_reserved.ensures.items, c.requires.none) (one_more _ c.args.most _ _ [] none _ c.in_ok-first.field-0 c.in-Some.first c.in_ok-first.ensures c.in-Some.is);
+  takes = rw (c.push_reserved.ensures.items, c.requires.none) (one_more _ c.args.most _ _ [] none _
+      c.in_ok-first.field-0 c.in-Some.first c.in_ok-first.ensures c.in-Some.is);
 }
 
 pub returns-in_err-next-clause-taken : goal.returns-in_err-next-clause-taken
-returns-in_err-next-clause-taken g c = failed _ c.args.most _ _ _ c.loop-more.invariant.takes _ c.in_err-next.field-0.0 c.from_residual-in_err-next.result (fewer _ c.loop-more._more c.args.most c.loop-more.invariant.count c.loop-more-test.true) c.in_err-next.ensures c.from_residual-in_err-next.ensures.1
+returns-in_err-next-clause-taken g c = failed _ c.args.most _ _ _ c.loop-more.invariant.takes _
+    c.in_err-next.field-0.0 c.from_residual-in_err-next.result
+    (fewer _ c.loop-more._more c.args.most c.loop-more.invariant.count c.loop-more-test.true)
+    c.in_err-next.ensures c.from_residual-in_err-next.ensures.1
 
 pub returns-in_default-2-clause-taken : goal.returns-in_default-2-clause-taken
-returns-in_default-2-clause-taken g c = no_more _ c.args.most _ _ _ c.loop-more.invariant.takes _ c.in_ok-next.field-0 c.in_ok-next.ensures c.in_default-2.is
+returns-in_default-2-clause-taken g c = no_more _ c.args.most _ _ _ c.loop-more.invariant.takes _
+    c.in_ok-next.field-0 c.in_ok-next.ensures c.in_default-2.is
 
 pub loop-more-preserved : goal.loop-more-preserved
 loop-more-preserved g c = record {
-  room = room_kept _ _ c.args.most c.loop-more.invariant.room c.push_reserved-in-loop-more.ensures.capacity;
-  many = one_longer _ _ c.loop-more._more c.loop-more.invariant.many c.push_reserved-in-loop-more.ensures.len;
-  count = one_pushed c.loop-more.taken.items _ c.in-Some-2.next c.loop-more._more c.loop-more.invariant.count c.push_reserved-in-loop-more.ensures.items;
-  takes = rw c.push_reserved-in-loop-more.ensures.items (one_more _ c.args.most _ _ _ c.loop-more.invariant.takes _ c.in_ok-next.field-0 c.in-Some-2.next c.in_ok-next.ensures c.in-Some-2.is);
+  room = room_kept _ _ c.args.most c.loop-more.invariant.room
+      c.push_reserved-in-loop-more.ensures.capacity;
+  many = one_longer _ _ c.loop-more._more c.loop-more.invariant.many
+      c.push_reserved-in-loop-more.ensures.len;
+  count = one_pushed c.loop-more.taken.items _ c.in-Some-2.next c.loop-more._more
+      c.loop-more.invariant.count c.push_reserved-in-loop-more.ensures.items;
+  takes = rw c.push_reserved-in-loop-more.ensures.items
+      (one_more _ c.args.most _ _ _ c.loop-more.invariant.takes _ c.in_ok-next.field-0
+      c.in-Some-2.next c.in_ok-next.ensures c.in-Some-2.is);
 }
 
 pub returns-clause-taken : goal.returns-clause-taken
-returns-clause-taken g c = taken_all _ c.args.most _ _ _ c.loop-more.invariant.takes (all_held _ c.loop-more._more c.args.most c.loop-more.invariant.count (c.loop-more.auto._more-end c.requires.some) c.loop-more-test.false)
+returns-clause-taken g c = taken_all _ c.args.most _ _ _ c.loop-more.invariant.takes
+    (all_held _ c.loop-more._more c.args.most c.loop-more.invariant.count
+    (c.loop-more.auto._more-end c.requires.some) c.loop-more-test.false)

@@ -16,23 +16,31 @@ loop-next-init g c = record {
 pub loop-next-preserved : goal.loop-next-preserved
 loop-next-preserved g c =
     let before = c.loop-next.invariant in
-    let all : take (c.loop-next.next-index + 1) c.args.taken.now ≡ take c.loop-next.next-index c.args.taken.now ++ c.next-item.result ∷ [] =
-    take_more c.args.taken.now c.loop-next.next-index c.next-item.result c.loop-next-test.true ∙ ap (λ (t : Exchange). take c.loop-next.next-index c.args.taken.now ++ t ∷ []) (sym c.next-item.is) in
+    let all : take (c.loop-next.next-index + 1) c.args.taken.now ≡ take c.loop-next.next-index
+    c.args.taken.now ++ c.next-item.result ∷ [] =
+    take_more c.args.taken.now c.loop-next.next-index c.next-item.result c.loop-next-test.true
+    ∙ ap (λ (t : Exchange). take c.loop-next.next-index c.args.taken.now ++ t ∷ [])
+    (sym c.next-item.is) in
     record {
       room = room_kept _ _ _ before.room c.push_reserved.ensures.capacity;
       capacity = c.push_reserved.ensures.capacity ∙ before.capacity;
       many = one_longer _ _ c.loop-next.next-index before.many c.push_reserved.ensures.len;
-      answers = rw (all, c.push_reserved.ensures.items) (more c.next-item.result c.answer-turn.result before.answers c.answer-turn.ensures);
+      answers = rw (all, c.push_reserved.ensures.items)
+          (more c.next-item.result c.answer-turn.result before.answers c.answer-turn.ensures);
     }
 
 pub push_reserved-requires : goal.push_reserved-requires
-push_reserved-requires g c = room_for_next _ _ c.loop-next.next-index _ c.loop-next.invariant.many c.loop-next-test.true c.loop-next.invariant.room
+push_reserved-requires g c = room_for_next _ _ c.loop-next.next-index _ c.loop-next.invariant.many
+    c.loop-next-test.true c.loop-next.invariant.room
 
 pub returns-clause-answers : goal.returns-clause-answers
-returns-clause-answers g c = rw (take_all c.loop-next.next-index c.args.taken.now c.loop-next-test.false) at c.loop-next.invariant.answers
+returns-clause-answers g c =
+    rw (take_all c.loop-next.next-index c.args.taken.now c.loop-next-test.false)
+    at c.loop-next.invariant.answers
 
 pub returns-clause-many : goal.returns-clause-many
-returns-clause-many g c = all_filled _ _ c.loop-next.next-index _ c.loop-next.turns.ok.0 c.loop-next.invariant.many c.loop-next.auto.next-index-end c.loop-next-test.false
+returns-clause-many g c = all_filled _ _ c.loop-next.next-index _ c.loop-next.turns.ok.0
+    c.loop-next.invariant.many c.loop-next.auto.next-index-end c.loop-next-test.false
 
 pub returns-clause-capacity : goal.returns-clause-capacity
 returns-clause-capacity g c = c.loop-next.invariant.capacity

@@ -10,6 +10,9 @@ invariant-loop-next g l = record {
   room : length l.taken ≤ vec_capacity l.turns;
   capacity : vec_capacity l.turns ≡ vec_capacity l.fn.turns;
   many : vec_len l.turns ≡ l.next-index;
-  answers : AnswersAll (g.B.Book.honest (book_of l.fn.server)) (AsksCommitted (g.B.GroupCommit.committed (book_of l.fn.server)) (g.B.Book.history (book_of l.fn.server)))
-      l.fn.commit_result (g.L.Link.trace_of l.fn.link) (take l.next-index l.taken) l.turns.items (g.L.Link.trace_of l.link);
+  answers : AnswersAll (g.B.Book.honest (book_of l.fn.server))
+      (AsksCommitted (g.B.GroupCommit.committed (book_of l.fn.server))
+      (g.B.Book.history (book_of l.fn.server)))
+      l.fn.commit_result (g.L.Link.trace_of l.fn.link) (take l.next-index l.taken) l.turns.items
+      (g.L.Link.trace_of l.link);
 }

@@ -8,7 +8,8 @@ use Rattle.s10_ends.proofs.Applied.{once_new, kept_new}
 use Rattle.s10_ends.proofs.server.execute.Goals as goal
 
 -- as many calls are kept as may be, or fewer
-at_limit : (calls limit len most : ℕ) → len ≡ calls → most ≡ limit → most ≤ len → calls ≤ limit → calls ≡ limit
+at_limit : (calls limit len most : ℕ) → len ≡ calls → most ≡ limit → most ≤ len → calls ≤ limit
+    → calls ≡ limit
 at_limit calls limit len most held bound full few = omega arith
 
 below_limit : (calls limit len most : ℕ) → len ≡ calls → most ≡ limit → len < most → calls < limit
@@ -71,71 +72,110 @@ pub returns-in_err-decide-clause-same_terms : goal.returns-in_err-decide-clause-
 returns-in_err-decide-clause-same_terms g c = c.decide.ensures.unchanged.same_terms
 
 pub returns-in_err-decide-clause-applied : goal.returns-in_err-decide-clause-applied
-returns-in_err-decide-clause-applied g c = λ h. rw (err_from_is_err_and c.from_residual.result c.from_residual.ensures.1).1 tt
+returns-in_err-decide-clause-applied g c =
+    λ h. rw (err_from_is_err_and c.from_residual.result c.from_residual.ensures.1).1 tt
 
 pub returns-in_err-decide-clause-owed : goal.returns-in_err-decide-clause-owed
-returns-in_err-decide-clause-owed g c = λ h. rw (err_from_is_err_and c.from_residual.result c.from_residual.ensures.1).1 tt
+returns-in_err-decide-clause-owed g c =
+    λ h. rw (err_from_is_err_and c.from_residual.result c.from_residual.ensures.1).1 tt
 
 pub returns-in_err-decide-clause-err : goal.returns-in_err-decide-clause-err
-returns-in_err-decide-clause-err g c = λ h. rw (err_from_is_err_and c.from_residual.result c.from_residual.ensures.1).1 (c.decide.ensures.unchanged.same_history h)
+returns-in_err-decide-clause-err g c =
+    λ h. rw (err_from_is_err_and c.from_residual.result c.from_residual.ensures.1).1
+    (c.decide.ensures.unchanged.same_history h)
 
 pub returns-in_err-decide-clause-full : goal.returns-in_err-decide-clause-full
-returns-in_err-decide-clause-full g c = λ h full. absurd (never_full c.from_residual.result c.in_err-decide.field-0.0 _ _ c.from_residual.ensures.1 c.in_err-decide.ensures.faults full)
+returns-in_err-decide-clause-full g c =
+    λ h full. absurd (never_full c.from_residual.result c.in_err-decide.field-0.0 _ _
+    c.from_residual.ensures.1 c.in_err-decide.ensures.faults full)
 
 pub returns-in_err-decide-clause-fits : goal.returns-in_err-decide-clause-fits
-returns-in_err-decide-clause-fits g c = rw (err_from_is_err_and c.from_residual.result c.from_residual.ensures.1).1 tt
+returns-in_err-decide-clause-fits g c =
+    rw (err_from_is_err_and c.from_residual.result c.from_residual.ensures.1).1 tt
 
 pub returns-in_err-keep-clause-faults : goal.returns-in_err-keep-clause-faults
 returns-in_err-keep-clause-faults g c =
-    let p = err_from_is_err_and c.from_residual-in_err-keep.result c.from_residual-in_err-keep.ensures.1 in
-    rw (p.1, p.2) (told_counts _ _ _ (rw c.in_ok-decide.ensures.faults at c.in_err-keep.ensures.faults))
+    let p = err_from_is_err_and c.from_residual-in_err-keep.result
+    c.from_residual-in_err-keep.ensures.1 in
+    rw (p.1, p.2)
+    (told_counts _ _ _ (rw c.in_ok-decide.ensures.faults at c.in_err-keep.ensures.faults))
 
 pub returns-in_err-keep-clause-was_honest : goal.returns-in_err-keep-clause-was_honest
-returns-in_err-keep-clause-was_honest g c = λ h. c.decide.ensures.unchanged.was_honest (c.keep.ensures.was_honest h)
+returns-in_err-keep-clause-was_honest g c = λ h. c.decide.ensures.unchanged.was_honest
+    (c.keep.ensures.was_honest h)
 
 pub returns-in_err-keep-clause-same_terms : goal.returns-in_err-keep-clause-same_terms
-returns-in_err-keep-clause-same_terms g c = λ h. c.keep.ensures.same_terms h ∙ c.decide.ensures.unchanged.same_terms (c.keep.ensures.was_honest h)
+returns-in_err-keep-clause-same_terms g c = λ h. c.keep.ensures.same_terms h
+    ∙ c.decide.ensures.unchanged.same_terms (c.keep.ensures.was_honest h)
 
 pub returns-in_err-keep-clause-applied : goal.returns-in_err-keep-clause-applied
-returns-in_err-keep-clause-applied g c = λ h. rw (err_from_is_err_and c.from_residual-in_err-keep.result c.from_residual-in_err-keep.ensures.1).1 tt
+returns-in_err-keep-clause-applied g c =
+    λ h. rw (err_from_is_err_and c.from_residual-in_err-keep.result
+    c.from_residual-in_err-keep.ensures.1).1 tt
 
 pub returns-in_err-keep-clause-owed : goal.returns-in_err-keep-clause-owed
-returns-in_err-keep-clause-owed g c = λ h. rw (err_from_is_err_and c.from_residual-in_err-keep.result c.from_residual-in_err-keep.ensures.1).1 tt
+returns-in_err-keep-clause-owed g c =
+    λ h. rw (err_from_is_err_and c.from_residual-in_err-keep.result
+    c.from_residual-in_err-keep.ensures.1).1 tt
 
 pub returns-in_err-keep-clause-err : goal.returns-in_err-keep-clause-err
-returns-in_err-keep-clause-err g c = λ h. rw (err_from_is_err_and c.from_residual-in_err-keep.result c.from_residual-in_err-keep.ensures.1).1 (c.in_err-keep.ensures.err h ∙ c.decide.ensures.unchanged.same_history (c.keep.ensures.was_honest h))
+returns-in_err-keep-clause-err g c =
+    λ h. rw (err_from_is_err_and c.from_residual-in_err-keep.result
+    c.from_residual-in_err-keep.ensures.1).1 (c.in_err-keep.ensures.err h
+    ∙ c.decide.ensures.unchanged.same_history (c.keep.ensures.was_honest h))
 
 pub returns-in_err-keep-clause-full : goal.returns-in_err-keep-clause-full
-returns-in_err-keep-clause-full g c = λ h full. absurd (never_full c.from_residual-in_err-keep.result c.in_err-keep.field-0.0 _ _ c.from_residual-in_err-keep.ensures.1 c.in_err-keep.ensures.faults full)
+returns-in_err-keep-clause-full g c =
+    λ h full. absurd (never_full c.from_residual-in_err-keep.result c.in_err-keep.field-0.0 _ _
+    c.from_residual-in_err-keep.ensures.1 c.in_err-keep.ensures.faults full)
 
 pub returns-in_err-keep-clause-fits : goal.returns-in_err-keep-clause-fits
-returns-in_err-keep-clause-fits g c = rw (err_from_is_err_and c.from_residual-in_err-keep.result c.from_residual-in_err-keep.ensures.1).1 tt
+returns-in_err-keep-clause-fits g c =
+    rw (err_from_is_err_and c.from_residual-in_err-keep.result
+    c.from_residual-in_err-keep.ensures.1).1 tt
 
 pub returns-clause-faults : goal.returns-clause-faults
 returns-clause-faults g c = c.in_ok-keep.ensures.faults ∙ c.in_ok-decide.ensures.faults
 
 pub returns-clause-was_honest : goal.returns-clause-was_honest
-returns-clause-was_honest g c = λ h. c.decide.ensures.unchanged.was_honest (c.keep.ensures.was_honest h)
+returns-clause-was_honest g c = λ h. c.decide.ensures.unchanged.was_honest
+    (c.keep.ensures.was_honest h)
 
 pub returns-clause-same_terms : goal.returns-clause-same_terms
-returns-clause-same_terms g c = λ h. c.keep.ensures.same_terms h ∙ c.decide.ensures.unchanged.same_terms (c.keep.ensures.was_honest h)
+returns-clause-same_terms g c = λ h. c.keep.ensures.same_terms h
+    ∙ c.decide.ensures.unchanged.same_terms (c.keep.ensures.was_honest h)
 
 pub returns-clause-applied : goal.returns-clause-applied
 returns-clause-applied g c = λ h.
     let h2 = c.keep.ensures.was_honest h in
     let h1 = c.decide.ensures.unchanged.was_honest h2 in
     let old = g.B.Book.history c.args.book.now in
-    let day : c.max-day.result ≡ max (day_of old) c.args.day = c.max-day.ensures ∙ ap (λ d. max d c.args.day) (c.day.ensures h1) in
-    once_new old _ c.args.request.now c.args.day c.max-day.result (g.B.Book.terms c.args.book.now).interval c.in_ok-decide.field-0 (c.requires h1) day (c.in_ok-decide.ensures.answer h2)
-    (c.in_ok-keep.ensures.ok h ∙ ap (λ l. l ++ record { request = c.args.request.now; day = c.max-day.result; outcome = c.in_ok-decide.field-0 } ∷ []) (c.decide.ensures.unchanged.same_history h2))
+    let day : c.max-day.result ≡ max (day_of old) c.args.day = c.max-day.ensures
+    ∙ ap (λ d. max d c.args.day) (c.day.ensures h1) in
+    once_new old _ c.args.request.now c.args.day c.max-day.result
+    (g.B.Book.terms c.args.book.now).interval c.in_ok-decide.field-0 (c.requires h1) day
+    (c.in_ok-decide.ensures.answer h2)
+    (c.in_ok-keep.ensures.ok h
+    ∙ ap (λ l. l ++ record {
+      request = c.args.request.now;
+      day = c.max-day.result;
+      outcome = c.in_ok-decide.field-0;
+    } ∷ []) (c.decide.ensures.unchanged.same_history h2))
 
 pub returns-clause-owed : goal.returns-clause-owed
 returns-clause-owed g c = λ h.
     let h2 = c.keep.ensures.was_honest h in
-    let e : Entry = record { request = c.args.request.now; day = c.max-day.result; outcome = c.in_ok-decide.field-0 } in
-    let is : find_entry (g.B.Book.history c.keep.new.self) c.args.request.now.customer c.args.request.now.number ≡ Some e =
-    kept_new (g.B.Book.history c.args.book.now) _ e (c.requires (c.decide.ensures.unchanged.was_honest h2))
-    (c.in_ok-keep.ensures.ok h ∙ ap (λ l. l ++ e ∷ []) (c.decide.ensures.unchanged.same_history h2)) in
+    let e : Entry = record {
+      request = c.args.request.now;
+      day = c.max-day.result;
+      outcome = c.in_ok-decide.field-0;
+    } in
+    let is : find_entry (g.B.Book.history c.keep.new.self) c.args.request.now.customer
+    c.args.request.now.number ≡ Some e =
+    kept_new (g.B.Book.history c.args.book.now) _ e
+    (c.requires (c.decide.ensures.unchanged.was_honest h2))
+    (c.in_ok-keep.ensures.ok h ∙ ap (λ l. l ++ e ∷ []) (c.decide.ensures.unchanged.same_history
+    h2)) in
     rw is (λ _. refl, λ other. absurd (other refl))
 
 pub returns-clause-err : goal.returns-clause-err

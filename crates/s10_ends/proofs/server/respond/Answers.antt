@@ -6,28 +6,37 @@ use Rattle.s10_ends.proofs.Applied.{once_kept, reused_fits}
 use Rattle.s10_ends.proofs.server.respond.Goals as goal
 
 pub execute-requires : goal.execute-requires
-execute-requires g c = λ h. rw (c.find.ensures.unchanged.same_history h) (sym (c.in_ok-entry.ensures.answer h) ∙ c.in_default.is)
+execute-requires g c = λ h. rw (c.find.ensures.unchanged.same_history h)
+    (sym (c.in_ok-entry.ensures.answer h) ∙ c.in_default.is)
 
 pub returns-clause-faults : goal.returns-clause-faults
 returns-clause-faults g c = rw c.in_ok-entry.ensures.faults at c.execute.ensures.faults
 
 pub returns-clause-was_honest : goal.returns-clause-was_honest
-returns-clause-was_honest g c = λ h. c.find.ensures.unchanged.was_honest (c.execute.ensures.was_honest h)
+returns-clause-was_honest g c = λ h. c.find.ensures.unchanged.was_honest
+    (c.execute.ensures.was_honest h)
 
 pub returns-clause-same_terms : goal.returns-clause-same_terms
-returns-clause-same_terms g c = λ h. c.execute.ensures.same_terms h ∙ c.find.ensures.unchanged.same_terms (c.execute.ensures.was_honest h)
+returns-clause-same_terms g c = λ h. c.execute.ensures.same_terms h
+    ∙ c.find.ensures.unchanged.same_terms (c.execute.ensures.was_honest h)
 
 pub returns-clause-applied : goal.returns-clause-applied
-returns-clause-applied g c = λ h. let h1 = c.execute.ensures.was_honest h in rw (c.find.ensures.unchanged.same_history h1, c.find.ensures.unchanged.same_terms h1) at (c.execute.ensures.applied h)
+returns-clause-applied g c = λ h. let h1 = c.execute.ensures.was_honest h in
+    rw (c.find.ensures.unchanged.same_history h1, c.find.ensures.unchanged.same_terms h1)
+    at (c.execute.ensures.applied h)
 
 pub returns-clause-owed : goal.returns-clause-owed
 returns-clause-owed g c = c.execute.ensures.owed
 
 pub returns-clause-err : goal.returns-clause-err
-returns-clause-err g c = λ h. rw (c.find.ensures.unchanged.same_history (c.execute.ensures.was_honest h)) at (c.execute.ensures.err h)
+returns-clause-err g c =
+    λ h. rw (c.find.ensures.unchanged.same_history (c.execute.ensures.was_honest h))
+    at (c.execute.ensures.err h)
 
 pub returns-clause-full : goal.returns-clause-full
-returns-clause-full g c = λ h full. let h1 = c.execute.ensures.was_honest h in rw (c.find.ensures.unchanged.same_history h1, c.find.ensures.unchanged.same_terms h1) at (c.execute.ensures.full h full)
+returns-clause-full g c = λ h full. let h1 = c.execute.ensures.was_honest h in
+    rw (c.find.ensures.unchanged.same_history h1, c.find.ensures.unchanged.same_terms h1)
+    at (c.execute.ensures.full h full)
 
 pub returns-clause-fits : goal.returns-clause-fits
 returns-clause-fits g c = c.execute.ensures.fits
@@ -35,16 +44,25 @@ returns-clause-fits g c = c.execute.ensures.fits
 pub returns-in-Some-clause-applied : goal.returns-in-Some-clause-applied
 returns-in-Some-clause-applied g c = λ h.
     let old = g.B.Book.history c.args.book.now in
-    let kept : find_entry old c.args.request.now.customer c.args.request.now.number ≡ Some c.in-Some.entry = sym (c.in_ok-entry.ensures.answer h) ∙ c.in-Some.is in
-    c.find.ensures.unchanged.same_history h ∙ sym (once_kept old c.args.request.now c.args.day (g.B.Book.terms c.args.book.now).interval c.in-Some.entry kept)
+    let kept : find_entry old c.args.request.now.customer c.args.request.now.number
+    ≡ Some c.in-Some.entry = sym (c.in_ok-entry.ensures.answer h) ∙ c.in-Some.is in
+    c.find.ensures.unchanged.same_history h
+    ∙ sym (once_kept old c.args.request.now c.args.day (g.B.Book.terms c.args.book.now).interval
+    c.in-Some.entry kept)
 
 pub returns-in-Some-clause-owed : goal.returns-in-Some-clause-owed
 returns-in-Some-clause-owed g c = λ h.
-    let kept : find_entry (g.B.Book.history c.find.new.self) c.args.request.now.customer c.args.request.now.number ≡ Some c.in-Some.entry =
-    ap (λ l. find_entry l c.args.request.now.customer c.args.request.now.number) (c.find.ensures.unchanged.same_history h) ∙ sym (c.in_ok-entry.ensures.answer h) ∙ c.in-Some.is in
+    let kept : find_entry (g.B.Book.history c.find.new.self) c.args.request.now.customer
+    c.args.request.now.number ≡ Some c.in-Some.entry =
+    ap (λ l. find_entry l c.args.request.now.customer c.args.request.now.number)
+    (c.find.ensures.unchanged.same_history h) ∙ sym (c.in_ok-entry.ensures.answer h)
+    ∙ c.in-Some.is in
     rw kept
     (elim c.if-same_request.branch [
-      | goal.then-same_request w ↦ (λ _. w.result-is, λ other. absurd (other (w.if-same_request.ensures.0 refl)))
+      | goal.then-same_request w ↦ (
+        λ _. w.result-is,
+        λ other. absurd (other (w.if-same_request.ensures.0 refl)),
+      )
       | goal.else-same_request w ↦ (λ same. cc (w.if-same_request.ensures.1 same), λ _. w.result-is)
     ])
 
@@ -52,7 +70,8 @@ pub returns-in-Some-clause-fits : goal.returns-in-Some-clause-fits
 returns-in-Some-clause-fits g c =
     elim c.if-same_request.branch [
       | goal.then-same_request w ↦
-          let same : c.in-Some.entry.request ≡ c.args.request.now = w.if-same_request.ensures.0 refl in
+          let same : c.in-Some.entry.request ≡ c.args.request.now =
+          w.if-same_request.ensures.0 refl in
           rw (w.result-is, ← same) (rw c.in-Some.is at c.in_ok-entry.ensures.fits)
       | goal.else-same_request w ↦ rw w.result-is (reused_fits c.args.request.now.body)
     ]
@@ -81,16 +100,22 @@ pub returns-in_err-entry-clause-same_terms : goal.returns-in_err-entry-clause-sa
 returns-in_err-entry-clause-same_terms g c = λ h. c.find.ensures.unchanged.same_terms h
 
 pub returns-in_err-entry-clause-applied : goal.returns-in_err-entry-clause-applied
-returns-in_err-entry-clause-applied g c = λ h. rw (err_from_is_err_and c.from_residual.result c.from_residual.ensures.1).1 tt
+returns-in_err-entry-clause-applied g c =
+    λ h. rw (err_from_is_err_and c.from_residual.result c.from_residual.ensures.1).1 tt
 
 pub returns-in_err-entry-clause-owed : goal.returns-in_err-entry-clause-owed
-returns-in_err-entry-clause-owed g c = λ h. rw (err_from_is_err_and c.from_residual.result c.from_residual.ensures.1).1 tt
+returns-in_err-entry-clause-owed g c =
+    λ h. rw (err_from_is_err_and c.from_residual.result c.from_residual.ensures.1).1 tt
 
 pub returns-in_err-entry-clause-err : goal.returns-in_err-entry-clause-err
-returns-in_err-entry-clause-err g c = λ h. let p = err_from_is_err_and c.from_residual.result c.from_residual.ensures.1 in rw p.1 (c.find.ensures.unchanged.same_history h)
+returns-in_err-entry-clause-err g c = λ h. let p = err_from_is_err_and c.from_residual.result
+    c.from_residual.ensures.1 in rw p.1 (c.find.ensures.unchanged.same_history h)
 
 pub returns-in_err-entry-clause-full : goal.returns-in_err-entry-clause-full
-returns-in_err-entry-clause-full g c = λ h full. absurd (never_full c.from_residual.result c.in_err-entry.field-0.0 _ _ c.from_residual.ensures.1 c.in_err-entry.ensures.faults full)
+returns-in_err-entry-clause-full g c =
+    λ h full. absurd (never_full c.from_residual.result c.in_err-entry.field-0.0 _ _
+    c.from_residual.ensures.1 c.in_err-entry.ensures.faults full)
 
 pub returns-in_err-entry-clause-fits : goal.returns-in_err-entry-clause-fits
-returns-in_err-entry-clause-fits g c = rw (err_from_is_err_and c.from_residual.result c.from_residual.ensures.1).1 tt
+returns-in_err-entry-clause-fits g c =
+    rw (err_from_is_err_and c.from_residual.result c.from_residual.ensures.1).1 tt

@@ -5,4 +5,6 @@ use Rattle.s10_history.specs.History.{has_key}
 use Rattle.s10_history.proofs.calls.find_in.Goals as goal
 
 pub returns : goal.returns
-returns c = c.copied.ensures ∙ find_from_yields_List (has_key c.args.customer c.args.number) _ _ c.find.result c.find.ensures.ran (YieldsList-from_slice c.args.entries.now cc) (λ x b q k. search (rules, tests))
+returns c = c.copied.ensures ∙ find_from_yields_List (has_key c.args.customer c.args.number) _ _
+    c.find.result c.find.ensures.ran (YieldsList-from_slice c.args.entries.now cc)
+    (λ x b q k. search (rules, tests))

@@ -5,4 +5,7 @@ use Rattle.s10_history.specs.History.{overlaps}
 use Rattle.s10_history.proofs.ranges.covering_in.Goals as goal
 
 pub returns : goal.returns
-returns c = c.copied.ensures ∙ find_from_yields_List (overlaps c.args.block.now.service c.args.block.now.country c.args.block.now.first c.args.block.now.last) _ _ c.find.result c.find.ensures.ran (YieldsList-from_slice c.args.ranges.now cc) (λ x b q k. search (rules, tests))
+returns c = c.copied.ensures
+    ∙ find_from_yields_List (overlaps c.args.block.now.service c.args.block.now.country
+    c.args.block.now.first c.args.block.now.last) _ _ c.find.result c.find.ensures.ran
+    (YieldsList-from_slice c.args.ranges.now cc) (λ x b q k. search (rules, tests))

@@ -4,4 +4,6 @@ use Rattle.std.proofs.lemmas.Iterator.Search.{find_from_yields_List}
 use Rattle.s10_history.proofs.ranges.range_in.Goals as goal
 
 pub returns : goal.returns
-returns c = c.copied.ensures ∙ find_from_yields_List (λ r. r.num == c.args.num) _ _ c.find.result c.find.ensures.ran (YieldsList-from_slice c.args.ranges.now cc) (λ x b q k. search (rules, tests))
+returns c = c.copied.ensures ∙ find_from_yields_List (λ r. r.num == c.args.num) _ _ c.find.result
+    c.find.ensures.ran (YieldsList-from_slice c.args.ranges.now cc)
+    (λ x b q k. search (rules, tests))

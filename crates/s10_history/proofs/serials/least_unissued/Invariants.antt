@@ -6,5 +6,6 @@ use Rattle.s10_history.proofs.serials.least_unissued.Given as goal
 
 abbrev pub invariant-loop-value : goal.invariant-loop-value
 invariant-loop-value l =
-    find (λ serial. not (is_issued l.issues (id_at l.range serial))) (range_with_len l.value (l.range.last + 1 - l.value))
+    find (λ serial. not (is_issued l.issues (id_at l.range serial)))
+    (range_with_len l.value (l.range.last + 1 - l.value))
     ≡ find (λ serial. not (is_issued l.issues (id_at l.range serial))) (serials l.range)

@@ -5,5 +5,7 @@ use Rattle.s10_host.proofs.audit.write_count.Goals as goal
 
 pub returns : goal.returns
 returns g c =
-    let words = words_then _ _ _ (codes "ok" ∷ []) (decimal c.args.count ∷ []) c.in_ok-write_word.ensures c.in_ok-write_decimal.ensures in
-    line_follows _ _ _ _ (codes "ledger") (codes "ok" ∷ decimal c.args.count ∷ []) c.write_text-2.result c.in_ok-write_text.ensures words c.write_text-2.ensures
+    let words = words_then _ _ _ (codes "ok" ∷ []) (decimal c.args.count ∷ [])
+    c.in_ok-write_word.ensures c.in_ok-write_decimal.ensures in
+    line_follows _ _ _ _ (codes "ledger") (codes "ok" ∷ decimal c.args.count ∷ [])
+    c.write_text-2.result c.in_ok-write_text.ensures words c.write_text-2.ensures

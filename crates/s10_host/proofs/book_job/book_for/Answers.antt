@@ -6,7 +6,8 @@ pub returns-in-Create-clause-made : goal.returns-in-Create-clause-made
 returns-in-Create-clause-made g c terms is =
     let same : c.in-Create.settings ≡ terms = cc in
     let new = c.create.ensures in
-    made_for g.A.Store terms c.in-Create.settings c.create.result same new.new new.opened new.honest new.empty new.none_pending
+    made_for g.A.Store terms c.in-Create.settings c.create.result same new.new new.opened new.honest
+    new.empty new.none_pending
 
 pub returns-in-Create-clause-opened : goal.returns-in-Create-clause-opened
 returns-in-Create-clause-opened g c none = absurd (none c.in-Create.settings c.in-Create.is)
@@ -20,8 +21,10 @@ returns-in_default-clause-made g c terms is = absurd (c.in_default.not-Create te
 pub returns-in_default-clause-opened : goal.returns-in_default-clause-opened
 returns-in_default-clause-opened g c none =
     let found = c.open.ensures in
-    opened_for g.A.Store c.args.connection c.open.result found.opened found.honest found.found found.same found.history found.none_pending found.was
+    opened_for g.A.Store c.args.connection c.open.result found.opened found.honest found.found
+    found.same found.history found.none_pending found.was
 
 pub returns-in_default-clause-refused : goal.returns-in_default-clause-refused
 returns-in_default-clause-refused g c =
-    refused_for g.A.Store c.args.work.now c.args.connection c.open.result (λ r. r.connection) (λ r. r.fault) c.in_default.not-Create c.open.ensures.refused
+    refused_for g.A.Store c.args.work.now c.args.connection c.open.result (λ r. r.connection)
+    (λ r. r.fault) c.in_default.not-Create c.open.ensures.refused

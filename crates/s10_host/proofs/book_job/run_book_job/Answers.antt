@@ -3,7 +3,8 @@ use Rattle.std.proofs.lemmas.Result.{err_from_is_err_and}
 use Rattle.s10_host.proofs.book_job.run_book_job.Goals as goal
 
 pub returns-clause-worked : goal.returns-clause-worked
-returns-clause-worked g c = c.run_and_close_book.ensures c.args.connection c.in_ok-book.ensures.made c.in_ok-book.ensures.opened
+returns-clause-worked g c = c.run_and_close_book.ensures c.args.connection c.in_ok-book.ensures.made
+    c.in_ok-book.ensures.opened
 
 pub returns-in_err-book-clause-worked : goal.returns-in_err-book-clause-worked
 returns-in_err-book-clause-worked g c =

@@ -13,4 +13,8 @@ returns-in-Serve-clause-served g c at count day is =
 pub returns-in-Report-clause-reported : goal.returns-in-Report-clause-reported
 returns-in-Report-clause-reported g c report is =
     let same : c.in-Report.report ≡ report = cc in
-    rw (← same) (refl, c.write_report-written.ensures.unchanged, c.write_report-written.ensures.written)
+    rw (← same) (
+      refl,
+      c.write_report-written.ensures.unchanged,
+      c.write_report-written.ensures.written,
+    )

@@ -5,7 +5,11 @@ use Rattle.s10_host.proofs.jobs.run_and_close_file.Goals as goal
 
 pub returns-in-BookJobEnd-clause-worked : goal.returns-in-BookJobEnd-clause-worked
 returns-in-BookJobEnd-clause-worked g c work so =
-    let (asked, is, worked) = c.in-BookJobEnd.ensures.worked (c.in-BookJobEnd.worked, c.in-BookJobEnd.link, c.in-BookJobEnd.connection) refl in
+    let (asked, is, worked) = c.in-BookJobEnd.ensures.worked (
+      c.in-BookJobEnd.worked,
+      c.in-BookJobEnd.link,
+      c.in-BookJobEnd.connection,
+    ) refl in
     let between = g.W.Write.contents c.run_ledger_job.new.out in
     let last = g.W.Write.contents c.ended-done.new.out in
     rw (← asked_alike c.args.task asked work is so) (inl (record {
@@ -13,13 +17,21 @@ returns-in-BookJobEnd-clause-worked g c work so =
       done = c.in-BookJobEnd.worked;
       between = between;
       worked = worked;
-      kept = kept_copied c.in-BookJobEnd.connection c.checkpoint_and_close-closed.result c.ended-done.result.1 c.in-BookJobEnd.worked c.ended-done.result.0 between last c.checkpoint_and_close-closed.ensures.copied c.ended-done.ensures.kept;
-      lost = λ none. lost_closing c.checkpoint_and_close-closed.result c.in-BookJobEnd.worked c.ended-done.result.0 between last c.checkpoint_and_close-closed.ensures.refused (c.ended-done.ensures.lost none);
+      kept = kept_copied c.in-BookJobEnd.connection c.checkpoint_and_close-closed.result
+          c.ended-done.result.1 c.in-BookJobEnd.worked c.ended-done.result.0 between last
+          c.checkpoint_and_close-closed.ensures.copied c.ended-done.ensures.kept;
+      lost = λ none. lost_closing c.checkpoint_and_close-closed.result c.in-BookJobEnd.worked
+          c.ended-done.result.0 between last c.checkpoint_and_close-closed.ensures.refused
+          (c.ended-done.ensures.lost none);
     }))
 
 pub returns-in-BookJobEnd-clause-audited : goal.returns-in-BookJobEnd-clause-audited
 returns-in-BookJobEnd-clause-audited g c so =
-    let (asked, is, worked) = c.in-BookJobEnd.ensures.worked (c.in-BookJobEnd.worked, c.in-BookJobEnd.link, c.in-BookJobEnd.connection) refl in
+    let (asked, is, worked) = c.in-BookJobEnd.ensures.worked (
+      c.in-BookJobEnd.worked,
+      c.in-BookJobEnd.link,
+      c.in-BookJobEnd.connection,
+    ) refl in
     no_audit c.args.task asked is so
 
 pub returns-in-Refused-clause-worked : goal.returns-in-Refused-clause-worked
@@ -27,7 +39,8 @@ returns-in-Refused-clause-worked g c work so =
     let refused = c.in-Refused.refusal in
     let (asked, is, refusal, silent) = c.in-Refused.ensures.refused refused refl in
     rw (← asked_alike c.args.task asked work is so) (
-    refused_over asked c.args.connection refused.connection (g.W.Write.contents c.args.out.now) (g.W.Write.contents c.run_ledger_job.new.out) (g.W.Write.contents c.fail_by_ledger.new.out)
+    refused_over asked c.args.connection refused.connection (g.W.Write.contents c.args.out.now)
+    (g.W.Write.contents c.run_ledger_job.new.out) (g.W.Write.contents c.fail_by_ledger.new.out)
     refused.fault c.fault_of_refusal.result c.fail_by_ledger.result c.fail_by_ledger.result _ _
     refusal c.fault_of_refusal.ensures silent c.fail_by_ledger.ensures refl refl refl
     )
@@ -38,9 +51,20 @@ returns-in-Refused-clause-audited g c so =
     no_audit c.args.task asked is so
 
 pub returns-in-Audited-clause-worked : goal.returns-in-Audited-clause-worked
-returns-in-Audited-clause-worked g c work so = no_audit c.args.task work so (c.in-Audited.ensures.audited c.in-Audited.audited c.in-Audited.store refl).0
+returns-in-Audited-clause-worked g c work so =
+    no_audit c.args.task work so (c.in-Audited.ensures.audited c.in-Audited.audited
+    c.in-Audited.store refl).0
 
 pub returns-in-Audited-clause-audited : goal.returns-in-Audited-clause-audited
 returns-in-Audited-clause-audited g c so =
-    let (is, left, found, counted, written, falls) = c.in-Audited.ensures.audited c.in-Audited.audited c.in-Audited.store refl in
-    (refl, c.close.result, refl, left, found, counted, written, left_clean left c.in-Audited.store c.close.result falls c.close.ensures)
+    let (is, left, found, counted, written, falls) =
+    c.in-Audited.ensures.audited c.in-Audited.audited c.in-Audited.store refl in (
+      refl,
+      c.close.result,
+      refl,
+      left,
+      found,
+      counted,
+      written,
+      left_clean left c.in-Audited.store c.close.result falls c.close.ensures,
+    )

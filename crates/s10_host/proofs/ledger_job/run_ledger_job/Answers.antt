@@ -6,7 +6,14 @@ returns-in-Audit-clause-audited g c done store is =
     let same : c.run_audit-audited.result.0 ≡ done = cc in
     let left : c.into_store.result ≡ store = cc in
     let found = c.run_audit-audited.ensures in
-    rw (← same, ← left) (c.in-Audit.is, c.run_audit-audited.result.1, found.0, found.1, found.2, c.into_store.ensures.quiet.clean)
+    rw (← same, ← left) (
+      c.in-Audit.is,
+      c.run_audit-audited.result.1,
+      found.0,
+      found.1,
+      found.2,
+      c.into_store.ensures.quiet.clean,
+    )
 
 pub returns-in-Ok-clause-worked : goal.returns-in-Ok-clause-worked
 returns-in-Ok-clause-worked g c w is =
@@ -16,4 +23,9 @@ returns-in-Ok-clause-worked g c w is =
 pub returns-in-Err-clause-refused : goal.returns-in-Err-clause-refused
 returns-in-Err-clause-refused g c r is =
     let same : c.in-Err.refused ≡ r = cc in
-    rw (← same) (c.in-BookJob.work, c.in-BookJob.is, c.in-Err.ensures.refused, c.in-Err.ensures.silent)
+    rw (← same) (
+      c.in-BookJob.work,
+      c.in-BookJob.is,
+      c.in-Err.ensures.refused,
+      c.in-Err.ensures.silent,
+    )

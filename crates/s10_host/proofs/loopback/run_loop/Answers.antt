@@ -12,15 +12,24 @@ pub returns-clause-asked : goal.returns-clause-asked
 returns-clause-asked g c =
     let (begun, new, over, ended, back, far, near, led, to, asked) = c.loop_over-asked.ensures in
     let settings : c.in-Some.settings ≡ loop_terms = search rules in
-    looped_over to c.args.day begun ended (record { connection = c.close.result; far = c.loop_over-asked.result.2; near = c.loop_over-asked.result.3 })
-    (g.W.Write.contents c.args.out.now) (g.W.Write.contents c.loop_over-asked.new.out) c.loop_over-asked.result.0 c.in-Ok.links.1.trace (record {
+    looped_over to c.args.day begun ended (record {
+      connection = c.close.result;
+      far = c.loop_over-asked.result.2;
+      near = c.loop_over-asked.result.3;
+    })
+    (g.W.Write.contents c.args.out.now) (g.W.Write.contents c.loop_over-asked.new.out)
+    c.loop_over-asked.result.0 c.in-Ok.links.1.trace (record {
       on_day = ap (λ (l : LoopLink). l.day) new;
       far = ap (λ (l : LoopLink). l.far.trace) new ∙ c.in-Ok.ensures.ok.0;
       near = ap (λ (l : LoopLink). l.near.trace) new ∙ c.in-Ok.ensures.ok.1;
-      terms = ap (λ (b : Ledger MemStore). b.terms) over ∙ c.in-Ok-in_memory.ensures.new.0 ∙ settings;
-      empty = ap (λ (b : Ledger MemStore). history_of over_memory b) over ∙ ap (λ (p : List Entry). committed_of over_memory c.in-Ok-in_memory.book ++ p) c.in-Ok-in_memory.ensures.none_pending ∙ append-nil _ ∙ c.in-Ok-in_memory.ensures.empty;
+      terms = ap (λ (b : Ledger MemStore). b.terms) over ∙ c.in-Ok-in_memory.ensures.new.0
+          ∙ settings;
+      empty = ap (λ (b : Ledger MemStore). history_of over_memory b) over
+          ∙ ap (λ (p : List Entry). committed_of over_memory c.in-Ok-in_memory.book ++ p)
+          c.in-Ok-in_memory.ensures.none_pending ∙ append-nil _ ∙ c.in-Ok-in_memory.ensures.empty;
     }) led (record {
-      honest = subst (IsHonest over_memory) back (is_honest c.loop_over-asked.result.1 c.close.result c.close.ensures.honest);
+      honest = subst (IsHonest over_memory) back (is_honest c.loop_over-asked.result.1
+          c.close.result c.close.ensures.honest);
       closed = c.close.ensures.same ∙ ap (λ (b : Ledger MemStore). b.conn) back;
       far = far;
       near = near;

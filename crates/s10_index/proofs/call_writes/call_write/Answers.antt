@@ -11,7 +11,8 @@ use Rattle.s10_index.proofs.call_writes.call_write.Goals as goal
 pub returns-in_default-clause-done : goal.returns-in_default-clause-done
 returns-in_default-clause-done c h t legal follows few indexes =
     let e = c.args.entry.now in
-    let fitting : IsTrue (fits e.request.body e.outcome) = rw (follows.right) (answer_fits h e.request.customer e.request.body e.day t.interval) in
+    let fitting : IsTrue (fits e.request.body e.outcome) =
+    rw (follows.right) (answer_fits h e.request.customer e.request.body e.day t.interval) in
     let some : IsSome c.new.result = c.new.ensures.fits.1 fitting in
     let wrong : false ≡ true = rw c.in_default.is at some in
     absurd (let e = wrong in cc)
@@ -24,6 +25,15 @@ returns-in_err-made-clause-done c h t legal follows few indexes =
 pub returns-clause-answer : goal.returns-clause-answer
 returns-clause-answer c h t legal follows calls indexes arrival =
     let e = c.args.entry.now in
-    let replies : Replies c.encode_reply.result e.request e.outcome = rw (c.in-Some.ensures.parts.0, c.in-Some.ensures.parts.1) at c.encode_reply.ensures in
-    let call : IsCall e = record { request = replies.0; outcome = replies.1; fitting = replies.2; day = search rules } in
-    (call, writes_call h t _ arrival (reply_replies e.request e.outcome c.encode_reply.result replies) (c.in_ok-made.ensures.answer h t legal follows calls call indexes arrival))
+    let replies : Replies c.encode_reply.result e.request e.outcome =
+    rw (c.in-Some.ensures.parts.0, c.in-Some.ensures.parts.1) at c.encode_reply.ensures in
+    let call : IsCall e = record {
+      request = replies.0;
+      outcome = replies.1;
+      fitting = replies.2;
+      day = search rules;
+    } in (
+      call,
+      writes_call h t _ arrival (reply_replies e.request e.outcome c.encode_reply.result
+          replies) (c.in_ok-made.ensures.answer h t legal follows calls call indexes arrival),
+    )

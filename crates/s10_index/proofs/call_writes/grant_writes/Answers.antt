@@ -15,5 +15,9 @@ returns-in_err-add_range-clause-answer c h t n legal follows is =
 
 pub returns-clause-answer : goal.returns-clause-answer
 returns-clause-answer c h t n legal follows is =
-    rw (c.in_ok-add_range.ensures.ranges ∙ ap (λ (l : List RangeWrite). l ++ c.in-Some.write ∷ []) c.new-made.ensures.ranges, c.add_range.ensures.serials ∙ c.new-made.ensures.serials)
+    rw (
+      c.in_ok-add_range.ensures.ranges ∙ ap (λ (l : List RangeWrite). l ++ c.in-Some.write ∷ [])
+          c.new-made.ensures.ranges,
+      c.add_range.ensures.serials ∙ c.new-made.ensures.serials,
+    )
     (c.in-Some.ensures.made h t n legal follows is)

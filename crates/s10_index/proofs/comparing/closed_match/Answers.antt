@@ -11,5 +11,8 @@ pub returns-clause-answer : goal.returns-clause-answer
 returns-clause-answer c =
     let made = c.deref.ensures.value ∙ c.in-Ok.ensures in
     let Up : List ClosedRow → Type 0 = IsAscending (λ a b. int_cmp a.arrival b.arrival ≡ Less) in
-    let Same : List ClosedRow → Type 0 = λ l. IsTrue c.same_closed.result ↔ HaveSameRows l c.args.rows.items in
-    subst Same made (c.same_closed.ensures (subst Up (sym made) (closed_rows_rise c.args.book.now.index.entries.items)))
+    let Same : List ClosedRow → Type 0 = λ l. IsTrue c.same_closed.result
+    ↔ HaveSameRows l c.args.rows.items in
+    subst Same made
+    (c.same_closed.ensures
+    (subst Up (sym made) (closed_rows_rise c.args.book.now.index.entries.items)))

@@ -11,7 +11,9 @@ use Rattle.s10_rows.specs.Tables.{HaveSameRows, range_rows, serial_rows, closed_
 use Rattle.s10_replay.proofs.Compared.{right_calls}
 use Rattle.s10_index.proofs.ReplayedBookLemmas.{restored}
 use Rattle.s10_index.proofs.comparing.compare_rows.Goals as goal
-use Rattle.s10_index.proofs.comparing.compare_rows.Goals.{else-ranges-via-then-ranges+then-serials+else-closed, else-ranges-via-then-ranges+else-serials, else-ranges-via-else-ranges}
+use Rattle.s10_index.proofs.comparing.compare_rows.Goals.{else-ranges-via-then-ranges+then-serials+else-closed}
+use Rattle.s10_index.proofs.comparing.compare_rows.Goals.{else-ranges-via-then-ranges+else-serials}
+use Rattle.s10_index.proofs.comparing.compare_rows.Goals.{else-ranges-via-else-ranges}
 
 pub returns-in_err-ranges-clause-err : goal.returns-in_err-ranges-clause-err
 returns-in_err-ranges-clause-err c tables t theirs head right kept =
@@ -20,25 +22,34 @@ returns-in_err-ranges-clause-err c tables t theirs head right kept =
 
 pub returns-in_err-serials-clause-err : goal.returns-in_err-serials-clause-err
 returns-in_err-serials-clause-err c tables t theirs head right kept =
-    let p = err_from_is_err_and c.from_residual-in_err-serials.result c.from_residual-in_err-serials.ensures.1 in
+    let p = err_from_is_err_and c.from_residual-in_err-serials.result
+    c.from_residual-in_err-serials.ensures.1 in
     rw (p.1, p.2) (c.in_err-serials.ensures.err tables)
 
 pub returns-in_err-closed-clause-err : goal.returns-in_err-closed-clause-err
 returns-in_err-closed-clause-err c tables t theirs head right kept =
-    let p = err_from_is_err_and c.from_residual-in_err-closed.result c.from_residual-in_err-closed.ensures.1 in
+    let p = err_from_is_err_and c.from_residual-in_err-closed.result
+    c.from_residual-in_err-closed.ensures.1 in
     rw (p.1, p.2) (c.in_err-closed.ensures.err tables)
 
 pub returns-then-closed-clause-ok : goal.returns-then-closed-clause-ok
 returns-then-closed-clause-ok c tables t theirs right kept =
     let h = c.args.book.now.index.entries.items in
-    let calls = subst (λ (l : List Entry). All IsCall l) (sym kept) (right_calls t tables.calls right) in
-    let ranges = restored range_rows c.args.rows.ranges.items c.in_ok-ranges.ranges h (kept_of tables.calls) kept c.in_ok-ranges.ensures.answer in
-    let serials = restored serial_rows c.args.rows.serials.items c.in_ok-serials.serials h (kept_of tables.calls) kept (c.in_ok-serials.ensures.answer calls) in
-    let closed = restored closed_rows c.args.rows.closed.items c.in_ok-closed.closed h (kept_of tables.calls) kept c.in_ok-closed.ensures.answer in
+    let calls = subst (λ (l : List Entry). All IsCall l) (sym kept)
+    (right_calls t tables.calls right) in
+    let ranges = restored range_rows c.args.rows.ranges.items c.in_ok-ranges.ranges h
+    (kept_of tables.calls) kept c.in_ok-ranges.ensures.answer in
+    let serials = restored serial_rows c.args.rows.serials.items c.in_ok-serials.serials h
+    (kept_of tables.calls) kept (c.in_ok-serials.ensures.answer calls) in
+    let closed = restored closed_rows c.args.rows.closed.items c.in_ok-closed.closed h
+    (kept_of tables.calls) kept c.in_ok-closed.ensures.answer in
     record {
-      ranges = subst (λ (l : List RangeRow). HaveSameRows (range_rows (kept_of tables.calls)) l) (sym theirs.ranges) (ranges.0 c.if-ranges.true);
-      serials = subst (λ (l : List SerialRow). HaveSameRows (serial_rows (kept_of tables.calls)) l) (sym theirs.serials) (serials.0 c.if-serials.true);
-      closed = subst (λ (l : List ClosedRow). HaveSameRows (closed_rows (kept_of tables.calls)) l) (sym theirs.closed) (closed.0 c.if-closed.true);
+      ranges = subst (λ (l : List RangeRow). HaveSameRows (range_rows (kept_of tables.calls)) l)
+          (sym theirs.ranges) (ranges.0 c.if-ranges.true);
+      serials = subst (λ (l : List SerialRow). HaveSameRows (serial_rows (kept_of tables.calls)) l)
+          (sym theirs.serials) (serials.0 c.if-serials.true);
+      closed = subst (λ (l : List ClosedRow). HaveSameRows (closed_rows (kept_of tables.calls)) l)
+          (sym theirs.closed) (closed.0 c.if-closed.true);
     }
 
 pub returns-else-ranges-clause-err : goal.returns-else-ranges-clause-err
@@ -48,16 +59,26 @@ returns-else-ranges-clause-err c tables t theirs head right kept = (
   right,
   λ made.
       let h = c.args.book.now.index.entries.items in
-      let calls = subst (λ (l : List Entry). All IsCall l) (sym kept) (right_calls t tables.calls right) in
+      let calls = subst (λ (l : List Entry). All IsCall l) (sym kept)
+      (right_calls t tables.calls right) in
       elim c.else-ranges.branch [
         | else-ranges-via-then-ranges+then-serials+else-closed w ↦
-            let closed = restored closed_rows c.args.rows.closed.items c.in_ok-closed.closed h (kept_of tables.calls) kept c.in_ok-closed.ensures.answer in
-            both_ways c.in_ok-closed.closed w.if-closed.false (closed.1 (subst (λ (l : List ClosedRow). HaveSameRows (closed_rows (kept_of tables.calls)) l) theirs.closed made.closed))
+            let closed = restored closed_rows c.args.rows.closed.items c.in_ok-closed.closed h
+            (kept_of tables.calls) kept c.in_ok-closed.ensures.answer in
+            both_ways c.in_ok-closed.closed w.if-closed.false
+            (closed.1 (subst (λ (l : List ClosedRow). HaveSameRows
+            (closed_rows (kept_of tables.calls)) l) theirs.closed made.closed))
         | else-ranges-via-then-ranges+else-serials w ↦
-            let serials = restored serial_rows c.args.rows.serials.items c.in_ok-serials.serials h (kept_of tables.calls) kept (c.in_ok-serials.ensures.answer calls) in
-            both_ways c.in_ok-serials.serials w.if-serials.false (serials.1 (subst (λ (l : List SerialRow). HaveSameRows (serial_rows (kept_of tables.calls)) l) theirs.serials made.serials))
+            let serials = restored serial_rows c.args.rows.serials.items c.in_ok-serials.serials h
+            (kept_of tables.calls) kept (c.in_ok-serials.ensures.answer calls) in
+            both_ways c.in_ok-serials.serials w.if-serials.false
+            (serials.1 (subst (λ (l : List SerialRow). HaveSameRows
+            (serial_rows (kept_of tables.calls)) l) theirs.serials made.serials))
         | else-ranges-via-else-ranges w ↦
-            let ranges = restored range_rows c.args.rows.ranges.items c.in_ok-ranges.ranges h (kept_of tables.calls) kept c.in_ok-ranges.ensures.answer in
-            both_ways c.in_ok-ranges.ranges w.if-ranges.false (ranges.1 (subst (λ (l : List RangeRow). HaveSameRows (range_rows (kept_of tables.calls)) l) theirs.ranges made.ranges))
+            let ranges = restored range_rows c.args.rows.ranges.items c.in_ok-ranges.ranges h
+            (kept_of tables.calls) kept c.in_ok-ranges.ensures.answer in
+            both_ways c.in_ok-ranges.ranges w.if-ranges.false
+            (ranges.1 (subst (λ (l : List RangeRow). HaveSameRows
+            (range_rows (kept_of tables.calls)) l) theirs.ranges made.ranges))
       ],
 )

@@ -11,5 +11,8 @@ pub returns-clause-answer : goal.returns-clause-answer
 returns-clause-answer c =
     let made = c.deref.ensures.value ∙ c.in-Ok.ensures in
     let Up : List RangeRow → Type 0 = IsAscending (λ a b. int_cmp a.num b.num ≡ Less) in
-    let Same : List RangeRow → Type 0 = λ l. IsTrue c.same_ranges.result ↔ HaveSameRows l c.args.rows.items in
-    subst Same made (c.same_ranges.ensures (subst Up (sym made) (range_rows_rise c.args.book.now.index.entries.items)))
+    let Same : List RangeRow → Type 0 = λ l. IsTrue c.same_ranges.result
+    ↔ HaveSameRows l c.args.rows.items in
+    subst Same made
+    (c.same_ranges.ensures
+    (subst Up (sym made) (range_rows_rise c.args.book.now.index.entries.items)))

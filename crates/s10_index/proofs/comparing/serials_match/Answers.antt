@@ -7,5 +7,7 @@ use Rattle.s10_index.proofs.comparing.serials_match.Goals as goal
 pub returns-clause-answer : goal.returns-clause-answer
 returns-clause-answer c calls =
     let h = c.args.book.now.index.entries.items in
-    let like : HaveSameRows (serial_rows h) c.in-Ok.made.items = subst (HaveSameRows (serial_rows h)) (sym c.in-Ok.ensures) ∣ IsPermutation-refl (serial_rows h) ∣₁ in
+    let like : HaveSameRows (serial_rows h) c.in-Ok.made.items =
+    subst (HaveSameRows (serial_rows h)) (sym c.in-Ok.ensures) ∣ IsPermutation-refl
+    (serial_rows h) ∣₁ in
     alike _ _ _ _ like (c.same_serials.ensures (serial_rows h) (serial_rows_apart h calls) like)

@@ -9,4 +9,6 @@ use Rattle.s10_index.proofs.issue_writes.issue_writes_of.Given as goal
 
 abbrev pub invariant-loop-place : goal.invariant-loop-place
 invariant-loop-place l =
-    (h : List Entry) (t : Terms) → IsLegal h t → MayFollow h t l.entry → All IsCall h → IsCall l.entry → Mirrors l.ranges h → l.arrival ≡ length h + 1 → IssueWritesMake h l.entry l.place l.made.ranges.items l.made.serials.items
+    (h : List Entry) (t : Terms) → IsLegal h t → MayFollow h t l.entry → All IsCall h
+    → IsCall l.entry → Mirrors l.ranges h → l.arrival ≡ length h + 1
+    → IssueWritesMake h l.entry l.place l.made.ranges.items l.made.serials.items

@@ -1,4 +1,5 @@
-use Rattle.std.proofs.Common.{rules, ◌≡◌, ◌<◌, ◌≤◌, ◌++◌, ◌∷◌, [], List, Bool, false, cond, Option, Some, length, sym, ap, ap₂, ◌∙◌, arith}
+use Rattle.std.proofs.Common.{rules, ◌≡◌, ◌<◌, ◌≤◌, ◌++◌, ◌∷◌, [], List, Bool, false, cond, Option}
+use Rattle.std.proofs.Common.{Some, length, sym, ap, ap₂, ◌∙◌, arith}
 use Rattle.std.specs.Prelude.{slice_get}
 use Rattle.std.specs.Option.{option_map}
 use Rattle.std.specs.HashMap.{spare, get}
@@ -21,23 +22,37 @@ loop-place-preserved c =
           let i = w.in-Some.issuance in
           let at : slice_get (issues_at 0 e) k ≡ Some i = sym c.issue.ensures ∙ w.in-Some.is in
           record {
-            room = omega (arith, c.loop-place.invariant.room, w.record_issue.ensures.spare, ap spare w.issues-is);
+            room = omega (
+              arith,
+              c.loop-place.invariant.room,
+              w.record_issue.ensures.spare,
+              ap spare w.issues-is,
+            );
             notes = λ h before x fit.
                 ap (λ m. get same_key m (id_key x)) w.issues-is
                 ∙ w.record_issue.ensures.notes (id_key x)
-                ∙ ap₂ (λ (b : Bool) (o : Option Issue). cond b (Some (as_issue i false)) o) (keys_tell i.id x w.record_issue.ensures.parts fit) (c.loop-place.invariant.notes h before x fit)
+                ∙ ap₂ (λ (b : Bool) (o : Option Issue). cond b (Some (as_issue i false)) o)
+                (keys_tell i.id x w.record_issue.ensures.parts fit)
+                (c.loop-place.invariant.notes h before x fit)
                 ∙ sym (told_upto h e x k i at);
           }
       | in_default w ↦
-          let within : k < length (carried_by e.outcome) = omega (arith, c.loop-place-test.true, c.issued-place-end.ensures) in
+          let within : k < length (carried_by e.outcome) = omega (
+            arith,
+            c.loop-place-test.true,
+            c.issued-place-end.ensures,
+          ) in
           absurd (issue_within e 0 k within (sym c.issue.ensures ∙ w.in_default.is))
     ]
 
 pub returns : goal.returns
 returns c h before x fit =
     let e = c.args.entry.now in
-    let past : length (carried_by e.outcome) ≤ c.loop-place.place = omega (arith, c.loop-place-test.false, c.issued-place-end.ensures) in
-    c.loop-place.invariant.notes h before x fit ∙ ap (λ (is : List Issuance). option_map (issue_in_history (h ++ e ∷ []) x) (last_issuance_of is x)) (upto_all h e c.loop-place.place past)
+    let past : length (carried_by e.outcome) ≤ c.loop-place.place =
+    omega (arith, c.loop-place-test.false, c.issued-place-end.ensures) in
+    c.loop-place.invariant.notes h before x fit
+    ∙ ap (λ (is : List Issuance). option_map (issue_in_history (h ++ e ∷ []) x)
+    (last_issuance_of is x)) (upto_all h e c.loop-place.place past)
 
 pub loop-place-init : goal.loop-place-init
 loop-place-init c = search rules

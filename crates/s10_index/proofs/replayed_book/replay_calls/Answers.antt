@@ -12,7 +12,8 @@ returns-in_err-replay_rows-clause-err c = λ tables same head.
     (subst (λ (u : Terms). IsHead tables.heads (pos 1) u) (sym c.new-book.ensures.terms) head))
 
 pub returns-clause-right : goal.returns-clause-right
-returns-clause-right c = subst (λ (u : Terms). AreRight u c.args.calls.now) c.new-book.ensures.terms (c.in_ok-replay_rows.ensures.right tt c.new-book.ensures.history)
+returns-clause-right c = subst (λ (u : Terms). AreRight u c.args.calls.now) c.new-book.ensures.terms
+    (c.in_ok-replay_rows.ensures.right tt c.new-book.ensures.history)
 
 pub returns-clause-kept : goal.returns-clause-kept
 returns-clause-kept c = c.in_ok-replay_rows.ensures.history tt c.new-book.ensures.history

@@ -7,7 +7,8 @@ use Rattle.s10_jobs.proofs.delivery_line.number.Goals as goal
 -- a number of at most nine digits
 below_a_billion : (number count : ℕ) → number < 10 ^ count → count < 10 → number < 1000000000
 below_a_billion number count small few =
-    let widest : 10 ^ count ≤ 10 ^ 9 = pow-le-pow_right (lit< tt) (let h : count ≤ 9 = omega arith in h) in
+    let widest : 10 ^ count ≤ 10 ^ 9 =
+    pow-le-pow_right (lit< tt) (let h : count ≤ 9 = omega arith in h) in
     omega arith
 
 pub overflow_mul-number : goal.overflow_mul-number
@@ -21,8 +22,12 @@ overflow_add-number c =
 
 pub loop-digit-preserved : goal.loop-digit-preserved
 loop-digit-preserved c =
-    let digit : IsAsciiDigit (get_or c.args.digits.now c.loop-digit.digit-index 0) = c.requires.digits c.loop-digit.digit-index 0 (omega arith) in
+    let digit : IsAsciiDigit (get_or c.args.digits.now c.loop-digit.digit-index 0) =
+    c.requires.digits c.loop-digit.digit-index 0 (omega arith) in
     record {
-      value = rw (number_of-more c.args.digits.now c.loop-digit.digit-index (omega arith), ← c.loop-digit.invariant.value) refl;
+      value = rw (
+        number_of-more c.args.digits.now c.loop-digit.digit-index (omega arith),
+        ← c.loop-digit.invariant.value,
+      ) refl;
       small = grows _ _ _ c.loop-digit.invariant.small digit.1;
     }

@@ -5,5 +5,10 @@ use Rattle.s10_jobs.proofs.replay_fault.write_replay_fault.Goals as goal
 
 pub returns-in-Line : goal.returns-in-Line
 returns-in-Line g c =
-    let words = words_then _ _ _ (codes "line" ∷ []) (decimal c.in-Line.number ∷ []) c.in_ok-write_word-in-Line.ensures c.in_ok-write_decimal-in-Line.ensures in
-    rw c.in-Line.is (refl, Appends-then _ _ _ _ _ (Appends-then _ _ _ _ _ c.in_ok-write_text-in-Line.ensures words) c.in_ok-write_text-in-Line-2.ensures)
+    let words = words_then _ _ _ (codes "line" ∷ []) (decimal c.in-Line.number ∷ [])
+    c.in_ok-write_word-in-Line.ensures c.in_ok-write_decimal-in-Line.ensures in
+    rw c.in-Line.is (
+      refl,
+      Appends-then _ _ _ _ _ (Appends-then _ _ _ _ _ c.in_ok-write_text-in-Line.ensures words)
+          c.in_ok-write_text-in-Line-2.ensures,
+    )

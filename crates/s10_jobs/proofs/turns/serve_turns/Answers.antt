@@ -6,28 +6,57 @@ use Rattle.s10_jobs.proofs.turns.serve_turns.Goals as goal
 pub loop-done-init : goal.loop-done-init
 loop-done-init g c = record {
   few = omega arith;
-  served = none_served _ (g.L.Link.trace_of c.args.link.now, c.args.server.now.book) (g.W.Write.contents c.args.out.now);
+  served = none_served _ (g.L.Link.trace_of c.args.link.now, c.args.server.now.book)
+      (g.W.Write.contents c.args.out.now);
 }
 
 pub returns-in_err-done-clause-turns : goal.returns-in_err-done-clause-turns
 returns-in_err-done-clause-turns g c =
-    batch_unprinted (IsBatch g.B.Book.faults g.B.Book.honest g.B.Book.terms g.B.Book.history g.B.GroupCommit.committed c.args.day)
-    (g.L.Link.trace_of c.args.link.now, c.args.server.now.book) (g.L.Link.trace_of c.loop-done.link, c.loop-done.server.book) (g.L.Link.trace_of c.serve_batched.new.link, c.serve_batched.new.server.book)
-    (g.W.Write.contents c.args.out.now) (g.W.Write.contents c.loop-done.out) (g.W.Write.contents c.serve_batched.new.out) c.loop-done.done c.args.count c.loop-done.invariant.served
+    batch_unprinted (IsBatch g.B.Book.faults g.B.Book.honest g.B.Book.terms g.B.Book.history
+    g.B.GroupCommit.committed c.args.day)
+    (g.L.Link.trace_of c.args.link.now, c.args.server.now.book) (
+      g.L.Link.trace_of c.loop-done.link,
+      c.loop-done.server.book,
+    ) (
+      g.L.Link.trace_of c.serve_batched.new.link,
+      c.serve_batched.new.server.book,
+    )
+    (g.W.Write.contents c.args.out.now) (g.W.Write.contents c.loop-done.out)
+    (g.W.Write.contents c.serve_batched.new.out) c.loop-done.done c.args.count
+    c.loop-done.invariant.served
     _ c.min-most.result c.serve_batched.result c.from_residual.result _ c.from_residual.ensures.1
-    (λ batch is. (c.in-Some.today, given_day c.args.day c.day_or_today.result c.in-Some.today c.day_or_today.ensures c.in-Some.is, is.0, is.1))
-    (let few = c.min-most.ensures in let test = c.loop-done-test.true in grind arith) c.serve_batched.ensures
+    (λ batch is. (
+      c.in-Some.today,
+      given_day c.args.day c.day_or_today.result c.in-Some.today
+          c.day_or_today.ensures c.in-Some.is,
+      is.0,
+      is.1,
+    ))
+    (let few = c.min-most.ensures in let test = c.loop-done-test.true in grind arith)
+    c.serve_batched.ensures
 
 pub loop-done-preserved : goal.loop-done-preserved
 loop-done-preserved g c =
     let shown = c.in_ok-done.ensures in
     record {
-      few = let few = c.min-most.ensures in let test = c.loop-done-test.true in let short = shown.2 in let many = shown.3.0 in grind arith;
-      served = batch_served (IsBatch g.B.Book.faults g.B.Book.honest g.B.Book.terms g.B.Book.history g.B.GroupCommit.committed c.args.day)
-          (g.L.Link.trace_of c.args.link.now, c.args.server.now.book) (g.L.Link.trace_of c.loop-done.link, c.loop-done.server.book) (g.L.Link.trace_of c.serve_batched.new.link, c.serve_batched.new.server.book)
-          (g.W.Write.contents c.args.out.now) (g.W.Write.contents c.loop-done.out) (g.W.Write.contents c.serve_batched.new.out) c.loop-done.done c.args.count c.loop-done.invariant.served
+      few = let few = c.min-most.ensures in let test = c.loop-done-test.true in let short =
+          shown.2 in let many = shown.3.0 in grind arith;
+      served = batch_served (IsBatch g.B.Book.faults g.B.Book.honest g.B.Book.terms g.B.Book.history
+          g.B.GroupCommit.committed c.args.day)
+          (g.L.Link.trace_of c.args.link.now, c.args.server.now.book)
+          (g.L.Link.trace_of c.loop-done.link, c.loop-done.server.book)
+          (g.L.Link.trace_of c.serve_batched.new.link, c.serve_batched.new.server.book)
+          (g.W.Write.contents c.args.out.now) (g.W.Write.contents c.loop-done.out)
+          (g.W.Write.contents c.serve_batched.new.out) c.loop-done.done c.args.count
+          c.loop-done.invariant.served
           _ c.min-most.result c.in_ok-done.field-0
-          (λ batch is. (c.in-Some.today, given_day c.args.day c.day_or_today.result c.in-Some.today c.day_or_today.ensures c.in-Some.is, is.0, is.1))
+          (λ batch is. (
+            c.in-Some.today,
+            given_day c.args.day c.day_or_today.result c.in-Some.today
+                c.day_or_today.ensures c.in-Some.is,
+            is.0,
+            is.1,
+          ))
           c.in_ok-done.ensures;
     }
 

@@ -7,8 +7,10 @@ use Rattle.s10_jobs.proofs.turns.serve_turns.Given as goal
 abbrev pub invariant-loop-done : goal.invariant-loop-done
 invariant-loop-done g l = record {
   few : l.done ≤ l.fn.count;
-  served : HasServed (IsBatch g.B.Book.faults g.B.Book.honest g.B.Book.terms g.B.Book.history g.B.GroupCommit.committed l.fn.day)
-      (g.L.Link.trace_of l.fn.link, l.fn.server.book) (g.L.Link.trace_of l.link, l.server.book) (g.W.Write.contents l.fn.out) (g.W.Write.contents l.out) l.done;
+  served : HasServed (IsBatch g.B.Book.faults g.B.Book.honest g.B.Book.terms g.B.Book.history
+      g.B.GroupCommit.committed l.fn.day)
+      (g.L.Link.trace_of l.fn.link, l.fn.server.book) (g.L.Link.trace_of l.link, l.server.book)
+      (g.W.Write.contents l.fn.out) (g.W.Write.contents l.out) l.done;
 }
 
 abbrev pub decreases-loop-done : goal.decreases-loop-done

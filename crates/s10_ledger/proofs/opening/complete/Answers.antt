@@ -34,13 +34,16 @@ pub returns-in-Ok-clause-settled : goal.returns-in-Ok-clause-settled
 returns-in-Ok-clause-settled g c = c.create_closed.ensures.settled
 
 pub returns-in-Ok-clause-was : goal.returns-in-Ok-clause-was
-returns-in-Ok-clause-was g c = sound_before g.S.Store c.args.conn.now c.create_closed.new.conn c.create_closed.ensures.clean c.create_closed.ensures.was_open
+returns-in-Ok-clause-was g c = sound_before g.S.Store c.args.conn.now c.create_closed.new.conn
+    c.create_closed.ensures.clean c.create_closed.ensures.was_open
 
 pub returns-in-Ok-clause-opened : goal.returns-in-Ok-clause-opened
 returns-in-Ok-clause-opened g c = λ clean was. c.in-Ok.ensures.opened clean
 
 pub returns-in-Ok-clause-whole : goal.returns-in-Ok-clause-whole
-returns-in-Ok-clause-whole g c = λ clean tables has. c.in-Ok.ensures.all clean tables (subst (λ (f : TableLayout). HasTableLayout f (state g.S.Store c.args.conn.now).now tables) c.in-Old.is has)
+returns-in-Ok-clause-whole g c = λ clean tables has. c.in-Ok.ensures.all clean tables
+    (subst (λ (f : TableLayout). HasTableLayout f (state g.S.Store c.args.conn.now).now tables)
+    c.in-Old.is has)
 
 pub returns-in-Ok-clause-same : goal.returns-in-Ok-clause-same
 returns-in-Ok-clause-same g c = λ is. absurd (not_both c.args.form c.in-Old.is is)
@@ -55,7 +58,8 @@ pub returns-in-Err-clause-settled : goal.returns-in-Err-clause-settled
 returns-in-Err-clause-settled g c = c.create_closed.ensures.settled
 
 pub returns-in-Err-clause-was : goal.returns-in-Err-clause-was
-returns-in-Err-clause-was g c = sound_before g.S.Store c.args.conn.now c.create_closed.new.conn c.create_closed.ensures.clean c.create_closed.ensures.was_open
+returns-in-Err-clause-was g c = sound_before g.S.Store c.args.conn.now c.create_closed.new.conn
+    c.create_closed.ensures.clean c.create_closed.ensures.was_open
 
 pub returns-in-Err-clause-opened : goal.returns-in-Err-clause-opened
 returns-in-Err-clause-opened g c = λ clean. tt

@@ -5,60 +5,92 @@ use Rattle.sqlite.specs.Held.{state}
 use Rattle.s10_ledger.specs.TableLayout.{IsOfTableLayout}
 use Rattle.s10_ledger.specs.Refusals.{HasSomeTableLayout}
 use Rattle.s10_ledger.proofs.Forms.{form_ledger}
-use Rattle.s10_ledger.proofs.OpeningLemmas.{sound_before, was_sound, as_read, as_it_was, same_history, completed_ledger, completed_index, found_ledger, refused_by_store}
+use Rattle.s10_ledger.proofs.OpeningLemmas.{sound_before, was_sound, as_read, as_it_was}
+use Rattle.s10_ledger.proofs.OpeningLemmas.{same_history, completed_ledger, completed_index}
+use Rattle.s10_ledger.proofs.OpeningLemmas.{found_ledger, refused_by_store}
 use Rattle.s10_ledger.proofs.opening.ledger_in.Goals as goal
 
 pub replay_tables-requires-clause-form : goal.replay_tables-requires-clause-form
-replay_tables-requires-clause-form g c = subst (λ (s : Schema). IsOfTableLayout c.in-Some.form s) c.schema.ensures.value c.in-Some.ensures.some
+replay_tables-requires-clause-form g c = subst (λ (s : Schema). IsOfTableLayout c.in-Some.form s)
+    c.schema.ensures.value c.in-Some.ensures.some
 
 pub returns-clause-was : goal.returns-clause-was
 returns-clause-was g c =
-    let declared = subst (λ (s : Schema). IsOfTableLayout c.in-Some.form s) c.schema.ensures.value c.in-Some.ensures.some in
-    was_sound g.S.Store c.args.conn.now c.replay_tables.new.conn c.complete.new.conn c.in-Some.form declared c.requires.settled c.replay_tables.ensures.leaves c.complete.ensures.was
+    let declared = subst (λ (s : Schema). IsOfTableLayout c.in-Some.form s) c.schema.ensures.value
+    c.in-Some.ensures.some in
+    was_sound g.S.Store c.args.conn.now c.replay_tables.new.conn c.complete.new.conn c.in-Some.form
+    declared c.requires.settled c.replay_tables.ensures.leaves c.complete.ensures.was
 
 pub returns-clause-same : goal.returns-clause-same
 returns-clause-same g c clean opened closed =
-    let declared = subst (λ (s : Schema). IsOfTableLayout c.in-Some.form s) c.schema.ensures.value c.in-Some.ensures.some in
-    let was = as_read g.S.Store c.args.conn.now c.replay_tables.new.conn c.complete.new.conn c.in-Some.form declared c.requires.settled c.replay_tables.ensures.leaves c.complete.ensures.was clean opened in
-    as_it_was c.in-Some.form (state g.S.Store c.args.conn.now).now (state g.S.Store c.replay_tables.new.conn).now (state g.S.Store c.complete.new.conn).now declared was c.complete.ensures.same closed
+    let declared = subst (λ (s : Schema). IsOfTableLayout c.in-Some.form s) c.schema.ensures.value
+    c.in-Some.ensures.some in
+    let was = as_read g.S.Store c.args.conn.now c.replay_tables.new.conn c.complete.new.conn
+    c.in-Some.form declared c.requires.settled c.replay_tables.ensures.leaves
+    c.complete.ensures.was clean opened in
+    as_it_was c.in-Some.form (state g.S.Store c.args.conn.now).now
+    (state g.S.Store c.replay_tables.new.conn).now (state g.S.Store c.complete.new.conn).now
+    declared was c.complete.ensures.same closed
 
 pub returns-clause-history : goal.returns-clause-history
 returns-clause-history g c clean opened =
-    let declared = subst (λ (s : Schema). IsOfTableLayout c.in-Some.form s) c.schema.ensures.value c.in-Some.ensures.some in
-    let was = as_read g.S.Store c.args.conn.now c.replay_tables.new.conn c.complete.new.conn c.in-Some.form declared c.requires.settled c.replay_tables.ensures.leaves c.complete.ensures.was clean opened in
+    let declared = subst (λ (s : Schema). IsOfTableLayout c.in-Some.form s) c.schema.ensures.value
+    c.in-Some.ensures.some in
+    let was = as_read g.S.Store c.args.conn.now c.replay_tables.new.conn c.complete.new.conn
+    c.in-Some.form declared c.requires.settled c.replay_tables.ensures.leaves
+    c.complete.ensures.was clean opened in
     let sound = c.complete.ensures.was clean in
-    same_history c.in-Some.form (state g.S.Store c.args.conn.now).now (state g.S.Store c.replay_tables.new.conn).now (state g.S.Store c.complete.new.conn).now c.in_ok-found.found.0 c.in_ok-found.found.1
-    (c.in_ok-found.ensures.found sound.0 (sound.1 opened)) was (c.in_ok-complete.ensures.whole clean)
+    same_history c.in-Some.form (state g.S.Store c.args.conn.now).now
+    (state g.S.Store c.replay_tables.new.conn).now (state g.S.Store c.complete.new.conn).now
+    c.in_ok-found.found.0 c.in_ok-found.found.1
+    (c.in_ok-found.ensures.found sound.0 (sound.1 opened)) was
+    (c.in_ok-complete.ensures.whole clean)
 
 pub returns-clause-ledger : goal.returns-clause-ledger
 returns-clause-ledger g c clean opened =
-    let declared = subst (λ (s : Schema). IsOfTableLayout c.in-Some.form s) c.schema.ensures.value c.in-Some.ensures.some in
-    let was = as_read g.S.Store c.args.conn.now c.replay_tables.new.conn c.complete.new.conn c.in-Some.form declared c.requires.settled c.replay_tables.ensures.leaves c.complete.ensures.was clean opened in
+    let declared = subst (λ (s : Schema). IsOfTableLayout c.in-Some.form s) c.schema.ensures.value
+    c.in-Some.ensures.some in
+    let was = as_read g.S.Store c.args.conn.now c.replay_tables.new.conn c.complete.new.conn
+    c.in-Some.form declared c.requires.settled c.replay_tables.ensures.leaves
+    c.complete.ensures.was clean opened in
     let sound = c.complete.ensures.was clean in
-    completed_ledger c.in-Some.form (state g.S.Store c.args.conn.now).now (state g.S.Store c.replay_tables.new.conn).now (state g.S.Store c.complete.new.conn).now c.in_ok-found.found.0 c.in_ok-found.found.1
-    (c.in_ok-found.ensures.found sound.0 (sound.1 opened)) was (c.in_ok-complete.ensures.whole clean)
+    completed_ledger c.in-Some.form (state g.S.Store c.args.conn.now).now
+    (state g.S.Store c.replay_tables.new.conn).now (state g.S.Store c.complete.new.conn).now
+    c.in_ok-found.found.0 c.in_ok-found.found.1
+    (c.in_ok-found.ensures.found sound.0 (sound.1 opened)) was
+    (c.in_ok-complete.ensures.whole clean)
 
 pub returns-clause-found : goal.returns-clause-found
 returns-clause-found g c clean opened =
     let sound = c.complete.ensures.was clean in
-    found_ledger c.in-Some.form (state g.S.Store c.args.conn.now).now c.in_ok-found.found.0 c.in_ok-found.found.1 (c.in_ok-found.ensures.found sound.0 (sound.1 opened))
+    found_ledger c.in-Some.form (state g.S.Store c.args.conn.now).now c.in_ok-found.found.0
+    c.in_ok-found.found.1 (c.in_ok-found.ensures.found sound.0 (sound.1 opened))
 
 pub returns-clause-indexed : goal.returns-clause-indexed
 returns-clause-indexed g c clean opened =
-    let declared = subst (λ (s : Schema). IsOfTableLayout c.in-Some.form s) c.schema.ensures.value c.in-Some.ensures.some in
-    let was = as_read g.S.Store c.args.conn.now c.replay_tables.new.conn c.complete.new.conn c.in-Some.form declared c.requires.settled c.replay_tables.ensures.leaves c.complete.ensures.was clean opened in
+    let declared = subst (λ (s : Schema). IsOfTableLayout c.in-Some.form s) c.schema.ensures.value
+    c.in-Some.ensures.some in
+    let was = as_read g.S.Store c.args.conn.now c.replay_tables.new.conn c.complete.new.conn
+    c.in-Some.form declared c.requires.settled c.replay_tables.ensures.leaves
+    c.complete.ensures.was clean opened in
     let sound = c.complete.ensures.was clean in
-    completed_index c.in-Some.form (state g.S.Store c.args.conn.now).now (state g.S.Store c.replay_tables.new.conn).now (state g.S.Store c.complete.new.conn).now c.in_ok-found.found.0 c.in_ok-found.found.1
-    (c.in_ok-found.ensures.found sound.0 (sound.1 opened)) was (c.in_ok-complete.ensures.whole clean)
+    completed_index c.in-Some.form (state g.S.Store c.args.conn.now).now
+    (state g.S.Store c.replay_tables.new.conn).now (state g.S.Store c.complete.new.conn).now
+    c.in_ok-found.found.0 c.in_ok-found.found.1
+    (c.in_ok-found.ensures.found sound.0 (sound.1 opened)) was
+    (c.in_ok-complete.ensures.whole clean)
 
 pub returns-in_err-found-clause-same : goal.returns-in_err-found-clause-same
-returns-in_err-found-clause-same g c clean opened closed = c.replay_tables.ensures.leaves.now clean opened c.requires.settled closed.ledger
+returns-in_err-found-clause-same g c clean opened closed = c.replay_tables.ensures.leaves.now clean
+    opened c.requires.settled closed.ledger
 
 pub returns-in_err-found-clause-kept : goal.returns-in_err-found-clause-kept
 returns-in_err-found-clause-kept g c clean opened =
-    let declared = subst (λ (s : Schema). IsOfTableLayout c.in-Some.form s) c.schema.ensures.value c.in-Some.ensures.some in
+    let declared = subst (λ (s : Schema). IsOfTableLayout c.in-Some.form s) c.schema.ensures.value
+    c.in-Some.ensures.some in
     let p = err_from_is_err_and c.from_residual.result c.from_residual.ensures.1 in
-    rw p.1 (c.replay_tables.ensures.leaves.now clean opened c.requires.settled (form_ledger c.in-Some.form (state g.S.Store c.args.conn.now).now.schema declared))
+    rw p.1 (c.replay_tables.ensures.leaves.now clean opened c.requires.settled
+    (form_ledger c.in-Some.form (state g.S.Store c.args.conn.now).now.schema declared))
 
 pub returns-in_err-found-clause-refused : goal.returns-in_err-found-clause-refused
 returns-in_err-found-clause-refused g c clean opened =
@@ -67,26 +99,39 @@ returns-in_err-found-clause-refused g c clean opened =
 
 pub returns-in_err-complete-clause-was : goal.returns-in_err-complete-clause-was
 returns-in_err-complete-clause-was g c =
-    let declared = subst (λ (s : Schema). IsOfTableLayout c.in-Some.form s) c.schema.ensures.value c.in-Some.ensures.some in
-    was_sound g.S.Store c.args.conn.now c.replay_tables.new.conn c.complete.new.conn c.in-Some.form declared c.requires.settled c.replay_tables.ensures.leaves c.complete.ensures.was
+    let declared = subst (λ (s : Schema). IsOfTableLayout c.in-Some.form s) c.schema.ensures.value
+    c.in-Some.ensures.some in
+    was_sound g.S.Store c.args.conn.now c.replay_tables.new.conn c.complete.new.conn c.in-Some.form
+    declared c.requires.settled c.replay_tables.ensures.leaves c.complete.ensures.was
 
 pub returns-in_err-complete-clause-same : goal.returns-in_err-complete-clause-same
 returns-in_err-complete-clause-same g c clean opened closed =
-    let declared = subst (λ (s : Schema). IsOfTableLayout c.in-Some.form s) c.schema.ensures.value c.in-Some.ensures.some in
-    let was = as_read g.S.Store c.args.conn.now c.replay_tables.new.conn c.complete.new.conn c.in-Some.form declared c.requires.settled c.replay_tables.ensures.leaves c.complete.ensures.was clean opened in
-    as_it_was c.in-Some.form (state g.S.Store c.args.conn.now).now (state g.S.Store c.replay_tables.new.conn).now (state g.S.Store c.complete.new.conn).now declared was c.complete.ensures.same closed
+    let declared = subst (λ (s : Schema). IsOfTableLayout c.in-Some.form s) c.schema.ensures.value
+    c.in-Some.ensures.some in
+    let was = as_read g.S.Store c.args.conn.now c.replay_tables.new.conn c.complete.new.conn
+    c.in-Some.form declared c.requires.settled c.replay_tables.ensures.leaves
+    c.complete.ensures.was clean opened in
+    as_it_was c.in-Some.form (state g.S.Store c.args.conn.now).now
+    (state g.S.Store c.replay_tables.new.conn).now (state g.S.Store c.complete.new.conn).now
+    declared was c.complete.ensures.same closed
 
 pub returns-in_err-complete-clause-kept : goal.returns-in_err-complete-clause-kept
 returns-in_err-complete-clause-kept g c clean opened =
-    let declared = subst (λ (s : Schema). IsOfTableLayout c.in-Some.form s) c.schema.ensures.value c.in-Some.ensures.some in
-    let was = as_read g.S.Store c.args.conn.now c.replay_tables.new.conn c.complete.new.conn c.in-Some.form declared c.requires.settled c.replay_tables.ensures.leaves c.complete.ensures.was clean opened in
-    let p = err_from_is_err_and c.from_residual-in_err-complete.result c.from_residual-in_err-complete.ensures.1 in
+    let declared = subst (λ (s : Schema). IsOfTableLayout c.in-Some.form s) c.schema.ensures.value
+    c.in-Some.ensures.some in
+    let was = as_read g.S.Store c.args.conn.now c.replay_tables.new.conn c.complete.new.conn
+    c.in-Some.form declared c.requires.settled c.replay_tables.ensures.leaves
+    c.complete.ensures.was clean opened in
+    let p = err_from_is_err_and c.from_residual-in_err-complete.result
+    c.from_residual-in_err-complete.ensures.1 in
     rw p.1 (c.in_err-complete.ensures.none clean opened ∙ was)
 
 pub returns-in_err-complete-clause-refused : goal.returns-in_err-complete-clause-refused
 returns-in_err-complete-clause-refused g c clean opened =
-    let p = err_from_is_err_and c.from_residual-in_err-complete.result c.from_residual-in_err-complete.ensures.1 in
-    rw (p.1, p.2) (refused_by_store (state g.S.Store c.args.conn.now).now c.in_err-complete.field-0.0 c.in_err-complete.ensures.fault)
+    let p = err_from_is_err_and c.from_residual-in_err-complete.result
+    c.from_residual-in_err-complete.ensures.1 in
+    rw (p.1, p.2) (refused_by_store (state g.S.Store c.args.conn.now).now
+    c.in_err-complete.field-0.0 c.in_err-complete.ensures.fault)
 
 pub returns-in_default-clause-refused : goal.returns-in_default-clause-refused
 returns-in_default-clause-refused g c clean opened =
@@ -130,7 +175,9 @@ pub returns-in_err-found-clause-settled : goal.returns-in_err-found-clause-settl
 returns-in_err-found-clause-settled g c = c.replay_tables.ensures.leaves.settled c.requires.settled
 
 pub returns-in_err-found-clause-was : goal.returns-in_err-found-clause-was
-returns-in_err-found-clause-was g c = sound_before g.S.Store c.args.conn.now c.replay_tables.new.conn c.replay_tables.ensures.leaves.clean c.replay_tables.ensures.leaves.was_open
+returns-in_err-found-clause-was g c = sound_before g.S.Store c.args.conn.now
+    c.replay_tables.new.conn c.replay_tables.ensures.leaves.clean
+    c.replay_tables.ensures.leaves.was_open
 
 pub returns-in_err-found-clause-opened : goal.returns-in_err-found-clause-opened
 returns-in_err-found-clause-opened g c =
@@ -167,39 +214,46 @@ returns-in_err-complete-clause-settled g c = c.complete.ensures.settled
 
 pub returns-in_err-complete-clause-opened : goal.returns-in_err-complete-clause-opened
 returns-in_err-complete-clause-opened g c =
-    let p = err_from_is_err_and c.from_residual-in_err-complete.result c.from_residual-in_err-complete.ensures.1 in
+    let p = err_from_is_err_and c.from_residual-in_err-complete.result
+    c.from_residual-in_err-complete.ensures.1 in
     rw p.1 (λ clean. tt)
 
 pub returns-in_err-complete-clause-few : goal.returns-in_err-complete-clause-few
 returns-in_err-complete-clause-few g c =
-    let p = err_from_is_err_and c.from_residual-in_err-complete.result c.from_residual-in_err-complete.ensures.1 in
+    let p = err_from_is_err_and c.from_residual-in_err-complete.result
+    c.from_residual-in_err-complete.ensures.1 in
     rw p.1 tt
 
 pub returns-in_err-complete-clause-history : goal.returns-in_err-complete-clause-history
 returns-in_err-complete-clause-history g c =
-    let p = err_from_is_err_and c.from_residual-in_err-complete.result c.from_residual-in_err-complete.ensures.1 in
+    let p = err_from_is_err_and c.from_residual-in_err-complete.result
+    c.from_residual-in_err-complete.ensures.1 in
     rw p.1 (λ clean opened. tt)
 
 pub returns-in_err-complete-clause-ledger : goal.returns-in_err-complete-clause-ledger
 returns-in_err-complete-clause-ledger g c =
-    let p = err_from_is_err_and c.from_residual-in_err-complete.result c.from_residual-in_err-complete.ensures.1 in
+    let p = err_from_is_err_and c.from_residual-in_err-complete.result
+    c.from_residual-in_err-complete.ensures.1 in
     rw p.1 (λ clean opened. tt)
 
 pub returns-in_err-complete-clause-found : goal.returns-in_err-complete-clause-found
 returns-in_err-complete-clause-found g c =
-    let p = err_from_is_err_and c.from_residual-in_err-complete.result c.from_residual-in_err-complete.ensures.1 in
+    let p = err_from_is_err_and c.from_residual-in_err-complete.result
+    c.from_residual-in_err-complete.ensures.1 in
     rw p.1 (λ clean opened. tt)
 
 pub returns-in_err-complete-clause-indexed : goal.returns-in_err-complete-clause-indexed
 returns-in_err-complete-clause-indexed g c =
-    let p = err_from_is_err_and c.from_residual-in_err-complete.result c.from_residual-in_err-complete.ensures.1 in
+    let p = err_from_is_err_and c.from_residual-in_err-complete.result
+    c.from_residual-in_err-complete.ensures.1 in
     rw p.1 tt
 
 pub returns-clause-settled : goal.returns-clause-settled
 returns-clause-settled g c = c.complete.ensures.settled
 
 pub returns-clause-opened : goal.returns-clause-opened
-returns-clause-opened g c = λ clean. c.in_ok-complete.ensures.opened clean (c.in_ok-found.ensures.opened (c.complete.ensures.was clean).0)
+returns-clause-opened g c = λ clean. c.in_ok-complete.ensures.opened clean
+    (c.in_ok-found.ensures.opened (c.complete.ensures.was clean).0)
 
 pub returns-clause-few : goal.returns-clause-few
 returns-clause-few g c = c.in_ok-found.ensures.few

@@ -1,4 +1,5 @@
-use Rattle.std.proofs.Common.{rules, ◌≡◌, ◌∙◌, ◌∷◌, ◌++◌, [], List, if◌then◌else◌, true, false, Result, Ok, Err, OnOk, ap, length, length-append, arith, sym, refl}
+use Rattle.std.proofs.Common.{rules, ◌≡◌, ◌∙◌, ◌∷◌, ◌++◌, [], List, if◌then◌else◌, true, false}
+use Rattle.std.proofs.Common.{Result, Ok, Err, OnOk, ap, length, length-append, arith, sym, refl}
 use Rattle.std.specs.Result.{is_ok, is_err}
 use Rattle.std.proofs.lemmas.Result.{err_from_is_err_and}
 use Rattle.s10_rows.specs.declared.call_write.CallWrite.{CallWrite}
@@ -9,26 +10,36 @@ where_passed : {T E : Type 0} (r : Result T E) (P : Type 0) → is_err r ≡ fal
 where_passed (Ok x) P passed p = p
 where_passed (Err e) P passed p = absurd cc
 
-not_pushed : {T E : Type 0} (r : Result T E) (new old : List CallWrite) (w : CallWrite) → is_err r ≡ true → new ≡ (if is_ok r then old ++ w ∷ [] else old) → new ≡ old
+not_pushed : {T E : Type 0} (r : Result T E) (new old : List CallWrite) (w : CallWrite)
+    → is_err r ≡ true → new ≡ (if is_ok r then old ++ w ∷ [] else old) → new ≡ old
 not_pushed (Ok x) new old w failed is = absurd cc
 not_pushed (Err e) new old w failed is = is
 
 pub returns-clause-written : goal.returns-clause-written
 returns-clause-written c = (
   c.in_ok-write.write,
-  pushed c.push.result c.push.new.self.items c.args.pending.now.items c.in_ok-write.write (sym (c.if-is_err-2.ensures.value)) c.push.ensures.items,
+  pushed c.push.result c.push.new.self.items c.args.pending.now.items c.in_ok-write.write
+      (sym (c.if-is_err-2.ensures.value)) c.push.ensures.items,
   c.in_ok-write.ensures.same,
-  λ h t legal follows calls indexed. c.in_ok-write.ensures.answer h t legal follows calls (c.reserve.ensures.same h indexed) (omega (arith, ap length (c.calls.ensures ∙ indexed.calls))),
+  λ h t legal follows calls indexed. c.in_ok-write.ensures.answer h t legal follows calls
+      (c.reserve.ensures.same h indexed)
+      (omega (arith, ap length (c.calls.ensures ∙ indexed.calls))),
 )
 
 pub returns-clause-calls : goal.returns-clause-calls
 returns-clause-calls c = search rules
 
 pub returns-clause-few : goal.returns-clause-few
-returns-clause-few c = λ few. omega (arith, ap length (returns-clause-calls c), length-append c.args.index.now.entries.items (c.args.entry.now ∷ []), ap length c.calls.ensures)
+returns-clause-few c = λ few. omega (
+  arith,
+  ap length (returns-clause-calls c),
+  length-append c.args.index.now.entries.items (c.args.entry.now ∷ []),
+  ap length c.calls.ensures,
+)
 
 pub returns-clause-followed : goal.returns-clause-followed
-returns-clause-followed c = λ h t legal follows indexed. c.follow.ensures.followed h t legal follows (c.reserve.ensures.same h indexed)
+returns-clause-followed c = λ h t legal follows indexed. c.follow.ensures.followed h t legal follows
+    (c.reserve.ensures.same h indexed)
 
 pub returns-then-held-limit-clause-few : goal.returns-then-held-limit-clause-few
 returns-then-held-limit-clause-few c = λ few. few
@@ -133,7 +144,9 @@ pub returns-then-is_err-2-clause-followed : goal.returns-then-is_err-2-clause-fo
 returns-then-is_err-2-clause-followed c = λ h t legal follows indexed. tt
 
 pub returns-then-is_err-2-clause-left : goal.returns-then-is_err-2-clause-left
-returns-then-is_err-2-clause-left c = not_pushed c.push.result c.push.new.self.items c.args.pending.now.items c.in_ok-write.write (sym c.if-is_err-2.ensures.value) c.push.ensures.items
+returns-then-is_err-2-clause-left c = not_pushed c.push.result c.push.new.self.items
+    c.args.pending.now.items c.in_ok-write.write (sym c.if-is_err-2.ensures.value)
+    c.push.ensures.items
 
 pub returns-in_err-write-clause-fault : goal.returns-in_err-write-clause-fault
 returns-in_err-write-clause-fault c =
@@ -147,10 +160,15 @@ pub overflow_add-held : goal.overflow_add-held
 overflow_add-held c = omega arith
 
 pub follow-requires-clause-room : goal.follow-requires-clause-room
-follow-requires-clause-room c = where_passed c.reserve.result _ (sym c.if-is_err.ensures.value) c.reserve.ensures.room
+follow-requires-clause-room c = where_passed c.reserve.result _ (sym c.if-is_err.ensures.value)
+    c.reserve.ensures.room
 
 pub follow-requires-clause-few : goal.follow-requires-clause-few
-follow-requires-clause-few c = omega (arith, ap length c.reserve.ensures.calls, ap length c.calls.ensures)
+follow-requires-clause-few c = omega (
+  arith,
+  ap length c.reserve.ensures.calls,
+  ap length c.calls.ensures,
+)
 
 pub follow-requires-clause-fits : goal.follow-requires-clause-fits
 follow-requires-clause-fits c = c.in_ok-write.ensures.fits

@@ -18,10 +18,12 @@ pub returns-in-Ok-clause-ok : goal.returns-in-Ok-clause-ok
 returns-in-Ok-clause-ok c = search rules
 
 pub returns-in-Ok-clause-crash : goal.returns-in-Ok-clause-crash
-returns-in-Ok-clause-crash g c clean db left = rw c.deref.ensures.value at (apart_from (c.in-Ok.ensures.crash clean db left))
+returns-in-Ok-clause-crash g c clean db left =
+    rw c.deref.ensures.value at (apart_from (c.in-Ok.ensures.crash clean db left))
 
 pub returns-in-Err-clause-crash : goal.returns-in-Err-clause-crash
-returns-in-Err-clause-crash g c clean db left = rw c.deref.ensures.value at (apart_from (c.in-Err.ensures.crash clean db left))
+returns-in-Err-clause-crash g c clean db left =
+    rw c.deref.ensures.value at (apart_from (c.in-Err.ensures.crash clean db left))
 
 pub returns-in-Ok-clause-left : goal.returns-in-Ok-clause-left
 returns-in-Ok-clause-left g c = tt

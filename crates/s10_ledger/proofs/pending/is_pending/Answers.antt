@@ -8,5 +8,7 @@ use Rattle.s10_ledger.proofs.pending.is_pending.Goals as goal
 
 pub returns : goal.returns
 returns c =
-    any_from_yields_List (λ (w : CallWrite). has_key c.args.customer c.args.number w.entry) _ _ c.any.result c.any.ensures.ran (YieldsList-from_slice c.args.pending.now cc) (λ x b q k. search (rules, tests))
+    any_from_yields_List (λ (w : CallWrite). has_key c.args.customer c.args.number w.entry) _ _
+    c.any.result c.any.ensures.ran (YieldsList-from_slice c.args.pending.now cc)
+    (λ x b q k. search (rules, tests))
     ∙ sym (any_call (has_key c.args.customer c.args.number) c.args.pending.now)

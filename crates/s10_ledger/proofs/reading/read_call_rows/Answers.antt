@@ -7,7 +7,8 @@ use Rattle.s10_ledger.proofs.ReadingLemmas.{clean_between, same_between, schema_
 use Rattle.s10_ledger.proofs.reading.read_call_rows.Goals as goal
 
 pub returns-clause-leaves : goal.returns-clause-leaves
-returns-clause-leaves g c = both_leave g.S.Store c.args.conn.now c.all_heads.new.conn c.all_calls.new.conn c.all_heads.ensures.leaves c.all_calls.ensures.leaves
+returns-clause-leaves g c = both_leave g.S.Store c.args.conn.now c.all_heads.new.conn
+    c.all_calls.new.conn c.all_heads.ensures.leaves c.all_calls.ensures.leaves
 
 pub returns-clause-opened : goal.returns-clause-opened
 returns-clause-opened g c clean = c.in_ok-calls.ensures.opened clean
@@ -22,22 +23,27 @@ returns-clause-rows g c clean opened settled has =
     let same = same_between g.S.Store old mid new first second clean opened settled has in
     let stands = schema_between g.S.Store old mid new first second clean opened settled has in
     record {
-      heads_are = c.in_ok-heads.ensures.rows (clean_between g.S.Store old mid new first second clean) has;
-      calls_are = subst (λ (d : Database). HaveSameRows (map shown_call c.in_ok-calls.calls.items) (map call_columns (d.trees 1))) same (c.in_ok-calls.ensures.rows clean stands);
+      heads_are = c.in_ok-heads.ensures.rows (clean_between g.S.Store old mid new first second
+          clean) has;
+      calls_are = subst (λ (d : Database). HaveSameRows (map shown_call c.in_ok-calls.calls.items)
+          (map call_columns (d.trees 1))) same (c.in_ok-calls.ensures.rows clean stands);
       in_order = c.in_ok-calls.ensures.sorted clean stands;
     }
 
 pub returns-in_err-calls-clause-leaves : goal.returns-in_err-calls-clause-leaves
-returns-in_err-calls-clause-leaves g c = both_leave g.S.Store c.args.conn.now c.all_heads.new.conn c.all_calls.new.conn c.all_heads.ensures.leaves c.all_calls.ensures.leaves
+returns-in_err-calls-clause-leaves g c = both_leave g.S.Store c.args.conn.now c.all_heads.new.conn
+    c.all_calls.new.conn c.all_heads.ensures.leaves c.all_calls.ensures.leaves
 
 pub returns-in_err-calls-clause-opened : goal.returns-in_err-calls-clause-opened
 returns-in_err-calls-clause-opened g c clean =
-    let p = err_from_is_err_and c.from_residual-in_err-calls.result c.from_residual-in_err-calls.ensures.1 in
+    let p = err_from_is_err_and c.from_residual-in_err-calls.result
+    c.from_residual-in_err-calls.ensures.1 in
     rw p.1 tt
 
 pub returns-in_err-calls-clause-rows : goal.returns-in_err-calls-clause-rows
 returns-in_err-calls-clause-rows g c clean opened settled has =
-    let p = err_from_is_err_and c.from_residual-in_err-calls.result c.from_residual-in_err-calls.ensures.1 in
+    let p = err_from_is_err_and c.from_residual-in_err-calls.result
+    c.from_residual-in_err-calls.ensures.1 in
     rw p.1 tt
 
 pub returns-in_err-heads-clause-leaves : goal.returns-in_err-heads-clause-leaves

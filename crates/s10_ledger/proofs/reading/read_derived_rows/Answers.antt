@@ -8,7 +8,8 @@ use Rattle.s10_ledger.proofs.ReadingLemmas.{clean_between, same_between, schema_
 use Rattle.s10_ledger.proofs.reading.read_derived_rows.Goals as goal
 
 pub returns-clause-leaves : goal.returns-clause-leaves
-returns-clause-leaves g c = both_leave g.S.Store c.args.conn.now c.all_ranges.new.conn c.all_serials.new.conn c.all_ranges.ensures.leaves c.all_serials.ensures.leaves
+returns-clause-leaves g c = both_leave g.S.Store c.args.conn.now c.all_ranges.new.conn
+    c.all_serials.new.conn c.all_ranges.ensures.leaves c.all_serials.ensures.leaves
 
 pub returns-clause-opened : goal.returns-clause-opened
 returns-clause-opened g c clean = c.in_ok-serials.ensures.opened clean
@@ -23,22 +24,30 @@ returns-clause-rows g c clean opened settled has =
     let same = same_between g.S.Store old mid new first second clean opened settled has in
     let stands = schema_between g.S.Store old mid new first second clean opened settled has in
     record {
-      ranges_are = c.in_ok-ranges.ensures.rows (clean_between g.S.Store old mid new first second clean) has;
-      serials_are = subst (λ (d : Database). HaveSameRows (map shown_serial c.in_ok-serials.serials.items) (map serial_columns (d.trees 4))) same (c.in_ok-serials.ensures.rows clean stands);
-      numbered = subst (λ (d : Database). AllByRecursion HasIntegerRowid (d.trees 4)) same (c.in_ok-serials.ensures.numbered clean stands);
+      ranges_are = c.in_ok-ranges.ensures.rows (clean_between g.S.Store old mid new first second
+          clean) has;
+      serials_are =
+          subst (λ (d : Database). HaveSameRows (map shown_serial c.in_ok-serials.serials.items)
+          (map serial_columns (d.trees 4))) same (c.in_ok-serials.ensures.rows clean stands);
+      numbered = subst (λ (d : Database). AllByRecursion HasIntegerRowid (d.trees 4)) same
+          (c.in_ok-serials.ensures.numbered clean stands);
     }
 
 pub returns-in_err-serials-clause-leaves : goal.returns-in_err-serials-clause-leaves
-returns-in_err-serials-clause-leaves g c = both_leave g.S.Store c.args.conn.now c.all_ranges.new.conn c.all_serials.new.conn c.all_ranges.ensures.leaves c.all_serials.ensures.leaves
+returns-in_err-serials-clause-leaves g c = both_leave g.S.Store c.args.conn.now
+    c.all_ranges.new.conn c.all_serials.new.conn c.all_ranges.ensures.leaves
+    c.all_serials.ensures.leaves
 
 pub returns-in_err-serials-clause-opened : goal.returns-in_err-serials-clause-opened
 returns-in_err-serials-clause-opened g c clean =
-    let p = err_from_is_err_and c.from_residual-in_err-serials.result c.from_residual-in_err-serials.ensures.1 in
+    let p = err_from_is_err_and c.from_residual-in_err-serials.result
+    c.from_residual-in_err-serials.ensures.1 in
     rw p.1 tt
 
 pub returns-in_err-serials-clause-rows : goal.returns-in_err-serials-clause-rows
 returns-in_err-serials-clause-rows g c clean opened settled has =
-    let p = err_from_is_err_and c.from_residual-in_err-serials.result c.from_residual-in_err-serials.ensures.1 in
+    let p = err_from_is_err_and c.from_residual-in_err-serials.result
+    c.from_residual-in_err-serials.ensures.1 in
     rw p.1 tt
 
 pub returns-in_err-ranges-clause-leaves : goal.returns-in_err-ranges-clause-leaves

@@ -11,20 +11,29 @@ use Rattle.s10_ledger.proofs.Forms.{form_ledger, form_has}
 use Rattle.s10_ledger.proofs.reading.read_tables.Goals as goal
 
 pub returns-in_err-heads-clause-leaves : goal.returns-in_err-heads-clause-leaves
-returns-in_err-heads-clause-leaves g c = leaves_then g.S.Store c.args.conn.now c.closed_rows.new.conn c.read_call_rows.new.conn c.closed_rows.ensures.leaves c.read_call_rows.ensures.leaves
+returns-in_err-heads-clause-leaves g c = leaves_then g.S.Store c.args.conn.now
+    c.closed_rows.new.conn c.read_call_rows.new.conn c.closed_rows.ensures.leaves
+    c.read_call_rows.ensures.leaves
 
 pub returns-in_err-ranges-clause-leaves : goal.returns-in_err-ranges-clause-leaves
 returns-in_err-ranges-clause-leaves g c =
     leaves_then g.S.Store c.args.conn.now c.read_call_rows.new.conn c.read_derived_rows.new.conn
-    (leaves_then g.S.Store c.args.conn.now c.closed_rows.new.conn c.read_call_rows.new.conn c.closed_rows.ensures.leaves c.read_call_rows.ensures.leaves) c.read_derived_rows.ensures.leaves
+    (leaves_then g.S.Store c.args.conn.now c.closed_rows.new.conn c.read_call_rows.new.conn
+    c.closed_rows.ensures.leaves c.read_call_rows.ensures.leaves)
+    c.read_derived_rows.ensures.leaves
 
 pub returns-clause-leaves : goal.returns-clause-leaves
 returns-clause-leaves g c =
     leaves_then g.S.Store c.args.conn.now c.read_call_rows.new.conn c.read_derived_rows.new.conn
-    (leaves_then g.S.Store c.args.conn.now c.closed_rows.new.conn c.read_call_rows.new.conn c.closed_rows.ensures.leaves c.read_call_rows.ensures.leaves) c.read_derived_rows.ensures.leaves
+    (leaves_then g.S.Store c.args.conn.now c.closed_rows.new.conn c.read_call_rows.new.conn
+    c.closed_rows.ensures.leaves c.read_call_rows.ensures.leaves)
+    c.read_derived_rows.ensures.leaves
 
 pub returns-clause-remade : goal.returns-clause-remade
-returns-clause-remade g c = IfOk-weaker c.of-made.result _ _ (λ made it. (c.in_ok-heads.heads.items, (c.in_ok-heads.calls.items, it))) c.of-made.ensures.ok
+returns-clause-remade g c = IfOk-weaker c.of-made.result _ _ (λ made it. (
+  c.in_ok-heads.heads.items,
+  (c.in_ok-heads.calls.items, it),
+)) c.of-made.ensures.ok
 
 pub returns-clause-rows : goal.returns-clause-rows
 returns-clause-rows g c clean opened settled =
@@ -33,20 +42,41 @@ returns-clause-rows g c clean opened settled =
     let after = c.read_derived_rows.ensures.leaves in
     let db : Database = (state g.S.Store c.args.conn.now).now in
     let has : IsLedgerSchema db.schema = form_ledger c.args.form db.schema c.requires.form in
-    let kept_clean : HasCleanDisk (state g.S.Store c.read_call_rows.new.conn) = omega (arith, after.clean, clean) in
-    let kept_open : IsTrue (state g.S.Store c.read_call_rows.new.conn).is_open = after.was_open clean opened in
-    let closed_clean : HasCleanDisk (state g.S.Store c.closed_rows.new.conn) = omega (arith, before.clean, kept_clean) in
-    let closed_open : IsTrue (state g.S.Store c.closed_rows.new.conn).is_open = before.was_open kept_clean kept_open in
+    let kept_clean : HasCleanDisk (state g.S.Store c.read_call_rows.new.conn) =
+    omega (arith, after.clean, clean) in
+    let kept_open : IsTrue (state g.S.Store c.read_call_rows.new.conn).is_open =
+    after.was_open clean opened in
+    let closed_clean : HasCleanDisk (state g.S.Store c.closed_rows.new.conn) =
+    omega (arith, before.clean, kept_clean) in
+    let closed_open : IsTrue (state g.S.Store c.closed_rows.new.conn).is_open =
+    before.was_open kept_clean kept_open in
     let same = first.now closed_clean closed_open settled has in
     let has_then = subst (λ (d : Database). IsLedgerSchema d.schema) (sym same) has in
     let still = before.now kept_clean kept_open (first.settled settled) has_then ∙ same in
-    let kept = subst (λ (d : Database). HasCallRows d c.in_ok-heads.heads.items c.in_ok-heads.calls.items) same (c.in_ok-heads.ensures.rows kept_clean kept_open (first.settled settled) has_then) in
-    let made = subst (λ (d : Database). HasDerivedRows d c.in_ok-ranges.ranges.items c.in_ok-ranges.serials.items) still
-    (c.in_ok-ranges.ensures.rows clean opened (before.settled (first.settled settled)) (subst (λ (d : Database). IsLedgerSchema d.schema) (sym still) has)) in
-    let tables : Tables = record { heads = c.in_ok-heads.heads.items; calls = c.in_ok-heads.calls.items; ranges = c.in_ok-ranges.ranges.items; serials = c.in_ok-ranges.serials.items; closed = c.in_ok-closed.closed.items } in
+    let kept = subst (λ (d : Database). HasCallRows d c.in_ok-heads.heads.items
+    c.in_ok-heads.calls.items) same (c.in_ok-heads.ensures.rows kept_clean kept_open
+    (first.settled settled) has_then) in
+    let made = subst (λ (d : Database). HasDerivedRows d c.in_ok-ranges.ranges.items
+    c.in_ok-ranges.serials.items) still
+    (c.in_ok-ranges.ensures.rows clean opened (before.settled (first.settled settled))
+    (subst (λ (d : Database). IsLedgerSchema d.schema) (sym still) has)) in
+    let tables : Tables = record {
+      heads = c.in_ok-heads.heads.items;
+      calls = c.in_ok-heads.calls.items;
+      ranges = c.in_ok-ranges.ranges.items;
+      serials =
+          c.in_ok-ranges.serials.items;
+      closed = c.in_ok-closed.closed.items;
+    } in
     record {
       tables = tables;
-      has = form_has c.args.form db tables c.requires.form (record { heads = kept.heads_are; calls = kept.calls_are; ranges = made.ranges_are; serials = made.serials_are }) made.numbered (c.in_ok-closed.ensures.rows closed_clean);
+      has = form_has c.args.form db tables c.requires.form
+          (record {
+            heads = kept.heads_are;
+            calls = kept.calls_are;
+            ranges = made.ranges_are;
+            serials = made.serials_are;
+          }) made.numbered (c.in_ok-closed.ensures.rows closed_clean);
       in_order = kept.in_order;
       theirs = record { ranges = refl; serials = refl; closed = refl };
       ok = c.of-made.ensures.ok;

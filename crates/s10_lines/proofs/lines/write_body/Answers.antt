@@ -8,5 +8,7 @@ pub returns-in_ok-write_letters-in-DrawMany : goal.returns-in_ok-write_letters-i
 returns-in_ok-write_letters-in-DrawMany g c =
     let sheet = c.in-DrawMany in
     rw sheet.is
-    (words_follow _ _ _ (letters_of sheet.service ∷ letters_of sheet.country ∷ []) (decimal sheet.count ∷ []) c.write_decimal.result
-    c.in_ok-write_letters-in-DrawMany.ensures (rw (c.from.ensures, c.value.ensures.value) at c.write_decimal.ensures))
+    (words_follow _ _ _ (letters_of sheet.service ∷ letters_of sheet.country ∷ [])
+    (decimal sheet.count ∷ []) c.write_decimal.result
+    c.in_ok-write_letters-in-DrawMany.ensures (rw (c.from.ensures, c.value.ensures.value)
+    at c.write_decimal.ensures))

@@ -6,6 +6,8 @@ use Rattle.s10_lines.proofs.lines.write_drawn.Goals as goal
 
 pub returns : goal.returns
 returns g c =
-    words_follow _ _ _ (codes "done" ∷ codes "day" ∷ decimal c.args.day ∷ []) (spelling_of c.args.id.now ∷ []) c.write_id.result
-    (words_then _ _ _ (codes "done" ∷ []) (codes "day" ∷ decimal c.args.day ∷ []) c.in_ok-write_word.ensures c.in_ok-write_named.ensures)
+    words_follow _ _ _ (codes "done" ∷ codes "day" ∷ decimal c.args.day ∷ [])
+    (spelling_of c.args.id.now ∷ []) c.write_id.result
+    (words_then _ _ _ (codes "done" ∷ []) (codes "day" ∷ decimal c.args.day ∷ [])
+    c.in_ok-write_word.ensures c.in_ok-write_named.ensures)
     c.write_id.ensures

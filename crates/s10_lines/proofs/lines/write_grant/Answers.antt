@@ -8,8 +8,10 @@ use Rattle.s10_lines.proofs.lines.write_grant.Goals as goal
 pub returns : goal.returns
 returns g c =
     words_follow _ _ _
-    (codes "holder" ∷ decimal c.args.holder ∷ letters_of c.args.service ∷ letters_of c.args.country ∷ [])
+    (codes "holder" ∷ decimal c.args.holder ∷ letters_of c.args.service ∷ letters_of c.args.country
+    ∷ [])
     (digits_of c.args.first ∷ digits_of c.args.last ∷ []) c.write_serials.result
-    (words_then _ _ _ (codes "holder" ∷ decimal c.args.holder ∷ []) (letters_of c.args.service ∷ letters_of c.args.country ∷ [])
+    (words_then _ _ _ (codes "holder" ∷ decimal c.args.holder ∷ []) (letters_of c.args.service
+    ∷ letters_of c.args.country ∷ [])
     c.in_ok-write_named.ensures c.in_ok-write_letters.ensures)
     c.write_serials.ensures

@@ -5,5 +5,6 @@ use Rattle.s10_lines.proofs.lines.write_granted.Goals as goal
 
 pub returns : goal.returns
 returns g c =
-    words_follow _ _ _ (codes "done" ∷ []) (codes "range" ∷ decimal c.args.range ∷ []) c.write_named.result
+    words_follow _ _ _ (codes "done" ∷ []) (codes "range" ∷ decimal c.args.range ∷ [])
+    c.write_named.result
     c.in_ok-write_word.ensures c.write_named.ensures

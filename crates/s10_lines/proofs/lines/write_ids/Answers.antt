@@ -15,7 +15,12 @@ pub loop-id-preserved : goal.loop-id-preserved
 loop-id-preserved g c =
     let ids : List Id = c.args.ids.now in
     let before : List (List ℕ) = map spelling_of (take c.loop-id.id-index ids) in
-    let grown : before ++ spelling_of c.id-item.result ∷ [] ≡ map spelling_of (take (c.loop-id.id-index + 1) ids) =
-    sym (ap (map spelling_of) (one_more ids c.loop-id.id-index c.id-item.result c.loop-id-test.true c.id-item.is) ∙ map-append spelling_of (take c.loop-id.id-index ids) (c.id-item.result ∷ [])) in
-    let P : List (List ℕ) → Type 0 = λ words. Appends (g.W.Write.contents c.args.out.now) (g.W.Write.contents c.write_id.new.out) (spaced words) in
-    subst P grown (words_then _ _ _ before (spelling_of c.id-item.result ∷ []) c.loop-id.invariant c.in_ok-write_id.ensures)
+    let grown : before ++ spelling_of c.id-item.result ∷ []
+    ≡ map spelling_of (take (c.loop-id.id-index + 1) ids) =
+    sym (ap (map spelling_of) (one_more ids c.loop-id.id-index c.id-item.result c.loop-id-test.true
+    c.id-item.is) ∙ map-append spelling_of (take c.loop-id.id-index ids)
+    (c.id-item.result ∷ [])) in
+    let P : List (List ℕ) → Type 0 = λ words. Appends (g.W.Write.contents c.args.out.now)
+    (g.W.Write.contents c.write_id.new.out) (spaced words) in
+    subst P grown (words_then _ _ _ before (spelling_of c.id-item.result ∷ []) c.loop-id.invariant
+    c.in_ok-write_id.ensures)

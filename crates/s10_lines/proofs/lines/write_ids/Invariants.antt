@@ -5,4 +5,5 @@ use Rattle.s10_lines.specs.Lines.{spaced}
 use Rattle.s10_lines.proofs.lines.write_ids.Given as goal
 
 abbrev pub invariant-loop-id : goal.invariant-loop-id
-invariant-loop-id g l = Appends (g.W.Write.contents l.fn.out) (g.W.Write.contents l.out) (spaced (map spelling_of (take l.id-index l.ids)))
+invariant-loop-id g l = Appends (g.W.Write.contents l.fn.out) (g.W.Write.contents l.out)
+    (spaced (map spelling_of (take l.id-index l.ids)))

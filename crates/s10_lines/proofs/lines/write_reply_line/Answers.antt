@@ -11,5 +11,6 @@ returns g c =
     let came = outcome_words (outcome_of c.args.reply.now) in
     line_follows _ _ _ _ (codes "reply") (asked ++ came) c.write_text-2.result
     c.in_ok-write_text.ensures
-    (words_then _ _ _ asked came (rw c.request.ensures at c.in_ok-write_request.ensures) (rw c.outcome.ensures.outcome at c.in_ok-write_outcome.ensures))
+    (words_then _ _ _ asked came (rw c.request.ensures at c.in_ok-write_request.ensures)
+    (rw c.outcome.ensures.outcome at c.in_ok-write_outcome.ensures))
     c.write_text-2.ensures

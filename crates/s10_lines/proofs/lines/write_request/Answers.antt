@@ -12,6 +12,7 @@ returns g c =
     let number : List (List ℕ) = codes "number" ∷ decimal q.number ∷ [] in
     words_follow _ _ _ (kind ++ customer ++ number) (body_words q.body) c.write_body.result
     (words_then _ _ _ (kind ++ customer) number
-    (words_then _ _ _ kind customer (rw c.kind_name.ensures at c.in_ok-write_word.ensures) c.in_ok-write_named.ensures)
+    (words_then _ _ _ kind customer (rw c.kind_name.ensures at c.in_ok-write_word.ensures)
+    c.in_ok-write_named.ensures)
     c.in_ok-write_named-2.ensures)
     c.write_body.ensures

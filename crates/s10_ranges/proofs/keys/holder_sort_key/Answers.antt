@@ -4,4 +4,9 @@ use Rattle.s10_ranges.proofs.keys.holder_sort_key.Goals as goal
 
 pub returns-clause-value : goal.returns-clause-value
 unfolding holder_key
-returns-clause-value c = omega (arith, c.from.ensures, c.from-2.ensures, c.pair_number.ensures.value)
+returns-clause-value c = omega (
+  arith,
+  c.from.ensures,
+  c.from-2.ensures,
+  c.pair_number.ensures.value,
+)

@@ -4,4 +4,10 @@ use Rattle.s10_ranges.proofs.keys.serial_sort_key.Goals as goal
 
 pub returns-clause-value : goal.returns-clause-value
 unfolding serial_key
-returns-clause-value c = omega (arith, c.from.ensures, c.from-2.ensures, c.value.ensures.value, c.pair_number.ensures.value)
+returns-clause-value c = omega (
+  arith,
+  c.from.ensures,
+  c.from-2.ensures,
+  c.value.ensures.value,
+  c.pair_number.ensures.value,
+)

@@ -1,19 +1,25 @@
 use Rattle.std.proofs.Common.{arith, sym}
-use Rattle.s10_ranges.proofs.Placing.{IsRun, rising_first, rising_last, run_none, run_found, empty_none}
+use Rattle.s10_ranges.proofs.Placing.{IsRun, rising_first, rising_last, run_none, run_found}
+use Rattle.s10_ranges.proofs.Placing.{empty_none}
 use Rattle.s10_ranges.proofs.lookups.covering_in.Goals as goal
 
 pub returns-then-value : goal.returns-then-value
-returns-then-value c = sym (empty_none c.args.ranges.now c.args.service c.args.country c.args.first c.args.last (omega (arith, c.value.ensures.value, c.value-2.ensures.value, c.if-value.true)))
+returns-then-value c = sym (empty_none c.args.ranges.now c.args.service c.args.country c.args.first
+    c.args.last (omega (arith, c.value.ensures.value, c.value-2.ensures.value, c.if-value.true)))
 
 pub first_at-start-requires-clause-rising : goal.first_at-start-requires-clause-rising
-first_at-start-requires-clause-rising c = rising_last c.args.ranges.now c.args.by_serial.now c.requires.sound c.requires.placed
+first_at-start-requires-clause-rising c = rising_last c.args.ranges.now c.args.by_serial.now
+    c.requires.sound c.requires.placed
 
 pub first_at-end-requires-clause-rising : goal.first_at-end-requires-clause-rising
-first_at-end-requires-clause-rising c = rising_first c.args.ranges.now c.args.by_serial.now c.requires.sound c.requires.placed
+first_at-end-requires-clause-rising c = rising_first c.args.ranges.now c.args.by_serial.now
+    c.requires.sound c.requires.placed
 
 pub returns-in-None : goal.returns-in-None
 returns-in-None c =
-    let run : IsRun c.args.ranges.now c.args.by_serial.now c.args.service c.args.country c.args.first c.args.last c.first_at-start.result c.first_at-end.result c.serial_sort_key-low.result c.serial_sort_key-high.result = record {
+    let run : IsRun c.args.ranges.now c.args.by_serial.now c.args.service c.args.country
+    c.args.first c.args.last c.first_at-start.result c.first_at-end.result
+    c.serial_sort_key-low.result c.serial_sort_key-high.result = record {
       sound = c.requires.sound;
       placed = c.requires.placed;
       service = c.serial_sort_key-low.ensures.service;
@@ -33,7 +39,9 @@ returns-in-None c =
 
 pub returns-in-Some : goal.returns-in-Some
 returns-in-Some c =
-    let run : IsRun c.args.ranges.now c.args.by_serial.now c.args.service c.args.country c.args.first c.args.last c.first_at-start.result c.first_at-end.result c.serial_sort_key-low.result c.serial_sort_key-high.result = record {
+    let run : IsRun c.args.ranges.now c.args.by_serial.now c.args.service c.args.country
+    c.args.first c.args.last c.first_at-start.result c.first_at-end.result
+    c.serial_sort_key-low.result c.serial_sort_key-high.result = record {
       sound = c.requires.sound;
       placed = c.requires.placed;
       service = c.serial_sort_key-low.ensures.service;
@@ -49,4 +57,5 @@ returns-in-Some c =
       until = c.first_at-end.ensures.below;
       behind = c.first_at-end.ensures.above;
     } in
-    sym (run_found _ _ _ _ _ _ _ _ _ _ c.in-Some.place c.index-ranges-place.result run c.in-Some.ensures (sym c.index-ranges-place.is))
+    sym (run_found _ _ _ _ _ _ _ _ _ _ c.in-Some.place c.index-ranges-place.result run
+    c.in-Some.ensures (sym c.index-ranges-place.is))

@@ -9,7 +9,8 @@ invariant-loop-low l = record {
   ordered : l.low ≤ l.high;
   within : l.high ≤ length l.order;
   below : (j : ℕ) (d : Range) → j < l.low → key_by l.by (range_at l.ranges l.order j d) < l.key;
-  above : (j : ℕ) (d : Range) → l.high ≤ j → j < length l.order → l.key ≤ key_by l.by (range_at l.ranges l.order j d);
+  above : (j : ℕ) (d : Range) → l.high ≤ j → j < length l.order
+      → l.key ≤ key_by l.by (range_at l.ranges l.order j d);
 }
 
 abbrev pub decreases-loop-low : goal.decreases-loop-low

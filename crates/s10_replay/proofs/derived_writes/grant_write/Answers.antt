@@ -14,7 +14,9 @@ returns-clause-made c = λ h t num legal may is.
     let n : ℕ = c.in-Granted.num in
     let r = c.in_ok-range.range in
     let made : range_of_grant n c.args.entry.now.request.body (Granted n) ≡ Some r =
-    ap (λ (o : Outcome). range_of_grant n c.args.entry.now.request.body o) (sym c.in-Granted.is) ∙ sym c.range_made.ensures ∙ c.in_ok-range.was in
-    let row : range_row r.first r ≡ c.of.result = sym (c.of.ensures ∙ ap (λ (mark : ℕ). range_row mark r) c.value.ensures.value) in
+    ap (λ (o : Outcome). range_of_grant n c.args.entry.now.request.body o) (sym c.in-Granted.is)
+    ∙ sym c.range_made.ensures ∙ c.in_ok-range.was in
+    let row : range_row r.first r ≡ c.of.result =
+    sym (c.of.ensures ∙ ap (λ (mark : ℕ). range_row mark r) c.value.ensures.value) in
     let P : RangeRow → Type 0 = λ s. MakesWrites h c.args.entry.now (New s ∷ []) [] in
     subst P row (grant_makes h t c.args.entry.now n r legal may c.in-Granted.is made)

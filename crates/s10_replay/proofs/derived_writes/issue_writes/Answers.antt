@@ -8,9 +8,12 @@ use Rattle.s10_replay.proofs.derived_writes.issue_writes.Goals as goal
 
 pub returns : goal.returns
 returns c = λ h t e place ranges serials legal may calls call at there lies never made.
-    let makes = issue_makes h t e place c.args.issuance.now c.args.range.now c.args.issued ranges serials legal may calls call at there lies never made in
+    let makes = issue_makes h t e place c.args.issuance.now c.args.range.now c.args.issued ranges
+    serials legal may calls call at there lies never made in
     let mark = c.mark_write.ensures in
     let serial = c.issue_write.ensures ∙ ap (write_of c.args.issued) c.of-row.ensures in
-    let P : RangeWrite → Type 0 = λ w. IssueWritesMake h e (place + 1) (ranges ++ w ∷ []) (serials ++ write_of c.args.issued (serial_row false c.args.issuance.now) ∷ []) in
-    let Q : SerialWrite → Type 0 = λ w. IssueWritesMake h e (place + 1) (ranges ++ c.mark_write.result ∷ []) (serials ++ w ∷ []) in
+    let P : RangeWrite → Type 0 = λ w. IssueWritesMake h e (place + 1) (ranges ++ w ∷ [])
+    (serials ++ write_of c.args.issued (serial_row false c.args.issuance.now) ∷ []) in
+    let Q : SerialWrite → Type 0 = λ w. IssueWritesMake h e (place + 1)
+    (ranges ++ c.mark_write.result ∷ []) (serials ++ w ∷ []) in
     subst Q (sym serial) (subst P (sym mark) makes)

@@ -8,4 +8,5 @@ use Rattle.std.proofs.Common.{sym, subst, [], ◌∷◌}
 pub returns : goal.returns
 returns c h t e id legal may calls call asks done last =
     let P : SerialRow → Type 0 = λ row. MakesWrites h e [] (Again row ∷ []) in
-    subst P (sym c.of.ensures) (void_makes h t e id c.args.issuance.now legal calls call asks done last)
+    subst P (sym c.of.ensures) (void_makes h t e id c.args.issuance.now legal calls call asks done
+    last)

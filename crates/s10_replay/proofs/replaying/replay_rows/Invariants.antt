@@ -7,5 +7,6 @@ abbrev pub invariant-loop-row : goal.invariant-loop-row
 invariant-loop-row g l = g.B.Book.honest l.book → record {
   was_honest : g.B.Book.honest l.fn.book;
   terms : g.B.Book.terms l.book ≡ g.B.Book.terms l.fn.book;
-  replayed : g.B.Book.history l.fn.book ≡ [] → HasReplayed (g.B.Book.terms l.fn.book) (take l.row-index l.rows) (g.B.Book.history l.book);
+  replayed : g.B.Book.history l.fn.book ≡ [] → HasReplayed (g.B.Book.terms l.fn.book)
+      (take l.row-index l.rows) (g.B.Book.history l.book);
 }

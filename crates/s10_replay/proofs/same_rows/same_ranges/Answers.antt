@@ -9,7 +9,10 @@ use Rattle.s10_replay.proofs.same_rows.same_ranges.Goals as goal
 
 pub returns : goal.returns
 returns c = λ rising.
-    same_where_sorted (λ a b. int_cmp a.num b.num) (on_total (λ (r : RangeRow). r.num) int_cmp_total) c.args.made.now c.args.rows.items
+    same_where_sorted (λ a b. int_cmp a.num b.num) (on_total (λ (r : RangeRow). r.num)
+    int_cmp_total) c.args.made.now c.args.rows.items
     c.args.rows.items _ c.are_ranges.result rising refl c.sort_unstable_by_key.ensures.permutation
-    (c.sort_unstable_by_key.ensures.sorted (λ (r : RangeRow). r.num) (answers_always _ _ _ (λ f a r g h. search rules)))
-    (subst (λ l. IsTrue c.are_ranges.result ↔ (c.args.made.now ≡ l)) c.deref.ensures.value c.are_ranges.ensures)
+    (c.sort_unstable_by_key.ensures.sorted (λ (r : RangeRow). r.num)
+    (answers_always _ _ _ (λ f a r g h. search rules)))
+    (subst (λ l. IsTrue c.are_ranges.result ↔ (c.args.made.now ≡ l)) c.deref.ensures.value
+    c.are_ranges.ensures)

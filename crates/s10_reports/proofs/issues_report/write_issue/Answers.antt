@@ -14,7 +14,8 @@ returns g c =
     let number : List (List ℕ) = decimal i.number ∷ [] in
     let id : List (List ℕ) = spelling_of i.id ∷ [] in
     let state : List (List ℕ) = state_of i c.args.last.now ∷ [] in
-    line_follows _ _ _ _ (decimal i.arrival) (day ++ customer ++ number ++ id ++ state) c.write_text.result
+    line_follows _ _ _ _ (decimal i.arrival) (day ++ customer ++ number ++ id ++ state)
+    c.write_text.result
     c.in_ok-write_first_decimal.ensures
     (words_then _ _ _ (day ++ customer ++ number ++ id) state
     (words_then _ _ _ (day ++ customer ++ number) id

@@ -15,7 +15,8 @@ returns g c =
     let letters : List (List ℕ) = letters_of r.service ∷ letters_of r.country ∷ [] in
     let serials : List (List ℕ) = digits_of r.first ∷ digits_of r.last ∷ [] in
     let usage : List (List ℕ) = decimal u.used ∷ decimal u.voided ∷ decimal u.free ∷ [] in
-    line_follows _ _ _ _ (decimal r.num) ((holder ++ letters ++ serials ++ usage) ++ closed_words c.args.closed) c.write_text.result
+    line_follows _ _ _ _ (decimal r.num) ((holder ++ letters ++ serials ++ usage) ++ closed_words
+    c.args.closed) c.write_text.result
     c.in_ok-write_first_decimal.ensures
     (words_then _ _ _ (holder ++ letters ++ serials ++ usage) (closed_words c.args.closed)
     (words_then _ _ _ (holder ++ letters ++ serials) usage

@@ -5,7 +5,9 @@ use Rattle.s10_schema.proofs.SchemaLemmas.{not_there, there}
 use Rattle.s10_schema.proofs.ledger_schema.is_one_at.Goals as goal
 
 pub returns-in_default : goal.returns-in_default
-returns-in_default c = not_there c.args.nodes.now c.args.place (node.Literal (Int (pos 1))) c.in_default.ensures (λ (e : node.Literal (Int (pos 1)) ≡ node.Literal Null). cc)
+returns-in_default c = not_there c.args.nodes.now c.args.place (node.Literal (Int (pos 1)))
+    c.in_default.ensures (λ (e : node.Literal (Int (pos 1)) ≡ node.Literal Null). cc)
 
 pub returns : goal.returns
-returns c = there c.args.nodes.now c.args.place c.in-Some.op.now (node.Literal (Int (pos 1))) c.is_one.result c.in-Some.ensures c.is_one.ensures
+returns c = there c.args.nodes.now c.args.place c.in-Some.op.now (node.Literal (Int (pos 1)))
+    c.is_one.result c.in-Some.ensures c.is_one.ensures

@@ -12,14 +12,19 @@ stream_calls-requires g c = record { plain = calls_plain }
 pub returns-clause-rows : goal.returns-clause-rows
 returns-clause-rows g c clean =
     IfOk-weaker c.stream_calls.result _ _ (λ found typed has. let it = typed has in
-    calls_found [] (state g.S.Store c.args.conn.now) (state g.S.Store c.stream_calls.new.conn) it.0 has found.items it.1 it.2) (c.stream_calls.ensures.rows clean)
+    calls_found [] (state g.S.Store c.args.conn.now) (state g.S.Store c.stream_calls.new.conn) it.0
+    has found.items it.1 it.2) (c.stream_calls.ensures.rows clean)
 
 pub returns-clause-in_order : goal.returns-clause-in_order
 returns-clause-in_order g c clean =
-    IfOk-weaker c.stream_calls.result _ _ (λ found typed tables held up. let it = typed held.schema.ledger in
-    calls_in_order [] (state g.S.Store c.args.conn.now) (state g.S.Store c.stream_calls.new.conn) it.0 held.schema.ledger tables held up found.items it.1 it.2) (c.stream_calls.ensures.rows clean)
+    IfOk-weaker c.stream_calls.result _ _ (λ found typed tables held up. let it = typed
+    held.schema.ledger in
+    calls_in_order [] (state g.S.Store c.args.conn.now) (state g.S.Store c.stream_calls.new.conn)
+    it.0 held.schema.ledger tables held up found.items it.1 it.2)
+    (c.stream_calls.ensures.rows clean)
 
 pub returns-clause-sorted : goal.returns-clause-sorted
 returns-clause-sorted g c clean =
     IfOk-weaker c.stream_calls.result _ _ (λ found typed has. let it = typed has in
-    calls_sorted [] (state g.S.Store c.args.conn.now) (state g.S.Store c.stream_calls.new.conn) it.0 has found.items it.1 it.2) (c.stream_calls.ensures.rows clean)
+    calls_sorted [] (state g.S.Store c.args.conn.now) (state g.S.Store c.stream_calls.new.conn) it.0
+    has found.items it.1 it.2) (c.stream_calls.ensures.rows clean)

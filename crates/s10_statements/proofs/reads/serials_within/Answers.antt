@@ -9,17 +9,27 @@ use Rattle.s10_statements.proofs.FoundLemmas.{within_found}
 use Rattle.s10_statements.proofs.reads.serials_within.Goals as goal
 
 pub returns-in_err-rows-clause-leaves : goal.returns-in_err-rows-clause-leaves
-returns-in_err-rows-clause-leaves g c = leaves_weaker g.S.Store c.args.conn.now c.read.new.conn (known_plain select_serials_within_sql within_plain) c.read.ensures.leaves
+returns-in_err-rows-clause-leaves g c = leaves_weaker g.S.Store c.args.conn.now c.read.new.conn
+    (known_plain select_serials_within_sql within_plain) c.read.ensures.leaves
 
 pub returns-clause-leaves : goal.returns-clause-leaves
-returns-clause-leaves g c = leaves_weaker g.S.Store c.args.conn.now c.read.new.conn (known_plain select_serials_within_sql within_plain) c.read.ensures.leaves
+returns-clause-leaves g c = leaves_weaker g.S.Store c.args.conn.now c.read.new.conn
+    (known_plain select_serials_within_sql within_plain) c.read.ensures.leaves
 
 pub returns-clause-rows : goal.returns-clause-rows
 returns-clause-rows g c clean =
-    IfOk-weaker c.rows_in.result _ _ (λ found typed tables held. within_found (pos c.args.pair) (pos c.args.low) (pos c.args.high) (state g.S.Store c.args.conn.now) (state g.S.Store c.read.new.conn) c.in_ok-rows.rows.items tables held found.items (rw (c.params-to_sql.ensures, c.params-to_sql-2.ensures, c.params-to_sql-3.ensures) at (c.in_ok-rows.ensures.rows clean)) (typed ∙ c.deref.ensures.value)) c.rows_in.ensures
+    IfOk-weaker c.rows_in.result _ _ (λ found typed tables held. within_found (pos c.args.pair)
+    (pos c.args.low) (pos c.args.high) (state g.S.Store c.args.conn.now)
+    (state g.S.Store c.read.new.conn) c.in_ok-rows.rows.items tables held found.items
+    (rw (c.params-to_sql.ensures, c.params-to_sql-2.ensures, c.params-to_sql-3.ensures)
+    at (c.in_ok-rows.ensures.rows clean)) (typed ∙ c.deref.ensures.value)) c.rows_in.ensures
 
 pub returns-in_err-rows-clause-spares : goal.returns-in_err-rows-clause-spares
-returns-in_err-rows-clause-spares g c clean has = c.read.ensures.spares clean (known_plain select_serials_within_sql within_plain (state g.S.Store c.args.conn.now).now.schema has)
+returns-in_err-rows-clause-spares g c clean has =
+    c.read.ensures.spares clean (known_plain select_serials_within_sql within_plain
+    (state g.S.Store c.args.conn.now).now.schema has)
 
 pub returns-clause-spares : goal.returns-clause-spares
-returns-clause-spares g c clean has = c.read.ensures.spares clean (known_plain select_serials_within_sql within_plain (state g.S.Store c.args.conn.now).now.schema has)
+returns-clause-spares g c clean has =
+    c.read.ensures.spares clean (known_plain select_serials_within_sql within_plain
+    (state g.S.Store c.args.conn.now).now.schema has)

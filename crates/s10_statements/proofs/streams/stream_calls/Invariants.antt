@@ -9,5 +9,6 @@ use Rattle.s10_statements.proofs.streams.stream_calls.Given as goal
 abbrev pub invariant-rows : goal.invariant-rows
 invariant-rows g l = record {
   same_reference : l.shown.conn.ghost_name ≡ l.initial.shown.conn.ghost_name;
-  so_far : IsUnderWay g.S.Store l.sql (bound l.params) (λ (rows : List Row). map shown_call l.calls.items ≡ rows) l.fn.conn l.shown.conn.now;
+  so_far : IsUnderWay g.S.Store l.sql (bound l.params) (λ (rows : List Row). map shown_call
+      l.calls.items ≡ rows) l.fn.conn l.shown.conn.now;
 }

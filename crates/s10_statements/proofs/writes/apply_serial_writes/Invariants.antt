@@ -8,5 +8,7 @@ use Rattle.s10_statements.proofs.writes.apply_serial_writes.Given as goal
 abbrev pub invariant-loop-write : goal.invariant-loop-write
 invariant-loop-write g l = record {
   same_reference : l.tx.conn.ghost_name ≡ l.initial.tx.conn.ghost_name;
-  so_far : AreMade (state g.S.Store l.fn.tx.conn.now) (state g.S.Store l.tx.conn.now) (λ tables. FindAtMostOne l.serials tables.serials) (with_serials_in (take l.write-index l.serials));
+  so_far : AreMade (state g.S.Store l.fn.tx.conn.now) (state g.S.Store l.tx.conn.now)
+      (λ tables. FindAtMostOne l.serials tables.serials)
+      (with_serials_in (take l.write-index l.serials));
 }

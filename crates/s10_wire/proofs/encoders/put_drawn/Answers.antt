@@ -5,5 +5,6 @@ use Rattle.s10_wire.proofs.encoders.put_drawn.Goals as goal
 
 pub returns-clause-bytes : goal.returns-clause-bytes
 returns-clause-bytes c =
-    c.put_id.ensures.bytes ∙ ap (λ (t : List ℕ). t ++ spelling_of c.args.id) c.put_coded.ensures.bytes
+    c.put_id.ensures.bytes ∙ ap (λ (t : List ℕ). t ++ spelling_of c.args.id)
+    c.put_coded.ensures.bytes
     ∙ append_assoc c.args.frame.now (0 ∷ u32_bytes c.args.day) (spelling_of c.args.id)

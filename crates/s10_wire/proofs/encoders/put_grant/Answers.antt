@@ -9,5 +9,7 @@ returns-clause-bytes c =
     let draw : List ℕ = fields (Draw c.args.service c.args.country) in
     let serials : List ℕ = u32_bytes c.args.first ++ u32_bytes c.args.last in
     c.put_serials.ensures.bytes
-    ∙ ap (λ (l : List ℕ). l ++ serials) (c.put_draw.ensures.bytes ∙ ap (λ (l : List ℕ). l ++ draw) (c.put.ensures.bytes ∙ ap (λ (l : List ℕ). before ++ l) c.to_be_bytes.ensures) ∙ append_assoc before (u32_bytes c.args.holder) draw)
+    ∙ ap (λ (l : List ℕ). l ++ serials) (c.put_draw.ensures.bytes ∙ ap (λ (l : List ℕ). l ++ draw)
+    (c.put.ensures.bytes ∙ ap (λ (l : List ℕ). before ++ l) c.to_be_bytes.ensures)
+    ∙ append_assoc before (u32_bytes c.args.holder) draw)
     ∙ append_assoc before (u32_bytes c.args.holder ++ draw) serials

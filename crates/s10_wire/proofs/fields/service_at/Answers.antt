@@ -1,4 +1,5 @@
-use Rattle.std.proofs.Common.{◌≡◌, ℕ, ◌+◌, true, false, [], List, ◌∷◌, get_or, drop, refl, sym, ap, subst, ◌∙◌, arith}
+use Rattle.std.proofs.Common.{◌≡◌, ℕ, ◌+◌, true, false, [], List, ◌∷◌, get_or, drop, refl, sym, ap}
+use Rattle.std.proofs.Common.{subst, ◌∙◌, arith}
 use Rattle.std.specs.Prelude.{All}
 use Rattle.std.proofs.lemmas.Bool.{and_from, and_parts, false_from_ne_true}
 use Rattle.std.proofs.lemmas.List.Elements.{All-nil, All-cons}
@@ -25,16 +26,23 @@ returns-in-Some-clause-ok c =
     let b = c.args.bytes.now in
     let at = c.args.at in
     let first : IsCapital (get_or b at 0) = c.in-Some.ensures.capitals.0 refl 0 0 (omega arith) in
-    let second : IsCapital (get_or b (at + 1) 0) = c.in-Some.ensures.capitals.0 refl 1 0 (omega arith) in
-    and_from _ _ (capital_passes (get_or b at 0) first) (capital_passes (get_or b (at + 1) 0) second)
+    let second : IsCapital (get_or b (at + 1) 0) = c.in-Some.ensures.capitals.0 refl 1 0
+    (omega arith) in
+    and_from _ _ (capital_passes (get_or b at 0) first) (capital_passes (get_or b (at + 1) 0)
+    second)
 
 pub returns-in-Some-clause-read : goal.returns-in-Some-clause-read
 returns-in-Some-clause-read c =
     let b = c.args.bytes.now in
     let at = c.args.at in
-    let letters : letters_of c.in-Some.service ≡ get_or b at 0 ∷ get_or b (at + 1) 0 ∷ [] = c.in-Some.ensures.letters in
-    let all : All IsCapital (letters_of c.in-Some.service) = subst (λ (l : List ℕ). All IsCapital l) (sym letters) (c.in-Some.ensures.capitals.0 refl) in
-    ((all 0 0 (omega arith), all 1 0 (omega arith)), two_at b at c.requires ∙ ap (λ (l : List ℕ). get_or l 0 0 ∷ get_or l 1 0 ∷ drop (at + 2) b) (sym letters))
+    let letters : letters_of c.in-Some.service ≡ get_or b at 0 ∷ get_or b (at + 1) 0 ∷ [] =
+    c.in-Some.ensures.letters in
+    let all : All IsCapital (letters_of c.in-Some.service) = subst (λ (l : List ℕ). All IsCapital l)
+    (sym letters) (c.in-Some.ensures.capitals.0 refl) in (
+      (all 0 0 (omega arith), all 1 0 (omega arith)),
+      two_at b at c.requires
+          ∙ ap (λ (l : List ℕ). get_or l 0 0 ∷ get_or l 1 0 ∷ drop (at + 2) b) (sym letters),
+    )
 
 pub returns-in-Some-clause-err : goal.returns-in-Some-clause-err
 returns-in-Some-clause-err c = tt
@@ -52,7 +60,10 @@ returns-in-None-clause-err c =
       refl,
       false_from_ne_true (are_letters b at) (λ passes.
           let both = and_parts _ _ passes in
-          let some : false ≡ true = c.in-None.ensures.capitals.1 (All-cons IsCapital (get_or b at 0) (get_or b (at + 1) 0 ∷ []) (capital_of (get_or b at 0) both.0)
-          (All-cons IsCapital (get_or b (at + 1) 0) [] (capital_of (get_or b (at + 1) 0) both.1) (All-nil IsCapital))) in
+          let some : false ≡ true =
+          c.in-None.ensures.capitals.1 (All-cons IsCapital (get_or b at 0)
+          (get_or b (at + 1) 0 ∷ []) (capital_of (get_or b at 0) both.0)
+          (All-cons IsCapital (get_or b (at + 1) 0) [] (capital_of (get_or b (at + 1) 0) both.1)
+          (All-nil IsCapital))) in
           cc),
     )

@@ -11,5 +11,6 @@ invariant-loop-place l = record {
   long : length l.room ≡ 16;
   in_range : All IsId (take l.place l.room);
   read : drop 22 l.bytes ≡ spellings_of (take l.place l.room) ++ drop (22 + 13 * l.place) l.bytes;
-  passed : first_refusal (identifier_fields 22 l.count l.bytes) ≡ first_refusal (identifier_fields (22 + 13 * l.place) (l.count - l.place) l.bytes);
+  passed : first_refusal (identifier_fields 22 l.count l.bytes)
+      ≡ first_refusal (identifier_fields (22 + 13 * l.place) (l.count - l.place) l.bytes);
 }

@@ -41,7 +41,8 @@ pub returns-in-Withdraw-eq10-clause-read : goal.returns-in-Withdraw-eq10-clause-
 returns-in-Withdraw-eq10-clause-read c = (tt, ap (λ (n : ℕ). n ∷ []) (sym c.in-Withdraw-eq10.is-1))
 
 pub returns-in-Withdraw-eq10-clause-refused : goal.returns-in-Withdraw-eq10-clause-refused
-returns-in-Withdraw-eq10-clause-refused c = rw (c.in-Withdraw-eq10.is-0, c.in-Withdraw-eq10.is-1) refl
+returns-in-Withdraw-eq10-clause-refused c = rw (c.in-Withdraw-eq10.is-0, c.in-Withdraw-eq10.is-1)
+    refl
 
 pub returns-in-Withdraw-eq11-clause-fits : goal.returns-in-Withdraw-eq11-clause-fits
 returns-in-Withdraw-eq11-clause-fits c = rw c.in-Withdraw-eq11.is-0 refl
@@ -50,4 +51,5 @@ pub returns-in-Withdraw-eq11-clause-read : goal.returns-in-Withdraw-eq11-clause-
 returns-in-Withdraw-eq11-clause-read c = (tt, ap (λ (n : ℕ). n ∷ []) (sym c.in-Withdraw-eq11.is-1))
 
 pub returns-in-Withdraw-eq11-clause-refused : goal.returns-in-Withdraw-eq11-clause-refused
-returns-in-Withdraw-eq11-clause-refused c = rw (c.in-Withdraw-eq11.is-0, c.in-Withdraw-eq11.is-1) refl
+returns-in-Withdraw-eq11-clause-refused c = rw (c.in-Withdraw-eq11.is-0, c.in-Withdraw-eq11.is-1)
+    refl

@@ -10,6 +10,9 @@ pub returns : goal.returns
 returns c = record {
   kept = λ t w w' es start legal steps. kept_of w'.history t (steps_legal t w w' es steps legal);
   agree = λ t w w' es start steps. agrees w' (steps_sound t w w' es steps (start_sound w start));
-  once = λ t w w' es start legal steps. once w' t (steps_legal t w w' es steps legal) (steps_sound t w w' es steps (start_sound w start));
-  unshared = λ t w w' es start legal steps own. unshared w' t.interval (spaced w'.history t (steps_legal t w w' es steps legal)) (steps_sound t w w' es steps (start_sound w start)) (steps_own t w w' es steps own);
+  once = λ t w w' es start legal steps. once w' t (steps_legal t w w' es steps legal)
+      (steps_sound t w w' es steps (start_sound w start));
+  unshared = λ t w w' es start legal steps own. unshared w' t.interval
+      (spaced w'.history t (steps_legal t w w' es steps legal))
+      (steps_sound t w w' es steps (start_sound w start)) (steps_own t w w' es steps own);
 }

@@ -13,5 +13,10 @@ returns-clause-day g c = c.serve.ensures.day
 pub returns-clause-step : goal.returns-clause-step
 returns-clause-step g c = record {
   day = c.serve.ensures.day;
-  call = inl (c.serve.ensures.turn.0, c.receive.result, c.serve.ensures.turn.1, rw c.serve.ensures.near at c.receive.ensures.trace);
+  call = inl (
+    c.serve.ensures.turn.0,
+    c.receive.result,
+    c.serve.ensures.turn.1,
+    rw c.serve.ensures.near at c.receive.ensures.trace,
+  );
 }

@@ -8,4 +8,14 @@ pub returns-clause-same : goal.returns-clause-same
 returns-clause-same g c = refl
 
 pub returns-clause-step : goal.returns-clause-step
-returns-clause-step g c = record { day = refl; call = inr ((c.args.to, c.args.frame.now), c.send.result, c.send.ensures.trace, refl, refl) }
+returns-clause-step g c =
+    record {
+      day = refl;
+      call = inr (
+        (c.args.to, c.args.frame.now),
+        c.send.result,
+        c.send.ensures.trace,
+        refl,
+        refl,
+      );
+    }

@@ -3,19 +3,23 @@ use Rattle.std.proofs.lemmas.Bool.{false≢true}
 use Rattle.s10_wire.specs.declared.request.Request.{Request}
 use Rattle.s10_wire.specs.declared.outcome.Outcome.{Outcome}
 use Rattle.s10_wire.specs.Datagrams.{Replies}
-use Rattle.s10_ends.proofs.One.{only_first, not_dropped, reply_not_dropped, faulted_not_dropped, Served-dropped, Served-reply, Served-faulted}
+use Rattle.s10_ends.proofs.One.{only_first, not_dropped, reply_not_dropped, faulted_not_dropped}
+use Rattle.s10_ends.proofs.One.{Served-dropped, Served-reply, Served-faulted}
 use Rattle.s10_ends.proofs.server.Server.handle.Goals as goal
 
 pub returns-in-Err-clause-served : goal.returns-in-Err-clause-served
 returns-in-Err-clause-served g c = λ h.
-    Served-dropped (g.B.Book.history c.args.self.now.book) (g.B.Book.terms c.args.self.now.book) c.args.bytes.now c.args.day c.in-Err.fault c.in-Err.ensures.nothing c.in-Err.ensures.refused
+    Served-dropped (g.B.Book.history c.args.self.now.book) (g.B.Book.terms c.args.self.now.book)
+    c.args.bytes.now c.args.day c.in-Err.fault c.in-Err.ensures.nothing c.in-Err.ensures.refused
 
 pub returns-in-Some-clause-served : goal.returns-in-Some-clause-served
 returns-in-Some-clause-served g c = λ h.
     let P : Request → Type 0 = λ q. Replies c.encode_reply.result q c.in-Some.reply.outcome in
     let Q : Outcome → Type 0 = λ o. Replies c.encode_reply.result c.in-Ok.request o in
-    Served-reply (g.B.Book.history c.args.self.now.book) (g.B.Book.history c.respond.new.book) (g.B.Book.terms c.args.self.now.book) c.args.bytes.now c.args.day
-    c.in-Ok.request c.in-Ok-respond.outcome c.encode_reply.result c.in-Ok.ensures.found (c.in-Ok-respond.ensures.applied h) (c.in-Ok-respond.ensures.owed h)
+    Served-reply (g.B.Book.history c.args.self.now.book) (g.B.Book.history c.respond.new.book)
+    (g.B.Book.terms c.args.self.now.book) c.args.bytes.now c.args.day
+    c.in-Ok.request c.in-Ok-respond.outcome c.encode_reply.result c.in-Ok.ensures.found
+    (c.in-Ok-respond.ensures.applied h) (c.in-Ok-respond.ensures.owed h)
     (subst Q c.in-Some.ensures.parts.1 (subst P c.in-Some.ensures.parts.0 c.encode_reply.ensures))
 
 pub returns-in-Err-respond-clause-faults : goal.returns-in-Err-respond-clause-faults
@@ -23,14 +27,17 @@ returns-in-Err-respond-clause-faults g c = c.in-Err-respond.ensures.faults
 
 pub returns-in-Err-respond-clause-served : goal.returns-in-Err-respond-clause-served
 returns-in-Err-respond-clause-served g c = λ h.
-    Served-faulted (g.B.Book.history c.args.self.now.book) (g.B.Book.history c.respond.new.book) (g.B.Book.terms c.args.self.now.book) c.args.bytes.now c.args.day
-    c.in-Ok.request c.in-Err-respond.fault c.in-Ok.ensures.found (c.in-Err-respond.ensures.err h) (λ full. c.in-Err-respond.ensures.full h (ap Err full))
+    Served-faulted (g.B.Book.history c.args.self.now.book) (g.B.Book.history c.respond.new.book)
+    (g.B.Book.terms c.args.self.now.book) c.args.bytes.now c.args.day
+    c.in-Ok.request c.in-Err-respond.fault c.in-Ok.ensures.found (c.in-Err-respond.ensures.err h)
+    (λ full. c.in-Err-respond.ensures.full h (ap Err full))
 
 pub returns-in-Err-clause-faults : goal.returns-in-Err-clause-faults
 returns-in-Err-clause-faults g c = refl
 
 pub returns-in-Err-clause-dropped : goal.returns-in-Err-clause-dropped
-returns-in-Err-clause-dropped g c = λ told. only_first c.args.bytes.now c.in-Err.fault told c.in-Err.ensures.nothing c.in-Err.ensures.refused
+returns-in-Err-clause-dropped g c = λ told. only_first c.args.bytes.now c.in-Err.fault told
+    c.in-Err.ensures.nothing c.in-Err.ensures.refused
 
 pub returns-in-Err-clause-unasked : goal.returns-in-Err-clause-unasked
 returns-in-Err-clause-unasked g c = λ told same. refl
@@ -45,19 +52,23 @@ pub returns-in-Err-clause-unchanged : goal.returns-in-Err-clause-unchanged
 returns-in-Err-clause-unchanged g c = λ h. refl
 
 pub unreachable-requires : goal.unreachable-requires
-unreachable-requires g c = absurd (false≢true (c.in-None.ensures.fits.1 c.in-Ok-respond.ensures.fits))
+unreachable-requires g c =
+    absurd (false≢true (c.in-None.ensures.fits.1 c.in-Ok-respond.ensures.fits))
 
 pub unreachable-unreachable : goal.unreachable-unreachable
-unreachable-unreachable g c = absurd (false≢true (c.in-None.ensures.fits.1 c.in-Ok-respond.ensures.fits))
+unreachable-unreachable g c =
+    absurd (false≢true (c.in-None.ensures.fits.1 c.in-Ok-respond.ensures.fits))
 
 pub returns-in-Some-clause-faults : goal.returns-in-Some-clause-faults
 returns-in-Some-clause-faults g c = c.in-Ok-respond.ensures.faults
 
 pub returns-in-Some-clause-dropped : goal.returns-in-Some-clause-dropped
-returns-in-Some-clause-dropped g c = λ told. not_dropped c.args.bytes.now c.in-Ok.request _ told c.in-Ok.ensures.found (reply_not_dropped c.encode_reply.result told)
+returns-in-Some-clause-dropped g c = λ told. not_dropped c.args.bytes.now c.in-Ok.request _ told
+    c.in-Ok.ensures.found (reply_not_dropped c.encode_reply.result told)
 
 pub returns-in-Some-clause-unasked : goal.returns-in-Some-clause-unasked
-returns-in-Some-clause-unasked g c = λ told same. absurd (reply_not_dropped c.encode_reply.result told same)
+returns-in-Some-clause-unasked g c =
+    λ told same. absurd (reply_not_dropped c.encode_reply.result told same)
 
 pub returns-in-Some-clause-was_honest : goal.returns-in-Some-clause-was_honest
 returns-in-Some-clause-was_honest g c = c.respond.ensures.was_honest
@@ -69,10 +80,12 @@ pub returns-in-Some-clause-unchanged : goal.returns-in-Some-clause-unchanged
 returns-in-Some-clause-unchanged g c = λ h. tt
 
 pub returns-in-Err-respond-clause-dropped : goal.returns-in-Err-respond-clause-dropped
-returns-in-Err-respond-clause-dropped g c = λ told. not_dropped c.args.bytes.now c.in-Ok.request _ told c.in-Ok.ensures.found (faulted_not_dropped c.in-Err-respond.fault told)
+returns-in-Err-respond-clause-dropped g c = λ told. not_dropped c.args.bytes.now c.in-Ok.request _
+    told c.in-Ok.ensures.found (faulted_not_dropped c.in-Err-respond.fault told)
 
 pub returns-in-Err-respond-clause-unasked : goal.returns-in-Err-respond-clause-unasked
-returns-in-Err-respond-clause-unasked g c = λ told same. absurd (faulted_not_dropped c.in-Err-respond.fault told same)
+returns-in-Err-respond-clause-unasked g c =
+    λ told same. absurd (faulted_not_dropped c.in-Err-respond.fault told same)
 
 pub returns-in-Err-respond-clause-was_honest : goal.returns-in-Err-respond-clause-was_honest
 returns-in-Err-respond-clause-was_honest g c = c.respond.ensures.was_honest

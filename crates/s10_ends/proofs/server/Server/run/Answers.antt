@@ -1,4 +1,5 @@
-use Rattle.std.proofs.Common.{◌≡◌, ◌∷◌, ◌++◌, [], ℕ, ◌+◌, List, sym, ap, ◌∙◌, refl, subst, take, take_all}
+use Rattle.std.proofs.Common.{◌≡◌, ◌∷◌, ◌++◌, [], ℕ, ◌+◌, List, sym, ap, ◌∙◌, refl, subst, take}
+use Rattle.std.proofs.Common.{take_all}
 use Rattle.std.proofs.lemmas.Result.{err_from_is_err_and}
 use Rattle.std.proofs.lemmas.List.{take_more}
 use Rattle.s10_ends.specs.declared.delivery.Delivery.{Delivery}
@@ -7,7 +8,8 @@ use Rattle.s10_ends.specs.Served.{Served}
 use Rattle.s10_ends.specs.Runs.{CountsAll}
 use Rattle.s10_ends.proofs.Filling.{room_for_next, room_kept, one_longer}
 use Rattle.s10_ends.proofs.Whole.{Served-nil}
-use Rattle.s10_ends.proofs.Runs.{CountsAll-nil, CountsAll-push, Served-map_push, KeepsPromises-legal}
+use Rattle.s10_ends.proofs.Runs.{CountsAll-nil, CountsAll-push, Served-map_push}
+use Rattle.s10_ends.proofs.Runs.{KeepsPromises-legal}
 use Rattle.s10_ends.proofs.Carried.{Served-issued}
 use Rattle.s10_ends.proofs.server.Server.run.Goals as goal
 
@@ -20,14 +22,16 @@ pub loop-delivery-init : goal.loop-delivery-init
 loop-delivery-init g c =
     let book = c.args.self.now.book in
     let P : List Answer → Type 0 = λ l. CountsAll l (g.B.Book.faults book) (g.B.Book.faults book) in
-    let Q : List Answer → Type 0 = λ l. Served (g.B.Book.history book) (g.B.Book.terms book) [] l (g.B.Book.history book) in
+    let Q : List Answer → Type 0 = λ l. Served (g.B.Book.history book) (g.B.Book.terms book) [] l
+    (g.B.Book.history book) in
     record {
       room = c.in_ok-answers.ensures.capacity;
       many = c.in_ok-answers.ensures.len;
       faults = subst P (sym c.in_ok-answers.ensures.items) (CountsAll-nil (g.B.Book.faults book));
       was_honest = λ h. h;
       same_terms = λ h. refl;
-      served = λ h. subst Q (sym c.in_ok-answers.ensures.items) (Served-nil (g.B.Book.history book) (g.B.Book.terms book));
+      served = λ h. subst Q (sym c.in_ok-answers.ensures.items) (Served-nil (g.B.Book.history book)
+          (g.B.Book.terms book));
     }
 
 pub loop-delivery-preserved : goal.loop-delivery-preserved
@@ -36,26 +40,41 @@ loop-delivery-preserved g c =
     record {
       room = room_kept _ _ _ before.room c.push_reserved.ensures.capacity;
       many = one_longer _ _ c.loop-delivery.delivery-index before.many c.push_reserved.ensures.len;
-      faults = rw c.push_reserved.ensures.items (CountsAll-push _ _ _ _ _ before.faults c.handle-answer.ensures.faults);
+      faults = rw c.push_reserved.ensures.items (CountsAll-push _ _ _ _ _ before.faults
+          c.handle-answer.ensures.faults);
       was_honest = λ h. before.was_honest (c.handle-answer.ensures.was_honest h);
-      same_terms = λ h. c.handle-answer.ensures.same_terms h ∙ before.same_terms (c.handle-answer.ensures.was_honest h);
+      same_terms = λ h. c.handle-answer.ensures.same_terms h
+          ∙ before.same_terms (c.handle-answer.ensures.was_honest h);
       served = λ h.
           let h0 = c.handle-answer.ensures.was_honest h in
           let one = c.handle-answer.ensures.served h in
-          let all : take (c.loop-delivery.delivery-index + 1) c.args.deliveries.now ≡ take c.loop-delivery.delivery-index c.args.deliveries.now ++ c.delivery-item.result ∷ [] =
-          take_more c.args.deliveries.now c.loop-delivery.delivery-index c.delivery-item.result c.loop-delivery-test.true ∙ ap (λ (d : Delivery). take c.loop-delivery.delivery-index c.args.deliveries.now ++ d ∷ []) (sym c.delivery-item.is) in
-          let P : List ℕ → Type 0 = λ b. Served (g.B.Book.history c.loop-delivery.self.book) (g.B.Book.terms c.loop-delivery.self.book) ((b, c.delivery-item.result.day) ∷ []) (c.handle-answer.result ∷ []) (g.B.Book.history c.handle-answer.new.self.book) in
+          let all : take (c.loop-delivery.delivery-index + 1) c.args.deliveries.now
+          ≡ take c.loop-delivery.delivery-index c.args.deliveries.now ++ c.delivery-item.result
+          ∷ [] =
+          take_more c.args.deliveries.now c.loop-delivery.delivery-index c.delivery-item.result
+          c.loop-delivery-test.true
+          ∙ ap (λ (d : Delivery). take c.loop-delivery.delivery-index c.args.deliveries.now ++ d
+          ∷ []) (sym c.delivery-item.is) in
+          let P : List ℕ → Type 0 = λ b. Served (g.B.Book.history c.loop-delivery.self.book)
+          (g.B.Book.terms c.loop-delivery.self.book) ((b, c.delivery-item.result.day) ∷ [])
+          (c.handle-answer.result ∷ []) (g.B.Book.history c.handle-answer.new.self.book) in
           rw (all, c.push_reserved.ensures.items)
-          (Served-map_push (g.B.Book.history c.args.self.now.book) (g.B.Book.history c.loop-delivery.self.book) (g.B.Book.history c.handle-answer.new.self.book) (g.B.Book.terms c.args.self.now.book) (g.B.Book.terms c.loop-delivery.self.book)
-          (take c.loop-delivery.delivery-index c.args.deliveries.now) c.loop-delivery.answers.items c.delivery-item.result c.handle-answer.result
+          (Served-map_push (g.B.Book.history c.args.self.now.book)
+          (g.B.Book.history c.loop-delivery.self.book)
+          (g.B.Book.history c.handle-answer.new.self.book) (g.B.Book.terms c.args.self.now.book)
+          (g.B.Book.terms c.loop-delivery.self.book)
+          (take c.loop-delivery.delivery-index c.args.deliveries.now) c.loop-delivery.answers.items
+          c.delivery-item.result c.handle-answer.result
           (before.served h0) (before.same_terms h0) (subst P c.bytes.ensures.bytes one));
     }
 
 pub push_reserved-requires : goal.push_reserved-requires
-push_reserved-requires g c = room_for_next _ _ c.loop-delivery.delivery-index _ c.loop-delivery.invariant.many c.loop-delivery-test.true c.loop-delivery.invariant.room
+push_reserved-requires g c = room_for_next _ _ c.loop-delivery.delivery-index _
+    c.loop-delivery.invariant.many c.loop-delivery-test.true c.loop-delivery.invariant.room
 
 pub returns-clause-served : goal.returns-clause-served
-returns-clause-served g c = λ h. rw (take_all c.loop-delivery.delivery-index c.args.deliveries.now c.loop-delivery-test.false) at (c.loop-delivery.invariant.served h)
+returns-clause-served g c = λ h. rw (take_all c.loop-delivery.delivery-index c.args.deliveries.now
+    c.loop-delivery-test.false) at (c.loop-delivery.invariant.served h)
 
 pub returns-clause-kept : goal.returns-clause-kept
 returns-clause-kept g c = λ h.
@@ -66,7 +85,8 @@ pub returns-clause-issued : goal.returns-clause-issued
 returns-clause-issued g c = λ h. Served-issued _ _ _ _ _ (c.loop-delivery.invariant.served h)
 
 pub returns-in_err-answers-clause-faults : goal.returns-in_err-answers-clause-faults
-returns-in_err-answers-clause-faults g c = rw (err_from_is_err_and c.from_residual.result c.from_residual.ensures.1).1 tt
+returns-in_err-answers-clause-faults g c =
+    rw (err_from_is_err_and c.from_residual.result c.from_residual.ensures.1).1 tt
 
 pub returns-in_err-answers-clause-was_honest : goal.returns-in_err-answers-clause-was_honest
 returns-in_err-answers-clause-was_honest g c = λ h. h
@@ -75,13 +95,16 @@ pub returns-in_err-answers-clause-same_terms : goal.returns-in_err-answers-claus
 returns-in_err-answers-clause-same_terms g c = λ h. refl
 
 pub returns-in_err-answers-clause-served : goal.returns-in_err-answers-clause-served
-returns-in_err-answers-clause-served g c = λ h. rw (err_from_is_err_and c.from_residual.result c.from_residual.ensures.1).1 tt
+returns-in_err-answers-clause-served g c =
+    λ h. rw (err_from_is_err_and c.from_residual.result c.from_residual.ensures.1).1 tt
 
 pub returns-in_err-answers-clause-issued : goal.returns-in_err-answers-clause-issued
-returns-in_err-answers-clause-issued g c = λ h. rw (err_from_is_err_and c.from_residual.result c.from_residual.ensures.1).1 tt
+returns-in_err-answers-clause-issued g c =
+    λ h. rw (err_from_is_err_and c.from_residual.result c.from_residual.ensures.1).1 tt
 
 pub returns-in_err-answers-clause-refused : goal.returns-in_err-answers-clause-refused
-returns-in_err-answers-clause-refused g c = rw (err_from_is_err_and c.from_residual.result c.from_residual.ensures.1).1 refl
+returns-in_err-answers-clause-refused g c =
+    rw (err_from_is_err_and c.from_residual.result c.from_residual.ensures.1).1 refl
 
 pub returns-clause-faults : goal.returns-clause-faults
 returns-clause-faults g c = c.loop-delivery.invariant.faults

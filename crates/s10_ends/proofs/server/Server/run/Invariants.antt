@@ -10,6 +10,9 @@ invariant-loop-delivery g l = record {
   many : vec_len l.answers ≡ l.delivery-index;
   faults : CountsAll l.answers.items (g.B.Book.faults l.fn.self.book) (g.B.Book.faults l.self.book);
   was_honest : g.B.Book.honest l.self.book → g.B.Book.honest l.fn.self.book;
-  same_terms : g.B.Book.honest l.self.book → g.B.Book.terms l.self.book ≡ g.B.Book.terms l.fn.self.book;
-  served : g.B.Book.honest l.self.book → Served (g.B.Book.history l.fn.self.book) (g.B.Book.terms l.fn.self.book) (map dated (take l.delivery-index l.deliveries)) l.answers.items (g.B.Book.history l.self.book);
+  same_terms : g.B.Book.honest l.self.book → g.B.Book.terms l.self.book
+      ≡ g.B.Book.terms l.fn.self.book;
+  served : g.B.Book.honest l.self.book → Served (g.B.Book.history l.fn.self.book)
+      (g.B.Book.terms l.fn.self.book) (map dated (take l.delivery-index l.deliveries))
+      l.answers.items (g.B.Book.history l.self.book);
 }

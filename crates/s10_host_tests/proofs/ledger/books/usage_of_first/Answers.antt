@@ -7,5 +7,6 @@ use Rattle.s10_host_tests.proofs.ledger.books.usage_of_first.Goals as goal
 
 pub usage-requires : goal.usage-requires
 usage-requires g c = λ h.
-    let e : c.in_ok-found.found ≡ find (λ (r : Range). r.num == 1) (ranges_of (g.B.Book.history c.args.book.now)) = c.in_ok-found.ensures.answer h in
+    let e : c.in_ok-found.found ≡ find (λ (r : Range). r.num == 1)
+    (ranges_of (g.B.Book.history c.args.book.now)) = c.in_ok-found.ensures.answer h in
     rw (c.range.ensures.keeps.same_history h) (Contains-find _ _ _ (sym e ∙ c.in-Some.is))

@@ -1,4 +1,5 @@
-use Rattle.std.proofs.Common.{◌∙◌, ◌<◌, ◌++◌, ◌∷◌, [], IsTrue, List, All, length, sym, subst, ap, arith}
+use Rattle.std.proofs.Common.{◌∙◌, ◌<◌, ◌++◌, ◌∷◌, [], IsTrue, List, All, length, sym, subst, ap}
+use Rattle.std.proofs.Common.{arith}
 use Rattle.std.proofs.lemmas.List.Elements.{All-push}
 use Rattle.s10_wire.specs.Kind.{fits}
 use Rattle.s10_history.specs.declared.entry.Entry.{Entry}
@@ -7,7 +8,11 @@ use Rattle.s10_index.proofs.call_index.CallIndex.follow.Goals as goal
 pub invariant_of-self : goal.invariant_of-self
 invariant_of-self c =
     let Fits = λ (e : Entry). IsTrue (fits e.request.body e.outcome) in
-    record { fitting = subst (λ (l : List Entry). All Fits l) (sym c.push_reserved.ensures) (All-push Fits c.args.self.now.entries.items c.args.entry c.args.self.now.fitting c.requires.fits) }
+    record {
+      fitting = subst (λ (l : List Entry). All Fits l) (sym c.push_reserved.ensures)
+          (All-push Fits c.args.self.now.entries.items c.args.entry c.args.self.now.fitting
+          c.requires.fits);
+    }
 
 pub returns-clause-followed : goal.returns-clause-followed
 returns-clause-followed c h t legal follows was =
@@ -15,6 +20,7 @@ returns-clause-followed c h t legal follows was =
     record {
       calls = c.push_reserved.ensures ∙ ap (λ (l : List Entry). l ++ c.args.entry ∷ []) was.calls;
       ranges = c.follow.ensures h t legal follows few was.ranges;
-      positions = c.record_position.ensures h was.positions (c.len-place.ensures ∙ ap length (c.calls.ensures ∙ was.calls)) follows.new_key;
+      positions = c.record_position.ensures h was.positions (c.len-place.ensures
+          ∙ ap length (c.calls.ensures ∙ was.calls)) follows.new_key;
       issues = c.record_call.ensures h t legal was.issues;
     }

@@ -6,14 +6,18 @@ pub returns-in_err-reserve-3-clause-same : goal.returns-in_err-reserve-3-clause-
 returns-in_err-reserve-3-clause-same c h was = record {
   calls = was.calls;
   ranges = c.reserve.ensures.same h was.ranges;
-  positions = places_still c.args.self.now.positions c.reserve-2.new.self h c.reserve-2.ensures.entries was.positions;
-  issues = issues_still c.args.self.now.issues c.reserve-3.new.self h c.reserve-3.ensures.entries was.issues;
+  positions = places_still c.args.self.now.positions c.reserve-2.new.self h
+      c.reserve-2.ensures.entries was.positions;
+  issues = issues_still c.args.self.now.issues c.reserve-3.new.self h c.reserve-3.ensures.entries
+      was.issues;
 }
 
 pub returns-clause-same : goal.returns-clause-same
 returns-clause-same c h was = record {
   calls = c.reserve-4.ensures.calls ∙ was.calls;
   ranges = c.reserve.ensures.same h was.ranges;
-  positions = places_still c.args.self.now.positions c.reserve-2.new.self h c.reserve-2.ensures.entries was.positions;
-  issues = issues_still c.args.self.now.issues c.reserve-3.new.self h c.reserve-3.ensures.entries was.issues;
+  positions = places_still c.args.self.now.positions c.reserve-2.new.self h
+      c.reserve-2.ensures.entries was.positions;
+  issues = issues_still c.args.self.now.issues c.reserve-3.new.self h c.reserve-3.ensures.entries
+      was.issues;
 }

@@ -14,10 +14,18 @@ expand-requires c =
     let inside = c.self.inside in
     let row = c.index.result.now in
     let within : c.args.place < length inside.rows.items =
-    omega (arith, c.requires, ap (λ (calls : CallList). length calls.items) c.self.view_is, length-map inside.rows.items (entry_of inside.sheets.items)) in
-    let named : NamesSheetOf (length inside.sheets.items) (get_or inside.rows.items c.args.place row).outcome = c.self.invariant.0 c.args.place row within in
-    subst (λ (r : CompactCall). NamesSheetOf (length c.deref.result.now) r.outcome) (sym c.index.ensures)
-    (subst (λ (sheets : List (List Id)). NamesSheetOf (length sheets) (get_or inside.rows.items c.args.place row).outcome) (sym c.deref.ensures.value) named)
+    omega (
+      arith,
+      c.requires,
+      ap (λ (calls : CallList). length calls.items) c.self.view_is,
+      length-map inside.rows.items (entry_of inside.sheets.items),
+    ) in
+    let named : NamesSheetOf (length inside.sheets.items) (get_or inside.rows.items c.args.place
+    row).outcome = c.self.invariant.0 c.args.place row within in
+    subst (λ (r : CompactCall). NamesSheetOf (length c.deref.result.now) r.outcome)
+    (sym c.index.ensures)
+    (subst (λ (sheets : List (List Id)). NamesSheetOf (length sheets)
+    (get_or inside.rows.items c.args.place row).outcome) (sym c.deref.ensures.value) named)
 
 pub returns : goal.returns
 returns c =
@@ -25,8 +33,15 @@ returns c =
     let row = c.index.result.now in
     let restored = entry_of inside.sheets.items in
     let within : c.args.place < length inside.rows.items =
-    omega (arith, c.requires, ap (λ (calls : CallList). length calls.items) c.self.view_is, length-map inside.rows.items restored) in
+    omega (
+      arith,
+      c.requires,
+      ap (λ (calls : CallList). length calls.items) c.self.view_is,
+      length-map inside.rows.items restored,
+    ) in
     ap (λ (calls : CallList). slice_get calls.items c.args.place) (sym c.self.view_is)
     ∙ slice_get-map restored inside.rows.items c.args.place
-    ∙ ap (option_map restored) (slice_get_read inside.rows.items (length inside.rows.items) c.args.place row refl within c.index.ensures)
-    ∙ ap Some (ap (λ (sheets : List (List Id)). entry_of sheets row) (sym c.deref.ensures.value) ∙ sym c.expand.ensures)
+    ∙ ap (option_map restored) (slice_get_read inside.rows.items (length inside.rows.items)
+    c.args.place row refl within c.index.ensures)
+    ∙ ap Some (ap (λ (sheets : List (List Id)). entry_of sheets row) (sym c.deref.ensures.value)
+    ∙ sym c.expand.ensures)

@@ -10,7 +10,8 @@ invariant_of-self c =
     let h = c.args.self.now.index.entries.items in
     let same = c.reserve.ensures.calls in
     record {
-      indexed = subst (Indexes c.reserve.new.self) (sym same) (c.reserve.ensures.same h c.args.self.now.indexed);
+      indexed = subst (Indexes c.reserve.new.self) (sym same)
+          (c.reserve.ensures.same h c.args.self.now.indexed);
       legal = rw same c.args.self.now.legal;
     }
 
@@ -18,11 +19,17 @@ pub invariant_of-self-2 : goal.invariant_of-self-2
 invariant_of-self-2 c =
     let h = c.args.self.now.index.entries.items in
     let t = c.args.self.now.settings in
-    let grown : c.follow.new.self.entries.items ≡ h ++ c.args.entry ∷ [] = c.follow.ensures.calls ∙ ap (λ (l : List Entry). l ++ c.args.entry ∷ []) c.reserve.ensures.calls in
+    let grown : c.follow.new.self.entries.items ≡ h ++ c.args.entry ∷ [] = c.follow.ensures.calls
+    ∙ ap (λ (l : List Entry). l ++ c.args.entry ∷ []) c.reserve.ensures.calls in
     record {
-      indexed = subst (Indexes c.follow.new.self) (sym grown) (c.follow.ensures.followed h t c.args.self.now.legal c.requires (c.reserve.ensures.same h c.args.self.now.indexed));
+      indexed = subst (Indexes c.follow.new.self) (sym grown)
+          (c.follow.ensures.followed h t c.args.self.now.legal c.requires
+          (c.reserve.ensures.same h c.args.self.now.indexed));
       legal = rw grown (IsLegal-push h t c.args.entry c.args.self.now.legal c.requires);
     }
 
 pub follow-requires-clause-fits : goal.follow-requires-clause-fits
-follow-requires-clause-fits c = rw c.requires.right (answer_fits c.args.self.now.index.entries.items c.args.entry.request.customer c.args.entry.request.body c.args.entry.day c.args.self.now.settings.interval)
+follow-requires-clause-fits c =
+    rw c.requires.right (answer_fits c.args.self.now.index.entries.items
+    c.args.entry.request.customer c.args.entry.request.body c.args.entry.day
+    c.args.self.now.settings.interval)

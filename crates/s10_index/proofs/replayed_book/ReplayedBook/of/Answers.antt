@@ -15,17 +15,21 @@ returns-in_err-settings-clause-err c = λ tables heads calls.
 
 pub returns-in_err-book-clause-err : goal.returns-in_err-book-clause-err
 returns-in_err-book-clause-err c = λ tables heads calls.
-    let p = err_from_is_err_and c.from_residual-in_err-book.result c.from_residual-in_err-book.ensures.1 in
+    let p = err_from_is_err_and c.from_residual-in_err-book.result
+    c.from_residual-in_err-book.ensures.1 in
     rw (p.1, p.2) (c.in_err-book.ensures.err tables (calls ∙ sym c.deref-2.ensures.value)
-    (subst (λ (l : List HeadRow). IsHead l (pos 1) c.in_ok-settings.settings) (c.deref.ensures.value ∙ sym heads) c.in_ok-settings.ensures.ok))
+    (subst (λ (l : List HeadRow). IsHead l (pos 1) c.in_ok-settings.settings) (c.deref.ensures.value
+    ∙ sym heads) c.in_ok-settings.ensures.ok))
 
 pub returns-clause-ok : goal.returns-clause-ok
 returns-clause-ok c =
     let here : c.deref-2.result.now ≡ c.args.calls.items = c.deref-2.ensures.value in
     let kept = c.in_ok-book.ensures.kept ∙ ap kept_of here in
     record {
-      head = subst (λ (l : List HeadRow). IsHead l (pos 1) c.in_ok-settings.settings) c.deref.ensures.value c.in_ok-settings.ensures.ok;
-      right = subst (λ (l : List StoredCall). AreRight c.in_ok-settings.settings l) here c.in_ok-book.ensures.right;
+      head = subst (λ (l : List HeadRow). IsHead l (pos 1) c.in_ok-settings.settings)
+          c.deref.ensures.value c.in_ok-settings.ensures.ok;
+      right = subst (λ (l : List StoredCall). AreRight c.in_ok-settings.settings l) here
+          c.in_ok-book.ensures.right;
       kept = kept;
       len = c.len.ensures.answer tt ∙ ap length kept ∙ length-map c.args.calls.items entry_of;
       day = c.day.ensures tt ∙ ap day_of kept;

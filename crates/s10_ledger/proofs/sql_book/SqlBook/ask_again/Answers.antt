@@ -10,18 +10,25 @@ use Rattle.s10_ledger.proofs.sql_book.SqlBook.ask_again.Goals as goal
 
 pub invariant_of-self : goal.invariant_of-self
 invariant_of-self g c =
-    sound_after_read g.S.Store c.self.inside.conn c.ask-asked.new.conn c.self.inside.settings c.self.inside.index c.self.inside.pending.items c.self.inside.answered c.is_ok-answered.result c.self.invariant
-    c.ask-asked.ensures.leaves (λ so clean. if_answered c.ask-asked.result _ c.is_ok-answered.result c.is_ok-answered.ensures.value (c.ask-asked.ensures.opened clean) so)
+    sound_after_read g.S.Store c.self.inside.conn c.ask-asked.new.conn c.self.inside.settings
+    c.self.inside.index c.self.inside.pending.items c.self.inside.answered
+    c.is_ok-answered.result c.self.invariant
+    c.ask-asked.ensures.leaves (λ so clean. if_answered c.ask-asked.result _ c.is_ok-answered.result
+    c.is_ok-answered.ensures.value (c.ask-asked.ensures.opened clean) so)
 
 pub returns-clause-unchanged : goal.returns-clause-unchanged
 returns-clause-unchanged g c =
-    let old : Ledger g.row.S.Denot = ledger_of c.self.inside.conn c.self.inside.settings c.self.inside.index c.self.inside.pending.items c.self.inside.faults in
-    rw (← c.self.view_is) (read_keeps g.S.Store old c.ask-asked.new.conn c.counted.new.faults c.ask-asked.ensures.leaves c.self.invariant.settled c.self.invariant.ledger)
+    let old : Ledger g.row.S.Denot = ledger_of c.self.inside.conn c.self.inside.settings
+    c.self.inside.index c.self.inside.pending.items c.self.inside.faults in
+    rw (← c.self.view_is) (read_keeps g.S.Store old c.ask-asked.new.conn c.counted.new.faults
+    c.ask-asked.ensures.leaves c.self.invariant.settled c.self.invariant.ledger)
 
 pub returns-clause-same : goal.returns-clause-same
 returns-clause-same g c =
     let kept = committed_among c.self.inside.pending.items c.self.inside.index.entries.items in
-    rw (← c.self.view_is) (λ honest. same_tables g.S.Store c.self.inside.conn c.ask-asked.new.conn c.self.inside.settings (length kept) (day_of kept) c.ask-asked.ensures.leaves c.self.invariant.settled c.self.invariant.ledger
+    rw (← c.self.view_is) (λ honest. same_tables g.S.Store c.self.inside.conn c.ask-asked.new.conn
+    c.self.inside.settings (length kept) (day_of kept) c.ask-asked.ensures.leaves
+    c.self.invariant.settled c.self.invariant.ledger
     honest.clean honest.is_open)
 
 pub returns-clause-spares : goal.returns-clause-spares
@@ -29,12 +36,16 @@ returns-clause-spares g c = rw (← c.self.view_is) (λ honest clean db left.
     let kept = committed_among c.self.inside.pending.items c.self.inside.index.entries.items in
     let conn = c.self.inside.conn in
     g.met.S.Store.settled conn.store db honest.is_open
-    (c.ask-asked.ensures.spares clean (schema_is (state g.S.Store conn).now c.self.inside.settings (length kept) (day_of kept) (c.self.invariant.ledger honest.clean honest.is_open)) db left)
-    ∙ ap (λ (d : Database). d.trees) (c.self.invariant.settled.committed honest.clean honest.is_open))
+    (c.ask-asked.ensures.spares clean (schema_is (state g.S.Store conn).now c.self.inside.settings
+    (length kept) (day_of kept) (c.self.invariant.ledger honest.clean honest.is_open)) db left)
+    ∙ ap (λ (d : Database). d.trees) (c.self.invariant.settled.committed honest.clean
+    honest.is_open))
 
 pub returns-then-self-clause-opened : goal.returns-then-self-clause-opened
 returns-then-self-clause-opened g c = search rules
 
 pub returns-then-self-clause-spares : goal.returns-then-self-clause-spares
 returns-then-self-clause-spares g c = rw (← c.self.view_is) (λ honest clean db left.
-    g.met.S.Store.settled c.self.inside.conn.store db honest.is_open left ∙ ap (λ (d : Database). d.trees) (c.self.invariant.settled.committed honest.clean honest.is_open))
+    g.met.S.Store.settled c.self.inside.conn.store db honest.is_open left
+    ∙ ap (λ (d : Database). d.trees) (c.self.invariant.settled.committed honest.clean
+    honest.is_open))

@@ -12,8 +12,10 @@ pub returns-clause-committed : goal.returns-clause-committed
 returns-clause-committed g c = λ clean opened. c.self.invariant.settled.committed clean opened
 
 pub returns-clause-ledger : goal.returns-clause-ledger
-returns-clause-ledger g c = rw (← c.self.view_is) (λ clean opened. c.self.invariant.ledger clean opened)
+returns-clause-ledger g c =
+    rw (← c.self.view_is) (λ clean opened. c.self.invariant.ledger clean opened)
 
 pub returns-clause-honest : goal.returns-clause-honest
 returns-clause-honest g c = rw (← c.self.view_is) (λ clean opened.
-    sound_is_honest g.S.Store c.self.inside.conn c.self.inside.settings c.self.inside.index c.self.inside.pending.items c.self.inside.answered _ c.self.invariant clean opened)
+    sound_is_honest g.S.Store c.self.inside.conn c.self.inside.settings c.self.inside.index
+    c.self.inside.pending.items c.self.inside.answered _ c.self.invariant clean opened)

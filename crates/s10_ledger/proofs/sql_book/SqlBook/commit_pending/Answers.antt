@@ -2,39 +2,59 @@ use Rattle.std.proofs.Common.{◌∙◌, ap, arith, refl}
 use Rattle.sqlite.specs.Effect.{Database}
 use Rattle.sqlite.specs.Held.{state}
 use Rattle.s10_ledger.proofs.BookLemmas.{if_answered}
-use Rattle.s10_ledger.proofs.PendingLemmas.{sound_after_write, same_after_write, sound_is_honest, calls_if_emptied, unwritten_history, written_in}
+use Rattle.s10_ledger.proofs.PendingLemmas.{sound_after_write, same_after_write, sound_is_honest}
+use Rattle.s10_ledger.proofs.PendingLemmas.{calls_if_emptied, unwritten_history, written_in}
 use Rattle.s10_statements.proofs.CrashLemmas.{either}
 use Rattle.s10_ledger.proofs.sql_book.SqlBook.commit_pending.Goals as goal
 
 pub invariant_of-self : goal.invariant_of-self
 invariant_of-self g c =
     let w = c.commit_calls-written.ensures in
-    sound_after_write g.S.Store c.self.inside.conn c.commit_calls-written.new.conn c.self.inside.settings c.self.inside.index c.self.inside.pending.items c.commit_calls-written.new.pending.items c.self.inside.answered c.is_ok-answered.result
-    c.self.invariant w.settled w.clean w.was_open (λ so clean. if_answered c.commit_calls-written.result _ c.is_ok-answered.result c.is_ok-answered.ensures.value (w.opened clean) so)
+    sound_after_write g.S.Store c.self.inside.conn c.commit_calls-written.new.conn
+    c.self.inside.settings c.self.inside.index c.self.inside.pending.items
+    c.commit_calls-written.new.pending.items c.self.inside.answered c.is_ok-answered.result
+    c.self.invariant w.settled w.clean w.was_open
+    (λ so clean. if_answered c.commit_calls-written.result _ c.is_ok-answered.result
+    c.is_ok-answered.ensures.value (w.opened clean) so)
     c.commit_calls-written.result w.ok w.err w.emptied w.left
 
 pub returns-clause-unchanged : goal.returns-clause-unchanged
 returns-clause-unchanged g c =
     let w = c.commit_calls-written.ensures in
     rw (← c.self.view_is) (record {
-      was_honest = λ h. sound_is_honest g.S.Store c.self.inside.conn c.self.inside.settings c.self.inside.index c.self.inside.pending.items c.self.inside.answered c.self.inside.faults c.self.invariant
+      was_honest = λ h. sound_is_honest g.S.Store c.self.inside.conn c.self.inside.settings
+          c.self.inside.index c.self.inside.pending.items c.self.inside.answered
+          c.self.inside.faults c.self.invariant
           (omega (arith, w.clean, h.clean)) (w.was_open h.clean h.is_open);
-      same_history = λ h. same_after_write g.S.Store c.self.inside.conn c.commit_calls-written.new.conn c.self.inside.settings c.self.inside.index c.self.inside.pending.items c.commit_calls-written.new.pending.items c.self.inside.answered c.is_ok-answered.result
-          c.self.invariant w.settled w.clean w.was_open (λ so clean. if_answered c.commit_calls-written.result _ c.is_ok-answered.result c.is_ok-answered.ensures.value (w.opened clean) so)
+      same_history = λ h. same_after_write g.S.Store c.self.inside.conn
+          c.commit_calls-written.new.conn c.self.inside.settings c.self.inside.index
+          c.self.inside.pending.items c.commit_calls-written.new.pending.items
+          c.self.inside.answered c.is_ok-answered.result
+          c.self.invariant w.settled w.clean w.was_open
+          (λ so clean. if_answered c.commit_calls-written.result _ c.is_ok-answered.result
+          c.is_ok-answered.ensures.value (w.opened clean) so)
           c.commit_calls-written.result w.ok w.err w.emptied w.left h.clean h.is_open;
       same_terms = λ h. refl;
     })
 
 pub returns-clause-left : goal.returns-clause-left
 returns-clause-left g c = rw (c.counted.ensures.same, ← c.self.view_is)
-    (λ h. unwritten_history (state g.S.Store c.self.inside.conn).now (state g.S.Store c.commit_calls-written.new.conn).now c.commit_calls-written.result (c.commit_calls-written.ensures.err h.clean h.is_open))
+    (λ h. unwritten_history (state g.S.Store c.self.inside.conn).now
+    (state g.S.Store c.commit_calls-written.new.conn).now c.commit_calls-written.result
+    (c.commit_calls-written.ensures.err h.clean h.is_open))
 
 pub returns-clause-none_pending : goal.returns-clause-none_pending
-returns-clause-none_pending g c = rw c.counted.ensures.same (calls_if_emptied c.commit_calls-written.result c.commit_calls-written.new.pending.items c.commit_calls-written.ensures.emptied)
+returns-clause-none_pending g c =
+    rw c.counted.ensures.same (calls_if_emptied c.commit_calls-written.result
+    c.commit_calls-written.new.pending.items c.commit_calls-written.ensures.emptied)
 
 pub returns-clause-crash : goal.returns-clause-crash
 returns-clause-crash g c = rw (← c.self.view_is) (λ honest clean db left.
     let conn = c.self.inside.conn in
     either (c.commit_calls-written.ensures.crash clean db left)
-    (λ left. g.met.S.Store.settled conn.store db honest.is_open left ∙ ap (λ (d : Database). d.trees) (c.self.invariant.settled.committed honest.clean honest.is_open))
-    (λ made. written_in g.S.Store conn c.self.inside.settings c.self.inside.index c.self.inside.pending.items c.self.inside.answered c.self.inside.faults db c.self.invariant honest.clean honest.is_open made))
+    (λ left. g.met.S.Store.settled conn.store db honest.is_open left
+    ∙ ap (λ (d : Database). d.trees) (c.self.invariant.settled.committed honest.clean
+    honest.is_open))
+    (λ made. written_in g.S.Store conn c.self.inside.settings c.self.inside.index
+    c.self.inside.pending.items c.self.inside.answered c.self.inside.faults db c.self.invariant
+    honest.clean honest.is_open made))

@@ -13,7 +13,8 @@ use Rattle.s10_ledger.specs.Ledger.{IsLedger, history_in}
 use Rattle.s10_ledger.proofs.NewLedger.{no_history, new_ledger}
 use Rattle.s10_ledger.proofs.sql_book.SqlBook.create.Goals as goal
 
-not_made : (s : Schema) (f : OpenFault) → ¬ HasOneOfTheNames s → (f ≡ Memory) ⊎ (f ≡ Store) → IsCreateRefusal s f
+not_made : (s : Schema) (f : OpenFault) → ¬ HasOneOfTheNames s → (f ≡ Memory) ⊎ (f ≡ Store)
+    → IsCreateRefusal s f
 not_made s f fresh (inl is) = subst (λ (x : OpenFault). IsCreateRefusal s x) (sym is) tt
 not_made s f fresh (inr is) = subst (λ (x : OpenFault). IsCreateRefusal s x) (sym is) fresh
 
@@ -23,24 +24,40 @@ over-requires g c =
     record {
       few = omega (arith, ap length c.new-index.ensures.calls);
       settled = c.in_default-create_tables.ensures.settled;
-      ledger = λ clean opened. subst (λ (l : List Entry). IsLedger db c.args.settings (length l) (day_of l)) (sym c.new-index.ensures.calls)
-          (new_ledger db c.args.settings (c.in_default-create_tables.ensures.all clean (c.refusal_of.ensures.none c.in_default.is)));
-      indexed = λ clean opened. subst (Indexes c.new-index.result) (sym (no_history db c.args.settings (c.in_default-create_tables.ensures.all clean (c.refusal_of.ensures.none c.in_default.is)))) c.new-index.ensures;
+      ledger = λ clean opened. subst (λ (l : List Entry). IsLedger db c.args.settings (length l)
+          (day_of l)) (sym c.new-index.ensures.calls)
+          (new_ledger db c.args.settings (c.in_default-create_tables.ensures.all clean
+          (c.refusal_of.ensures.none c.in_default.is)));
+      indexed = λ clean opened. subst (Indexes c.new-index.result)
+          (sym (no_history db c.args.settings (c.in_default-create_tables.ensures.all clean
+          (c.refusal_of.ensures.none c.in_default.is)))) c.new-index.ensures;
       opened = λ clean. c.in_default-create_tables.ensures.opened clean;
     }
 
 pub returns-clause-empty : goal.returns-clause-empty
-returns-clause-empty g c = rw c.over.ensures (λ honest. no_history (state g.S.Store c.create_tables.new.conn).now c.args.settings (c.in_default-create_tables.ensures.all honest.clean (c.refusal_of.ensures.none c.in_default.is)))
+returns-clause-empty g c =
+    rw c.over.ensures (λ honest. no_history (state g.S.Store c.create_tables.new.conn).now
+    c.args.settings (c.in_default-create_tables.ensures.all honest.clean
+    (c.refusal_of.ensures.none c.in_default.is)))
 
 pub returns-clause-honest : goal.returns-clause-honest
 returns-clause-honest g c = rw c.over.ensures (λ clean opened.
     let db = (state g.S.Store c.create_tables.new.conn).now in
-    let it = subst (λ (l : List Entry). IsLedger db c.args.settings (length l) (day_of l)) (sym c.new-index.ensures.calls)
-    (new_ledger db c.args.settings (c.in_default-create_tables.ensures.all clean (c.refusal_of.ensures.none c.in_default.is))) in
-    record { clean = clean; is_open = opened; ledger = it; legal = subst (λ (h : List Entry). IsLegal h c.args.settings) (sym (append-nil (history_in db))) it.legal })
+    let it = subst (λ (l : List Entry). IsLedger db c.args.settings (length l) (day_of l))
+    (sym c.new-index.ensures.calls)
+    (new_ledger db c.args.settings (c.in_default-create_tables.ensures.all clean
+    (c.refusal_of.ensures.none c.in_default.is))) in
+    record {
+      clean = clean;
+      is_open = opened;
+      ledger = it;
+      legal = subst (λ (h : List Entry). IsLegal h c.args.settings)
+          (sym (append-nil (history_in db))) it.legal;
+    })
 
 pub returns-clause-alone : goal.returns-clause-alone
-returns-clause-alone g c = rw c.over.ensures (λ honest. c.in_default-create_tables.ensures.alone honest.clean (c.refusal_of.ensures.none c.in_default.is))
+returns-clause-alone g c = rw c.over.ensures (λ honest. c.in_default-create_tables.ensures.alone
+    honest.clean (c.refusal_of.ensures.none c.in_default.is))
 
 pub returns-in-Err-clause-left_idle : goal.returns-in-Err-clause-left_idle
 returns-in-Err-clause-left_idle g c = c.create_tables.ensures.settled.idle
@@ -58,13 +75,16 @@ pub returns-clause-idle : goal.returns-clause-idle
 returns-clause-idle g c = rw c.over.ensures c.create_tables.ensures.settled.idle
 
 pub returns-clause-opened : goal.returns-clause-opened
-returns-clause-opened g c = rw c.over.ensures (λ clean. c.in_default-create_tables.ensures.opened clean)
+returns-clause-opened g c =
+    rw c.over.ensures (λ clean. c.in_default-create_tables.ensures.opened clean)
 
 pub returns-clause-was : goal.returns-clause-was
 returns-clause-was g c = rw c.over.ensures c.create_tables.ensures.was
 
 pub returns-clause-committed : goal.returns-clause-committed
-returns-clause-committed g c = rw c.over.ensures (λ honest. c.create_tables.ensures.settled.committed honest.clean honest.is_open)
+returns-clause-committed g c =
+    rw c.over.ensures (λ honest. c.create_tables.ensures.settled.committed honest.clean
+    honest.is_open)
 
 pub returns-in-Some-clause-new : goal.returns-in-Some-clause-new
 returns-in-Some-clause-new g c = tt
@@ -157,4 +177,6 @@ pub returns-clause-kept : goal.returns-clause-kept
 returns-clause-kept g c = tt
 
 pub returns-in-Err-clause-refused : goal.returns-in-Err-clause-refused
-returns-in-Err-clause-refused g c = not_made (state g.S.Store c.args.conn).now.schema c.opening_fault-fault.result (c.refusal_of.ensures.fresh c.in_default.is) c.opening_fault-fault.ensures.fault
+returns-in-Err-clause-refused g c = not_made (state g.S.Store c.args.conn).now.schema
+    c.opening_fault-fault.result (c.refusal_of.ensures.fresh c.in_default.is)
+    c.opening_fault-fault.ensures.fault

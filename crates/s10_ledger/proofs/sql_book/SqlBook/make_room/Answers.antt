@@ -5,13 +5,16 @@ use Rattle.s10_ledger.proofs.sql_book.SqlBook.make_room.Goals as goal
 pub returns-clause-room : goal.returns-clause-room
 returns-clause-room c = grind (arith, common_steps)
 
-pub returns-then-len-ge-MAX_PENDING-clause-faults : goal.returns-then-len-ge-MAX_PENDING-clause-faults
+pub returns-then-len-ge-MAX_PENDING-clause-faults :
+    goal.returns-then-len-ge-MAX_PENDING-clause-faults
 returns-then-len-ge-MAX_PENDING-clause-faults g c = c.commit.ensures.faults
 
-pub returns-then-len-ge-MAX_PENDING-clause-unchanged : goal.returns-then-len-ge-MAX_PENDING-clause-unchanged
+pub returns-then-len-ge-MAX_PENDING-clause-unchanged :
+    goal.returns-then-len-ge-MAX_PENDING-clause-unchanged
 returns-then-len-ge-MAX_PENDING-clause-unchanged g c = c.commit.ensures.unchanged
 
-pub returns-then-len-ge-MAX_PENDING-clause-opened : goal.returns-then-len-ge-MAX_PENDING-clause-opened
+pub returns-then-len-ge-MAX_PENDING-clause-opened :
+    goal.returns-then-len-ge-MAX_PENDING-clause-opened
 returns-then-len-ge-MAX_PENDING-clause-opened g c = c.commit.ensures.opened
 
 pub returns-then-len-ge-MAX_PENDING-clause-crash : goal.returns-then-len-ge-MAX_PENDING-clause-crash

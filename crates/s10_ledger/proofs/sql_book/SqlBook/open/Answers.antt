@@ -9,24 +9,41 @@ use Rattle.s10_ledger.proofs.RefusalLemmas.{ledger_opens}
 use Rattle.s10_ledger.proofs.sql_book.SqlBook.open.Goals as goal
 
 pub returns-in-Err-clause-whole : goal.returns-in-Err-clause-whole
-returns-in-Err-clause-whole g c clean opened t len day limits it = ledger_opens (state g.S.Store c.args.conn).now t len day limits it c.in-Err.fault (c.in-Err.ensures.refused clean opened)
+returns-in-Err-clause-whole g c clean opened t len day limits it =
+    ledger_opens (state g.S.Store c.args.conn).now t len day limits it c.in-Err.fault
+    (c.in-Err.ensures.refused clean opened)
 
 pub ledger_in-requires : goal.ledger_in-requires
-ledger_in-requires g c = record { settled = record { idle = c.requires.idle; committed = λ clean opened. sym (c.is_autocommit.ensures.settled (search rules) opened) } }
+ledger_in-requires g c =
+    record {
+      settled = record {
+        idle = c.requires.idle;
+        committed = λ clean opened. sym (c.is_autocommit.ensures.settled (search rules) opened);
+      };
+    }
 
 pub returns-in-Ok-clause-completed : goal.returns-in-Ok-clause-completed
-returns-in-Ok-clause-completed g c honest = closed_is (state g.S.Store c.over.result.conn).now c.over.result.terms c.over.result.len c.over.result.day honest.ledger
+returns-in-Ok-clause-completed g c honest = closed_is (state g.S.Store c.over.result.conn).now
+    c.over.result.terms c.over.result.len c.over.result.day honest.ledger
 
 pub returns-in-Ok-clause-honest : goal.returns-in-Ok-clause-honest
 returns-in-Ok-clause-honest g c = rw c.over.ensures (λ clean opened.
     let it = c.in-Ok.ensures.ledger clean opened in
-    record { clean = clean; is_open = opened; ledger = it; legal = subst (λ (h : List Entry). IsLegal h c.in-Ok.opened.settings) (sym (append-nil (history_in (state g.S.Store c.ledger_in.new.conn).now))) it.legal })
+    record {
+      clean = clean;
+      is_open = opened;
+      ledger = it;
+      legal = subst (λ (h : List Entry). IsLegal h c.in-Ok.opened.settings)
+          (sym (append-nil (history_in (state g.S.Store c.ledger_in.new.conn).now))) it.legal;
+    })
 
 pub returns-in-Ok-clause-found : goal.returns-in-Ok-clause-found
-returns-in-Ok-clause-found g c = rw c.over.ensures (λ honest. c.in-Ok.ensures.found honest.clean honest.is_open)
+returns-in-Ok-clause-found g c =
+    rw c.over.ensures (λ honest. c.in-Ok.ensures.found honest.clean honest.is_open)
 
 pub returns-in-Ok-clause-same : goal.returns-in-Ok-clause-same
-returns-in-Ok-clause-same g c = rw c.over.ensures (λ honest closed. c.in-Ok.ensures.same honest.clean honest.is_open closed)
+returns-in-Ok-clause-same g c =
+    rw c.over.ensures (λ honest closed. c.in-Ok.ensures.same honest.clean honest.is_open closed)
 
 pub over-requires : goal.over-requires
 over-requires g c = record {
@@ -50,10 +67,12 @@ pub returns-in-Ok-clause-was : goal.returns-in-Ok-clause-was
 returns-in-Ok-clause-was g c = rw c.over.ensures c.ledger_in.ensures.was
 
 pub returns-in-Ok-clause-history : goal.returns-in-Ok-clause-history
-returns-in-Ok-clause-history g c = rw c.over.ensures (λ honest. c.in-Ok.ensures.history honest.clean honest.is_open)
+returns-in-Ok-clause-history g c =
+    rw c.over.ensures (λ honest. c.in-Ok.ensures.history honest.clean honest.is_open)
 
 pub returns-in-Ok-clause-committed : goal.returns-in-Ok-clause-committed
-returns-in-Ok-clause-committed g c = rw c.over.ensures (λ honest. c.ledger_in.ensures.settled.committed honest.clean honest.is_open)
+returns-in-Ok-clause-committed g c =
+    rw c.over.ensures (λ honest. c.ledger_in.ensures.settled.committed honest.clean honest.is_open)
 
 pub returns-in-Ok-clause-none_pending : goal.returns-in-Ok-clause-none_pending
 returns-in-Ok-clause-none_pending g c = rw c.over.ensures refl

@@ -15,27 +15,48 @@ use Rattle.s10_ledger.proofs.sql_book.SqlBook.usage_committed.Goals as goal
 
 pub invariant_of-self : goal.invariant_of-self
 invariant_of-self g c =
-    sound_after_read g.S.Store c.self.inside.conn c.usage_in-found.new.conn c.self.inside.settings c.self.inside.index c.self.inside.pending.items c.self.inside.answered c.is_ok-answered.result c.self.invariant
-    c.usage_in-found.ensures.leaves (λ so clean. if_answered c.usage_in-found.result _ c.is_ok-answered.result c.is_ok-answered.ensures.value (c.usage_in-found.ensures.opened clean) so)
+    sound_after_read g.S.Store c.self.inside.conn c.usage_in-found.new.conn c.self.inside.settings
+    c.self.inside.index c.self.inside.pending.items c.self.inside.answered
+    c.is_ok-answered.result c.self.invariant
+    c.usage_in-found.ensures.leaves (λ so clean. if_answered c.usage_in-found.result _
+    c.is_ok-answered.result c.is_ok-answered.ensures.value
+    (c.usage_in-found.ensures.opened clean) so)
 
 pub returns-clause-unchanged : goal.returns-clause-unchanged
 returns-clause-unchanged g c =
-    let old : Ledger g.row.S.Denot = ledger_of c.self.inside.conn c.self.inside.settings c.self.inside.index c.self.inside.pending.items c.self.inside.faults in
-    rw (← c.self.view_is) (read_keeps g.S.Store old c.usage_in-found.new.conn c.counted.new.faults c.usage_in-found.ensures.leaves c.self.invariant.settled c.self.invariant.ledger)
+    let old : Ledger g.row.S.Denot = ledger_of c.self.inside.conn c.self.inside.settings
+    c.self.inside.index c.self.inside.pending.items c.self.inside.faults in
+    rw (← c.self.view_is) (read_keeps g.S.Store old c.usage_in-found.new.conn c.counted.new.faults
+    c.usage_in-found.ensures.leaves c.self.invariant.settled c.self.invariant.ledger)
 
 pub returns-clause-answer : goal.returns-clause-answer
 returns-clause-answer g c honest =
-    let old : Ledger g.row.S.Denot = ledger_of c.self.inside.conn c.self.inside.settings c.self.inside.index c.self.inside.pending.items c.self.inside.faults in
+    let old : Ledger g.row.S.Denot = ledger_of c.self.inside.conn c.self.inside.settings
+    c.self.inside.index c.self.inside.pending.items c.self.inside.faults in
     let kept = committed_among c.self.inside.pending.items c.self.inside.index.entries.items in
     let now = (state g.S.Store c.self.inside.conn).now in
     let found = c.usage_in-found.ensures in
-    let was = was_ledger g.S.Store c.self.inside.conn c.usage_in-found.new.conn c.self.inside.settings (length kept) (day_of kept) found.leaves c.self.invariant.settled c.self.invariant.ledger honest.clean honest.is_open in
-    let followed = c.self.invariant.followed (omega (arith, found.leaves.clean, honest.clean)) (found.leaves.was_open honest.clean honest.is_open) in
-    let none : history_in now ++ calls_of c.self.inside.pending.items ≡ history_in now = ap (λ (p : List Entry). history_in now ++ p) (rw (← c.self.view_is) at c.requires.none_pending) ∙ append-nil (history_in now) in
-    let has = (rw (← c.self.view_is) at c.requires.there) ((read_keeps g.S.Store old c.usage_in-found.new.conn c.counted.new.faults found.leaves c.self.invariant.settled c.self.invariant.ledger).was_honest honest) in
-    let calls : c.self.inside.index.entries.items ≡ history_in now = followed.indexed.calls ∙ none in
+    let was = was_ledger g.S.Store c.self.inside.conn c.usage_in-found.new.conn
+    c.self.inside.settings (length kept) (day_of kept) found.leaves c.self.invariant.settled
+    c.self.invariant.ledger honest.clean honest.is_open in
+    let followed = c.self.invariant.followed (omega (arith, found.leaves.clean, honest.clean))
+    (found.leaves.was_open honest.clean honest.is_open) in
+    let none : history_in now ++ calls_of c.self.inside.pending.items ≡ history_in now =
+    ap (λ (p : List Entry). history_in now ++ p)
+    (rw (← c.self.view_is) at c.requires.none_pending) ∙ append-nil (history_in now) in
+    let has = (rw (← c.self.view_is) at c.requires.there)
+    ((read_keeps g.S.Store old c.usage_in-found.new.conn c.counted.new.faults found.leaves
+    c.self.invariant.settled c.self.invariant.ledger).was_honest honest) in
+    let calls : c.self.inside.index.entries.items ≡ history_in now = followed.indexed.calls
+    ∙ none in
     rw (c.counted.ensures.same, ← c.self.view_is)
-    (subst (λ (h : List Entry). IfOk c.usage_in-found.result (λ u. u ≡ usage_of h c.args.range.now c.args.day c.self.inside.settings.interval)) (sym none)
-    (answered (Coded-set the_row.coded) c.usage_in-found.result (usage_of (history_in now) c.args.range.now c.args.day c.self.inside.settings.interval) was.held
-    (λ h. rw c.interval-interval.ensures.value at (found.answer honest.clean (history_in now) c.self.inside.settings was.legal h.calls h.tables (omega (arith, ap length calls, c.self.invariant.few))
-    (subst (λ (l : List Entry). Contains (ranges_of l) c.args.range.now) none has) c.args.day (c.max-day.ensures ∙ ap (λ d. max d c.args.day) (c.day.ensures ∙ ap day_of calls))))))
+    (subst (λ (h : List Entry). IfOk c.usage_in-found.result (λ u. u ≡ usage_of h c.args.range.now
+    c.args.day c.self.inside.settings.interval)) (sym none)
+    (answered (Coded-set the_row.coded) c.usage_in-found.result
+    (usage_of (history_in now) c.args.range.now c.args.day c.self.inside.settings.interval)
+    was.held
+    (λ h. rw c.interval-interval.ensures.value at (found.answer honest.clean (history_in now)
+    c.self.inside.settings was.legal h.calls h.tables
+    (omega (arith, ap length calls, c.self.invariant.few))
+    (subst (λ (l : List Entry). Contains (ranges_of l) c.args.range.now) none has) c.args.day
+    (c.max-day.ensures ∙ ap (λ d. max d c.args.day) (c.day.ensures ∙ ap day_of calls))))))

@@ -9,6 +9,9 @@ pub returns-clause-answer : goal.returns-clause-answer
 returns-clause-answer g c =
     let kept = rw (← c.self.view_is) at c.ask_again.ensures.unchanged in
     rw (← c.self.view_is) (λ honest.
-    let has = subst (λ (h : List Entry). Contains (ranges_of h) c.args.range.now) (sym (kept.same_history honest)) (c.requires.there (kept.was_honest honest)) in
-    c.candidate_after.ensures _ _ honest.legal (c.self.invariant.followed honest.clean honest.is_open).indexed has c.requires.fewer
-    ∙ ap (λ (h : List Entry). candidate_after_of h c.args.range.now c.args.issued) (kept.same_history honest))
+    let has = subst (λ (h : List Entry). Contains (ranges_of h) c.args.range.now)
+    (sym (kept.same_history honest)) (c.requires.there (kept.was_honest honest)) in
+    c.candidate_after.ensures _ _ honest.legal (c.self.invariant.followed honest.clean
+    honest.is_open).indexed has c.requires.fewer
+    ∙ ap (λ (h : List Entry). candidate_after_of h c.args.range.now c.args.issued)
+    (kept.same_history honest))

@@ -11,5 +11,9 @@ use Rattle.s10_ledger.proofs.sql_book.SqlBookBook.closed.Goals as goal
 pub returns-clause-answer : goal.returns-clause-answer
 returns-clause-answer g c =
     let kept = rw (← c.self.view_is) at c.ask_again.ensures.unchanged in
-    rw (← c.self.view_is) (λ honest. c.is_closed.ensures _ (subst (λ (r : Ranges). Mirrors r (history_in (state g.S.Store c.self.inside.conn).now ++ calls_of c.self.inside.pending.items)) (sym c.ranges-2.ensures) (c.self.invariant.followed honest.clean honest.is_open).indexed.ranges)
+    rw (← c.self.view_is)
+    (λ honest. c.is_closed.ensures _
+    (subst (λ (r : Ranges). Mirrors r (history_in (state g.S.Store c.self.inside.conn).now
+    ++ calls_of c.self.inside.pending.items)) (sym c.ranges-2.ensures)
+    (c.self.invariant.followed honest.clean honest.is_open).indexed.ranges)
     ∙ ap (λ (h : List Entry). is_closed h c.args.num) (kept.same_history honest))

@@ -8,5 +8,10 @@ use Rattle.s10_ledger.proofs.sql_book.SqlBookBook.covering.Goals as goal
 pub returns-clause-answer : goal.returns-clause-answer
 returns-clause-answer g c =
     let kept = rw (← c.self.view_is) at c.ask_again.ensures.unchanged in
-    rw (← c.self.view_is) (λ honest. c.covering_range-found.ensures ∙ ap (find (overlaps c.args.block.now.service c.args.block.now.country c.args.block.now.first c.args.block.now.last)) (ap (λ (r : Ranges). r.ranges.items) c.ranges-2.ensures ∙ (c.self.invariant.followed honest.clean honest.is_open).indexed.ranges.ranges)
-    ∙ ap (λ (h : List Entry). find (overlaps c.args.block.now.service c.args.block.now.country c.args.block.now.first c.args.block.now.last) (ranges_of h)) (kept.same_history honest))
+    rw (← c.self.view_is) (λ honest. c.covering_range-found.ensures
+    ∙ ap (find (overlaps c.args.block.now.service c.args.block.now.country
+    c.args.block.now.first c.args.block.now.last)) (ap (λ (r : Ranges). r.ranges.items)
+    c.ranges-2.ensures
+    ∙ (c.self.invariant.followed honest.clean honest.is_open).indexed.ranges.ranges)
+    ∙ ap (λ (h : List Entry). find (overlaps c.args.block.now.service c.args.block.now.country
+    c.args.block.now.first c.args.block.now.last) (ranges_of h)) (kept.same_history honest))

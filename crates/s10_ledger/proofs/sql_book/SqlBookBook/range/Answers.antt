@@ -8,5 +8,9 @@ use Rattle.s10_ledger.proofs.sql_book.SqlBookBook.range.Goals as goal
 pub returns-clause-answer : goal.returns-clause-answer
 returns-clause-answer g c =
     let kept = rw (← c.self.view_is) at c.ask_again.ensures.unchanged in
-    rw (← c.self.view_is) (λ honest. c.range_by_number.ensures ∙ ap (find (λ r. r.num == c.args.num)) (ap (λ (r : Ranges). r.ranges.items) c.ranges-2.ensures ∙ (c.self.invariant.followed honest.clean honest.is_open).indexed.ranges.ranges)
-    ∙ ap (λ (h : List Entry). find (λ r. r.num == c.args.num) (ranges_of h)) (kept.same_history honest))
+    rw (← c.self.view_is) (λ honest. c.range_by_number.ensures
+    ∙ ap (find (λ r. r.num == c.args.num)) (ap (λ (r : Ranges). r.ranges.items)
+    c.ranges-2.ensures
+    ∙ (c.self.invariant.followed honest.clean honest.is_open).indexed.ranges.ranges)
+    ∙ ap (λ (h : List Entry). find (λ r. r.num == c.args.num) (ranges_of h))
+    (kept.same_history honest))

@@ -11,7 +11,8 @@ usage_committed-requires-clause-none_pending c = search rules
 pub usage_committed-requires-clause-there : goal.usage_committed-requires-clause-there
 usage_committed-requires-clause-there g c = λ honest.
     let unchanged = c.in_default.ensures.unchanged in
-    subst (λ (h : List Entry). Contains (ranges_of h) c.args.range.now) (sym (unchanged.same_history honest)) (c.requires (unchanged.was_honest honest))
+    subst (λ (h : List Entry). Contains (ranges_of h) c.args.range.now)
+    (sym (unchanged.same_history honest)) (c.requires (unchanged.was_honest honest))
 
 pub returns-in-Err-clause-faults : goal.returns-in-Err-clause-faults
 returns-in-Err-clause-faults g c = c.in-Err.ensures.faults
@@ -29,7 +30,8 @@ pub returns-clause-faults : goal.returns-clause-faults
 returns-clause-faults g c = rw c.in_default.ensures.faults at c.usage_committed.ensures.faults
 
 pub returns-clause-unchanged : goal.returns-clause-unchanged
-returns-clause-unchanged g c = Unchanged-trans c.in_default.ensures.unchanged c.usage_committed.ensures.unchanged
+returns-clause-unchanged g c = Unchanged-trans c.in_default.ensures.unchanged
+    c.usage_committed.ensures.unchanged
 
 pub returns-clause-opened : goal.returns-clause-opened
 returns-clause-opened g c = c.usage_committed.ensures.opened
@@ -38,4 +40,5 @@ pub returns-clause-answer : goal.returns-clause-answer
 returns-clause-answer g c = λ honest.
     let unchanged = c.in_default.ensures.unchanged in
     let before = c.usage_committed.ensures.unchanged.was_honest honest in
-    rw (unchanged.same_history before, unchanged.same_terms before) at (c.usage_committed.ensures.answer honest)
+    rw (unchanged.same_history before, unchanged.same_terms before)
+    at (c.usage_committed.ensures.answer honest)

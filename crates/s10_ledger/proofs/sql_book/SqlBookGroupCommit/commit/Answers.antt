@@ -1,4 +1,5 @@
-use Rattle.std.proofs.Common.{◌≡◌, ℕ, ◌∙◌, ◌==◌, List, [], true, Result, Ok, Err, OnOk, OnErr, inl, length, sym, ap, arith}
+use Rattle.std.proofs.Common.{◌≡◌, ℕ, ◌∙◌, ◌==◌, List, [], true, Result, Ok, Err, OnOk, OnErr, inl}
+use Rattle.std.proofs.Common.{length, sym, ap, arith}
 use Rattle.std.proofs.lemmas.Bool.{eqb-true}
 use Rattle.std.proofs.lemmas.List.{append-nil, nil_from_length}
 use Rattle.std.specs.Prelude.{vec_len}
@@ -19,7 +20,8 @@ given_err (Err x) P p = p
 no_calls : (ws : List CallWrite) (n : ℕ) → (n == 0) ≡ true → length ws ≡ n → calls_of ws ≡ []
 no_calls ws n empty is = ap calls_of (nil_from_length ws (is ∙ eqb-true n 0 empty))
 
-all_are_committed : {S : Type 0} (g : Ghosts S) (book : Ledger S) {T E : Type 0} (r : Result T E) → OnOk r (book.pending ≡ []) → OnOk r (committed_of g book ≡ history_of g book)
+all_are_committed : {S : Type 0} (g : Ghosts S) (book : Ledger S) {T E : Type 0} (r : Result T E)
+    → OnOk r (book.pending ≡ []) → OnOk r (committed_of g book ≡ history_of g book)
 all_are_committed g book (Ok x) none = rw none (sym (append-nil (committed_of g book)))
 all_are_committed g book (Err x) none = tt
 
@@ -52,18 +54,28 @@ returns-clause-crash g c = c.commit_pending.ensures.crash
 
 pub returns-then-is_empty-clause-done : goal.returns-then-is_empty-clause-done
 returns-then-is_empty-clause-done g c = λ honest.
-    let none : c.ask_again.new.self.pending ≡ [] = c.ask_again.ensures.same_pending ∙ (rw (← c.self.view_is) (no_calls c.self.inside.pending.items (vec_len c.self.inside.pending) (sym c.if-is_empty.ensures) (omega (arith, c.self.inside.pending.ok.0)))) in
-    given c.ask_again.result _ (rw none (sym (append-nil (committed_of g.S.Store c.ask_again.new.self))))
+    let none : c.ask_again.new.self.pending ≡ [] = c.ask_again.ensures.same_pending
+    ∙ (rw (← c.self.view_is) (no_calls c.self.inside.pending.items
+    (vec_len c.self.inside.pending) (sym c.if-is_empty.ensures)
+    (omega (arith, c.self.inside.pending.ok.0)))) in
+    given c.ask_again.result _
+    (rw none (sym (append-nil (committed_of g.S.Store c.ask_again.new.self))))
 
 pub returns-then-is_empty-clause-left : goal.returns-then-is_empty-clause-left
-returns-then-is_empty-clause-left g c = λ honest. given_err c.ask_again.result _ (ap history_in (c.ask_again.ensures.same honest))
+returns-then-is_empty-clause-left g c = λ honest. given_err c.ask_again.result _
+    (ap history_in (c.ask_again.ensures.same honest))
 
 pub returns-then-is_empty-clause-none_pending : goal.returns-then-is_empty-clause-none_pending
 returns-then-is_empty-clause-none_pending g c =
-    given c.ask_again.result _ (c.ask_again.ensures.same_pending ∙ (rw (← c.self.view_is) (no_calls c.self.inside.pending.items (vec_len c.self.inside.pending) (sym c.if-is_empty.ensures) (omega (arith, c.self.inside.pending.ok.0)))))
+    given c.ask_again.result _ (c.ask_again.ensures.same_pending
+    ∙ (rw (← c.self.view_is) (no_calls c.self.inside.pending.items
+    (vec_len c.self.inside.pending) (sym c.if-is_empty.ensures)
+    (omega (arith, c.self.inside.pending.ok.0)))))
 
 pub returns-then-is_empty-clause-crash : goal.returns-then-is_empty-clause-crash
-returns-then-is_empty-clause-crash g c = λ honest clean db left. inl (c.ask_again.ensures.spares honest clean db left)
+returns-then-is_empty-clause-crash g c =
+    λ honest clean db left. inl (c.ask_again.ensures.spares honest clean db left)
 
 pub returns-clause-done : goal.returns-clause-done
-returns-clause-done g c = λ honest. all_are_committed g.S.Store c.commit_pending.new.self c.commit_pending.result c.commit_pending.ensures.none_pending
+returns-clause-done g c = λ honest. all_are_committed g.S.Store c.commit_pending.new.self
+    c.commit_pending.result c.commit_pending.ensures.none_pending

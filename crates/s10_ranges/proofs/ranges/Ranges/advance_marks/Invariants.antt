@@ -11,6 +11,8 @@ use Rattle.s10_ranges.proofs.ranges.Ranges.advance_marks.Given as goal
 abbrev pub invariant-loop-place : goal.invariant-loop-place
 invariant-loop-place l =
     record {
-      marks : (h : List Entry) (t : Terms) → IsLegal h t → MayFollow h t l.entry → MirrorsAt (ranges_of h) (issues_of h) l.fn.self → MirrorsAt (ranges_of h) (issues_upto h l.entry l.place) l.self;
+      marks : (h : List Entry) (t : Terms) → IsLegal h t → MayFollow h t l.entry
+          → MirrorsAt (ranges_of h) (issues_of h) l.fn.self
+          → MirrorsAt (ranges_of h) (issues_upto h l.entry l.place) l.self;
       closed : l.self.closed ≡ l.fn.self.closed;
     }

@@ -10,7 +10,8 @@ invariant-loop-range l =
     record {
       from : l.after ≤ l.past;
       open_since : (h : List Entry) → Mirrors l.self h
-          → find (is_open_after h l.after l.customer l.service l.country) (ranges_of h) ≡ find (is_open_after h l.past l.customer l.service l.country) (ranges_of h);
+          → find (is_open_after h l.after l.customer l.service l.country) (ranges_of h)
+          ≡ find (is_open_after h l.past l.customer l.service l.country) (ranges_of h);
     }
 
 abbrev pub decreases-loop-range : goal.decreases-loop-range

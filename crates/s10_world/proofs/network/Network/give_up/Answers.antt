@@ -5,5 +5,6 @@ use Rattle.s10_world.proofs.network.Network.give_up.Goals as goal
 
 pub returns-clause-state : goal.returns-clause-state
 returns-clause-state g c =
-    let there = lent_mut (clients_of c.args.self.now) c.args.client c.in-Some.caller c.in-Some.ensures.item in
+    let there = lent_mut (clients_of c.args.self.now) c.args.client c.in-Some.caller
+    c.in-Some.ensures.item in
     rw there (search rules)

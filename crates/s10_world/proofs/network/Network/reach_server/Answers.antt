@@ -11,16 +11,22 @@ returns-in-Reply-clause-ok g c = λ h.
     let book = book_of (server_of c.args.self.now) in
     let now = book_of c.handle.new.self in
     let few : length (g.B.Book.history now) ≤ (g.B.Book.terms book).limit =
-    subst (λ (t : Terms). length (g.B.Book.history now) ≤ t.limit) (c.in-Reply.ensures.same_terms h) (g.met.B.Book.legal now h).few in
-    reached_reply (world_state_of g.B.Book.history g.B.Book.faults c.args.self.now) (g.B.Book.terms book) c.args.bytes.now c.args.day c.in-Reply.frame (g.B.Book.history now) (g.B.Book.faults now) _
+    subst (λ (t : Terms). length (g.B.Book.history now) ≤ t.limit) (c.in-Reply.ensures.same_terms h)
+    (g.met.B.Book.legal now h).few in
+    reached_reply (world_state_of g.B.Book.history g.B.Book.faults c.args.self.now)
+    (g.B.Book.terms book) c.args.bytes.now c.args.day c.in-Reply.frame (g.B.Book.history now)
+    (g.B.Book.faults now) _
     (c.in-Reply.ensures.served h) few c.in-Reply.ensures.faults
-    (c.push_reserved.ensures.items ∙ ap (λ (l : List Frame). l ++ c.in-Reply.frame ∷ []) c.in_ok-reserve.ensures.items)
+    (c.push_reserved.ensures.items ∙ ap (λ (l : List Frame). l ++ c.in-Reply.frame ∷ [])
+    c.in_ok-reserve.ensures.items)
 
 pub returns-in-Faulted-clause-ok : goal.returns-in-Faulted-clause-ok
 returns-in-Faulted-clause-ok g c = λ h.
     let now = book_of c.handle.new.self in
     rw c.in_ok-reserve.ensures.items
-    (reached_fault (world_state_of g.B.Book.history g.B.Book.faults c.args.self.now) (g.B.Book.terms (book_of (server_of c.args.self.now))) c.args.bytes.now c.args.day c.in-Faulted.field-0 (g.B.Book.history now) (g.B.Book.faults now)
+    (reached_fault (world_state_of g.B.Book.history g.B.Book.faults c.args.self.now)
+    (g.B.Book.terms (book_of (server_of c.args.self.now))) c.args.bytes.now c.args.day
+    c.in-Faulted.field-0 (g.B.Book.history now) (g.B.Book.faults now)
     (c.in-Faulted.ensures.served h) (c.in-Faulted.ensures.unchanged h) c.in-Faulted.ensures.faults)
 
 pub returns-in_err-reserve-clause-was_honest : goal.returns-in_err-reserve-clause-was_honest

@@ -11,7 +11,8 @@ use Rattle.s10_world.proofs.Reached.{kept_of}
 use Rattle.s10_world.proofs.world.World.run.Goals as goal
 
 pub invariant_of-self : goal.invariant_of-self
-invariant_of-self g c = λ h. run_sound _ _ _ _ c.run.result (c.run.ensures.ok h) (c.run.ensures.memory h) (c.self.invariant (c.run.ensures.was_honest h))
+invariant_of-self g c = λ h. run_sound _ _ _ _ c.run.result (c.run.ensures.ok h)
+    (c.run.ensures.memory h) (c.self.invariant (c.run.ensures.was_honest h))
 
 pub returns-clause-kept : goal.returns-clause-kept
 returns-clause-kept g c = λ h.
@@ -21,20 +22,27 @@ returns-clause-kept g c = λ h.
 pub returns-clause-agrees : goal.returns-clause-agrees
 returns-clause-agrees g c = λ h.
     agrees (world_state_of g.B.Book.history g.B.Book.faults c.run.new.self)
-    (run_sound _ _ _ _ c.run.result (c.run.ensures.ok h) (c.run.ensures.memory h) (c.self.invariant (c.run.ensures.was_honest h)))
+    (run_sound _ _ _ _ c.run.result (c.run.ensures.ok h) (c.run.ensures.memory h)
+    (c.self.invariant (c.run.ensures.was_honest h)))
 
 pub returns-clause-once : goal.returns-clause-once
 returns-clause-once g c = λ h.
     let book = book_of (server_of c.run.new.self) in
-    once (world_state_of g.B.Book.history g.B.Book.faults c.run.new.self) (g.B.Book.terms book) (g.met.B.Book.legal book h)
-    (run_sound _ _ _ _ c.run.result (c.run.ensures.ok h) (c.run.ensures.memory h) (c.self.invariant (c.run.ensures.was_honest h)))
+    once (world_state_of g.B.Book.history g.B.Book.faults c.run.new.self) (g.B.Book.terms book)
+    (g.met.B.Book.legal book h)
+    (run_sound _ _ _ _ c.run.result (c.run.ensures.ok h) (c.run.ensures.memory h)
+    (c.self.invariant (c.run.ensures.was_honest h)))
 
 pub returns-clause-unshared : goal.returns-clause-unshared
 returns-clause-unshared g c = λ h apart.
     let book = book_of (server_of c.run.new.self) in
-    unshared (world_state_of g.B.Book.history g.B.Book.faults c.run.new.self) (g.B.Book.terms book).interval (spaced (g.B.Book.history book) (g.B.Book.terms book) (g.met.B.Book.legal book h))
-    (run_sound _ _ _ _ c.run.result (c.run.ensures.ok h) (c.run.ensures.memory h) (c.self.invariant (c.run.ensures.was_honest h)))
-    (run_own _ _ _ _ c.run.result (c.run.ensures.ok h) (c.run.ensures.memory h) (subst (λ w. HaveOwnNumbers (clients_of w)) (sym c.self.view_is) apart))
+    unshared (world_state_of g.B.Book.history g.B.Book.faults c.run.new.self)
+    (g.B.Book.terms book).interval (spaced (g.B.Book.history book) (g.B.Book.terms book)
+    (g.met.B.Book.legal book h))
+    (run_sound _ _ _ _ c.run.result (c.run.ensures.ok h) (c.run.ensures.memory h)
+    (c.self.invariant (c.run.ensures.was_honest h)))
+    (run_own _ _ _ _ c.run.result (c.run.ensures.ok h) (c.run.ensures.memory h)
+    (subst (λ w. HaveOwnNumbers (clients_of w)) (sym c.self.view_is) apart))
 
 pub returns-clause-ok : goal.returns-clause-ok
 returns-clause-ok c = search rules
