@@ -124,7 +124,7 @@ pub fn count_option<'a>(alloc: Global) -> Arg<'a>
         alloc,
         "count",
         "N",
-        "Draw a sheet of so many identifiers, 1 to 16, all of them or none; without it one",
+        "Draw a sheet of this many identifiers, 1 to 16, all or none; without it, one",
     )
     .value_parser(value_parser!(u32).range(1..=16))
 }

@@ -32,4 +32,4 @@ Example:
   printf '20000 53310102000000070000000152414742\\n' | s10 replay
   5331018200000007000000015241474204
 
-The reply says that customer 7 has no range of RA GB: `s10 show` puts it into words.";
+The reply says that customer 7 has no range of RA GB: `s10 show` prints it in words.";

@@ -39,18 +39,22 @@ pub fn serve_command<'a>(alloc: Global) -> Result<Command<'a>, AllocError>
         command,
         day_option(
             alloc,
-            "The day of all requests; by default the clock's day at each turn",
+            "The day of all requests; by default the clock's day, read before each batch",
         ),
     )
 }
 
 const SERVE_EXAMPLES: &str = "\
 Prints one line for each turn, as it is done:
-  replied HEX     a reply was sent; `s10 show HEX` puts it into words
-  quiet           nothing came in a second
-  dropped FAULT   what came asks nothing: short, magic, version, kind, length, field AT or outcome
-  faulted FAULT   a request was left unanswered: memory, store, or full where the limit is reached
-  link FAULT      receive or send: the socket failed, and the next turn follows
+  replied HEX        a reply was sent; `s10 show HEX` prints it in words
+  quiet              no datagram came in a second
+  dropped FAULT      no request: short, magic, version, kind, length, field AT or outcome
+  faulted FAULT      the request was not executed: memory, store, or full at the limit of calls
+  uncommitted FAULT  no reply was sent, since its call could not be written: memory or store
+  link FAULT         receive or send: the socket failed, and the next turn follows
+
+Datagrams that have arrived, up to 64, are one batch: their calls are written in one transaction,
+then the replies are sent, then the lines are printed.
 
 After the last turn the ledger is closed and the exit status is 0. `refused peer`, with status 1,
 says that the address does not read. With status 3, `ledger FAULT` says that the ledger could not be
