@@ -32,7 +32,7 @@ use Rattle.s10_jobs.specs.declared.reporting.Report.{Report}
 use Rattle.s10_jobs.specs.declared.reporting.Report.TheVariants.{Ranges, Issues}
 use Rattle.s10_host.specs.declared.loop_resources.LoopResources.{LoopResources}
 use Rattle.s10_sockets.specs.Unbound.{IsUnbound}
-use Rattle.s10_host.specs.Files.{FileConnection, FileLedger, ClosedFiles, Copies, PutsAway}
+use Rattle.s10_host.specs.Files.{FileConnection, FileLedger, ClosedFiles, Copies, ClosesInto}
 use Rattle.s10_host.specs.Files.{IsFoundIn, IsFileFault, IsAbsenceOr, IsNotMade, IsNotOpened}
 use Rattle.s10_host.specs.Files.{LeavesClean}
 use Rattle.s10_host.specs.Audited.{HasFound, audit_line, audit_status}
@@ -45,7 +45,7 @@ use Rattle.s10_host.specs.declared.book_job.BookJob.{BookJob}
 use Rattle.s10_host.specs.declared.ledger_job.LedgerJob.{LedgerJob}
 use Rattle.s10_host.specs.declared.ledger_job.LedgerJob.TheVariants.{BookJob as AsksFor, Audit}
 use Rattle.s10_host.specs.BookJobs.{IsBookJobRefusal, EndsOver, EndsIn}
-use Rattle.s10_host.proofs.Opening.{empty_book, found_book, put_away}
+use Rattle.s10_host.proofs.Opening.{empty_book, found_book, closed_into}
 use Rattle.s10_host.proofs.Backwards.{before_batches}
 
 -- a task is one work
@@ -176,7 +176,7 @@ module _ (S : RattleType) (first : Ghosts S.Denot) where
           book = book;
           settings = new_book.settings;
           empty = empty_book terms book new_book;
-          away = put_away book over.closed g put copies;
+          closes_into = closed_into book over.closed g put copies;
         };
         printed = subst (λ text. IfOk printed (λ status. (status ≡ Done)
             × Appends text new (codes "created\n"))) (last ∙ still) written;
@@ -256,7 +256,7 @@ module _ (S : RattleType) (first : Ghosts S.Denot) where
             (sym still) (subst (λ r. Turns over_files day count opened served old new r link) (sym same)
             turns);
         was_honest = was_honest day count old new opened served done link turns;
-        away = put_away served closed f put copies;
+        closes_into = closed_into served closed f put copies;
       }
 
   unlinked_kept : (old new last : Option (List ℕ)) (done result : Result JobStatus WriteFault)
@@ -294,7 +294,7 @@ module _ (S : RattleType) (first : Ghosts S.Denot) where
       → IsUnlinked S first opened old last result files
   unlinked old new last opened after closed done result None unbound put kept lost =
       record {
-        away = tt;
+        closes_into = tt;
         printed = tt;
         lost = λ none. unlinked_lost old new last done result
             unbound.1 (lost none);
@@ -302,7 +302,7 @@ module _ (S : RattleType) (first : Ghosts S.Denot) where
   unlinked old new last opened after closed done result (Some f) unbound put (copies, same, still)
       lost =
       record {
-        away = subst (λ b. PutsAway b f) unbound.0 (put_away after closed f put copies);
+        closes_into = subst (λ b. ClosesInto b f) unbound.0 (closed_into after closed f put copies);
         printed = unlinked_kept old new last done result unbound.1 same still;
         lost = λ none. absurd (let one : Some f ≡ None = none in cc);
       }
@@ -430,7 +430,7 @@ module _ (S : RattleType) (first : Ghosts S.Denot) where
         written = subst (λ text. Writes S first report opened after old text result) (sym still)
             (subst (λ r. Writes S first report opened after old new r) (sym same) written);
         unchanged = unchanged;
-        away = put_away after closed f put copies;
+        closes_into = closed_into after closed f put copies;
       }
 
   reported_over : (is_of_issues : Bool) (day : Option ℕ) (report : Report)

@@ -19,7 +19,7 @@ use Rattle.sqlite.specs.Closing.{IsCopied}
 use Rattle.s10_history.specs.declared.entry.Entry.{Entry}
 use Rattle.s10_history.specs.Settings.{Terms}
 use Rattle.s10_ledger.specs.Ledger.{Ledger, IsAnyLedger, IsHonest, history_in, history_of}
-use Rattle.s10_host.specs.Files.{IsFoundIn, WhereClean, IsEmptyBook, IsFoundBook, Copies, PutsAway}
+use Rattle.s10_host.specs.Files.{IsFoundIn, WhereClean, IsEmptyBook, IsFoundBook, Copies, ClosesInto}
 use Rattle.s10_host.specs.Files.{LeavesClean}
 use Rattle.s10_host.specs.Closing.{IsClosedAs, Turns}
 use Rattle.s10_lines.specs.declared.write_fault.WriteFault.{WriteFault}
@@ -155,9 +155,9 @@ module _ {D : Type 0} {g : Ghosts D} where
       }
 
   -- a connection whose last commit the files hold showed a ledger of which what was true is true of the book
-  pub put_away : (book : Ledger (FileStore D g)) (closed : Held (FileStore D g)) (files : Files D)
-      → IsClosedAs over_files book closed → Copies closed files → PutsAway book files
-  put_away book closed files put copies clean =
+  pub closed_into : (book : Ledger (FileStore D g)) (closed : Held (FileStore D g)) (files : Files D)
+      → IsClosedAs over_files book closed → Copies closed files → ClosesInto book files
+  closed_into book closed files put copies clean =
       let copied = copies clean in
       let here = subst (λ conn. IsCopied conn files) put.same copied in
       record {

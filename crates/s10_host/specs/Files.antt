@@ -65,14 +65,14 @@ module _ {D : Type 0} {g : Ghosts D} where
   Copies c files = AreClean g files.log files.db → IsCopied c files
 
   -- the ledger was honest to the end, and what it showed is what the files hold, also after a crash
-  pub record IsPutAway (book : Ledger (FileStore D g)) (files : Files D) : Type 0 where
+  pub record IsClosedInto (book : Ledger (FileStore D g)) (files : Files D) : Type 0 where
     pub honest : IsHonest over_files book
     pub settled : (file_state book.conn).committed ≡ (file_state book.conn).now
     pub copied : IsCopied book.conn files
 
   -- the same, where both files kept what they were given
-  abbrev pub PutsAway : Ledger (FileStore D g) → Files D → Type 0
-  PutsAway book files = AreClean g files.log files.db → IsPutAway book files
+  abbrev pub ClosesInto : Ledger (FileStore D g) → Files D → Type 0
+  ClosesInto book files = AreClean g files.log files.db → IsClosedInto book files
 
   -- both files kept what they were given only where the connection's disk did
   abbrev pub LeavesClean : Held (FileStore D g) → Files D → Type 0

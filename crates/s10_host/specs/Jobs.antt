@@ -32,7 +32,7 @@ use Rattle.s10_host.specs.declared.loop_resources.LoopResources.{LoopResources}
 use Rattle.s10_host.specs.Closing.{Turns}
 use Rattle.s10_host.specs.LoopRun.{HasRunLoop}
 use Rattle.s10_host.specs.Files.{FileConnection, FileLedger, ClosedFiles, WhereClean, IsFoundIn}
-use Rattle.s10_host.specs.Files.{IsEmptyBook, IsFoundBook, PutsAway, LeavesClean, IsFileFault}
+use Rattle.s10_host.specs.Files.{IsEmptyBook, IsFoundBook, ClosesInto, LeavesClean, IsFileFault}
 use Rattle.s10_host.specs.Files.{IsAbsenceOr, IsNotMade, IsNotOpened}
 
 -- the line of a fault of the ledger
@@ -78,7 +78,7 @@ module _ (S : RattleType) (first : Ghosts S.Denot) where
     pub book : FileLedger S first
     pub settings : book.terms ≡ terms
     pub empty : WhereClean IsEmptyBook book
-    pub away : PutsAway book files
+    pub closes_into : ClosesInto book files
 
   -- such a ledger was made, and only then that was said; or the line says why there is none
   pub record HasCreated (terms : Terms) (old new : Option (List ℕ))
@@ -95,7 +95,7 @@ module _ (S : RattleType) (first : Ghosts S.Denot) where
     pub served : FileLedger S first
     pub turns : Turns over_files day count opened served old new result link
     pub was_honest : IsHonest over_files served → IsHonest over_files opened
-    pub away : PutsAway served files
+    pub closes_into : ClosesInto served files
 
   -- it was served so, and could not be closed
   pub record IsLost (opened : FileLedger S first) (day : Option ℕ) (count : ℕ)
@@ -111,7 +111,7 @@ module _ (S : RattleType) (first : Ghosts S.Denot) where
   -- it was opened, and its address could not be had
   pub record IsUnlinked (opened : FileLedger S first) (old new : Option (List ℕ))
       (result : Result JobStatus WriteFault) (files : Option (ClosedFiles S first)) : Type 0 where
-    pub away : IfSome files (PutsAway opened)
+    pub closes_into : IfSome files (ClosesInto opened)
     pub printed : IfSome files (λ _. IfOk result (λ status. (status ≡ Failed)
         × Appends old new (line_of (codes "link") (codes "bind" ∷ []))))
     pub lost : files ≡ None
@@ -154,7 +154,7 @@ module _ (S : RattleType) (first : Ghosts S.Denot) where
     pub written : Writes report opened reported old new result
     pub unchanged : Unchanged (λ (b : FileLedger S first). history_of over_files b) (λ b. b.terms)
         (IsHonest over_files) opened reported
-    pub away : PutsAway reported files
+    pub closes_into : ClosesInto reported files
 
   -- or it could not be closed
   pub record IsReportedAndLost (opened : FileLedger S first) (report : Report)

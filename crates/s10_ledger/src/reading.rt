@@ -87,7 +87,7 @@ pub(crate) fn read_tables<S: Alter, W: Observer>(
     ensures rows { HasCleanDisk (state S.Store conn.new) → IsTrue (state S.Store conn.new).is_open
         → IsQuiescent S.Store conn.old
         → IfOk result (λ rows. AreRead form (state S.Store conn.old).now rows.0 rows.1) }
-    ensures remade { IfOk result (λ rows. IfOk rows.0 (λ made. (heads : List HeadRow)
+    ensures replayed { IfOk result (λ rows. IfOk rows.0 (λ made. (heads : List HeadRow)
         × ((calls : List StoredCall) × IsReplayedBook heads calls made))) }
 {
     let closed = closed_rows(alloc, conn, form)?;

@@ -28,12 +28,12 @@ loop-place-preserved c =
               w.record_issue.ensures.spare,
               ap spare w.issues-is,
             );
-            notes = λ h before x fit.
+            recorded = λ h before x fit.
                 ap (λ m. get same_key m (id_key x)) w.issues-is
-                ∙ w.record_issue.ensures.notes (id_key x)
+                ∙ w.record_issue.ensures.recorded (id_key x)
                 ∙ ap₂ (λ (b : Bool) (o : Option Issue). cond b (Some (as_issue i false)) o)
                 (keys_tell i.id x w.record_issue.ensures.parts fit)
-                (c.loop-place.invariant.notes h before x fit)
+                (c.loop-place.invariant.recorded h before x fit)
                 ∙ sym (told_upto h e x k i at);
           }
       | in_default w ↦
@@ -50,7 +50,7 @@ returns c h before x fit =
     let e = c.args.entry.now in
     let past : length (carried_by e.outcome) ≤ c.loop-place.place =
     omega (arith, c.loop-place-test.false, c.issued-place-end.ensures) in
-    c.loop-place.invariant.notes h before x fit
+    c.loop-place.invariant.recorded h before x fit
     ∙ ap (λ (is : List Issuance). option_map (issue_in_history (h ++ e ∷ []) x)
     (last_issuance_of is x)) (upto_all h e c.loop-place.place past)
 

@@ -10,6 +10,6 @@ abbrev pub invariant-loop-place : goal.invariant-loop-place
 invariant-loop-place l =
     record {
       room : length (carried_by l.entry.outcome) ≤ spare l.issues + l.place;
-      notes : (h : List Entry) → HasLast l.fn.issues (h ++ l.entry ∷ []) (issues_of h)
+      recorded : (h : List Entry) → HasLast l.fn.issues (h ++ l.entry ∷ []) (issues_of h)
           → HasLast l.issues (h ++ l.entry ∷ []) (issues_upto h l.entry l.place);
     }

@@ -29,8 +29,8 @@ returns-clause-leaves g c =
     c.closed_rows.ensures.leaves c.read_call_rows.ensures.leaves)
     c.read_derived_rows.ensures.leaves
 
-pub returns-clause-remade : goal.returns-clause-remade
-returns-clause-remade g c = IfOk-weaker c.of-made.result _ _ (λ made it. (
+pub returns-clause-replayed : goal.returns-clause-replayed
+returns-clause-replayed g c = IfOk-weaker c.of-made.result _ _ (λ made it. (
   c.in_ok-heads.heads.items,
   (c.in_ok-heads.calls.items, it),
 )) c.of-made.ensures.ok
