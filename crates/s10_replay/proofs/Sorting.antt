@@ -10,7 +10,7 @@ use Rattle.std.proofs.lemmas.Cmp.{tied_itself, upto, alike_right}
 use Rattle.std.proofs.lemmas.List.Elements.{recursion_from_All, All-from_recursion}
 use Rattle.std.proofs.lemmas.List.Sorted.{length_permutation, All-permutation, IsPermutation-refl}
 use Rattle.std.proofs.lemmas.List.Sorted.{IsPermutation-cons, IsPermutation-trans}
-use Rattle.std.proofs.lemmas.List.Sorted.{IsPermutation-middle, IsPermutation-unchanged}
+use Rattle.std.proofs.lemmas.List.Sorted.{IsPermutation-middle, IsPermutation-keeps}
 use Rattle.s10_replay.specs.Ascending.{IsAscending}
 
 all_weaker : {X : Type 0} (P Q : X → Type 0) → ((x : X) → P x → Q x) → (xs : List X)
@@ -71,7 +71,7 @@ module _ {X : Type 0} (R : List X → List X → Type 0) (same : (xs : List X) �
   swapped (x ∷ l) i j p q = exchanged (x ∷ l) i j x p q
 
   along_permutation : (xs ys : List X) → IsPermutation xs ys → R xs ys
-  along_permutation xs = IsPermutation-unchanged xs (R xs) (same xs)
+  along_permutation xs = IsPermutation-keeps xs (R xs) (same xs)
       (λ l i j p q h. chain xs l _ h (swapped l i j p q))
 
 module _ {X : Type 0} (p : X → Bool) where
