@@ -1,12 +1,12 @@
 #!/usr/bin/env bash
-# Runs the gate and tells what it cost: the processor minutes of each crate's proof, tests and wrong
-# bodies, the greatest process of each, and the whole.
+# Runs the gate and prints what it cost: for each crate the processor minutes of its proof, tests and
+# wrong bodies and its largest process, and the sums.
 #
 #     bash checks/gate_time.sh                    the gate of this checkout
 #     taskset -c 0,1 bash checks/gate_time.sh     the same on two processors
 #
-# What the gate prints goes to the file gate.log in TMPDIR (or /tmp). The provers are looked at twice
-# a second, so what each did after the last look is counted in the whole alone.
+# The output of the gate goes to the file gate.log in TMPDIR (or /tmp). The provers are sampled twice a
+# second. What a prover did after its last sample is only in the processor minutes of the whole.
 set -u
 
 root=$(dirname "$(readlink -f "${BASH_SOURCE[0]}")")/..
@@ -14,8 +14,8 @@ log=${TMPDIR:-/tmp}/gate.log
 ticks_a_second=$(getconf CLK_TCK)
 declare -A keys kinds crates ticks rooms
 
-# What a prover is at, by its words.
-kind_of() {
+# Prints what a prover works on, from its command line: proof, tests or edits. Prints nothing for other commands.
+kind_of() { # WORD..
     case " $* " in
         *' --test '*) echo tests ;;
         ' check '*' -o '* | ' build '*) echo proof ;;
@@ -23,15 +23,17 @@ kind_of() {
     esac
 }
 
-crate_of() {
+# Prints the crate that a prover works on, from its command line.
+crate_of() { # WORD..
     while [ $# -gt 1 ] && [ "$1" != --crate-name ]; do
         shift
     done
     echo "${2:-unknown}"
 }
 
-# Names what a prover is at by its words, and its kernel as the prover that started it.
-name() {
+# Records the kind and the crate of a process: of a prover from its command line, of its kernel from the prover that
+# started it.
+name() { # KEY COMMAND PARENT
     local key=$1 command=$2 parent=${keys[$3]:-none} words
     if [ "$command" = antt-kernel ]; then
         kinds[$key]=${kinds[$parent]:-} crates[$key]=${crates[$parent]:-}
@@ -44,7 +46,7 @@ name() {
     crates[$key]=$(crate_of "${words[@]:1}")
 }
 
-# Notes the processor time and the greatest room of each prover of the gate's session.
+# Samples each prover of the gate's session: records its processor time and its greatest resident memory.
 look() {
     local stat line command fields process key room
     for stat in /proc/[0-9]*/stat; do
@@ -64,7 +66,8 @@ look() {
     done
 }
 
-# How many wrong bodies each crate has, and a line for each prover: crate, kind, number or seconds, KiB.
+# Prints a line for each crate with its number of wrong bodies, and a line for each prover: crate, kind, number or
+# processor seconds, KiB.
 provers() {
     local key folder crate
     for folder in crates/*/must-fail; do
@@ -76,7 +79,7 @@ provers() {
     done
 }
 
-# A row for each crate, and one for all of them.
+# Prints a row for each crate, and one for all crates.
 table() {
     local form='%-18s %8s %8s %8s %6s %6s\n'
     printf "$form" crate proof tests edits tried GiB

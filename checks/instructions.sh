@@ -1,6 +1,6 @@
 #!/usr/bin/env bash
-# Tells what a Draw costs by instructions, which are the same on every machine, as valgrind's callgrind counts them: of
-# replays, over the book in memory, and of a server, over tables in a file, with its socket and its lines.
+# Prints how many instructions a Draw takes, as valgrind's callgrind counts them, which is the same on every machine: in
+# replays, over the book in memory, and in a server, over tables in a file, with its socket and its lines.
 #
 #     bash checks/instructions.sh [PROGRAM]
 set -eu
@@ -9,7 +9,7 @@ s10=$(readlink -f "${1:-$(dirname "$(readlink -f "${BASH_SOURCE[0]}")")/../crate
 dir=$(mktemp -d)
 trap 'rm -rf "$dir"' EXIT
 
-# Grants of RA GB, as many as asked: the numbers of the requests and the serials follow one another.
+# Prints `count` Grants of RA GB with consecutive request numbers and consecutive serials.
 grants() { # COUNT FIRST_NUMBER HOLDER FIRST_SERIAL SERIALS
     awk -v count="$1" -v number="$2" -v holder="$3" -v first="$4" -v serials="$5" 'BEGIN {
         for (i = 0; i < count; i++)
@@ -17,7 +17,7 @@ grants() { # COUNT FIRST_NUMBER HOLDER FIRST_SERIAL SERIALS
     }'
 }
 
-# Draws of RA GB by customer 7.
+# Prints `count` Draws of RA GB by customer 7.
 draws() { # COUNT FIRST_NUMBER
     awk -v count="$1" -v number="$2" 'BEGIN {
         for (i = 0; i < count; i++)
@@ -25,13 +25,13 @@ draws() { # COUNT FIRST_NUMBER
     }'
 }
 
-# The instructions of a replay of the lines that come in.
+# Prints the instructions of a replay of the lines on standard input.
 instructions() {
     valgrind --tool=callgrind --callgrind-out-file=/dev/null "$s10" replay --interval 30 --limit 1000000 2>&1 >/dev/null |
         sed -n 's/.*Collected : //p'
 }
 
-# The instructions of the last lines of a replay, for each.
+# Prints the instructions for each of the last lines of a replay: with them, less without them, divided by their number.
 each() { # COUNT WITHOUT WITH
     local before after
     before=$(instructions <"$2")
@@ -55,7 +55,7 @@ echo "one Draw that finds 400 used ranges of its customer first: $(each 1 "$dir/
 grants 1000 1 7 0 10 >"$dir/granted"
 echo "a Grant, of a thousand: $(each 1000 "$dir/nothing" "$dir/granted")"
 
-# The instructions of a server of a Grant and so many Draws, one after another.
+# Prints the instructions of a server that gets a Grant and the given number of Draws, one after another.
 served() { # DRAWS
     local ledger=$dir/ledger-$1
     "$s10" create --ledger "$ledger" --interval 30 --limit 1000000 >"$dir/created"

@@ -1,7 +1,7 @@
 #!/bin/sh
-# Kills a server with SIGKILL in the middle of a hundred draws of one client, or of ten draws of each of several at once, and
-# starts it again: every draw that was answered has to stand in the report, a repeat has to get its identifier, no identifier
-# may be on two draws, and the audit has to say ok.
+# Kills a server with SIGKILL in the middle of a hundred draws of one client, or of ten draws of each of several clients at
+# once, and starts it again. Every draw that got a reply must be in the report, a repeat must get its identifier, no identifier
+# may be on two draws, and the audit must print `ledger ok`.
 #
 #   sh checks/killed_server.sh [PROGRAM [CLIENTS]]
 set -eu
@@ -19,7 +19,7 @@ fail() {
     exit 1
 }
 
-# Starts a server, and sets `server` to its process and `address` to where it listens.
+# Starts a server. Sets `server` to its process id and `address` to its address.
 serve() {
     : > "$dir/told"
     "$s10" serve --ledger "$ledger" --bind 127.0.0.1:0 --count 4294967295 --day 20000 > "$dir/turns" 2> "$dir/told" &
@@ -46,8 +46,8 @@ draw() {
 serve
 "$s10" grant --to "$address" --number 1 --holder 7 --service RA --country GB --first 0 --last 99999 > /dev/null || fail grant
 
-# Draws under every CLIENTS-th number from its own on, until one is not answered.
-client() {
+# Draws with every CLIENTS-th number, starting with its own, until a draw gets no reply.
+client() { # FIRST_NUMBER
     number=$1
     while [ "$number" -le "$total" ] && draw "$number" 3 >> "$dir/answers.$1"; do
         number=$((number + clients))
@@ -58,7 +58,7 @@ answered() {
     cat "$dir"/answers.* | grep -c ' done ' || true
 }
 
-# The server is killed while they go on.
+# The server is killed while the clients continue.
 running=
 for first in $(seq "$clients"); do
     : > "$dir/answers.$first"

@@ -1,10 +1,10 @@
 #!/usr/bin/env python3
-"""Tells how many identifiers a second one server issues on a file to one client that waits for each reply: by single Draws, and by
-sheets of sixteen.
+"""Prints how many identifiers a second one server on a file issues to one client that waits for each reply: by single Draws, and
+by sheets of sixteen.
 
   python3 checks/rates.py [PROGRAM]
 
-The ledger lies in a new folder of TMPDIR (or /tmp), so a folder of the disk that is to be measured can be named there.
+The ledger is in a new folder of TMPDIR (or /tmp). Set TMPDIR to a folder of the disk to be measured.
 """
 
 import tempfile
@@ -16,6 +16,7 @@ REQUESTS = 4000
 
 
 def rate(link, requests):
+    """Sends the requests one after another. Returns how many were replied to in a second."""
     began = time.monotonic()
     for datagram in requests:
         ask(link, datagram)
@@ -23,6 +24,7 @@ def rate(link, requests):
 
 
 def measure(ledger):
+    """Prints both rates, and what an audit of the ledger prints."""
     with serving(ledger) as address, link_to(address) as link:
         draws = rate(link, [draw(it) for it in range(REQUESTS)])
         sheets = rate(link, [request(2, 5, 7, REQUESTS + it, b"RAGB\x10") for it in range(REQUESTS)])

@@ -1,9 +1,9 @@
-/* Handed to a program by LD_PRELOAD, this refuses it memory or stops its disk, once, where the environment says:
+/* Loaded by LD_PRELOAD, this refuses the program memory or stops its disk, as the environment says:
 
-     REFUSE_MEMORY=N            the N-th request for memory, counted from 1
-     STOP_FILE=PATH STOP_AT=K   the K-th change of that file, counted from 0, and each one after it. A write that is stopped
-                                leaves its first half; what was written before stays, and reads go on.
-     REFUSED=PATH               a file that is made when something was refused so
+     REFUSE_MEMORY=N            refuses the N-th request for memory, counted from 1
+     STOP_FILE=PATH STOP_AT=K   refuses the K-th change of that file, counted from 0, and every later one. The first write that
+                                is refused leaves its first half. Earlier writes stay, and reads succeed.
+     REFUSED=PATH               creates this file when something was refused
 
    cc -O1 -shared -fPIC -o refuse.so refuse.c */
 #define _GNU_SOURCE
@@ -34,6 +34,7 @@ __attribute__((constructor)) static void read_environment(void) {
     requests = 0;
 }
 
+/* Creates the file REFUSED. */
 static void tell_refused(void) {
     const char *path = getenv("REFUSED");
     if (path) {
@@ -42,6 +43,7 @@ static void tell_refused(void) {
     }
 }
 
+/* Counts a request for memory. Whether it is the one to be refused. */
 static int is_refused(void) {
     if (!refused_request || ++requests != refused_request) return 0;
     tell_refused();
@@ -66,7 +68,7 @@ int posix_memalign(void **made, size_t align, size_t size) {
     return 0;
 }
 
-/* Whether a change of the file behind the descriptor is refused: the first one so is `first`. */
+/* Whether a change of the file of a descriptor is refused. Sets *first if it is the first that is refused. */
 static int is_stopped(int file, int *first) {
     const char *wanted = getenv("STOP_FILE");
     char link[64], path[4096];
@@ -83,6 +85,7 @@ static int is_stopped(int file, int *first) {
     return 1;
 }
 
+/* The result of a call on a disk that stopped. */
 static long stop(void) {
     errno = EIO;
     return -1;

@@ -1,16 +1,16 @@
 #!/bin/sh
-# Refuses the first request for memory of a test, then the second, and so on, until the test beside it, which
-# asks for the same memory and wants all of it, meets no refusal. After each refusal the server's run, or the
-# world, has to be that of the other deliveries or events, and the refused call of a book is made good by a
-# repeat. Up to an hour.
-# Run it as: sh checks/refused_memory.sh
+# Refuses the first request for memory of a test, then the second, and so on. It ends when a second test, which makes the
+# same requests and needs all of them, meets no refusal. After each refusal the server's run, or the world's, must be that of
+# the other deliveries or events, and a repeat of the refused call of a book must succeed. Takes up to an hour.
+#
+#     sh checks/refused_memory.sh
 set -eu
 cd "$(dirname "$0")/../crates"
 written=$(mktemp)
 trap 'rm -f "$written"' EXIT
 
-# A crate, its test under a refusal, and its test that wants all memory.
-refuse_each() {
+# Refuses each request for memory of a test in turn, and prints how many there were.
+refuse_each() { # CRATE TEST_UNDER_REFUSAL TEST_THAT_NEEDS_ALL_MEMORY
     n=0
     while :; do
         n=$((n + 1))

@@ -1,8 +1,9 @@
 #!/usr/bin/env python3
-"""Refuses the program its first request for memory, then its second, and so on, and stops its disk at the first change of a file,
-then at the second, and so on (checks/refuse.c), until a run meets no refusal. After each, the ledger has to be one that the
-program opens, with the calls that were answered, and no others but those before them whose reply was held back since they could not
-be written yet; and asked again each call has to get the reply that it got, or that it would have got.
+"""Refuses the program its first request for memory, then its second, and so on. Stops its disk at the first change of a file, then
+at the second, and so on (checks/refuse.c). Each series ends with a run that meets no refusal.
+
+After each run the program must open the ledger. It must have the calls that got a reply, and no others but earlier ones whose reply
+was withheld. Asked again, each call must get the reply that it got, or the one that was withheld.
 
   python3 checks/refused_program.py [PROGRAM]
 """
@@ -22,9 +23,9 @@ from pathlib import Path
 HERE = Path(__file__).resolve().parent
 PROGRAM = str(Path(sys.argv[1] if len(sys.argv) > 1 else HERE / "../crates/s10/out/s10").resolve())
 
-# The post grants RA GB 0 to 2 to customer 7, who draws serials 0 and 1, voids 1 twice, draws serial 2 and is told that none is
-# free; 30 days after it draws 0 and 1 again. The tenth call draws 2 again, or the post withdraws the range. A sheet of three in the
-# place of these three draws has all of them.
+# FIRST: the post grants RA GB 0 to 2 to customer 7, who draws serials 0 and 1, voids 1 twice, draws serial 2, and finds no other
+# serial free. LATER, 30 days after: it draws 0 and 1 again. TENTH draws 2 again; WITHDRAW closes the range instead. SHEET draws all
+# three at once instead of LATER and TENTH.
 GRANT = "53310101000000000000000100000007524147420000000000000002"
 VOID = "52413030303030303031344742"
 
@@ -48,7 +49,7 @@ SHEET_REPLY = (
 
 
 class Failed(Exception):
-    """A run that did not end as it has to."""
+    """A run that did not end as it must."""
 
 
 def fail(why):
@@ -56,26 +57,28 @@ def fail(why):
 
 
 def run(words, refusals=None, **more):
+    """Runs the program with these words, and with these refusals in its environment."""
     return subprocess.run([PROGRAM, *words], env={**os.environ, **(refusals or {})}, capture_output=True, text=True, check=False, **more)
 
 
 def audit(ledger):
+    """Returns the line that an audit prints."""
     return run(["audit", "--ledger", ledger]).stdout.strip()
 
 
 def replies_of(deliveries):
-    """What an empty ledger owes to datagrams on their days."""
+    """Returns the replies of an empty ledger to pairs of day and datagram."""
     text = "".join(f"{day} {datagram}\n" for day, datagram in deliveries)
     return run(["replay", *SETTINGS], input=text).stdout.split()
 
 
 def serve(ledger, day, datagrams, refusals=None):
-    """Serves so many turns; answers the replies by datagram."""
+    """Serves one turn for each datagram. Returns the replies by datagram."""
     return served(ledger, day, datagrams, refusals)[0]
 
 
 def served(ledger, day, datagrams, refusals=None):
-    """Serves so many turns; answers the replies by datagram, and the lines of the turns in which one came."""
+    """Serves one turn for each datagram. Returns the replies by datagram, and the lines of the turns in which a request arrived."""
     words = [PROGRAM, "serve", "--ledger", ledger, "--bind", "127.0.0.1:0", "--count", str(len(datagrams)), "--day", str(day)]
     with subprocess.Popen(words, env={**os.environ, **(refusals or {})}, stdout=subprocess.PIPE, stderr=subprocess.PIPE, text=True) as server:
         address = ""
@@ -106,6 +109,7 @@ def served(ledger, day, datagrams, refusals=None):
 
 
 def make(folder, calls):
+    """Creates a ledger with these calls, pairs of day and datagrams. Returns its path."""
     os.mkdir(folder)
     ledger = f"{folder}/ledger"
     if run(["create", "--ledger", ledger, *SETTINGS]).stdout != "created\n":
@@ -117,12 +121,13 @@ def make(folder, calls):
 
 
 def copied(ledger, into):
+    """Copies the folder of a ledger. Returns the path of the copy."""
     shutil.copytree(Path(ledger).parent, into, dirs_exist_ok=True)
     return f"{into}/ledger"
 
 
 def forget_closed(ledger):
-    """Makes a ledger with no range withdrawn one of the build that knew no withdrawals."""
+    """Turns a ledger with no withdrawn range into one of the build without withdrawals."""
     with contextlib.closing(sqlite3.connect(ledger)) as tables:
         tables.execute("DROP TABLE closed")
         tables.commit()
@@ -130,7 +135,7 @@ def forget_closed(ledger):
 
 
 def check_completing(name, ledger, env):
-    """An audit of a ledger of an earlier build, refused something, leaves one that another audit finds right."""
+    """After a refusal during an audit of a ledger of an earlier build, two further audits must find it right."""
     found = run(["audit", "--ledger", ledger], env)
     if (found.returncode, found.stdout) != (0, "ledger ok 9\n") and found.returncode != 3:
         fail(f"{name}: {found.stdout.strip()}")
@@ -140,8 +145,8 @@ def check_completing(name, ledger, env):
 
 
 def check_serving(name, ledger, before, day, datagrams, replies, turns):
-    """Kept are the calls before, and of those that were executed the first ones, among them all that were answered; handed in again,
-    each gets its reply."""
+    """The ledger must have the calls before and the first ones of those that were executed, among them all that got a reply. Sent
+    again, each must get its reply."""
     executed = [it for it, turn in zip(datagrams, turns, strict=False) if not turn.startswith("faulted ")]
     found = audit(ledger)
     many = int(found.removeprefix("ledger ok ")) - len(before) if found.startswith("ledger ok ") else -1
@@ -157,7 +162,8 @@ def check_serving(name, ledger, before, day, datagrams, replies, turns):
 
 
 def each_refusal(name, room, refusals, do):
-    """Does it for 1, 2, .. until nothing is refused, several side by side, each in a folder of its own; prints how many were."""
+    """Calls `do` for 1, 2, .. until nothing is refused, several side by side, each in a folder of its own. Prints how many were
+    refused."""
 
     def tried(at):
         here = f"{room}/here-{at}"
@@ -181,6 +187,7 @@ def each_refusal(name, room, refusals, do):
 
 
 def refuse_memory(room):
+    """Refuses each request for memory of create, audit and several servers."""
     def refusals(at, _):
         return {"REFUSE_MEMORY": str(at)}
 
@@ -232,7 +239,7 @@ def refuse_memory(room):
 
 
 def stop_server(room, what, calls, asked, reply):
-    """Stops the disk of a server that is asked on day 20030, over the ledger of these calls as it was closed, and as it was killed."""
+    """Stops the disk of a server that gets a request on day 20030, over a ledger of these calls: closed, and after a kill."""
     kept = sum(len(datagrams) for _, datagrams in calls)
     closed = make(f"{room}/{what} closed", calls)
     killed = copied(closed, f"{room}/{what} killed")
@@ -260,6 +267,7 @@ def stop_server(room, what, calls, asked, reply):
 
 
 def stop_disk(room):
+    """Stops the disk at each change of the file and of its log: of servers, of create, and of an audit that completes tables."""
     stop_server(room, "a Draw", [(20000, FIRST), (20030, LATER)], TENTH, TENTH_REPLY)
     stop_server(room, "a sheet of three", [(20000, FIRST)], SHEET, SHEET_REPLY)
     stop_server(room, "a withdrawal", [(20000, FIRST), (20030, LATER)], WITHDRAW, WITHDRAW_REPLY)
@@ -284,7 +292,7 @@ def stop_disk(room):
 
 
 def kill_server(ledger):
-    """A server answers a call again and is killed, so that its log stays."""
+    """Starts a server and kills it, so that its log stays."""
     words = [PROGRAM, "serve", "--ledger", ledger, "--bind", "127.0.0.1:0", "--count", "1000", "--day", "20030"]
     with subprocess.Popen(words, stdout=subprocess.DEVNULL, stderr=subprocess.PIPE, text=True) as server:
         for line in server.stderr:

@@ -1,10 +1,10 @@
 #!/usr/bin/env bash
-# Serves several ledgers side by side, each with a block of serials of its own, draws from all of them at once, and adds up their
-# rates; before that the same with one. Each audit has to say ok, and no identifier may be in two reports.
+# Serves one ledger, then several side by side, each with a span of serials of its own. Draws from all of them at once, and adds
+# up their rates. Each audit must print `ledger ok`, and no identifier may be in two reports.
 #
-#     bash checks/shards.sh [PROGRAM [DRAWS [SERVERS]]]      10,000 draws from each of 4 servers, unless told otherwise
+#     bash checks/shards.sh [PROGRAM [DRAWS [SERVERS]]]      by default 10,000 draws from each of 4 servers
 #
-# The ledgers lie in a new folder of TMPDIR (or /tmp), so a folder of the disk that is to be measured can be named there.
+# The ledgers are in a new folder of TMPDIR (or /tmp). Set TMPDIR to a folder of the disk to be measured.
 set -eu -o pipefail
 
 s10=$(readlink -f "${1:-$(dirname "$(readlink -f "${BASH_SOURCE[0]}")")/../s10}")
@@ -28,7 +28,7 @@ stop() {
     pids=()
 }
 
-# Starts a server over a ledger of its own with a million serials of its own, and notes where it listens.
+# Starts a server over a ledger of its own with a million serials of its own, and records its process id and address.
 serve() { # NUMBER
     local ledger=$dir/ledger.$1 told=$dir/told.$1 address=
     rm -f "$ledger" "$ledger-wal"
@@ -47,7 +47,7 @@ serve() { # NUMBER
     addresses+=("$address")
 }
 
-# One client for each server: each sends a Draw, waits for its reply, and sends the next. Prints each rate, and their sum.
+# Runs one client for each server: it sends a Draw, waits for its reply, and sends the next. Prints each rate and the sum.
 draw_all() {
     python3 - "$draws" "${addresses[@]}" <<'END'
 import multiprocessing, socket, struct, sys, time
@@ -80,7 +80,7 @@ print(f"{len(each)} side by side:", " + ".join(f"{rate:.0f}" for rate in each), 
 END
 }
 
-# So many servers at once; afterwards their ledgers are looked at.
+# Runs the given number of servers at once, then audits their ledgers and compares their reports.
 run() { # SERVERS
     local number
     addresses=()

@@ -1,11 +1,11 @@
 #!/usr/bin/env python3
-"""Tells how many Draws a second one server on a file carries: of one client that waits for each reply, for each of which the disk
-syncs once, and of sixty-four at once, which share a sync; and how long they wait.
+"""Prints how many Draws a second one server on a file handles, and how long clients wait: for one client that waits for each reply,
+with a disk sync for each, and for sixty-four clients at once, which share a sync.
 
   python3 checks/together.py [PROGRAM]
 
-The ledger lies in a new folder of TMPDIR (or /tmp), so a folder of the disk that is to be measured can be named there. Each identifier
-has to be issued once, and the audit has to find every call.
+The ledger is in a new folder of TMPDIR (or /tmp). Set TMPDIR to a folder of the disk to be measured. Each identifier must be issued
+once, and the audit must find every call.
 """
 
 import selectors
@@ -20,7 +20,7 @@ TOGETHER = 64_000
 
 
 class Client:
-    """Draws under its own numbers, one after another, and notes how long it waited for each reply."""
+    """Draws with its own numbers, one after another, and records how many seconds it waited for each reply."""
 
     def __init__(self, address, numbers):
         self.link = link_to(address)
@@ -29,7 +29,7 @@ class Client:
         self.drawn = []
 
     def begin(self):
-        """Sends the next request, if there is one."""
+        """Sends the next request. Returns False if there is none."""
         number = next(self.numbers, None)
         if number is None:
             return False
@@ -39,13 +39,14 @@ class Client:
         return True
 
     def end(self):
-        # The day stands before the identifier.
+        """Receives the reply to the request."""
+        # The day, four bytes, precedes the identifier.
         self.drawn.append(done(self.datagram, self.link.recv(2048))[4:])
         self.waits.append(time.monotonic() - self.began)
 
 
 def run(clients):
-    """All clients at once, each up to its last number. The requests a second."""
+    """Runs all clients at once, each up to its last number. Returns the number of replies a second."""
     began = time.monotonic()
     with selectors.DefaultSelector() as ready:
         for client in clients:
@@ -63,12 +64,14 @@ def run(clients):
 
 
 def tell(words, rate, clients):
+    """Prints a rate and the waits of its clients."""
     waits = sorted(wait for client in clients for wait in client.waits)
     middle, late, last = (1000 * waits[int(part * (len(waits) - 1))] for part in (0.5, 0.99, 1))
     print(f"{words}: {rate:.0f} a second; a reply after {middle:.2f} ms, 99 of 100 within {late:.2f} ms, all within {last:.2f} ms")
 
 
 def measure(ledger):
+    """Prints both rates, and what an audit of the ledger prints."""
     with serving(ledger) as address:
         one = [Client(address, range(ALONE))]
         alone = run(one)

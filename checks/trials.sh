@@ -1,9 +1,10 @@
 #!/bin/sh
-# Hands each command what a person may hand it by mistake or by misfortune: no file, a file that is no ledger, one of another user,
-# a mount that is read-only, a full disk, a ledger or a port that is taken, an output that is closed or full. Each has to end with
-# the status, the line and the words on standard error that stand beside it, which are those of docs/OPERATING.md, and to change
-# the folder as it says: `+ledger-wal 41` is a file of 41 bytes that was not there, `~ledger 4096` one that was another, `-text` one
-# that is gone. It mounts small filesystems, in a namespace of its own, and runs commands as `nobody`, so it has to be root.
+# Runs each command over what may go wrong: no file, a file that is no ledger, one of another user, a read-only mount, a full
+# disk, a ledger or a port in use, an output that is closed or full. Each command must end with the given status, line and words on
+# standard error, which are those of docs/TROUBLESHOOTING.md, and must change its folder as given: `+ledger-wal 41` is a new file of
+# 41 bytes, `~ledger 4096` a file that changed, `-text` a file that was removed.
+#
+# It mounts small filesystems, in a namespace of its own, and runs commands as `nobody`, so it must run as root.
 #
 #     sh checks/trials.sh [PROGRAM]
 set -eu
@@ -35,13 +36,13 @@ stop() {
     fi
 }
 
-# Every file below the folder: its name, its size, and the rest that may change.
+# Prints a line for each file below the folder: its name, its size, and what else may change.
 state() {
     find . -type f -printf '%P %s %m %U:%G ' -exec sh -c 'sha256sum <"$1"' sh {} \; | sort
     find . ! -type f -printf '%P %y %m %U:%G\n' | sort
 }
 
-# What became of the files between two states.
+# Prints how the files changed between two states.
 changes() {
     awk 'NR == FNR { was[$1] = $0; next }
         !($1 in was) { print "+" $1 " " $2; next }
@@ -50,8 +51,8 @@ changes() {
         END { for (name in was) print "-" name }' ../before ../after | sort | paste -sd, -
 }
 
-# A command's words follow its status, its line, its words on standard error and the changes; several are joined by `|`.
-# `as` starts it as another user, and `sink` says where its output goes.
+# Runs a command, and compares its status, its lines, its words on standard error and the changes with those given. Several lines
+# are joined by `|`. `as` starts it as another user, and `sink` is where its output goes.
 as=
 sink=kept
 tries() { # STATUS LINE WORDS CHANGES COMMAND..
@@ -66,7 +67,7 @@ tries() { # STATUS LINE WORDS CHANGES COMMAND..
     esac </dev/null
     state >../after
     found=$(printf '%s; %s; %s; %s' "$got" "$(paste -sd'|' ../out)" "$(paste -sd'|' ../err)" "$(changes)")
-    # Where the port or the size is another each time, a star stands for it.
+    # A star represents a port or a size that differs each time.
     # shellcheck disable=SC2254
     case $found in
         $(printf '%s; %s; %s; %s' "$status" "$line" "$words" "$changed" | sed 's/[][?\\]/\\&/g')) ;;
@@ -79,18 +80,19 @@ tries() { # STATUS LINE WORDS CHANGES COMMAND..
     count=$((count + 1))
 }
 
-# The same of the three commands that look for a ledger: the words on standard error of `serve` begin with what it opens.
+# Does this for the three commands that open a ledger. The words of `serve` on standard error begin with `opening FILE`.
 refused() { # FILE LINE WORDS CHANGES
     tries 3 "$2" "$3" "$4" audit --ledger "$1"
     tries 3 "$2" "$3" "$4" report --ledger "$1" --day 20000
     tries 3 "$2" "opening $1${3:+|$3}" "$4" serve --ledger "$1" --bind 127.0.0.1:0 --count 1
 }
 
+# Does this for `create`.
 create() { # STATUS LINE WORDS CHANGES FILE
     tries "$1" "$2" "$3" "$4" create --ledger "$5" --interval 30 --limit 1000
 }
 
-# A server over a ledger; sets `server` and `address`.
+# Starts a server over a ledger. Sets `server` to its process id and `address` to its address.
 serve() { # FILE
     $as "$s10" serve --ledger "$1" --bind 127.0.0.1:0 --count 4294967295 --day 20000 >../turns 2>../told </dev/null &
     server=$!
@@ -102,6 +104,7 @@ serve() { # FILE
     fail "the server over $1 does not start"
 }
 
+# Asks the server, in one try.
 ask() { # COMMAND OPTIONS..
     command=$1
     shift
@@ -112,13 +115,13 @@ draw() { # NUMBER
     ask draw --customer 7 --number "$1" --service RA --country GB
 }
 
-# Leaves a disk no room.
+# Fills the disk.
 fill() {
     dd if=/dev/zero of=filler bs=4096 2>/dev/null || true
 }
 
-# A folder of its own for each group, which any user may look into.
-group() {
+# Starts a group of commands in a folder of its own, which any user may read.
+group() { # NAME
     cd "$room"
     mkdir "$1"
     cd "$1"
@@ -227,8 +230,8 @@ rm filler
 create 0 created '' '~new 32768,~new-wal 41' new
 tries 0 'ledger ok 0' '' '+alone-wal 41' audit --ledger alone
 
-# A server whose disk fills holds back the reply to a call that cannot be written, answers those that are, and goes on once there is
-# room. No answered call is lost, and none that was kept meanwhile.
+# A server whose disk fills withholds the reply to a call that it cannot write, and replies to repeats of committed calls. Once
+# there is room it continues. No call that got a reply is lost, and no pending one.
 group small
 mount -t tmpfs -o size=4m tmpfs "$room/small"
 cd "$room/small"
@@ -273,7 +276,7 @@ refused other 'ledger store' 'cannot open other: database is locked' ''
 create 3 'ledger store' 'cannot open other: database is locked' '' other
 stop
 
-# What asks a server, where none is at the address any more.
+# The commands that ask a server, while no server is at the address.
 group unanswered
 unanswered() { # STATUS LINE WORDS
     tries "$1" "$2" "$3" '' grant --to "$address" --number 1 --holder 7 --service RA --country GB --first 0 --last 2 --tries 1
