@@ -23,7 +23,7 @@ any_at : (b : Bool) (e : Entry) (rest : Bool) (o : Option Entry) → rest ≡ is
 any_at true e rest o same = refl
 any_at false e rest o same = same
 
--- a key is seen where its call is kept
+-- The key of a request occurs among the requests if its call is kept.
 any_kept : (q : Request) (h : List Entry) → list_any (same_key q) (map (λ e. e.request) h)
     ≡ is_some (find_entry h q.customer q.number)
 any_kept q [] = refl
@@ -39,12 +39,12 @@ once_one : (h : List Entry) (q : Request) (t n : ℕ) → applied_once h ((q, t)
 once_one h q t n = one_at (list_any (same_key q) (map (λ e. e.request) h)) h n (q, t)
     ∙ ap (λ b. cond b h (applied n h (q, t))) (any_kept q h)
 
--- a kept request changes nothing
+-- Applying a kept request changes nothing.
 pub once_kept : (h : List Entry) (q : Request) (t n : ℕ) (e : Entry)
     → find_entry h q.customer q.number ≡ Some e → applied_once h ((q, t) ∷ []) n ≡ h
 once_kept h q t n e is = once_one h q t n ∙ ap (λ o. cond (is_some o) h (applied n h (q, t))) is
 
--- a new request is added with its answer
+-- Applying a new request adds it with its outcome.
 pub once_new : (h new : List Entry) (q : Request) (t d n : ℕ) (o : Outcome)
     → find_entry h q.customer q.number ≡ None → d ≡ max (day_of h) t → o ≡ answer_of h q d n
     → new ≡ h ++ record { request = q; day = d; outcome = o } ∷ []
@@ -57,7 +57,7 @@ once_new h new q t d n o none day is grown =
 kept_at : (b : Bool) (e : Entry) → b ≡ true → cond b (Some e) None ≡ Some e
 kept_at b e is = cond-true b (Some e) None is
 
--- and is then kept under its key
+-- A new request that was added is kept under its key.
 pub kept_new : (h new : List Entry) (e : Entry) → find_entry h e.request.customer e.request.number
     ≡ None → new ≡ h ++ e ∷ [] → find_entry new e.request.customer e.request.number ≡ Some e
 kept_new h new e none grown =
@@ -68,7 +68,7 @@ kept_new h new e none grown =
     (and_from (eqb e.request.customer e.request.customer)
     (eqb e.request.number e.request.number) (eq-eqb _ _ refl) (eq-eqb _ _ refl))
 
--- any request may be told that its number was used before
+-- NumberReused fits every request.
 pub reused_fits : (b : Body) → fits b NumberReused ≡ true
 reused_fits (Grant holder service country first last) = refl
 reused_fits (Draw service country) = refl

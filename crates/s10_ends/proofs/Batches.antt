@@ -1,4 +1,4 @@
--- The parts of a batch.
+-- Lemmas about the parts of a batch.
 use Rattle.std.proofs.Common.{◌≡◌, ℕ, ◌<◌, ◌≤◌, List, [], ◌∷◌, ◌++◌, length, length-append, Option}
 use Rattle.std.proofs.Common.{Some, None, Result, Ok, Err, refl, sym, ap, subst, inl, inr, arith}
 use Rattle.std.specs.Prelude.{IsErrAnd}
@@ -24,7 +24,7 @@ no_push (y ∷ xs) x wrong = absurd cc
 
 module _ {B : Type 0} (Handled : B → B → List ℕ → Answer → Type 0) (most : ℕ)
     (old : Trace × B) where
-  -- n were taken
+  -- Receiving ends if `most` datagrams were received.
   pub taken_all : (new : Trace × B) (taken : List Exchange) → ReceivesAll Handled old taken new
       → length taken ≡ most → ReceivesBatch Handled most old new taken (Ok tt)
   taken_all new taken takes many = record {
@@ -36,14 +36,14 @@ module _ {B : Type 0} (Handled : B → B → List ℕ → Answer → Type 0) (mo
 
   module _ (between : Trace × B) (taken : List Exchange)
       (takes : ReceivesAll Handled old taken between) where
-    -- one more was
+    -- One more datagram was received.
     pub one_more : (new : Trace × B) (found : Option Exchange) (next : Exchange)
         → Takes Handled between new (Ok found) → found ≡ Some next
         → ReceivesAll Handled old (taken ++ next ∷ []) new
     one_more new found next count_receive is = taken_more takes (let P : Option Exchange
         → Type 0 = λ o. Takes Handled between new (Ok o) in subst P is count_receive)
 
-    -- nothing more had come
+    -- Receiving ends if nothing more had arrived.
     pub no_more : (new : Trace × B) (found : Option Exchange) → Takes Handled between new (Ok found)
         → found ≡ None → ReceivesBatch Handled most old new taken (Ok tt)
     no_more new found count_receive is =
@@ -51,7 +51,7 @@ module _ {B : Type 0} (Handled : B → B → List ℕ → Answer → Type 0) (mo
         let none = subst P is count_receive in
         record { handled = between; takes = takes; ends = inr none.0; same = none.1 }
 
-    -- a receive failed
+    -- Receiving ends if a receive failed.
     pub failed : (new : Trace × B) (fault : LinkFault) (ended : Result (Unit {0}) LinkFault)
         → length taken < most → Takes Handled between new (Err fault)
         → IsErrAnd ended (λ e. e ≡ fault) → ReceivesBatch Handled most old new taken ended
@@ -67,7 +67,7 @@ module _ {B : Type 0} (Handled : B → B → List ℕ → Answer → Type 0) (mo
         } in
         subst P (sym (same_error ended fault passed)) here
 
--- a batch has a turn
+-- A batch has at least one turn.
 pub turns_some : (ended : Result (Unit {0}) LinkFault) (answered : List Turn)
     → 1 ≤ length (turns_of_batch ended answered)
 turns_some (Err fault) answered = omega (arith, length-append answered (Err fault ∷ []))
@@ -84,7 +84,7 @@ turns_at_most most taken old new (Err fault) answered ends some few many =
 turns_at_most most taken old new (Ok _) [] ends some few many = some
 turns_at_most most taken old new (Ok _) (turn ∷ answered) ends some few many = omega arith
 
--- and at most n as it may take
+-- A batch has at most `most` turns.
 pub turns_few : {B : Type 0} (Handled : B → B → List ℕ → Answer → Type 0) (most : ℕ)
     (old new : Trace × B) (taken : List Exchange) (ended : Result (Unit {0}) LinkFault)
     (answered : List Turn)
@@ -93,13 +93,13 @@ pub turns_few : {B : Type 0} (Handled : B → B → List ℕ → Answer → Type
 turns_few Handled most old new taken ended answered batch some few many =
     turns_at_most most taken batch.handled.0 new.0 ended answered batch.ends some few many
 
--- batches of one datagram at most
+-- Batches of at most one datagram.
 module _ {B : Type 0} (faults : B → Faults) (honest : B → Type 0) (terms : B → Terms)
     (history committed : B → List Entry) (day : ℕ) (old between : Trace × B) where
   abbrev Handled : B → B → List ℕ → Answer → Type 0
   Handled before after b answer = Handles faults honest terms history before after day b answer
 
-  -- nothing was taken
+  -- A batch in which nothing was received.
   unanswered : (ended : Result (Unit {0}) LinkFault) (batch : List Turn)
       → ReceivesBatch Handled 1 old between [] ended → batch ≡ turns_of_batch ended []
       → ServesBatch faults honest terms history committed day 1 old between batch

@@ -51,7 +51,7 @@ found_place p (y ∷ ys) x found =
       | inr w ↦ let there = found_place p ys x w.1 in (suc there.0, there.1)
     ]
 
--- a call of the history at its place, which is that request and carries the identifier on the day
+-- A call of the history, at its index, which is that request and carries the identifier on the day.
 pub record IsCarrying (h : List Entry) (q : Request) (c : ℕ × Id) : Type 0 where
   pub place : ℕ
   pub entry : Entry
@@ -70,7 +70,8 @@ kept_own (Some e) q o c gives carries =
       | inr other ↦ absurd (Contains-nothing c (subst P (gives.1 other) carries))
     ]
 
--- where the outcome that the history gives a request carries an identifier, that request is a call of it
+-- If the outcome that the history gives a request carries an identifier, the request is a call of
+-- the history.
 pub carrying : (h : List Entry) (q : Request) (o : Outcome) (c : ℕ × Id)
     → GivesOutcome (find_entry h q.customer q.number) q o → Contains (carried_by o) c
     → IsCarrying h q c
@@ -79,7 +80,7 @@ carrying h q o c gives carries =
     let at = found_place (has_key q.customer q.number) h call.0 call.1 in
     record { place = at.0; entry = call.0; there = at.1; own = call.2; carries = call.3 }
 
--- what a call carries is an issue
+-- An identifier that a call carries was issued by it.
 pub issued_here : (arrival : ℕ) (e : Entry) (c : ℕ × Id) → Contains (carried_by e.outcome) c
     → Contains (issues_at arrival e) (made_by e arrival c)
 issued_here arrival e c carries = Contains-map (made_by e arrival) (carried_by e.outcome) c carries
@@ -115,7 +116,7 @@ has_issue h q day x call =
     }) in
     (issue.0, subst P call.own issue.1)
 
--- the text at a place among texts one after the other
+-- The text at an index among texts of equal length, one after another.
 spelled_among : (day : ℕ) (ids : List Id) (place : ℕ) (c : ℕ × Id)
     → slice_get (map (λ x. (day, x)) ids) place ≡ Some c → All IsId ids
     → Spells (take 13 (drop (13 * place) (spellings_of ids))) c.1
@@ -133,7 +134,7 @@ spelled_among day (x ∷ xs) (suc k) c there ok =
     ∙ sym (drop-drop (13 * k) 13 (spellings_of (x ∷ xs)))))
     (spelled_among day xs k c there (All-tail IsId x xs ok))
 
--- where the text of what a reply carries stands in its bytes
+-- The text at a position in a reply spells the identifier that the outcome carries there.
 text_of : (customer number : ℕ) (body : Body) (o : Outcome) (place : ℕ) (c : ℕ × Id)
     → IsTrue (fits body o) → IsOutcome o → slice_get (carried_by o) place ≡ Some c
     → Spells (text_at (datagram 0x80 (record { customer = customer; number = number; body = body })
@@ -159,7 +160,7 @@ spelled b q o place c is there =
     let P : List ℕ → Type 0 = λ l. Spells (text_at l (kind_of q.body) place) c.1 in
     subst P (sym is.3) (text_of q.customer q.number q.body o place c is.2 is.1 there)
 
--- what a reply that is owed carries was issued
+-- Every identifier in a reply that is owed was issued.
 owed_issued : (h : List Entry) (asked b : List ℕ) → IsOwed h asked b → (q : Request) (o : Outcome)
     → Replies b q o → (place day : ℕ) (x : Id) → slice_get (carried_by o) place ≡ Some (day, x)
     → Spells (text_at b (kind_of q.body) place) x × HasIssue h x day q

@@ -1,4 +1,4 @@
--- What a client makes of a datagram.
+-- Lemmas about what a client does with a datagram.
 use Rattle.std.proofs.Common.{◌≡◌, ◌∙◌, Bool, false, List, ℕ, Option, Some, None, refl, sym, ap}
 use Rattle.std.specs.Prelude.{◌↔◌, IsTrue}
 use Rattle.std.proofs.lemmas.Bool.{false≢true}

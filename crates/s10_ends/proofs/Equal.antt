@@ -1,4 +1,4 @@
--- Two requests are the same or not.
+-- Two requests are equal or not.
 use Rattle.std.proofs.Common.{◌≡◌, ◌≢◌, ◌∙◌, ◌⊎◌, inl, inr, ℕ, List, [], ◌∷◌, refl, ap}
 use Rattle.std.proofs.lemmas.Bool.Decides.{eqb_tells}
 use Rattle.s10_core.specs.declared.id.Id.{Id}
@@ -23,7 +23,7 @@ pair_one : (p q : ℕ × ℕ) → p.0 ≡ q.0 → p.1 ≡ q.1 → p ≡ q
 pair_one p q first second = ap (λ (x : ℕ). let r : ℕ × ℕ = (x, p.1) in r) first
     ∙ ap (λ (y : ℕ). let r : ℕ × ℕ = (q.0, y) in r) second
 
--- the numbers of an identifier tell it from every other
+-- Two identifiers with equal numbers are equal.
 abbrev id_numbers : Id → List ℕ
 id_numbers x = x.service.0 ∷ x.service.1 ∷ x.serial ∷ x.country.0 ∷ x.country.1 ∷ []
 

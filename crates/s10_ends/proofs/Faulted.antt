@@ -1,4 +1,4 @@
--- A fault of the book, which the server tells under the same name.
+-- Lemmas about a fault of the book, which the server reports under the same name.
 use Rattle.std.proofs.Common.{◌≡◌, Result, Ok, Err, subst}
 use Rattle.std.specs.Prelude.{IsErrAnd}
 use Rattle.s10_wire.specs.declared.outcome.Outcome.{Outcome}
@@ -13,7 +13,7 @@ told_counts Memory before after it = it
 told_counts Store before after it = it
 told_counts Full before after it = absurd it
 
--- no call of the book answers Full
+-- No call of a book fails with Full.
 pub never_full : {T : Type 0} (r : Result T BookFault) (fault : BookFault) (before after : Faults)
     → IsErrAnd r (λ e. e ≡ fault) → CountsBookFault fault before after → r ≡ Err Full → ⊥
 never_full (Ok x) fault before after passed counts full = absurd passed

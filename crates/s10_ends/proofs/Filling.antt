@@ -1,8 +1,8 @@
--- A loop fills a vector that has the room.
+-- Lemmas about a loop that fills a vector within its capacity.
 use Rattle.std.proofs.Common.{◌≡◌, ℕ, ◌+◌, ◌<◌, ◌≤◌, List, [], ◌∷◌, ◌++◌, length, ap, arith}
 use Rattle.std.proofs.Common.{length-append}
 
--- there is room for the next one
+-- The capacity is enough for the next item.
 pub room_for_next : (len capacity index most : ℕ) → len ≡ index → index < most → most ≤ capacity
     → len < capacity
 room_for_next len capacity index most many some room = omega arith
@@ -11,11 +11,11 @@ pub room_for_first : {X : Type 0} (items : List X) (len capacity most : ℕ) →
     → items ≡ [] → 1 ≤ most → most ≤ capacity → len < capacity
 room_for_first items len capacity most held none some room = omega (arith, ap length none)
 
--- a push leaves the room as it is
+-- A push leaves the capacity unchanged.
 pub room_kept : (before after most : ℕ) → most ≤ before → after ≡ before → most ≤ after
 room_kept before after most room same = omega arith
 
--- and adds one
+-- A push adds one item.
 pub one_longer : (before after index : ℕ) → before ≡ index → after ≡ before + 1 → after ≡ index + 1
 one_longer before after index many more = omega arith
 
@@ -30,7 +30,7 @@ first_pushed items before after held none more = omega (arith, ap length none)
 pub none_held : {X : Type 0} (items : List X) (len : ℕ) → len ≡ length items → items ≡ [] → len ≡ 0
 none_held items len held none = omega (arith, ap length none)
 
--- none are few
+-- An empty list has at most `most` items.
 pub few_of_none : {X : Type 0} (items : List X) (most : ℕ) → items ≡ [] → length items ≤ most
 few_of_none items most none = omega (arith, ap length none)
 
@@ -40,7 +40,7 @@ fewer held index most many some = omega arith
 pub no_more_than : (held index most : ℕ) → held ≡ index → index < most → held ≤ most
 no_more_than held index most many some = omega arith
 
--- as many as were to come
+-- The loop ended after `most` items.
 pub all_held : (held index most : ℕ) → held ≡ index → index ≤ most → most ≤ index → held ≡ most
 all_held held index most many past ended = omega arith
 

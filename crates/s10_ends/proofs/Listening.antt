@@ -1,4 +1,4 @@
--- The receives of one try of a call.
+-- Lemmas about the receives of one try of a call.
 use Rattle.std.proofs.Common.{◌≡◌, ◌≢◌, ℕ, false, true, ◌+◌, ◌<◌, ◌≤◌, List, Option, Some, Err}
 use Rattle.std.proofs.Common.{refl, sym, ap, ◌∙◌, subst, inl, inr, arith}
 use Rattle.std.specs.Prelude.{IsSome}
@@ -23,7 +23,7 @@ use Rattle.s10_wire.specs.Reply.{request_of, outcome_of}
 use Rattle.s10_ends.specs.Client.{ClientState, ClientReceives, without_pending}
 use Rattle.s10_ends.specs.Calls.{Heard, TookAllBut, IsUnanswered, IsLastReply, failures_of}
 
--- k receives, each of which took a datagram
+-- There were k receives, each of which got a datagram.
 pub record Hearing (old new : Trace) (k : ℕ) : Type 0 where
   pub calls : new.calls ≡ old.calls + k
   pub received : new.received ≡ old.received + k
@@ -69,7 +69,7 @@ heard t m k h few = record {
 pub took_all : (t m : Trace) (k : ℕ) → Hearing t m k → TookAllBut t m 0
 took_all t m k h = omega (arith, h.calls, h.received)
 
--- nothing came after k datagrams
+-- A receive got nothing after k datagrams.
 pub heard_quiet : (t m m' : Trace) (k : ℕ) → Hearing t m k → k < 8 → m' ≡ after_call m
     → Heard t m' 0 × (t.calls < m'.calls) × TookAllBut t m' 1
 heard_quiet t m m' k h few is =
@@ -88,7 +88,7 @@ heard_quiet t m m' k h few is =
       omega (arith, h.calls, h.received, calls, received),
     )
 
--- a receive that was refused after k others
+-- A receive failed after k datagrams.
 pub heard_refused : (t m m' : Trace) (k : ℕ) (fault : LinkFault) → Hearing t m k → k < 8
     → Receives m m' (Err fault) → Heard t m' (failures_of fault)
 heard_refused t m m' k Receive h few refused =
@@ -119,14 +119,14 @@ took_all_refused t m m' k Spent h refused = let P : Trace → Type 0 = λ x. Too
 took_all_refused t m m' k Send h refused = absurd refused
 took_all_refused t m m' k Bind h refused = absurd refused
 
--- a receive is not refused with Send
+-- A receive does not fail with Send.
 pub receive_not_send : (m m' : Trace) (fault : LinkFault) → Receives m m' (Err fault) → fault ≢ Send
 receive_not_send m m' Receive refused = λ wrong. cc
 receive_not_send m m' Spent refused = λ wrong. cc
 receive_not_send m m' Send refused = absurd refused
 receive_not_send m m' Bind refused = absurd refused
 
--- a receive is not refused with Bind
+-- A receive does not fail with Bind.
 pub receive_not_bind : (m m' : Trace) (fault : LinkFault) → Receives m m' (Err fault) → fault ≢ Bind
 receive_not_bind m m' Receive refused = λ wrong. cc
 receive_not_bind m m' Spent refused = λ wrong. cc
@@ -160,7 +160,8 @@ no_reply_to : (b : List ℕ) (q p : Request) (o : Outcome) → Replies b q o →
     → ¬ (Replies b p o')
 no_reply_to b q p o replies other o' wrong = other (one_reply b p q o' o wrong replies).0
 
--- a datagram that was not accepted leaves the client, and is no reply to what is pending
+-- A datagram that is not accepted leaves the client unchanged. It is no reply to the pending
+-- request.
 pub unaccepted : (c c' : ClientState) (b : List ℕ) (received : Received)
     → ClientReceives c b received c' → ((reply : Reply) → received ≡ Accepted reply → ⊥)
     → IsSome c.pending
@@ -178,7 +179,7 @@ unaccepted c c' b NotMine r other some =
     (r.6, own)
 unaccepted c c' b (Accepted reply) r other some = absurd (other reply refl)
 
--- so of the packet with these bytes, and of what was pending before
+-- The same for the packet with these bytes, and the request that was pending before.
 pub unaccepted_packet : (c c0 : ClientState) (b : List ℕ) (packet : Packet) → c ≡ c0 → b ≡ packet
     → ((q : Request) → c.pending ≡ Some q → (o : Outcome) → ¬ (Replies b q o))
     → (q : Request) → c0.pending ≡ Some q → (o : Outcome) → ¬ (Replies packet q o)
@@ -189,7 +190,7 @@ unaccepted_packet c c0 b packet client is none =
     → ¬ (Replies b q o) in
     subst P is (subst Q client none)
 
--- a datagram that was accepted is the reply to what was pending
+-- A datagram that is accepted is the reply to the request that was pending.
 pub accepted_reply : (c0 c c' : ClientState) (b : List ℕ) (t : Trace) (from : Peer)
     (packet : Packet) (reply : Reply) → c ≡ c0 → b ≡ packet → ClientReceives c b (Accepted reply) c'
     → t.taken ≡ Some (from, packet) → (c0.pending ≡ Some (request_of reply))

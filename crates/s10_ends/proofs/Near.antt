@@ -1,4 +1,4 @@
--- What calls over a near link make of the book after it.
+-- Lemmas about the book of a near link after calls over it.
 use Rattle.std.proofs.Common.{◌≡◌, ◌≢◌, ◌∙◌, refl, sym, ap, subst, ℕ, List, [], ◌∷◌, ◌++◌, Result}
 use Rattle.std.proofs.Common.{Ok, Err, inl, inr, arith}
 use Rattle.std.proofs.lemmas.List.Elements.{All-nil, All-push}
@@ -33,7 +33,7 @@ no_rise before after rises at =
       at,
     ))
 
--- a fault was counted
+-- The fault was counted.
 counted : (fault : BookFault) (before after : Faults) → CountsBookFault fault before after
     → ¬ (after ≡ no_faults)
 counted Memory before after (rises, same) at = no_rise before.memory after.memory rises
@@ -63,7 +63,7 @@ one_more_on day h h1 h2 t t1 b answer before same one = record {
 
 module _ {B F N : Type 0} (faults : B → Faults) (honest : B → Type 0) (terms : B → Terms)
     (history committed : B → List Entry) (far : F → Trace) (near : N → Trace) where
-  -- a book, as it was and after datagrams of that day
+  -- The book before and after datagrams of that day.
   pub record LedOn (day : ℕ) (old new : B) : Type 0 where
     pub was_honest : honest new → honest old
     pub same_terms : honest new → terms new ≡ terms old
@@ -91,7 +91,7 @@ module _ {B F N : Type 0} (faults : B → Faults) (honest : B → Type 0) (terms
         answer (led.served before) (led.same_terms before) (handles.served h);
   }
 
-  -- what was taken was handled on the day
+  -- The received datagrams were handled on the day.
   taken : (day : ℕ) (book : B) (old new : Trace × B) (ts : List Exchange) → LedOn day book old.1
       → ReceivesAll (λ before after b answer. Handles faults honest terms history before after day b
       answer) old ts new → LedOn day book new.1
@@ -130,7 +130,7 @@ module _ {B F N : Type 0} (faults : B → Faults) (honest : B → Type 0) (terms
       answered day book batch.between.1 new.1 batch.taken batch.answers.commit_result received
       batch.answers.commits batch.answers.unasked
 
-  -- with no fault all calls are committed
+  -- If the book is honest and had no fault, all its calls are committed.
   abbrev pub Whole : B → Type 0
   Whole book = honest book → faults book ≡ no_faults → committed book ≡ history book
 
@@ -183,7 +183,7 @@ module _ {B F N : Type 0} (faults : B → Faults) (honest : B → Type 0) (terms
         (ap (λ (s : Server B). book_of s) w.3)
   ]
 
-  -- its book after calls over the link
+  -- The book of the link after calls over it.
   pub near_led : (old new : NearLink B F N) → LeadsTo Step old new
       → LedOn old.day (book_of old.server) (book_of new.server)
   near_led old _ none = not_led old.day (book_of old.server)
@@ -200,7 +200,7 @@ module _ {B F N : Type 0} (faults : B → Faults) (honest : B → Type 0) (terms
     | inr w ↦ subst Whole (sym (ap (λ (s : Server B). book_of s) w.3)) whole
   ]
 
-  -- all its calls are committed after calls over the link, unless there was a fault
+  -- All calls of the book are committed after calls over the link, unless there was a fault.
   pub near_whole : (old new : NearLink B F N) → LeadsTo Step old new → Whole (book_of old.server)
       → Whole (book_of new.server)
   near_whole old _ none whole = whole

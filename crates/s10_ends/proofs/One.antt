@@ -1,4 +1,4 @@
--- One delivery.
+-- Lemmas about one delivery.
 use Rattle.std.proofs.Common.{◌≡◌, ◌∙◌, ℕ, zero, suc, List, [], ◌∷◌, take, subst, Some, refl, sym}
 use Rattle.std.proofs.Common.{ap}
 use Rattle.std.specs.Prelude.{◌↔◌, slice_get}
@@ -21,7 +21,7 @@ use Rattle.s10_ends.specs.Served.{Dated, AskNothing, GivesOutcome, IsFullFor, no
 use Rattle.s10_ends.specs.Served.AreAsked.{none, nothing, request}
 use Rattle.s10_ends.proofs.Whole.{FullBefore}
 
--- bytes that ask nothing are dropped with their first refusal, and with no other
+-- Bytes that ask nothing are dropped with their first refusal, and with no other fault.
 pub only_first : (b : List ℕ) (fault told : WireFault) → AskNothing b
     → IsFirstRefusalOfRequest b fault → (Dropped fault ≡ Dropped told)
     ↔ (AskNothing b × IsFirstRefusalOfRequest b told)
@@ -31,7 +31,7 @@ only_first b fault told asks refused =
       λ other. ap (λ (f : WireFault). Dropped f) (same_Some fault told (sym refused ∙ other.1)),
     )
 
--- and bytes that ask something are not dropped
+-- Bytes that ask something are not dropped.
 pub not_dropped : (b : List ℕ) (q : Request) (a : Answer) (told : WireFault) → Asks b q
     → ¬ (a ≡ Dropped told) → (a ≡ Dropped told) ↔ (AskNothing b × IsFirstRefusalOfRequest b told)
 not_dropped b q a told asks other =
@@ -43,7 +43,7 @@ reply_not_dropped frame told same = cc
 pub faulted_not_dropped : (fault : BookFault) (told : WireFault) → ¬ (Faulted fault ≡ Dropped told)
 faulted_not_dropped fault told same = cc
 
--- an answer other than Full
+-- The answer is not Full.
 not_full : (a : Answer) (k : ℕ) → (a ≡ Faulted Full → ⊥) → slice_get (a ∷ []) k
     ≡ Some (Faulted Full) → ⊥
 not_full a zero other at = other (same_Some a (Faulted Full) at)

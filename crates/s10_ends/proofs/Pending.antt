@@ -1,4 +1,4 @@
--- A client that took no number waits for nothing.
+-- A client that has used no number has no pending request.
 use Rattle.std.proofs.Common.{◌≡◌, Option, Some, None, refl, arith}
 use Rattle.std.specs.Prelude.{IfSome}
 use Rattle.s10_wire.specs.declared.request.Request.{Request}

@@ -1,4 +1,4 @@
--- Deliveries of a run, one after another.
+-- Lemmas about the deliveries of a run, one after another.
 use Rattle.std.proofs.Common.{◌≡◌, ◌∙◌, ap, Bool, true, false, cond, ℕ, ◌+◌, ◌≤◌, List, [], ◌∷◌}
 use Rattle.std.proofs.Common.{◌++◌, map, refl, sym, inl, inr, arith, subst}
 use Rattle.std.specs.List.{count_by}
@@ -74,7 +74,7 @@ neither ans a x y z counts no_memory no_store same =
           (ap (λ (f : Faults). f.store) same);
     }
 
--- one more answer
+-- One more answer.
 pub CountsAll-push : (ans : List Answer) (a : Answer) (x y z : Faults) → CountsAll ans x y
     → CountsAnswer a y z → CountsAll (ans ++ a ∷ []) x z
 CountsAll-push ans (Reply frame) x y z counts step = neither ans (Reply frame) x y z counts refl
@@ -98,7 +98,7 @@ CountsAll-push ans (Faulted Store) x y z counts step =
 CountsAll-push ans (Faulted Full) x y z counts step = neither ans (Faulted Full) x y z counts refl
     refl step
 
--- one more delivery
+-- One more delivery.
 pub Served-map_push : (h h1 h2 : List Entry) (t t1 : Terms) (ds : List Delivery) (ans : List Answer)
     (d : Delivery) (a : Answer)
     → Served h t (map dated ds) ans h1 → t1 ≡ t → Served h1 t1 (dated d ∷ []) (a ∷ []) h2

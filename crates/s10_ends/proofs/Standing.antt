@@ -1,4 +1,4 @@
--- The replies of a batch stand in the committed calls.
+-- Lemmas about the replies of a batch, which the committed calls give.
 use Rattle.std.proofs.Common.{◌≡◌, ◌≢◌, ◌∙◌, refl, sym, ap, subst, ℕ, Bool, false, List, [], ◌∷◌}
 use Rattle.std.proofs.Common.{◌++◌, map, Option, Result, Ok, Err, inl, inr}
 use Rattle.std.specs.Prelude.{◌↔◌, IsTrue, All, OnOk}
@@ -35,7 +35,7 @@ use Rattle.s10_ends.specs.Batch.AnswersAll.{none as answered_none, more as answe
 use Rattle.s10_ends.proofs.Whole.{Served-nil, Served-push}
 use Rattle.s10_ends.proofs.Batches.{no_push}
 
--- what bytes ask is committed where the call of their request is
+-- The request in the bytes is committed if the call of that request is.
 pub own_committed : (committed h : List Entry) (b : List ℕ) (q : Request) (answer : Bool) → Asks b q
     → (IsTrue answer ↔ IsCommittedCall committed h q.customer q.number) → IsTrue answer
     ↔ AsksCommitted committed h b
@@ -50,7 +50,7 @@ pub nothing_committed : (committed h : List Entry) (b : List ℕ) → AskNothing
 nothing_committed committed h b nothing =
     (λ is. absurd (false≢true is), λ own. absurd (nothing own.0 own.1))
 
--- a datagram that was answered as the calls owe it
+-- The exchange has the answer that the history owes.
 abbrev IsTakenAnswered : List Entry → Exchange → Type 0
 IsTakenAnswered h t = IsAnswered h t.packet t.answer
 
@@ -62,7 +62,7 @@ taken_answered h day [] all = All-nil (IsTakenAnswered h)
 taken_answered h day (t ∷ ts) all = All-cons (IsTakenAnswered h) t ts all.0
     (taken_answered h day ts all.1)
 
--- what holds of all and of one after them
+-- A property of all elements of a list with one more at its end holds for the first ones.
 first_of : {X : Type 0} (P : X → Type 0) (xs : List X) (x : X) → All P (xs ++ x ∷ []) → All P xs
 first_of P [] x all = All-nil P
 first_of P (y ∷ ys) x all = All-cons P y ys (All-head P y (ys ++ x ∷ []) all)
@@ -72,7 +72,7 @@ last_of : {X : Type 0} (P : X → Type 0) (xs : List X) (x : X) → All P (xs ++
 last_of P [] x all = All-head P x [] all
 last_of P (y ∷ ys) x all = last_of P ys x (All-tail P y (ys ++ x ∷ []) all)
 
--- one turn
+-- Lemmas about one turn.
 module _ (Honest : Type 0) (committed h : List Entry) (at : Honest) where
   abbrev Own : List ℕ → Type 0
   Own = AsksCommitted committed h
@@ -139,7 +139,7 @@ module _ (Honest : Type 0) (committed h : List Entry) (at : Honest) where
       (turn_stands between new commit_result next.from next.packet next.answer turn (done some)
       (last_of (IsTakenAnswered h) ts next owed) answers)
 
--- the turns of a batch are those of its datagrams, and one in which none came
+-- A property of the turns of the exchanges holds for all turns of the batch.
 told : (committed : List Entry) (ended : Result (Unit {0}) LinkFault) (answered : List Turn)
     → All (IsSentCommitted committed) answered
     → All (IsSentCommitted committed) (turns_of_batch ended answered)
@@ -159,7 +159,7 @@ module _ {B : Type 0} (faults : B → Faults) (honest : B → Type 0) (terms : B
   abbrev answers_of : List Exchange → List Answer
   answers_of ts = map (λ (t : Exchange). t.answer) ts
 
-  -- what was taken was served, one datagram after another
+  -- The received datagrams were served one after another.
   pub record ServesTaken (old new : B) (ts : List Exchange) : Type 0 where
     pub same_terms : terms new ≡ terms old
     pub served : Served (history old) (terms old) (packets ts) (answers_of ts) (history new)
@@ -187,7 +187,7 @@ module _ {B : Type 0} (faults : B → Faults) (honest : B → Type 0) (terms : B
             (subst P before.same_terms (one.served h))));
       }
 
-  -- where nothing was taken, or the calls were committed
+  -- The book was honest before the commit, with the same history.
   honest_before : (old new : B) (ts : List Exchange) (commit_result : Result (Unit {0}) BookFault)
       → (ts ≢ [] → Commits faults honest terms history committed old new commit_result)
       → (ts ≡ [] → new ≡ old)
@@ -197,7 +197,7 @@ module _ {B : Type 0} (faults : B → Faults) (honest : B → Type 0) (terms : B
   honest_before old new (t ∷ ts) commit_result commits same h = let kept =
       (commits (λ e. absurd cc)).unchanged in (kept.was_honest h, kept.same_history h)
 
-  -- each reply that a batch sent stands in the calls that it left committed
+  -- Every reply that a batch sent is one that the committed calls give.
   pub batch_stands : (most : ℕ) (old new : Trace × B) (turns : List Turn)
       → ServesBatch faults honest terms history committed day most old new turns → honest new.1
       → All (IsSentCommitted (committed new.1)) turns
@@ -217,7 +217,7 @@ module _ {B : Type 0} (faults : B → Faults) (honest : B → Type 0) (terms : B
       subst (λ (l : List Turn). All (IsSentCommitted (committed new.1)) l) (sym batch.are)
       (told (committed new.1) batch.ended batch.answered all)
 
-  -- and so does the one of a batch of one turn
+  -- The same for a batch of one turn.
   pub turn_of_batch : (old new : Trace × B) (turn : Turn) → ServesBatch faults honest terms history
       committed day 1 old new (turn ∷ []) → honest new.1 → IsSentCommitted (committed new.1) turn
   turn_of_batch old new turn batch h = All-head (IsSentCommitted (committed new.1)) turn []

@@ -1,4 +1,4 @@
--- The tries of a call.
+-- Lemmas about the tries of a call.
 use Rattle.std.proofs.Common.{◌≡◌, ◌≢◌, ℕ, zero, suc, ◌+◌, ◌<◌, ◌≤◌, Option, Some, None, Result, Ok}
 use Rattle.std.proofs.Common.{Err, refl, sym, ap, ◌∙◌, subst, inl, inr, arith}
 use Rattle.std.specs.Prelude.{IsErrAnd}
@@ -22,7 +22,7 @@ use Rattle.s10_ends.specs.Calls.{SentOnly, Tried, TookAllBut, Ended, EndsTry, Is
 use Rattle.s10_ends.specs.Calls.{Listens, IsUnanswered, IsNoReply, Attempts, Calls, failures_of}
 use Rattle.s10_ends.proofs.Turns.{same_error}
 
--- the frame was not sent, or it was and its reply was listened for
+-- The frame was not sent, or it was sent and the receives followed.
 pub unsent : (c : ClientState) (t t' : Trace) (p : Peer × Frame) (fault : LinkFault)
     (r : Result (Option Reply) LinkFault) → Sends t t' p (Err fault) → IsErrAnd r (λ e. e ≡ fault)
     → Attempts c c t t' p r
@@ -63,7 +63,7 @@ alike_again m s p (suc k) given alike g = let on : s.alike ≡ m.alike + 1 =
     g.again (given (omega arith)) in let low : suc k ≤ m.alike = alike (omega arith) in
     omega (arith, on, low)
 
--- one more send
+-- One more send.
 pub sent_again : (t m s : Trace) (p : Peer × Frame) (k : ℕ) → SentOnly t m p k → IsAfterFrame m s p
     → SentOnly t s p (k + 1)
 sent_again t m s p k sent g =
@@ -74,7 +74,7 @@ sent_again t m s p k sent g =
       alike = λ some. alike_again m s p k sent.given sent.alike g;
     }
 
--- receives send nothing
+-- Receives send nothing.
 pub sent_heard : (t s t' : Trace) (p : Peer × Frame) (k failed : ℕ) → SentOnly t s p k
     → Heard s t' failed → SentOnly t t' p k
 sent_heard t s t' p k failed sent h = record {
@@ -83,7 +83,7 @@ sent_heard t s t' p k failed sent h = record {
   alike = λ some. let low : k ≤ s.alike = sent.alike some in omega (arith, low, h.alike);
 }
 
--- one more try, which was not cut short
+-- One more try, which did not end early.
 ended_again : (t m s t' : Trace) (p : Peer × Frame) (k : ℕ) → Ended t m k 0 0 → IsAfterFrame m s p
     → s.received ≤ t'.received → EndsTry s t' → Ended t t' (k + 1) 0 0
 ended_again t m s t' p k e g more (inl count_receive) =
@@ -107,7 +107,7 @@ ended_again t m s t' p k e g more (inr whole) =
       eight = omega (arith, e.eight, received, whole.1);
     }
 
--- one more try, which was cut short
+-- One more try, which ended early.
 ended_cut : (t m s t' : Trace) (p : Peer × Frame) (k failed : ℕ) → Ended t m k 0 0
     → IsAfterFrame m s p → s.received ≤ t'.received → TookAllBut s t' failed
     → Ended t t' (k + 1) 1 failed
@@ -122,7 +122,7 @@ ended_cut t m s t' p k failed e g more count_receive =
       eight = omega (arith, e.eight, received, more);
     }
 
--- one more try
+-- One more try.
 tried_again : (t m s t' : Trace) (p : Peer × Frame) (k cut : ℕ) → Tried t m p k 0
     → IsAfterFrame m s p → Heard s t' 0 → s.calls < t'.calls → Ended t t' (k + 1) cut 0
     → Tried t t' p (k + 1) cut
@@ -137,7 +137,7 @@ tried_again t m s t' p k cut tried g h more ended =
       failures = omega (arith, h.failures, failures, tried.failures);
     }
 
--- a try whose send was refused
+-- A try whose send failed.
 pub stopped_unsent : (t m t' : Trace) (p : Peer × Frame) (k tries : ℕ) (fault : LinkFault)
     → Tried t m p k 0 → k < tries → Sends m t' p (Err fault) → Stopped t t' p tries fault
 stopped_unsent t m t' p k tries Send tried few refused =
@@ -188,7 +188,7 @@ is_cut Spent other another = omega arith
 is_cut Send other another = absurd (another refl)
 is_cut Bind other another = absurd (other refl)
 
--- a try in which a receive was refused
+-- A try in which a receive failed.
 stopped_sent : (t m s t' : Trace) (p : Peer × Frame) (k tries : ℕ) (fault : LinkFault)
     → Tried t m p k 0 → k < tries → IsAfterFrame m s p → Heard s t' (failures_of fault)
     → fault ≢ Bind → fault ≢ Send
@@ -209,7 +209,7 @@ stopped_sent t m s t' p k tries fault tried few g h other another count_receive 
       failures = omega (arith, h.failures, failures, tried.failures);
     }
 
--- another try without a reply
+-- One more try without a reply.
 pub unanswered_again : (t m s t' : Trace) (p : Peer × Frame) (pending : Option Request)
     → IsUnanswered t m pending → IsAfterFrame m s p → IsUnanswered s t' pending
     → IsUnanswered t t' pending
@@ -231,7 +231,7 @@ unanswered_again t m s t' p pending before g after =
     joined (inl a) (inr b) received taken = inr (omega (arith, a.0, b.0, received), b.1)
     joined (inr a) (inr b) received taken = inr (omega (arith, a.0, b.0, received), b.1)
 
--- the reply to what is pending was accepted
+-- The reply to the pending request was accepted.
 pub accepted_call : (c c1 c' : ClientState) (t m t' : Trace) (to : Peer) (body : Body) (tries k : ℕ)
     (frame : Frame) (q : Request) (reply : Reply)
     → None ≡ submit_fault c → q ≡ next_request c body → Asks frame q → c1 ≡ after_submit c body
@@ -254,7 +254,7 @@ accepted_call c c1 c' t m t' to body tries k frame q reply free own asks client 
           (ended_cut t m found.0 t' (to, frame) k 0 tried.ended found.1 heard.received found.2.5),
     )
 
--- a try found no reply
+-- A try got no reply.
 pub still_tried : (c1 c' : ClientState) (t m t' : Trace) (p : Peer × Frame) (k : ℕ)
     → Tried t m p k 0 → Attempts c1 c' m t' p (Ok None) → Tried t t' p (k + 1) 0
 still_tried c1 c' t m t' p k tried found =
@@ -269,7 +269,7 @@ still_unanswered c1 c' t m t' p q pends before found =
     let P : Option Request → Type 0 = λ x. IsUnanswered found.0 t' x in
     unanswered_again t m found.0 t' p (Some q) before found.1 (subst P pends found.2.3)
 
--- the link refused a call
+-- The link refused a call.
 pub stopped_call : (c c1 c2 c' : ClientState) (t m t' : Trace) (to : Peer) (body : Body)
     (tries k : ℕ) (frame : Frame) (q : Request) (fault : LinkFault)
     → None ≡ submit_fault c → q ≡ next_request c body → Asks frame q → c1 ≡ after_submit c body
@@ -294,7 +294,7 @@ stopped_call c c1 c2 c' t m t' to body tries k frame q fault free own asks clien
           sent.2.4,
     )
 
--- no try found a reply
+-- No try got a reply.
 pub gave_up_call : (c c1 c' : ClientState) (t t' : Trace) (to : Peer) (body : Body) (tries k : ℕ)
     (frame : Frame) (q : Request)
     → None ≡ submit_fault c → q ≡ next_request c body → Asks frame q → c1 ≡ after_submit c body

@@ -1,4 +1,4 @@
--- The cases of a receive.
+-- Lemmas about the results of a receive.
 use Rattle.std.proofs.Common.{◌≡◌, List, ℕ, Option, Some, None, Result, Ok, Err, refl, sym, ap}
 use Rattle.std.proofs.Common.{subst}
 use Rattle.std.specs.Prelude.{IsErrAnd}
@@ -12,13 +12,13 @@ use Rattle.s10_ends.specs.declared.answer.Answer.{Answer}
 use Rattle.s10_ends.specs.declared.exchange.Exchange.{Exchange}
 use Rattle.s10_ends.specs.Turn.{Takes}
 
--- an error that is passed on
+-- The same fault is returned.
 pub same_error : {T : Type 0} → (r : Result T LinkFault) (fault : LinkFault)
     → IsErrAnd r (λ e. e ≡ fault) → r ≡ Err fault
 same_error (Ok x) fault passed = absurd passed
 same_error (Err e) fault passed = ap (λ (f : LinkFault). Err f) passed
 
--- a receive that took something
+-- A receive got a datagram.
 pub taken_is : (old new : Trace) (o : Option (Peer × Packet)) (p : Peer × Packet)
     → Receives old new (Ok o) → o ≡ Some p → new ≡ after_datagram old p
 taken_is old new o p received is = let P : Option (Peer × Packet) → Type 0 =
@@ -31,13 +31,13 @@ taken_with old new o from packet own received is same = let P : Packet → Type 
     λ x. new ≡ after_datagram old (from, x) in
     subst P same (taken_is old new o (from, packet) received is)
 
--- one in which nothing came
+-- A receive got nothing.
 pub quiet_is : (old new : Trace) (o : Option (Peer × Packet)) → Receives old new (Ok o) → o ≡ None
     → new ≡ after_call old
 quiet_is old new o received is = let P : Option (Peer × Packet) → Type 0 =
     λ x. Receives old new (Ok x) in subst P is received
 
--- and one that failed
+-- A receive failed.
 pub failed_take : {B : Type 0} (Handled : B → B → List ℕ → Answer → Type 0) (old new : Trace)
     (book : B) (fault : LinkFault) (r : Result (Option Exchange) LinkFault)
     → Receives old new (Err fault) → IsErrAnd r (λ e. e ≡ fault)

@@ -1,4 +1,4 @@
--- Deliveries one after another.
+-- Lemmas about deliveries one after another.
 use Rattle.std.proofs.Common.{◌≡◌, ℕ, zero, suc, Bool, true, false, cond, List, [], ◌∷◌, ◌++◌, map}
 use Rattle.std.proofs.Common.{Option, Some, None, refl, sym, ap, ◌∙◌, ◌⊎◌, inl, inr, subst}
 use Rattle.std.proofs.Common.{append-nil, append_assoc, take}
@@ -46,7 +46,7 @@ firsts_at false seen p ps qs here new =
     ap (λ l. p ∷ l) (new ∙ ap (λ s. first_arrivals (seen ++ p.0 ∷ []) ps ++ first_arrivals s qs)
     (append_assoc seen (p.0 ∷ []) (asking (first_arrivals (seen ++ p.0 ∷ []) ps))))
 
--- the first ones of two lists, one after the other
+-- The first arrivals of two lists, one after the other.
 pub first_arrivals-append : (seen : List Request) (ps qs : List (Request × ℕ))
     → first_arrivals seen (ps ++ qs) ≡ first_arrivals seen ps ++ first_arrivals
     (seen ++ asking (first_arrivals seen ps)) qs
@@ -59,7 +59,7 @@ map_append : (h : List Entry) (e : Entry) → of_history (h ++ e ∷ []) ≡ of_
 map_append [] e = refl
 map_append (x ∷ xs) e = ap (λ l. x.request ∷ l) (map_append xs e)
 
--- what is applied stands in the history with its requests
+-- The requests of a history are those before it and those that were applied.
 applied_requests : (n : ℕ) (h : List Entry) (ps : List (Request × ℕ))
     → of_history (fold (applied n) h ps) ≡ of_history h ++ asking ps
 applied_requests n h [] = sym (append-nil (of_history h))
@@ -72,7 +72,7 @@ fold_append : {A B : Type 0} (f : B → A → B) (a : B) (xs ys : List A) → fo
 fold_append f a [] ys = refl
 fold_append f a (x ∷ xs) ys = fold_append f (f a x) xs ys
 
--- applying two lists is applying one and then the other
+-- Applying two lists is applying one and then the other.
 pub applied_once-append : (h : List Entry) (ps qs : List (Request × ℕ)) (n : ℕ)
     → applied_once h (ps ++ qs) n ≡ applied_once (applied_once h ps n) qs n
 applied_once-append h ps qs n =
@@ -82,7 +82,7 @@ applied_once-append h ps qs n =
     ∙ ap (λ s. fold (applied n) (applied_once h ps n) (first_arrivals s qs))
     (sym (applied_requests n h (first_arrivals (of_history h) ps)))
 
--- a history only grows
+-- Applying requests only adds to a history.
 grows : (n : ℕ) (h : List Entry) (ps : List (Request × ℕ)) → (more : List Entry)
     × (fold (applied n) h ps ≡ h ++ more)
 grows n h [] = ([], sym (append-nil h))
@@ -93,7 +93,7 @@ kept_at : (k : Option Entry) (more : List Entry) (q : Request) (o : Outcome) →
 kept_at None more q o a = absurd a
 kept_at (Some e) more q o a = a
 
--- a reply that is owed stays so
+-- A reply that is owed is owed by every longer history.
 pub IsOwed-more : (h more : List Entry) (b f : List ℕ) → IsOwed h b f → IsOwed (h ++ more) b f
 IsOwed-more h more b f owed =
     let q = owed.0 in (
@@ -111,14 +111,14 @@ IsAnswered-more h more b (Reply frame) is = IsOwed-more h more b _ is
 IsAnswered-more h more b (Dropped fault) is = is
 IsAnswered-more h more b (Faulted fault) is = is
 
--- what two lists of deliveries ask
+-- The requests of two lists of deliveries.
 AreAsked-append : {ds es : List Dated} {ps qs : List (Request × ℕ)} → AreAsked ds ps
     → AreAsked es qs → AreAsked (ds ++ es) (ps ++ qs)
 AreAsked-append none more = more
 AreAsked-append (nothing asks rest) more = nothing asks (AreAsked-append rest more)
 AreAsked-append (request asks rest) more = request asks (AreAsked-append rest more)
 
--- one list applied and then another
+-- Two lists applied one after the other.
 IsOnce-append : (h h1 h2 : List Entry) (ds es : List Dated) (n : ℕ) → IsOnce h ds n h1
     → IsOnce h1 es n h2 → IsOnce h (ds ++ es) n h2
 IsOnce-append h h1 h2 ds es n first second = (
@@ -177,7 +177,7 @@ places h (x ∷ xs) (y ∷ ys) d d' a a' (suc k) all is at =
       | inr w ↦ inr (w.0, w.1, ap (λ l. x ∷ l) w.2, ap (λ l. y ∷ l) w.3)
     ]
 
--- the history before a delivery that found the book full
+-- The history before a delivery that found the book full.
 abbrev pub FullBefore : List Entry → Terms → List Dated → Dated → Type 0
 FullBefore h t served d = (before : List Entry) × (q : Request) × IsOnce h served t.interval before
     × Asks d.0 q × IsFullFor before t q
@@ -193,7 +193,7 @@ full_before h h1 t served d once at = (
   at.4,
 )
 
--- what serves a list and then one more delivery serves them all
+-- Serving a list and then one more delivery is serving the longer list.
 pub Served-push : (h h1 h2 : List Entry) (t : Terms) (ds : List Dated) (ans : List Answer)
     (d : Dated) (a : Answer)
     → Served h t ds ans h1 → Served h1 t (d ∷ []) (a ∷ []) h2

@@ -1,4 +1,4 @@
--- What a server makes of the datagrams that have come at once: it takes them, commits their calls, and only then replies.
+-- A batch: datagrams that a server receives together, commits in one transaction, then replies to.
 use Rattle.std.specs.Prelude.{◌≡◌, ◌≢◌, ◌⊎◌, ℕ, ⊤, ◌<◌, List, [], ◌∷◌, ◌++◌, length, Some, Result}
 use Rattle.std.specs.Prelude.{Ok, Err}
 use Rattle.s10_link.specs.declared.trace.Trace.{Trace}
@@ -15,7 +15,7 @@ use Rattle.s10_ends.specs.declared.server_turn.ServerTurn.TheVariants as turns
 use Rattle.s10_ends.specs.Served.{IsReplyIn}
 use Rattle.s10_ends.specs.Turn.{Turn, Handles, Commits, Takes, AsksCommitted, Answers}
 
--- datagrams were taken one after another, from a link's trace and the server's book to those after the last one
+-- Exchanges were received and handled in order, from the first trace and book to the last ones.
 pub data ReceivesAll {B : Type 0} (Handled : B → B → List ℕ → Answer → Type 0) : Trace × B
     → List Exchange → Trace × B → Type 0 where
   none : {at : Trace × B} → ReceivesAll Handled at [] at
@@ -23,13 +23,13 @@ pub data ReceivesAll {B : Type 0} (Handled : B → B → List ℕ → Answer →
       → ReceivesAll Handled old taken between → Takes Handled between new (Ok (Some next))
       → ReceivesAll Handled old (taken ++ next ∷ []) new
 
--- why no more were taken: n had come, nothing more had, or a receive failed
+-- Why receiving ended: `most` were received, nothing more had arrived, or a receive failed.
 abbrev pub EndsReceiving : ℕ → List Exchange → Trace → Trace → Result (Unit {0}) LinkFault → Type 0
 EndsReceiving most taken old new (Ok _) = ((length taken ≡ most) × (new ≡ old))
     ⊎ (new ≡ after_call old)
 EndsReceiving most taken old new (Err fault) = (length taken < most) × Receives old new (Err fault)
 
--- n datagrams at most were taken, and no more for that reason
+-- At most `most` datagrams were received and handled, and receiving ended for such a reason.
 pub record ReceivesBatch {B : Type 0} (Handled : B → B → List ℕ → Answer → Type 0) (most : ℕ)
     (old new : Trace × B) (taken : List Exchange) (ended : Result (Unit {0}) LinkFault) :
     Type 0 where
@@ -38,7 +38,7 @@ pub record ReceivesBatch {B : Type 0} (Handled : B → B → List ℕ → Answer
   pub ends : EndsReceiving most taken handled.0 new.0 ended
   pub same : new.1 ≡ handled.1
 
--- they were answered one after another, each in a turn
+-- Each exchange was replied to in order, and has one turn.
 pub data AnswersAll (Honest : Type 0) (IsCommitted : List ℕ → Type 0)
     (commit_result : Result (Unit {0}) BookFault) : Trace → List Exchange → List Turn → Trace
     → Type 0 where
@@ -50,20 +50,21 @@ pub data AnswersAll (Honest : Type 0) (IsCommitted : List ℕ → Type 0)
       → AnswersAll Honest IsCommitted commit_result old (taken ++ next ∷ []) (answered ++ turn ∷ [])
       new
 
--- the turns of a batch: those of the datagrams, and after them a receive that failed; or that nothing came
+-- The turns of a batch: those of its exchanges, then a failed receive. Quiet if there is no other.
 abbrev pub turns_of_batch : Result (Unit {0}) LinkFault → List Turn → List Turn
 turns_of_batch (Err fault) answered = answered ++ Err fault ∷ []
 turns_of_batch (Ok _) [] = Ok turns.Quiet ∷ []
 turns_of_batch (Ok _) (turn ∷ answered) = turn ∷ answered
 
--- a reply that was sent stands in the committed calls
+-- If the turn sent a reply, the committed calls give that reply.
 abbrev pub IsSentCommitted : List Entry → Turn → Type 0
 IsSentCommitted committed (Ok (turns.Replied to frame)) = IsReplyIn committed frame
 IsSentCommitted committed turn = ⊤
 
 module _ {B : Type 0} (faults : B → Faults) (honest : B → Type 0) (terms : B → Terms)
     (history committed : B → List Entry) where
-  -- the calls of what was taken were committed, and only then was it answered; where nothing was taken the book is as it was
+  -- The received calls were committed, and only then replied to. If nothing was received, the book
+  -- is unchanged.
   pub record CommitsAndReplies (old new : Trace × B) (taken : List Exchange)
       (answered : List Turn) : Type 0 where
     pub commit_result : Result (Unit {0}) BookFault
@@ -73,7 +74,8 @@ module _ {B : Type 0} (faults : B → Faults) (honest : B → Type 0) (terms : B
     pub answers : AnswersAll (honest new.1) (AsksCommitted (committed new.1) (history new.1))
         commit_result old.0 taken answered new.0
 
-  -- n datagrams at most were taken and handled on the day, their calls committed, and then they were answered
+  -- At most `most` datagrams were received and handled on the day, their calls committed, and then
+  -- they were replied to.
   pub record ServesBatch (day most : ℕ) (old new : Trace × B) (turns : List Turn) : Type 0 where
     pub taken : List Exchange
     pub between : Trace × B

@@ -1,4 +1,4 @@
--- What a client knows, and what each of its calls makes of it.
+-- The state of a client, and what each of its methods does to it.
 use Rattle.std.specs.Prelude.{◌≡◌, ◌≢◌, ℕ, ◌+◌, ◌≤◌, nat_lt, ⊤, if◌then◌else◌, is_some, IfSome}
 use Rattle.std.specs.Prelude.{List, Option, Some, None}
 use Rattle.s10_wire.specs.declared.body.Body.{Body}
@@ -14,8 +14,8 @@ use Rattle.s10_ends.specs.declared.received.Received.{Received}
 use Rattle.s10_ends.specs.declared.received.Received.TheVariants.{Malformed, Idle, NotMine}
 use Rattle.s10_ends.specs.declared.received.Received.TheVariants.{Accepted}
 
--- a client: its customer, its first and last number, how many numbers it took, and the request
--- that waits for a reply
+-- A client: its customer, its first and last number, the count of numbers used, and the pending
+-- request.
 pub record ClientState : Type 0 where
   pub customer : ℕ
   pub first : ℕ
@@ -23,7 +23,7 @@ pub record ClientState : Type 0 where
   pub taken : ℕ
   pub pending : Option Request
 
--- a client as it is made
+-- A new client has used no number, and has no pending request.
 abbrev pub new_client : ℕ → ℕ → ℕ → ClientState
 new_client customer first lst = record {
   customer = customer;
@@ -33,19 +33,19 @@ new_client customer first lst = record {
   pending = None;
 }
 
--- no number was taken, so nothing is pending
+-- No number was used, and no request is pending.
 abbrev pub IsNew : ClientState → Type 0
 IsNew c = (c.taken ≡ 0) × (c.pending ≡ None)
 
--- the number that is taken next
+-- The number that the next request gets.
 abbrev pub next_number : ClientState → ℕ
 next_number c = c.first + c.taken
 
--- the request that a submit of the body makes
+-- The request that submitting the body creates.
 abbrev pub next_request : ClientState → Body → Request
 next_request c body = record { customer = c.customer; number = next_number c; body = body }
 
--- the request is pending, and its number is taken
+-- The state after a submit: the request is pending, and its number is used.
 abbrev pub after_submit : ClientState → Body → ClientState
 after_submit c body = record {
   customer = c.customer;
@@ -55,12 +55,12 @@ after_submit c body = record {
   pending = Some (next_request c body);
 }
 
--- why a submit is refused: something is pending, or else no number is left
+-- Why a submit is refused: a request is pending; otherwise, no number is left.
 abbrev pub submit_fault : ClientState → Option SubmitFault
 submit_fault c = if is_some c.pending then Some Busy else if nat_lt c.last (next_number c)
     then Some NumbersSpent else None
 
--- nothing is pending any more; the numbers stay taken
+-- The state after the pending request is dropped. Its number stays used.
 abbrev pub without_pending : ClientState → ClientState
 without_pending c = record {
   customer = c.customer;
@@ -70,32 +70,32 @@ without_pending c = record {
   pending = None;
 }
 
--- what is pending is the customer's, with the number taken last
+-- The request is of the client's customer, and has the number used last.
 abbrev pub IsLatest : ClientState → Request → Type 0
 IsLatest c q = (q.customer ≡ c.customer) × (c.first ≤ q.number) × (q.number + 1 ≡ next_number c)
 
--- the numbers are taken in turn, from the first to the last
+-- A client uses its numbers in order, from the first to the last.
 pub record IsClient (c : ClientState) : Type 0 where
   pub ordered : c.first ≤ c.last
   pub within : next_number c ≤ c.last + 1
   pub latest : IfSome c.pending (IsLatest c)
 
--- a frame that asks what is pending, and none where nothing is
+-- The frame is the datagram of the pending request. There is no frame if no request is pending.
 abbrev pub AsksPending : Option Request → Option Frame → Type 0
 AsksPending None None = ⊤
 AsksPending None (Some frame) = ⊥
 AsksPending (Some q) None = ⊥
 AsksPending (Some q) (Some frame) = Asks frame q
 
--- the bytes are a reply to exactly what is pending
+-- The bytes are a reply to the pending request, equal in every field.
 abbrev pub IsOwnReply : ClientState → List ℕ → Request → Outcome → Type 0
 IsOwnReply c b q o = (c.pending ≡ Some q) × Replies b q o
 
--- the bytes are a reply to something
+-- The bytes are a reply to some request.
 abbrev pub IsReply : List ℕ → Type 0
 IsReply b = (q : Request) × (o : Outcome) × Replies b q o
 
--- what becomes of bytes that came, and of the client
+-- The result of receiving bytes, and the state of the client after it.
 abbrev pub ClientReceives : ClientState → List ℕ → Received → ClientState → Type 0
 ClientReceives c b (Malformed fault) c' = ¬ (IsReply b) × IsFirstRefusalOfReply b fault × (c' ≡ c)
 ClientReceives c b Idle c' = IsReply b × (c.pending ≡ None) × (c' ≡ c)

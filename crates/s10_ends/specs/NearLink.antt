@@ -1,4 +1,4 @@
--- What calls make of a near link and of the server after it.
+-- What the calls of a near link do to the link and to its server.
 use Rattle.std.specs.Prelude.{◌≡◌, ◌⊎◌, ℕ, List, [], ◌∷◌, All}
 use Rattle.s10_wire.specs.declared.frame.Frame.{Frame}
 use Rattle.s10_link.specs.declared.peer.Peer.{Peer}
@@ -14,7 +14,7 @@ use Rattle.s10_ends.specs.Server.{book_of}
 use Rattle.s10_ends.specs.Turn.{Turn}
 use Rattle.s10_ends.specs.Batch.{ServesBatch}
 
--- datagrams that came on the day were served, from the history h to the history h'
+-- Datagrams that arrived on the day were served, from the history h to the history h'.
 pub record ServedOn (day : ℕ) (h : List Entry) (t : Terms) (h' : List Entry) : Type 0 where
   pub deliveries : List Dated
   pub answers : List Answer
@@ -23,7 +23,7 @@ pub record ServedOn (day : ℕ) (h : List Entry) (t : Terms) (h' : List Entry) :
 
 module _ {B F N : Type 0} (faults : B → Faults) (honest : B → Type 0) (terms : B → Terms)
     (history committed : B → List Entry) (far : F → Trace) (near : N → Trace) where
-  -- before the receive the server had a turn on the far end, on the day
+  -- A receive: the server first had one turn on the far end, on the day.
   abbrev pub IsNearReceive : NearLink B F N → NearLink B F N → Type 0
   IsNearReceive old new =
       (turn : Turn) × (came : ReceiveResult)
@@ -33,13 +33,13 @@ module _ {B F N : Type 0} (faults : B → Faults) (honest : B → Type 0) (terms
       ) (far new.far, book_of new.server) (turn ∷ [])
       × Receives (near old.near) (near new.near) came
 
-  -- the server was left alone
+  -- A send: the server and the far end are unchanged.
   abbrev pub IsNearSend : NearLink B F N → NearLink B F N → Type 0
   IsNearSend old new = (p : Peer × Frame) × (sent : SendResult)
       × Sends (near old.near) (near new.near) p sent × (new.server ≡ old.server)
       × (new.far ≡ old.far)
 
-  -- one call, which leaves the day
+  -- One call of the link. The day is unchanged.
   pub record IsNearStep (old new : NearLink B F N) : Type 0 where
     pub day : new.day ≡ old.day
     pub call : IsNearReceive old new ⊎ IsNearSend old new

@@ -1,4 +1,4 @@
--- What the server makes of a whole list of deliveries.
+-- What a server does with a whole list of deliveries.
 use Rattle.std.specs.Prelude.{◌≡◌, ℕ, ◌+◌, ◌-◌, ◌*◌, ◌^◌, ◌<◌, ◌≤◌, ⊤, Bool, true, false, List}
 use Rattle.std.specs.Prelude.{take, drop, Some, slice_get, Contains}
 use Rattle.std.specs.List.{count_by}
@@ -21,41 +21,41 @@ use Rattle.s10_ends.specs.declared.answer.Answer.TheVariants.{Reply, Dropped, Fa
 use Rattle.s10_ends.specs.declared.delivery.Delivery.{Delivery}
 use Rattle.s10_ends.specs.Served.{Dated}
 
--- the bytes of a delivery, and its day
+-- A delivery as its bytes and its day.
 abbrev pub dated : Delivery → Dated
 dated d = (d.packet, d.day)
 
--- whether the answer is lack of memory
+-- Whether the answer is lack of memory.
 abbrev pub is_memory : Answer → Bool
 is_memory (Faulted Memory) = true
 is_memory answer = false
 
--- whether the answer is a fault of the store
+-- Whether the answer is a fault of the store.
 abbrev pub is_store : Answer → Bool
 is_store (Faulted Store) = true
 is_store answer = false
 
--- a count rises by the number of answers of a kind, unless it reaches the greatest number
+-- A count rises by the number of answers of a kind, up to the greatest number.
 pub record CountsEach (kind : Answer → Bool) (answered : List Answer) (before after : ℕ) :
     Type 0 where
   pub at_most : after ≤ before + count_by kind answered
   pub never_falls : before ≤ after
   pub each : after < 2 ^ 64 - 1 → before + count_by kind answered ≤ after
 
--- each of a book's counts of faults rises by the number of answers that are that fault
+-- Each count of a book's faults rises by the number of answers that are that fault.
 pub record CountsAll (answered : List Answer) (before after : Faults) : Type 0 where
   pub memory : CountsEach is_memory answered before.memory after.memory
   pub store : CountsEach is_store answered before.store after.store
 
--- what a history keeps for good: it is legal, no identifier is issued twice within the interval, each is its customer's own,
--- and none lies in two ranges
+-- The promises of a history. It is legal, and no identifier is issued twice within the interval.
+-- Each issued identifier is of its customer's own range, and none lies in two ranges.
 pub record KeepsPromises (h : List Entry) (t : Terms) : Type 0 where
   pub legal : IsLegal h t
   pub spaced : IsSpaced h t.interval
   pub own : IsOwn h
   pub apart : IsApart h
 
--- the history has that issue, on that day, to that request
+-- The history has an issuance of the identifier, on that day, to that request.
 abbrev pub HasIssue : List Entry → Id → ℕ → Request → Type 0
 HasIssue h x day q = (arrival : ℕ)
     × Contains (issues_of h) (record {
@@ -66,13 +66,13 @@ HasIssue h x day q = (arrival : ℕ)
       arrival = arrival;
     })
 
--- the bytes in which a reply to a request of the kind has the text of the identifier that it carries at that place, counted
--- from 0: thirteen for each, after the request, the outcome byte and the day
+-- The text of an identifier in a reply to a request of the kind, at a position from 0. Each text
+-- has thirteen bytes. The texts follow the request, the outcome byte and the day.
 abbrev pub text_at : List ℕ → Kind → ℕ → List ℕ
 text_at b kind place = take 13 (drop (request_length kind + 5 + 13 * place) b)
 
--- where the answer is a reply, its bytes for each identifier that it carries spell that identifier, which is one of an issue
--- in the history, on the day in the reply, to the request in the reply
+-- If the answer is a reply, its texts spell the identifiers that it carries. Each of these was
+-- issued in the history, on the reply's day, to the reply's request.
 abbrev pub IsIssued : List Entry → Answer → Type 0
 IsIssued h (Reply frame) = (q : Request) (o : Outcome) → Replies frame q o
     → (place day : ℕ) (x : Id) → slice_get (carried_by o) place ≡ Some (day, x)

@@ -1,4 +1,4 @@
--- What a server makes of deliveries: bytes, each with the day on which they came.
+-- What a server does with deliveries: bytes, each with the day of their arrival.
 use Rattle.std.specs.Prelude.{◌≡◌, ◌≢◌, ℕ, ⊤, Bool, true, false, not, List, [], ◌∷◌, length, take}
 use Rattle.std.specs.Prelude.{map, filter, Option, Some, None, slice_get}
 use Rattle.std.specs.List.{AllZip, zip}
@@ -17,17 +17,20 @@ use Rattle.s10_book.specs.BookFault.{CountsFault}
 use Rattle.s10_ends.specs.declared.answer.Answer.{Answer}
 use Rattle.s10_ends.specs.declared.answer.Answer.TheVariants.{Reply, Dropped, Faulted}
 
--- bytes, and the day on which they came
+-- Bytes, and the day of their arrival.
 abbrev pub Dated : Type 0
 Dated = List ℕ × ℕ
 
+-- The bytes are not a request.
 abbrev pub AskNothing : List ℕ → Type 0
 AskNothing b = (q : Request) → ¬ (Asks b q)
 
+-- The bytes are a request.
 abbrev pub AskSomething : List ℕ → Type 0
 AskSomething b = (q : Request) × Asks b q
 
--- what the deliveries ask, in their order, each request with its day; bytes that ask nothing are passed over
+-- The requests in the deliveries, in their order, each with its day. Bytes that ask nothing are
+-- ignored.
 pub data AreAsked : List Dated → List (Request × ℕ) → Type 0 where
   none : AreAsked [] []
   nothing : {d : Dated} {ds : List Dated} {asked : List (Request × ℕ)} → AskNothing d.0
@@ -35,46 +38,49 @@ pub data AreAsked : List Dated → List (Request × ℕ) → Type 0 where
   request : {d : Dated} {q : Request} {ds : List Dated} {asked : List (Request × ℕ)} → Asks d.0 q
       → AreAsked ds asked → AreAsked (d ∷ ds) ((q, d.1) ∷ asked)
 
--- h' is the history h after each distinct request of the deliveries once, in order of first arrival
+-- h' is the history h after each distinct request of the deliveries once, in order of first
+-- arrival.
 abbrev pub IsOnce : List Entry → List Dated → ℕ → List Entry → Type 0
 IsOnce h ds interval h' = (asked : List (Request × ℕ)) × AreAsked ds asked
     × (h' ≡ applied_once h asked interval)
 
--- the outcome that the call kept under its key gives the request: its own, or NumberReused where that was another request
+-- The kept call of a key gives the request its outcome. Another request with that key gets
+-- NumberReused.
 abbrev pub GivesOutcome : Option Entry → Request → Outcome → Type 0
 GivesOutcome None q o = ⊥
 GivesOutcome (Some e) q o = (e.request ≡ q → o ≡ e.outcome) × (e.request ≢ q → o ≡ NumberReused)
 
--- the bytes f are the reply that the history owes to the bytes b
+-- The bytes f are the reply that the history gives to the bytes b.
 abbrev pub IsOwed : List Entry → List ℕ → List ℕ → Type 0
 IsOwed h b f = (q : Request) × (o : Outcome) × Asks b q
     × GivesOutcome (find_entry h q.customer q.number) q o × Replies f q o
 
--- the bytes f are the reply to a request, with the outcome that the calls give it
+-- The bytes f are the reply to some request, with the outcome that the history gives to it.
 abbrev pub IsReplyIn : List Entry → List ℕ → Type 0
 IsReplyIn h f = (q : Request) × (o : Outcome) × GivesOutcome (find_entry h q.customer q.number) q o
     × Replies f q o
 
--- the answer to bytes, by the history in the end: bytes that ask nothing are dropped with their first refusal,
--- and bytes that ask something get the reply that is owed, unless the book failed or was full
+-- The answer to bytes is right for the final history. Bytes that ask nothing are dropped with their
+-- first refusal. Bytes that ask something get the owed reply, unless the book failed or was full.
 abbrev pub IsAnswered : List Entry → List ℕ → Answer → Type 0
 IsAnswered h b (Reply frame) = IsOwed h b frame
 IsAnswered h b (Dropped fault) = AskNothing b × IsFirstRefusalOfRequest b fault
 IsAnswered h b (Faulted fault) = AskSomething b
 
--- there are as many calls as the limit allows, and none with the key of what the bytes ask
+-- There are as many calls as the limit, and none with the key of the request.
 abbrev pub IsFullFor : List Entry → Terms → Request → Type 0
 IsFullFor h t q = (length h ≡ t.limit) × (find_entry h q.customer q.number ≡ None)
 
+-- Whether the answer is a fault.
 abbrev pub is_faulted : Answer → Bool
 is_faulted (Faulted fault) = true
 is_faulted answer = false
 
--- the deliveries whose answer is not Faulted
+-- The deliveries whose answer is not Faulted.
 abbrev pub not_faulted : List Dated → List Answer → List Dated
 not_faulted ds answers = map (λ p. p.0) (filter (λ p. not (is_faulted p.1)) (zip ds answers))
 
--- the answers to deliveries, from the history h to the history h'
+-- The answers to deliveries, from the history h to the history h'.
 pub record Served (h : List Entry) (t : Terms) (ds : List Dated) (answers : List Answer)
     (h' : List Entry) : Type 0 where
   pub once_each : IsOnce h (not_faulted ds answers) t.interval h'
@@ -84,12 +90,12 @@ pub record Served (h : List Entry) (t : Terms) (ds : List Dated) (answers : List
       → (before : List Entry) × (q : Request) × IsOnce h (not_faulted (take k ds) (take k answers))
       t.interval before × Asks d.0 q × IsFullFor before t q
 
--- a fact about an answer that is no reply
+-- P holds if the answer is not a reply.
 abbrev pub UnlessReply : Answer → Type 0 → Type 0
 UnlessReply (Reply frame) P = ⊤
 UnlessReply answer P = P
 
--- what an answer does to the book's counts of faults: a fault is the book's own
+-- What an answer does to the book's counts of faults: a fault counts as that fault.
 abbrev pub CountsAnswer : Answer → Faults → Faults → Type 0
 CountsAnswer (Reply frame) before after = after ≡ before
 CountsAnswer (Dropped fault) before after = after ≡ before

@@ -1,6 +1,6 @@
--- What a server shows.
+-- The parts of a server that its contracts use.
 use Rattle.s10_ends.specs.declared.server.Server.{Server}
 
--- the book that it keeps
+-- The book of a server.
 abbrev pub book_of : {B : Type 0} → Server B → B
 book_of server = server.book

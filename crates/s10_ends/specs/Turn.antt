@@ -1,4 +1,4 @@
--- What a server makes of its book and of the link in a turn.
+-- What one turn of a server does to its book and to the link.
 use Rattle.std.specs.Prelude.{◌≡◌, ◌↔◌, ◌⊎◌, ℕ, List, [], ◌∷◌, Option, Some, None, Result, Ok, Err}
 use Rattle.std.specs.Prelude.{OnOk, OnErr}
 use Rattle.s10_link.specs.declared.trace.Trace.{Trace}
@@ -25,11 +25,11 @@ use Rattle.s10_ends.specs.declared.server_turn.ServerTurn.{ServerTurn}
 use Rattle.s10_ends.specs.declared.server_turn.ServerTurn.TheVariants as turns
 use Rattle.s10_ends.specs.Served.{AskNothing, CountsAnswer, UnlessReply, Served}
 
--- what became of a datagram, or of a receive in which none came
+-- The result of a datagram, or of a receive that got none.
 abbrev pub Turn : Type 0
 Turn = Result ServerTurn LinkFault
 
--- what handling bytes on a day makes of the server's book, and what it answers
+-- What handling bytes on a day does to the server's book, with its answer.
 pub record Handles {B : Type 0} (faults : B → Faults) (honest : B → Type 0) (terms : B → Terms)
     (history : B → List Entry) (old new : B) (day : ℕ) (b : List ℕ) (answer : Answer) : Type 0 where
   pub counts : CountsAnswer answer (faults old) (faults new)
@@ -42,7 +42,7 @@ pub record Handles {B : Type 0} (faults : B → Faults) (honest : B → Type 0) 
       (history new)
   pub unchanged : honest new → UnlessReply answer (history new ≡ history old)
 
--- what committing its calls makes of the server's book
+-- What a commit does to the server's book, by its result.
 pub record Commits {B : Type 0} (faults : B → Faults) (honest : B → Type 0) (terms : B → Terms)
     (history committed : B → List Entry) (old new : B) (result : Result (Unit {0}) BookFault) :
     Type 0 where
@@ -51,7 +51,8 @@ pub record Commits {B : Type 0} (faults : B → Faults) (honest : B → Type 0) 
   pub done : honest new → OnOk result (committed new ≡ history new)
   pub left : honest new → OnErr result (committed new ≡ committed old)
 
--- a receive, and what the server made of the datagram that came: from a link's trace and the server's book to those after it
+-- One receive, and the answer to the datagram that arrived: from a link's trace and a server's book
+-- to those after it.
 abbrev pub Takes : {B : Type 0} → (B → B → List ℕ → Answer → Type 0) → Trace × B → Trace × B
     → Result (Option Exchange) LinkFault → Type 0
 Takes Handled old new (Ok None) = (new.0 ≡ after_call old.0) × (new.1 ≡ old.1)
@@ -59,27 +60,28 @@ Takes Handled old new (Ok (Some taken)) = (new.0 ≡ after_datagram old.0 (taken
     × Handled old.1 new.1 taken.packet taken.answer
 Takes Handled old new (Err fault) = Receives old.0 new.0 (Err fault) × (new.1 ≡ old.1)
 
--- the turn in which a reply was sent, or refused
+-- The turn of a reply, by the result of sending it.
 abbrev pub sent_turn : Peer → Frame → SendResult → Turn
 sent_turn to frame (Ok _) = Ok (turns.Replied to frame)
 sent_turn to frame (Err fault) = Err fault
 
--- a reply is sent to the peer
+-- The reply is sent to the peer.
 abbrev pub SendsReply : Trace → Trace → Peer → Frame → Turn → Type 0
 SendsReply old new to frame turn = (sent : SendResult) × Sends old new (to, frame) sent
     × (turn ≡ sent_turn to frame sent)
 
--- a reply is held back from the peer
+-- The reply is withheld from the peer.
 abbrev pub WithholdsReply : Trace → Trace → Peer → BookFault → Turn → Type 0
 WithholdsReply old new to fault turn = (new ≡ old) × (turn ≡ Ok (turns.Uncommitted to fault))
 
--- the committed calls have what the history has under the key of what the bytes ask
+-- The bytes are a request, and the committed calls have the same under its key as the history.
 abbrev pub AsksCommitted : List Entry → List Entry → List ℕ → Type 0
 AsksCommitted committed h b = (q : Request) × Asks b q × IsCommittedCall committed h q.customer
     q.number
 
 module _ (Honest : Type 0) (IsCommitted : List ℕ → Type 0) where
-  -- a reply to bytes is sent once the calls are committed; where that failed it is sent if its own call is committed, and else held back
+  -- A reply is sent if the commit succeeded. Otherwise it is sent if its own call is committed, and
+  -- withheld if not.
   abbrev pub SendsCommitted : Trace → Trace → Result (Unit {0}) BookFault → Peer → List ℕ → Frame
       → Turn → Type 0
   SendsCommitted old new (Ok _) to b frame turn = SendsReply old new to frame turn
@@ -87,7 +89,7 @@ module _ (Honest : Type 0) (IsCommitted : List ℕ → Type 0) where
       ((Honest → IsCommitted b) × SendsReply old new to frame turn)
       ⊎ ((Honest → ¬ (IsCommitted b)) × WithholdsReply old new to fault turn)
 
-  -- what the peer of bytes gets, by what became of them, and of the commit
+  -- What the peer gets, by the answer to its bytes and the result of the commit.
   abbrev pub Answers : Trace → Trace → Result (Unit {0}) BookFault → Peer → List ℕ → Answer → Turn
       → Type 0
   Answers old new commit_result to b (Reply frame) turn = SendsCommitted old new commit_result to b

@@ -1,6 +1,6 @@
 use thiserror::Error;
 
-/// The first request number is above the last.
+/// The error of a client whose first request number is above its last.
 #[derive(Clone, Copy, Debug, PartialEq, Eq, Error)]
 #[error("the first request number is above the last")]
 pub struct BadNumbers;

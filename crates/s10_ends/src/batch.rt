@@ -1,4 +1,4 @@
-//! One batch of a server on a link.
+//! Serves one batch of datagrams on a link.
 
 ghost use Rattle.std.specs.Prelude.{◌≡◌, ◌≤◌, ◌+◌, [], length, All, IfOk, OnErr, vec_capacity, Ok};
 ghost use Rattle.s10_ends.specs.Server.{book_of};
@@ -14,9 +14,18 @@ use s10_book::GroupCommit;
 use s10_link::{Link, LinkFault};
 use std::alloc::{AllocError, Global};
 
-/// Takes the datagram that comes next and those that have come by then, at most n, commits their calls at once, and
-/// only then sends the replies, each to the peer that it is owed to. Answers what became of each; where the calls could not be
-/// committed, each reply whose own call is not is held back, and reported as Uncommitted. Where there is no room for that nothing is done.
+/// Receives up to `most` datagrams, waiting only for the first, commits their calls in one
+/// transaction, then sends the replies.
+///
+/// Returns one turn per datagram, in order of arrival, at most `most` in all. A receive that failed
+/// is one more turn, the last one. If no datagram arrived, the only turn is `Quiet`. If the commit
+/// fails, a reply whose own call is not committed is not sent: its turn is `Uncommitted`. `most`
+/// must be at least 1.
+///
+/// # Errors
+///
+/// `AllocError` if the batch cannot be allocated. Nothing is received then, and the server is
+/// unchanged.
 pub fn serve_batch<B: GroupCommit, L: Link>(
     alloc: Global,
     server: &mut Server<B>,
@@ -45,7 +54,8 @@ pub fn serve_batch<B: GroupCommit, L: Link>(
     Ok(turns)
 }
 
-// Commits the calls of what was taken, if anything was, and answers it.
+// Commits the calls and sends the replies. If nothing was received, the book is not asked to
+// commit.
 fn commit_and_reply<B: GroupCommit, L: Link>(
     server: &mut Server<B>,
     link: &mut L,
@@ -67,7 +77,7 @@ fn commit_and_reply<B: GroupCommit, L: Link>(
     reply_all(link, server, taken, commit_result, turns);
 }
 
-// Tells how the receives ended, where no datagram tells it.
+// Adds a turn for a failed receive, or `Quiet` if there is no turn.
 fn push_end(ended: Result<(), LinkFault>, turns: &mut Vec<Turn>)
     requires { length turns.old.items + 1 ≤ vec_capacity turns.old }
     ensures { turns.new.items ≡ turns_of_batch ended turns.old.items }

@@ -1,4 +1,4 @@
-//! A call of a client over a link.
+//! Calls a server over a link.
 
 ghost use Rattle.std.specs.Prelude.{◌≡◌, ◌≤◌, IsSome};
 ghost use Rattle.s10_link.specs.Link.{LeadsTo};
@@ -11,9 +11,18 @@ use crate::received::Received;
 use s10_link::{Link, LinkFault, Packet, Peer};
 use s10_wire::{Body, Frame, Reply, encode_request};
 
-/// Asks the server at `to`, in 1 to 100 tries. Each try sends the request, and receives until its
-/// reply is accepted, eight datagrams came, or nothing came (at-most-once calls: Birrell and
-/// Nelson 1984). Who sent a datagram is not looked at.
+/// Calls the server at `to` in up to `tries` tries, and returns its reply.
+///
+/// Each try sends the request once. It then receives until the reply is accepted, eight datagrams
+/// were received, or a receive got nothing. A datagram is accepted by its bytes alone, regardless
+/// of its sender. `tries` must be 1 to 100. Source: at-most-once calls, Birrell and Nelson 1984.
+///
+/// # Errors
+///
+/// - `Submit` if a request is pending or no number is left. Nothing is sent, and the client is
+///   unchanged.
+/// - `GaveUp` if no try received the reply.
+/// - `Link` if a send or a receive failed. No further try is made.
 pub fn call<L: Link>(
     client: &mut Client,
     link: &mut L,
@@ -45,7 +54,7 @@ pub fn call<L: Link>(
     Err(CallFault::GaveUp(request))
 }
 
-// One try: a send, and the reply where one is accepted.
+// Makes one try: sends the frame, then returns the reply if one is accepted.
 fn attempt<L: Link>(
     client: &mut Client,
     link: &mut L,
@@ -61,7 +70,7 @@ fn attempt<L: Link>(
     first_accepted(client, link)
 }
 
-// The first reply that is accepted, of at most eight datagrams.
+// Returns the first reply that is accepted, out of at most eight datagrams.
 fn first_accepted<L: Link>(client: &mut Client, link: &mut L) -> Result<Option<Reply>, LinkFault>
     requires { IsSome client.old.pending }
     ensures listens { Listens client.old client.new (L.trace_of link.old) (L.trace_of link.new)
@@ -79,7 +88,6 @@ fn first_accepted<L: Link>(client: &mut Client, link: &mut L) -> Result<Option<R
     Ok(None)
 }
 
-// What the client makes of a packet.
 fn take(client: &mut Client, packet: Packet) -> Received
     ensures { ClientReceives client.old packet result client.new }
 {

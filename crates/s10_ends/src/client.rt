@@ -1,4 +1,4 @@
-//! A client's core.
+//! Defines a client, without its link.
 
 ghost use Rattle.std.specs.Prelude.{◌≡◌, ◌≤◌, ◌↔◌, IsTrue, IfOk, IfSome, OnErr};
 ghost use Rattle.std.specs.Result.{OkIff, result_err};
@@ -12,15 +12,16 @@ use crate::submit_fault::SubmitFault;
 use s10_wire::{Body, Frame, Request, decode_reply, encode_request, same_request};
 use std::marker::Model;
 
-/// A caller of one customer, which numbers its requests in turn and waits for one reply at a
-/// time (at-most-once calls: Birrell and Nelson 1984). A number is never used again, whether or
-/// not its reply came. No call takes memory.
+/// A client of one customer. It numbers its requests in order, and has at most one pending request.
+///
+/// A number is never used again, even if no reply arrived. No method allocates memory. Source:
+/// at-most-once calls, Birrell and Nelson 1984.
 #[derive(Debug, Drop)]
 pub struct Client {
     customer: u32,
     first: u32,
     last: u32,
-    // up to 2^32
+    // Count of numbers used, up to 2^32.
     taken: u64,
     pending: Option<Request>,
 }
@@ -48,7 +49,11 @@ impl Model for Client {
 }
 
 impl Client {
-    /// A client with the numbers `first` to `last`.
+    /// Creates a client that uses the request numbers `first` to `last`.
+    ///
+    /// # Errors
+    ///
+    /// `BadNumbers` if `first` is above `last`.
     pub fn new(customer: u32, first: u32, last: u32) -> Result<Client, BadNumbers>
         ensures { OkIff result (first ≤ last) (new_client customer first last) }
     {
@@ -64,7 +69,7 @@ impl Client {
         })
     }
 
-    /// Whether no number was taken yet.
+    /// Returns whether the client has used no number.
     #[tactic(auto, using(crate::proofs::Pending::none_pending))]
     pub fn is_new(&self) -> bool
         ensures { IsTrue result ↔ IsNew self.now }
@@ -72,13 +77,14 @@ impl Client {
         self.taken == 0
     }
 
+    /// Returns the customer, who is the same for every request of this client.
     pub fn customer(&self) -> u32
         ensures { result ≡ self.now.customer }
     {
         self.customer
     }
 
-    /// The request that waits for its reply.
+    /// Returns the pending request, or `None` if the client is idle.
     pub fn pending(&self) -> Option<Request>
         ensures pending { result ≡ self.now.pending }
         ensures latest { IfSome result (IsLatest self.now) }
@@ -87,7 +93,14 @@ impl Client {
         self.pending
     }
 
-    /// Takes the next number for a request, which is then pending.
+    /// Gives a body the next number and makes it the pending request, which is returned.
+    ///
+    /// # Errors
+    ///
+    /// The client is unchanged if the request is refused.
+    ///
+    /// - `Busy` if a request is pending.
+    /// - `NumbersSpent` if no number is left.
     pub fn submit(&mut self, body: Body) -> Result<Request, SubmitFault>
         ensures refused { result_err result ≡ submit_fault self.old }
         ensures ok { IfOk result (λ q. (q ≡ next_request self.old body)
@@ -112,7 +125,8 @@ impl Client {
         Ok(submitted)
     }
 
-    /// The datagram of the pending request, as often as it is wanted.
+    /// Returns the datagram of the pending request, or `None` if the client is idle. May be called
+    /// any number of times.
     pub fn resend(&self) -> Option<Frame>
         ensures { AsksPending self.now.pending result }
     {
@@ -122,8 +136,10 @@ impl Client {
         }
     }
 
-    /// Takes a datagram that came. Whoever sent it, it is accepted only as the reply to the
-    /// pending request, which is compared in every field.
+    /// Reads a datagram, and accepts it only if it is the reply to the pending request.
+    ///
+    /// The requests are compared in every field. The sender is not compared. An accepted reply
+    /// leaves the client idle. Any other datagram leaves it unchanged.
     pub fn receive(&mut self, datagram: &[u8]) -> Received
         ensures { ClientReceives self.old datagram.now result self.new }
     {
@@ -142,8 +158,9 @@ impl Client {
         Received::Accepted(reply)
     }
 
-    /// Waits no more for the pending request, which may have been executed or not. Its number
-    /// stays spent.
+    /// Stops waiting for the pending request and returns it.
+    ///
+    /// The request may have been executed or not. Its number is never used again.
     pub fn give_up(&mut self) -> Option<Request>
         ensures pending { result ≡ self.old.pending }
         ensures without_pending { self.new ≡ without_pending self.old }

@@ -1,4 +1,4 @@
-//! Both ends: the server, the client, and the links between them.
+//! Defines both ends, the server and the client, and the links between them.
 #![tactic(auto)]
 
 mod answer;

@@ -1,4 +1,4 @@
-//! A link to a server in the same process.
+//! Links a client to a server in the same process.
 
 ghost use Rattle.std.specs.Prelude.{◌≡◌, ◌∷◌, []};
 
@@ -8,13 +8,19 @@ use s10_book::GroupCommit;
 use s10_link::{Link, LinkFault, Packet, Peer, Trace};
 use s10_wire::Frame;
 
-/// The near end of a network for a client in the server's own process: before each receive the
-/// server gets one turn on the far end, on the day. What comes of it is not told, a fault neither.
+/// The client's end of a network whose server runs in the client's own process.
+///
+/// Before each receive the server serves at most one datagram at the far end. The result of that
+/// turn is dropped, even if it is a fault.
 #[derive(Drop)]
 pub struct NearLink<B, F, N> {
+    /// The server.
     pub server: Server<B>,
+    /// The server's end of the network.
     pub far: F,
+    /// The client's end of the network.
     pub near: N,
+    /// The day on which the server handles every datagram.
     pub day: u32,
 }
 
@@ -23,7 +29,6 @@ impl<B: GroupCommit, F: Link, N: Link> NearLink<B, F, N> {
     ghost use Rattle.s10_ends.specs.Turn.{Turn};
     ghost use Rattle.s10_ends.specs.Batch.{ServesBatch};
 
-    // The server's turn on the far end.
     fn serve(&mut self)
         ensures turn { (turn : Turn) × ServesBatch B.faults B.honest B.terms B.history B.committed
             self.old.day 1
@@ -52,7 +57,7 @@ impl<B: GroupCommit, F: Link, N: Link> Link for NearLink<B, F, N> {
     fn receive(&mut self) -> Result<Option<(Peer, Packet)>, LinkFault>
         ensures trace { Receives (N.trace_of self.old.near) (N.trace_of self.new.near) result }
 
-        // The server has one turn on the far end.
+        // The server serves at most one datagram at the far end.
         ensures turn { (turn : Turn) × ServesBatch B.faults B.honest B.terms B.history B.committed
             self.old.day 1
             (F.trace_of self.old.far, book_of self.old.server) (
@@ -70,7 +75,7 @@ impl<B: GroupCommit, F: Link, N: Link> Link for NearLink<B, F, N> {
     fn try_receive(&mut self) -> Result<Option<(Peer, Packet)>, LinkFault>
         ensures trace { Receives (N.trace_of self.old.near) (N.trace_of self.new.near) result }
 
-        // The server has one turn on the far end.
+        // The server serves at most one datagram at the far end.
         ensures turn { (turn : Turn) × ServesBatch B.faults B.honest B.terms B.history B.committed
             self.old.day 1
             (F.trace_of self.old.far, book_of self.old.server) (

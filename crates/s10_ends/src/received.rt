@@ -1,14 +1,14 @@
 use s10_wire::{Reply, WireFault};
 
-/// What became of a datagram that reached a client: the first of these that applies.
+/// The result of a datagram that reached a client: the first variant that applies.
 #[derive(Clone, Copy, Debug, PartialEq, Eq)]
 pub enum Received {
-    /// The datagram is no reply.
+    /// The first reason why the datagram is not a reply.
     Malformed(WireFault),
-    /// Nothing is pending.
+    /// A reply, but no request is pending.
     Idle,
-    /// The reply is to another request than the pending one.
+    /// A reply to another request than the pending one.
     NotMine,
-    /// The reply to the pending request, which waits no more.
+    /// The reply to the pending request. The client is idle after it.
     Accepted(Reply),
 }

@@ -1,4 +1,4 @@
-//! What a server takes of a link.
+//! Receives the datagrams of a server and handles them, without sending a reply.
 
 ghost use Rattle.std.specs.Prelude.{◌≡◌, ◌≤◌, [], length, vec_capacity};
 ghost use Rattle.s10_ends.specs.Server.{book_of};
@@ -11,7 +11,7 @@ use crate::server::Server;
 use s10_book::Book;
 use s10_link::{Link, LinkFault, Packet};
 
-// The next datagram, handled on this day.
+// Receives the next datagram, waiting for it, and handles it on this day.
 pub(crate) fn take<B: Book, L: Link>(
     server: &mut Server<B>,
     link: &mut L,
@@ -32,7 +32,7 @@ pub(crate) fn take<B: Book, L: Link>(
     }))
 }
 
-// The next datagram that has come already, handled on this day.
+// Handles the next datagram on this day if it has already arrived. Does not wait.
 fn try_handle_next<B: Book, L: Link>(
     server: &mut Server<B>,
     link: &mut L,
@@ -53,7 +53,6 @@ fn try_handle_next<B: Book, L: Link>(
     }))
 }
 
-// What the server makes of a packet on this day.
 fn handle_packet<B: Book>(server: &mut Server<B>, packet: Packet, day: u32) -> Answer
     ensures { Handles B.faults B.honest B.terms B.history (book_of server.old) (book_of server.new)
         day packet result }
@@ -61,7 +60,7 @@ fn handle_packet<B: Book>(server: &mut Server<B>, packet: Packet, day: u32) -> A
     server.handle(packet.bytes(), day)
 }
 
-// Datagrams up to n: the first that comes in time, and those that have come by then.
+// Receives up to `most` datagrams, waiting only for the first, and handles each one.
 pub(crate) fn receive_batch<B: Book, L: Link>(
     server: &mut Server<B>,
     link: &mut L,

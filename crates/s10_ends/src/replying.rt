@@ -1,4 +1,4 @@
-//! What a server sends for the datagrams that it took.
+//! Sends the replies to the datagrams that a server received.
 
 ghost use Rattle.std.specs.Prelude.{◌≡◌, ◌≤◌, ◌+◌, [], length, vec_capacity};
 ghost use Rattle.s10_ends.specs.Server.{book_of};
@@ -13,7 +13,7 @@ use s10_book::{BookFault, GroupCommit};
 use s10_link::{Link, Peer};
 use s10_wire::Frame;
 
-// Answers the peer of a datagram, once its call is committed or could not be.
+// Returns the turn of one exchange, and sends its reply if the call is committed.
 pub(crate) fn answer<B: GroupCommit, L: Link>(
     link: &mut L,
     server: &Server<B>,
@@ -32,7 +32,7 @@ pub(crate) fn answer<B: GroupCommit, L: Link>(
     }
 }
 
-// Sends a reply back to the peer, if its call is committed.
+// Sends a reply if the commit succeeded, or if its own call was committed before.
 fn send_committed<B: GroupCommit, L: Link>(
     link: &mut L,
     server: &Server<B>,
@@ -53,7 +53,6 @@ fn send_committed<B: GroupCommit, L: Link>(
     }
 }
 
-// Sends a reply back to the peer.
 fn send<L: Link>(link: &mut L, to: Peer, frame: Frame) -> Turn
     ensures { SendsReply (L.trace_of link.old) (L.trace_of link.new) to frame result }
 {
@@ -61,7 +60,7 @@ fn send<L: Link>(link: &mut L, to: Peer, frame: Frame) -> Turn
     Ok(ServerTurn::Replied(to, frame))
 }
 
-// Answers them one after another.
+// Replies to each exchange in order, and adds its turn.
 pub(crate) fn reply_all<B: GroupCommit, L: Link>(
     link: &mut L,
     server: &Server<B>,

@@ -1,4 +1,4 @@
-//! The server: what becomes of datagrams, over any book.
+//! Defines the server, which answers datagrams over any book.
 
 ghost use Rattle.std.specs.Prelude.{◌≡◌, ◌∷◌, [], IfOk, OnErr, IsTrue, Ok, Err, None};
 ghost use Rattle.s10_wire.specs.Kind.{fits};
@@ -14,7 +14,7 @@ use s10_history::Entry;
 use s10_wire::{Outcome, Reply, Request, decode_request, encode_reply, same_request};
 use std::alloc::{AllocError, Global};
 
-// The outcome of a request, which is kept where its key is new.
+// Returns the outcome of a request. A repeat gets the kept outcome; a new key is executed and kept.
 fn respond<B: Book>(book: &mut B, request: &Request, day: u32) -> Result<Outcome, BookFault>
     ensures faults { CountsFull result (B.faults book.old) (B.faults book.new) }
     ensures was_honest { B.honest book.new → B.honest book.old }
@@ -73,7 +73,9 @@ fn execute<B: Book>(book: &mut B, request: &Request, day: u32) -> Result<Outcome
     Ok(entry.outcome)
 }
 
-/// A server over a book: each distinct request is executed once and its reply is kept (Birrell and Nelson 1984).
+/// A server over a book. It executes each distinct request once and keeps its reply.
+///
+/// Source: Birrell and Nelson 1984.
 #[derive(Drop)]
 pub struct Server<B> {
     book: B,
@@ -87,47 +89,51 @@ impl<B: Book> Server<B> {
     ghost use Rattle.s10_ends.specs.Served.{AskNothing, Served, UnlessReply, CountsAnswer};
     ghost use Rattle.s10_ends.specs.Runs.{dated, CountsAll, KeepsPromises, IsIssued};
 
-    /// A server that goes on with the history of a book.
+    /// Creates a server that continues the history of a book.
     pub fn new(book: B) -> Server<B>
         ensures { book_of result ≡ book }
     {
         Server { book }
     }
 
-    /// The book, as the last delivery left it.
+    /// Returns the book after the last delivery.
     pub fn book(&self) -> &B
         ensures { result.now ≡ book_of self.now }
     {
         &self.book
     }
 
-    /// Gives the book back, and serves no more.
+    /// Returns the book and ends the server.
     pub fn into_book(self) -> B
         ensures { result ≡ book_of self }
     {
         self.book
     }
 
-    /// What becomes of the bytes of a datagram on a day. `Faulted(Full)` is answered where the book has as many calls
-    /// as its limit allows and none with the key of the request; `Faulted(Memory)` or `Faulted(Store)` where a call of
-    /// the book was refused with the same. A request that was faulted may be handed in again.
+    /// Answers the bytes of one datagram that arrived on `day`, in days.
+    ///
+    /// The answer is `Faulted` in these cases; the request may then be sent again:
+    ///
+    /// - `Full` if the book has as many calls as its limit, and none with the key of the request.
+    /// - `Memory` or `Store` if a call of the book failed with that fault.
     pub fn handle(&mut self, bytes: &[u8], day: u32) -> Answer
-        // The book's count of that fault rises where one is answered, and no count rises elsewhere.
+        // A fault of the book raises the count of that fault. No other answer raises a count.
         ensures faults { CountsAnswer result (B.faults (book_of self.old))
             (B.faults (book_of self.new)) }
 
-        // Bytes that ask nothing, and no others, are dropped with their first refusal, and the book is not asked.
+        // Bytes that are not a request, and only these, are dropped with their first refusal. The
+        // book is unchanged.
         ensures dropped { (fault : WireFault) → (result ≡ Answer.Dropped fault)
             ↔ (AskNothing bytes.now × IsFirstRefusalOfRequest bytes.now fault) }
         ensures unasked { (fault : WireFault) → result ≡ Answer.Dropped fault → book_of self.new
             ≡ book_of self.old }
 
-        // A book that is honest as the call ends was so as it began, and has the terms that it had.
+        // A book that is honest after the call was honest before it, and has the same terms.
         ensures was_honest { B.honest (book_of self.new) → B.honest (book_of self.old) }
         ensures same_terms { B.honest (book_of self.new) → B.terms (book_of self.new)
             ≡ B.terms (book_of self.old) }
 
-        // The history and the answer are those of the one delivery.
+        // The history and the answer are those of this one delivery.
         ensures served { B.honest (book_of self.new) → Served (B.history (book_of self.old))
             (B.terms (book_of self.old)) ((bytes.now, day) ∷ []) (result ∷ [])
             (B.history (book_of self.new)) }
@@ -147,31 +153,40 @@ impl<B: Book> Server<B> {
         }
     }
 
-    /// What becomes of datagrams, one after another in the order in which they come. The room for the answers is
-    /// reserved first.
+    /// Answers deliveries one after another, in the order of the list.
+    ///
+    /// Returns one answer per delivery, in the same order.
+    ///
+    /// # Errors
+    ///
+    /// `AllocError` if the list of answers cannot be allocated. No delivery is handled then.
     pub fn run(&mut self, alloc: Global, deliveries: &[Delivery]) -> Result<Vec<Answer>, AllocError>
-        // As many answers are each fault of the book as its count of that fault rose, unless that reached the greatest number.
+        // Each count of faults rises by the number of answers with that fault, up to the greatest
+        // number.
         ensures faults { IfOk result (λ answers. CountsAll answers.items
             (B.faults (book_of self.old)) (B.faults (book_of self.new))) }
         ensures was_honest { B.honest (book_of self.new) → B.honest (book_of self.old) }
         ensures same_terms { B.honest (book_of self.new) → B.terms (book_of self.new)
             ≡ B.terms (book_of self.old) }
 
-        // The history and every answer are what each distinct request once, in order of first arrival, gives.
+        // The history and every answer are what each distinct request once, in order of first
+        // arrival, gives.
         ensures served { B.honest (book_of self.new)
             → IfOk result (λ answers. Served (B.history (book_of self.old))
             (B.terms (book_of self.old)) (map dated deliveries.now) answers.items
             (B.history (book_of self.new))) }
 
-        // The history is legal, no identifier goes to two requests within the interval, each is its customer's own.
+        // The history is legal, no identifier goes to two requests within the interval, each is its
+        // customer's own, and no identifier lies in two ranges.
         ensures kept { B.honest (book_of self.new) → KeepsPromises (B.history (book_of self.new))
             (B.terms (book_of self.new)) }
 
-        // Every identifier in a reply is spelled right, and was issued on the day in the reply to the request in it.
+        // Every identifier in a reply is spelled as S10 requires. It was issued on the reply's day
+        // to the reply's request.
         ensures issued { B.honest (book_of self.new)
             → IfOk result (λ answers. All (IsIssued (B.history (book_of self.new))) answers.items) }
 
-        // Where there is no room for the answers nothing is done.
+        // If the answers cannot be allocated, the book is unchanged.
         ensures refused { OnErr result (book_of self.new ≡ book_of self.old) }
     {
         let mut answers = Vec::with_capacity(alloc, deliveries.len())?;
@@ -188,8 +203,14 @@ impl<B: GroupCommit> Server<B> {
     ghost use Rattle.s10_ends.specs.Server.{book_of};
     ghost use Rattle.s10_ends.specs.Turn.{AsksCommitted, Commits};
 
-    /// Commits the calls of the book, so that their replies may be sent. A fault leaves the history as it was, and the next
-    /// commit takes those calls too.
+    /// Commits all pending calls of the book, so that their replies may be sent.
+    ///
+    /// The history is unchanged. After a fault the pending calls stay pending, and the next commit
+    /// includes them.
+    ///
+    /// # Errors
+    ///
+    /// `Memory` or `Store` if the commit of the book failed with that fault.
     pub fn commit(&mut self) -> Result<(), BookFault>
         ensures { Commits B.faults B.honest B.terms B.history B.committed (book_of self.old)
             (book_of self.new) result }
@@ -197,7 +218,9 @@ impl<B: GroupCommit> Server<B> {
         self.book.commit()
     }
 
-    /// Whether the bytes ask for a call that is committed, so that its reply may be sent though others could not be.
+    /// Returns whether the bytes are a request whose call is committed.
+    ///
+    /// The reply to such a request may be sent even if the last commit failed.
     pub fn is_committed(&self, bytes: &[u8]) -> bool
         ensures { B.honest (book_of self.now)
             → (IsTrue result ↔ AsksCommitted (B.committed (book_of self.now))

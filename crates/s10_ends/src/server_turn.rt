@@ -2,21 +2,21 @@ use s10_book::BookFault;
 use s10_link::{LinkFault, Peer};
 use s10_wire::{Frame, WireFault};
 
-/// What one turn of a server did, with the peer that the datagram came from.
+/// The result of one turn of a server, with the sender of the datagram if there was one.
 #[derive(Clone, Copy, Debug, PartialEq, Eq)]
 pub enum ServerTurn {
-    /// Nothing came.
+    /// No datagram was received.
     Quiet,
-    /// The datagram asks nothing.
+    /// The first reason why the datagram is not a request.
     Dropped(Peer, WireFault),
-    /// The request was not answered, and may be handed in again.
+    /// The fault because of which the request has no reply. The request may be sent again.
     Faulted(Peer, BookFault),
-    /// The call could not be committed, so its reply was not sent. The request may be handed in again, and gets its reply once
-    /// the call is committed.
+    /// The fault because of which the call is uncommitted, so that its reply was not sent. If the
+    /// request is sent again, it gets its reply once the call is committed.
     Uncommitted(Peer, BookFault),
-    /// This frame was sent back to the peer.
+    /// The frame that was sent to the peer.
     Replied(Peer, Frame),
 }
 
-/// A turn of a server, or the fault of a receive or a send.
+/// A turn of a server, or the fault of its receive or send.
 pub type Turn = Result<ServerTurn, LinkFault>;

@@ -1,12 +1,12 @@
 use thiserror::Error;
 
-/// Why a request was not submitted: the first of these that applies.
+/// The reason why a request was not submitted: the first variant that applies.
 #[derive(Clone, Copy, Debug, PartialEq, Eq, Error)]
 pub enum SubmitFault {
-    /// A request still waits for its reply.
+    /// A request is pending.
     #[error("a request is pending")]
     Busy,
-    /// The last number was taken.
+    /// The last number was used.
     #[error("no request number is left")]
     NumbersSpent,
 }

@@ -1,4 +1,4 @@
-//! One turn of a server on a link.
+//! Serves one datagram on a link.
 
 ghost use Rattle.std.specs.Prelude.{◌≡◌, ◌∷◌, []};
 ghost use Rattle.s10_ends.specs.Server.{book_of};
@@ -11,9 +11,14 @@ use crate::server_turn::{ServerTurn, Turn};
 use s10_book::GroupCommit;
 use s10_link::Link;
 
-/// A round of one datagram at most, for which no room is needed: one receive, and at most one send. Refused with Receive, or
-/// with Spent where the link can count no further receive, which leaves the server as it was; with Send, or with Spent
-/// where the link sends no more, after a datagram that was handled with a reply.
+/// Serves a batch of at most one datagram, without allocating: one receive, and at most one send.
+///
+/// # Errors
+///
+/// - `Receive` if the receive failed, or `Spent` if the link cannot count another call. The server
+///   is unchanged.
+/// - `Send` if the send failed, or `Spent` if the link has no send left. The datagram was handled,
+///   and its call is kept.
 pub fn serve_one<B: GroupCommit, L: Link>(server: &mut Server<B>, link: &mut L, day: u32) -> Turn
     ensures served { ServesBatch B.faults B.honest B.terms B.history B.committed day 1
         (L.trace_of link.old, book_of server.old) (L.trace_of link.new, book_of server.new)

@@ -1,4 +1,4 @@
-//! A link over a UDP socket.
+//! Links the two ends over a UDP socket.
 
 ghost use Rattle.std.specs.Prelude.{◌≡◌};
 ghost use Rattle.std.specs.Net.Addr.{ipv4_octets};
@@ -12,8 +12,10 @@ use std::marker::Model;
 use std::net::{Ipv4Addr, Net, SocketAddr, SocketAddrV4, UdpSocket};
 use std::time::Duration;
 
-/// A link over an IPv4 UDP socket. A receive in which nothing came in time, or a datagram from
-/// another source than IPv4, is `None`, and so is one that was interrupted.
+/// A link over an IPv4 UDP socket.
+///
+/// A receive returns `None` if no datagram arrived in time, if the sender's address is not IPv4, or
+/// if the receive was interrupted.
 #[derive(Drop)]
 pub struct UdpLink {
     socket: UdpSocket,
@@ -37,8 +39,14 @@ impl UdpLink {
     ghost use Rattle.s10_link.specs.Trace.{new_trace};
     ghost use Rattle.s10_link.specs.Link.{Receives};
 
-    /// A socket at this address, where port 0 lets the system pick one. A receive waits n
-    /// milliseconds at most; 0 is taken as 1. Refused with Bind alone.
+    /// Binds a socket to the address `at`; with port 0 the system picks a port.
+    ///
+    /// A receive waits at most `wait_ms` milliseconds, where 0 means 1.
+    ///
+    /// # Errors
+    ///
+    /// `Bind` if the address cannot be bound, or if the socket's wait or address cannot be set or
+    /// read.
     pub fn bind<N: Net>(net: &N, at: Peer, wait_ms: u32) -> Result<UdpLink, LinkFault>
         ensures ok { IfOk result (λ link. link.trace ≡ new_trace) }
         ensures refused { IfErr result (λ fault. fault ≡ LinkFault.Bind) }
@@ -53,14 +61,14 @@ impl UdpLink {
         }
     }
 
-    /// Where the socket is bound, with the port that the system picked.
+    /// Returns the address to which the socket is bound, with the port that the system picked.
     pub fn local(&self) -> Peer
         ensures { result ≡ self.now.at }
     {
         self.at
     }
 
-    // The next datagram from an IPv4 source, if one has come already.
+    // Returns the next datagram from an IPv4 sender if it has already arrived. Does not wait.
     fn waiting_datagram(&self) -> io::Result<Option<(Peer, Packet)>> {
         self.socket.set_nonblocking(true)?;
         let came = self.next_datagram();
@@ -68,7 +76,7 @@ impl UdpLink {
         came
     }
 
-    // Counts what a receive came to.
+    // Counts a receive in the trace, by its result.
     fn count_receive(
         &mut self,
         came: io::Result<Option<(Peer, Packet)>>,
@@ -93,7 +101,7 @@ impl UdpLink {
         }
     }
 
-    // The next datagram from an IPv4 source, if one came in time.
+    // Returns the next datagram from an IPv4 sender if it arrives in time.
     fn next_datagram(&self) -> io::Result<Option<(Peer, Packet)>> {
         let mut room = [0u8; 512];
         match self.socket.recv_from(&mut room) {
@@ -165,7 +173,7 @@ impl Link for UdpLink {
     }
 }
 
-// A socket at the address that waits so long in a receive, and where it is bound.
+// Binds a socket whose receives wait at most `wait_ms` milliseconds. Also returns its address.
 fn bound_socket<N: Net>(net: &N, at: Peer, wait_ms: u32) -> io::Result<(UdpSocket, SocketAddr)> {
     let socket = UdpSocket::bind(net, SocketAddr::V4(address(at)))?;
     let wait = Duration::from_millis(u64::from(wait_ms.max(1)));

@@ -8,12 +8,12 @@ use Rattle.s10_ends.proofs.batch.serve_batch.Goals as goal
 one_more_fits : (most : ℕ) → Fits w32 most → Fits w64 (most + 1)
 one_more_fits most fits = omega arith
 
--- the turns of what was taken have their room
+-- The capacity is enough for the turns of the exchanges.
 room_for : (most capacity : ℕ) (taken now : List Exchange) → now ≡ taken → length taken ≤ most
     → most + 1 ≤ capacity → length now ≤ capacity
 room_for most capacity taken now same few room = omega (arith, ap length same)
 
--- and one more has it after them
+-- The capacity is enough for one turn after these.
 room_after : (most before capacity turns : ℕ) (taken now : List Exchange) → now ≡ taken
     → length taken ≤ most → most + 1 ≤ before → turns ≡ length now → capacity ≡ before
     → turns + 1 ≤ capacity

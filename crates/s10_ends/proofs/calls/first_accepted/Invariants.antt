@@ -4,7 +4,7 @@ use Rattle.s10_ends.specs.Calls.{IsUnanswered}
 use Rattle.s10_ends.proofs.Listening.{Hearing}
 use Rattle.s10_ends.proofs.calls.first_accepted.Given as goal
 
--- n receives, and no reply yet
+-- n receives were made, and no reply was accepted.
 abbrev pub invariant-loop-read : goal.invariant-loop-read
 invariant-loop-read g l = record {
   hearing : Hearing (g.L.Link.trace_of l.fn.link) (g.L.Link.trace_of l.link) l._read;

@@ -4,7 +4,7 @@ use Rattle.s10_ends.specs.Turn.{Handles}
 use Rattle.s10_ends.specs.Batch.{ReceivesAll}
 use Rattle.s10_ends.proofs.receiving.receive_batch.Given as goal
 
--- n were taken
+-- n datagrams were received.
 abbrev pub invariant-loop-more : goal.invariant-loop-more
 invariant-loop-more g l = record {
   room : l.fn.most ≤ vec_capacity l.taken;

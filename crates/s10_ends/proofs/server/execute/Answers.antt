@@ -7,7 +7,7 @@ use Rattle.s10_ends.proofs.Faulted.{told_counts, never_full, ok_not_full}
 use Rattle.s10_ends.proofs.Applied.{once_new, kept_new}
 use Rattle.s10_ends.proofs.server.execute.Goals as goal
 
--- as many calls are kept as may be, or fewer
+-- If the count of calls is not below the limit, it equals the limit.
 at_limit : (calls limit len most : ℕ) → len ≡ calls → most ≡ limit → most ≤ len → calls ≤ limit
     → calls ≡ limit
 at_limit calls limit len most held bound full few = omega arith
