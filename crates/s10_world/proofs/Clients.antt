@@ -1,4 +1,4 @@
--- Clients keep their customers and their numbers.
+-- A step leaves the customers and the numbers of the clients unchanged.
 use Rattle.std.proofs.Common.{◌≡◌, ◌∙◌, inl, inr, ℕ, List, [], ◌∷◌, ◌++◌, cond, get_or, Option}
 use Rattle.std.proofs.Common.{Some, None, refl, sym, ap, subst, arith}
 use Rattle.std.specs.Prelude.{slice_get, slice_set, is_some, take, Result, Ok, Err, OnOk, IfErr}
@@ -23,7 +23,7 @@ use Rattle.s10_world.proofs.Places.{after_set}
 abbrev IsSame : ClientState → ClientState → Type 0
 IsSame c d = (d.customer ≡ c.customer) × (d.first ≡ c.first) × (d.last ≡ c.last)
 
--- each client is the one that stood at its place before, with the same customer and numbers
+-- Each client has the same customer and numbers as the one at its index before.
 abbrev AreSame : List ClientState → List ClientState → Type 0
 AreSame cs ds = (j : ℕ) (d : ClientState) → slice_get ds j ≡ Some d → (c : ClientState)
     × (slice_get cs j ≡ Some c) × IsSame c d
@@ -83,11 +83,11 @@ give_up_same w k (Some c) there = same_set w.clients k c (without_pending c) the
   refl,
 )
 
--- what a step leaves as it was
+-- A step that leaves the clients unchanged.
 left : (w w' v : WorldState) → w' ≡ v → v.clients ≡ w.clients → AreSame w.clients w'.clients
 left w w' v is same = same_lists w.clients w'.clients (ap (λ (x : WorldState). x.clients) is ∙ same)
 
--- what a step makes of the clients
+-- A step that changes a client.
 made : (w w' v : WorldState) → w' ≡ v → AreSame w.clients v.clients → AreSame w.clients w'.clients
 made w w' v is same = subst (λ (x : WorldState). AreSame w.clients x.clients) (sym is) same
 
@@ -173,12 +173,12 @@ own_same cs ds same own = λ i j z before within.
     (subst (λ (x : ClientState). IsApartFrom first.0 x) b
     (subst (λ (x : ClientState). IsApartFrom x (get_or cs j z)) a apart))
 
--- clients whose numbers are their own keep them so
+-- Clients that have no number in common have none after the steps.
 pub steps_own : (t : Terms) (w w' : WorldState) (es : List Event) → Steps t w es w'
     → HaveOwnNumbers w.clients → HaveOwnNumbers w'.clients
 steps_own t w w' es steps own = own_same w.clients w'.clients (steps_same t w w' es steps) own
 
--- a run that ended, or that stopped before an event
+-- The same after a run that ended, or that stopped before an event.
 pub run_own : (t : Terms) (w w' : WorldState) (es : List Event) (r : Result (Unit {0}) WorldFault)
     → OnOk r (Steps t w es w')
     → IfErr r (λ fault. Steps t w (take (place_of fault) es) w') → HaveOwnNumbers w.clients

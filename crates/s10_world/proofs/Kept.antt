@@ -1,4 +1,4 @@
--- Every step keeps a world sound.
+-- Every step leaves a sound world sound.
 use Rattle.std.proofs.Common.{◌≡◌, ◌≢◌, ◌∙◌, inl, inr, ℕ, ◌<◌, ◌≤◌, Bool, true, false, cond, List}
 use Rattle.std.proofs.Common.{[], ◌∷◌, ◌++◌, get_or, Option, Some, None, refl, sym, ap, subst}
 use Rattle.std.proofs.Common.{arith}
@@ -40,13 +40,13 @@ use Rattle.s10_world.specs.Sound.{IsSoundWorld}
 use Rattle.s10_world.proofs.Places.{after_set, set_here, set_elsewhere}
 use Rattle.s10_world.proofs.Once.{once_one}
 
--- what holds of all holds at a place
+-- A property of all elements holds of the one at an index.
 pub all_at : {X : Type 0} (P : X → Type 0) (xs : List X) (i : ℕ) (x : X) → All P xs
     → slice_get xs i ≡ Some x → P x
 all_at P xs i x all is = subst P (get_or_from_slice_get xs i x x is)
     (All-get_or P xs i x (slice_get_within xs i x is) all)
 
--- a submit is taken where nothing is pending and a number is left
+-- A submit is accepted if no request is pending and a number is left.
 free_at : (p : Option Request) (b : Bool)
     → cond (is_some p) (Some Busy) (cond b (Some NumbersSpent) None) ≡ None → (p ≡ None)
     × (b ≡ false)
@@ -58,7 +58,7 @@ free : (c : ClientState) → submit_fault c ≡ None → (c.pending ≡ None) ×
 free c is = let both = free_at c.pending (nat_lt c.last (next_number c)) is in
     (both.0, ltb-false _ _ both.1)
 
--- d is the client c later on: the same customer and numbers, of which it took no fewer
+-- d is the client c at a later time: same customer and numbers, and at least as many numbers used.
 abbrev IsLater : ClientState → ClientState → Type 0
 IsLater c d = (d.customer ≡ c.customer) × (d.first ≡ c.first) × (d.last ≡ c.last)
     × (c.taken ≤ d.taken)
@@ -66,7 +66,7 @@ IsLater c d = (d.customer ≡ c.customer) × (d.first ≡ c.first) × (d.last �
 taken_later : (c d : ClientState) (q : Request) → IsLater c d → IsTakenBy c q → IsTakenBy d q
 taken_later c d q later taken = (taken.0 ∙ sym later.0, omega arith, omega arith, omega arith)
 
--- a request stays one of its client
+-- A request of a client is a request of the same client later.
 of_client_later : (clients : List ClientState) (k : ℕ) (c d : ClientState) (s : ℕ × Request)
     → slice_get clients k ≡ Some c → IsLater c d
     → IsOfClient clients s → IsOfClient (slice_set clients k d) s
@@ -80,7 +80,7 @@ of_client_later clients k c d s there later is = elim (eqb_tells s.0 k) [
   | inr e ↦ (is.0, set_elsewhere clients k s.0 is.0 d e.1 is.1, is.2)
 ]
 
--- the numbers of a client's requests are below its next one
+-- The numbers of a client's requests are below its next number.
 below_next : (clients : List ClientState) (k : ℕ) (c : ClientState) (s : ℕ × Request)
     → slice_get clients k ≡ Some c → IsOfClient clients s → s.0 ≡ k → s.1.number < next_number c
 below_next clients k c s there is e =
@@ -165,7 +165,7 @@ sound_submit_by w k body None there sound = sound
 sound_submit_by w k body (Some c) there sound = submit_at w k c body (submit_fault c) there refl
     sound
 
--- what is pending at another place
+-- A pending request at another index stays awaited.
 awaited_idle : (w : WorldState) (k j : ℕ) (c x : ClientState) (p : Request) → IsSoundWorld w
     → slice_get (slice_set w.clients k (without_pending c)) j ≡ Some x → x.pending ≡ Some p
     → (j ≢ k) × IsAwaited w j x p
@@ -241,7 +241,7 @@ sound_resends : (w w' : WorldState) (client : Option ClientState) → Resends w 
 sound_resends w w' None is sound = sound_same w w' is sound
 sound_resends w w' (Some c) is sound = sound_sends w w' c.pending is sound
 
--- a history that grew gives what it gave
+-- A longer history gives the outcomes that it gave before.
 gives_first : (kept more : Option Entry) (q : Request) (o : Outcome) → GivesOutcome kept q o
     → GivesOutcome (option_or kept more) q o
 gives_first None more q o is = absurd is
@@ -306,7 +306,7 @@ sound_request : (t : Terms) (w w' : WorldState) (b : Option (List ℕ)) (day : �
 sound_request t w w' None day is sound = sound_same w w' is sound
 sound_request t w w' (Some b) day is sound = sound_reaches t w w' b day is sound
 
--- a reply that the history gave to the request, read by its bytes
+-- The reply is one that the history gives to the request in its bytes.
 given_by : (h : List Entry) (b : List ℕ) (q : Request) (o : Outcome) → IsGivenBy h b → Replies b q o
     → GivesIn h q o
 given_by h b q o is replies =
@@ -379,7 +379,7 @@ steps_sound t w w' [] is sound = sound_same w w' is sound
 steps_sound t w w' (e ∷ es) is sound =
     steps_sound t is.0 w' es is.2 (step_sound t w is.0 e is.1 sound)
 
--- a run that ended, or that stopped before an event
+-- The world is sound after a run that ended, or that stopped before an event.
 pub run_sound : (t : Terms) (w w' : WorldState) (es : List Event) (r : Result (Unit {0}) WorldFault)
     → OnOk r (Steps t w es w')
     → IfErr r (λ fault. Steps t w (take (place_of fault) es) w') → IsSoundWorld w → IsSoundWorld w'

@@ -1,4 +1,4 @@
--- What one delivery makes of a history.
+-- Lemmas about what one delivery does to a history.
 use Rattle.std.proofs.Common.{◌≡◌, ◌∙◌, ℕ, ◌<◌, ◌≤◌, Bool, true, false, cond, ◌||◌, List, [], ◌∷◌}
 use Rattle.std.proofs.Common.{◌++◌, map, length, Option, Some, None, refl, ap, arith, inl, inr}
 use Rattle.std.specs.Prelude.{fold, is_some, ◌⊎◌, IsSome}
@@ -28,13 +28,13 @@ one_at : (b : Bool) (h : List Entry) (n : ℕ) (p : Request × ℕ)
 one_at true h n p = refl
 one_at false h n p = refl
 
--- one request is applied where its key is new
+-- One request is applied if its key is new.
 pub once_one : (h : List Entry) (q : Request) (day n : ℕ) → applied_once h ((q, day) ∷ []) n
     ≡ cond (is_some (find_entry h q.customer q.number)) h (applied n h (q, day))
 once_one h q day n = one_at (list_any (same_key q) (map (λ e. e.request) h)) h n (q, day)
     ∙ ap (λ b. cond b h (applied n h (q, day))) (any_kept q h)
 
--- what deliveries ask, by the first of them
+-- The requests of deliveries, by the first delivery.
 abbrev Inverted : List Dated → List (Request × ℕ) → Type 0
 Inverted [] asked = asked ≡ []
 Inverted (d ∷ ds) asked = (AskNothing d.0 × AreAsked ds asked)
@@ -49,7 +49,7 @@ inverted (request asks rest) = inr (_, _, asks, rest, refl)
 pub none_asked : (asked : List (Request × ℕ)) → AreAsked [] asked → asked ≡ []
 none_asked asked are = inverted are
 
--- one delivery that asks something asks this alone
+-- One delivery that asks something asks only that.
 pub one_asked : (b : List ℕ) (day : ℕ) (asked : List (Request × ℕ)) (q : Request) → Asks b q
     → AreAsked ((b, day) ∷ []) asked → asked ≡ (q, day) ∷ []
 one_asked b day asked q asks are = elim (inverted are) [
@@ -58,7 +58,7 @@ one_asked b day asked q asks are = elim (inverted are) [
       ∙ ap (λ (p : Request). (p, day) ∷ []) (one_request b w.0 q w.2 asks)
 ]
 
--- a history that is within the limit after a request had room for it
+-- If a history with one more call is within the limit, there was room for it before.
 pub room_at : (o : Option Entry) (h : List Entry) (e : Entry) (limit : ℕ)
     → length (cond (is_some o) h (h ++ e ∷ [])) ≤ limit → (length h < limit) ⊎ IsSome o
 room_at (Some kept) h e limit few = inr refl

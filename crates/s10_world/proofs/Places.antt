@@ -1,4 +1,4 @@
--- An element at its place.
+-- Lemmas about an element at its index.
 use Rattle.std.proofs.Common.{◌≡◌, ◌≢◌, ◌∙◌, ◌⊎◌, ◌<◌, inl, inr, sym, ap, refl, ℕ, List, Some, Bor}
 use Rattle.std.proofs.Common.{MutBor, length, get_or, arith}
 use Rattle.std.specs.Prelude.{slice_get, slice_set}
@@ -17,13 +17,13 @@ pub lent_mut : {X : Type 0} (xs : List X) (i : ℕ) (x : MutBor X) → IsItemAtM
     → slice_get xs i ≡ Some x.now
 lent_mut xs i x is = slice_get_read xs _ i x.now refl is.3.0 is.1
 
--- what is written as it was leaves the list
+-- Writing an equal element leaves the list unchanged.
 pub set_same : {X : Type 0} (xs : List X) (i : ℕ) (x y : X) → slice_get xs i ≡ Some x → y ≡ x
     → slice_set xs i y ≡ xs
 set_same xs i x y is same = ap (slice_set xs i) (same ∙ sym (get_or_from_slice_get xs i x x is))
     ∙ set-get_or xs i x
 
--- an element of a list in which one was written
+-- An element of a list after one was written.
 pub after_set : {X : Type 0} (xs : List X) (k : ℕ) (y : X) (j : ℕ) (x : X)
     → slice_get (slice_set xs k y) j ≡ Some x → ((j ≡ k) × (x ≡ y))
     ⊎ ((j ≢ k) × (slice_get xs j ≡ Some x))

@@ -1,4 +1,4 @@
--- Worlds that the steps reach from a start.
+-- Lemmas about the worlds that the steps reach from a start.
 use Rattle.std.proofs.Common.{◌≡◌, ◌∙◌, ◌⊎◌, inl, inr, ℕ, ◌<◌, Bool, true, false, cond, max, List}
 use Rattle.std.proofs.Common.{[], ◌∷◌, length, Option, Some, None, refl, sym, ap, subst, arith}
 use Rattle.std.specs.Prelude.{slice_get, is_some, IsSome}

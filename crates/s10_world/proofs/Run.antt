@@ -1,4 +1,4 @@
--- Steps one after another.
+-- Steps of two lists of events, one after the other.
 use Rattle.std.proofs.Common.{List, [], ◌∷◌, ◌++◌, refl, subst}
 use Rattle.s10_history.specs.Settings.{Terms}
 use Rattle.s10_world.specs.declared.event.Event.{Event}

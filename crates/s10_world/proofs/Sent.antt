@@ -1,4 +1,4 @@
--- What the calls of one event make of the world.
+-- Lemmas about what the calls of one event do to the world.
 use Rattle.std.proofs.Common.{◌≡◌, ◌∙◌, ℕ, ◌≤◌, cond, List, [], ◌∷◌, ◌++◌, map, length, Option}
 use Rattle.std.proofs.Common.{Some, None, refl, sym, ap, subst, inl, inr}
 use Rattle.std.specs.Prelude.{slice_get, slice_set, is_some}
@@ -77,7 +77,7 @@ sends w None frame asked is grown = absurd is
 sends w (Some q) frame asked is grown =
     (frame, is, ap (λ (l : List (List ℕ)). record w { asked = l }) grown)
 
--- what a list shows once one was pushed, room being made first
+-- The list after an element was pushed into reserved capacity.
 pub one_more : {X Y : Type 0} (f : X → Y) (xs reserved pushed : List X) (x : X)
     → pushed ≡ reserved ++ x ∷ [] → reserved ≡ xs → map f pushed ≡ map f xs ++ f x ∷ []
 one_more f xs reserved pushed x grown same = ap (map f) (grown ∙ ap (λ l. l ++ x ∷ []) same)

@@ -1,4 +1,4 @@
--- What a sound world says about the calls of its clients.
+-- Lemmas about what a sound world says of the calls of its clients.
 use Rattle.std.proofs.Common.{◌≡◌, ◌≢◌, ◌∙◌, ◌⊎◌, inl, inr, ℕ, suc, ◌<◌, Bool, true, false, cond}
 use Rattle.std.proofs.Common.{eqb, List, [], ◌∷◌, get_or, take, Option, Some, None, refl, sym, ap}
 use Rattle.std.proofs.Common.{subst, arith}
@@ -37,7 +37,7 @@ chosen : {A : Type 0} (b : Bool) (x r : A) (o : Option A) → cond b (Some x) o 
 chosen true x r o is = inl (refl, same_Some x r is)
 chosen false x r o is = inr is
 
--- what is found stands in the list, and passes
+-- An element that is found is in the list, and satisfies the test.
 found : {A : Type 0} (p : A → Bool) (xs : List A) (r : A) → find p xs ≡ Some r → (p r ≡ true)
     × Contains xs r
 found p [] r is = absurd (none-some r is)
@@ -72,7 +72,7 @@ agrees w sound =
           (λ a. outcome_in w.history a.request a.outcome) w.accepted sound.given;
     }
 
--- two calls with one key have that key each for the other
+-- Two calls with the same key each have the other's key.
 key_shared : (customer number : ℕ) (d e : Entry) → IsTrue (has_key customer number d)
     → IsTrue (has_key customer number e) → IsTrue (has_key d.request.customer d.request.number e)
 key_shared customer number d e first second =
@@ -99,7 +99,7 @@ not_before h t customer number i j d e legal at_i at_j first second before =
     let y : get_or h j d ≡ e = get_or_from_slice_get h j e d at_j in
     pair (rw (x, y) (key_shared customer number d e first second))
 
--- a key stands at one place alone
+-- A key occurs at only one index.
 one_place : (h : List Entry) (t : Terms) (customer number i j : ℕ) (d e : Entry) → IsLegal h t
     → slice_get h i ≡ Some d → slice_get h j ≡ Some e
     → IsTrue (has_key customer number d) → IsTrue (has_key customer number e) → i ≡ j
@@ -116,7 +116,7 @@ at_most_once : (h : List Entry) (t : Terms) (q : Request) → IsLegal h t → Is
 at_most_once h t q legal i j at_i at_j = one_place h t q.customer q.number i j at_i.0 at_j.0 legal
     at_i.1 at_j.1 (own_key q at_i.0 at_i.2) (own_key q at_j.0 at_j.2)
 
--- no call is answered NumberReused and kept
+-- No kept call has the outcome NumberReused.
 cond_not : (b : Bool) (x y : Outcome) → x ≢ NumberReused → y ≢ NumberReused
     → cond b x y ≢ NumberReused
 cond_not true x y first second = first
@@ -163,7 +163,7 @@ kept_not : (h : List Entry) (t : Terms) (i : ℕ) (e : Entry) → IsLegal h t �
 kept_not h t i e legal at reused = answer_not (take i h) e.request e.request.body e.day t.interval
     (sym (legal.right i e at) ∙ reused)
 
--- an element of a list has a place
+-- An element of a list has an index.
 placed : {X : Type 0} (xs : List X) (x : X) (is : Contains xs x) → slice_get xs is.0 ≡ Some x
 placed xs x is = slice_get-get_or xs is.0 x is.1 ∙ ap Some is.2
 

@@ -1,4 +1,4 @@
--- Where no two clients of one customer have a number in common.
+-- Lemmas about clients of one customer that have no number in common.
 use Rattle.std.proofs.Common.{◌≡◌, ◌≢◌, ◌∙◌, inl, inr, ℕ, zero, suc, ◌+◌, ◌<◌, ◌≤◌, List, [], ◌∷◌}
 use Rattle.std.proofs.Common.{◌++◌, length, get_or, Some, refl, sym, ap, subst, arith}
 use Rattle.std.specs.Prelude.{All, AllPairs, Contains, slice_get}
@@ -33,7 +33,7 @@ pairs_right : {X : Type 0} (R : X → X → Type 0) (xs ys : List X) → AllPair
 pairs_right R [] ys pairs = pairs
 pairs_right R (x ∷ xs) ys pairs = pairs_right R xs ys (pairs_tail R x (xs ++ ys) pairs)
 
--- an element of a list and one of what follows it
+-- An element of a list is related to every element after it.
 across : {X : Type 0} (R : X → X → Type 0) (xs ys : List X) (x y : X) (i : ℕ)
     → AllPairs R (xs ++ ys) → i < length xs → get_or xs i x ≡ x → Contains ys y → R x y
 across R [] ys x y i pairs within at later = absurd (omega (arith, within))
@@ -46,7 +46,7 @@ across R (z ∷ zs) ys x y (suc i) pairs within at later =
 abbrev IsSpacedPair : ℕ → Issuance → Issuance → Type 0
 IsSpacedPair interval i j = i.id ≡ j.id → i.day + interval ≤ j.day
 
--- of two calls that carry one identifier the later has a day the interval past the earlier
+-- If two calls carry the same identifier, the later day is at least the interval past the earlier.
 spaced_calls : (h : List Entry) (arrival interval i j : ℕ) (e f : Entry) (c d : ℕ × Id)
     → AllPairs (IsSpacedPair interval) (issues_from arrival h) → i < j
     → slice_get h i ≡ Some e → slice_get h j ≡ Some f → Contains (carried_by e.outcome) c
@@ -68,7 +68,7 @@ spaced_calls (y ∷ ys) arrival interval (suc i) (suc j) e f c d pairs before at
     (issues_at arrival y) (issues_from (arrival + 1) ys) pairs) (omega (arith, before)) at_i
     at_j carries_i carries_j same
 
--- clients of one customer at two places have no number in common
+-- Clients of one customer at two indices have no number in common.
 numbers_apart : (clients : List ClientState) (i j : ℕ) (c d : ClientState) (n : ℕ)
     → HaveOwnNumbers clients → i < j → slice_get clients i ≡ Some c → slice_get clients j ≡ Some d
     → c.customer ≡ d.customer → c.first ≤ n → n ≤ c.last → d.first ≤ n → n ≤ d.last → ⊥
@@ -79,7 +79,7 @@ numbers_apart clients i j c d n own before at_i at_j =
     let named = rw (x, y) at pair in
     λ same. named same n
 
--- two requests of clients at two places have no key in common
+-- Two requests of clients at two indices have different keys.
 keys_apart : (clients : List ClientState) (s u : ℕ × Request) → HaveOwnNumbers clients
     → IsOfClient clients s → IsOfClient clients u → s.0 ≢ u.0
     → s.1.customer ≡ u.1.customer → s.1.number ≢ u.1.number
@@ -121,7 +121,7 @@ of_client : (w : WorldState) (a : Acceptance) → IsSoundWorld w
 of_client w a sound is = All-contains (IsOfClient w.clients) w.submitted (a.client, a.request)
     sound.taken is
 
--- two accepted replies are to requests of two keys
+-- Two accepted replies are to requests with different keys.
 accepted_keys : (w : WorldState) (i j : ℕ) (z : Acceptance) → IsSoundWorld w
     → HaveOwnNumbers w.clients → i < j → j < length w.accepted
     → (get_or w.accepted i z).request ≢ (get_or w.accepted j z).request

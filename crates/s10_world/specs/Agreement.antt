@@ -1,4 +1,4 @@
--- What the clients accepted, and what the server executed.
+-- How the replies that the clients accepted agree with the calls that the server executed.
 use Rattle.std.specs.Prelude.{◌≡◌, ◌≢◌, ℕ, ◌+◌, ◌≤◌, ◌⊎◌, All, AllPairs, Contains, IsTrue, List}
 use Rattle.std.specs.Prelude.{Some, slice_get}
 use Rattle.s10_core.specs.declared.id.Id.{Id}
@@ -11,69 +11,74 @@ use Rattle.s10_history.specs.Issues.{carried_by}
 use Rattle.s10_ends.specs.Client.{ClientState}
 use Rattle.s10_world.specs.World.{Acceptance, WorldState}
 
--- the history has the request, with that outcome
+-- The history has the request, with that outcome.
 abbrev pub HasOutcome : List Entry → Request → Outcome → Type 0
 HasOutcome h q o = (e : Entry) × Contains h e × (e.request ≡ q) × (e.outcome ≡ o)
 
--- the history has another request with its key
+-- The history has another request with the same key.
 abbrev pub HasOther : List Entry → Request → Type 0
 HasOther h q = (e : Entry) × Contains h e × IsTrue (has_key q.customer q.number e) × (e.request ≢ q)
 
--- what was accepted is the outcome of the request in the history, or NumberReused where another request has its key there
+-- The accepted outcome is that of the request in the history, or it is NumberReused and another
+-- request has the key there.
 abbrev pub IsOutcomeIn : List Entry → Acceptance → Type 0
 IsOutcomeIn h a = HasOutcome h a.request a.outcome
     ⊎ ((a.outcome ≡ NumberReused) × HasOther h a.request)
 
--- what was accepted agrees with the history: it was submitted by that client, of one client the accepted numbers are
--- distinct, and each outcome is that of the history
+-- The accepted replies agree with the history. Each request was submitted by its client, and no
+-- client accepted two replies to one number. Each outcome is that of the history.
 pub record Agrees (w : WorldState) : Type 0 where
   pub submitted : All (λ a. Contains w.submitted (a.client, a.request)) w.accepted
   pub distinct : AllPairs (λ a b. a.client ≡ b.client → a.request.number ≢ b.request.number)
       w.accepted
   pub outcomes : All (IsOutcomeIn w.history) w.accepted
 
--- the call at the place, counted from 0, is the request
+-- The request is the call at the index, from 0.
 abbrev pub IsExecutedAt : List Entry → Request → ℕ → Type 0
 IsExecutedAt h q i = (e : Entry) × (slice_get h i ≡ Some e) × (e.request ≡ q)
 
+-- The request is a call of the history.
 abbrev pub IsExecuted : List Entry → Request → Type 0
 IsExecuted h q = (i : ℕ) × IsExecutedAt h q i
 
+-- The request is at most one call of the history.
 abbrev pub IsExecutedAtMostOnce : List Entry → Request → Type 0
 IsExecutedAtMostOnce h q = (i j : ℕ) → IsExecutedAt h q i → IsExecutedAt h q j → i ≡ j
 
--- a reply other than NumberReused says that the request was executed exactly once, and NumberReused that it was not
+-- A reply other than NumberReused means that the request was executed exactly once. NumberReused
+-- means that it was not executed.
 pub record RevealsExecution (h : List Entry) (a : Acceptance) : Type 0 where
   pub executed : a.outcome ≢ NumberReused → IsExecuted h a.request
       × IsExecutedAtMostOnce h a.request
   pub reused : a.outcome ≡ NumberReused → ¬ (IsExecuted h a.request)
 
--- no two clients of one customer have a number in common
+-- The two clients have no number in common if they are of one customer.
 abbrev pub IsApartFrom : ClientState → ClientState → Type 0
 IsApartFrom c d = c.customer ≡ d.customer → (n : ℕ) → c.first ≤ n → n ≤ c.last → d.first ≤ n
     → ¬ (n ≤ d.last)
 
+-- No two clients of one customer have a number in common.
 abbrev pub HaveOwnNumbers : List ClientState → Type 0
 HaveOwnNumbers clients = AllPairs IsApartFrom clients
 
--- no two of the submitted requests have one key, so each request is that of one call
+-- No two submitted requests have the same key, so each request is that of one call.
 abbrev pub AreOneCallEach : List (ℕ × Request) → Type 0
 AreOneCallEach submitted = AllPairs (λ s u. s.1.customer ≡ u.1.customer → s.1.number ≢ u.1.number)
     submitted
 
--- two accepted replies that carry one identifier do so on days at least the interval apart
+-- Two accepted replies that carry the same identifier have days at least the interval apart.
 abbrev pub AreDaysApart : ℕ → Acceptance → Acceptance → Type 0
 AreDaysApart interval a b = (x : Id) (d e : ℕ) → Contains (carried_by a.outcome) (d, x)
     → Contains (carried_by b.outcome) (e, x) → (d + interval ≤ e) ⊎ (e + interval ≤ d)
 
--- each submitted request was executed at most once, also where its client gave it up, and each accepted reply tells
--- whether its request was executed
+-- Each submitted request was executed at most once, even if its client gave it up. Each accepted
+-- reply shows whether its request was executed.
 pub record IsAtMostOnce (w : WorldState) : Type 0 where
   pub submitted : All (λ s. IsExecutedAtMostOnce w.history s.1) w.submitted
   pub accepted : All (RevealsExecution w.history) w.accepted
 
--- where no two clients of one customer have a number in common, no two calls share a request, and no identifier is
--- accepted twice within the interval
+-- No two calls share a request, and no identifier is accepted twice within the interval. This holds
+-- if no two clients of one customer have a number in common.
 pub record IsUnshared (interval : ℕ) (w : WorldState) : Type 0 where
   pub calls : AreOneCallEach w.submitted
   pub drawn : AllPairs (AreDaysApart interval) w.accepted

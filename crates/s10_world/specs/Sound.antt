@@ -1,4 +1,4 @@
--- What every step keeps.
+-- What every step leaves true of a world.
 use Rattle.std.specs.Prelude.{◌≡◌, ℕ, ◌+◌, ◌<◌, ◌≤◌, All, AllPairs, Contains, List, [], Some}
 use Rattle.std.specs.Prelude.{slice_get}
 use Rattle.s10_wire.specs.declared.request.Request.{Request}
@@ -10,29 +10,30 @@ use Rattle.s10_ends.specs.Served.{GivesOutcome}
 use Rattle.s10_ends.specs.Client.{ClientState, IsNew, next_number}
 use Rattle.s10_world.specs.World.{WorldState}
 
--- the history gives the request that outcome
+-- The history gives the request that outcome.
 abbrev pub GivesIn : List Entry → Request → Outcome → Type 0
 GivesIn h q o = GivesOutcome (find_entry h q.customer q.number) q o
 
--- the bytes are a reply that the history gives
+-- The bytes are a reply that the history gives.
 abbrev pub IsGivenBy : List Entry → List ℕ → Type 0
 IsGivenBy h b = (q : Request) × (o : Outcome) × GivesIn h q o × Replies b q o
 
--- the request is the customer's, with a number that the client took
+-- The request is of the client's customer, and has a number that the client has used.
 abbrev pub IsTakenBy : ClientState → Request → Type 0
 IsTakenBy c q = (q.customer ≡ c.customer) × (c.first ≤ q.number) × (q.number < next_number c)
     × (q.number ≤ c.last)
 
--- it is a request of the client at the place
+-- The request is one of the client at the index.
 abbrev pub IsOfClient : List ClientState → ℕ × Request → Type 0
 IsOfClient clients s = (c : ClientState) × (slice_get clients s.0 ≡ Some c) × IsTakenBy c s.1
 
--- what is pending at the place was submitted there last, and no number from it on was accepted there
+-- The pending request at the index was submitted last there. No reply to its number or a later one
+-- was accepted there.
 abbrev pub IsAwaited : WorldState → ℕ → ClientState → Request → Type 0
 IsAwaited w k c q = Contains w.submitted (k, q) × (q.number + 1 ≡ next_number c)
     × All (λ a. a.client ≡ k → a.request.number < q.number) w.accepted
 
--- nothing was sent yet, and no client took a number
+-- Nothing was sent yet, and no client has used a number.
 pub record IsStart (w : WorldState) : Type 0 where
   pub asked : w.asked ≡ []
   pub replied : w.replied ≡ []
@@ -40,6 +41,8 @@ pub record IsStart (w : WorldState) : Type 0 where
   pub accepted : w.accepted ≡ []
   pub clients : All IsNew w.clients
 
+-- Every reply is one that the history gives, and every submitted request is its client's. The
+-- clients submitted and accepted their numbers in order.
 pub record IsSoundWorld (w : WorldState) : Type 0 where
   pub replied : All (IsGivenBy w.history) w.replied
   pub taken : All (IsOfClient w.clients) w.submitted

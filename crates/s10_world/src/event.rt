@@ -1,20 +1,23 @@
 use s10_link::Packet;
 use s10_wire::Body;
 
-/// What may happen next. Clients and places count from 0. A datagram that is lost is one that no
-/// event hands out; one may be handed out again, and in any order.
+/// An event of a world. Clients and datagrams have indices from 0.
+///
+/// An event with an index that does not exist changes nothing. A datagram is lost if no event
+/// delivers it. It may be delivered several times, and in any order.
 #[derive(Clone, Copy, Debug)]
 pub enum Event {
-    /// A client submits a request, which is sent by `Resend` alone.
+    /// The client submits a request. Only `Resend` sends it.
     Submit { client: u32, body: Body },
-    /// A client sends its pending request, the first time or again.
+    /// The client sends its pending request, for the first time or again.
     Resend { client: u32 },
-    /// A client waits no more for its pending request.
+    /// The client stops waiting for its pending request.
     GiveUp { client: u32 },
-    /// A request that was sent reaches the server on a day.
+    /// The request with this index in `asked` reaches the server on a day.
     ToServer { index: usize, day: u32 },
-    /// Any bytes, which no client of this world sent, reach the server on a day.
+    /// Any bytes, sent by no client of this world, reach the server on a day.
     Strange { packet: Packet, day: u32 },
-    /// A reply that was sent reaches a client, perhaps another than it was for.
+    /// The reply with this index in `replied` reaches a client, which may be another than it was
+    /// sent to.
     ToClient { client: u32, index: usize },
 }

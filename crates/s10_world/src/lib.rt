@@ -1,4 +1,4 @@
-//! A server, its clients and the network between them, over every loss, repeat and order.
+//! Defines a server, its clients and the network between them, with every loss, repeat and order.
 #![tactic(auto)]
 
 mod event;

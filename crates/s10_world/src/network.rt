@@ -1,4 +1,4 @@
-//! A server, its clients and what was sent between them.
+//! Executes the events of a world.
 
 use crate::event::Event;
 use crate::world_fault::WorldFault;
@@ -25,7 +25,7 @@ impl<B: Book> Network<B> {
     ghost use Rattle.s10_world.specs.Parts.{server_of, book_in, clients_of, asked_of, replied_of};
     ghost use Rattle.s10_world.specs.Parts.{world_state_of, place_of};
 
-    // The events in order. All memory that one may take is taken before it changes anything.
+    // Executes the events in order. Each one reserves its memory before it changes anything.
     pub(crate) fn run(&mut self, events: &[Event]) -> Result<(), WorldFault>
         ensures was_honest { B.honest (book_in self.new) → B.honest (book_in self.old) }
         ensures same_terms { B.honest (book_in self.new) → B.terms (book_in self.new)
@@ -37,7 +37,7 @@ impl<B: Book> Network<B> {
             (world_state_of B.history B.faults self.old) events.now
             (world_state_of B.history B.faults self.new)) }
 
-        // Where memory was wanting, by the events before that place.
+        // If memory was lacking, the state is the one reached by the events before that index.
         ensures place { IfErr result (λ fault. place_of fault < length events.now) }
         ensures memory { B.honest (book_in self.new) → IfErr result (λ fault.
             Steps (B.terms (book_in self.old)) (world_state_of B.history B.faults self.old)
@@ -51,7 +51,7 @@ impl<B: Book> Network<B> {
         Ok(())
     }
 
-    // One event. Where there is no memory for it, nothing is done.
+    // Executes one event. Without memory for it, nothing is changed.
     pub(crate) fn step(&mut self, event: &Event) -> Result<(), AllocError>
         ensures was_honest { B.honest (book_in self.new) → B.honest (book_in self.old) }
         ensures same_terms { B.honest (book_in self.new) → B.terms (book_in self.new)
@@ -126,7 +126,7 @@ impl<B: Book> Network<B> {
         let _ = caller.give_up();
     }
 
-    // Hands bytes to the server. A reply is sent; what was dropped or faulted leaves no trace here.
+    // Delivers bytes to the server. A reply is recorded as sent. Other answers are not recorded.
     fn reach_server(&mut self, bytes: &[u8], day: u32) -> Result<(), AllocError>
         ensures was_honest { B.honest (book_in self.new) → B.honest (book_in self.old) }
         ensures same_terms { B.honest (book_in self.new) → B.terms (book_in self.new)

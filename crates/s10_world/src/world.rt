@@ -1,4 +1,4 @@
-//! Both ends and the network between them.
+//! Defines both ends and the network between them.
 
 use crate::event::Event;
 use crate::network::Network;
@@ -9,9 +9,10 @@ use s10_wire::{Frame, Reply, Request};
 use std::alloc::Global;
 use std::marker::Model;
 
-/// A server, its clients, and everything that was sent between them. The network may lose, repeat
-/// and reorder datagrams: whatever was sent may reach the other end at any later time, again, or
-/// never. Every datagram of the server may reach any client.
+/// A server, its clients, and everything that was sent between them.
+///
+/// The network may lose, repeat and reorder datagrams. Every datagram may arrive at any later time,
+/// once, several times or never. A reply may reach any client.
 #[derive(Drop)]
 pub struct World<B: Book> {
     network: Network<B>,
@@ -40,7 +41,9 @@ impl<B: Book> World<B> {
     ghost use Rattle.s10_world.specs.Parts.{server_of, book_in, clients_of, asked_of, replied_of};
     ghost use Rattle.s10_world.specs.Parts.{submitted_of, accepted_of, world_state_of, place_of};
 
-    /// A world in which nothing was sent yet.
+    /// Creates a world in which nothing was sent yet.
+    ///
+    /// All clients must be new, and there must be fewer than 2^32 of them.
     pub fn new(alloc: Global, server: Server<B>, clients: Vec<Client>) -> World<B>
         requires new { All IsNew clients.items }
         requires few { length clients.items < 2 ^ 32 }
@@ -63,48 +66,55 @@ impl<B: Book> World<B> {
         }
     }
 
+    /// Returns the server.
     pub fn server(&self) -> &Server<B>
         ensures { result.now ≡ server_of self.now }
     {
         &self.network.server
     }
 
+    /// Returns the server and ends the world.
     pub fn into_server(self) -> Server<B>
         ensures { result ≡ server_of self }
     {
         self.network.server
     }
 
-    /// Every request that was sent, in the order of sending, each as often as it was sent.
+    /// Returns every request that was sent, in the order of sending. A request that was sent again
+    /// occurs again.
     pub fn asked(&self) -> &[Frame]
         ensures { result.now ≡ asked_of self.now }
     {
         &self.network.asked
     }
 
-    /// Every reply that was sent, in the order of sending.
+    /// Returns every reply that was sent, in the order of sending.
     pub fn replied(&self) -> &[Frame]
         ensures { result.now ≡ replied_of self.now }
     {
         &self.network.replied
     }
 
-    /// Every request that was submitted, with the place of its client.
+    /// Returns every request that was submitted, with the index of its client.
     pub fn submitted(&self) -> &[(u32, Request)]
         ensures { result.now ≡ submitted_of self.now }
     {
         &self.network.submitted
     }
 
-    /// Every reply that was accepted, with the place of its client.
+    /// Returns every reply that was accepted, with the index of its client.
     pub fn accepted(&self) -> &[(u32, Reply)]
         ensures { result.now ≡ accepted_of self.now }
     {
         &self.network.accepted
     }
 
-    /// Lets the events happen in order. All memory that an event may take is taken before it
-    /// changes anything.
+    /// Executes the events in order. Each event reserves its memory before it changes anything.
+    ///
+    /// # Errors
+    ///
+    /// `Memory` with the index of the first event for which memory was lacking. The events before
+    /// it were executed, and no other.
     pub fn run(&mut self, events: &[Event]) -> Result<(), WorldFault>
         ensures was_honest { B.honest (book_in self.new) → B.honest (book_in self.old) }
         ensures same_terms { B.honest (book_in self.new) → B.terms (book_in self.new)
@@ -116,25 +126,25 @@ impl<B: Book> World<B> {
             (world_state_of B.history B.faults self.old) events.now
             (world_state_of B.history B.faults self.new)) }
 
-        // Where memory was wanting, by the events before that place.
+        // If memory was lacking, the state is the one reached by the events before that index.
         ensures place { IfErr result (λ fault. place_of fault < length events.now) }
         ensures memory { B.honest (book_in self.new) → IfErr result (λ fault.
             Steps (B.terms (book_in self.old)) (world_state_of B.history B.faults self.old)
             (take (place_of fault) events.now) (world_state_of B.history B.faults self.new)) }
 
-        // What was accepted agrees with the history, which keeps what legal histories keep.
+        // The history keeps its promises, and the accepted replies agree with it.
         ensures kept { B.honest (book_in self.new) → KeepsPromises (B.history (book_in self.new))
             (B.terms (book_in self.new)) }
         ensures agrees { B.honest (book_in self.new)
             → Agrees (world_state_of B.history B.faults self.new) }
 
-        // Each submitted request was executed at most once; a call whose reply was accepted exactly once, or not at all
-        // where that is NumberReused.
+        // Each submitted request was executed at most once. A request whose reply was accepted was
+        // executed exactly once, or not at all if the reply is NumberReused.
         ensures once { B.honest (book_in self.new)
             → IsAtMostOnce (world_state_of B.history B.faults self.new) }
 
-        // Where no two clients of one customer had a number in common, each request is that of one call, and no
-        // identifier is accepted twice within the interval.
+        // If no two clients of one customer have a number in common, no two calls share a request,
+        // and no identifier is accepted twice within the interval.
         ensures unshared { B.honest (book_in self.new) → HaveOwnNumbers (clients_of self.old)
             → IsUnshared (B.terms (book_in self.new)).interval
             (world_state_of B.history B.faults self.new) }

@@ -1,10 +1,10 @@
 use thiserror::Error;
 
-/// Why a run ended before its last event.
+/// The reason why a run ended before its last event.
 #[derive(Clone, Copy, Debug, PartialEq, Eq, Error)]
 pub enum WorldFault {
-    /// There was no memory for the event at this place, counted from 0: the events before it were
-    /// done, and this one was not begun.
+    /// The index, from 0, of the event for which memory was lacking. The events before it were
+    /// executed, and this one changed nothing.
     #[error("no memory for event {0}")]
     Memory(usize),
 }
