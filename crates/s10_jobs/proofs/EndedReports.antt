@@ -1,4 +1,4 @@
--- A report that its book ended.
+-- Lemmas about a report that a fault of its book ended.
 use Rattle.std.proofs.Common.{◌≡◌, ℕ, List, take, codes, Option, Result, Err, subst}
 use Rattle.s10_lines.specs.Lines.{line_of}
 use Rattle.s10_lines.proofs.Writing.{Appends-then}
@@ -13,7 +13,7 @@ use Rattle.s10_reports.specs.Reports.{joined}
 use Rattle.s10_jobs.specs.Words.{book_fault_words}
 use Rattle.s10_jobs.specs.Reporting.{EndsByBook}
 
--- the lines before the fault, and its own
+-- The lines before the fault, then the line of the fault.
 pub ends_by_book : {T : Type 0} (r : Result T ReportFault) (fault : BookFault) (was now : Faults)
     (old between new : Option (List ℕ)) (lines : List (List ℕ))
     → r ≡ Err (Book fault) → CountsReport r was now → Reported old between lines r

@@ -1,4 +1,4 @@
--- Hex text, read into room for half as many bytes.
+-- Lemmas about hex text, read into a buffer of half its length.
 use Rattle.std.proofs.Common.{◌≡◌, ℕ, ◌≤◌, List, length, take, Some, None, Result, Ok, Err, refl}
 use Rattle.std.proofs.Common.{sym, ap, ◌∙◌, arith, Bool, true}
 use Rattle.std.specs.Prelude.{MatchResult, nat_le, if◌then◌else◌}
@@ -28,7 +28,7 @@ some_bytes : (t : Bool) (d : Result (List ℕ) FromHexError) (bytes : List ℕ) 
     → d ≡ Ok bytes → Some bytes ≡ (if t then result_ok d else None)
 some_bytes t d bytes yes' is = rw (yes', is) refl
 
--- the bytes that were read
+-- The bytes that were read.
 pub bytes_read : (text out : List ℕ) (n : ℕ) (u : Unit {0}) → length text ≤ 1024
     → MatchResult (decode_sized text n) (λ bytes. IsSame u × (out ≡ bytes)) (λ e. IsOther u e)
     → Some (take 512 out) ≡ bytes_in text

@@ -1,4 +1,4 @@
--- Lines that are read one byte at a time.
+-- Lemmas about lines that are read one byte at a time.
 use Rattle.std.proofs.Common.{◌≡◌, ◌≢◌, ℕ, ◌+◌, ◌<◌, ◌≤◌, List, [], ◌∷◌, ◌++◌, length, take, refl}
 use Rattle.std.proofs.Common.{ap, sym, ◌∙◌, arith, Option, Some, None, append_assoc, Bool, true}
 use Rattle.std.proofs.Common.{false}
@@ -13,11 +13,11 @@ use Rattle.s10_jobs.specs.LineReader.{ReadsByte, ReadsLine}
 use Rattle.s10_jobs.specs.declared.line_reader.TheConstants.{MAX_LINE}
 use Rattle.s10_jobs.specs.declared.line_reader.NextLine.TheVariants.{End, Whole, Long}
 
--- no line feed stands in the bytes
+-- The bytes contain no line feed.
 abbrev pub IsUnbroken : List ℕ → Type 0
 IsUnbroken bytes = AllByRecursion (λ b. b ≢ 10) bytes
 
--- one read after another
+-- One read after another.
 pub Consumes-append : (a b c : Option (List ℕ)) (xs ys : List ℕ) → Consumes a b xs → Consumes b c ys
     → Consumes a c (xs ++ ys)
 Consumes-append None b c xs ys h k = tt
@@ -26,7 +26,7 @@ Consumes-append (Some a) (Some b) None xs ys h k = absurd k
 Consumes-append (Some a) (Some b) (Some c) xs ys h k = h ∙ ap (λ l. xs ++ l) k
     ∙ sym (append_assoc xs ys c)
 
--- a read that failed after another
+-- A read that failed after another read.
 pub Consumes-kept : (a b c : Option (List ℕ)) (xs : List ℕ) → Consumes a b xs → Keeps b c
     → Consumes a c xs
 Consumes-kept None b c xs h k = tt
@@ -37,13 +37,13 @@ Consumes-kept (Some a) (Some b) (Some c) xs h k = h ∙ ap (λ l. xs ++ l) (sym 
 is_no_break : (b : ℕ) → b ≢ 10 → (b == 10) ≡ false
 is_no_break b h = false_from_ne_true _ (λ e. h (eqb-true b 10 e))
 
--- a byte that is no line feed joins the piece before it
+-- A byte that is no line feed is added to the piece before it.
 pub pieces_step : (front bytes : List ℕ) (b : ℕ) → b ≢ 10 → pieces front (b ∷ bytes)
     ≡ pieces (front ++ b ∷ []) bytes
 unfolding pieces
 pieces_step front bytes b h = rw (is_no_break b h) refl
 
--- so do many
+-- The same for several bytes.
 pub pieces_walk : (front content rest : List ℕ) → IsUnbroken content
     → pieces front (content ++ rest) ≡ pieces (front ++ content) rest
 pieces_walk front [] rest h = ap (λ f. pieces f rest) (sym (append-nil front))
@@ -77,7 +77,7 @@ pieces_long_at front bytes b false e rest =
     let grown : length (front ++ b ∷ []) ≡ length front + 1 = grind (arith, common_steps) in
     (rest.0, rest.1, pieces_step front bytes b other ∙ rest.2, omega (arith, rest.3))
 
--- a first piece is at least as long as what stands before it
+-- A first piece has at least the bytes that precede it.
 pub pieces_long : (front bytes : List ℕ) → 0 < length front → (line : List ℕ)
     × (more : List (List ℕ)) × (pieces front bytes ≡ line ∷ more) × (length front ≤ length line)
 pieces_long [] [] h = let bad : ⊥ = omega arith in absurd bad
@@ -90,7 +90,7 @@ pub whole_last : (content : List ℕ) → 0 < length content → last_piece cont
 whole_last [] h = let bad : ⊥ = omega arith in absurd bad
 whole_last (b ∷ bytes) h = refl
 
--- at the end of the input
+-- The line at the end of the input.
 pub line_at_end : (a b c : Option (List ℕ)) (content buffer : List ℕ) (n : ℕ) → Consumes a b content
     → IsUnbroken content → ReadsByte b c None → take n buffer ≡ content → 0 < length content
     → ReadsLine a c buffer (Whole n)
@@ -110,7 +110,7 @@ nothing_at_end (Some a) None c buffer h k = absurd h
 nothing_at_end (Some a) (Some b) None buffer h k = absurd k.1
 nothing_at_end (Some a) (Some b) (Some c) buffer h k = (h ∙ k.0, sym (sym k.0 ∙ k.1))
 
--- at a line feed
+-- The line that ends at a line feed.
 pub line_at_break : (a b c : Option (List ℕ)) (content buffer : List ℕ) (n : ℕ)
     → Consumes a b content → IsUnbroken content → ReadsByte b c (Some 10) → take n buffer ≡ content
     → ReadsLine a c buffer (Whole n)
@@ -121,7 +121,7 @@ line_at_break (Some a) (Some b) (Some c) content buffer n h free k e =
     ap lines_of (h ∙ ap (λ l. content ++ l) k) ∙ pieces_walk [] content (10 ∷ c) free
     ∙ pieces_break content c ∙ ap (λ l. l ∷ lines_of c) (sym e)
 
--- past the limit
+-- A line that is longer than the limit.
 pub line_too_long : (a b c : Option (List ℕ)) (content buffer : List ℕ) (x : ℕ)
     → Consumes a b content → IsUnbroken content → ReadsByte b c (Some x) → x ≢ 10
     → length content ≡ MAX_LINE → ReadsLine a c buffer Long
@@ -138,7 +138,7 @@ line_too_long (Some a) (Some b) (Some c) content buffer x h free k ne e =
       omega (arith, rest.3),
     )
 
--- bytes have a line, and no bytes none
+-- Some bytes have a first line, and no bytes have none.
 pub no_pieces : lines_of [] ≡ []
 no_pieces = pieces_end []
 

@@ -1,4 +1,4 @@
--- A replay, line by line.
+-- Lemmas about a replay, line by line.
 use Rattle.std.proofs.Common.{◌≡◌, ◌≢◌, ℕ, zero, suc, ◌+◌, ◌-◌, ◌<◌, ◌≤◌, List, [], ◌∷◌, ◌++◌}
 use Rattle.std.proofs.Common.{length, take, drop, Option, Some, None, Result, Ok, Err, refl, sym}
 use Rattle.std.proofs.Common.{ap, subst, ◌∙◌, inl, inr, append_assoc, append-nil, arith, Bool, true}
@@ -29,7 +29,7 @@ use Rattle.s10_jobs.specs.declared.replay_fault.ReplayFault.{ReplayFault}
 use Rattle.s10_jobs.specs.declared.replay_fault.ReplayFault.TheVariants.{Line, Read, Write}
 use Rattle.s10_jobs.proofs.LineReading.{pieces_some, no_pieces}
 
--- what holds of each element and its place holds with one more
+-- A property of each element and its index holds with one more element.
 each_push : (P : List ℕ → ℕ → Type 0) (xs : List (List ℕ)) (x : List ℕ)
     → ((k : ℕ) (y : List ℕ) → slice_get xs k ≡ Some y → P y k) → P x (length xs)
     → (k : ℕ) (y : List ℕ) → slice_get (xs ++ x ∷ []) k ≡ Some y → P y k
@@ -77,7 +77,7 @@ deliveries_same lines line is =
     filter_map-append delivery_in lines (line ∷ []) ∙ ap (λ (o : Option Dated). deliveries_in lines
     ++ cons_option o []) is ∙ append-nil (deliveries_in lines)
 
--- n lines are read and done, of which none is refused, and n answers are shown; the other lines are still to be read
+-- After n lines of which none is refused: the answers that are shown, and the lines that remain.
 pub record Front (h : List Entry) (t : Terms) (bytes rest held now : List ℕ) (done count : ℕ)
     (h' : List Entry) : Type 0 where
   pub read : List ℕ
@@ -102,7 +102,7 @@ Front-start h t bytes held = record {
   count_is = refl;
 }
 
--- one more line
+-- One more line.
 parts_more : (bytes read left taken rest : List ℕ) → bytes ≡ read ++ left → left ≡ taken ++ rest
     → bytes ≡ (read ++ taken) ++ rest
 parts_more bytes read left taken rest so_far next = so_far ∙ ap (λ l. read ++ l) next
@@ -166,7 +166,7 @@ Front-empty h h1 t bytes left rest held now line taken done count front read nex
       count_is = front.count_is;
     }
 
--- all lines are done
+-- All lines are done.
 pub Front-end : (h h' : List Entry) (t : Terms) (bytes left held now : List ℕ)
     (new : Option (List ℕ)) (done count : ℕ) → Front h t bytes left held now done count h'
     → left ≡ [] → new ≡ Some []
@@ -179,7 +179,7 @@ Front-end h h' t bytes left held now new done count front end over =
     × (count ≡ length shows.answers) × (new ≡ Some []) in
     subst P all (front.shows, front.none_refused, front.count_is, over)
 
--- the next line is refused
+-- The next line is refused.
 place : (before more : List (List ℕ)) (line : List ℕ)
     → slice_get (before ++ line ∷ more) (length before) ≡ Some line
 place [] more line = refl
@@ -223,7 +223,7 @@ Front-refused h h' t bytes left held now line new more done count front next ref
       subst P (sym taken) front.shows,
     )
 
--- the input cannot be read on
+-- The input cannot be read further.
 pub Front-stopped : (h h' : List Entry) (t : Terms) (bytes left held now : List ℕ)
     (new : Option (List ℕ)) (done count : ℕ) → Front h t bytes left held now done count h'
     → BeginsLine (Some left) new → (MAX_LINES ≤ done → new ≡ Some left)
@@ -244,11 +244,11 @@ Front-stopped h h' t bytes left held now new done count front stopped counted =
       },
     )
 
--- some bytes were taken
+-- Some bytes were read.
 abbrev pub Takes : Option (List ℕ) → Option (List ℕ) → Type 0
 Takes old new = (bytes : List ℕ) × Consumes old new bytes
 
--- the same where the bytes and the output are known
+-- The same if the bytes and the output are known.
 abbrev pub HasReplayed : List Entry → Terms → Option (List ℕ) → Option (List ℕ) → Option (List ℕ)
     → Option (List ℕ) → ℕ → ℕ → List Entry → Type 0
 HasReplayed h t None left held now done count h' = ⊤
@@ -264,7 +264,7 @@ at_start h t None held = tt
 at_start h t (Some bytes) None = tt
 at_start h t (Some bytes) (Some held) = Front-start h t bytes held
 
--- the next answer
+-- The next answer.
 pub one_more : (h h1 h2 : List Entry) (t : Terms) (bytes left rest held now after : Option (List ℕ))
     (buffer : List ℕ) (n done count : ℕ) (d : Dated) (a : Answer)
     → HasReplayed h t bytes left held now done count h1 → ReadsLine left rest buffer (Whole n)
@@ -289,7 +289,7 @@ one_more h h1 h2 t (Some bytes) (Some left) (Some rest) (Some held) (Some now) (
     Front-answer h h1 h2 t bytes left rest held now after (take n buffer) read.0 done count d a
     front read.1 line fits few is served out
 
--- the next empty line
+-- The next empty line.
 pub one_empty : (h h1 : List Entry) (t : Terms) (bytes left rest held now : Option (List ℕ))
     (buffer : List ℕ) (n done count : ℕ)
     → HasReplayed h t bytes left held now done count h1 → ReadsLine left rest buffer (Whole n)
@@ -310,7 +310,7 @@ one_empty h h1 t (Some bytes) (Some left) (Some rest) (Some held) (Some now) buf
     Front-empty h h1 t bytes left rest held now (take n buffer) read.0 done count front read.1 line
     fits few is empty
 
--- how a replay ends, by what stands before its end
+-- How a replay ends, if the bytes and the output are known.
 abbrev pub EndsSo : List Entry → Terms → Option (List ℕ) → Option (List ℕ) → Option (List ℕ)
     → Option (List ℕ) → Result ℕ ReplayFault → List Entry → Type 0
 EndsSo h t bytes new held now result h' =
@@ -399,7 +399,7 @@ ends_unwritten h h' t (Some b) rest None now = tt
 ends_unwritten h h' t (Some b) rest (Some w) None = tt
 ends_unwritten h h' t (Some b) rest (Some w) (Some n) = tt
 
--- after the last line that an input may have
+-- The input is at its end after the last line allowed.
 pub ends_last : (h h' : List Entry) (t : Terms) (bytes left rest held now : Option (List ℕ))
     (done count : ℕ) → HasReplayed h t bytes left held now done count h' → ReadsByte left rest None
     → EndsSo h t bytes rest held now (Ok count) h'
@@ -454,7 +454,7 @@ ends_one_too_many h h' t bytes left rest held now byte done count front read man
     some_line (Some x) (Some r) l is read' = let some = pieces_some byte r in
         (some.0, some.1, ap lines_of (sym (same_Some x l is) ∙ read') ∙ some.2)
 
--- what a test for emptiness tells
+-- Lemmas about a test for an empty text.
 pub not_empty : (text line : List ℕ) (b : Bool) → text ≡ line → b ≡ (length text == 0) → b ≡ false
     → line ≢ []
 not_empty text line b same is no' empty = let yes' : (length text == 0) ≡ true =

@@ -1,4 +1,4 @@
--- The turns of a server, one more at a time.
+-- Lemmas about the turns of a server, one more batch at a time.
 use Rattle.std.proofs.Common.{◌≡◌, ◌≢◌, ℕ, ◌+◌, ◌<◌, ◌≤◌, List, [], ◌∷◌, ◌++◌, length, Option, Some}
 use Rattle.std.proofs.Common.{None, Result, Ok, Err, refl, sym, ap, subst, ◌∙◌, arith}
 use Rattle.std.proofs.Common.{length-append}
@@ -33,7 +33,7 @@ turns_more : (batches : List (List Turn)) (batch : List Turn) → turns_in (batc
     ≡ turns_in batches ++ batch
 turns_more batches batch = sym (flat_map_more (λ (r : List Turn). r) [] batches batch)
 
--- n turns, with their lines
+-- n turns were served, and their lines written.
 pub record HasServed {S : Type 0} (IsStep : S → List Turn → S → Type 0) (old new : S)
     (held now : Option (List ℕ)) (done : ℕ) : Type 0 where
   pub batches : List (List Turn)
@@ -69,7 +69,7 @@ module _ {S : Type 0} (IsStep : S → List Turn → S → Type 0) (old mid new :
         (flat_map turn_line batch) served.written lines);
   }
 
-  -- one more round, whose lines were written
+  -- One more batch, whose lines were written.
   pub batch_served : (Is : List Turn → Type 0) (most turns : ℕ)
       → ((batch : List Turn) → Is batch → IsStep mid batch new)
       → PrintsBatch Is most before now (Ok turns) → HasServed IsStep old new held now (done + turns)
@@ -77,7 +77,7 @@ module _ {S : Type 0} (IsStep : S → List Turn → S → Type 0) (old mid new :
       subst (λ n. HasServed IsStep old new held now (done + n)) (sym many)
       (batch_more batch (step batch is) lines)
 
-  -- one more round, whose lines were not
+  -- One more batch, whose lines were not written.
   pub batch_unprinted : (Is : List Turn → Type 0) (most : ℕ) (shown : Result ℕ WriteFault)
       (result : Result JobStatus WriteFault) (IsFault : WriteFault → Type 0)
       → IsErrAnd result IsFault → ((batch : List Turn) → Is batch → IsStep mid batch new)
@@ -99,7 +99,7 @@ module _ {S : Type 0} (IsStep : S → List Turn → S → Type 0) (old mid new :
       }
   batch_unprinted Is most shown (Ok status) IsFault failed step room batch = absurd failed
 
--- the day of a turn is the day that was given
+-- The day of a turn is the given day.
 pub given_day : (given found : Option ℕ) (day : ℕ) → (given ≢ None → found ≡ given)
     → found ≡ Some day → IsDay given day
 given_day None found day same is = λ d e. absurd (none-some d e)

@@ -1,4 +1,4 @@
--- What is printed of a call over a link, and the status that it gives.
+-- The line and the status of a call of a client.
 use Rattle.std.specs.Prelude.{ℕ, List, [], codes, Result, Ok, Err}
 use Rattle.s10_wire.specs.declared.outcome.Outcome.{Outcome}
 use Rattle.s10_wire.specs.declared.outcome.Outcome.TheVariants.{Granted, Drawn, DrawnMany, Voided}
@@ -17,7 +17,7 @@ use Rattle.s10_jobs.specs.declared.job_status.JobStatus.TheVariants.{Done, Refus
 use Rattle.s10_jobs.specs.declared.job_status.JobStatus.TheVariants.{Failed}
 use Rattle.s10_jobs.specs.Words.{link_fault_words}
 
--- the first six outcomes say that what was asked was done
+-- The first six outcomes mean that the request was done. The others are refusals.
 abbrev pub outcome_status : Outcome → JobStatus
 outcome_status (Granted range) = Done
 outcome_status (Drawn day id) = Done
@@ -37,13 +37,14 @@ outcome_status NoSuchRange = Refused
 outcome_status Closed = Refused
 outcome_status NumberReused = Refused
 
+-- The status of a call, by its result.
 abbrev pub asked_status : Result Reply CallFault → JobStatus
 asked_status (Ok reply) = outcome_status (outcome_of reply)
 asked_status (Err (Submit fault)) = CommandLine
 asked_status (Err (GaveUp q)) = Failed
 asked_status (Err (Link q fault)) = Failed
 
--- where nothing was submitted nothing is printed
+-- The line of a call, by its result. It is empty if no request was submitted.
 abbrev pub asked_line : Result Reply CallFault → List ℕ
 asked_line (Ok reply) = reply_line (request_of reply) (outcome_of reply)
 asked_line (Err (Submit fault)) = []

@@ -1,4 +1,4 @@
--- The lines of an input, and the deliveries that they hand in.
+-- The lines of an input, and the deliveries in them.
 use Rattle.std.specs.Prelude.{◌≡◌, ◌≢◌, ℕ, ◌+◌, ◌-◌, ◌^◌, ◌<◌, ◌==◌, nat_lt, nat_le, ◌&&◌, ◌⊎◌}
 use Rattle.std.specs.Prelude.{if◌then◌else◌, List, [], ◌∷◌, ◌++◌, length, take, drop, slice_get}
 use Rattle.std.specs.Prelude.{slice_index, filter_map, position, Option, Some, None}
@@ -11,64 +11,67 @@ use Rattle.s10_ends.specs.Served.{Dated}
 use Rattle.s10_jobs.specs.declared.line_reader.TheConstants.{MAX_LINE}
 use Rattle.s10_jobs.specs.declared.replaying.TheConstants.{MAX_LINES}
 
--- a last piece counts where it is not empty
+-- The last piece counts if it is not empty.
 abbrev pub last_piece : List ℕ → List (List ℕ)
 last_piece [] = []
 last_piece (b ∷ bs) = (b ∷ bs) ∷ []
 
--- the pieces between line feeds; front stands before the bytes, in the first piece
+-- The pieces between line feeds. The first piece begins with `front`, followed by the given bytes.
 unfoldable pub pieces : List ℕ → List ℕ → List (List ℕ)
 pieces front [] = last_piece front
 pieces front (b ∷ bs) = if b == 10 then front ∷ pieces [] bs else pieces (front ++ b ∷ []) bs
 
--- the lines of an input, as they stand between its line feeds
+-- The lines of an input: the pieces between its line feeds.
 abbrev pub lines_of : List ℕ → List (List ℕ)
 lines_of bytes = pieces [] bytes
 
--- a line without one carriage return at its end
+-- A line without one carriage return at its end.
 abbrev pub without_return : List ℕ → List ℕ
 without_return line = if slice_index line (length line - 1) == 13 then take (length line - 1) line
     else line
 
--- DAY: one to ten digits, at most 4294967295
+-- DAY: one to ten digits, at most 4294967295.
 abbrev pub day_of_text : List ℕ → Option ℕ
 day_of_text text =
     if nat_le 1 (length text) && nat_le (length text) 10 && list_all is_ascii_digit text
     && nat_lt (number_of text) (2 ^ 32)
     then Some (number_of text) else None
 
--- HEX: an even number of hexadecimal digits, at most 1024
+-- HEX: an even number of hexadecimal digits, 0 to 1024.
 abbrev pub bytes_in : List ℕ → Option (List ℕ)
 bytes_in text = if nat_le (length text) 1024 then result_ok (decode_of text) else None
 
+-- Bytes with their day, if both exist.
 abbrev pub dated_by : Option ℕ → Option (List ℕ) → Option Dated
 dated_by (Some day) (Some bytes) = Some (bytes, day)
 dated_by (Some day) None = None
 dated_by None bytes = None
 
--- what stands before a space and after it
+-- A text that is split at the index of a space, with a day before the space and bytes after it.
 abbrev pub parted_at : Option ℕ → List ℕ → Option Dated
 parted_at None text = None
 parted_at (Some at) text = dated_by (day_of_text (take at text)) (bytes_in (drop (at + 1) text))
 
--- the delivery that a line hands in: DAY, one space, HEX
+-- The delivery in a line: DAY, one space, HEX.
 abbrev pub delivery_in : List ℕ → Option Dated
 delivery_in line = let text = without_return line in parted_at (position (λ b. b == 32) text) text
 
--- the deliveries of lines, in their order
+-- The deliveries in lines, in their order.
 abbrev pub deliveries_in : List (List ℕ) → List Dated
 deliveries_in lines = filter_map delivery_in lines
 
--- the line with that number, from 1, is refused: it is too long, or one too many, or neither empty nor a delivery
+-- The line with that number, from 1, is refused: it is too long, past the last one allowed, or
+-- neither empty nor a delivery.
 abbrev pub IsRefused : List ℕ → ℕ → Type 0
 IsRefused line number = (MAX_LINE < length line)
     ⊎ ((MAX_LINES < number) ⊎ ((without_return line ≢ []) × (delivery_in line ≡ None)))
 
+-- None of the lines is refused.
 abbrev pub NoneRefused : List (List ℕ) → Type 0
 NoneRefused lines = (k : ℕ) (line : List ℕ) → slice_get lines k ≡ Some line
     → ¬ IsRefused line (k + 1)
 
--- the line with that number is refused, and none before it
+-- The line with that number is the first that is refused.
 pub record IsFirstRefused (lines : List (List ℕ)) (number : ℕ) : Type 0 where
   pub line : List ℕ
   pub there : slice_get lines (number - 1) ≡ Some line

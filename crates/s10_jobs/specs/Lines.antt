@@ -7,21 +7,23 @@ use Rattle.s10_core.specs.Id.{spelling_of, normalized}
 use Rattle.s10_lines.specs.Lines.{line_of}
 use Rattle.s10_jobs.specs.Words.{group_words}
 
--- why something is refused
+-- A refusal, by its words.
 abbrev pub refused_line : List (List ℕ) → List ℕ
 refused_line words = line_of (codes "refused") words
 
--- a label is read without its spaces and in capitals, any other text as it stands
+-- A label is read without its spaces and in capitals. Any other text is read as it is.
 abbrev pub text_read : Bool → List ℕ → List ℕ
 text_read is_label text = if is_label then normalized text else text
 
+-- The line of a valid identifier, with its group.
 abbrev pub valid_line : Id → List ℕ
 valid_line id = line_of (spelling_of id) (codes "valid" ∷ group_words (group_of id.service.0) ∷ [])
 
+-- The text is two capital letters.
 abbrev pub AreTwoCapitals : List ℕ → Type 0
 AreTwoCapitals text = (length text ≡ 2) × All IsCapital text
 
--- the parts in their order, the check digit after the eight digits of the serial number
+-- The parts in their order, with the check digit after the eight digits of the serial.
 abbrev pub made_line : List ℕ → List ℕ → List ℕ → List ℕ
 made_line service digits country =
     service ++ digits ++ character_of (check_digit_of (number_of digits)) ∷ [] ++ country

@@ -1,4 +1,4 @@
--- What the words of a request ask, and which of its texts is refused.
+-- The request in the words of a command line, or the text that is refused.
 use Rattle.std.specs.Prelude.{◌≡◌, ℕ, List, [], ◌∷◌, codes}
 use Rattle.s10_core.specs.Letters.{letters_of}
 use Rattle.s10_core.specs.Id.{SpellsLoosely, normalized}
@@ -16,13 +16,14 @@ use Rattle.s10_jobs.specs.declared.question.Question.{Question}
 use Rattle.s10_jobs.specs.Words.{text_fault_words}
 use Rattle.s10_jobs.specs.Lines.{AreTwoCapitals}
 
+-- The words of a refusal.
 abbrev pub refusal_words : Refusal → List (List ℕ)
 refusal_words refused.Peer = codes "peer" ∷ []
 refusal_words refused.Service = codes "service" ∷ []
 refusal_words refused.Country = codes "country" ∷ []
 refusal_words (refused.Text fault) = text_fault_words fault
 
--- the body asks what the words say
+-- The body asks what the words say.
 abbrev pub WordsAsk : BodyWords → Body → Type 0
 WordsAsk (Grant holder service country first last) (asked.Grant h s c f l) =
     (h ≡ holder) × (letters_of s ≡ service.now) × (letters_of c ≡ country.now) × (f ≡ first)
@@ -36,19 +37,21 @@ WordsAsk (Void id) (asked.Void x) = SpellsLoosely id.now x
 WordsAsk (Query id) (asked.Query x) = SpellsLoosely id.now x
 WordsAsk words body = ⊥
 
--- the service is read before the country
+-- The service is read before the country.
 abbrev pub IsPairRefusal : List ℕ → List ℕ → Refusal → Type 0
 IsPairRefusal service country refused.Peer = ⊥
 IsPairRefusal service country refused.Service = ¬ AreTwoCapitals service
 IsPairRefusal service country refused.Country = AreTwoCapitals service × ¬ AreTwoCapitals country
 IsPairRefusal service country (refused.Text fault) = ⊥
 
+-- An identifier is refused with its first fault, read as on a label.
 abbrev pub IsIdRefusal : List ℕ → Refusal → Type 0
 IsIdRefusal id refused.Peer = ⊥
 IsIdRefusal id refused.Service = ⊥
 IsIdRefusal id refused.Country = ⊥
 IsIdRefusal id (refused.Text fault) = IsFirstRefusal (normalized id) fault
 
+-- The refusal of the first text of the body that cannot be read. A withdrawal has no text.
 abbrev pub IsBodyRefusal : BodyWords → Refusal → Type 0
 IsBodyRefusal (Grant holder service country first last) refusal =
     IsPairRefusal service.now country.now refusal
@@ -59,10 +62,11 @@ IsBodyRefusal (Withdraw range) refusal = ⊥
 IsBodyRefusal (Void id) refusal = IsIdRefusal id.now refusal
 IsBodyRefusal (Query id) refusal = IsIdRefusal id.now refusal
 
+-- The text is an address.
 abbrev pub IsPeerText : List ℕ → Type 0
 IsPeerText text = (p : Peer) × SpellsPeer text p
 
--- the server's address is read before the body
+-- The address of the server is read before the body.
 abbrev pub IsQuestionRefusal : Question → Refusal → Type 0
 IsQuestionRefusal question refused.Peer = ¬ IsPeerText question.to.now
 IsQuestionRefusal question refused.Service = IsPeerText question.to.now

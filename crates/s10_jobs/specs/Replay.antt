@@ -1,4 +1,4 @@
--- What a replay writes.
+-- What a replay writes, and how it ends.
 use Rattle.std.specs.Prelude.{◌≡◌, ℕ, ◌-◌, ◌≤◌, List, [], ◌++◌, length, take, drop, Option, Some}
 use Rattle.std.specs.Prelude.{None, Result, Ok, Err, IfOk, ⊤}
 use Rattle.std.specs.Io.KnownBytes.{Appends}
@@ -16,15 +16,16 @@ use Rattle.s10_jobs.specs.declared.job_status.JobStatus.{JobStatus}
 use Rattle.s10_jobs.specs.declared.job_status.JobStatus.TheVariants.{Done}
 use Rattle.s10_jobs.specs.Words.{replay_fault_line, replay_fault_status}
 
--- what was written after what the output held is the lines of answers that serve exactly the deliveries of the lines,
--- from the history h to the history h'
+-- The output now has, after what it held, the lines of answers. These serve exactly the deliveries
+-- in the lines, from the history h to the history h'.
 pub record Shows (h : List Entry) (t : Terms) (lines : List (List ℕ)) (held now : List ℕ)
     (h' : List Entry) : Type 0 where
   pub answers : List Answer
   pub served : Served h t (deliveries_in lines) answers h'
   pub written : now ≡ held ++ shown answers
 
--- the input stopped after n lines, of which none is refused, or inside the next one, before that is too long or one too many
+-- The input failed after n lines, of which none is refused, or inside the next line. No more of
+-- that line was read than a line may have, and nothing after the last line allowed.
 pub record StopsInLine (bytes : List ℕ) (left : Option (List ℕ)) (done : ℕ) : Type 0 where
   pub read : List ℕ
   pub rest : List ℕ
@@ -34,7 +35,7 @@ pub record StopsInLine (bytes : List ℕ) (left : Option (List ℕ)) (done : ℕ
   pub stopped : BeginsLine (Some rest) left
   pub counted : 1000000 ≤ done → left ≡ Some rest
 
--- how a replay of an input's bytes ends, where a given number of them are left
+-- How a replay of an input's bytes ends, by its result. `left` is what remains of the input.
 abbrev pub Ends : List Entry → Terms → List ℕ → Option (List ℕ) → List ℕ → List ℕ
     → Result ℕ ReplayFault → List Entry → Type 0
 Ends h t bytes left held now (Ok count) h' =
@@ -47,14 +48,14 @@ Ends h t bytes left held now (Err Read) h' = (done : ℕ) × Shows h t (take don
     held now h' × StopsInLine bytes left done
 Ends h t bytes left held now (Err Write) h' = ⊤
 
--- the same where it is known what the output held; a failed write alone may leave that unknown
+-- The same if the output's contents are known. Only a failed write may leave them unknown.
 abbrev pub Replayed : List Entry → Terms → List ℕ → Option (List ℕ) → List ℕ → Option (List ℕ)
     → Result ℕ ReplayFault → List Entry → Type 0
 Replayed h t bytes left held (Some now) result h' = Ends h t bytes left held now result h'
 Replayed h t bytes left held None (Err Write) h' = ⊤
 Replayed h t bytes left held None result h' = ⊥
 
--- a whole replay is all that is written; after one that ended early stands the line of what ended it
+-- A whole replay writes only its answers. After one that ended early, the last line says why.
 abbrev pub ReportsReplay : Result ℕ ReplayFault → Option (List ℕ) → Option (List ℕ)
     → Result JobStatus WriteFault → Type 0
 ReportsReplay (Ok count) between new result = (result ≡ Ok Done) × (new ≡ between)

@@ -1,4 +1,4 @@
--- What is printed of a report.
+-- What a report prints.
 use Rattle.std.specs.Prelude.{◌≡◌, ℕ, ◌⊎◌, List, ◌++◌, take, codes, Option}
 use Rattle.std.specs.Io.KnownBytes.{Appends}
 use Rattle.s10_lines.specs.Lines.{line_of}
@@ -15,24 +15,26 @@ use Rattle.s10_jobs.specs.declared.job_status.JobStatus.TheVariants.{Done, Refus
 use Rattle.s10_jobs.specs.declared.job_status.JobStatus.TheVariants.{Failed}
 use Rattle.s10_jobs.specs.Words.{book_fault_words}
 
--- the lines of a report of a history
+-- The lines of a report of a history.
 abbrev pub report_lines : Report → List Entry → Terms → List (List ℕ)
 report_lines (Ranges day) h t = ranges_report h day t.interval
 report_lines Issues h t = issues_report h
 
--- n first lines of the report, and the fault of the book that ended it, which the book counted
+-- The first n lines of the report, then the fault of the book that ended it. The book counted that
+-- fault.
 abbrev pub EndsByBook : Faults → Faults → Option (List ℕ) → Option (List ℕ) → List (List ℕ) → Type 0
 EndsByBook was now old new lines =
     (count : ℕ) × (fault : BookFault) × CountsBookFault fault was now
     × Appends old new (joined (take count lines) ++ line_of (codes "faulted")
     (book_fault_words fault))
 
--- the writer failed in the report and not the book, and took its last line
+-- The writer failed in the report, and the book did not. The writer then accepted the last line.
 abbrev pub EndsByWriter : Faults → Faults → Option (List ℕ) → Type 0
 EndsByWriter was now new = (now ≡ was)
     × ((before : Option (List ℕ)) × Appends before new (codes "output\n"))
 
--- the whole report where it is done, by the faults that the book had counted before it and has after it
+-- The whole report if it is done; otherwise how it ended. The counts of faults are those before and
+-- after it.
 abbrev pub PrintsReport : Faults → Faults → Option (List ℕ) → Option (List ℕ) → List (List ℕ)
     → JobStatus → Type 0
 PrintsReport was now old new lines Done = (now ≡ was) × Appends old new (joined lines)

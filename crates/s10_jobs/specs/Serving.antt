@@ -15,29 +15,29 @@ use Rattle.s10_jobs.specs.declared.job_status.JobStatus.TheVariants.{Done, Refus
 use Rattle.s10_jobs.specs.declared.job_status.JobStatus.TheVariants.{Failed}
 use Rattle.s10_jobs.specs.TurnLines.{turn_line}
 
--- the day that was given, or any where none was
+-- The given day, or any day if none is given.
 abbrev pub IsDay : Option ℕ → ℕ → Type 0
 IsDay given day = (d : ℕ) → given ≡ Some d → day ≡ d
 
--- one batch on such a day, from a link's trace and a server's book to those afterwards
+-- One batch on such a day, from a link's trace and a server's book to those after it.
 abbrev pub IsBatch : {B : Type 0} → (B → Faults) → (B → Type 0) → (B → Terms) → (B → List Entry)
     → (B → List Entry) → Option ℕ → Trace × B → List Turn → Trace × B → Type 0
 IsBatch faults honest terms history committed given old turns new =
     (day : ℕ) × IsDay given day × (most : ℕ) × ServesBatch faults honest terms history committed day
     most old new turns
 
--- the batches lead from the old state to the new, one after another
+-- The batches lead from the old state to the new, one after another.
 unfoldable pub BatchesLead : {S : Type 0} → (S → List Turn → S → Type 0) → S → List (List Turn) → S
     → Type 0
 BatchesLead IsStep old [] new = new ≡ old
 BatchesLead IsStep old (batch ∷ batches) new = (next : _) × IsStep old batch next
     × BatchesLead IsStep next batches new
 
--- the turns of batches, in order
+-- The turns of batches, in order.
 abbrev pub turns_in : List (List Turn) → List Turn
 turns_in batches = flat_map (λ batch. batch) batches
 
--- the lines of all turns, or of fewer where the clock gave no day
+-- The lines of all turns. If the clock gave no day, there are fewer turns, then the line `clock`.
 abbrev pub PrintsTurns : Option (List ℕ) → Option (List ℕ) → List Turn → ℕ → JobStatus → Type 0
 PrintsTurns held now turns count Done = (length turns ≡ count)
     × Appends held now (flat_map turn_line turns)
@@ -46,7 +46,8 @@ PrintsTurns held now turns count CommandLine = ⊥
 PrintsTurns held now turns count Failed = (length turns < count)
     × Appends held now (flat_map turn_line turns ++ codes "clock\n")
 
--- one batch of at most n turns, and how many these were; where the writer did not fail their lines were written
+-- One batch of at most `most` turns, with their number. Their lines were written unless the writer
+-- failed.
 abbrev pub PrintsBatch : (List Turn → Type 0) → ℕ → Option (List ℕ) → Option (List ℕ)
     → Result ℕ WriteFault → Type 0
 PrintsBatch Is most held now result =
@@ -54,7 +55,8 @@ PrintsBatch Is most held now result =
     × IfOk result (λ done. (done ≡ length batch) × (1 ≤ done)
     × Appends held now (flat_map turn_line batch))
 
--- n turns at most, in batches by such steps; where the writer did not fail their lines were written
+-- At most `count` turns, in batches by such steps. Their lines were written unless the writer
+-- failed.
 pub record Serves {S : Type 0} (IsStep : S → List Turn → S → Type 0) (old new : S)
     (held now : Option (List ℕ)) (count : ℕ) (result : Result JobStatus WriteFault) : Type 0 where
   pub batches : List (List Turn)

@@ -13,11 +13,11 @@ use Rattle.s10_jobs.specs.declared.job_status.JobStatus.TheVariants.{Failed}
 use Rattle.s10_jobs.specs.Words.{wire_fault_words}
 use Rattle.s10_jobs.specs.Lines.{refused_line}
 
--- the kind byte is there, and is that of a reply
+-- The kind byte exists, and is that of a reply.
 abbrev pub is_marked_reply : List ℕ → Bool
 is_marked_reply bytes = nat_le 4 (length bytes) && nat_le 0x80 (byte bytes 3)
 
--- the line of a request, or why the bytes are none
+-- The line of a request, or the first refusal of the bytes.
 abbrev pub IsRequestShown : List ℕ → JobStatus → List ℕ → Type 0
 IsRequestShown bytes Done line = (q : Request) × Asks bytes q × (line ≡ request_line q)
 IsRequestShown bytes Refused line =
@@ -26,7 +26,7 @@ IsRequestShown bytes Refused line =
 IsRequestShown bytes CommandLine line = ⊥
 IsRequestShown bytes Failed line = ⊥
 
--- the line of a reply, or why the bytes are none
+-- The line of a reply, or the first refusal of the bytes.
 abbrev pub IsReplyShown : List ℕ → JobStatus → List ℕ → Type 0
 IsReplyShown bytes Done line = (q : Request) × (o : Outcome) × Replies bytes q o
     × (line ≡ reply_line q o)
@@ -36,12 +36,12 @@ IsReplyShown bytes Refused line =
 IsReplyShown bytes CommandLine line = ⊥
 IsReplyShown bytes Failed line = ⊥
 
--- the line of a datagram
+-- The line of a datagram.
 abbrev pub IsShown : List ℕ → JobStatus → List ℕ → Type 0
 IsShown bytes status line =
     MatchBool (is_marked_reply bytes) (IsReplyShown bytes status line)
     (IsRequestShown bytes status line)
 
--- one line of this kind went out
+-- One such line was written.
 abbrev pub Prints : Option (List ℕ) → Option (List ℕ) → (List ℕ → Type 0) → Type 0
 Prints old new IsLine = (line : List ℕ) × IsLine line × Appends old new line

@@ -7,10 +7,11 @@ use Rattle.s10_ends.specs.declared.server_turn.ServerTurn.TheVariants.{Uncommitt
 use Rattle.s10_ends.specs.Turn.{Turn}
 use Rattle.s10_jobs.specs.Words.{wire_fault_words, book_fault_words, link_fault_words}
 
--- the bytes of a reply in hex
+-- The bytes of a reply in hex.
 abbrev pub replied_line : List ℕ → List ℕ
 replied_line bytes = codes "replied " ++ encode_lower bytes ++ codes "\n"
 
+-- The line of a turn.
 abbrev pub turn_line : Turn → List ℕ
 turn_line (Ok Quiet) = codes "quiet\n"
 turn_line (Ok (Dropped from fault)) = line_of (codes "dropped") (wire_fault_words fault)

@@ -23,6 +23,7 @@ use Rattle.s10_jobs.specs.declared.job_status.JobStatus.TheVariants.{Refused, Fa
 use Rattle.s10_jobs.specs.declared.replay_fault.ReplayFault.{ReplayFault}
 use Rattle.s10_jobs.specs.declared.replay_fault.ReplayFault.TheVariants.{Line, Read, Write}
 
+-- The word of a group.
 abbrev pub group_words : Group → List ℕ
 group_words Parcel = codes "parcel"
 group_words Ems = codes "ems"
@@ -30,14 +31,14 @@ group_words Registered = codes "registered"
 group_words Insured = codes "insured"
 group_words Other = codes "other"
 
--- a place is counted from 0
+-- A position in a text is counted from 0.
 abbrev pub text_fault_words : TextFault → List (List ℕ)
 text_fault_words TextLength = codes "length" ∷ []
 text_fault_words (Letter at) = codes "letter" ∷ decimal at ∷ []
 text_fault_words (Digit at) = codes "digit" ∷ decimal at ∷ []
 text_fault_words CheckDigit = codes "check-digit" ∷ []
 
--- an offset is counted from 0
+-- An offset in a datagram is counted from 0.
 abbrev pub wire_fault_words : WireFault → List (List ℕ)
 wire_fault_words Short = codes "short" ∷ []
 wire_fault_words Magic = codes "magic" ∷ []
@@ -47,18 +48,20 @@ wire_fault_words Length = codes "length" ∷ []
 wire_fault_words (Field at) = codes "field" ∷ decimal at ∷ []
 wire_fault_words Outcome = codes "outcome" ∷ []
 
+-- The word of a book's fault.
 abbrev pub book_fault_words : BookFault → List (List ℕ)
 book_fault_words Memory = codes "memory" ∷ []
 book_fault_words Store = codes "store" ∷ []
 book_fault_words Full = codes "full" ∷ []
 
+-- The word of a link's fault.
 abbrev pub link_fault_words : LinkFault → List (List ℕ)
 link_fault_words Bind = codes "bind" ∷ []
 link_fault_words Receive = codes "receive" ∷ []
 link_fault_words Send = codes "send" ∷ []
 link_fault_words Spent = codes "spent" ∷ []
 
--- a call is counted from 1, and 0 stands for another row
+-- A call is counted from 1. 0 means a row that is no call.
 abbrev pub open_fault_words : OpenFault → List (List ℕ)
 open_fault_words NotALedger = codes "not-a-ledger" ∷ []
 open_fault_words (Schema number) = codes "schema" ∷ signed_decimal number ∷ []
@@ -67,13 +70,13 @@ open_fault_words NotEmpty = codes "not-empty" ∷ []
 open_fault_words NoMemory = codes "memory" ∷ []
 open_fault_words NotStored = codes "store" ∷ []
 
--- a line is counted from 1
+-- A line is counted from 1.
 abbrev pub replay_fault_line : ReplayFault → List ℕ
 replay_fault_line (Line number) = line_of (codes "refused") (codes "line" ∷ decimal number ∷ [])
 replay_fault_line Read = codes "input\n"
 replay_fault_line Write = codes "output\n"
 
--- a refused line is refused by a rule, all else failed
+-- A refused line gives `Refused`. Any other fault gives `Failed`.
 abbrev pub replay_fault_status : ReplayFault → JobStatus
 replay_fault_status (Line number) = Refused
 replay_fault_status Read = Failed

@@ -1,4 +1,4 @@
-//! The output line of an answer.
+//! Writes the output lines of answers.
 ghost use Rattle.std.specs.Prelude.{◌++◌, OnOk, codes};
 ghost use Rattle.std.specs.Io.KnownBytes.{Appends};
 ghost use Rattle.hex.specs.Hex.{encode_lower};
@@ -13,7 +13,11 @@ use s10_lines::{WriteFault, write_text};
 use s10_wire::{Frame, WireFault};
 use std::io::Write;
 
-/// Writes the reply in lower-case hex, or why there is none.
+/// Writes the line of an answer: the reply in lower-case hex, or the fault.
+///
+/// # Errors
+///
+/// `WriteFault` if the writer fails; part of the line may be written.
 pub fn write_answer<W: Write>(answer: &Answer, out: &mut W) -> Result<(), WriteFault>
     ensures { OnOk result (Appends (W.contents out.old) (W.contents out.new)
         (answer_line answer.now)) }
@@ -26,6 +30,10 @@ pub fn write_answer<W: Write>(answer: &Answer, out: &mut W) -> Result<(), WriteF
 }
 
 /// Writes a frame in lower-case hex, and ends the line.
+///
+/// # Errors
+///
+/// `WriteFault` if the writer fails; part of the line may be written.
 pub fn write_hex<W: Write>(frame: &Frame, out: &mut W) -> Result<(), WriteFault>
     ensures { OnOk result (Appends (W.contents out.old) (W.contents out.new) (encode_lower frame.now
         ++ codes "\n")) }
@@ -41,7 +49,11 @@ pub fn write_hex<W: Write>(frame: &Frame, out: &mut W) -> Result<(), WriteFault>
     write_text(b"\n", out)
 }
 
-/// Writes the line of bytes that ask nothing.
+/// Writes the line of bytes that are not a request: `dropped` and the fault.
+///
+/// # Errors
+///
+/// `WriteFault` if the writer fails; part of the line may be written.
 pub fn write_dropped<W: Write>(fault: WireFault, out: &mut W) -> Result<(), WriteFault>
     ensures { OnOk result (Appends (W.contents out.old) (W.contents out.new)
         (line_of (codes "dropped") (wire_fault_words fault))) }
@@ -51,7 +63,11 @@ pub fn write_dropped<W: Write>(fault: WireFault, out: &mut W) -> Result<(), Writ
     write_text(b"\n", out)
 }
 
-/// Writes the line of a request that the book left unanswered.
+/// Writes the line of a request that has no answer: `faulted` and the fault of the book.
+///
+/// # Errors
+///
+/// `WriteFault` if the writer fails; part of the line may be written.
 pub fn write_faulted<W: Write>(fault: BookFault, out: &mut W) -> Result<(), WriteFault>
     ensures { OnOk result (Appends (W.contents out.old) (W.contents out.new)
         (line_of (codes "faulted") (book_fault_words fault))) }

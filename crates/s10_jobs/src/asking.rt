@@ -1,4 +1,4 @@
-//! A call, and the line of what came of it.
+//! Calls a server, and writes the line of the result.
 
 ghost use Rattle.std.specs.Prelude.{◌≡◌, ◌≤◌, Result, IfOk};
 ghost use Rattle.std.specs.Io.KnownBytes.{Appends};
@@ -16,10 +16,15 @@ use s10_link::{Link, Peer};
 use s10_wire::{Body, Outcome, Reply};
 use std::io::Write;
 
-/// Asks the server at `to`, in 1 to 100 tries, and writes the line of the reply, `gave-up`, or `link` and why.
+/// Calls the server at `to` in up to `tries` tries, and writes the line of the result.
 ///
-/// A client that has a request pending, or no number left, asks nothing: nothing is written, and the status is
-/// `CommandLine`. A fault of the writer may leave part of the line written; the call was made.
+/// The line is that of the reply, `gave-up`, or `link` and the fault. If the client has a pending
+/// request or no number left, nothing is sent or written, and the status is `CommandLine`. `tries`
+/// must be 1 to 100.
+///
+/// # Errors
+///
+/// `WriteFault` if the writer fails. The call was made, and part of the line may be written.
 pub fn ask<L: Link, W: Write>(
     client: &mut Client,
     link: &mut L,
@@ -64,7 +69,7 @@ fn write_call_result<W: Write>(
     }
 }
 
-// Whether the outcome says that what was asked was done.
+// Returns `Done` if the outcome says that the request was done, and `Refused` otherwise.
 fn status_of(outcome: &Outcome) -> JobStatus
     ensures { result ≡ outcome_status outcome.now }
 {

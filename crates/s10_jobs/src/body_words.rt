@@ -1,4 +1,4 @@
-//! The body of a request, as words of a command line.
+//! Reads the body of a request from the words of a command line.
 
 ghost use Rattle.std.specs.Prelude.{◌≡◌, IfOk, IfErr};
 ghost use Rattle.s10_core.specs.Letters.{letters_of};
@@ -11,9 +11,10 @@ use crate::refusal::Refusal;
 use s10_core::{Country, Id, Serial, Service};
 use s10_wire::{Body, Count};
 
-/// What is asked, its texts as they were given.
+/// The body of a request, with its texts as they were given.
 #[derive(Clone, Copy, Debug, PartialEq, Eq)]
 pub enum BodyWords<'a> {
+    /// A grant of the serials `first` to `last`.
     Grant {
         holder: u32,
         service: &'a str,
@@ -21,21 +22,26 @@ pub enum BodyWords<'a> {
         first: Serial,
         last: Serial,
     },
+    /// A draw of one identifier.
     Draw {
         service: &'a str,
         country: &'a str,
     },
+    /// A draw of `count` identifiers, 1 to 16.
     DrawMany {
         service: &'a str,
         country: &'a str,
         count: Count,
     },
+    /// A withdrawal of the range with this number.
     Withdraw {
         range: u32,
     },
+    /// A void of an identifier.
     Void {
         id: &'a str,
     },
+    /// A query of an identifier.
     Query {
         id: &'a str,
     },
@@ -45,8 +51,14 @@ impl BodyWords<'_> {
     ghost use Rattle.std.specs.Prelude.{IfOk, IfErr};
     ghost use Rattle.s10_jobs.specs.Questions.{WordsAsk, IsBodyRefusal};
 
-    /// Reads the texts: the service before the country, an identifier as on a label. Refused with
-    /// the first that does not read.
+    /// Reads the texts: the service before the country, and an identifier as on a label.
+    ///
+    /// # Errors
+    ///
+    /// The first text that cannot be read:
+    ///
+    /// - `Service` or `Country` if it is not two capital letters.
+    /// - `Text` if an identifier is refused, with its first fault.
     pub fn read(&self) -> Result<Body, Refusal>
         ensures ok { IfOk result (WordsAsk self.now) }
         ensures refused { IfErr result (IsBodyRefusal self.now) }

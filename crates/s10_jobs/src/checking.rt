@@ -1,4 +1,4 @@
-//! The check of an identifier.
+//! Checks an identifier.
 ghost use Rattle.std.specs.Prelude.{◌≡◌, IfOk, IfErr};
 ghost use Rattle.std.specs.Io.KnownBytes.{Appends};
 ghost use Rattle.s10_core.specs.declared.id.Id.{Id};
@@ -15,7 +15,15 @@ use s10_core::{Id, TextFault};
 use s10_lines::{WriteFault, write_text, write_word};
 use std::io::Write;
 
-/// Writes the line of a text.
+/// Checks a text, and writes its line: the identifier, `valid` and its group, or `refused` and the
+/// first fault.
+///
+/// If `is_label` is true, spaces are ignored and letters may have either case. The status is `Done`
+/// or `Refused`.
+///
+/// # Errors
+///
+/// `WriteFault` if the writer fails; part of the line may be written.
 pub fn check<W: Write>(text: &str, is_label: bool, out: &mut W) -> Result<JobStatus, WriteFault>
     ensures valid { (id : Id) → Spells (text_read is_label text.now) id → IfOk result (λ status.
         (status ≡ JobStatus.Done) × Appends (W.contents out.old) (W.contents out.new)

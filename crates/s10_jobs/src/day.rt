@@ -1,4 +1,4 @@
-//! The day by the clock.
+//! Reads the day from the clock.
 
 ghost use Rattle.std.specs.Prelude.{◌≡◌, ◌≢◌, ◌<◌, ◌^◌, ◌/◌, None, SomeIff};
 ghost use Rattle.std.specs.Time.{system_time_nanos};
@@ -7,13 +7,14 @@ use std::time::{Clock, SystemTime, UNIX_EPOCH};
 
 const SECONDS_OF_A_DAY: u64 = 86_400;
 
-/// The day: whole days since 1970-01-01 UTC. `None` where the clock fails, or its day is above
-/// 4,294,967,295.
+/// Returns the day of the clock: whole days since 1970-01-01 UTC.
+///
+/// Returns `None` if the clock fails, or if its day is before 1970-01-01 or above 4,294,967,295.
 pub fn today<C: Clock>(clock: &C) -> Option<u32> {
     day_of(SystemTime::now(clock).ok()?)
 }
 
-/// The day that was given, or else that of the clock, which is read only then.
+/// Returns `day` if it is given, and the day of the clock otherwise. The clock is read only then.
 pub fn day_or_today<C: Clock>(clock: &C, day: Option<u32>) -> Option<u32>
     ensures { day ≢ None → result ≡ day }
 {

@@ -1,4 +1,4 @@
-//! A line of an input: DAY, one space, HEX.
+//! Reads a line of an input: DAY, one space, HEX.
 ghost use Rattle.std.specs.Prelude.{◌≡◌, ◌==◌, ◌≤◌, ◌<◌, All, IfSome, IsTrue, length, position};
 ghost use Rattle.std.specs.List.{list_all};
 ghost use Rattle.std.specs.Option.{option_map};
@@ -10,7 +10,7 @@ ghost use Rattle.s10_jobs.specs.InputLines.{without_return, day_of_text, bytes_i
 use s10_ends::Delivery;
 use s10_link::Packet;
 
-/// The line without one carriage return at its end.
+/// Returns the line without one carriage return at its end.
 pub fn without_return(line: &[u8]) -> &[u8]
     ensures { result.now ≡ without_return line.now }
 {
@@ -20,7 +20,6 @@ pub fn without_return(line: &[u8]) -> &[u8]
     }
 }
 
-// The number that decimal digits stand for.
 fn number(digits: &[u8]) -> u64
     requires few { length digits.now ≤ 10 }
     requires digits { All IsAsciiDigit digits.now }
@@ -40,7 +39,7 @@ fn are_digits(text: &[u8]) -> bool
     text.iter().all(|byte| byte.is_ascii_digit())
 }
 
-// A day: one to ten digits, at most 4294967295.
+// Reads a day: one to ten digits, at most 4294967295.
 fn read_day(text: &[u8]) -> Option<u32>
     ensures { result ≡ day_of_text text.now }
 {
@@ -53,7 +52,7 @@ fn read_day(text: &[u8]) -> Option<u32>
     }
 }
 
-/// Reads the bytes of a datagram: an even number of hexadecimal digits, at most 1024, also none.
+/// Reads the bytes of a datagram: an even number of hexadecimal digits, 0 to 1024.
 pub fn read_bytes(text: &[u8]) -> Option<Packet>
     ensures { result ≡ bytes_in text.now }
 {
@@ -68,7 +67,7 @@ pub fn read_bytes(text: &[u8]) -> Option<Packet>
     }
 }
 
-// Where the first space stands.
+// Returns the index of the first space.
 fn first_space(text: &[u8]) -> Option<usize>
     ensures place { result ≡ position (λ byte. byte == 32) text.now }
     ensures within { IfSome result (λ place. place < length text.now) }
@@ -76,7 +75,9 @@ fn first_space(text: &[u8]) -> Option<usize>
     text.iter().position(|byte| *byte == b' ')
 }
 
-/// The delivery that a line hands in, if it is one.
+/// Reads a delivery: DAY, one space, HEX. Returns `None` if the line is not a delivery.
+///
+/// A carriage return at the end of the line is ignored.
 pub fn read_delivery(line: &[u8]) -> Option<Delivery>
     ensures { option_map dated result ≡ delivery_in line.now }
 {

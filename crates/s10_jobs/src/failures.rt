@@ -1,4 +1,4 @@
-//! Lines that say what failed. The status is that of a failure.
+//! Writes the lines of failures. Each function returns the status `Failed`.
 
 ghost use Rattle.std.specs.Prelude.{◌≡◌, [], ◌∷◌, codes, IfOk};
 ghost use Rattle.std.specs.Io.KnownBytes.{Appends};
@@ -13,7 +13,11 @@ use s10_link::LinkFault;
 use s10_rows::OpenFault;
 use std::io::Write;
 
-/// Says that the clock gives no day.
+/// Writes the line `clock`: the clock gives no day.
+///
+/// # Errors
+///
+/// `WriteFault` if the writer fails; part of the line may be written.
 pub fn fail_by_clock<W: Write>(out: &mut W) -> Result<JobStatus, WriteFault>
     ensures { IfOk result (λ status. (status ≡ JobStatus.Failed)
         × Appends (W.contents out.old) (W.contents out.new) (codes "clock\n")) }
@@ -22,7 +26,11 @@ pub fn fail_by_clock<W: Write>(out: &mut W) -> Result<JobStatus, WriteFault>
     Ok(JobStatus::Failed)
 }
 
-/// Says why there is no ledger.
+/// Writes the line `ledger` and the fault: the ledger could not be created or opened.
+///
+/// # Errors
+///
+/// `WriteFault` if the writer fails; part of the line may be written.
 pub fn fail_by_ledger<W: Write>(fault: OpenFault, out: &mut W) -> Result<JobStatus, WriteFault>
     ensures { IfOk result (λ status. (status ≡ JobStatus.Failed)
         × Appends (W.contents out.old) (W.contents out.new)
@@ -32,7 +40,11 @@ pub fn fail_by_ledger<W: Write>(fault: OpenFault, out: &mut W) -> Result<JobStat
     Ok(JobStatus::Failed)
 }
 
-/// Says what the link failed in.
+/// Writes the line `link` and the fault: the link failed.
+///
+/// # Errors
+///
+/// `WriteFault` if the writer fails; part of the line may be written.
 pub fn fail_by_link<W: Write>(fault: LinkFault, out: &mut W) -> Result<JobStatus, WriteFault>
     ensures { IfOk result (λ status. (status ≡ JobStatus.Failed)
         × Appends (W.contents out.old) (W.contents out.new)

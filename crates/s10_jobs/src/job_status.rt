@@ -1,12 +1,12 @@
-/// How a run of the program ended: its exit status. This project's own choice.
+/// The exit status of the program. The numbers are this project's choice.
 #[derive(Clone, Copy, Debug, PartialEq, Eq)]
 pub enum JobStatus {
-    /// What was asked for was done.
+    /// The job was done.
     Done = 0,
-    /// A rule refused it.
+    /// A rule refused the request or the text.
     Refused = 1,
-    /// The words are no command line.
+    /// The words are not a command line.
     CommandLine = 2,
-    /// Memory, input or output, a link, a ledger or the clock failed.
+    /// Memory, input, output, a link, a ledger or the clock failed.
     Failed = 3,
 }

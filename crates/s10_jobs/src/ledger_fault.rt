@@ -1,4 +1,4 @@
-//! The line of a ledger that could not be made or opened.
+//! Writes the line of a ledger that could not be created or opened.
 
 ghost use Rattle.std.specs.Prelude.{OnOk, codes};
 ghost use Rattle.std.specs.Io.KnownBytes.{Appends};
@@ -10,7 +10,11 @@ use s10_lines::{WriteFault, write_text};
 use s10_rows::OpenFault;
 use std::io::Write;
 
-/// Writes the line of a ledger's fault. A fault of the writer may leave part of it written.
+/// Writes the line of a ledger's fault: `ledger` and the fault.
+///
+/// # Errors
+///
+/// `WriteFault` if the writer fails; part of the line may be written.
 pub fn write_ledger_fault<W: Write>(fault: OpenFault, out: &mut W) -> Result<(), WriteFault>
     ensures { OnOk result (Appends (W.contents out.old) (W.contents out.new)
         (line_of (codes "ledger") (open_fault_words fault))) }

@@ -1,4 +1,5 @@
-//! What the subcommands read, do and write, over readers, writers, links and books that are handed in.
+//! Reads, executes and writes what the subcommands ask for. The caller passes the readers, writers,
+//! links and books.
 #![tactic(auto)]
 
 mod answer_line;

@@ -1,4 +1,4 @@
-//! The lines of an input, read a byte at a time into a fixed buffer.
+//! Reads the lines of an input, a byte at a time, into a fixed buffer.
 ghost use Rattle.std.specs.Prelude.{ℕ, List, IfOk, OnErr};
 ghost use Rattle.std.specs.Io.KnownBytes.{Keeps, Consumes};
 ghost use Rattle.s10_jobs.specs.LineReader.{ReadsByte, ReadsLine, FitsIn, BeginsLine};
@@ -6,21 +6,21 @@ ghost use Rattle.s10_jobs.specs.LineReader.{ReadsByte, ReadsLine, FitsIn, Begins
 use std::io;
 use std::io::{ErrorKind, Read};
 
-/// How many bytes a line may have, without its line feed.
+/// The maximum length of a line in bytes, without its line feed.
 pub const MAX_LINE: usize = 1036;
 
-/// What stood next in an input.
+/// The next line of an input.
 #[derive(Clone, Copy)]
 pub enum NextLine {
-    /// Nothing.
+    /// No line: the input is at its end.
     End,
-    /// A line of n bytes.
+    /// A line of this length in bytes.
     Whole(usize),
-    /// A line that does not fit.
+    /// A line that is longer than the buffer.
     Long,
 }
 
-// Takes the next byte in one read, if there is one.
+// Reads the next byte in one read. `None` is the end of the input.
 fn try_byte<R: Read>(input: &mut R) -> io::Result<Option<u8>>
     ensures read { IfOk result (ReadsByte (R.remaining input.old) (R.remaining input.new)) }
     ensures kept { OnErr result (Keeps (R.remaining input.old) (R.remaining input.new)) }
@@ -34,7 +34,12 @@ fn try_byte<R: Read>(input: &mut R) -> io::Result<Option<u8>>
     }
 }
 
-/// Takes the next byte, if there is one. An interrupted read is tried again, as std does.
+/// Reads the next byte, or `None` at the end of the input. An interrupted read is tried again, as
+/// in std.
+///
+/// # Errors
+///
+/// The error of the reader if a read fails. Its remaining bytes are unchanged.
 pub fn next_byte<R: Read>(input: &mut R) -> io::Result<Option<u8>>
     ensures read { IfOk result (ReadsByte (R.remaining input.old) (R.remaining input.new)) }
     ensures kept { OnErr result (Keeps (R.remaining input.old) (R.remaining input.new)) }
@@ -52,8 +57,13 @@ pub fn next_byte<R: Read>(input: &mut R) -> io::Result<Option<u8>>
     Err(io::Error::from(ErrorKind::Interrupted))
 }
 
-/// Reads the next line into the buffer, and no byte past its line feed; of a line that does not fit, one byte more than
-/// the buffer has room for.
+/// Reads the next line into the buffer, and no byte after its line feed.
+///
+/// If the line is too long, one byte more than the buffer holds is read.
+///
+/// # Errors
+///
+/// The error of the reader if a read fails. No more of the line was read than the buffer holds.
 pub fn read_line<R: Read>(input: &mut R, buffer: &mut [u8; MAX_LINE]) -> io::Result<NextLine>
     ensures fits { IfOk result FitsIn }
     ensures line { IfOk result (ReadsLine (R.remaining input.old) (R.remaining input.new)

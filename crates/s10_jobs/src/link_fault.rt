@@ -1,4 +1,4 @@
-//! The line of a link that failed.
+//! Writes the line of a link that failed.
 
 ghost use Rattle.std.specs.Prelude.{OnOk, codes};
 ghost use Rattle.std.specs.Io.KnownBytes.{Appends};
@@ -10,7 +10,11 @@ use s10_lines::{WriteFault, write_text};
 use s10_link::LinkFault;
 use std::io::Write;
 
-/// Writes the line of a link's fault. A fault of the writer may leave part of it written.
+/// Writes the line of a link's fault: `link` and the fault.
+///
+/// # Errors
+///
+/// `WriteFault` if the writer fails; part of the line may be written.
 pub fn write_link_fault<W: Write>(fault: LinkFault, out: &mut W) -> Result<(), WriteFault>
     ensures { OnOk result (Appends (W.contents out.old) (W.contents out.new)
         (line_of (codes "link") (link_fault_words fault))) }

@@ -1,4 +1,4 @@
-//! The identifier of parts.
+//! Makes an identifier from its parts.
 ghost use Rattle.std.specs.Prelude.{◌≡◌, [], ◌∷◌, codes, IfOk};
 ghost use Rattle.std.specs.Io.KnownBytes.{Appends};
 ghost use Rattle.s10_core.specs.Serial.{AreEightDigits};
@@ -11,7 +11,14 @@ use s10_core::{Id, Serial};
 use s10_lines::{WriteFault, write_text};
 use std::io::Write;
 
-/// Writes the identifier of these parts, or the first that is wrong.
+/// Writes the identifier of these parts, or `refused` and the first part that is invalid.
+///
+/// The service and the country are two capital letters, and the serial is eight digits. The status
+/// is `Done` or `Refused`.
+///
+/// # Errors
+///
+/// `WriteFault` if the writer fails; part of the line may be written.
 pub fn make<W: Write>(
     service: &str,
     serial: &str,

@@ -1,4 +1,4 @@
-//! Parts of an identifier, as words of a command line.
+//! Reads the parts of an identifier from the words of a command line.
 ghost use Rattle.std.specs.Prelude.{◌≡◌, ◌↔◌, IsSome, IfSome};
 ghost use Rattle.s10_core.specs.Letters.{letters_of};
 ghost use Rattle.s10_jobs.specs.Lines.{AreTwoCapitals};

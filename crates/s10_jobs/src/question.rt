@@ -1,4 +1,4 @@
-//! A request, as words of a command line.
+//! Reads a request from the words of a command line.
 
 use crate::body_words::BodyWords;
 use crate::refusal::Refusal;
@@ -6,13 +6,18 @@ use crate::tries::Tries;
 use s10_link::Peer;
 use s10_wire::Body;
 
-/// What to ask of a server, its texts as they were given.
+/// A request to a server, with its texts as they were given.
 #[derive(Clone, Copy, Debug, PartialEq, Eq)]
 pub struct Question<'a> {
+    /// The address of the server, as `127.0.0.1:4711`.
     pub to: &'a str,
+    /// The customer; 0 is the post.
     pub customer: u32,
+    /// The number of the request.
     pub number: u32,
+    /// The body of the request.
     pub body: BodyWords<'a>,
+    /// The maximum number of tries.
     pub tries: Tries,
 }
 
@@ -21,8 +26,14 @@ impl Question<'_> {
     ghost use Rattle.s10_link.specs.Peer.{SpellsPeer};
     ghost use Rattle.s10_jobs.specs.Questions.{WordsAsk, IsQuestionRefusal};
 
-    /// Reads the texts: the server's address before the body's. Refused with the first that does
-    /// not read.
+    /// Reads the texts: the address of the server before those of the body.
+    ///
+    /// # Errors
+    ///
+    /// The first text that cannot be read:
+    ///
+    /// - `Peer` if the address of the server is invalid.
+    /// - `Service`, `Country` or `Text` if a text of the body is invalid.
     pub fn read(&self) -> Result<(Peer, Body), Refusal>
         ensures ok { IfOk result (λ read. SpellsPeer self.now.to.now read.0
             × WordsAsk self.now.body read.1) }

@@ -1,4 +1,4 @@
-//! Why the texts of a request are refused.
+//! Writes why the texts of a request are refused.
 
 ghost use Rattle.std.specs.Prelude.{◌≡◌, IfOk};
 ghost use Rattle.std.specs.Io.KnownBytes.{Appends};
@@ -11,7 +11,7 @@ use s10_core::TextFault;
 use s10_lines::WriteFault;
 use std::io::Write;
 
-/// The first text of a request that does not read.
+/// The first text of a request that cannot be read.
 #[derive(Clone, Copy, Debug, PartialEq, Eq)]
 pub enum Refusal {
     /// The address of the server.
@@ -20,11 +20,15 @@ pub enum Refusal {
     Service,
     /// The country code.
     Country,
-    /// The identifier.
+    /// The identifier, with its first fault.
     Text(TextFault),
 }
 
-/// Writes the line of a refusal.
+/// Writes the line of a refusal: `refused` and its word. The status is `Refused`.
+///
+/// # Errors
+///
+/// `WriteFault` if the writer fails; part of the line may be written.
 pub fn write_refusal<W: Write>(refusal: Refusal, out: &mut W) -> Result<JobStatus, WriteFault>
     ensures { IfOk result (λ status. (status ≡ JobStatus.Refused)
         × Appends (W.contents out.old) (W.contents out.new)

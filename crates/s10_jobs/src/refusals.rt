@@ -1,4 +1,4 @@
-//! Lines that say why something is refused.
+//! Writes the lines of refusals. Each function returns the status `Refused`.
 ghost use Rattle.std.specs.Prelude.{◌≡◌, [], ◌∷◌, IfOk};
 ghost use Rattle.std.specs.Io.KnownBytes.{Appends};
 ghost use Rattle.s10_jobs.specs.Words.{text_fault_words, wire_fault_words};
@@ -11,7 +11,11 @@ use s10_lines::{WriteFault, write_text, write_word};
 use s10_wire::WireFault;
 use std::io::Write;
 
-/// Refuses what the word names.
+/// Writes the line `refused` and the word.
+///
+/// # Errors
+///
+/// `WriteFault` if the writer fails; part of the line may be written.
 pub fn refuse<W: Write>(word: &[u8], out: &mut W) -> Result<JobStatus, WriteFault>
     ensures { IfOk result (λ status. (status ≡ JobStatus.Refused)
         × Appends (W.contents out.old) (W.contents out.new) (refused_line (word.now ∷ []))) }
@@ -22,7 +26,11 @@ pub fn refuse<W: Write>(word: &[u8], out: &mut W) -> Result<JobStatus, WriteFaul
     Ok(JobStatus::Refused)
 }
 
-/// Refuses a text that spells no identifier.
+/// Writes the line of a text that spells no identifier: `refused` and the fault.
+///
+/// # Errors
+///
+/// `WriteFault` if the writer fails; part of the line may be written.
 pub fn refuse_text<W: Write>(fault: TextFault, out: &mut W) -> Result<JobStatus, WriteFault>
     ensures { IfOk result (λ status. (status ≡ JobStatus.Refused)
         × Appends (W.contents out.old) (W.contents out.new)
@@ -34,7 +42,11 @@ pub fn refuse_text<W: Write>(fault: TextFault, out: &mut W) -> Result<JobStatus,
     Ok(JobStatus::Refused)
 }
 
-/// Refuses bytes that are no datagram.
+/// Writes the line of bytes that are not a datagram: `refused` and the fault.
+///
+/// # Errors
+///
+/// `WriteFault` if the writer fails; part of the line may be written.
 pub fn refuse_datagram<W: Write>(fault: WireFault, out: &mut W) -> Result<JobStatus, WriteFault>
     ensures { IfOk result (λ status. (status ≡ JobStatus.Refused)
         × Appends (W.contents out.old) (W.contents out.new)

@@ -7,22 +7,26 @@ use s10_lines::{WriteFault, write_decimal, write_text, write_word};
 use std::io::Write;
 use thiserror::Error;
 
-/// Why a replay ended early.
+/// The reason why a replay ended early. The answers to the lines before were written.
 #[derive(Clone, Copy, Debug, PartialEq, Eq, Error)]
 pub enum ReplayFault {
-    /// The line with this number, from 1, is refused. What the lines before it give was written.
+    /// The number, from 1, of the line that is refused.
     #[error("line {0} is refused")]
     Line(u32),
-    /// The input cannot be read on. What the lines before give was written.
+    /// The input cannot be read further.
     #[error("the input cannot be read")]
     Read,
-    /// The output cannot be written. Part of a line may have gone out.
+    /// The output cannot be written. Part of a line may be written.
     #[error("the output cannot be written")]
     Write,
 }
 
-/// Writes the line of a replay that ended early, and answers its status: Refused for a line that is refused, else
-/// Failed.
+/// Writes the line of a replay that ended early, and returns its status: `Refused` for a refused
+/// line, and `Failed` otherwise.
+///
+/// # Errors
+///
+/// `WriteFault` if the writer fails; part of the line may be written.
 pub fn write_replay_fault<W: Write>(
     fault: ReplayFault,
     out: &mut W,

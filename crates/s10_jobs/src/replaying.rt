@@ -1,4 +1,4 @@
-//! A replay: datagrams from the lines of an input, answers as lines of output.
+//! Replays datagrams: reads them from the lines of an input, and writes the answers as lines.
 ghost use Rattle.std.specs.Prelude.{[], ℕ, List, Option, Result, IfSome};
 ghost use Rattle.s10_history.specs.declared.entry.Entry.{Entry};
 ghost use Rattle.s10_ends.specs.Server.{book_of};
@@ -18,15 +18,23 @@ use s10_lines::WriteFault;
 use std::alloc::Global;
 use std::io::{Read, Write};
 
-/// How many lines an input may have, empty ones too.
+/// The maximum number of lines of an input, empty ones included.
 const MAX_LINES: u32 = 1_000_000;
 
-/// Hands the datagrams of an input to a server, writes a line for each answer, and answers how many there were.
+/// Passes the datagrams of an input to a server, writes a line for each answer, and returns the
+/// number of answers.
 ///
-/// An input line is DAY, one space, HEX: one to ten digits, at most 4294967295, and an even number of hexadecimal digits,
-/// at most 1024, also none. A carriage return at the end of a line is dropped, and an empty line is passed over. A line
-/// of more than [`MAX_LINE`] bytes, or past the millionth, is refused without reading more of it, so a replay ends on any reader.
-/// An interrupted read is tried again.
+/// An input line is DAY, one space, HEX. DAY has one to ten digits, and is at most 4294967295. HEX
+/// is an even number of hexadecimal digits, 0 to 1024. A carriage return at the end of a line is
+/// ignored, and so is an empty line. An input has at most 1000000 lines of at most [`MAX_LINE`]
+/// bytes, so a replay ends on any reader. An interrupted read is tried again.
+///
+/// # Errors
+///
+/// - `Line` with its number, from 1, if a line is not of this form, is too long or is past the last
+///   one allowed. At most one byte past either limit is read.
+/// - `Read` if the input cannot be read further.
+/// - `Write` if the output cannot be written.
 pub fn replay_on<B: Book, R: Read, W: Write>(
     server: &mut Server<B>,
     input: &mut R,
@@ -70,8 +78,14 @@ pub fn replay_on<B: Book, R: Read, W: Write>(
     }
 }
 
-/// Hands the datagrams of an input to the server of an empty ledger, writes a line for each answer, and answers how many
-/// there were, as `replay_on` does.
+/// Passes the datagrams of an input to the server of an empty ledger in memory, as `replay_on`
+/// does.
+///
+/// Returns the number of answers.
+///
+/// # Errors
+///
+/// Those of `replay_on`.
 pub fn replay<R: Read, W: Write>(
     alloc: Global,
     settings: Settings,
@@ -87,7 +101,13 @@ pub fn replay<R: Read, W: Write>(
     replay_on(&mut server, input, output)
 }
 
-/// Runs a replay. A fault of it is written as the last line.
+/// Runs a replay over an empty ledger. If it ends early, the last line says why.
+///
+/// Returns `Done`, `Refused` if a line was refused, or `Failed` if the input or the output failed.
+///
+/// # Errors
+///
+/// `WriteFault` if the last line cannot be written.
 pub fn run_replay<R: Read, W: Write>(
     alloc: Global,
     settings: Settings,

@@ -1,4 +1,4 @@
-//! A report, and the line of what ended it early.
+//! Writes a report, and a last line if it ended early.
 
 ghost use Rattle.s10_book.specs.Book.{Unchanged};
 ghost use Rattle.s10_jobs.specs.Reporting.{report_lines, PrintsReport};
@@ -16,17 +16,19 @@ use std::time::Clock;
 /// A report of a ledger.
 #[derive(Clone, Copy, Debug, PartialEq, Eq)]
 pub enum Report {
-    /// The ranges, with the serial numbers that are free on a day.
+    /// The ranges, with the serials that are free on a day.
     Ranges { day: u32 },
-    /// The identifiers issued.
+    /// The identifiers that were issued.
     Issues,
 }
 
 impl Report {
     ghost use Rattle.std.specs.Prelude.{◌≡◌, ℕ, true, false, Some, IfSome};
 
-    /// The report of the issues, or that of the ranges on a day, for which alone the clock is read
-    /// where no day is given. `None` where the clock gives none.
+    /// Returns the report of the issues, or that of the ranges on a day.
+    ///
+    /// The clock is read only for the ranges, if no day is given. Returns `None` if the clock gives
+    /// no day.
     pub fn new<C: Clock>(clock: &C, is_of_issues: bool, day: Option<u32>) -> Option<Report>
         ensures issues { is_of_issues ≡ true → result ≡ Some Report.Issues }
         ensures ranges { (d : ℕ) → is_of_issues ≡ false → day ≡ Some d
@@ -42,8 +44,14 @@ impl Report {
     }
 }
 
-/// Writes a report. A fault of the book ends it with the line `faulted` and why, and a writer that
-/// fails with the line `output`.
+/// Writes a report, and returns `Done`.
+///
+/// If the book fails, the last line is `faulted` and the fault. If the writer fails, it is
+/// `output`. The status is then `Failed`. The history is unchanged.
+///
+/// # Errors
+///
+/// `WriteFault` if the last line cannot be written.
 pub fn write_report<B: Book, W: Write>(
     book: &mut B,
     report: Report,

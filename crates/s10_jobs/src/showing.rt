@@ -1,4 +1,4 @@
-//! What a datagram carries, as a line.
+//! Shows a datagram as a line.
 ghost use Rattle.std.specs.Prelude.{◌≡◌, ℕ, List, [], ◌∷◌, codes, IfOk, None, Some};
 ghost use Rattle.std.specs.Io.KnownBytes.{Appends};
 ghost use Rattle.s10_jobs.specs.Lines.{refused_line};
@@ -13,7 +13,14 @@ use s10_lines::{WriteFault, write_reply_line, write_request_line};
 use s10_wire::{decode_reply, decode_request};
 use std::io::Write;
 
-/// Writes the line of the datagram that the hexadecimal digits stand for.
+/// Writes the line of the datagram with these hexadecimal digits, or `refused` and the first fault.
+///
+/// The line is `refused hex` if the text is not an even number of hexadecimal digits, 0 to 1024.
+/// The status is `Done` or `Refused`.
+///
+/// # Errors
+///
+/// `WriteFault` if the writer fails; part of the line may be written.
 pub fn show<W: Write>(text: &str, out: &mut W) -> Result<JobStatus, WriteFault>
     ensures hex { bytes_in text.now ≡ None → IfOk result (λ status. (status ≡ JobStatus.Refused)
         × Appends (W.contents out.old) (W.contents out.new) (refused_line (codes "hex" ∷ []))) }

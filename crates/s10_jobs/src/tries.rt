@@ -2,7 +2,7 @@ ghost use Rattle.std.specs.Prelude.{◌≡◌, ◌≤◌, SomeIff};
 
 use std::marker::Model;
 
-/// How often a call is tried: 1 to 100 times, this project's own choice.
+/// The maximum number of tries of a call: 1 to 100. The limits are this project's choice.
 #[derive(Clone, Copy, Debug, PartialEq, Eq)]
 pub struct Tries {
     count: u32,
@@ -21,7 +21,7 @@ impl Model for Tries {
 }
 
 impl Tries {
-    /// n tries, or `None` for 0 and above 100.
+    /// Returns `count` tries, or `None` if it is 0 or above 100.
     pub fn new(count: u32) -> Option<Tries>
         ensures { SomeIff result ((1 ≤ count) × (count ≤ 100)) count }
     {
@@ -32,7 +32,7 @@ impl Tries {
         }
     }
 
-    /// The number of tries.
+    /// Returns the number of tries, 1 to 100.
     pub fn count(&self) -> u32
         ensures value { result ≡ self.now }
         ensures range { (1 ≤ result) × (result ≤ 100) }

@@ -1,4 +1,4 @@
-//! The output line of a server's turn.
+//! Writes the output line of a server's turn.
 
 ghost use Rattle.std.specs.Prelude.{OnOk, codes};
 ghost use Rattle.std.specs.Io.KnownBytes.{Appends};
@@ -15,8 +15,14 @@ use s10_lines::{WriteFault, write_text};
 use s10_wire::Frame;
 use std::io::Write;
 
-/// Writes what a turn came to: `quiet`, `dropped`, `faulted` or `uncommitted` and why, `replied` and the reply in lower-case
-/// hex, or `link` and why. Peers are not told. A fault of the writer may leave part of the line written.
+/// Writes the line of a turn, without its peer.
+///
+/// The line is `quiet`; `dropped`, `faulted`, `uncommitted` or `link` with the fault; or `replied`
+/// with the reply in lower-case hex.
+///
+/// # Errors
+///
+/// `WriteFault` if the writer fails; part of the line may be written.
 pub fn write_turn<W: Write>(turn: &Turn, out: &mut W) -> Result<(), WriteFault>
     ensures { OnOk result (Appends (W.contents out.old) (W.contents out.new) (turn_line turn.now)) }
 {
@@ -30,7 +36,6 @@ pub fn write_turn<W: Write>(turn: &Turn, out: &mut W) -> Result<(), WriteFault>
     }
 }
 
-// The line of a request whose call could not be committed.
 fn write_uncommitted<W: Write>(fault: BookFault, out: &mut W) -> Result<(), WriteFault>
     ensures { OnOk result (Appends (W.contents out.old) (W.contents out.new)
         (line_of (codes "uncommitted") (book_fault_words fault))) }

@@ -1,4 +1,4 @@
-//! The turns of a server.
+//! Serves the turns of a server, and prints them.
 
 ghost use Rattle.std.specs.Prelude.{◌≡◌, ◌≢◌, ◌≤◌, ℕ, None, Ok, OnOk};
 ghost use Rattle.std.specs.List.{flat_map};
@@ -20,13 +20,21 @@ use std::alloc::Global;
 use std::io::Write;
 use std::time::Clock;
 
-/// How many datagrams are taken in one batch at most.
+/// The maximum number of datagrams in one batch.
 const MAX_BATCH: u32 = 64;
 
-/// n turns of a server, each with its line, in batches of the datagrams that have come at once: their calls are committed
-/// together, and only then are the replies sent. The lines of a batch are flushed together. Where no day is given the clock
-/// is read before each batch, and one that gives no day ends the turns. Standard error has a line for each datagram that
-/// is dropped, with its sender.
+/// Serves `count` turns in batches of up to 64 datagrams, and prints one line for each turn.
+///
+/// The calls of a batch are committed together, then its replies are sent, then its lines are
+/// written and flushed. If a batch cannot be allocated, the server handles one datagram without
+/// allocating. Standard error has a line for each dropped datagram, with its sender.
+///
+/// If no day is given, the clock is read once before each batch. If it gives no day, the turns end
+/// with the line `clock`. The status is `Done`, or `Failed` after `clock`.
+///
+/// # Errors
+///
+/// `WriteFault` if the writer fails. The batch was served, and part of its lines may be written.
 pub fn serve_turns<R: Clock + Eprint, B: GroupCommit, L: Link, W: Write>(
     rt: &R,
     alloc: Global,
@@ -52,8 +60,8 @@ pub fn serve_turns<R: Clock + Eprint, B: GroupCommit, L: Link, W: Write>(
     Ok(JobStatus::Done)
 }
 
-// One batch, with the lines of its turns. Answers how many these are. Where there is no room for a batch, one datagram is
-// taken.
+// Serves one batch, prints its turns, and returns the number of turns. If the batch cannot be
+// allocated, one datagram is handled without allocating.
 fn serve_batched<R: Eprint, B: GroupCommit, L: Link, W: Write>(
     rt: &R,
     alloc: Global,
@@ -82,7 +90,8 @@ fn serve_batched<R: Eprint, B: GroupCommit, L: Link, W: Write>(
     }
 }
 
-// Writes the lines of turns, and tells who sent what was dropped.
+// Prints the lines of turns and flushes them. Standard error has the sender of each dropped
+// datagram.
 fn print_turns<R: Eprint, W: Write>(rt: &R, turns: &[Turn], out: &mut W) -> Result<(), WriteFault>
     ensures { OnOk result (Appends (W.contents out.old) (W.contents out.new)
         (flat_map turn_line turns.now)) }
@@ -97,7 +106,7 @@ fn print_turns<R: Eprint, W: Write>(rt: &R, turns: &[Turn], out: &mut W) -> Resu
     Ok(())
 }
 
-// The turns go on where standard error is closed.
+// The result is ignored, so the turns continue if standard error is closed.
 fn eprint_sender<R: Eprint>(rt: &R, turn: &Turn) {
     if let Ok(ServerTurn::Dropped(from, _)) = turn {
         let _ = eprintln!(rt; "dropped from {from}");

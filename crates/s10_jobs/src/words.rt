@@ -1,4 +1,4 @@
-//! The words that are printed for groups and faults.
+//! Writes the words that are printed for groups and faults.
 ghost use Rattle.std.specs.Prelude.{◌≡◌, [], ◌∷◌, OnOk, codes, decimal};
 ghost use Rattle.std.specs.Fmt.{signed_decimal};
 ghost use Rattle.std.specs.Io.KnownBytes.{Appends};
@@ -15,7 +15,7 @@ use s10_rows::OpenFault;
 use s10_wire::WireFault;
 use std::io::Write;
 
-/// The word of a group.
+/// Returns the word of a group.
 pub fn group_word(group: Group) -> &'static str
     ensures { result.now ≡ group_words group }
 {
@@ -28,7 +28,11 @@ pub fn group_word(group: Group) -> &'static str
     }
 }
 
-/// Writes the words of a text fault, with a space before each.
+/// Writes the words of a text fault, each after a space. A position is counted from 0.
+///
+/// # Errors
+///
+/// `WriteFault` if the writer fails; some of the words may be written.
 pub fn write_text_fault<W: Write>(fault: TextFault, out: &mut W) -> Result<(), WriteFault>
     ensures { OnOk result (Appends (W.contents out.old) (W.contents out.new)
         (spaced (text_fault_words fault))) }
@@ -41,7 +45,11 @@ pub fn write_text_fault<W: Write>(fault: TextFault, out: &mut W) -> Result<(), W
     }
 }
 
-/// Writes the words of a datagram's fault, with a space before each.
+/// Writes the words of a datagram's fault, each after a space. An offset is counted from 0.
+///
+/// # Errors
+///
+/// `WriteFault` if the writer fails; some of the words may be written.
 pub fn write_wire_fault<W: Write>(fault: WireFault, out: &mut W) -> Result<(), WriteFault>
     ensures { OnOk result (Appends (W.contents out.old) (W.contents out.new)
         (spaced (wire_fault_words fault))) }
@@ -57,7 +65,11 @@ pub fn write_wire_fault<W: Write>(fault: WireFault, out: &mut W) -> Result<(), W
     }
 }
 
-/// Writes the word of a book's fault, with a space before it.
+/// Writes the word of a book's fault after a space.
+///
+/// # Errors
+///
+/// `WriteFault` if the writer fails; part of the word may be written.
 pub fn write_book_fault<W: Write>(fault: BookFault, out: &mut W) -> Result<(), WriteFault>
     ensures { OnOk result (Appends (W.contents out.old) (W.contents out.new)
         (spaced (book_fault_words fault))) }
@@ -69,7 +81,11 @@ pub fn write_book_fault<W: Write>(fault: BookFault, out: &mut W) -> Result<(), W
     }
 }
 
-/// Writes the word of a link's fault, with a space before it.
+/// Writes the word of a link's fault after a space.
+///
+/// # Errors
+///
+/// `WriteFault` if the writer fails; part of the word may be written.
 pub fn write_link_word<W: Write>(fault: LinkFault, out: &mut W) -> Result<(), WriteFault>
     ensures { OnOk result (Appends (W.contents out.old) (W.contents out.new)
         (spaced (link_fault_words fault))) }
@@ -82,7 +98,11 @@ pub fn write_link_word<W: Write>(fault: LinkFault, out: &mut W) -> Result<(), Wr
     }
 }
 
-/// Writes the words of a ledger's fault, with a space before each.
+/// Writes the words of a ledger's fault, each after a space.
+///
+/// # Errors
+///
+/// `WriteFault` if the writer fails; some of the words may be written.
 pub fn write_open_fault<W: Write>(fault: OpenFault, out: &mut W) -> Result<(), WriteFault>
     ensures { OnOk result (Appends (W.contents out.old) (W.contents out.new)
         (spaced (open_fault_words fault))) }
@@ -97,7 +117,7 @@ pub fn write_open_fault<W: Write>(fault: OpenFault, out: &mut W) -> Result<(), W
     }
 }
 
-// The number of a schema after its name.
+// Writes `schema` and the number of the schema.
 fn write_schema<W: Write>(number: i64, out: &mut W) -> Result<(), WriteFault>
     ensures { OnOk result (Appends (W.contents out.old) (W.contents out.new)
         (spaced (codes "schema" ∷ signed_decimal number ∷ []))) }
@@ -107,7 +127,7 @@ fn write_schema<W: Write>(number: i64, out: &mut W) -> Result<(), WriteFault>
     write_word(buffer.format(number).as_bytes(), out)
 }
 
-// A word, and the place that it is about.
+// Writes a word and the number of what it is about: a position, an offset or a call.
 fn write_placed<W: Write>(word: &[u8], at: u32, out: &mut W) -> Result<(), WriteFault>
     ensures { OnOk result (Appends (W.contents out.old) (W.contents out.new)
         (spaced (word.now ∷ decimal at ∷ []))) }

@@ -4,7 +4,7 @@ use Rattle.std.proofs.Math.Nat.{pow-le-pow_right}
 use Rattle.s10_core.proofs.Decimals.{number_of-more, grows}
 use Rattle.s10_jobs.proofs.delivery_line.number.Goals as goal
 
--- a number of at most nine digits
+-- A number of at most nine digits.
 below_a_billion : (number count : ℕ) → number < 10 ^ count → count < 10 → number < 1000000000
 below_a_billion number count small few =
     let widest : 10 ^ count ≤ 10 ^ 9 =

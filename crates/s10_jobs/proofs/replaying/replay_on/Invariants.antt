@@ -2,7 +2,7 @@ use Rattle.std.proofs.Common.{◌≡◌, ◌≤◌}
 use Rattle.s10_jobs.proofs.ReplayedLines.{HasReplayed}
 use Rattle.s10_jobs.proofs.replaying.replay_on.Given as goal
 
--- the lines so far were answered, and those of what is left follow them
+-- The lines before this one were answered, and the remaining lines follow them.
 abbrev pub invariant-loop-done : goal.invariant-loop-done
 invariant-loop-done g l = record {
   few : l.count ≤ l.done;

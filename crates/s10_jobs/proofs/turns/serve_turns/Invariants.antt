@@ -3,7 +3,7 @@ use Rattle.s10_jobs.specs.Serving.{IsBatch}
 use Rattle.s10_jobs.proofs.Turning.{HasServed}
 use Rattle.s10_jobs.proofs.turns.serve_turns.Given as goal
 
--- n turns were served, and their lines written
+-- n turns were served, and their lines written.
 abbrev pub invariant-loop-done : goal.invariant-loop-done
 invariant-loop-done g l = record {
   few : l.done ≤ l.fn.count;
