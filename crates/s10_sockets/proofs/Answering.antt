@@ -1,4 +1,4 @@
--- What is printed of a question.
+-- Lemmas about what a request to a server prints.
 use Rattle.std.proofs.Common.{◌≡◌, ℕ, List, Option, Result, Ok, Err, refl, subst, inl, inr}
 use Rattle.std.specs.Prelude.{IfOk, codes}
 use Rattle.std.specs.Io.KnownBytes.{Appends}
@@ -26,7 +26,7 @@ use Rattle.s10_jobs.specs.Words.{link_fault_words}
 use Rattle.s10_jobs.specs.Questions.{refusal_words, WordsAsk, IsQuestionRefusal}
 use Rattle.s10_sockets.specs.Questioning.{IsUnasked, IsAsked}
 
--- of a text that does not read
+-- A text that cannot be read.
 pub refused_unasked : (question : Question) (refusal : Refusal) (old new : Option (List ℕ))
     (r : Result JobStatus WriteFault) → IsQuestionRefusal question refusal
     → IfOk r (λ status. (status ≡ Refused) × Appends old new (refused_line (refusal_words refusal)))
@@ -35,7 +35,7 @@ refused_unasked question refusal old new (Ok status) is (same, line) =
     (refused_line (refusal_words refusal), inl (refusal, is, same, refl), line)
 refused_unasked question refusal old new (Err fault) is says = tt
 
--- of a link that there is not
+-- A socket that cannot be bound.
 pub unbound_unasked : (question : Question) (to : Peer) (body : Body) (fault : LinkFault)
     (old new : Option (List ℕ)) (r : Result JobStatus WriteFault)
     → SpellsPeer question.to.now to → WordsAsk question.body body → fault ≡ Bind
@@ -47,7 +47,7 @@ unbound_unasked question to body Bind old new (Ok status) peer asks is (same, li
 unbound_unasked question to body fault old new (Ok status) peer asks is says = absurd cc
 unbound_unasked question to body fault old new (Err failed) peer asks is says = tt
 
--- of a call that began on a new link
+-- A call over a new link.
 pub asked_over : (question : Question) (to : Peer) (body : Body) (begun : Trace) (link : BoundLink)
     (old new : Option (List ℕ)) (r : Result JobStatus WriteFault)
     → SpellsPeer question.to.now to → WordsAsk question.body body → begun ≡ new_trace

@@ -1,4 +1,4 @@
--- Calls of clients one after another, up to the first that is not done.
+-- Lemmas about calls of clients in order, up to the first that is not done.
 use Rattle.std.proofs.Common.{◌≡◌, ◌≢◌, ◌∙◌, inl, inr, ℕ, List, [], ◌∷◌, ◌++◌, Option, Result, Ok}
 use Rattle.std.proofs.Common.{Err, refl, sym, ap, subst, append_assoc, append-nil}
 use Rattle.std.specs.Prelude.{IfOk}
@@ -40,7 +40,7 @@ calls_of-append c (first ∷ bodies) more =
     (calls_of-append (after_call c first) bodies more)
 
 module _ (to : Peer) where
-  -- calls that were done, and others after them
+  -- Calls that were done, and others after them.
   AreMadeInTurn-append : (calls more : List (ClientState × Body)) (old mid new : Trace)
       (status : JobStatus) (text line : List ℕ)
       → AreMadeInTurn to calls old mid Done text → AreMadeInTurn to more mid new status line
@@ -75,7 +75,7 @@ module _ (to : Peer) where
     inr (undone, same, is, lines),
   ) others = absurd (undone (sym is))
 
-  -- none comes after one that was not done
+  -- No call follows one that was not done.
   AreMadeInTurn-stops : (calls more : List (ClientState × Body)) (old new : Trace)
       (status : JobStatus) (text : List ℕ)
       → status ≢ Done → AreMadeInTurn to calls old new status text
@@ -130,13 +130,13 @@ module _ (to : Peer) where
   idle_after c c' old new body (Err (GaveUp q)) it done = absurd cc
   idle_after c c' old new body (Err (Link q fault)) it done = absurd cc
 
-  -- n calls of a client were done, and what was printed of them
+  -- n calls of a client were done, with the lines that they printed.
   pub record HasDone (c c' : ClientState) (bodies : List Body) (old new : Trace)
       (u v : Option (List ℕ)) : Type 0 where
     pub client : c' ≡ after_calls c bodies
     pub printed : Prints u v (AreMadeInTurn to (calls_of c bodies) old new Done)
 
-  -- what a call answers
+  -- What a call does and prints.
   abbrev pub Asked : ClientState → ClientState → Trace → Trace → Body → Option (List ℕ)
       → Option (List ℕ) → Result JobStatus WriteFault → Type 0
   Asked c c' old new body u v r =
@@ -178,7 +178,7 @@ module _ (to : Peer) where
       }
   one_done c c1 c2 t t1 t2 bodies body u v w (Err fault) status is done before asked = absurd cc
 
-  -- the rest is not asked
+  -- The calls after one that is not done are not made.
   pub last_done : (c c1 c2 : ClientState) (t t1 t2 : Trace) (bodies : List Body) (body : Body)
       (rest all : List Body) (u v w : Option (List ℕ)) (r : Result JobStatus WriteFault)
       (status : JobStatus)
@@ -197,7 +197,7 @@ module _ (to : Peer) where
         it.2,
       )
 
-  -- the post's call, and after it the customer's
+  -- The call of the post, then the calls of the customer.
   pub all_asked : (calls more all : List (ClientState × Body)) (t t1 t2 : Trace)
       (u v w : Option (List ℕ)) (r : Result JobStatus WriteFault) → calls ++ more ≡ all
       → Prints u v (AreMadeInTurn to calls t t1 Done)

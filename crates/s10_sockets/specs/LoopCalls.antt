@@ -1,4 +1,4 @@
--- The calls that `loop` makes, and the lines that are printed of them.
+-- The calls that `loop` makes, and the lines that it prints.
 use Rattle.std.specs.Prelude.{◌≡◌, ◌≢◌, ◌⊎◌, ℕ, List, [], ◌∷◌, ◌++◌, Result}
 use Rattle.s10_core.specs.declared.id.Id.{Id}
 use Rattle.s10_wire.specs.declared.body.Body.{Body}
@@ -13,37 +13,38 @@ use Rattle.s10_jobs.specs.declared.job_status.JobStatus.{JobStatus}
 use Rattle.s10_jobs.specs.declared.job_status.JobStatus.TheVariants.{Done}
 use Rattle.s10_jobs.specs.Asked.{asked_status, asked_line}
 
--- RA and GB
+-- The service RA.
 abbrev pub ra : ℕ × ℕ
 ra = (82, 65)
 
+-- The country GB.
 abbrev pub gb : ℕ × ℕ
 gb = (71, 66)
 
--- RA000000005GB
+-- The identifier RA000000005GB.
 abbrev pub first_of_range : Id
 first_of_range = record { service = ra; serial = 0; country = gb }
 
--- RA GB 0 to 2 for customer 7
+-- The grant of RA GB 0 to 2 to customer 7.
 abbrev pub granted_range : Body
 granted_range = Grant 7 ra gb 0 2
 
--- two draws, and the void and a query of the first identifier
+-- Two draws, then the void and the query of the first identifier.
 abbrev pub customer_calls : List Body
 customer_calls = Draw ra gb ∷ Draw ra gb ∷ Void first_of_range ∷ Query first_of_range ∷ []
 
--- a client as each of its calls finds it, and what that asks
+-- Each call of a client, with the state of the client before it.
 abbrev pub calls_of : ClientState → List Body → List (ClientState × Body)
 calls_of c [] = []
 calls_of c (body ∷ bodies) = (c, body) ∷ calls_of (without_pending (after_submit c body)) bodies
 
--- the post's number 1, then customer 7's numbers 1 to 4
+-- Number 1 of the post, then numbers 1 to 4 of customer 7.
 abbrev pub loop_calls : List (ClientState × Body)
 loop_calls = calls_of (new_client 0 1 1) (granted_range ∷ []) ++ calls_of (new_client 7 1 4)
     customer_calls
 
--- the calls went over a link one after another, each in five tries, up to the first that was not done: the text has the line of
--- each, and the status is that of the last
+-- The calls were made over a link in order, each in up to five tries, up to the first that was not
+-- done. The text has the line of each, and the status is that of the last.
 abbrev pub AreMadeInTurn : Peer → List (ClientState × Body) → Trace → Trace → JobStatus → List ℕ
     → Type 0
 AreMadeInTurn to [] old new status text = (new ≡ old) × (status ≡ Done) × (text ≡ [])

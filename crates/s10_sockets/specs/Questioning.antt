@@ -1,4 +1,4 @@
--- What is printed of a question, and the status that it gives.
+-- The line and the status of a request to a server.
 use Rattle.std.specs.Prelude.{◌≡◌, ◌⊎◌, ℕ, List, [], ◌∷◌, codes, Option, Result, IfOk}
 use Rattle.std.specs.Io.KnownBytes.{Appends}
 use Rattle.s10_wire.specs.declared.body.Body.{Body}
@@ -20,7 +20,7 @@ use Rattle.s10_jobs.specs.Asked.{asked_status, asked_line}
 use Rattle.s10_jobs.specs.Lines.{refused_line}
 use Rattle.s10_jobs.specs.Questions.{refusal_words, WordsAsk, IsQuestionRefusal}
 
--- nothing was asked: the first text that does not read is refused; else there is no link
+-- No call was made: the first text that cannot be read is refused; otherwise no socket was bound.
 abbrev pub IsUnasked : Question → JobStatus → List ℕ → Type 0
 IsUnasked question status line =
     ((refusal : Refusal) × IsQuestionRefusal question refusal × (status ≡ Refused)
@@ -28,8 +28,8 @@ IsUnasked question status line =
     ⊎ ((to : Peer) × (body : Body) × SpellsPeer question.to.now to × WordsAsk question.body body
     × (status ≡ Failed) × (line ≡ line_of (codes "link") (codes "bind" ∷ [])))
 
--- what the words say was asked in one call of a new client of the customer, with the question's one number, and that is all that
--- this link carried; where the writer did not fail the call's line was written
+-- The words were asked in one call of a new client of the customer, with the question's number.
+-- That is all that this link carried. The line was written unless the writer failed.
 pub record IsAsked (question : Question) (link : BoundLink) (old new : Option (List ℕ))
     (result : Result JobStatus WriteFault) : Type 0 where
   pub to : Peer

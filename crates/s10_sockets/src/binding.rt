@@ -1,4 +1,4 @@
-//! A link over a socket of its own.
+//! Binds a socket and makes it a link.
 
 ghost use Rattle.std.specs.Prelude.{◌≡◌, IfOk, IfErr};
 ghost use Rattle.s10_link.specs.Trace.{new_trace};
@@ -7,10 +7,14 @@ use s10_ends::UdpLink;
 use s10_link::{LinkFault, Peer};
 use std::net::{Ipv4Addr, Net, SocketAddr, SocketAddrV4, UdpSocket};
 
-/// How many milliseconds a receive waits at most, at a server and at a client.
+/// The maximum wait of a receive in milliseconds, at a server and at a client.
 const WAIT: u32 = 1_000;
 
-/// A link at an address. Standard error says why there is none.
+/// Binds a link to an address. If that fails, standard error has the reason.
+///
+/// # Errors
+///
+/// `Bind` if the address cannot be bound.
 pub fn bind_link<R: Net + Eprint>(rt: &R, at: Peer) -> Result<UdpLink, LinkFault>
     ensures ok { IfOk result (λ link. link.trace ≡ new_trace) }
     ensures refused { IfErr result (λ fault. fault ≡ LinkFault.Bind) }
@@ -24,7 +28,7 @@ pub fn bind_link<R: Net + Eprint>(rt: &R, at: Peer) -> Result<UdpLink, LinkFault
     }
 }
 
-// Binds once more, for the words of the system.
+// Binds again, because only the error of the system has the reason in words.
 fn eprint_cause<R: Net + Eprint>(rt: &R, at: Peer) {
     let [a, b, c, d] = at.ip;
     let address = SocketAddrV4::new(Ipv4Addr::new(a, b, c, d), at.port);

@@ -1,4 +1,4 @@
-//! The jobs over sockets of this machine.
+//! Runs the jobs that need a socket of this machine.
 #![tactic(auto)]
 
 mod binding;

@@ -1,4 +1,4 @@
-//! The calls of a loop.
+//! Makes the calls of `loop`.
 
 ghost use Rattle.std.specs.Prelude.{◌≡◌, ◌∷◌, [], IfOk};
 ghost use Rattle.s10_wire.specs.declared.body.Body.TheVariants.{Draw};
@@ -15,11 +15,17 @@ use s10_link::{Link, Peer};
 use s10_wire::Body;
 use std::io::Write;
 
-/// How often a call is tried.
+/// The maximum number of tries of a call.
 const TRIES: u32 = 5;
 
-/// Makes five calls, up to the first that is not done, and writes the line of each: the post grants RA GB 0 to 2 to
-/// customer 7, who draws twice, voids the first identifier and asks about it.
+/// Makes up to five calls, writes the line of each, and returns the status of the last one.
+///
+/// The post grants RA GB 0 to 2 to customer 7, who draws twice, voids the first identifier and
+/// queries it. The first call that is not done is the last.
+///
+/// # Errors
+///
+/// `WriteFault` if the writer fails; part of a line may be written.
 pub fn make_calls<L: Link, W: Write>(
     link: &mut L,
     to: Peer,
@@ -42,7 +48,7 @@ pub fn make_calls<L: Link, W: Write>(
     ask_all(&mut customer, link, to, &customer_bodies(), out)
 }
 
-// Asks one after another, up to the first that is not done.
+// Makes calls of one client in order, up to the first that is not done.
 fn ask_all<L: Link, W: Write>(
     client: &mut Client,
     link: &mut L,
@@ -64,7 +70,7 @@ fn ask_all<L: Link, W: Write>(
     Ok(JobStatus::Done)
 }
 
-// RA GB 0 to 2 for customer 7.
+// The grant of RA GB 0 to 2 to customer 7.
 fn first_range() -> Body
     ensures { result ≡ granted_range }
 {
@@ -77,7 +83,7 @@ fn first_range() -> Body
     }
 }
 
-// Two draws from the range, and the void and a query of the first identifier.
+// Two draws from the range, then the void and the query of the first identifier.
 fn customer_bodies() -> [Body; 4]
     ensures { result ≡ customer_calls }
 {
@@ -107,7 +113,7 @@ fn gb() -> Country
     Country::new(*b"GB").unwrap()
 }
 
-// The identifier of the range's first serial number.
+// The identifier with the first serial of the range.
 fn first_id() -> Id
     ensures { result ≡ first_of_range }
 {

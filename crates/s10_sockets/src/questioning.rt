@@ -1,4 +1,4 @@
-//! A request over a socket of its own.
+//! Sends a request over a socket of its own.
 
 ghost use Rattle.std.specs.Prelude.{◌≡◌, ℕ, List, Result, None, IfOk, IfSome};
 ghost use Rattle.std.specs.Io.KnownBytes.{Appends};
@@ -24,8 +24,14 @@ const UNSPECIFIED: Peer = Peer {
     port: 0,
 };
 
-/// Asks a server over a socket of its own, and writes the line of its reply, or of what failed. A text that does not read
-/// is refused before there is a socket. Answers the link too: None where nothing was asked.
+/// Calls a server over a new socket, and writes the line of the reply, or of the failure.
+///
+/// A text that cannot be read is refused before a socket is bound. Also returns the link, or `None`
+/// if no call was made.
+///
+/// # Errors
+///
+/// The first component is `WriteFault` if the writer fails; part of the line may be written.
 pub fn run_question<R: Net + Eprint, W: Write>(
     rt: &R,
     question: &Question<'_>,
@@ -49,7 +55,7 @@ pub fn run_question<R: Net + Eprint, W: Write>(
     (asked, Some(link))
 }
 
-// Asks under the one number of the question.
+// Makes one call, of a client that has only the number of the question.
 fn ask_once<L: Link, W: Write>(
     question: &Question<'_>,
     link: &mut L,

@@ -1,4 +1,4 @@
-//! The turns of a server, over a socket of its own.
+//! Serves a book over a socket of its own.
 
 ghost use Rattle.std.specs.Prelude.{◌≡◌, None, IfSome};
 ghost use Rattle.s10_link.specs.Trace.{new_trace};
@@ -16,8 +16,14 @@ use std::io::Write;
 use std::net::Net;
 use std::time::Clock;
 
-/// Serves a book at the address, says on standard error where that is, and hands the book back. Answers the link too: None
-/// where the address cannot be had, and standard error says why.
+/// Serves `count` turns of a book at an address, and returns the status and the book.
+///
+/// Also returns the link, or `None` if the address cannot be bound. Standard error has the address
+/// that is served, or the reason why it cannot be bound. If no day is given, it is the clock's.
+///
+/// # Errors
+///
+/// The first component is `WriteFault` if the writer fails. The book is returned in every case.
 pub fn serve_at<R, B, W>(
     rt: &R,
     alloc: Global,
@@ -48,7 +54,7 @@ where
     (served, Some(link), server.into_book())
 }
 
-// The turns go on where standard error is closed.
+// The result is ignored, so the turns continue if standard error is closed.
 fn eprint_address<R: Eprint>(rt: &R, at: Peer) {
     let _ = eprintln!(rt; "serving on {at}");
 }

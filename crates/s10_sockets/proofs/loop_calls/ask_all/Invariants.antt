@@ -3,7 +3,7 @@ use Rattle.s10_link.specs.Link.{LeadsTo}
 use Rattle.s10_sockets.proofs.Looping.{HasDone}
 use Rattle.s10_sockets.proofs.loop_calls.ask_all.Given as goal
 
--- the calls so far were done
+-- The calls before this one were done.
 abbrev pub invariant-loop-body : goal.invariant-loop-body
 invariant-loop-body g l = record {
   done : HasDone l.fn.to l.fn.client l.client (take l.body-index l.bodies)
