@@ -1,4 +1,4 @@
--- What a job that words ask for needs of their options.
+-- Lemmas about the options that a job needs.
 use Rattle.std.proofs.Common.{◌≡◌, List, Bool, true, false, refl, subst, nat_eq, slice_index, ◌||◌}
 use Rattle.clap.specs.Words.{Row, Text}
 use Rattle.s10_jobs.specs.declared.job.Job.{Job}
@@ -7,7 +7,7 @@ use Rattle.s10_cli.specs.Options.{AreCallOptions}
 use Rattle.s10_cli.specs.Jobs.{AsksFor}
 use Rattle.s10_cli.specs.declared.call_options.CallOptions.{CallOptions}
 
--- the first letter is one of a subcommand that asks a server
+-- The first letter is that of a subcommand that calls a server.
 abbrev pub asks_server : Text → Bool
 asks_server name = let first = slice_index name 0 in
     nat_eq first 103 || nat_eq first 100 || nat_eq first 118 || nat_eq first 113 || nat_eq first 119
@@ -15,7 +15,7 @@ asks_server name = let first = slice_index name 0 in
 other : (name name' : Text) → name ≡ name' → asks_server name ≡ true → asks_server name' ≡ false → ⊥
 other name name' same is is_not = let is' = subst (λ (n : Text). asks_server n ≡ true) same is in cc
 
--- where no heading is given no question is asked
+-- Without the options of a call, no call is asked for.
 pub headless : (rows : List Row) → ((heading : CallOptions) → ¬ AreCallOptions rows heading)
     → (name : Text) → asks_server name ≡ true
     → (job : Job) → ¬ AsksFor name rows job

@@ -1,4 +1,4 @@
--- What words ask for, by what a parse found in them.
+-- Lemmas about what words ask for, by what a parse found in them.
 use Rattle.std.proofs.Common.{◌≡◌, ◌∙◌, sym, ap, ap₂, subst, refl, arith, slice_index, ℕ, List}
 use Rattle.std.proofs.Common.{Option, Some, None, Result}
 use Rattle.std.specs.Prelude.{codes, option_map, Box}
@@ -28,13 +28,13 @@ names m = go (out-ArgMatches m).subcommand
     go None = refl
     go (Some b) = refl
 
--- the subcommand that a parse entered
+-- The subcommand that a parse found.
 pub named_by : (m : ArgMatches) (name : Text) (rows : List Row) → Some name ≡ subcommand_name_of m
     → Some rows ≡ option_map (λ p. p.1) (subcommand_rows_of m) → subcommand_rows_of m
     ≡ Some (name, rows)
 named_by m name rows n r = one_pair (subcommand_rows_of m) name rows (n ∙ names m) r
 
--- what was done for the subcommand that a parse entered
+-- What was done for the subcommand that a parse found.
 pub done_named : (input rest old new : Option (List ℕ)) (m : ArgMatches) (name : Text)
     (rows : List Row) (answer : Option (Result JobStatus WriteFault))
     → Some name ≡ subcommand_name_of m → Some rows ≡ option_map (λ p. p.1) (subcommand_rows_of m)
@@ -44,11 +44,11 @@ done_named input rest old new m name rows answer n r done =
     subst (λ (o : Option (Text × List Row)). IsSubcommandDone input rest old new answer o)
     (sym (named_by m name rows n r)) done
 
--- a subcommand's name is no other's
+-- Two subcommands with different first letters have different names.
 apart : (name a b : Text) → name ≡ a → name ≡ b → (slice_index a 0 ≡ slice_index b 0 → ⊥) → ⊥
 apart name a b is e differ = differ (ap (λ (t : Text). slice_index t 0) (sym is ∙ e))
 
--- `make` was done
+-- `make` was run.
 pub done_make : (input rest old new : Option (List ℕ)) (name : Text) (rows : List Row)
     (done : Result JobStatus WriteFault) (service serial country : Text)
     → name ≡ codes "make" → service ≡ word rows (codes "service")

@@ -1,4 +1,4 @@
--- What the getters of the matches read, as the rows have it.
+-- Lemmas about the values that the getters of the matches read from the rows.
 use Rattle.std.proofs.Common.{◌≡◌, ◌∙◌, sym, ap, subst, refl, arith, ℕ, Bool, true, false, List}
 use Rattle.std.proofs.Common.{Option, Some, None, Result, Ok, Err}
 use Rattle.std.specs.Prelude.{◌<◌, ◌≤◌, ◌^◌, SomeIff, codes, unwrap_or, []}
@@ -93,7 +93,7 @@ no_word rows name none = go (first_of name rows) refl
     go None e = rw e refl
     go (Some text) e = absurd (none text e)
 
--- what is written to a new buffer, and read from one
+-- A new buffer adds nothing to what is written or read.
 pub no_more : (known : Option (List ℕ)) → append_known known [] ≡ known
 no_more None = refl
 no_more (Some held) = ap (λ (bytes : List ℕ). Some bytes) (append-nil held)

@@ -1,4 +1,4 @@
--- What a command line prints where it needs no file or socket, and with which status it ends.
+-- What a command line that needs no file or socket prints, and its exit status.
 use Rattle.std.specs.Prelude.{◌≡◌, ◌≢◌, ◌⊎◌, ℕ, Bool, List, codes, Option, Some, None, Result, Ok}
 use Rattle.std.specs.Prelude.{Err, IfOk, IsSomeAnd, option_map, unwrap_or, []}
 use Rattle.clap.specs.Words.{Row, Text, first_of, kind_of, subcommand_rows_of}
@@ -16,7 +16,7 @@ use Rattle.s10_grammar.specs.Grammar.{Parses}
 use Rattle.s10_cli.specs.Options.{Finds, HasSettings, IsFlag}
 use Rattle.s10_cli.specs.Printing.{Checks, MakesIdentifier, Replays, ShowsDatagram, EndsWithLine}
 
--- the exit status of a job; a failed output is a failure
+-- The exit status of a job. A failed output counts as `Failed`.
 abbrev pub exit_status : Result JobStatus WriteFault → ℕ
 exit_status (Ok Done) = 0
 exit_status (Ok Refused) = 1
@@ -24,19 +24,20 @@ exit_status (Ok CommandLine) = 2
 exit_status (Ok Failed) = 3
 exit_status (Err _) = 3
 
--- a word in its place; a parsed command line has each that is required
+-- The text of a required argument. A parsed command line has each of these.
 unfoldable pub word : List Row → List ℕ → List ℕ
 word rows name = unwrap_or (first_of name rows) []
 
--- what was read and what is left of it, what the output held before and after, and how the job ended, where it is one of these
+-- `input` and `rest` are what the reader has before and after. `old` and `new` are the contents of
+-- the output. `answer` is how the job ended, if it is one that ends here.
 module _ (input rest old new : Option (List ℕ))
     (answer : Option (Result JobStatus WriteFault)) where
-  -- a parsed command line has both settings within their limits
+  -- A parsed command line has both settings within their limits.
   abbrev pub ReplaysWith : Option Terms → Type 0
   ReplaysWith None = answer ≡ Some (Ok CommandLine)
   ReplaysWith (Some terms) = IsSomeAnd answer (λ done. Replays old new done terms input rest)
 
-  -- the subcommand of this name, with these rows, was done here, or is the program's
+  -- The subcommand with this name and these rows was run here, or is left to the program.
   pub record IsDone (name : List ℕ) (rows : List Row) : Type 0 where
     pub check : name ≡ codes "check" → (is_label : Bool) × IsFlag rows (codes "label") is_label
         × IsSomeAnd answer (λ done. Checks old new done is_label (word rows (codes "text")))
@@ -50,11 +51,12 @@ module _ (input rest old new : Option (List ℕ))
     pub left : name ≢ codes "check" → name ≢ codes "make" → name ≢ codes "show"
         → name ≢ codes "replay" → (answer ≡ None) × (new ≡ old)
 
+  -- The same for a subcommand that may not exist.
   abbrev pub IsSubcommandDone : Option (List ℕ × List Row) → Type 0
   IsSubcommandDone None = (answer ≡ None) × (new ≡ old)
   IsSubcommandDone (Some named) = IsDone named.0 named.1
 
--- help and the version were printed, or a fault told
+-- Help or the version was printed, or a fault or lack of memory was reported.
 pub record IsFaultPrinted (kind : ErrorKind) (old new : Option (List ℕ))
     (done : Result JobStatus WriteFault) : Type 0 where
   pub memory : kind ≡ OutOfMemory → EndsWithLine old new done Failed (codes "memory\n")
@@ -62,7 +64,7 @@ pub record IsFaultPrinted (kind : ErrorKind) (old new : Option (List ℕ))
   pub fault : kind ≢ OutOfMemory → kind ≢ DisplayHelp → kind ≢ DisplayVersion
       → IfOk done (λ ended. ended ≡ CommandLine) × (new ≡ old)
 
--- what was done for a command line that was parsed so
+-- What was done for a command line, by the result of its parse.
 abbrev pub IsRun : Result ArgMatches Error → Option (List ℕ) → Option (List ℕ) → Option (List ℕ)
     → Option (List ℕ) → Option ℕ → Type 0
 IsRun (Ok matches) input rest old new status = (answer : Option (Result JobStatus WriteFault))
@@ -71,7 +73,7 @@ IsRun (Ok matches) input rest old new status = (answer : Option (Result JobStatu
 IsRun (Err error) input rest old new status = (done : Result JobStatus WriteFault)
     × IsFaultPrinted (kind_of error) old new done × (status ≡ Some (exit_status done))
 
--- what was done for these words
+-- What was done for these words.
 pub record RunsLine (words : List Text) (input rest old new : Option (List ℕ)) (status : Option ℕ) :
     Type 0 where
   pub parsed : Result ArgMatches Error

@@ -1,4 +1,4 @@
--- Which job a subcommand asks of the program: which option gives which field.
+-- The job that a subcommand asks for: the option that gives each field.
 use Rattle.std.specs.Prelude.{◌≡◌, ℕ, List, [], Some, codes}
 use Rattle.clap.specs.Words.{Row, Text, fault_of, subcommand_of}
 use Rattle.s10_jobs.specs.declared.job.Job.{Job}
@@ -11,12 +11,13 @@ use Rattle.s10_grammar.specs.Grammar.{grammar}
 use Rattle.s10_cli.specs.Options.{Finds, HasText, HasNumber, HasSerial, HasSettings, HasCount}
 use Rattle.s10_cli.specs.Options.{HasTries, IsFlag}
 
--- the pair of a service and a country
+-- The texts of a service and a country.
 abbrev pub HasPair : List Row → List ℕ → List ℕ → Type 0
 HasPair rows service country = HasText rows (codes "service") service
     × HasText rows (codes "country") country
 
--- who asks: the post itself, or the customer that the words name
+-- The body, and the customer that asks: the post for a grant and a withdrawal, and the named
+-- customer otherwise.
 abbrev pub IsAskedBy : List ℕ → List Row → ℕ → BodyWords → Type 0
 IsAskedBy name rows customer (Grant holder service country first last) = (name ≡ codes "grant")
     × (customer ≡ 0)
@@ -35,13 +36,13 @@ IsAskedBy name rows customer (Void id) = (name ≡ codes "void") × HasNumber ro
 IsAskedBy name rows customer (Query id) = (name ≡ codes "query") × HasNumber rows (codes "customer")
     customer × HasText rows (codes "id") id.now
 
--- what is asked of which server, and how often
+-- The request to a server, with its address, its number and its tries.
 abbrev pub IsQuestion : List ℕ → List Row → Question → Type 0
 IsQuestion name rows question = HasText rows (codes "to") question.to.now
     × HasNumber rows (codes "number") question.number
     × HasTries rows question.tries × IsAskedBy name rows question.customer question.body
 
--- the subcommand of this name, with these rows, asks for the job
+-- The subcommand with this name and these rows asks for the job.
 abbrev pub AsksFor : List ℕ → List Row → Job → Type 0
 AsksFor name rows (Create ledger settings) = (name ≡ codes "create") × HasText rows (codes "ledger")
     ledger.now × HasSettings rows settings
@@ -56,7 +57,7 @@ AsksFor name rows (Report ledger is_of_issues day) = (name ≡ codes "report")
 AsksFor name rows (Audit ledger) = (name ≡ codes "audit") × HasText rows (codes "ledger") ledger.now
 AsksFor name rows (Loop day) = (name ≡ codes "loop") × Finds (HasNumber rows (codes "day")) day
 
--- the words are a command line without a fault, and name a subcommand that asks for the job
+-- The words are a command line without a fault, and name a subcommand that asks for the job.
 pub record AsksInWords (words : List Text) (job : Job) : Type 0 where
   pub faultless : fault_of grammar words ≡ []
   pub name : Text

@@ -1,4 +1,4 @@
--- What the options of a subcommand say, by the rows that a command line gave it.
+-- The values of the options of a subcommand, by the rows that a command line gives it.
 use Rattle.std.specs.Prelude.{◌≡◌, ◌<◌, ◌≤◌, ◌^◌, ℕ, Bool, true, false, List, Option, Some, None}
 use Rattle.std.specs.Prelude.{codes, MatchOption}
 use Rattle.std.specs.Str.Parse.{IsNumeral, digits_value, without_leading_plus}
@@ -9,52 +9,52 @@ use Rattle.s10_wire.specs.Ids.{IsCount}
 use Rattle.s10_history.specs.Settings.{Terms, AreTerms}
 use Rattle.s10_cli.specs.declared.call_options.CallOptions.{CallOptions}
 
--- the rows that were found
+-- The rows that were found.
 abbrev pub rows_in : ArgMatches → List Row
 rows_in found = rows_of (found_of found)
 
--- the answer is such a value, and there is none only where no value is such
+-- The answer is such a value. It is `None` only if there is no such value.
 abbrev pub Finds : {T : Type 0} → (T → Type 0) → Option T → Type 0
 Finds {T} Is answer = MatchOption answer ((value : T) → ¬ Is value) Is
 
--- the option was given this text, first where it was given more
+-- The option was given this text, the first if it was given several times.
 unfoldable pub HasText : List Row → List ℕ → List ℕ → Type 0
 HasText rows name text = first_of name rows ≡ Some text
 
--- the text writes this number, which fits 32 bits
+-- The text is this number in decimal, perhaps after a `+`, and the number fits in 32 bits.
 abbrev pub WritesNumber : List ℕ → ℕ → Type 0
 WritesNumber text number = IsNumeral 10 (without_leading_plus text)
     × (digits_value 10 (without_leading_plus text) ≡ number) × (number < 2 ^ 32)
 
--- the option was given this number
+-- The option was given this number.
 unfoldable pub HasNumber : List Row → List ℕ → ℕ → Type 0
 HasNumber rows name number = (text : List ℕ) × (one_of name rows ≡ Some text)
     × WritesNumber text number
 
--- whether the flag was given
+-- Whether the flag was given.
 unfoldable pub IsFlag : List Row → List ℕ → Bool → Type 0
 IsFlag rows name is_given = (one_of name rows ≡ Some (codes "true") → is_given ≡ true)
     × (one_of name rows ≡ Some (codes "false") → is_given ≡ false) × (one_of name rows ≡ None
     → is_given ≡ false)
 
--- the settings of a ledger
+-- The settings of a ledger, within their limits.
 abbrev pub HasSettings : List Row → Terms → Type 0
 HasSettings rows terms = HasNumber rows (codes "interval") terms.interval
     × HasNumber rows (codes "limit") terms.limit × AreTerms terms
 
--- how many identifiers a sheet has
+-- The number of identifiers of a sheet, 1 to 16.
 abbrev pub HasCount : List Row → ℕ → Type 0
 HasCount rows count = HasNumber rows (codes "count") count × IsCount count
 
--- how often a question is asked at most
+-- The maximum number of tries of a call, 1 to 100.
 abbrev pub HasTries : List Row → ℕ → Type 0
 HasTries rows tries = HasNumber rows (codes "tries") tries × (1 ≤ tries) × (tries ≤ 100)
 
--- a serial number
+-- A serial, 0 to 99999999.
 abbrev pub HasSerial : List Row → List ℕ → ℕ → Type 0
 HasSerial rows name serial = HasNumber rows name serial × IsSerial serial
 
--- which server is asked, under which number, and how often at most
+-- The server, the number and the tries of a request.
 abbrev pub AreCallOptions : List Row → CallOptions → Type 0
 AreCallOptions rows heading = HasText rows (codes "to") heading.to.now
     × HasNumber rows (codes "number") heading.number × HasTries rows heading.tries

@@ -19,19 +19,19 @@ use Rattle.s10_jobs.specs.Replay.{Replayed, ReportsReplay}
 use Rattle.s10_jobs.specs.Shown.{IsShown, Prints}
 use Rattle.s10_jobs.specs.Words.{text_fault_words}
 
--- what the output held before a job and after it, and how the job ended
+-- `old` and `new` are the contents of the output before and after a job. `done` is how it ended.
 module _ (old new : Option (List ℕ)) (done : Result JobStatus WriteFault) where
-  -- it ended with this status, and printed this line
+  -- The job ended with this status, and printed this line.
   abbrev pub EndsWithLine : JobStatus → List ℕ → Type 0
   EndsWithLine status line = IfOk done (λ ended. (ended ≡ status) × Appends old new line)
 
-  -- the text was checked
+  -- The text was checked.
   pub record Checks (is_label : Bool) (text : List ℕ) : Type 0 where
     pub valid : (id : Id) → Spells (text_read is_label text) id → EndsWithLine Done (valid_line id)
     pub refused : (fault : TextFault) → IsFirstRefusal (text_read is_label text) fault
         → EndsWithLine Refused (refused_line (text_fault_words fault))
 
-  -- the identifier of these parts was written, or the first part that is wrong
+  -- The identifier of these parts was written, or the first part that is invalid.
   pub record MakesIdentifier (service serial country : List ℕ) : Type 0 where
     pub made : AreTwoCapitals service → AreEightDigits serial → AreTwoCapitals country
         → EndsWithLine Done (made_line service serial country)
@@ -42,13 +42,13 @@ module _ (old new : Option (List ℕ)) (done : Result JobStatus WriteFault) wher
     pub no_country : AreTwoCapitals service → AreEightDigits serial → ¬ AreTwoCapitals country
         → EndsWithLine Refused (refused_line (codes "country" ∷ []))
 
-  -- the datagram of these digits was shown
+  -- The datagram with these digits was shown.
   pub record ShowsDatagram (digits : List ℕ) : Type 0 where
     pub hex : bytes_in digits ≡ None → EndsWithLine Refused (refused_line (codes "hex" ∷ []))
     pub datagram : (bytes : List ℕ) → bytes_in digits ≡ Some bytes
         → IfOk done (λ ended. Prints old new (IsShown bytes ended))
 
-  -- an input was replayed over an empty ledger with these settings, and this is left of it
+  -- The input was replayed over an empty ledger with these settings. `rest` is what remains of it.
   abbrev pub Replays : Terms → Option (List ℕ) → Option (List ℕ) → Type 0
   Replays terms input rest = IfSome input (λ bytes. IfSome old (λ held.
       (after : List Entry) × (replayed : Result ℕ ReplayFault) × (between : Option (List ℕ))

@@ -1,4 +1,4 @@
-//! The job that `audit` asks for.
+//! Reads the job of a command line with `audit`.
 ghost use Rattle.std.specs.Prelude.{codes};
 ghost use Rattle.s10_cli.specs.Options.{rows_in, Finds};
 ghost use Rattle.s10_cli.specs.Jobs.{AsksFor};
@@ -7,8 +7,10 @@ use crate::option_values::text_of;
 use clap::ArgMatches;
 use s10_jobs::Job;
 
-/// The audit that the words ask for. `None` where an option that it needs is missing or its number is out of range, which
-/// matches of the command itself never are.
+/// Returns the audit that the words of `audit` ask for.
+///
+/// Returns `None` if a required option is missing or its number is out of range. Neither occurs in
+/// a command line that `parse` accepted.
 pub fn audit_job<'a>(found: &ArgMatches<'a>) -> Option<Job<'a>>
     ensures { Finds (AsksFor (codes "audit") (rows_in found.now)) result }
 {

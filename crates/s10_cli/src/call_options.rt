@@ -1,19 +1,23 @@
-//! What the words of every question say.
+//! Reads the options that every request to a server has.
 ghost use Rattle.s10_cli.specs.Options.{rows_in, Finds, AreCallOptions};
 
 use crate::option_values::{number_of, text_of, tries_of};
 use clap::ArgMatches;
 use s10_jobs::Tries;
 
-/// Which server is asked, under which number, and how often at most.
+/// The server, the number and the tries of a request.
 #[derive(Clone, Copy)]
 pub struct CallOptions<'a> {
+    /// The address of the server, as it was given.
     pub to: &'a str,
+    /// The number of the request.
     pub number: u32,
+    /// The maximum number of tries.
     pub tries: Tries,
 }
 
-/// The server, the number and the tries of a question.
+/// Returns the server, the number and the tries of a request, or `None` if an option is missing or
+/// out of range.
 pub fn call_options_of<'a>(found: &ArgMatches<'a>) -> Option<CallOptions<'a>>
     ensures { Finds (AreCallOptions (rows_in found.now)) result }
 {

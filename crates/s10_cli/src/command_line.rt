@@ -1,4 +1,4 @@
-//! A command line, from its words to its exit status.
+//! Runs a command line, from its words to its exit status.
 ghost use Rattle.std.specs.Prelude.{◌≡◌, ℕ, List, Option, map, IfOk};
 ghost use Rattle.std.specs.Io.KnownBytes.{Keeps};
 ghost use Rattle.clap.specs.Words.{kind_of, subcommand_rows_of};
@@ -18,13 +18,13 @@ use std::convert::AsStr;
 use std::io;
 use std::io::{BufReader, BufWriter, Read, Write};
 
-/// Does the subcommands `check`, `make`, `show` and `replay`, and answers the exit status, also that of a fault of
-/// the command line, of help and of the version, whichever subcommand it is about.
+/// Runs the subcommands `check`, `make`, `show` and `replay`, and returns the exit status.
 ///
-/// `words` begins with the program's name. For words that parse as another subcommand nothing is
-/// written and the answer is `None`: that one is the program's. A fault of the command line goes
-/// to standard error, and all else to `output`, which the caller flushes. Where memory runs out
-/// the line is `memory`.
+/// `words` begins with the program's name. If they name another subcommand, nothing is written, and
+/// `None` is returned: the program runs that one. For each subcommand, help, the version and faults
+/// of the command line end here, with their status. A fault of the command line goes to standard
+/// error, everything else to `output`, which the caller flushes. If memory is lacking, the line is
+/// `memory`.
 pub fn run_line<R: Eprint + AllocGlobal, S: AsStr, I: Read, O: Write>(
     rt: &R,
     words: &[S],
@@ -52,8 +52,14 @@ fn status_of(done: Result<JobStatus, WriteFault>) -> u8
     }
 }
 
-/// Runs a command line over buffers, writes out what is left in them, and hands the output back with the exit status.
-/// `None` where it asks for a job of the program's.
+/// Runs a command line over buffers, flushes them, and returns the exit status with the output.
+///
+/// The status is `None` if the words ask for a job of the program.
+///
+/// # Errors
+///
+/// - An error of kind `OutOfMemory` if a buffer cannot be allocated.
+/// - The error of the writer if a write or the flush fails.
 pub fn run_buffered<R, S, I, O>(
     rt: &R,
     words: &[S],
@@ -123,7 +129,7 @@ fn run_named<I: Read, O: Write>(
     }
 }
 
-// The value of a required argument, which a parsed command line has.
+// Returns the value of a required argument. A parsed command line has one.
 fn value_of<'a>(found: &ArgMatches<'a>, id: &str) -> &'a str
     ensures { result.now ≡ word (rows_in found.now) id.now }
 {

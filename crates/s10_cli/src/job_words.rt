@@ -1,4 +1,4 @@
-//! Jobs, as words of a command line.
+//! Reads a job from the words of a command line.
 ghost use Rattle.std.specs.Prelude.{map, IfOk};
 ghost use Rattle.s10_cli.specs.Options.{rows_in, Finds};
 ghost use Rattle.s10_cli.specs.Jobs.{AsksFor, AsksInWords};
@@ -20,8 +20,13 @@ use s10_jobs::Job;
 use std::alloc::{AllocError, Global};
 use std::convert::AsStr;
 
-/// What words that `run_line` left to the program ask of it. `words` begins with the program's
-/// name. `None` for words that ask for no job.
+/// Returns the job that words ask for, or `None` if they ask for no job.
+///
+/// `words` begins with the program's name.
+///
+/// # Errors
+///
+/// `AllocError` if memory is lacking.
 pub fn parse_job<'a, S: AsStr>(alloc: Global, words: &'a [S]) -> Result<Option<Job<'a>>, AllocError>
     ensures { IfOk result (Finds (AsksInWords (map S.text words.entry.now))) }
 {
@@ -39,8 +44,10 @@ pub fn parse_job<'a, S: AsStr>(alloc: Global, words: &'a [S]) -> Result<Option<J
     }
 }
 
-/// What the subcommand of this name asks for, by what was found in its words. `None` for a name that is no job's, and
-/// where an option that the job needs is missing or its number is out of range.
+/// Returns the job of a subcommand, from the options found for it.
+///
+/// Returns `None` if no job has this name, or if a required option is missing or its number is out
+/// of range.
 pub fn job_of<'a>(name: &str, found: &ArgMatches<'a>) -> Option<Job<'a>>
     ensures { Finds (AsksFor name.now (rows_in found.now)) result }
 {

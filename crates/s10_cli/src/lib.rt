@@ -1,4 +1,4 @@
-//! The jobs that a command line of `s10` asks for, and the lines and statuses that need no file or socket.
+//! Reads jobs from a command line of `s10`, and runs the subcommands that need no file or socket.
 #![tactic(auto)]
 
 mod audit_job;

@@ -1,4 +1,4 @@
-//! The job that `loop` asks for.
+//! Reads the job of a command line with `loop`.
 ghost use Rattle.std.specs.Prelude.{codes};
 ghost use Rattle.s10_cli.specs.Options.{rows_in};
 ghost use Rattle.s10_cli.specs.Jobs.{AsksFor};
@@ -7,7 +7,7 @@ use crate::option_values::number_of;
 use clap::ArgMatches;
 use s10_jobs::Job;
 
-/// The loop that the words ask for.
+/// Returns the loop that the words ask for.
 pub fn loop_job<'a>(found: &ArgMatches<'a>) -> Job<'a>
     ensures { AsksFor (codes "loop") (rows_in found.now) result }
 {

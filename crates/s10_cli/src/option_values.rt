@@ -1,4 +1,4 @@
-//! What the options of a parsed command line say.
+//! Reads the options of a parsed command line.
 ghost use Rattle.std.specs.Prelude.{option_map};
 ghost use Rattle.s10_cli.specs.Options.{rows_in, Finds, HasText, HasNumber, IsFlag, HasSerial};
 ghost use Rattle.s10_cli.specs.Options.{HasSettings, HasCount, HasTries};
@@ -9,32 +9,34 @@ use s10_history::Settings;
 use s10_jobs::Tries;
 use s10_wire::Count;
 
-/// The customer number of the post, which alone can grant and withdraw.
+/// The customer number of the post, the only customer that may grant and withdraw.
 pub const POST: u32 = 0;
 
-/// The text of an option.
+/// Returns the first text of an option, or `None` if it was not given.
 pub fn text_of<'a>(found: &ArgMatches<'a>, name: &str) -> Option<&'a str>
     ensures { Finds (HasText (rows_in found.now) name.now) (option_map (λ s. s.now) result) }
 {
     found.get_str(name)
 }
 
-/// The number of an option.
+/// Returns the first number of an option, or `None` if it was not given or is not a number of 32
+/// bits.
 pub fn number_of(found: &ArgMatches<'_>, name: &str) -> Option<u32>
     ensures { Finds (HasNumber (rows_in found.now) name.now) result }
 {
     found.get_one::<u32>(name)
 }
 
-/// Whether a flag was given.
+/// Returns whether a flag was given.
 pub fn flag_of(found: &ArgMatches<'_>, name: &str) -> bool
     ensures { IsFlag (rows_in found.now) name.now result }
 {
     found.get_flag(name)
 }
 
-/// The settings of a ledger, which a parsed command line with both options has within their
-/// limits.
+/// Returns the settings of a ledger, or `None` if an option is missing or out of its limits.
+///
+/// A parsed command line that has both options has them within their limits.
 pub fn settings_of(found: &ArgMatches<'_>) -> Option<Settings>
     ensures { Finds (HasSettings (rows_in found.now)) result }
 {
@@ -43,14 +45,14 @@ pub fn settings_of(found: &ArgMatches<'_>) -> Option<Settings>
     Settings::new(interval, limit)
 }
 
-/// The serial number of an option.
+/// Returns the serial of an option, or `None` if it was not given or is not 0 to 99999999.
 pub fn serial_of(found: &ArgMatches<'_>, name: &str) -> Option<Serial>
     ensures { Finds (HasSerial (rows_in found.now) name.now) result }
 {
     Serial::new(number_of(found, name)?)
 }
 
-/// How many identifiers a sheet has, where one is asked for.
+/// Returns the number of identifiers of a sheet, 1 to 16, or `None` if no sheet is asked for.
 pub fn count_of(found: &ArgMatches<'_>) -> Option<Count>
     ensures { Finds (HasCount (rows_in found.now)) result }
 {
@@ -61,7 +63,7 @@ pub fn count_of(found: &ArgMatches<'_>) -> Option<Count>
     Count::new(count)
 }
 
-/// How often a question is asked at most.
+/// Returns the maximum number of tries of a call, or `None` if it was not given or is not 1 to 100.
 pub fn tries_of(found: &ArgMatches<'_>) -> Option<Tries>
     ensures { Finds (HasTries (rows_in found.now)) result }
 {

@@ -1,4 +1,4 @@
-//! The job that `query` asks for.
+//! Reads the job of a command line with `query`.
 ghost use Rattle.std.specs.Prelude.{codes};
 ghost use Rattle.s10_cli.specs.Options.{rows_in, Finds};
 ghost use Rattle.s10_cli.specs.Jobs.{AsksFor};
@@ -8,8 +8,10 @@ use crate::option_values::{number_of, text_of};
 use clap::ArgMatches;
 use s10_jobs::{BodyWords, Job, Question};
 
-/// The request that the words ask. `None` where an option that it needs is missing or its number is out of range, which
-/// matches of the command itself never are.
+/// Returns the query of an identifier that the words of `query` ask for.
+///
+/// Returns `None` if a required option is missing or its number is out of range. Neither occurs in
+/// a command line that `parse` accepted.
 pub fn query_job<'a>(found: &ArgMatches<'a>) -> Option<Job<'a>>
     ensures { Finds (AsksFor (codes "query") (rows_in found.now)) result }
 {

@@ -1,4 +1,4 @@
-//! The job that `serve` asks for.
+//! Reads the job of a command line with `serve`.
 ghost use Rattle.std.specs.Prelude.{codes};
 ghost use Rattle.s10_cli.specs.Options.{rows_in, Finds};
 ghost use Rattle.s10_cli.specs.Jobs.{AsksFor};
@@ -7,8 +7,10 @@ use crate::option_values::{number_of, text_of};
 use clap::ArgMatches;
 use s10_jobs::Job;
 
-/// The serving that the words ask for. `None` where an option that it needs is missing or its number is out of range, which
-/// matches of the command itself never are.
+/// Returns the job of serving a ledger that the words of `serve` ask for.
+///
+/// Returns `None` if a required option is missing or its number is out of range. Neither occurs in
+/// a command line that `parse` accepted.
 pub fn serve_job<'a>(found: &ArgMatches<'a>) -> Option<Job<'a>>
     ensures { Finds (AsksFor (codes "serve") (rows_in found.now)) result }
 {
