@@ -1,4 +1,4 @@
--- How a command grows.
+-- Lemmas about a command to which arguments and subcommands are added.
 use Rattle.std.proofs.Common.{◌≡◌, ◌∙◌, ap, subst, refl, inl, true, List, Result, Ok, Err, IfOk}
 use Rattle.std.proofs.lemmas.Result.{IfOk-weaker}
 use Rattle.std.specs.declared.alloc.AllocError.{AllocError}
@@ -13,7 +13,7 @@ use Rattle.clap.specs.declared.builder.command.Command.{Command}
 use Rattle.s10_grammar.specs.Grammar.{AddsCommand, AddsRule, Follows, Parses, Reads, ReadsAs}
 use Rattle.s10_grammar.specs.Grammar.{grammar}
 
--- one more argument
+-- One more argument.
 pub adds : {old new : Command} {arg : Arg} {app : App} {rule : Rule} → AddsArg old arg new
     → Reads old app → Follows arg rule → Reads new (with_rule app rule)
 adds {old} {new} {arg} {app} {rule} added reads follows = (
@@ -27,7 +27,7 @@ pub adds_rule : (old : Command) (arg : Arg) (new : Result Command AllocError)
 adds_rule old arg (Ok new) added app rule reads follows = adds added reads follows
 adds_rule old arg (Err e) added app rule reads follows = tt
 
--- one more subcommand
+-- One more subcommand.
 pub adds_command : {old sub new : Command} {app : App} {shape : Shape} → AddsSubcommand old sub new
     → Reads old app → ReadsAs sub shape → Reads new (with_subcommand app shape)
 adds_command {old} {sub} {new} {app} {shape} added reads is = (
@@ -49,7 +49,7 @@ grammar_is_free : is_simple_and_free grammar ≡ true
 unfolding grammar
 grammar_is_free = refl
 
--- a parse by a command that reads so
+-- A parse by a command that reads by the grammar.
 pub parses : (command : Command) (words : List Text) (parsed : Result ArgMatches Error)
     → Reads command grammar
     → IfOk parsed (HasMatchesOf (app_of command) words)
@@ -67,7 +67,7 @@ parses command words parsed reads matches kinds =
       fault = fails grammar_is_free;
     }
 
--- a parse for which there was no memory
+-- A parse for which memory was lacking.
 pub parses_nothing : (words : List Text) (error : Error) → kind_of error ≡ OutOfMemory
     → Parses words (Err error)
 parses_nothing words error is = record { own = tt; named = tt; fault = inl is }

@@ -1,4 +1,4 @@
--- What a command line may say: the subcommands, and the words and options of each.
+-- The grammar of the command line: its subcommands, and the words and options of each.
 use Rattle.std.specs.Prelude.{◌≡◌, ℕ, pos, true, false, List, [], ◌∷◌, Some, codes, Result, IfOk}
 use Rattle.std.specs.declared.alloc.AllocError.{AllocError}
 use Rattle.clap.specs.Words.{App, FailsBy, Rule, Shape, Text, app_of, fault_of, found_of}
@@ -14,77 +14,90 @@ use Rattle.clap.specs.declared.error.Error.{Error}
 use Rattle.clap.specs.declared.parser.matches.ArgMatches.{ArgMatches}
 use Rattle.s10_history.specs.declared.settings.TheConstants.{MAX_INTERVAL, MAX_LIMIT}
 
--- a word in its place
+-- A required argument that is given by its position.
 abbrev pub a_word : Text → Rule
 a_word name = record (new_rule name) { value_names = 1; required = true }
 
--- an option without a value
+-- An option without a value.
 abbrev pub a_flag : Text → Rule
 a_flag name = record (new_rule name) { long = Some name; action = Some SetTrue }
 
--- an option with a value
+-- An option with a value.
 abbrev pub an_option : Text → Rule
 an_option name = record (new_rule name) { long = Some name; value_names = 1 }
 
--- the value is a number from `least` to `most`
+-- The value is a number from `least` to `most`.
 abbrev pub between : ℕ → ℕ → Rule → Rule
 between least most rule = record rule { parser = Some (Signed (pos least) (pos most)) }
 
--- the option may be left out, and then has this value
+-- The option may be left out. It then has this value.
 abbrev pub or_else : Text → Rule → Rule
 or_else value rule = record rule { defaults = value ∷ [] }
 
--- the option has to be given
+-- The option is required.
 abbrev pub needed : Rule → Rule
 needed rule = record rule { required = true }
 
+-- A required option with a text.
 abbrev pub a_text : Text → Rule
 a_text name = needed (an_option name)
 
--- a number of 32 bits
+-- The value is a number of 32 bits.
 abbrev pub whole : Rule → Rule
 whole rule = between 0 4294967295 rule
 
+-- A required option with a number of 32 bits.
 abbrev pub a_number : Text → Rule
 a_number name = whole (a_text name)
 
+-- The option `--interval`, in days.
 abbrev pub interval : Rule
 interval = between 1 MAX_INTERVAL (an_option (codes "interval"))
 
+-- The option `--limit`: a maximum number of calls.
 abbrev pub limit : Rule
 limit = between 1 MAX_LIMIT (an_option (codes "limit"))
 
+-- The option `--day`, which may be left out.
 abbrev pub day : Rule
 day = whole (an_option (codes "day"))
 
+-- The option `--tries`, which is 5 if it is left out.
 abbrev pub tries : Rule
 tries = or_else (codes "5") (between 1 100 (an_option (codes "tries")))
 
--- a subcommand with these words and options
+-- A subcommand with these words and options.
 abbrev pub says : Text → List Rule → Shape
 says name rules = record (new_shape name) { rules = rules }
 
+-- The subcommand `check`.
 abbrev pub check_shape : Shape
 check_shape = says (codes "check") (a_flag (codes "label") ∷ a_word (codes "text") ∷ [])
 
+-- The subcommand `make`.
 abbrev pub make_shape : Shape
 make_shape = says (codes "make") (a_word (codes "service") ∷ a_word (codes "serial")
     ∷ a_word (codes "country") ∷ [])
 
+-- The subcommand `show`.
 abbrev pub show_shape : Shape
 show_shape = says (codes "show") (a_word (codes "hex") ∷ [])
 
+-- The subcommand `replay`.
 abbrev pub replay_shape : Shape
 replay_shape = says (codes "replay") (or_else (codes "30") interval ∷ or_else (codes "1000000")
     limit ∷ [])
 
+-- The subcommand `create`.
 abbrev pub create_shape : Shape
 create_shape = says (codes "create") (a_text (codes "ledger") ∷ needed interval ∷ needed limit ∷ [])
 
+-- The subcommand `serve`.
 abbrev pub serve_shape : Shape
 serve_shape = says (codes "serve") (a_text (codes "ledger") ∷ a_text (codes "bind")
     ∷ a_number (codes "count") ∷ day ∷ [])
 
+-- The subcommand `grant`.
 abbrev pub grant_shape : Shape
 grant_shape = says (codes "grant") (a_text (codes "to") ∷ a_number (codes "number")
     ∷ a_number (codes "holder")
@@ -92,33 +105,41 @@ grant_shape = says (codes "grant") (a_text (codes "to") ∷ a_number (codes "num
     ∷ between 0 99999999 (a_text (codes "first")) ∷ between 0 99999999 (a_text (codes "last"))
     ∷ tries ∷ [])
 
+-- The subcommand `draw`.
 abbrev pub draw_shape : Shape
 draw_shape = says (codes "draw") (a_text (codes "to") ∷ a_number (codes "customer")
     ∷ a_number (codes "number")
     ∷ a_text (codes "service") ∷ a_text (codes "country") ∷ between 1 16 (an_option (codes "count"))
     ∷ tries ∷ [])
 
+-- The subcommand `void`.
 abbrev pub void_shape : Shape
 void_shape = says (codes "void") (a_text (codes "to") ∷ a_number (codes "customer")
     ∷ a_number (codes "number") ∷ a_text (codes "id") ∷ tries ∷ [])
 
+-- The subcommand `query`.
 abbrev pub query_shape : Shape
 query_shape = says (codes "query") (a_text (codes "to") ∷ a_number (codes "customer")
     ∷ a_number (codes "number") ∷ a_text (codes "id") ∷ tries ∷ [])
 
+-- The subcommand `withdraw`.
 abbrev pub withdraw_shape : Shape
 withdraw_shape = says (codes "withdraw") (a_text (codes "to") ∷ a_number (codes "number")
     ∷ a_number (codes "range") ∷ tries ∷ [])
 
+-- The subcommand `report`.
 abbrev pub report_shape : Shape
 report_shape = says (codes "report") (a_text (codes "ledger") ∷ a_flag (codes "issues") ∷ day ∷ [])
 
+-- The subcommand `audit`.
 abbrev pub audit_shape : Shape
 audit_shape = says (codes "audit") (a_text (codes "ledger") ∷ [])
 
+-- The subcommand `loop`.
 abbrev pub loop_shape : Shape
 loop_shape = says (codes "loop") (day ∷ [])
 
+-- The program without its subcommands: it requires one, and prints its help without words.
 abbrev pub top_shape : Shape
 top_shape = record (new_shape (codes "s10")) {
   has_version = true;
@@ -126,7 +147,7 @@ top_shape = record (new_shape (codes "s10")) {
   subcommand_required = true;
 }
 
--- the whole command line
+-- The whole command line.
 unfoldable pub grammar : App
 grammar = record {
   top = record top_shape { is_leaf = false };
@@ -135,43 +156,45 @@ grammar = record {
       ∷ void_shape ∷ query_shape ∷ withdraw_shape ∷ report_shape ∷ audit_shape ∷ loop_shape ∷ [];
 }
 
--- the argument follows this rule, in its own command alone
+-- The argument follows this rule, and only in its own command.
 abbrev pub Follows : Arg → Rule → Type 0
 Follows arg rule = (rule_of arg ≡ rule) × (arg.global ≡ false)
 
--- a command reads words so
+-- The command reads words by this grammar.
 abbrev pub Reads : Command → App → Type 0
 Reads command app = (app_of command ≡ app) × ((fields_of command).has_globals ≡ false)
 
--- a subcommand reads words so
+-- The subcommand reads words by this shape.
 abbrev pub ReadsAs : Command → Shape → Type 0
 ReadsAs command shape = Reads command (record { top = shape; subs = [] })
 
--- the command reads as before, and these rules more
+-- The grammar with these rules added.
 abbrev pub with_rules : App → List Rule → App
 with_rules app [] = app
 with_rules app (rule ∷ rules) = with_rules (with_rule app rule) rules
 
--- a command, where there was memory for it, reads words so
+-- If memory was not lacking, the command reads words by this grammar.
 abbrev pub IfReads : Result Command AllocError → App → Type 0
 IfReads command app = IfOk command (λ built. Reads built app)
 
--- the new command reads as the old one, and the argument's rule more
+-- The new command reads as the old one, with the rule of the argument added.
 abbrev pub AddsRule : Result Command AllocError → Arg → Result Command AllocError → Type 0
 AddsRule old arg new = (app : App) (rule : Rule) → IfReads old app → Follows arg rule
     → IfReads new (with_rule app rule)
 
+-- The new command reads as the old one, with these rules added.
 abbrev pub AddsRules : Result Command AllocError → List Rule → Result Command AllocError → Type 0
 AddsRules old rules new = (app : App) → IfReads old app → IfReads new (with_rules app rules)
 
--- the new command reads as the old one, and the subcommand more
+-- The new command reads as the old one, with the subcommand added.
 abbrev pub AddsCommand : Result Command AllocError → Result Command AllocError
     → Result Command AllocError → Type 0
 AddsCommand old subcommand new = (app : App) (shape : Shape) → IfReads old app
     → IfOk subcommand (λ built. ReadsAs built shape)
     → IfReads new (with_subcommand app shape)
 
--- how a parse of the words ends: with the matches of the grammar, or with a fault that it gives at them, or for lack of memory
+-- A parse of the words returns the matches of the grammar, a fault that it gives for them, or lack
+-- of memory.
 pub record Parses (words : List Text) (parsed : Result ArgMatches Error) : Type 0 where
   pub own : IfOk parsed (λ matches. rows_of (found_of matches) ≡ matches_of grammar words)
   pub named : IfOk parsed (λ matches. subcommand_rows_of matches ≡ subcommand_of grammar words)

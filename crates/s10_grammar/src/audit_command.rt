@@ -1,4 +1,4 @@
-//! The subcommand `audit`.
+//! Builds the subcommand `audit`.
 ghost use Rattle.std.specs.Prelude.{IfOk};
 ghost use Rattle.s10_grammar.specs.Grammar.{ReadsAs, audit_shape};
 
@@ -7,7 +7,11 @@ use crate::options::ledger_option;
 use clap::Command;
 use std::alloc::{AllocError, Global};
 
-/// What `audit` may say.
+/// Builds the subcommand `audit`, with its words, its options and its help.
+///
+/// # Errors
+///
+/// `AllocError` if memory is lacking.
 pub fn audit_command<'a>(alloc: Global) -> Result<Command<'a>, AllocError>
     ensures { IfOk result (λ command. ReadsAs command audit_shape) }
 {

@@ -1,4 +1,4 @@
-//! Builders of commands and of their arguments.
+//! Builds commands and their arguments.
 ghost use Rattle.std.specs.Prelude.{◌≡◌, Some};
 ghost use Rattle.clap.specs.Words.{new_app};
 ghost use Rattle.clap.specs.declared.builder.texts.Texts.TheVariants.{One};
@@ -8,14 +8,18 @@ ghost use Rattle.s10_grammar.specs.Grammar.{a_number, a_text, a_word, an_option,
 use clap::{Arg, ArgAction, Command, value_parser};
 use std::alloc::{AllocError, Global};
 
-/// A command without arguments, and what its help says.
+/// Builds a command without arguments, with the texts of its help.
 pub fn named<'a>(alloc: Global, name: &'a str, about: &'a str, examples: &'a str) -> Command<'a>
     ensures { Reads result (new_app name.entry.now) }
 {
     Command::new(alloc, name).about(about).after_help(examples)
 }
 
-/// The command with one more argument, where there was memory for the command.
+/// Adds an argument to a command.
+///
+/// # Errors
+///
+/// `AllocError` if `command` is that error, or if memory is lacking.
 pub fn with<'a>(
     command: Result<Command<'a>, AllocError>,
     arg: Arg<'a>,
@@ -28,7 +32,11 @@ pub fn with<'a>(
     }
 }
 
-/// The command with one more subcommand, where there was memory for both.
+/// Adds a subcommand to a command.
+///
+/// # Errors
+///
+/// `AllocError` if `command` or `subcommand` is that error, or if memory is lacking.
 pub fn with_subcommand<'a>(
     command: Result<Command<'a>, AllocError>,
     subcommand: Result<Command<'a>, AllocError>,
@@ -44,7 +52,7 @@ pub fn with_subcommand<'a>(
     }
 }
 
-/// A word that has to be given in its place.
+/// Builds a required argument that is given by its position.
 pub fn word<'a>(alloc: Global, name: &'a str, value: &'a str, help: &'a str) -> Arg<'a>
     ensures { Follows result (a_word name.entry.now) }
 {
@@ -52,7 +60,7 @@ pub fn word<'a>(alloc: Global, name: &'a str, value: &'a str, help: &'a str) -> 
     arg.required(true)
 }
 
-/// An option without a value.
+/// Builds an option without a value.
 pub fn flag<'a>(alloc: Global, name: &'a str, help: &'a str) -> Arg<'a>
     ensures { Follows result (a_flag name.entry.now) }
 {
@@ -60,7 +68,7 @@ pub fn flag<'a>(alloc: Global, name: &'a str, help: &'a str) -> Arg<'a>
     arg.action(ArgAction::SetTrue)
 }
 
-/// An option with a value.
+/// Builds an option with a value.
 pub fn option<'a>(alloc: Global, name: &'a str, value: &'a str, help: &'a str) -> Arg<'a>
     ensures { Follows result (an_option name.entry.now) }
 {
@@ -74,21 +82,21 @@ fn valued<'a>(arg: Arg<'a>, value: &'a str, help: &'a str) -> Arg<'a>
     arg.value_name(value).help(help)
 }
 
-/// A text that has to be given.
+/// Builds a required option with a text.
 pub fn text_option<'a>(alloc: Global, name: &'a str, value: &'a str, help: &'a str) -> Arg<'a>
     ensures { Follows result (a_text name.entry.now) }
 {
     option(alloc, name, value, help).required(true)
 }
 
-/// A number that has to be given.
+/// Builds a required option with a number of 32 bits.
 pub fn number_option<'a>(alloc: Global, name: &'a str, help: &'a str) -> Arg<'a>
     ensures { Follows result (a_number name.entry.now) }
 {
     text_option(alloc, name, "N", help).value_parser(value_parser!(u32))
 }
 
-/// A serial number that has to be given.
+/// Builds a required option with a serial, 0 to 99999999.
 pub fn serial_option<'a>(alloc: Global, name: &'a str, help: &'a str) -> Arg<'a>
     ensures { Follows result (between 0 99999999 (a_text name.entry.now)) }
 {

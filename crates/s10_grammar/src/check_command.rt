@@ -1,4 +1,4 @@
-//! The subcommand `check`.
+//! Builds the subcommand `check`.
 ghost use Rattle.std.specs.Prelude.{IfOk};
 ghost use Rattle.s10_grammar.specs.Grammar.{ReadsAs, check_shape};
 
@@ -6,7 +6,11 @@ use crate::builders::{flag, named, with, word};
 use clap::Command;
 use std::alloc::{AllocError, Global};
 
-/// What `check` may say.
+/// Builds the subcommand `check`, with its words, its options and its help.
+///
+/// # Errors
+///
+/// `AllocError` if memory is lacking.
 pub fn check_command<'a>(alloc: Global) -> Result<Command<'a>, AllocError>
     ensures { IfOk result (λ command. ReadsAs command check_shape) }
 {

@@ -1,4 +1,4 @@
-//! What a command line may say.
+//! Builds the grammar of the command line, and parses words by it.
 ghost use Rattle.std.specs.Prelude.{◌≡◌, [], true, map, IfOk};
 ghost use Rattle.clap.specs.declared.builder.command.Command.TheViews.{out-Command as fields_of};
 ghost use Rattle.s10_grammar.specs.Grammar.{Parses, Reads, grammar, top_shape};
@@ -28,7 +28,11 @@ const STATUSES: &str = "\
 Exit status: 0 done; 1 refused by a rule; 2 the words are no command line; 3 a link, a ledger, the
 clock, memory, input or output failed. `s10 help COMMAND` explains a command, with examples.";
 
-/// The command with all its subcommands.
+/// Builds the command `s10` with all its subcommands.
+///
+/// # Errors
+///
+/// `AllocError` if memory is lacking.
 pub fn command<'a>(alloc: Global) -> Result<Command<'a>, AllocError>
     ensures { IfOk result (λ command. Reads command grammar) }
 {
@@ -58,14 +62,13 @@ fn program<'a>(alloc: Global) -> Command<'a>
     )
 }
 
-// A command that asks for a subcommand.
 fn with_required_subcommand<'a>(command: Command<'a>) -> Command<'a>
     ensures { fields_of result ≡ record (fields_of command.entry) { subcommand_required = true } }
 {
     command.subcommand_required(true)
 }
 
-// A command that explains itself where nothing is said.
+// Without words, the command prints its help.
 fn with_help_by_default<'a>(command: Command<'a>) -> Command<'a>
     ensures { fields_of result ≡ record (fields_of command.entry) {
       arg_required_else_help =
@@ -75,7 +78,12 @@ fn with_help_by_default<'a>(command: Command<'a>) -> Command<'a>
     command.arg_required_else_help(true)
 }
 
-/// Parses a command line.
+/// Parses the words of a command line, which begin with the program's name.
+///
+/// # Errors
+///
+/// - An error of kind `OutOfMemory` if memory is lacking.
+/// - Otherwise, a fault that `clap` gives for these words. Help and the version are errors too.
 pub fn parse<'a, S: AsStr>(alloc: Global, words: &'a [S]) -> Result<ArgMatches<'a>, Error>
     ensures { Parses (map S.text words.entry.now) result }
 {

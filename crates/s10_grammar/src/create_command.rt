@@ -1,4 +1,4 @@
-//! The subcommand `create`.
+//! Builds the subcommand `create`.
 ghost use Rattle.std.specs.Prelude.{IfOk};
 ghost use Rattle.s10_grammar.specs.Grammar.{ReadsAs, create_shape};
 
@@ -7,7 +7,11 @@ use crate::options::{interval_option, ledger_option, limit_option};
 use clap::Command;
 use std::alloc::{AllocError, Global};
 
-/// What `create` may say.
+/// Builds the subcommand `create`, with its words, its options and its help.
+///
+/// # Errors
+///
+/// `AllocError` if memory is lacking.
 pub fn create_command<'a>(alloc: Global) -> Result<Command<'a>, AllocError>
     ensures { IfOk result (λ command. ReadsAs command create_shape) }
 {

@@ -1,4 +1,4 @@
-//! The subcommand `draw`.
+//! Builds the subcommand `draw`.
 ghost use Rattle.std.specs.Prelude.{IfOk};
 ghost use Rattle.s10_grammar.specs.Grammar.{ReadsAs, draw_shape};
 
@@ -8,7 +8,11 @@ use crate::questions::with_asker;
 use clap::Command;
 use std::alloc::{AllocError, Global};
 
-/// What `draw` may say.
+/// Builds the subcommand `draw`, with its words, its options and its help.
+///
+/// # Errors
+///
+/// `AllocError` if memory is lacking.
 pub fn draw_command<'a>(alloc: Global) -> Result<Command<'a>, AllocError>
     ensures { IfOk result (λ command. ReadsAs command draw_shape) }
 {

@@ -1,4 +1,4 @@
-//! The subcommand `grant`.
+//! Builds the subcommand `grant`.
 ghost use Rattle.std.specs.Prelude.{IfOk};
 ghost use Rattle.s10_grammar.specs.Grammar.{ReadsAs, grant_shape};
 
@@ -8,7 +8,11 @@ use crate::questions::with_request;
 use clap::Command;
 use std::alloc::{AllocError, Global};
 
-/// What `grant` may say.
+/// Builds the subcommand `grant`, with its words, its options and its help.
+///
+/// # Errors
+///
+/// `AllocError` if memory is lacking.
 pub fn grant_command<'a>(alloc: Global) -> Result<Command<'a>, AllocError>
     ensures { IfOk result (λ command. ReadsAs command grant_shape) }
 {

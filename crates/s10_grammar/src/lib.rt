@@ -1,4 +1,4 @@
-//! What a command line of `s10` may say.
+//! Defines the command line of `s10`: its subcommands, their words and their options.
 #![tactic(auto)]
 
 mod audit_command;

@@ -1,4 +1,4 @@
-//! The subcommand `loop`.
+//! Builds the subcommand `loop`.
 ghost use Rattle.std.specs.Prelude.{IfOk};
 ghost use Rattle.s10_grammar.specs.Grammar.{ReadsAs, loop_shape};
 
@@ -7,7 +7,11 @@ use crate::options::day_option;
 use clap::Command;
 use std::alloc::{AllocError, Global};
 
-/// What `loop` may say.
+/// Builds the subcommand `loop`, with its words, its options and its help.
+///
+/// # Errors
+///
+/// `AllocError` if memory is lacking.
 pub fn loop_command<'a>(alloc: Global) -> Result<Command<'a>, AllocError>
     ensures { IfOk result (λ command. ReadsAs command loop_shape) }
 {

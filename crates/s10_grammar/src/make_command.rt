@@ -1,4 +1,4 @@
-//! The subcommand `make`.
+//! Builds the subcommand `make`.
 ghost use Rattle.std.specs.Prelude.{IfOk};
 ghost use Rattle.s10_grammar.specs.Grammar.{ReadsAs, make_shape};
 
@@ -6,7 +6,11 @@ use crate::builders::{named, with, word};
 use clap::Command;
 use std::alloc::{AllocError, Global};
 
-/// What `make` may say.
+/// Builds the subcommand `make`, with its words, its options and its help.
+///
+/// # Errors
+///
+/// `AllocError` if memory is lacking.
 pub fn make_command<'a>(alloc: Global) -> Result<Command<'a>, AllocError>
     ensures { IfOk result (λ command. ReadsAs command make_shape) }
 {

@@ -1,4 +1,4 @@
-//! Options that several subcommands have.
+//! Builds the options that several subcommands have.
 ghost use Rattle.std.specs.Prelude.{codes};
 ghost use Rattle.s10_grammar.specs.Grammar.{Follows, a_number, a_text, an_option, between, day};
 ghost use Rattle.s10_grammar.specs.Grammar.{interval, limit, tries};
@@ -8,7 +8,7 @@ use clap::{Arg, value_parser};
 use s10_history::{MAX_INTERVAL, MAX_LIMIT};
 use std::alloc::Global;
 
-/// The file of a ledger.
+/// Builds the option `--ledger`: the file of a ledger.
 pub fn ledger_option<'a>(alloc: Global) -> Arg<'a>
     ensures { Follows result (a_text (codes "ledger")) }
 {
@@ -20,7 +20,7 @@ pub fn ledger_option<'a>(alloc: Global) -> Arg<'a>
     )
 }
 
-/// The reuse interval of a ledger.
+/// Builds the option `--interval`: the reuse interval of a ledger, in days.
 pub fn interval_option<'a>(alloc: Global) -> Arg<'a>
     ensures { Follows result interval }
 {
@@ -33,7 +33,7 @@ pub fn interval_option<'a>(alloc: Global) -> Arg<'a>
     .value_parser(value_parser!(u32).range(1..=MAX_INTERVAL as i64))
 }
 
-/// The limit of a ledger.
+/// Builds the option `--limit`: the maximum number of calls of a ledger.
 pub fn limit_option<'a>(alloc: Global) -> Arg<'a>
     ensures { Follows result limit }
 {
@@ -46,7 +46,7 @@ pub fn limit_option<'a>(alloc: Global) -> Arg<'a>
     .value_parser(value_parser!(u32).range(1..=MAX_LIMIT as i64))
 }
 
-/// The address of the server that is asked.
+/// Builds the option `--to`: the address of the server.
 pub fn to_option<'a>(alloc: Global) -> Arg<'a>
     ensures { Follows result (a_text (codes "to")) }
 {
@@ -58,7 +58,7 @@ pub fn to_option<'a>(alloc: Global) -> Arg<'a>
     )
 }
 
-/// The customer that asks.
+/// Builds the option `--customer`: the customer that asks.
 pub fn customer_option<'a>(alloc: Global) -> Arg<'a>
     ensures { Follows result (a_number (codes "customer")) }
 {
@@ -69,7 +69,7 @@ pub fn customer_option<'a>(alloc: Global) -> Arg<'a>
     )
 }
 
-/// The number of a request.
+/// Builds the option `--number`: the number of a request.
 pub fn request_option<'a>(alloc: Global) -> Arg<'a>
     ensures { Follows result (a_number (codes "number")) }
 {
@@ -80,7 +80,7 @@ pub fn request_option<'a>(alloc: Global) -> Arg<'a>
     )
 }
 
-/// A service indicator.
+/// Builds the option `--service`: a service indicator.
 pub fn service_option<'a>(alloc: Global) -> Arg<'a>
     ensures { Follows result (a_text (codes "service")) }
 {
@@ -92,7 +92,7 @@ pub fn service_option<'a>(alloc: Global) -> Arg<'a>
     )
 }
 
-/// A country code.
+/// Builds the option `--country`: a country code.
 pub fn country_option<'a>(alloc: Global) -> Arg<'a>
     ensures { Follows result (a_text (codes "country")) }
 {
@@ -104,7 +104,7 @@ pub fn country_option<'a>(alloc: Global) -> Arg<'a>
     )
 }
 
-/// An identifier.
+/// Builds the option `--id`: an identifier.
 pub fn id_option<'a>(alloc: Global) -> Arg<'a>
     ensures { Follows result (a_text (codes "id")) }
 {
@@ -116,7 +116,7 @@ pub fn id_option<'a>(alloc: Global) -> Arg<'a>
     )
 }
 
-/// How many identifiers are drawn in one request.
+/// Builds the option `--count`: the number of identifiers of a sheet, 1 to 16.
 pub fn count_option<'a>(alloc: Global) -> Arg<'a>
     ensures { Follows result (between 1 16 (an_option (codes "count"))) }
 {
@@ -129,7 +129,7 @@ pub fn count_option<'a>(alloc: Global) -> Arg<'a>
     .value_parser(value_parser!(u32).range(1..=16))
 }
 
-/// How often a call is tried.
+/// Builds the option `--tries`: the maximum number of tries of a call, 1 to 100.
 pub fn tries_option<'a>(alloc: Global) -> Arg<'a>
     ensures { Follows result tries }
 {
@@ -143,7 +143,7 @@ pub fn tries_option<'a>(alloc: Global) -> Arg<'a>
     .default_value("5")
 }
 
-/// A day, which the clock gives where it is left out.
+/// Builds the option `--day`: a day. Without it the clock gives the day.
 pub fn day_option<'a>(alloc: Global, help: &'a str) -> Arg<'a>
     ensures { Follows result day }
 {

@@ -1,4 +1,4 @@
-//! The subcommand `query`.
+//! Builds the subcommand `query`.
 ghost use Rattle.std.specs.Prelude.{IfOk};
 ghost use Rattle.s10_grammar.specs.Grammar.{ReadsAs, query_shape};
 
@@ -8,7 +8,11 @@ use crate::questions::with_asker;
 use clap::Command;
 use std::alloc::{AllocError, Global};
 
-/// What `query` may say.
+/// Builds the subcommand `query`, with its words, its options and its help.
+///
+/// # Errors
+///
+/// `AllocError` if memory is lacking.
 pub fn query_command<'a>(alloc: Global) -> Result<Command<'a>, AllocError>
     ensures { IfOk result (λ command. ReadsAs command query_shape) }
 {

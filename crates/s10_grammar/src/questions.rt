@@ -1,4 +1,4 @@
-//! Commands that ask a server something.
+//! Builds the subcommands that call a server.
 ghost use Rattle.std.specs.Prelude.{[], ◌∷◌, codes};
 ghost use Rattle.s10_grammar.specs.Grammar.{AddsRules, a_number, a_text};
 
@@ -7,7 +7,11 @@ use crate::options::{customer_option, request_option, to_option};
 use clap::Command;
 use std::alloc::{AllocError, Global};
 
-/// The command with the options of a request to a server.
+/// Adds the options of a request to a server.
+///
+/// # Errors
+///
+/// `AllocError` if `command` is that error, or if memory is lacking.
 pub fn with_request<'a>(
     alloc: Global,
     command: Result<Command<'a>, AllocError>,
@@ -19,7 +23,11 @@ pub fn with_request<'a>(
     with(command, request_option(alloc))
 }
 
-/// The command with the options of a request by a customer.
+/// Adds the options of a request by a customer.
+///
+/// # Errors
+///
+/// `AllocError` if `command` is that error, or if memory is lacking.
 pub fn with_asker<'a>(
     alloc: Global,
     command: Result<Command<'a>, AllocError>,

@@ -1,4 +1,4 @@
-//! The subcommand `replay`.
+//! Builds the subcommand `replay`.
 ghost use Rattle.std.specs.Prelude.{IfOk};
 ghost use Rattle.s10_grammar.specs.Grammar.{ReadsAs, replay_shape};
 
@@ -7,7 +7,11 @@ use crate::options::{interval_option, limit_option};
 use clap::Command;
 use std::alloc::{AllocError, Global};
 
-/// What `replay` may say.
+/// Builds the subcommand `replay`, with its words, its options and its help.
+///
+/// # Errors
+///
+/// `AllocError` if memory is lacking.
 pub fn replay_command<'a>(alloc: Global) -> Result<Command<'a>, AllocError>
     ensures { IfOk result (λ command. ReadsAs command replay_shape) }
 {

@@ -1,4 +1,4 @@
-//! The subcommand `report`.
+//! Builds the subcommand `report`.
 ghost use Rattle.std.specs.Prelude.{IfOk};
 ghost use Rattle.s10_grammar.specs.Grammar.{ReadsAs, report_shape};
 
@@ -7,7 +7,11 @@ use crate::options::{day_option, ledger_option};
 use clap::Command;
 use std::alloc::{AllocError, Global};
 
-/// What `report` may say.
+/// Builds the subcommand `report`, with its words, its options and its help.
+///
+/// # Errors
+///
+/// `AllocError` if memory is lacking.
 pub fn report_command<'a>(alloc: Global) -> Result<Command<'a>, AllocError>
     ensures { IfOk result (λ command. ReadsAs command report_shape) }
 {

@@ -1,4 +1,4 @@
-//! The subcommand `serve`.
+//! Builds the subcommand `serve`.
 ghost use Rattle.std.specs.Prelude.{IfOk};
 ghost use Rattle.s10_grammar.specs.Grammar.{ReadsAs, serve_shape};
 
@@ -7,7 +7,11 @@ use crate::options::{day_option, ledger_option};
 use clap::Command;
 use std::alloc::{AllocError, Global};
 
-/// What `serve` may say.
+/// Builds the subcommand `serve`, with its words, its options and its help.
+///
+/// # Errors
+///
+/// `AllocError` if memory is lacking.
 pub fn serve_command<'a>(alloc: Global) -> Result<Command<'a>, AllocError>
     ensures { IfOk result (λ command. ReadsAs command serve_shape) }
 {

@@ -1,4 +1,4 @@
-//! The subcommand `void`.
+//! Builds the subcommand `void`.
 ghost use Rattle.std.specs.Prelude.{IfOk};
 ghost use Rattle.s10_grammar.specs.Grammar.{ReadsAs, void_shape};
 
@@ -8,7 +8,11 @@ use crate::questions::with_asker;
 use clap::Command;
 use std::alloc::{AllocError, Global};
 
-/// What `void` may say.
+/// Builds the subcommand `void`, with its words, its options and its help.
+///
+/// # Errors
+///
+/// `AllocError` if memory is lacking.
 pub fn void_command<'a>(alloc: Global) -> Result<Command<'a>, AllocError>
     ensures { IfOk result (λ command. ReadsAs command void_shape) }
 {

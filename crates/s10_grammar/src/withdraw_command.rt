@@ -1,4 +1,4 @@
-//! The subcommand `withdraw`.
+//! Builds the subcommand `withdraw`.
 ghost use Rattle.std.specs.Prelude.{IfOk};
 ghost use Rattle.s10_grammar.specs.Grammar.{ReadsAs, withdraw_shape};
 
@@ -8,7 +8,11 @@ use crate::questions::with_request;
 use clap::Command;
 use std::alloc::{AllocError, Global};
 
-/// What `withdraw` may say.
+/// Builds the subcommand `withdraw`, with its words, its options and its help.
+///
+/// # Errors
+///
+/// `AllocError` if memory is lacking.
 pub fn withdraw_command<'a>(alloc: Global) -> Result<Command<'a>, AllocError>
     ensures { IfOk result (λ command. ReadsAs command withdraw_shape) }
 {
