@@ -43,7 +43,7 @@ fn run(rt: &HostRuntime) -> io::Result<u8> {
     }
 }
 
-// Runs the job that a command line left to the program. Hands back the exit status, the output and what the job left.
+// Runs the job that the words ask for. Returns the exit status, the output and the resources.
 fn run_words<S: Start, W: AsStr, O: Write + Drop>(
     rt: &HostRuntime,
     words: &[W],
@@ -69,7 +69,7 @@ fn run_words<S: Start, W: AsStr, O: Write + Drop>(
     }
 }
 
-// Says why there is no more output.
+// Prints why the program cannot continue, and returns the status.
 fn eprint_error<R: Print + Eprint>(rt: &R, error: &io::Error) -> JobStatus
     ensures words { error_kind error.now ≡ InvalidData → result ≡ CommandLine }
     ensures other { error_kind error.now ≢ InvalidData → result ≡ Failed }
