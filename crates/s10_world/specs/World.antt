@@ -24,9 +24,9 @@ pub record Acceptance : Type 0 where
   pub request : Request
   pub outcome : Outcome
 
--- The state of a world: the server's history, its book's counts of faults, the bytes of every
--- request and reply that was sent, the submitted requests with the index of their client, the
--- accepted replies, and the clients.
+-- The state of a world: the server's history and its book's counts of faults, and the clients. Also
+-- the bytes of every request and reply that was sent, the submitted requests with the index of
+-- their client, and the accepted replies.
 pub record WorldState : Type 0 where
   pub history : List Entry
   pub faults : Faults

@@ -25,8 +25,8 @@ pub fn reachable_worlds()
     // Each submitted request was executed at most once, and its reply shows whether it was.
     ensures once { (t : Terms) (w w' : WorldState) (events : List Event) → IsStart w
         → IsLegal w.history t → Steps t w events w' → IsAtMostOnce w' }
-    // If no two clients of one customer have a number in common, no two calls share a request, and
-    // no identifier is accepted twice within the interval.
+    // If no two clients of one customer have a number in common, no two calls share a request. No
+    // identifier is then accepted twice within the interval.
     ensures unshared { (t : Terms) (w w' : WorldState) (events : List Event) → IsStart w
         → IsLegal w.history t → Steps t w events w'
         → HaveOwnNumbers w.clients → IsUnshared t.interval w' }

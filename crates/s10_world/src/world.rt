@@ -143,8 +143,8 @@ impl<B: Book> World<B> {
         ensures once { B.honest (book_in self.new)
             → IsAtMostOnce (world_state_of B.history B.faults self.new) }
 
-        // If no two clients of one customer have a number in common, no two calls share a request,
-        // and no identifier is accepted twice within the interval.
+        // If no two clients of one customer have a number in common, no two calls share a request.
+        // No identifier is then accepted twice within the interval.
         ensures unshared { B.honest (book_in self.new) → HaveOwnNumbers (clients_of self.old)
             → IsUnshared (B.terms (book_in self.new)).interval
             (world_state_of B.history B.faults self.new) }
