@@ -26,7 +26,7 @@ pub fn fail_by_clock<W: Write>(out: &mut W) -> Result<JobStatus, WriteFault>
     Ok(JobStatus::Failed)
 }
 
-/// Writes the line `ledger` and the fault: the ledger could not be created or opened.
+/// Writes the line `ledger` and the fault: the ledger could not be created, opened or closed.
 ///
 /// # Errors
 ///

@@ -1,4 +1,4 @@
-//! Writes the line of a ledger that could not be created or opened.
+//! Writes the line of a ledger that could not be created, opened or closed.
 
 ghost use Rattle.std.specs.Prelude.{OnOk, codes};
 ghost use Rattle.std.specs.Io.KnownBytes.{Appends};
