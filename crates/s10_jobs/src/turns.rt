@@ -34,7 +34,8 @@ const MAX_BATCH: u32 = 64;
 ///
 /// # Errors
 ///
-/// `WriteFault` if the writer fails. The batch was served, and part of its lines may be written.
+/// `WriteFault` if the writer fails. A batch whose lines fail was served, and part of them may be
+/// written.
 pub fn serve_turns<R: Clock + Eprint, B: GroupCommit, L: Link, W: Write>(
     rt: &R,
     alloc: Global,
