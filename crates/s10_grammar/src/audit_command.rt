@@ -25,11 +25,12 @@ pub fn audit_command<'a>(alloc: Global) -> Result<Command<'a>, AllocError>
 }
 
 const AUDIT_EXAMPLES: &str = "\
-Does all kept requests again and compares every table with what they make. Prints `ledger ok N`,
-where N is the number of kept requests, with exit status 0, or `ledger FAULT`, with status 3:
-`not-a-ledger` where the file has no ledger, `schema N` where it is one of another make, `damaged N`
-where the N-th kept request is the first that is wrong, `damaged 0` where all are right and another
-row is not, `memory` where memory ran out, `store` where the file cannot be opened or read.
+Executes all kept requests again and compares every table with the rows that follow from them.
+Prints `ledger ok N`, where N is the number of kept requests, with exit status 0, or `ledger FAULT`,
+with status 3: `not-a-ledger` if the file has no ledger, `schema N` if its schema has another
+number, `damaged N` if the N-th kept request is the first that is wrong, `damaged 0` if all are
+right and another row is not, `memory` if memory ran out, `store` if the file cannot be opened or
+read.
 
 Example:
   s10 audit --ledger post.db

@@ -18,7 +18,7 @@ pub fn create_command<'a>(alloc: Global) -> Result<Command<'a>, AllocError>
     let command = named(
         alloc,
         "create",
-        "Make an empty ledger in a file",
+        "Create an empty ledger in a file",
         CREATE_EXAMPLES,
     );
     let command = with(Ok(command), ledger_option(alloc));
@@ -27,10 +27,10 @@ pub fn create_command<'a>(alloc: Global) -> Result<Command<'a>, AllocError>
 }
 
 const CREATE_EXAMPLES: &str = "\
-Prints `created`, with exit status 0, once the ledger is in the file, which is made where it isn't
-there. The interval and the limit are kept in the ledger and never change. `ledger FAULT`, with
-status 3, says that there is no new ledger: `not-empty` where the file has a ledger's tables
-already, `memory` where memory ran out, `store` where the file cannot be opened or written.
+Prints `created`, with exit status 0, once the ledger is in the file, which is created if it does
+not exist. The interval and the limit are kept in the ledger and never change. `ledger FAULT`, with
+status 3, says that there is no new ledger: `not-empty` if the file has a ledger's tables already,
+`memory` if memory ran out, `store` if the file cannot be opened or written.
 
 Example:
   s10 create --ledger post.db --interval 365 --limit 1000000

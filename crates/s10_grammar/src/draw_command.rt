@@ -30,14 +30,14 @@ pub fn draw_command<'a>(alloc: Global) -> Result<Command<'a>, AllocError>
 }
 
 const DRAW_EXAMPLES: &str = "\
-Prints the reply: the request and `done day D ID`, with exit status 0, or why there is no identifier,
-with status 1: `no-range` where the customer has no open range of that service and country,
-`none-free` where no serial number of them is free on that day, `number-reused` where the customer
-has asked for something else under this number. With --count the reply has that many identifiers,
-one after another, and `none-free` says that fewer serial numbers are free: none is issued then.
+Prints the reply: the request and `done day D ID`, with exit status 0, or why there is no
+identifier, with status 1: `no-range` if the customer has no open range of that service and country,
+`none-free` if no serial number of them is free on that day, `number-reused` if the customer has
+asked for something else under this number. With --count the reply has that many identifiers, one
+after another, and `none-free` says that fewer serial numbers are free: none is issued then.
 `refused peer`, `refused service` or `refused country`, also with status 1, say that nothing was
-asked. With status 3, `gave-up` says that no reply came, and `link FAULT` that the socket failed; the
-same words again ask again, and draw once at most.
+asked. With status 3, `gave-up` says that no reply came, and `link FAULT` that the socket failed;
+the same words again ask again, and draw once at most.
 
 Example:
   s10 draw --to 127.0.0.1:4711 --customer 7 --number 1 --service RA --country GB

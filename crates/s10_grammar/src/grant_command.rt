@@ -42,10 +42,10 @@ pub fn grant_command<'a>(alloc: Global) -> Result<Command<'a>, AllocError>
 
 const GRANT_EXAMPLES: &str = "\
 Prints the reply: the request and `done range R`, with exit status 0, or why nothing was granted,
-with status 1: `bad-grant` where the holder is 0 or the first number is above the last, `overlap`
-where a range of that service and country has one of the numbers, `number-reused` where the post has
-asked for something else under this number. `refused peer`, `refused service` or `refused country`,
-also with status 1, say that nothing was asked. With status 3, `gave-up` says that no reply came, and
+with status 1: `bad-grant` if the holder is 0 or the first number is above the last, `overlap` if a
+range of that service and country has one of the numbers, `number-reused` if the post has asked for
+something else under this number. `refused peer`, `refused service` or `refused country`, also with
+status 1, say that nothing was asked. With status 3, `gave-up` says that no reply came, and
 `link FAULT` that the socket failed; the same words again ask again, and grant once at most.
 
 Example:

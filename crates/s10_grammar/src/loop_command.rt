@@ -28,7 +28,7 @@ pub fn loop_command<'a>(alloc: Global) -> Result<Command<'a>, AllocError>
 }
 
 const LOOP_EXAMPLES: &str = "\
-Makes a ledger in memory, serves it on the loopback, and asks it five times: the post grants three
+Creates a ledger in memory, serves it on the loopback, and asks it five times: the post grants three
 serial numbers to customer 7, who draws two identifiers, voids the first and asks about it. Prints
 the five replies, with exit status 0. With status 3, `clock` says that the clock gives no day,
 `link FAULT` that a socket failed, `gave-up` that no reply came, and `memory` or `ledger FAULT` that

@@ -41,7 +41,7 @@ pub fn limit_option<'a>(alloc: Global) -> Arg<'a>
         alloc,
         "limit",
         "N",
-        "How many requests the ledger keeps at most, 1 to 1000000000",
+        "The maximum number of requests that the ledger keeps, 1 to 1000000000",
     )
     .value_parser(value_parser!(u32).range(1..=MAX_LIMIT as i64))
 }
@@ -137,7 +137,7 @@ pub fn tries_option<'a>(alloc: Global) -> Arg<'a>
         alloc,
         "tries",
         "N",
-        "How often the request is sent at most, 1 to 100; each time a reply is awaited for a second",
+        "The maximum number of sends, 1 to 100; each receive after a send waits up to a second",
     )
     .value_parser(value_parser!(u32).range(1..=100))
     .default_value("5")

@@ -33,8 +33,8 @@ the day of its last issue) or, to the post alone, `unknown` (in no range), with 
 status 1, `not-yours` says that the identifier is in none of the customer's ranges, and
 `number-reused` that the customer has asked for something else under this number. `refused peer`, or
 `refused` with `length`, `letter AT`, `digit AT` or `check-digit`, also with status 1, say that
-nothing was asked. With status 3, `gave-up` says that no reply came, and `link FAULT` that the socket
-failed. A query is kept with its reply: to ask again, take a new number.
+nothing was asked. With status 3, `gave-up` says that no reply came, and `link FAULT` that the
+socket failed. A query is kept with its reply: to ask again, take a new number.
 
 Example:
   s10 query --to 127.0.0.1:4711 --customer 7 --number 4 --id RA000000005GB

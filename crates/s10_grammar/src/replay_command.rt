@@ -29,7 +29,7 @@ const REPLAY_EXAMPLES: &str = "\
 Each line of the input is DAY, one space, HEX: the day as a number up to 4294967295, and the bytes
 of a datagram, two hexadecimal digits each. For each the reply is printed in hexadecimal digits, or
 `dropped` and what is wrong with the datagram, or `faulted` with `memory` or `full`. An empty line
-is passed over. A line of any other form ends the replay with `refused line N` and exit status 1;
+is ignored. A line of any other form ends the replay with `refused line N` and exit status 1;
 `input` or `output`, with status 3, say what failed.
 
 Example:

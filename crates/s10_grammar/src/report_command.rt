@@ -41,9 +41,9 @@ pub fn report_command<'a>(alloc: Global) -> Result<Command<'a>, AllocError>
 
 const REPORT_EXAMPLES: &str = "\
 Prints a line of headings, and a line for each range in order of their numbers: its serial numbers
-ever issued, those that are void, and those that are free on the day, or on the ledger's last day
-where that is later; the line of a withdrawn range ends with `closed`. With --issues, a line for each
-identifier issued, in order of arrival: `issued` or `voided` where it was not issued again, else
+ever issued, those that are void, and those that are free on the day, or on the ledger's last day if
+that is later; the line of a withdrawn range ends with `closed`. With --issues, a line for each
+identifier issued, in order of arrival: `issued` or `voided` if it was not issued again, else
 `reissued`. The exit status is 0. With status 3, `ledger FAULT` says that the ledger could not be
 opened, `faulted FAULT` or `output` that the report ends early, and `clock` that the clock gives no
 day.

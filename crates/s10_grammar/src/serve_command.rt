@@ -36,7 +36,7 @@ pub fn serve_command<'a>(alloc: Global) -> Result<Command<'a>, AllocError>
         number_option(
             alloc,
             "count",
-            "How many turns to serve: each takes one datagram, or waits a second for one",
+            "How many turns to serve: each receives one datagram, or waits a second for one",
         ),
     );
     with(
@@ -55,14 +55,14 @@ Prints one line for each turn, as it is done:
   dropped FAULT      no request: short, magic, version, kind, length, field AT or outcome
   faulted FAULT      the request was not executed: memory, store, or full at the limit of calls
   uncommitted FAULT  no reply was sent, since its call could not be written: memory or store
-  link FAULT         receive or send: the socket failed, and the next turn follows
+  link FAULT         receive, send or spent: the socket failed, and the next turn follows
 
 Datagrams that have arrived, up to 64, are one batch: their calls are written in one transaction,
 then the replies are sent, then the lines are printed.
 
 After the last turn the ledger is closed and the exit status is 0. `refused peer`, with status 1,
-says that the address does not read. With status 3, `ledger FAULT` says that the ledger could not be
-opened or closed, `link bind` that the address cannot be had, and `clock` that the clock gives no
+says that the address is invalid. With status 3, `ledger FAULT` says that the ledger could not be
+opened or closed, `link bind` that the address cannot be bound, and `clock` that the clock gives no
 day. A stop at any moment leaves a ledger that opens. The address that is served at is printed to
 standard error. There is no authentication: whoever reaches the address can ask as customer 0.
 

@@ -19,7 +19,7 @@ pub fn void_command<'a>(alloc: Global) -> Result<Command<'a>, AllocError>
     let command = named(
         alloc,
         "void",
-        "Tell a server that an identifier will not be used",
+        "Void an identifier that will not be used",
         VOID_EXAMPLES,
     );
     let command = with_asker(alloc, Ok(command));
@@ -29,9 +29,9 @@ pub fn void_command<'a>(alloc: Global) -> Result<Command<'a>, AllocError>
 
 const VOID_EXAMPLES: &str = "\
 Prints the reply: the request and `done`, with exit status 0, or why it was not done, with status 1:
-`not-yours` where the identifier is in none of the customer's ranges, `not-issued` where it was never
-issued, `already-void` where it is void, `number-reused` where the customer has asked for something
-else under this number. `refused peer`, or `refused` with `length`, `letter AT`, `digit AT` or
+`not-yours` if the identifier is in none of the customer's ranges, `not-issued` if it was never
+issued, `already-void` if it is void, `number-reused` if the customer has asked for something else
+under this number. `refused peer`, or `refused` with `length`, `letter AT`, `digit AT` or
 `check-digit`, also with status 1, say that nothing was asked. With status 3, `gave-up` says that no
 reply came, and `link FAULT` that the socket failed; the same words again ask again.
 

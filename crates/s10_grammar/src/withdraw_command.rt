@@ -39,10 +39,10 @@ From a closed range no identifier is issued again, and nothing opens it: its ser
 taken. The identifiers that were issued from it can still be voided and asked about.
 
 Prints the reply: the request and `done`, with exit status 0, or why nothing was closed, with status
-1: `no-such-range` where no range has the number, `closed` where it is closed already,
-`number-reused` where the post has asked for something else under this number. `refused peer`, also
-with status 1, says that nothing was asked. With status 3, `gave-up` says that no reply came, and
-`link FAULT` that the socket failed; the same words again ask again, and close once at most.
+1: `no-such-range` if no range has the number, `closed` if it is closed already, `number-reused` if
+the post has asked for something else under this number. `refused peer`, also with status 1, says
+that nothing was asked. With status 3, `gave-up` says that no reply came, and `link FAULT` that the
+socket failed; the same words again ask again, and close once at most.
 
 Example:
   s10 withdraw --to 127.0.0.1:4711 --number 2 --range 1
