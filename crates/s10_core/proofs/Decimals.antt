@@ -1,4 +1,4 @@
--- Decimal digits, and the number that they stand for.
+-- Decimal digits, and the number that they represent.
 use Rattle.std.proofs.Common.{◌≡◌, ℕ, ◌+◌, ◌-◌, ◌*◌, ◌/◌, ◌%◌, ◌^◌, ◌<◌, ◌≤◌, List, [], ◌∷◌, length}
 use Rattle.std.proofs.Common.{get_or, take, arith, lit<}
 use Rattle.std.specs.Prelude.{fold}
@@ -9,14 +9,14 @@ use Rattle.std.proofs.lemmas.Grind.{pow_more}
 use Rattle.std.proofs.lemmas.List.Sums.{fold_more}
 use Rattle.s10_core.specs.Serial.{character_of, digits_of, number_of, check_digit_of}
 
--- a number of at most seven digits
+-- A number of at most seven digits is below ten million.
 pub below_ten_million : (number count : ℕ) → number < 10 ^ count → count < 8 → number < 10000000
 below_ten_million number count small few =
     let widest : 10 ^ count ≤ 10 ^ 7 =
     pow-le-pow_right (lit< tt) (let h : count ≤ 7 = omega arith in h) in
     omega arith
 
--- one more digit
+-- The number of one more digit.
 pub number_of-more : (digits : List ℕ) (i : ℕ) → i < length digits → number_of (take (i + 1) digits)
     ≡ 10 * number_of (take i digits) + (get_or digits i 0 - 48)
 number_of-more digits i h = fold_more (λ number digit. 10 * number + (digit - 48)) 0 digits i 0 h
@@ -26,11 +26,11 @@ pub grows : (number count digit : ℕ) → number < 10 ^ count → digit ≤ 57 
 grows number count digit small in_range = let next : 10 ^ (count + 1) ≡ 10 ^ count * 10 =
     pow_more 10 count in omega arith
 
--- the number that a number and the digits after it stand for
+-- The number that a number and the digits after it represent.
 abbrev followed_by : ℕ → List ℕ → ℕ
 followed_by number digits = fold (λ n digit. 10 * n + (digit - 48)) number digits
 
--- dividing takes the digits away
+-- Dividing removes the digits.
 quotient : (digits : List ℕ) (number : ℕ) → AllByRecursion IsAsciiDigit digits
     → followed_by number digits / 10 ^ length digits ≡ number
 quotient [] number all = div-one number
@@ -41,7 +41,7 @@ quotient (digit ∷ digits) number all =
       quotient digits (10 * number + (digit - 48)) all.1,
     ) (omega (arith, all.0))
 
--- a digit is found before those after it
+-- A digit is found before those after it.
 digit_found : (digits : List ℕ) (number digit : ℕ) → IsAsciiDigit digit
     → AllByRecursion IsAsciiDigit digits
     → character_of (followed_by (10 * number + (digit - 48)) digits / 10 ^ length digits % 10)
@@ -52,7 +52,7 @@ digit_found digits number digit here all = rw (quotient digits (10 * number + (d
 below_divisor : (number : ℕ) → number / 10 ^ 8 ≡ 0 → number < 10 ^ 8
 below_divisor number e = omega arith
 
--- eight digits are those of the number that they stand for
+-- Eight digits are those of the number that they represent.
 pub digits_of-number_of : (a b c d e f g h : ℕ)
     → AllByRecursion IsAsciiDigit (a ∷ b ∷ c ∷ d ∷ e ∷ f ∷ g ∷ h ∷ [])
     → digits_of (number_of (a ∷ b ∷ c ∷ d ∷ e ∷ f ∷ g ∷ h ∷ [])) ≡ a ∷ b ∷ c ∷ d ∷ e ∷ f ∷ g ∷ h
@@ -74,14 +74,14 @@ digits_of-number_of a b c d e f g h all =
     all.1.1.1.1.1.1.1.1 in
     λ i. first i ∷ second i ∷ third i ∷ fourth i ∷ fifth i ∷ sixth i ∷ seventh i ∷ eighth i ∷ []
 
--- eight digits stand for a serial number
+-- Eight digits represent a serial number.
 pub number_of-lt : (a b c d e f g h : ℕ)
     → AllByRecursion IsAsciiDigit (a ∷ b ∷ c ∷ d ∷ e ∷ f ∷ g ∷ h ∷ [])
     → number_of (a ∷ b ∷ c ∷ d ∷ e ∷ f ∷ g ∷ h ∷ []) < 10 ^ 8
 number_of-lt a b c d e f g h all = below_divisor (number_of (a ∷ b ∷ c ∷ d ∷ e ∷ f ∷ g ∷ h ∷ []))
     (quotient (a ∷ b ∷ c ∷ d ∷ e ∷ f ∷ g ∷ h ∷ []) 0 all)
 
--- a digit joins those before it
+-- A digit joins those before it.
 digit_joined : (number power : ℕ) → 10 * (number / (power * 10)) + number / power % 10
     ≡ number / power
 digit_joined number power = rw (← div-div-eq-div-mul) (omega arith)
@@ -89,7 +89,7 @@ digit_joined number power = rw (← div-div-eq-div-mul) (omega arith)
 digit_is : (digit : ℕ) → character_of digit - 48 ≡ digit
 digit_is digit = omega arith
 
--- q7 to q0 are a number without its last seven digits to none, and d6 to d0 those digits
+-- q7 to q0 are a number without its last seven to zero digits; d6 to d0 are those digits.
 joined : (q7 q6 q5 q4 q3 q2 q1 q0 d6 d5 d4 d3 d2 d1 d0 : ℕ) → 10 * q7 + d6 ≡ q6 → 10 * q6 + d5 ≡ q5
     → 10 * q5 + d4 ≡ q4 → 10 * q4 + d3 ≡ q3 → 10 * q3 + d2 ≡ q2 → 10 * q2 + d1 ≡ q1
     → 10 * q1 + d0 ≡ q0
@@ -98,7 +98,7 @@ joined : (q7 q6 q5 q4 q3 q2 q1 q0 d6 d5 d4 d3 d2 d1 d0 : ℕ) → 10 * q7 + d6 �
 joined q7 q6 q5 q4 q3 q2 q1 q0 d6 d5 d4 d3 d2 d1 d0 e6 e5 e4 e3 e2 e1 e0 =
     simp digit_is (omega arith)
 
--- a serial number is what its digits stand for
+-- A serial number is the one that its digits represent.
 pub number_of-digits_of : (serial : ℕ) → serial < 10 ^ 8 → number_of (digits_of serial) ≡ serial
 number_of-digits_of serial small =
     let first : serial / 10000000 % 10 ≡ serial / 10000000 = omega arith in

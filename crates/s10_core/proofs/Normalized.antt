@@ -1,4 +1,4 @@
--- How long a tidied text is.
+-- The length of a normalized text.
 use Rattle.std.proofs.Common.{◌≡◌, ℕ, ◌+◌, ◌<◌, ◌≤◌, Bool, true, not, List, length, get_or, take}
 use Rattle.std.proofs.Common.{arith}
 use Rattle.std.specs.Prelude.{count_by, ◌==◌}
@@ -9,11 +9,11 @@ use Rattle.s10_core.specs.Id.{normalized}
 abbrev is_kept : ℕ → Bool
 is_kept character = not (character == 32)
 
--- a tidied text is as long as the characters that are no spaces
+-- A normalized text has one character for each that is not a space.
 pub length-normalized : (text : List ℕ) → length (normalized text) ≡ count_by is_kept text
 length-normalized text = simp length-map (length-filter is_kept text)
 
--- where one more character is kept, the whole has more than the front
+-- If the next character is kept, the whole text has more characters than the front.
 pub one_more_kept : (text : List ℕ) (i : ℕ) → i < length text → is_kept (get_or text i 0) ≡ true
     → length (normalized (take i text)) < length (normalized text)
 one_more_kept text i h kept =

@@ -22,7 +22,7 @@ use Rattle.s10_core.specs.TextFault.{IsFirstRefusal}
 use Rattle.s10_core.proofs.Decimals.{number_of-digits_of, digits_of-number_of, check_digit_of-le}
 use Rattle.s10_core.proofs.Decimals.{number_of-lt}
 
--- the digits of a spelling stand for its serial number
+-- The digits of a spelling represent its serial number.
 pub number_of-spelled : (text : List ℕ) (id : Id) → Spells text id
     → number_of (slice_range text 2 10) ≡ id.serial
 number_of-spelled text id s = rw s.spelled (number_of-digits_of id.serial s.in_range.serial)
@@ -55,7 +55,7 @@ is_digit number = (omega arith, omega arith)
 check_is_digit : (serial : ℕ) → IsAsciiDigit (character_of (check_digit_of serial))
 check_is_digit serial = let small = check_digit_of-le serial in (omega arith, omega arith)
 
--- each place of a spelling is right
+-- A spelling is right at each place.
 spelling_right : (id : Id) → IsId id → IsRightBefore (spelling_of id) 13
 spelling_right id in_range =
     let text : List ℕ = spelling_of id in
@@ -112,7 +112,7 @@ spelled_unrefused text id CheckDigit s refused =
     let number = number_of-spelled text id s in
     refused.2 (rw number (rw s.spelled refl))
 
--- of two wrong places with none before, neither is before the other
+-- Two wrong places that have no wrong place before them are the same.
 leftmost : (text : List ℕ) (a b : ℕ) → ¬ (IsRightAt text a) → ¬ (IsRightAt text b)
     → IsRightBefore text a → IsRightBefore text b → a ≡ b
 leftmost text a b wrong_a wrong_b before_a before_b = elim (cases_lt a b) [
@@ -124,7 +124,7 @@ leftmost text a b wrong_a wrong_b before_a before_b = elim (cases_lt a b) [
   ]
 ]
 
--- a text has one first refusal
+-- A text has at most one first refusal.
 pub one_refusal : (text : List ℕ) (e f : TextFault) → IsFirstRefusal text e → IsFirstRefusal text f
     → e ≡ f
 one_refusal text Length Length x y = refl
@@ -162,7 +162,7 @@ one_refusal text CheckDigit (Digit b) x y =
     absurd (y.3 ((x.1 b near).digit y.2))
 one_refusal text CheckDigit CheckDigit x y = refl
 
--- the characters from a place on, n
+-- `count` characters of the text, from an index on.
 abbrev characters : List ℕ → ℕ → ℕ → List ℕ
 characters text at zero = []
 characters text at (suc count) = get_or text at 0 ∷ characters text (at + 1) count
@@ -173,11 +173,11 @@ listed text at zero h = grind (arith, common_steps)
 listed text at (suc count) h = drop_more text at 0 (omega arith)
     ∙ ap (λ rest. get_or text at 0 ∷ rest) (listed text (at + 1) count (omega arith))
 
--- a text of 13, character by character
+-- A text of 13 characters, character by character.
 thirteen : (text : List ℕ) → length text ≡ 13 → text ≡ characters text 0 13
 thirteen text long = listed text 0 13 (sym long)
 
--- the eight characters between the letters and the check digit
+-- The eight characters between the letters and the check digit.
 serial_part : (text : List ℕ) → length text ≡ 13 → slice_range text 2 10 ≡ characters text 2 8
 serial_part text long = ap (λ t. slice_range t 2 10) (thirteen text long)
 
@@ -205,7 +205,7 @@ serial_digits text right =
       ),
     )
 
--- eight digits are those of the number that they stand for
+-- Eight digits are those of the number that they represent.
 pub digits_of-number_of_text : (text : List ℕ) → AreEightDigits text → digits_of (number_of text)
     ≡ text
 digits_of-number_of_text text eight =
@@ -217,7 +217,7 @@ digits_of-number_of_text text eight =
     subst (λ t. digits_of (number_of t) ≡ t) (sym whole) (digits_of-number_of (at 0) (at 1) (at 2)
     (at 3) (at 4) (at 5) (at 6) (at 7) digits)
 
--- a serial number can be read where the places are right
+-- A text that is right at each place has eight digits where the serial number is.
 pub right_serial : (text : List ℕ) → length text ≡ 13 → IsRightBefore text 13
     → AreEightDigits (slice_range text 2 10)
 right_serial text long right =
@@ -227,7 +227,7 @@ right_serial text long right =
           (serial_digits text right),
     )
 
--- and so can the two pairs of letters
+-- A text that is right at each place has capitals where the two pairs of letters are.
 pub right_letters : (text : List ℕ) (at : ℕ) → IsRightBefore text 13 → IsLetterPlace at
     → IsLetterPlace (at + 1) → at + 1 < 13 → All IsCapital (characters text at 2)
 right_letters text at right first second near =
@@ -236,7 +236,7 @@ right_letters text at right first second near =
       ((right (at + 1) near).letter second, tt),
     )
 
--- a pair of letters that are capitals in the text
+-- A pair of letters that are capitals in the text consists of capitals.
 pair_capitals : (pair : ℕ × ℕ) (a b : ℕ) → letters_of pair ≡ a ∷ b ∷ [] → IsCapital a → IsCapital b
     → AreCapitals pair
 pair_capitals pair a b e first second =
@@ -244,7 +244,7 @@ pair_capitals pair a b e first second =
     let same_second : pair.1 ≡ b = cc in
     (rw same_first first, rw same_second second)
 
--- a text of right places spells the identifier of its parts
+-- A text that is right at each place spells the identifier of its parts.
 pub right_spells : (text : List ℕ) (id : Id) → length text ≡ 13 → IsRightBefore text 13
     → letters_of id.service ≡ characters text 0 2 → id.serial ≡ number_of (slice_range text 2 10)
     → get_or text 10 0 ≡ character_of (check_digit_of id.serial) → letters_of id.country
@@ -274,7 +274,7 @@ right_spells text id long right service serial check country =
           ++ sym country i);
     }
 
--- a text spells one identifier
+-- A text spells at most one identifier.
 pub one_spelled : (text : List ℕ) (x y : Id) → Spells text x → Spells text y → x ≡ y
 one_spelled text x y s t =
     let texts : spelling_of x ≡ spelling_of y = sym s.spelled ∙ t.spelled in
@@ -290,7 +290,7 @@ one_spelled text x y s t =
       country = (country_first i, country_second i);
     }
 
--- Some where the fact holds
+-- The result is Some if the fact holds.
 pub is_some_where : {T : Type 0} (r : Option T) (P : Type 0) (v : T) → SomeIff r P v → P → IsSome r
 is_some_where None P v not p = absurd (not p)
 is_some_where (Some x) P v s p = search rules

@@ -4,9 +4,10 @@ ghost use Rattle.s10_core.specs.Letters.{IsCapital, AreCapitals, letters_of};
 use crate::letter_pair::LetterPair;
 use std::marker::Model;
 
-/// A country code, as GB: the country whose post issued the identifier (UPU S10). Two letters, each
-/// from A to Z. Which codes are assigned is not looked at: this project's choice, see
-/// docs/IDENTIFIERS.md.
+/// A country code of two letters from A to Z, for example GB: the country whose post issued the
+/// identifier (UPU S10).
+///
+/// Any two letters are accepted, assigned or not: this project's choice, see docs/IDENTIFIERS.md.
 #[derive(Clone, Copy, Debug, PartialEq, Eq)]
 pub struct Country {
     letters: LetterPair,
@@ -23,7 +24,8 @@ impl Model for Country {
 }
 
 impl Country {
-    /// The country of these letters, or `None` where one of them is no capital ASCII letter.
+    /// Returns the country of these two ASCII characters, or `None` if one of them is not a capital
+    /// letter.
     pub fn new(letters: [u8; 2]) -> Option<Country>
         ensures capitals { IsSome result ↔ All IsCapital letters }
         ensures letters { IfSome result (λ country. letters_of country ≡ letters) }
@@ -32,7 +34,7 @@ impl Country {
         Some(Country { letters })
     }
 
-    /// The two letters in ASCII, first and second.
+    /// Returns the two letters in ASCII, in order.
     pub fn bytes(&self) -> [u8; 2]
         ensures letters { result ≡ letters_of self.now }
         ensures capitals { AreCapitals self.now }

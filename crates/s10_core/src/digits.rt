@@ -4,9 +4,11 @@ ghost use Rattle.s10_core.specs.Serial.{IsSerial, check_digit_of, digits_of, cha
 
 use crate::serial::Serial;
 
-/// The check digit of a serial number, 0 to 9 (UPU S10): its eight digits, from the left, by the
-/// weights 8, 6, 4, 2, 3, 5, 9 and 7, summed up modulo 11 and taken from 11, where 10 is written 0
-/// and 11 is written 5. It does not find every wrong digit: 00000000 and 00000004 both have 5.
+/// Returns the check digit of a serial number, 0 to 9 (UPU S10).
+///
+/// The eight digits, from the left, are multiplied by the weights 8, 6, 4, 2, 3, 5, 9 and 7 and
+/// summed. The check digit is 11 minus the remainder of the sum by 11, with 10 written as 0 and 11
+/// as 5. It does not find every wrong digit: 00000000 and 00000004 both have 5.
 #[tactic(auto, unfolding(crate::specs::Serial::check_digit_of))]
 pub fn check_digit(serial: Serial) -> u8
     ensures digit { result ≡ check_digit_of serial }
@@ -28,7 +30,7 @@ pub fn check_digit(serial: Serial) -> u8
     }
 }
 
-/// The eight digits of a serial number, as characters.
+/// Returns the eight digits of a serial number as ASCII characters, with leading zeros.
 pub fn serial_digits(serial: Serial) -> [u8; 8]
     ensures digits { result ≡ digits_of serial }
     ensures in_range { IsSerial serial }
@@ -46,7 +48,6 @@ pub fn serial_digits(serial: Serial) -> [u8; 8]
     ]
 }
 
-/// The last decimal digit of a number, as a character.
 fn last_digit(number: u32) -> u8
     ensures { result ≡ character_of (number % 10) }
 {

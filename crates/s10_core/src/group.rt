@@ -1,15 +1,16 @@
-/// The group of items that the first letter of a service indicator names. The names are this
-/// project's choice, see docs/IDENTIFIERS.md.
+/// The group of items that the first letter of a service indicator names.
+///
+/// The names are this project's choice, see docs/IDENTIFIERS.md.
 #[derive(Clone, Copy, Debug, PartialEq, Eq)]
 pub enum Group {
-    /// First letter C.
+    /// Parcels: first letter C.
     Parcel,
-    /// First letter E: express mail.
+    /// Express mail: first letter E.
     Ems,
-    /// First letter R.
+    /// Registered items: first letter R.
     Registered,
-    /// First letter V.
+    /// Insured items: first letter V.
     Insured,
-    /// Any other first letter.
+    /// Items with any other first letter.
     Other,
 }

@@ -6,16 +6,18 @@ use crate::serial::Serial;
 use crate::service::Service;
 use crate::text_fault::TextFault;
 
-/// An identifier of a postal item, as RA473124829US (UPU S10). Its text has 13 characters: the two
-/// letters of the service indicator, the eight digits of the serial number, the check digit, and
-/// the two letters of the country code. Every service, serial number and country makes one.
+/// An identifier of a postal item, for example RA473124829US (UPU S10).
+///
+/// Its text has 13 characters: the two letters of the service indicator, the eight digits of the
+/// serial number, the check digit, and the two letters of the country code. Every combination of
+/// service, serial number and country is an identifier.
 #[derive(Clone, Copy, Debug, PartialEq, Eq)]
 pub struct Id {
-    /// What kind of item it is.
+    /// Service indicator: the kind of item.
     pub service: Service,
-    /// Which item of that service and country it is.
+    /// Serial number of the item, 0 to 99,999,999.
     pub serial: Serial,
-    /// Whose post issued it.
+    /// Country code of the post that issued the identifier.
     pub country: Country,
 }
 
@@ -25,8 +27,16 @@ impl Id {
     ghost use Rattle.s10_core.specs.TextFault.{IsFirstRefusal};
     ghost use Rattle.s10_core.specs.declared.id.Id.{Id};
 
-    /// Reads the 13 characters of an identifier and no others. The refusals come in the order of
-    /// `TextFault`.
+    /// Reads an identifier from exactly its 13 characters.
+    ///
+    /// # Errors
+    ///
+    /// The first that applies:
+    ///
+    /// - `Length` if the text does not have 13 characters.
+    /// - `Letter` if the leftmost wrong place needs a letter from A to Z.
+    /// - `Digit` if the leftmost wrong place needs a digit.
+    /// - `CheckDigit` if the check digit is not that of the serial number.
     pub fn read(text: &[u8]) -> Result<Id, TextFault>
         ensures ok { IfOk result (Spells text.now) }
         ensures spelled { (id : Id) → Spells text.now id → result ≡ Ok id }
@@ -49,9 +59,15 @@ impl Id {
         })
     }
 
-    /// Reads an identifier as it stands on a label: with ASCII spaces anywhere, and letters of
-    /// either case. A refusal counts characters and places without the spaces. What a label may
-    /// show is this project's choice, see docs/IDENTIFIERS.md.
+    /// Reads an identifier as printed on a label: with ASCII spaces anywhere, and letters of either
+    /// case.
+    ///
+    /// The rules for labels are this project's choice, see docs/IDENTIFIERS.md.
+    ///
+    /// # Errors
+    ///
+    /// The errors of `read` for the text without its spaces and in capitals; a place is counted in
+    /// that text.
     pub fn read_label(text: &[u8]) -> Result<Id, TextFault>
         ensures ok { IfOk result (SpellsLoosely text.now) }
         ensures spelled { (id : Id) → SpellsLoosely text.now id → result ≡ Ok id }
@@ -60,7 +76,7 @@ impl Id {
         Id::read(&normalize_label(text)?)
     }
 
-    /// The 13 characters in ASCII, as `read` takes them: no spaces, and capitals alone.
+    /// Returns the 13 characters of the identifier in ASCII: capitals and digits, no spaces.
     pub fn write(&self) -> [u8; 13]
         ensures { Spells result self.now }
     {

@@ -1,10 +1,14 @@
-//! Texts as they stand on labels.
+//! Texts as printed on labels.
 ghost use Rattle.std.specs.Prelude.{◌≡◌, ◌≢◌, IfOk, OnErr, IfErr, length};
 ghost use Rattle.s10_core.specs.Id.{normalized};
 
 use crate::text_fault::TextFault;
 
-/// The 13 characters of a label text, without its spaces and in capitals.
+/// Returns the 13 characters of a label text without its spaces and in capitals.
+///
+/// # Errors
+///
+/// - `Length` if the text without its spaces does not have 13 characters.
 pub fn normalize_label(text: &[u8]) -> Result<[u8; 13], TextFault>
     ensures ok { IfOk result (λ strict. strict ≡ normalized text.now) }
     ensures refused { IfErr result (λ fault. fault ≡ TextFault.Length) }

@@ -1,4 +1,4 @@
-//! What holds of every text and every identifier.
+//! Laws of texts and identifiers.
 ghost use Rattle.std.specs.Prelude.{◌≡◌, ◌↔◌, ℕ, List, slice_range, IsTrue};
 ghost use Rattle.s10_core.specs.declared.id.Id.{Id};
 ghost use Rattle.s10_core.specs.declared.text_fault.TextFault.{TextFault};
@@ -6,8 +6,10 @@ ghost use Rattle.s10_core.specs.Serial.{AreEightDigits, number_of, digits_of};
 ghost use Rattle.s10_core.specs.Id.{Spells, same_id};
 ghost use Rattle.s10_core.specs.TextFault.{IsFirstRefusal};
 
-/// An identifier has one spelling, and a text spells one identifier, whose serial number its
-/// digits stand for, or has one first refusal.
+/// States that an identifier has one spelling, and that a text either spells one identifier or has
+/// one first refusal.
+///
+/// The digits of a spelling are those of the serial number.
 pub fn one_spelling_each()
     ensures one_text { (a b : List ℕ) (id : Id) → Spells a id → Spells b id → a ≡ b }
     ensures one_id { (text : List ℕ) (x y : Id) → Spells text x → Spells text y → x ≡ y }
@@ -19,6 +21,6 @@ pub fn one_spelling_each()
     ensures no_both { (text : List ℕ) (id : Id) (fault : TextFault) → Spells text id
         → ¬ (IsFirstRefusal text fault) }
 
-    // The test of two identifiers that definitions use.
+    // The test for equal identifiers that definitions use.
     ensures same { (x y : Id) → IsTrue (same_id x y) ↔ (x ≡ y) }
 {}

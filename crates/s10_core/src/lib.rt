@@ -1,5 +1,4 @@
-//! Identifiers of postal items, as the standard S10 of the Universal Postal Union has them:
-//! what they are made of, how they are spelled, read and written.
+//! Identifiers of postal items (UPU S10): their parts, their spelling, reading and writing.
 #![tactic(auto)]
 
 mod country;

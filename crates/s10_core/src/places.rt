@@ -1,10 +1,15 @@
-//! What may stand at each place of a text.
+//! The kind of character that each place of an identifier needs.
 ghost use Rattle.std.specs.Prelude.{◌≡◌, ℕ, IfErr, OnOk, length};
 ghost use Rattle.s10_core.specs.TextFault.{IsRightBefore, IsFirstRefusal};
 
 use crate::text_fault::TextFault;
 
-/// Refuses a text at its leftmost wrong place.
+/// Checks that each of 13 characters is of the kind that its place needs.
+///
+/// # Errors
+///
+/// - `Letter` if the leftmost wrong place needs a letter from A to Z.
+/// - `Digit` if the leftmost wrong place needs a digit.
 pub fn check_places(text: &[u8]) -> Result<(), TextFault>
     requires { length text.now ≡ 13 }
     ensures ok { OnOk result (IsRightBefore text.now 13) }

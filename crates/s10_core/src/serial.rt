@@ -3,11 +3,13 @@ ghost use Rattle.s10_core.specs.Serial.{IsSerial, AreEightDigits, number_of};
 
 use std::marker::Model;
 
-/// The greatest serial number.
+// The greatest serial number.
 const LAST: u32 = 99_999_999;
 
-/// A serial number, 0 to 99,999,999: the eight digits of an identifier before its check digit
-/// (UPU S10). None of them is reserved here: this project's choice, see docs/IDENTIFIERS.md.
+/// A serial number, 0 to 99,999,999: the eight digits of an identifier before its check digit (UPU
+/// S10).
+///
+/// No serial number is reserved: this project's choice, see docs/IDENTIFIERS.md.
 #[derive(Clone, Copy, Debug, PartialEq, Eq)]
 pub struct Serial {
     value: u32,
@@ -27,7 +29,7 @@ impl Model for Serial {
 }
 
 impl Serial {
-    /// The serial number of this value, or `None` above 99,999,999.
+    /// Returns the serial number of this value, or `None` if it is above 99,999,999.
     pub fn new(value: u32) -> Option<Serial>
         ensures { SomeIff result (IsSerial value) value }
     {
@@ -38,7 +40,9 @@ impl Serial {
         }
     }
 
-    /// Reads exactly eight ASCII digits, as 00000008. Any other text is `None`.
+    /// Reads a serial number from exactly eight ASCII digits, for example 00000008.
+    ///
+    /// Returns `None` for any other text.
     pub fn read(digits: &[u8]) -> Option<Serial>
         ensures { SomeIff result (AreEightDigits digits.now) (number_of digits.now) }
     {
@@ -55,7 +59,7 @@ impl Serial {
         Some(Serial { value })
     }
 
-    /// The value, 0 to 99,999,999.
+    /// Returns the value, 0 to 99,999,999.
     pub fn value(&self) -> u32
         ensures value { result ≡ self.now }
         ensures in_range { IsSerial self.now }

@@ -5,9 +5,9 @@ use crate::group::Group;
 use crate::letter_pair::LetterPair;
 use std::marker::Model;
 
-/// A service indicator, as RA: what kind of item it is (UPU S10). Two letters, each from A to Z.
-/// Which indicators are assigned is not looked at: this project's choice, see
-/// docs/IDENTIFIERS.md.
+/// A service indicator of two letters from A to Z, for example RA: the kind of item (UPU S10).
+///
+/// Any two letters are accepted, assigned or not: this project's choice, see docs/IDENTIFIERS.md.
 #[derive(Clone, Copy, Debug, PartialEq, Eq)]
 pub struct Service {
     letters: LetterPair,
@@ -24,7 +24,8 @@ impl Model for Service {
 }
 
 impl Service {
-    /// The service of these letters, or `None` where one of them is no capital ASCII letter.
+    /// Returns the service of these two ASCII characters, or `None` if one of them is not a capital
+    /// letter.
     pub fn new(letters: [u8; 2]) -> Option<Service>
         ensures capitals { IsSome result ↔ All IsCapital letters }
         ensures letters { IfSome result (λ service. letters_of service ≡ letters) }
@@ -33,7 +34,7 @@ impl Service {
         Some(Service { letters })
     }
 
-    /// The two letters in ASCII, first and second.
+    /// Returns the two letters in ASCII, in order.
     pub fn bytes(&self) -> [u8; 2]
         ensures letters { result ≡ letters_of self.now }
         ensures capitals { AreCapitals self.now }
@@ -41,7 +42,7 @@ impl Service {
         self.letters.bytes()
     }
 
-    /// The group that the first letter names.
+    /// Returns the group that the first letter names.
     pub fn group(&self) -> Group
         ensures { result ≡ group_of self.now.0 }
     {

@@ -2,7 +2,7 @@ use Rattle.std.proofs.Common.{◌≡◌, ◌≤◌, take, length}
 use Rattle.s10_core.specs.Id.{normalized}
 use Rattle.s10_core.proofs.label.normalize_label.Given as goal
 
--- what is written is the front of the text, tidied
+-- What is written is the normalized front of the text.
 abbrev pub invariant-loop-character : goal.invariant-loop-character
 invariant-loop-character l = record {
   front : take l.count l.strict ≡ normalized (take l.character-index l.text);

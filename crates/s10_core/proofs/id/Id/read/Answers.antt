@@ -10,7 +10,7 @@ use Rattle.s10_core.proofs.Spellings.{spelled_unrefused, right_letters, right_se
 use Rattle.s10_core.proofs.Spellings.{one_spelled, is_some_where}
 use Rattle.s10_core.proofs.id.Id.read.Goals as goal
 
--- a refusal that is handed on is the one that was met
+-- A returned refusal is the one that the inner call gave.
 passed_up : {T : Type 0} (r : Result T TextFault) (fault : TextFault) (P : TextFault → Type 0)
     → IsErrAnd r (λ e. e ≡ fault) → P fault → IfErr r P
 passed_up (Ok x) fault P is p = tt
