@@ -98,7 +98,7 @@ spelling_right id in_range =
 pub spelled_right : (text : List ℕ) (id : Id) → Spells text id → IsRightBefore text 13
 spelled_right text id s = rw s.spelled (spelling_right id s.in_range)
 
--- a text that spells an identifier has no refusal
+-- A text that spells an identifier has no refusal.
 pub spelled_unrefused : (text : List ℕ) (id : Id) (fault : TextFault) → Spells text id
     → ¬ (IsFirstRefusal text fault)
 spelled_unrefused text id Length s refused = refused (rw s.spelled refl)

@@ -1,4 +1,4 @@
--- A datagram has one request, and none of a request is refused.
+-- A datagram asks at most one request, and a request is refused for nothing.
 use Rattle.std.proofs.Common.{◌≡◌, ℕ, ◌+◌, ◌^◌, ◌<◌, true, List, [], ◌∷◌, ◌++◌, length, take, drop}
 use Rattle.std.proofs.Common.{None, Result, Ok, Err, refl, sym, ap, ◌∙◌, arith}
 use Rattle.std.specs.Prelude.{IfOk, IfErr, nat_lt, if◌then◌else◌, ◌==◌}
@@ -22,7 +22,7 @@ use Rattle.s10_wire.specs.Kind.{kind_of, code_of, version_of, request_length}
 use Rattle.s10_wire.specs.WireFault.{byte, number, is_count, request_fields, request_refusals}
 use Rattle.s10_wire.specs.WireFault.{first_refusal}
 
--- what was read of bytes that are no longer is what they ask
+-- A request that was read from all of the bytes is the one that they ask.
 pub is_asked : (b : List ℕ) (k : Kind) (r : Result Request WireFault)
     → b ≡ 0x53 ∷ 0x31 ∷ version_of k ∷ (code_of k + 0) ∷ drop 4 b → length b ≡ request_length k
     → IfOk r (λ q. kind_of q.body ≡ k) → IfOk r IsRequest
@@ -41,7 +41,7 @@ is_asked b k (Ok q) head len code range rest =
           ∷ (code_of (kind_of q.body) + 0) ∷ t) whole,
     )
 
--- the body that follows a header, by the code of its kind
+-- The two letters at an offset.
 abbrev pub pair_in : List ℕ → ℕ → ℕ × ℕ
 pair_in b at = (byte b at, byte b (at + 1))
 
@@ -181,7 +181,7 @@ asked_is_read b (Err fault) found refused q asks =
     ap (λ (x : List ℕ). first_refusal (request_refusals x)) asks.1 ∙ not_refused q asks.0 in
     absurd cc
 
--- bytes that are refused ask nothing
+-- Bytes that are refused ask nothing.
 pub refused_asks_nothing : (b : List ℕ) (r : Result Request WireFault)
     → result_err r ≡ first_refusal (request_refusals b)
     → IfErr r (λ fault. (q : Request) → ¬ Asks b q)
@@ -190,7 +190,7 @@ refused_asks_nothing b (Err fault) refused = λ q asks. let none : first_refusal
     ≡ None = ap (λ (x : List ℕ). first_refusal (request_refusals x)) asks.1
     ∙ not_refused q asks.0 in absurd cc
 
--- one request for each datagram
+-- A datagram asks at most one request.
 pub one_request : (b : List ℕ) (p q : Request) → Asks b p → Asks b q → p ≡ q
 one_request b p q ap_ aq = same_requests 0 p q [] [] ap_.0 aq.0
     (ap (λ (t : List ℕ). t ++ []) (sym ap_.1 ∙ aq.1))

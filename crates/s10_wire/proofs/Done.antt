@@ -1,4 +1,4 @@
--- What follows the outcome byte of a Done reply.
+-- The fields after the outcome byte of a Done reply.
 use Rattle.std.proofs.Common.{◌≡◌, ℕ, ◌+◌, ◌*◌, ◌<◌, ◌≤◌, List, ◌∷◌, ◌++◌, length, get_or, drop}
 use Rattle.std.proofs.Common.{sym, ap, subst, ◌∙◌, arith, append_assoc}
 use Rattle.std.proofs.lemmas.List.{drop_more, get_or-drop}
@@ -13,23 +13,24 @@ use Rattle.s10_wire.specs.Datagrams.{u32_bytes, fields, outcome_bytes, IsU32, Is
 use Rattle.s10_wire.specs.Ids.{AreIds, spellings_of}
 use Rattle.s10_wire.specs.WireFault.{byte, first_refusal, identifier_fields, done_fields}
 
--- the reply to a request with this body is long enough, and begins with the byte of Done after the request
+-- A reply to this body is done if it is long enough, and the byte after the request is 0.
 abbrev IsDone : List ℕ → Body → Type 0
 IsDone b body = (done_length (kind_of body) b ≤ length b)
     × (byte b (request_length (kind_of body)) ≡ 0)
 
--- the outcome follows the request
+-- The bytes of the outcome follow the request.
 abbrev Stands : List ℕ → Body → Outcome → Type 0
 Stands b body o = IsOutcome o × (drop (request_length (kind_of body)) b ≡ outcome_bytes o
     ++ drop (done_length (kind_of body) b) b)
 
--- a byte and what follows it
+-- A byte and those after it.
 pub after_byte : (b tail : List ℕ) (at n : ℕ) → at < length b → byte b at ≡ n → drop (at + 1) b
     ≡ tail → drop at b ≡ n ∷ tail
 after_byte b tail at n within is rest = drop_more b at 0 within
     ∙ ap (λ (x : ℕ). x ∷ drop (at + 1) b) is ∙ ap (λ (l : List ℕ). n ∷ l) rest
 
--- the byte of Done, a day and identifiers, read one after the other, are all that stands up to there
+-- The outcome byte 0, a day and identifiers, read one after the other, are all bytes up to an
+-- offset.
 after_done : (b day ids : List ℕ) (at upto : ℕ) → at < length b → byte b at ≡ 0 → drop (at + 1) b
     ≡ day ++ drop (at + 5) b → drop (at + 5) b ≡ ids ++ drop upto b
     → drop at b ≡ (0 ∷ day ++ ids) ++ drop upto b
@@ -39,7 +40,7 @@ after_done b day ids at upto lt done day_read ids_read =
     ∙ ap (λ (l : List ℕ). 0 ∷ l) (day_read ∙ ap (λ (l : List ℕ). day ++ l) ids_read
     ∙ sym (append_assoc day ids (drop upto b)))
 
--- a day and an identifier that were read are what a Done Draw has
+-- A day and an identifier that were read are the fields of a Done Draw.
 pub drawn_read : (b : List ℕ) (body : Body) (service country : ℕ × ℕ) (day : ℕ) (id : Id)
     → body ≡ Draw service country → IsDone b body → IsU32 day → drop 17 b ≡ u32_bytes day
     ++ drop 21 b → IsId id × (drop 21 b ≡ spelling_of id ++ drop 34 b)
@@ -52,13 +53,13 @@ drawn_read b body service country day id is done fits day_read id_read =
           34 (omega (arith, here.0)) here.1 day_read id_read.1,
     )) done
 
--- how many identifiers are asked for, in the request
+-- The number of identifiers that the request asks for.
 pub asked_count : (b : List ℕ) (service country : ℕ × ℕ) (count : ℕ)
     → drop 12 b ≡ fields (DrawMany service country count) ++ drop 17 b → count ≡ byte b 16
 asked_count b service country count begins = sym (ap (λ (l : List ℕ). get_or l 4 0) begins)
     ∙ get_or-drop 12 b 4 0
 
--- a day and as many identifiers as the request asks for are what a Done sheet has
+-- A day and as many identifiers as the request asks for are the fields of a Done sheet.
 pub drawn_many_read : (b : List ℕ) (body : Body) (service country : ℕ × ℕ) (count day : ℕ)
     (ids : List Id) → body ≡ DrawMany service country count → IsDone b body
     → drop 12 b ≡ fields body ++ drop (request_length (kind_of body)) b → IsU32 day
@@ -77,7 +78,8 @@ drawn_many_read b body service country count day ids is done begins fits day_rea
           (omega (arith, here.0)) here.1 day_read read,
     )) done begins
 
--- the first identifier that is refused, of as many as the request asks for, is the first field of a Done sheet that is
+-- The first refused identifier, among as many as the request asks for, is the first refused field
+-- of a Done sheet.
 pub many_refused : (b : List ℕ) (body : Body) (service country : ℕ × ℕ) (count : ℕ)
     → body ≡ DrawMany service country count → drop 12 b ≡ fields body
     ++ drop (request_length (kind_of body)) b

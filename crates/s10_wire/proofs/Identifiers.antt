@@ -37,7 +37,7 @@ digit_passes n = grind (arith, common_steps)
 same_passes : (n : ℕ) → (n == n) ≡ true
 same_passes n = grind (arith, common_steps)
 
--- a text that passes the test spells the identifier in it
+-- A text that passes the test spells the identifier in it.
 passed : (a b d1 d2 d3 d4 d5 d6 d7 d8 k c d : ℕ)
     → is_spelling (a ∷ b ∷ d1 ∷ d2 ∷ d3 ∷ d4 ∷ d5 ∷ d6 ∷ d7 ∷ d8 ∷ k ∷ c ∷ d ∷ []) ≡ true
     → (id : Id) × Spells (a ∷ b ∷ d1 ∷ d2 ∷ d3 ∷ d4 ∷ d5 ∷ d6 ∷ d7 ∷ d8 ∷ k ∷ c ∷ d ∷ []) id
@@ -95,7 +95,7 @@ passed_text (a ∷ b ∷ d1 ∷ d2 ∷ d3 ∷ d4 ∷ d5 ∷ d6 ∷ d7 ∷ d8 ∷
     passed a b d1 d2 d3 d4 d5 d6 d7 d8 k c d e
 passed_text _ len e = absurd (omega arith)
 
--- a spelling passes the test
+-- A spelling passes the test.
 pub spelling_passes : (id : Id) → IsId id → is_spelling (spelling_of id) ≡ true
 spelling_passes id ok =
     rw (
@@ -122,14 +122,14 @@ fails_of : (t : Bool) → (t ≡ true → ⊥) → t ≡ false
 fails_of true wrong = absurd (wrong refl)
 fails_of false wrong = refl
 
--- a text that is refused fails it
+-- A text that is refused fails the test.
 pub refused_fails : (text : List ℕ) (fault : TextFault) → length text ≡ 13
     → IsFirstRefusal text fault → is_spelling text ≡ false
 refused_fails text fault len refused =
     fails_of (is_spelling text) (λ e. let p = passed_text text len e in
     spelled_unrefused text p.0 fault p.1 refused)
 
--- the identifier stands at the offset
+-- The spelling of the identifier is at the offset.
 pub stands_at : (b : List ℕ) (at : ℕ) (id : Id) → Spells (take 13 (drop at b)) id
     → drop at b ≡ spelling_of id ++ drop (at + 13) b
 stands_at b at id s = sym (take-append-drop 13 (drop at b))

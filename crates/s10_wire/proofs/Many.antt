@@ -19,7 +19,7 @@ pub length-spellings : (ids : List Id) → length (spellings_of ids) ≡ 13 * le
 length-spellings [] = refl
 length-spellings (id ∷ ids) = omega (arith, length-spellings ids)
 
--- the identifiers that stand there, n
+-- The first `count` identifiers of the bytes.
 pub ids_in : ℕ → List ℕ → List Id
 ids_in zero b = []
 ids_in (suc count) b = id_in b 0 ∷ ids_in count (drop 13 b)
@@ -36,7 +36,7 @@ ids_again (id ∷ ids) ok = rw (
   ids_again ids (All-tail IsId id ids ok),
 ) refl
 
--- none of them is refused
+-- None of the identifiers is refused.
 pub identifiers_pass : (at : ℕ) (b : List ℕ) (ids : List Id) (rest : List ℕ) → All IsId ids
     → drop at b ≡ spellings_of ids ++ rest → first_refusal (identifier_fields at (length ids) b)
     ≡ None
@@ -48,12 +48,12 @@ identifiers_pass at b (id ∷ ids) rest ok e =
     rw (text, spelling_passes id (All-head IsId id ids ok)) (identifiers_pass (at + 13) b ids rest
     (All-tail IsId id ids ok) later)
 
--- one more of a list
+-- One more element of a list.
 pub one_more : (ids : List Id) (i : ℕ) (x : Id) → i < length ids → x ≡ get_or ids i x
     → take (i + 1) ids ≡ take i ids ++ x ∷ []
 one_more ids i x lt e = take_more ids i x lt ∙ ap (λ (y : Id). take i ids ++ y ∷ []) (sym e)
 
--- the texts of one more after those so far
+-- The texts with that of one more identifier at the end.
 pub spellings_more : (old now new : List ℕ) (ids more : List Id) (x : Id)
     → now ≡ old ++ spellings_of ids → new ≡ now ++ spelling_of x → more ≡ ids ++ x ∷ []
     → new ≡ old ++ spellings_of more
@@ -61,20 +61,20 @@ spellings_more old now new ids more x before after grown =
     after ∙ ap (λ (l : List ℕ). l ++ spelling_of x) before ∙ flat_map_more spelling_of old ids x
     ∙ ap (λ (l : List Id). old ++ spellings_of l) (sym grown)
 
--- a first identifier that passes leaves those after it
+-- If the first identifier passes, those after it decide.
 pub passed_one : (at count : ℕ) (b : List ℕ) → 1 ≤ count → is_identifier b at ≡ true
     → first_refusal (identifier_fields at count b)
     ≡ first_refusal (identifier_fields (at + 13) (count - 1) b)
 passed_one at zero b some ok = absurd (omega (arith, some))
 passed_one at (suc n) b some ok = let e : suc n - 1 ≡ n = omega arith in rw (ok, e) refl
 
--- and one that does not is refused
+-- If the first identifier does not pass, it is the first refusal.
 pub refused_one : (at count : ℕ) (b : List ℕ) → 1 ≤ count → is_identifier b at ≡ false
     → first_refusal (identifier_fields at count b) ≡ Some (Field at)
 refused_one at zero b some no' = absurd (omega (arith, some))
 refused_one at (suc n) b some no' = rw no' refl
 
--- one more identifier was read into the room
+-- One more identifier was read into the array.
 pub read_more : (b : List ℕ) (room : List Id) (p at : ℕ) (x : Id) → p < length room
     → at ≡ 22 + 13 * p → drop 22 b ≡ spellings_of (take p room) ++ drop (22 + 13 * p) b
     → drop at b ≡ spelling_of x ++ drop (at + 13) b
@@ -111,7 +111,7 @@ refused_here b p at count asked fault lt is same before err =
     ∙ ap (λ (n : ℕ). first_refusal (identifier_fields n (count - p) b)) is ∙ sym before
     ∙ ap (λ (n : ℕ). first_refusal (identifier_fields 22 n b)) same
 
--- n identifiers were read
+-- All `count` identifiers were read.
 pub read_ids : (b : List ℕ) (room : List Id) (count asked p : ℕ) (result : Option (List Id))
     (ids : List Id) → result ≡ Some ids → SomeIff result (IsCount (length (take count room)))
     (take count room)

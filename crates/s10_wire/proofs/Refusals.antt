@@ -18,7 +18,7 @@ passed_over : (applies : Bool) (fault : WireFault) (r s : List (Bool × WireFaul
 passed_over true fault r s later none = absurd cc
 passed_over false fault r s later none = later none
 
--- where none of the first list applies, the second decides
+-- If none of the first list applies, the second list decides.
 pub second_decides : (r s : List (Bool × WireFault)) → first_refusal r ≡ None
     → first_refusal (r ++ s) ≡ first_refusal s
 second_decides [] s none = refl
@@ -31,14 +31,14 @@ found_before : (applies : Bool) (other fault : WireFault) (r s : List (Bool × W
 found_before true other fault r s later found = found
 found_before false other fault r s later found = later found
 
--- what the first list refuses is refused so
+-- If one of the first list applies, the first list decides.
 pub first_decides : (r s : List (Bool × WireFault)) (fault : WireFault) → first_refusal r
     ≡ Some fault → first_refusal (r ++ s) ≡ Some fault
 first_decides [] s fault found = absurd cc
 first_decides (refusal ∷ r) s fault found = found_before refusal.0 refusal.1 fault r s
     (first_decides r s fault) found
 
--- after the header of a request its length and its fields decide
+-- After the header of a request, its length and its fields decide.
 pub length_decides : (b : List ℕ) (kind : Kind) → None ≡ first_refusal (header_refusals 0 b)
     → kind_named 0 b ≡ Some kind
     → first_refusal (request_refusals b) ≡ first_refusal (refusals_after_request b kind)
@@ -47,7 +47,7 @@ length_decides b kind passed named =
     (sym passed)
     ∙ ap (λ (named : Option Kind). first_refusal (of_kind named (refusals_after_request b))) named
 
--- after the header of a reply its length and its fields decide
+-- After the header of a reply, its length and its fields decide.
 pub reply_length_decides : (b : List ℕ) (kind : Kind)
     → None ≡ first_refusal (header_refusals 0x80 b) → kind_named 0x80 b ≡ Some kind
     → first_refusal (reply_refusals b) ≡ first_refusal (refusals_after_reply b kind)
@@ -56,7 +56,7 @@ reply_length_decides b kind passed named =
     (sym passed)
     ∙ ap (λ (named : Option Kind). first_refusal (of_kind named (refusals_after_reply b))) named
 
--- after the header and the length of a reply its fields decide
+-- After the header and the length of a reply, its fields decide.
 pub fields_decide : (b : List ℕ) (kind : Kind) → None ≡ first_refusal (header_refusals 0x80 b)
     → kind_named 0x80 b ≡ Some kind → is_reply_long kind b ≡ true
     → first_refusal (reply_refusals b) ≡ first_refusal (request_fields kind b ++ outcome_refusals
@@ -67,7 +67,7 @@ one_decides : (fit : Bool) → cond fit None (Some Outcome) ≡ first_refusal ((
 one_decides true = refl
 one_decides false = refl
 
--- an outcome byte that is not that of a Done reply is refused where it does not fit
+-- An outcome byte other than 0 is refused if it does not fit.
 pub not_done : (b : List ℕ) (kind : Kind) (code : ℕ) → code ≢ 0
     → code ≡ byte b (request_length kind) → cond (code_fits kind code) None (Some Outcome)
     ≡ first_refusal (outcome_refusals kind b)

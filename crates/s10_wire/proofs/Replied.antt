@@ -1,4 +1,4 @@
--- A datagram has one reply, and none of a reply is refused.
+-- A datagram is at most one reply, and a reply is refused for nothing.
 use Rattle.std.proofs.Common.{Bool, true, cond, Some, ltb, eqb, ◌≡◌, ℕ, ◌+◌, ◌*◌, ◌/◌, List, []}
 use Rattle.std.proofs.Common.{◌++◌, length, drop, None, Result, Ok, Err, refl, sym, ap, ◌∙◌, arith}
 use Rattle.std.proofs.Common.{append-nil}
@@ -37,7 +37,7 @@ use Rattle.std.proofs.lemmas.Bool.{and_from, lt-ltb, le-ltb, eq-eqb, eqb-true}
 use Rattle.s10_wire.proofs.Many.{length-spellings, ids_in, ids_again, identifiers_pass}
 use Rattle.s10_wire.proofs.Asked.{right_fields, same_requests, id_in}
 
--- the outcome that follows a request of a kind
+-- The refusal with this outcome byte.
 code_outcome : ℕ → Outcome
 code_outcome code =
     if code == 1 then NotThePost else if code == 2 then BadGrant else if code == 3 then Overlap
@@ -107,7 +107,7 @@ outcome_again (Withdraw range) Closed ok fit = refl
 outcome_again (Withdraw range) NumberReused ok fit = refl
 outcome_again body o ok fit = absurd cc
 
--- what follows the request's bytes
+-- The bytes after those of the request.
 behind : (k : ℕ) (mark : ℕ) (q : Request) (rest : List ℕ) → k ≡ request_length (kind_of q.body)
     → drop k (datagram mark q ++ rest) ≡ rest
 behind k mark q rest e = rw e (after_body mark q.customer q.number q.body rest)
@@ -123,7 +123,7 @@ behind k mark q rest e = rw e (after_body mark q.customer q.number q.body rest)
     after_body mark customer number (DrawMany service country count) rest = refl
     after_body mark customer number (Withdraw range) rest = refl
 
--- one reply for each datagram
+-- A datagram is at most one reply.
 pub one_reply : (b : List ℕ) (p q : Request) (u o : Outcome) → Replies b p u → Replies b q o
     → (p ≡ q) × (u ≡ o)
 one_reply b p q u o rp rq =
@@ -145,7 +145,7 @@ one_reply b p q u o rp rq =
 abbrev asked_by : ℕ → ℕ → Body → Request
 asked_by customer number body = record { customer = customer; number = number; body = body }
 
--- the header and the length of a reply are right, and so is what follows the request
+-- The header and the length of a reply pass, so its fields decide.
 reply_after : (c n : ℕ) (body : Body) (o : Outcome) → IsBody body → IsOutcome o → fits body o ≡ true
     → let b : List ℕ = datagram 0x80 (asked_by c n body) ++ outcome_bytes o in
     (first_refusal (reply_refusals b) ≡ first_refusal (request_fields (kind_of body) b
@@ -197,7 +197,7 @@ reply_after c n (Withdraw range) Closed ok out fit = (refl, refl)
 reply_after c n (Withdraw range) NumberReused ok out fit = (refl, refl)
 reply_after c n body o ok out fit = absurd cc
 
--- a reply of given parts isn't refused
+-- A reply with these parts is not refused.
 reply_right : (c n : ℕ) (body : Body) (o : Outcome) → IsBody body → IsOutcome o → fits body o ≡ true
     → first_refusal (reply_refusals (datagram 0x80 (asked_by c n body) ++ outcome_bytes o)) ≡ None
 reply_right c n body o ok out fit =
@@ -221,7 +221,7 @@ replied_is_read b (Ok reply) found refused q o replies = one_reply b reply.reque
 replied_is_read b (Err fault) found refused q o replies =
     let none : first_refusal (reply_refusals b) ≡ None = reply_unrefused b q o replies in absurd cc
 
--- bytes that are refused reply nothing
+-- Bytes that are refused reply to nothing.
 pub refused_replies_nothing : (b : List ℕ) (r : Result Reply WireFault)
     → result_err r ≡ first_refusal (reply_refusals b)
     → IfErr r (λ fault. (q : Request) (o : Outcome) → ¬ Replies b q o)

@@ -1,4 +1,4 @@
--- Bytes that are put into a room.
+-- Bytes that are put into an array padded with zeros.
 use Rattle.std.proofs.Common.{◌≡◌, ℕ, ◌+◌, ◌-◌, ◌≤◌, List, ◌++◌, length, take, drop, refl, sym, ap}
 use Rattle.std.proofs.Common.{ap₂, ◌∙◌, arith, length-append}
 use Rattle.std.specs.Prelude.{replicate}
@@ -8,7 +8,7 @@ use Rattle.std.proofs.lemmas.Slice.{take-put_mid, drop-put_mid}
 use borrow.Rule.Slice.PartMut.{put_mid}
 use Rattle.s10_wire.specs.Padding.{zero_padded, IsZeroPadded}
 
--- bytes with zeros after them are the bytes of their room
+-- The bytes in front of the zeros are those that were padded.
 pub front_is : (size : ℕ) (room : List ℕ) (len : ℕ) (bytes : List ℕ) → len ≡ length bytes
     → room ≡ zero_padded size bytes → take len room ≡ bytes
 front_is size room len bytes long rest = ap₂ take long rest
@@ -25,7 +25,7 @@ is_roomed size room len bytes few long rest =
           ∙ sym (ap (zero_padded size) front);
     }
 
--- a room of zeros once bytes were written at its front
+-- An array of zeros holds the bytes that are written at its front.
 pub fill_roomed : (size len : ℕ) (front bytes : List ℕ) → len ≡ length bytes → len ≤ size
     → front ≡ bytes → IsZeroPadded size (front ++ drop len (replicate size 0)) len
 fill_roomed size len front bytes long few same =
@@ -33,13 +33,13 @@ fill_roomed size len front bytes long few same =
     drop-replicate len size 0 ∙ ap (λ (n : ℕ). replicate (size - n) 0) long in
     is_roomed size _ len bytes few long (ap₂ (λ (l m : List ℕ). l ++ m) same zeros)
 
--- rooms of one size and one count of bytes are the same room where their bytes are
+-- Equal arrays that hold the same number of bytes hold the same bytes.
 pub one_front : (size : ℕ) (a b : List ℕ) → zero_padded size a ≡ zero_padded size b
     → length a ≡ length b → a ≡ b
 one_front size a b rooms lens = sym (front_is size (zero_padded size a) (length a) a refl refl)
     ∙ front_is size (zero_padded size a) (length a) b lens rooms
 
--- the room once bytes were written after those that it held
+-- The array once bytes are appended to those that it holds.
 pub put_is : (size : ℕ) (room : List ℕ) (len k : ℕ) (ys bytes : List ℕ) → IsZeroPadded size room len
     → len + length bytes ≤ size → k ≡ length bytes → ys ≡ bytes
     → put_mid len k room ys ≡ zero_padded size (take len room ++ bytes)
@@ -70,7 +70,7 @@ put_is size room len k ys bytes is fits count same =
     let before : take end made ≡ front ++ bytes = taken ∙ ap (λ (l : List ℕ). front ++ l) same in
     sym (take-append-drop end made) ∙ ap₂ (λ (l m : List ℕ). l ++ m) before behind
 
--- it holds them too
+-- That array holds the new bytes too.
 pub put_roomed : (size : ℕ) (room : List ℕ) (len k end : ℕ) (ys bytes : List ℕ)
     → IsZeroPadded size room len → end ≡ len + length bytes → end ≤ size → k ≡ length bytes
     → ys ≡ bytes

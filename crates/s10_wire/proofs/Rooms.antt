@@ -1,4 +1,4 @@
--- Identifiers in a room for sixteen.
+-- Identifiers in an array of sixteen.
 use Rattle.std.proofs.Common.{◌≡◌, ◌-◌, ◌≤◌, List, [], ◌∷◌, ◌++◌, length, get_or, take, drop}
 use Rattle.std.proofs.Common.{replicate, sym, ap, ap₂, ◌∙◌, arith, take_all}
 use Rattle.std.proofs.lemmas.List.{take-append-le, drop-replicate}

@@ -1,4 +1,4 @@
--- What `==` says of the identifiers of a sheet.
+-- The meaning of `==` for the identifiers of a sheet.
 use Rattle.std.proofs.Common.{◌≡◌, ◌-◌, List, length, take, ap, sym, ◌∙◌, rules, refl}
 use Rattle.std.specs.Prelude.{replicate}
 use Rattle.std.specs.Bool.{Decides}

@@ -21,11 +21,11 @@ use Rattle.s10_wire.specs.declared.outcome.Outcome.TheVariants.{NumberReused}
 use Rattle.s10_wire.specs.Ids.{IsCount, AreIds, spellings_of}
 use Rattle.s10_wire.specs.Kind.{kind_of, code_of, version_of, fits}
 
--- a number in four bytes
+-- A number in four bytes.
 abbrev pub u32_bytes : ℕ → List ℕ
 u32_bytes n = to_be_bytes w32 n
 
--- what a request has after its header
+-- The bytes of a request after its header.
 abbrev pub fields : Body → List ℕ
 fields (Grant holder service country first last) =
     u32_bytes holder ++ letters_of service ++ letters_of country ++ u32_bytes first
@@ -36,17 +36,17 @@ fields (Query id) = spelling_of id
 fields (DrawMany service country count) = letters_of service ++ letters_of country ++ count ∷ []
 fields (Withdraw range) = u32_bytes range
 
--- the bytes of a request, where mark is added to the kind byte
+-- The bytes of a request, with `mark` added to the kind byte.
 abbrev pub datagram : ℕ → Request → List ℕ
 datagram mark q =
     0x53 ∷ 0x31 ∷ version_of (kind_of q.body) ∷ (code_of (kind_of q.body) + mark) ∷ []
     ++ u32_bytes q.customer ++ u32_bytes q.number ++ fields q.body
 
--- a number of four bytes
+-- A number is a u32 if it fits in four bytes.
 abbrev pub IsU32 : ℕ → Type 0
 IsU32 n = n < 2 ^ 32
 
--- the parts are in their ranges
+-- A body is valid if its fields are in their ranges.
 abbrev pub IsBody : Body → Type 0
 IsBody (Grant holder service country first last) =
     IsU32 holder × AreCapitals service × AreCapitals country × IsSerial first × IsSerial last
@@ -56,20 +56,22 @@ IsBody (Query id) = IsId id
 IsBody (DrawMany service country count) = AreCapitals service × AreCapitals country × IsCount count
 IsBody (Withdraw range) = IsU32 range
 
+-- A request is valid if its fields are in their ranges.
 abbrev pub IsRequest : Request → Type 0
 IsRequest q = IsU32 q.customer × IsU32 q.number × IsBody q.body
 
--- the bytes are the datagram of the request
+-- The bytes ask a request if they are its datagram.
 abbrev pub Asks : List ℕ → Request → Type 0
 Asks b q = IsRequest q × (b ≡ datagram 0 q)
 
+-- A status is valid if its day is a u32.
 abbrev pub IsStatus : Status → Type 0
 IsStatus Unknown = ⊤
 IsStatus Never = ⊤
 IsStatus (Issued day) = IsU32 day
 IsStatus (StatusVoided day) = IsU32 day
 
--- the parts of the outcome are in their ranges
+-- An outcome is valid if its fields are in their ranges.
 abbrev pub IsOutcome : Outcome → Type 0
 IsOutcome (Granted range) = IsU32 range
 IsOutcome (Drawn day id) = IsU32 day × IsId id
@@ -77,14 +79,14 @@ IsOutcome (DrawnMany day ids) = IsU32 day × AreIds ids
 IsOutcome (Told status) = IsStatus status
 IsOutcome outcome = ⊤
 
--- a status in five bytes
+-- A status in five bytes.
 abbrev pub status_bytes : Status → List ℕ
 status_bytes Unknown = 0 ∷ u32_bytes 0
 status_bytes Never = 1 ∷ u32_bytes 0
 status_bytes (Issued day) = 2 ∷ u32_bytes day
 status_bytes (StatusVoided day) = 3 ∷ u32_bytes day
 
--- the outcome byte and what a Done reply has after it
+-- The outcome byte, and the fields that a Done reply has after it.
 abbrev pub outcome_bytes : Outcome → List ℕ
 outcome_bytes (Granted range) = 0 ∷ u32_bytes range
 outcome_bytes (Drawn day id) = 0 ∷ u32_bytes day ++ spelling_of id
@@ -104,7 +106,8 @@ outcome_bytes NoSuchRange = 10 ∷ []
 outcome_bytes Closed = 11 ∷ []
 outcome_bytes NumberReused = 9 ∷ []
 
--- the bytes are the datagram of the reply: the outcome fits, and it follows the request
+-- The bytes reply to a request with an outcome if it fits the request and they are the datagram of
+-- that reply.
 abbrev pub Replies : List ℕ → Request → Outcome → Type 0
 Replies b q o =
     IsRequest q × IsOutcome o × IsTrue (fits q.body o) × (b ≡ datagram 0x80 q ++ outcome_bytes o)

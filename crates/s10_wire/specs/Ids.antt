@@ -1,32 +1,32 @@
--- How many identifiers a sheet of labels has, and the identifiers themselves.
+-- The identifiers of a sheet, and their number.
 use Rattle.std.specs.Prelude.{◌≡◌, ℕ, ◌-◌, ◌≤◌, List, [], ◌∷◌, ◌++◌, length, take, replicate, All}
 use Rattle.std.specs.List.{flat_map}
 use Rattle.s10_core.specs.declared.id.Id.{Id}
 use Rattle.s10_core.specs.Id.{IsId, spelling_of}
 
--- 1 to 16
+-- A number is a count if it is from 1 to 16.
 abbrev pub IsCount : ℕ → Type 0
 IsCount n = (1 ≤ n) × (n ≤ 16)
 
--- the identifiers are n, and their parts are in their ranges
+-- A list is a sheet if it has 1 to 16 identifiers with parts in their ranges.
 abbrev pub AreIds : List Id → Type 0
 AreIds ids = IsCount (length ids) × All IsId ids
 
--- the first of them
+-- The first identifier of a list; of an empty list, AA 00000000 AA.
 abbrev pub first_id : List Id → Id
 first_id [] = record { service = (65, 65); serial = 0; country = (65, 65) }
 first_id (id ∷ ids) = id
 
--- the identifiers in a room for sixteen, the rest of which is the first of them again
+-- The identifiers, followed by copies of the first one, 16 in all.
 abbrev pub zero_padded : List Id → List Id
 zero_padded ids = ids ++ replicate (16 - length ids) (first_id ids)
 
--- the room holds n
+-- An array holds `len` identifiers if copies of the first one follow them, 16 in all.
 pub record AreZeroPadded (room : List Id) (len : ℕ) : Type 0 where
   pub count : IsCount len
   pub long : length (take len room) ≡ len
   pub rest : room ≡ zero_padded (take len room)
 
--- their texts, one after the other
+-- The texts of the identifiers, one after the other.
 abbrev pub spellings_of : List Id → List ℕ
 spellings_of ids = flat_map spelling_of ids

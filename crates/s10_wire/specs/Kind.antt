@@ -1,4 +1,4 @@
--- The kinds of calls, and the outcomes that fit each.
+-- The kinds of requests, and the outcomes that fit each.
 use Rattle.std.specs.Prelude.{ℕ, ◌+◌, ◌*◌, ◌==◌, Bool, ◌&&◌, List, nat_lt, length, slice_index}
 use Rattle.std.specs.Prelude.{true, false, if◌then◌else◌, Option, Some, None}
 use Rattle.s10_wire.specs.declared.kind.Kind.{Kind}
@@ -14,7 +14,7 @@ use Rattle.s10_wire.specs.declared.outcome.Outcome.TheVariants.{NoneFree, NotYou
 use Rattle.s10_wire.specs.declared.outcome.Outcome.TheVariants.{AlreadyVoid, NoSuchRange, Closed}
 use Rattle.s10_wire.specs.declared.outcome.Outcome.TheVariants.{NumberReused}
 
--- the kind of what is asked
+-- The kind of a body.
 abbrev pub kind_of : Body → Kind
 kind_of (Grant holder service country first last) = kinds.Grant
 kind_of (Draw service country) = kinds.Draw
@@ -23,7 +23,7 @@ kind_of (Query id) = kinds.Query
 kind_of (DrawMany service country count) = kinds.DrawMany
 kind_of (Withdraw range) = kinds.Withdraw
 
--- the kind byte of a request
+-- The kind byte of a request.
 abbrev pub code_of : Kind → ℕ
 code_of kinds.Grant = 1
 code_of kinds.Draw = 2
@@ -32,7 +32,7 @@ code_of kinds.Query = 4
 code_of kinds.DrawMany = 5
 code_of kinds.Withdraw = 6
 
--- the version byte of a kind
+-- The version byte of a kind.
 abbrev pub version_of : Kind → ℕ
 version_of kinds.Grant = 1
 version_of kinds.Draw = 1
@@ -41,7 +41,7 @@ version_of kinds.Query = 1
 version_of kinds.DrawMany = 2
 version_of kinds.Withdraw = 2
 
--- the kind with this version byte and this kind byte
+-- The kind with this version byte and this kind byte.
 abbrev pub kind_of_codes : ℕ → ℕ → Option Kind
 kind_of_codes version code =
     if version == 1 && code == 1 then Some kinds.Grant
@@ -52,7 +52,7 @@ kind_of_codes version code =
     else if version == 2 && code == 6 then Some kinds.Withdraw
     else None
 
--- how long a request is, and so where the outcome byte of its reply stands
+-- The length of a request, which is the offset of the outcome byte in its reply.
 abbrev pub request_length : Kind → ℕ
 request_length kinds.Grant = 28
 request_length kinds.Draw = 16
@@ -61,7 +61,7 @@ request_length kinds.Query = 25
 request_length kinds.DrawMany = 17
 request_length kinds.Withdraw = 16
 
--- how long a Done reply with these bytes is
+-- The length of a Done reply with these bytes.
 abbrev pub done_length : Kind → List ℕ → ℕ
 done_length kinds.Grant b = 33
 done_length kinds.Draw b = 34
@@ -70,16 +70,16 @@ done_length kinds.Query b = 31
 done_length kinds.DrawMany b = 22 + 13 * slice_index b 16
 done_length kinds.Withdraw b = 17
 
--- how long a reply with these bytes is, by its outcome byte
+-- The length of a reply with these bytes, by its outcome byte.
 abbrev pub reply_length : Kind → List ℕ → ℕ
 reply_length kind b =
     if slice_index b (request_length kind) == 0 then done_length kind b else request_length kind + 1
 
--- the outcome byte is there, and the length is that of a reply with this byte
+-- Whether the outcome byte is there, and the length is that of a reply with this byte.
 abbrev pub is_reply_long : Kind → List ℕ → Bool
 is_reply_long kind b = nat_lt (request_length kind) (length b) && length b == reply_length kind b
 
--- whether the outcome fits what was asked
+-- Whether the outcome fits the body.
 abbrev pub fits : Body → Outcome → Bool
 fits (Grant holder service country first last) (Granted range) = true
 fits (Grant holder service country first last) NotThePost = true

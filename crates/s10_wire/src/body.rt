@@ -1,40 +1,53 @@
 use crate::count::Count;
 use s10_core::{Country, Id, Serial, Service};
 
-/// What is asked, by kind. The kinds are this project's own choice, see docs/DATAGRAMS.md.
+/// What a request asks, by kind.
+///
+/// The kinds are this project's own choice, see docs/DATAGRAMS.md.
 #[derive(Clone, Copy, Debug, PartialEq, Eq)]
 pub enum Body {
-    /// The post gives a range of serial numbers, both ends included, to a holder.
+    /// The post grants a range of serial numbers, both ends included, to a holder.
     Grant {
-        /// The customer who may draw from the range; 0 is the post, which holds none.
+        /// The customer who may draw from the range; 0, the post, can hold none.
         holder: u32,
+        /// Service of the range.
         service: Service,
+        /// Country of the range.
         country: Country,
+        /// First serial number of the range.
         first: Serial,
+        /// Last serial number of the range.
         last: Serial,
     },
-    /// A customer asks for an identifier of this service and country.
+    /// A customer asks for one identifier of this service and country.
     Draw {
+        /// Service of the identifier.
         service: Service,
+        /// Country of the identifier.
         country: Country,
     },
-    /// A customer gives an identifier up before it was used.
+    /// A customer gives up an identifier that was not used.
     Void {
+        /// The identifier to void.
         id: Id,
     },
-    /// A customer, or the post, asks what became of an identifier.
+    /// A customer, or the post, asks for the state of an identifier.
     Query {
+        /// The identifier to look up.
         id: Id,
     },
-    /// A customer asks for n identifiers of this service and country, all of them or none.
+    /// A customer asks for a sheet of identifiers of this service and country: all of them or none.
     DrawMany {
+        /// Service of the identifiers.
         service: Service,
+        /// Country of the identifiers.
         country: Country,
+        /// Number of identifiers, 1 to 16.
         count: Count,
     },
-    /// The post closes a range, so that no more identifiers are issued from it.
+    /// The post closes a range: no identifier of it is issued any more.
     Withdraw {
-        /// The number that its Grant was answered with.
+        /// Number of the range, from the reply to its Grant.
         range: u32,
     },
 }

@@ -3,10 +3,10 @@ ghost use Rattle.s10_wire.specs.Ids.{IsCount};
 
 use std::marker::Model;
 
-/// The most labels of a sheet.
+// The greatest number of identifiers in a sheet.
 const MOST: u8 = 16;
 
-/// How many identifiers a sheet of labels has: 1 to 16.
+/// The number of identifiers in a sheet, 1 to 16.
 #[derive(Clone, Copy, Debug, PartialEq, Eq)]
 pub struct Count {
     value: u8,
@@ -26,7 +26,7 @@ impl Model for Count {
 }
 
 impl Count {
-    /// The count of this value, or `None` where it is 0 or above 16.
+    /// Returns the count of this value, or `None` if it is 0 or above 16.
     pub fn new(value: u8) -> Option<Count>
         ensures { SomeIff result (IsCount value) value }
     {
@@ -37,7 +37,7 @@ impl Count {
         }
     }
 
-    /// The value, 1 to 16.
+    /// Returns the value, 1 to 16.
     pub fn value(&self) -> u8
         ensures value { result ≡ self.now }
         ensures in_range { IsCount self.now }

@@ -1,4 +1,4 @@
-//! Requests and replies as datagrams.
+//! Encoders of requests and replies.
 
 ghost use Rattle.std.specs.Prelude.{◌≡◌, ◌+◌, ◌*◌, ◌≤◌, ◌++◌, ◌∷◌, length, All};
 ghost use Rattle.s10_core.specs.Letters.{AreCapitals};
@@ -105,7 +105,8 @@ fn put_body(frame: &mut Frame, body: &Body)
     }
 }
 
-/// A request's bytes, with mark added to the kind byte.
+// Returns the bytes of a request, with `mark` added to the kind byte: 0 in a request, 0x80 in a
+// reply.
 fn request_frame(request: &Request, mark: u8) -> Frame
     requires { mark ≤ 128 }
     ensures bytes { result ≡ datagram mark request.now }
@@ -121,14 +122,13 @@ fn request_frame(request: &Request, mark: u8) -> Frame
     frame
 }
 
-/// The datagram of a request.
+/// Encodes a request as its datagram (docs/DATAGRAMS.md).
 pub fn encode_request(request: &Request) -> Frame
     ensures { Asks result request.now }
 {
     request_frame(request, 0)
 }
 
-/// A code and a number after it.
 fn put_coded(frame: &mut Frame, code: u8, number: u32)
     requires { length frame.old ≤ 128 }
     ensures bytes { frame.new ≡ frame.old ++ code ∷ u32_bytes number }
@@ -180,7 +180,7 @@ fn put_drawn_many(frame: &mut Frame, day: u32, ids: &Ids)
     put_ids(frame, ids.as_slice());
 }
 
-/// The outcome byte, and what follows it.
+// Appends the outcome byte and the fields after it.
 fn put_outcome(frame: &mut Frame, outcome: &Outcome)
     requires { length frame.old ≤ 28 }
     ensures bytes { frame.new ≡ frame.old ++ outcome_bytes outcome.now }
@@ -210,7 +210,7 @@ fn put_outcome(frame: &mut Frame, outcome: &Outcome)
     }
 }
 
-/// The datagram of a reply.
+/// Encodes a reply as its datagram (docs/DATAGRAMS.md).
 pub fn encode_reply(reply: &Reply) -> Frame
     ensures { Replies result (request_of reply.now) (outcome_of reply.now) }
 {

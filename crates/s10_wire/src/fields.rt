@@ -1,4 +1,4 @@
-//! The fields of a datagram, each at its offset.
+//! Decoders of the fields of a datagram. An offset counts bytes from 0.
 
 ghost use Rattle.std.specs.Prelude.{◌≡◌, ℕ, ◌+◌, ◌<◌, ◌≤◌, ◌^◌, ◌++◌, ◌∷◌, Bool, true, false};
 ghost use Rattle.std.specs.Prelude.{length, take, drop, IfOk, IfErr};
@@ -14,7 +14,7 @@ use crate::count::Count;
 use crate::wire_fault::WireFault;
 use s10_core::{Country, Id, Serial, Service};
 
-/// The number at an offset.
+/// Returns the number in the four big-endian bytes at an offset.
 pub fn number_at(bytes: &[u8], at: usize) -> u32
     requires { at + 4 ≤ length bytes.now }
     ensures value { result ≡ number bytes.now at }
@@ -23,7 +23,11 @@ pub fn number_at(bytes: &[u8], at: usize) -> u32
     u32::from_be_bytes([bytes[at], bytes[at + 1], bytes[at + 2], bytes[at + 3]])
 }
 
-/// The service at an offset.
+/// Reads the service in the two bytes at an offset.
+///
+/// # Errors
+///
+/// - `Field(at)` if one of the bytes is not a letter from A to Z.
 pub fn service_at(bytes: &[u8], at: u16) -> Result<Service, WireFault>
     requires { at + 2 ≤ length bytes.now }
     ensures ok { IfOk result (λ s. are_letters bytes.now at ≡ true) }
@@ -39,7 +43,11 @@ pub fn service_at(bytes: &[u8], at: u16) -> Result<Service, WireFault>
     }
 }
 
-/// The country at an offset.
+/// Reads the country in the two bytes at an offset.
+///
+/// # Errors
+///
+/// - `Field(at)` if one of the bytes is not a letter from A to Z.
 pub fn country_at(bytes: &[u8], at: u16) -> Result<Country, WireFault>
     requires { at + 2 ≤ length bytes.now }
     ensures ok { IfOk result (λ s. are_letters bytes.now at ≡ true) }
@@ -55,7 +63,11 @@ pub fn country_at(bytes: &[u8], at: u16) -> Result<Country, WireFault>
     }
 }
 
-/// The serial number at an offset.
+/// Reads the serial number in the four big-endian bytes at an offset.
+///
+/// # Errors
+///
+/// - `Field(at)` if the number is above 99,999,999.
 pub fn serial_at(bytes: &[u8], at: u16) -> Result<Serial, WireFault>
     requires { at + 4 ≤ length bytes.now }
     ensures ok { IfOk result (λ v. is_serial bytes.now at ≡ true) }
@@ -69,7 +81,11 @@ pub fn serial_at(bytes: &[u8], at: u16) -> Result<Serial, WireFault>
     }
 }
 
-/// The identifier at an offset.
+/// Reads the identifier in the 13 bytes at an offset.
+///
+/// # Errors
+///
+/// - `Field(at)` if the bytes do not spell an identifier.
 #[tactic(auto, using(crate::proofs::Identifiers::spells_passes, crate::proofs::Identifiers::refused_fails, crate::proofs::Identifiers::stands_at))]
 pub fn id_at(bytes: &[u8], at: u16) -> Result<Id, WireFault>
     requires { at + 13 ≤ length bytes.now }
@@ -87,7 +103,11 @@ pub fn id_at(bytes: &[u8], at: u16) -> Result<Id, WireFault>
     }
 }
 
-/// The count at an offset.
+/// Reads the count of a sheet in the byte at an offset.
+///
+/// # Errors
+///
+/// - `Field(at)` if the byte is 0 or above 16.
 pub fn count_at(bytes: &[u8], at: u16) -> Result<Count, WireFault>
     requires { at + 1 ≤ length bytes.now }
     ensures ok { IfOk result (λ n. is_count (byte bytes.now at) ≡ true) }

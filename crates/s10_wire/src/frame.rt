@@ -1,10 +1,11 @@
 use std::marker::Model;
 
-/// A datagram to be sent: at most 256 bytes. Frames of the same bytes are the same frame.
+/// A datagram to send: at most 256 bytes. Frames with the same bytes are equal.
 #[derive(Clone, Copy, Debug, PartialEq, Eq)]
 pub struct Frame {
-    // zeros after the bytes, so that equal bytes are equal in every field
+    // The bytes, then zeros, so that equal bytes are equal in every field.
     room: [u8; 256],
+    // The number of bytes, 0 to 256.
     len: usize,
 }
 
@@ -27,7 +28,7 @@ impl Model for Frame {
 impl Frame {
     ghost use Rattle.std.specs.Prelude.{◌≡◌, ◌+◌, ◌≤◌, ◌++◌, [], length};
 
-    /// The bytes that are sent.
+    /// Returns the bytes to send.
     pub fn bytes(&self) -> &[u8]
         ensures bytes { result.now ≡ self.now }
         ensures few { length self.now ≤ 256 }
@@ -35,7 +36,7 @@ impl Frame {
         &self.room[..self.len]
     }
 
-    /// No bytes.
+    /// Returns a frame without bytes.
     pub(crate) fn new() -> Frame
         ensures bytes { result ≡ [] }
         ensures len { length result ≡ 0 }
@@ -46,7 +47,7 @@ impl Frame {
         }
     }
 
-    /// Adds bytes at the end.
+    /// Appends bytes. There must be space for them: at most 256 bytes in all.
     pub(crate) fn put(&mut self, bytes: &[u8])
         requires { length self.old + length bytes.now ≤ 256 }
         ensures bytes { self.new ≡ self.old ++ bytes.now }

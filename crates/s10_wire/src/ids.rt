@@ -4,14 +4,17 @@ ghost use Rattle.s10_wire.specs.Ids.{IsCount};
 use s10_core::Id;
 use std::marker::Model;
 
-/// The most labels of a sheet.
+// The greatest number of identifiers in a sheet.
 const MOST: usize = 16;
 
-/// The identifiers of a sheet of labels, in order: 1 to 16 of them. The same identifiers in the same order are equal.
+/// The identifiers of a sheet, in order: 1 to 16 of them.
+///
+/// Two lists are equal if they have the same identifiers in the same order.
 #[derive(Clone, Copy, Debug, PartialEq, Eq)]
 pub struct Ids {
-    // after the identifiers the first of them again, so that equal lists are equal in every field
+    // The identifiers, then copies of the first one, so that equal lists are equal in every field.
     room: [Id; MOST],
+    // The number of identifiers, 1 to 16.
     len: usize,
 }
 
@@ -33,7 +36,7 @@ impl Model for Ids {
 }
 
 impl Ids {
-    /// The list of these identifiers, or `None` where there are none or more than 16.
+    /// Returns the list of these identifiers, or `None` if there are none or more than 16.
     pub fn new(ids: &[Id]) -> Option<Ids>
         ensures { SomeIff result (IsCount (length ids.now)) ids.now }
     {
@@ -46,7 +49,7 @@ impl Ids {
         Some(Ids { room, len })
     }
 
-    /// How many there are, 1 to 16.
+    /// Returns the number of identifiers, 1 to 16.
     pub fn len(&self) -> usize
         ensures len { result ≡ length self.now }
         ensures in_range { IsCount result }
@@ -54,14 +57,14 @@ impl Ids {
         self.len
     }
 
-    /// The identifier at a place, counted from 0, or `None` where the list ends before it.
+    /// Returns the identifier at an index from 0, or `None` if the list is shorter.
     pub fn get(&self, at: usize) -> Option<Id>
         ensures { result ≡ slice_get self.now at }
     {
         self.as_slice().get(at).copied()
     }
 
-    /// All of them, in order.
+    /// Returns the identifiers, in order.
     pub fn as_slice(&self) -> &[Id]
         ensures ids { result.now ≡ self.now }
         ensures in_range { IsCount (length self.now) }

@@ -1,4 +1,4 @@
-//! The kinds of calls.
+//! The kinds of requests, with their codes and lengths (docs/DATAGRAMS.md).
 
 ghost use Rattle.std.specs.Prelude.{◌≡◌, ◌≤◌, length};
 ghost use Rattle.s10_wire.specs.Kind.{kind_of, code_of, version_of, kind_of_codes, request_length};
@@ -6,7 +6,7 @@ ghost use Rattle.s10_wire.specs.Kind.{done_length, is_reply_long};
 
 use crate::body::Body;
 
-/// What a call asks for.
+/// The kind of a request: what its body asks, without the fields.
 #[derive(Clone, Copy, Debug, PartialEq, Eq)]
 pub enum Kind {
     Grant,
@@ -18,7 +18,7 @@ pub enum Kind {
 }
 
 impl Kind {
-    /// The kind of what is asked.
+    /// Returns the kind of a body.
     pub fn of(body: &Body) -> Kind
         ensures { result ≡ kind_of body.now }
     {
@@ -32,7 +32,7 @@ impl Kind {
         }
     }
 
-    /// The kind whose requests have these two bytes.
+    /// Returns the kind whose requests have this version byte and this kind byte, if there is one.
     pub fn of_codes(version: u8, code: u8) -> Option<Kind>
         ensures { result ≡ kind_of_codes version code }
     {
@@ -47,7 +47,7 @@ impl Kind {
         }
     }
 
-    /// The kind byte of its requests.
+    /// Returns the kind byte of a request, 1 to 6.
     pub fn code(self) -> u8
         ensures { result ≡ code_of self }
     {
@@ -61,7 +61,7 @@ impl Kind {
         }
     }
 
-    /// The version byte.
+    /// Returns the version byte of a request, 1 or 2.
     pub fn version(self) -> u8
         ensures { result ≡ version_of self }
     {
@@ -71,7 +71,7 @@ impl Kind {
         }
     }
 
-    /// How long a request is.
+    /// Returns the length of a request, in bytes.
     pub fn request_length(self) -> usize
         ensures { result ≡ request_length self }
     {
@@ -83,7 +83,7 @@ impl Kind {
         }
     }
 
-    /// How long a Done reply with these bytes is.
+    // Returns the length of a Done reply that begins with these bytes, in bytes.
     fn done_length(self, bytes: &[u8]) -> usize
         requires { 17 ≤ length bytes.now }
         ensures { result ≡ done_length self bytes.now }
@@ -98,7 +98,7 @@ impl Kind {
         }
     }
 
-    /// Whether the bytes are as long as a reply is, by its outcome byte.
+    /// Returns whether the bytes have the length of a reply with their outcome byte.
     pub fn is_reply_long(self, bytes: &[u8]) -> bool
         ensures { result ≡ is_reply_long self bytes.now }
     {

@@ -1,4 +1,4 @@
-//! What holds of all datagrams.
+//! Laws of datagrams.
 
 ghost use Rattle.std.specs.Prelude.{◌≡◌, ◌≤◌, ◌↔◌, ℕ, List, length, IsTrue, IsOk, Ok, IfOk};
 ghost use Rattle.std.specs.Prelude.{IsOkAnd};
@@ -20,8 +20,10 @@ use crate::request::Request;
 use crate::request_decoder::decode_request;
 use crate::wire_fault::WireFault;
 
-/// Bytes ask one request at most, and are one reply at most; a request has one datagram, and so
-/// has a reply. What asks a request is refused for nothing, and so is what replies.
+/// States that a request and a reply have one datagram each, and that bytes ask at most one request
+/// and are at most one reply.
+///
+/// A datagram of a request is refused for nothing, and neither is one of a reply.
 pub fn one_datagram_each()
     ensures one_request { (b : List ℕ) (p q : Request) → Asks b p → Asks b q → p ≡ q }
     ensures one_datagram { (a b : List ℕ) (q : Request) → Asks a q → Asks b q → a ≡ b }
@@ -35,13 +37,17 @@ pub fn one_datagram_each()
         → Replies b q o → ¬ (IsFirstRefusalOfReply b fault) }
 {}
 
-/// A request has 28 bytes at most, and a reply 230.
+/// States that a request has at most 28 bytes, and a reply at most 230.
 pub fn datagrams_are_short()
     ensures request { (b : List ℕ) (q : Request) → Asks b q → length b ≤ 28 }
     ensures reply { (b : List ℕ) (q : Request) (o : Outcome) → Replies b q o → length b ≤ 230 }
 {}
 
-/// The datagram of a request is read as this request.
+/// Encodes a request and decodes the bytes, which gives the same request.
+///
+/// # Errors
+///
+/// None occurs: the result is always `Ok`.
 pub fn encoded_request_decodes(request: &Request) -> Result<Request, WireFault>
     ensures { result ≡ Ok request.now }
 {
@@ -49,7 +55,11 @@ pub fn encoded_request_decodes(request: &Request) -> Result<Request, WireFault>
     decode_request(frame.bytes())
 }
 
-/// The datagram of a reply is read as this reply.
+/// Encodes a reply and decodes the bytes, which gives the same reply.
+///
+/// # Errors
+///
+/// None occurs: the result is always `Ok`.
 pub fn encoded_reply_decodes(reply: &Reply) -> Result<Reply, WireFault>
     ensures { IsOkAnd result (λ read.
         (request_of read ≡ request_of reply.now) × (outcome_of read ≡ outcome_of reply.now)) }
@@ -58,7 +68,11 @@ pub fn encoded_reply_decodes(reply: &Reply) -> Result<Reply, WireFault>
     decode_reply(frame.bytes())
 }
 
-/// The request that is read of bytes is written as these bytes.
+/// Decodes a request and encodes it, which gives the same bytes.
+///
+/// # Errors
+///
+/// The fault of `decode_request` if the bytes do not ask a request.
 pub fn decoded_request_encodes(bytes: &[u8]) -> Result<Frame, WireFault>
     ensures same { IfOk result (λ frame. frame ≡ bytes.now) }
     ensures asked { (q : Request) → Asks bytes.now q → IsOk result }
@@ -69,7 +83,11 @@ pub fn decoded_request_encodes(bytes: &[u8]) -> Result<Frame, WireFault>
     }
 }
 
-/// The reply that is read of bytes is written as these bytes.
+/// Decodes a reply and encodes it, which gives the same bytes.
+///
+/// # Errors
+///
+/// The fault of `decode_reply` if the bytes are not a reply.
 pub fn decoded_reply_encodes(bytes: &[u8]) -> Result<Frame, WireFault>
     ensures same { IfOk result (λ frame. frame ≡ bytes.now) }
     ensures replied { (q : Request) (o : Outcome) → Replies bytes.now q o → IsOk result }
@@ -80,7 +98,8 @@ pub fn decoded_reply_encodes(bytes: &[u8]) -> Result<Frame, WireFault>
     }
 }
 
-/// Thirteen bytes pass the test of an identifier's field exactly where they spell one.
+/// States that 13 bytes pass the test of an identifier field if and only if they spell an
+/// identifier.
 pub fn identifier_fields_are_spellings()
     ensures { (text : List ℕ) → length text ≡ 13
         → (IsTrue (is_spelling text) ↔ ((id : Id) × Spells text id)) }

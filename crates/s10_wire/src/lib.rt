@@ -1,4 +1,4 @@
-//! Requests, replies and their datagrams.
+//! Requests, replies and their datagrams (docs/DATAGRAMS.md).
 #![tactic(auto)]
 
 mod body;

@@ -2,32 +2,34 @@ use crate::ids::Ids;
 use crate::status::Status;
 use s10_core::Id;
 
-/// What came of a call. The first six say that it was done, one for each kind of request.
+/// The outcome of a request: done, or the first refusal that applies.
+///
+/// The first six mean done, one for each kind of request. A day is a day of the ledger.
 #[derive(Clone, Copy, Debug, PartialEq, Eq)]
 pub enum Outcome {
-    /// A Grant made the range of this number, counted from 1.
+    /// A Grant created the range with this number, from 1.
     Granted { range: u32 },
-    /// A Draw issued the identifier, on this day of the ledger.
+    /// A Draw issued the identifier on this day.
     Drawn { day: u32, id: Id },
-    /// A larger Draw issued the identifiers, on this day of the ledger.
+    /// A DrawMany issued the identifiers on this day.
     DrawnMany { day: u32, ids: Ids },
     /// A Void was done.
     Voided,
-    /// The answer to a Query.
+    /// The status that a Query asked for.
     Told(Status),
-    /// A Withdraw was done.
+    /// A Withdraw closed the range.
     Withdrawn,
-    /// A Grant or a Withdraw by another than the post.
+    /// A Grant or a Withdraw of a customer other than the post.
     NotThePost,
     /// A Grant to holder 0, or with its first serial number above its last.
     BadGrant,
     /// A Grant that shares a serial number with a range of the same service and country.
     Overlap,
-    /// A Draw by a customer without an open range of that service and country.
+    /// A Draw or a DrawMany of a customer without an open range of that service and country.
     NoRange,
-    /// A Draw where none of these ranges has an identifier free.
+    /// A Draw or a DrawMany for which these ranges do not have enough free identifiers.
     NoneFree,
-    /// A Void or Query of an identifier in none of the customer's ranges.
+    /// A Void or a Query of an identifier outside the customer's ranges.
     NotYours,
     /// A Void of an identifier that was never issued.
     NotIssued,
@@ -37,6 +39,6 @@ pub enum Outcome {
     NoSuchRange,
     /// A Withdraw of a range that is closed.
     Closed,
-    /// Any request under a number that its customer used for another one.
+    /// A request with a number that its customer used for another request.
     NumberReused,
 }

@@ -5,7 +5,8 @@ use crate::body::Body;
 use crate::outcome::Outcome;
 use crate::request::Request;
 
-/// A request with an outcome that fits its kind. Which outcomes fit is told in docs/DATAGRAMS.md.
+/// A request with an outcome that fits its body. docs/DATAGRAMS.md lists the outcomes that fit each
+/// kind.
 #[derive(Clone, Copy, Debug, PartialEq, Eq)]
 pub struct Reply {
     request: Request,
@@ -18,7 +19,7 @@ impl Reply {
     ghost use Rattle.s10_wire.specs.Kind.{fits as fits_body};
     ghost use Rattle.s10_wire.specs.Reply.{request_of, outcome_of};
 
-    /// None where the outcome doesn't fit the kind of the request.
+    /// Returns the reply, or `None` if the outcome does not fit the body of the request.
     pub fn new(request: Request, outcome: Outcome) -> Option<Reply>
         ensures fits { IsSome result ↔ IsTrue (fits_body request.body outcome) }
         ensures parts { IfSome result (λ reply. (request_of reply ≡ request)
@@ -31,7 +32,7 @@ impl Reply {
         }
     }
 
-    // The reply, where the outcome is known to fit.
+    // Returns the reply with an outcome that is known to fit.
     pub(crate) fn of(request: Request, outcome: Outcome) -> Reply
         requires { IsTrue (fits_body request.body outcome) }
         ensures { (request_of result ≡ request) × (outcome_of result ≡ outcome) }
@@ -39,14 +40,14 @@ impl Reply {
         Reply { request, outcome }
     }
 
-    /// The request that is replied to.
+    /// Returns the request that is replied to.
     pub fn request(&self) -> Request
         ensures { result ≡ request_of self.now }
     {
         self.request
     }
 
-    /// What came of it.
+    /// Returns the outcome of the request.
     pub fn outcome(&self) -> Outcome
         ensures outcome { result ≡ outcome_of self.now }
         ensures fits { IsTrue (fits_body (request_of self.now).body result) }

@@ -1,4 +1,4 @@
-//! Replies are read.
+//! The decoder of replies.
 
 ghost use Rattle.std.specs.Prelude.{◌≡◌, ◌≢◌, ℕ, ◌+◌, ◌*◌, ◌<◌, ◌≤◌, ◌∷◌, [], ◌++◌, ◌==◌};
 ghost use Rattle.std.specs.Prelude.{if◌then◌else◌, Bool, true, None, Some, length, drop};
@@ -28,7 +28,7 @@ use crate::request_decoder::{kind_at, request_at};
 use crate::status::Status;
 use crate::wire_fault::WireFault;
 
-/// The status and the day of a Query's reply.
+// Reads the status and the day in the reply to a Query.
 fn status_at(bytes: &[u8]) -> Result<Status, WireFault>
     requires { 31 ≤ length bytes.now }
     ensures read { IfOk result (λ status. IsStatus status
@@ -47,7 +47,7 @@ fn status_at(bytes: &[u8]) -> Result<Status, WireFault>
     }
 }
 
-/// The identifiers, n, that stand one after the other from byte 22 on.
+// Reads `count` identifiers, one after the other, from byte 22 on.
 fn ids_at(bytes: &[u8], count: Count) -> Result<Ids, WireFault>
     requires { 22 + 13 * count ≤ length bytes.now }
     ensures read { IfOk result (λ ids. AreIds ids × (length ids ≡ count)
@@ -62,7 +62,7 @@ fn ids_at(bytes: &[u8], count: Count) -> Result<Ids, WireFault>
     Ok(Ids::new(&room[..count]).unwrap())
 }
 
-/// What was done, where the outcome byte after the request is 0.
+// Reads the outcome whose byte, after the request, is 0 for done.
 fn done_at(body: &Body, bytes: &[u8]) -> Result<Outcome, WireFault>
     requires long { done_length (kind_of body.now) bytes.now ≤ length bytes.now }
     requires done { slice_index bytes.now (request_length (kind_of body.now)) ≡ 0 }
@@ -97,7 +97,7 @@ fn done_at(body: &Body, bytes: &[u8]) -> Result<Outcome, WireFault>
     }
 }
 
-/// The outcome with this byte, which is not Done.
+// Returns the refusal that this outcome byte names for this body.
 fn refusal_of(body: &Body, code: u8) -> Result<Outcome, WireFault>
     requires { code ≢ 0 }
     ensures fits { IfOk result (λ outcome. IsTrue (fits body.now outcome)) }
@@ -122,7 +122,7 @@ fn refusal_of(body: &Body, code: u8) -> Result<Outcome, WireFault>
     }
 }
 
-/// The outcome after the request.
+// Reads the outcome after the request.
 fn outcome_at(body: &Body, bytes: &[u8]) -> Result<Outcome, WireFault>
     requires long { IsTrue (is_reply_long (kind_of body.now) bytes.now) }
     requires begins { drop 12 bytes.now ≡ fields body.now
@@ -141,7 +141,7 @@ fn outcome_at(body: &Body, bytes: &[u8]) -> Result<Outcome, WireFault>
     }
 }
 
-/// The reply that the bytes are, or the first refusal.
+// Reads the reply, or returns the first refusal of the bytes.
 fn reply_of(bytes: &[u8]) -> Result<Reply, WireFault>
     ensures found { IfOk result (λ reply. Replies bytes.now (request_of reply) (outcome_of reply)) }
     ensures refused { result_err result ≡ first_refusal (reply_refusals bytes.now) }
@@ -155,7 +155,19 @@ fn reply_of(bytes: &[u8]) -> Result<Reply, WireFault>
     Ok(Reply::of(request, outcome))
 }
 
-/// Reads a reply. The whole datagram is read: bytes after it are refused.
+/// Decodes a reply from the whole datagram (docs/DATAGRAMS.md).
+///
+/// # Errors
+///
+/// The first that applies:
+///
+/// - `Short` if there are fewer than 12 bytes.
+/// - `Magic` if the first two bytes are not 53 31.
+/// - `Version` if the version byte is neither 1 nor 2.
+/// - `Kind` if the version and the kind byte name no reply.
+/// - `Length` if the length is not that of the kind and the outcome byte.
+/// - `Field` if a field is wrong: the offset of the leftmost one.
+/// - `Outcome` if the outcome byte does not fit the kind.
 pub fn decode_reply(bytes: &[u8]) -> Result<Reply, WireFault>
     // What is read is what the bytes reply.
     ensures found { IfOk result (λ reply. Replies bytes.now (request_of reply) (outcome_of reply)) }

@@ -1,4 +1,4 @@
-//! Requests as datagrams.
+//! The decoder of requests, and of the request in a reply.
 
 ghost use Rattle.std.specs.Prelude.{◌≡◌, ℕ, ◌+◌, ◌-◌, ◌≤◌, ◌∷◌, ◌++◌, length, drop, IfOk, IfErr};
 ghost use Rattle.std.specs.Prelude.{Ok, Some};
@@ -17,7 +17,16 @@ use crate::kind::Kind;
 use crate::request::Request;
 use crate::wire_fault::WireFault;
 
-/// The kind that the header names, mark being added to its byte.
+/// Reads the kind that the header names, with `mark` added to the kind byte.
+///
+/// # Errors
+///
+/// The first that applies:
+///
+/// - `Short` if there are fewer than 12 bytes.
+/// - `Magic` if the first two bytes are not 53 31.
+/// - `Version` if the version byte is neither 1 nor 2.
+/// - `Kind` if the version and the kind byte name no kind.
 pub fn kind_at(bytes: &[u8], mark: u8) -> Result<Kind, WireFault>
     ensures refused { result_err result ≡ first_refusal (header_refusals mark bytes.now) }
     ensures named { IfOk result (λ kind. kind_named mark bytes.now ≡ Some kind) }
@@ -40,7 +49,6 @@ pub fn kind_at(bytes: &[u8], mark: u8) -> Result<Kind, WireFault>
     }
 }
 
-/// The body of a Grant.
 fn grant_at(bytes: &[u8]) -> Result<Body, WireFault>
     requires { 28 ≤ length bytes.now }
     ensures kind { IfOk result (λ body. kind_of body ≡ kinds.Grant) }
@@ -62,7 +70,6 @@ fn grant_at(bytes: &[u8]) -> Result<Body, WireFault>
     })
 }
 
-/// The body of a DrawMany.
 fn draw_many_at(bytes: &[u8]) -> Result<Body, WireFault>
     requires { 17 ≤ length bytes.now }
     ensures kind { IfOk result (λ body. kind_of body ≡ kinds.DrawMany) }
@@ -80,7 +87,6 @@ fn draw_many_at(bytes: &[u8]) -> Result<Body, WireFault>
     })
 }
 
-/// The body of a call of this kind.
 fn body_at(kind: Kind, bytes: &[u8]) -> Result<Body, WireFault>
     requires { request_length kind ≤ length bytes.now }
     ensures kind { IfOk result (λ body. kind_of body ≡ kind) }
@@ -107,7 +113,11 @@ fn body_at(kind: Kind, bytes: &[u8]) -> Result<Body, WireFault>
     }
 }
 
-/// The request of this kind that the bytes begin with.
+/// Reads the request of this kind at the beginning of the bytes, after a header that was checked.
+///
+/// # Errors
+///
+/// - `Field` if a field of the body is wrong: the offset of the leftmost one.
 pub fn request_at(kind: Kind, bytes: &[u8]) -> Result<Request, WireFault>
     requires { request_length kind ≤ length bytes.now }
     ensures kind { IfOk result (λ q. kind_of q.body ≡ kind) }
@@ -129,7 +139,7 @@ pub fn request_at(kind: Kind, bytes: &[u8]) -> Result<Request, WireFault>
     })
 }
 
-/// The request that the bytes ask, or the first refusal.
+// Reads the request, or returns the first refusal of the bytes.
 fn request_of(bytes: &[u8]) -> Result<Request, WireFault>
     ensures found { IfOk result (Asks bytes.now) }
     ensures refused { result_err result ≡ first_refusal (request_refusals bytes.now) }
@@ -141,7 +151,18 @@ fn request_of(bytes: &[u8]) -> Result<Request, WireFault>
     request_at(kind, bytes)
 }
 
-/// Reads a request. The whole datagram is read: bytes after it are refused.
+/// Decodes a request from the whole datagram (docs/DATAGRAMS.md).
+///
+/// # Errors
+///
+/// The first that applies:
+///
+/// - `Short` if there are fewer than 12 bytes.
+/// - `Magic` if the first two bytes are not 53 31.
+/// - `Version` if the version byte is neither 1 nor 2.
+/// - `Kind` if the version and the kind byte name no request.
+/// - `Length` if the length is not that of the kind.
+/// - `Field` if a field is wrong: the offset of the leftmost one.
 pub fn decode_request(bytes: &[u8]) -> Result<Request, WireFault>
     // What is read is what the bytes ask.
     ensures found { IfOk result (Asks bytes.now) }

@@ -1,12 +1,14 @@
-/// What is known of an identifier. A day is a whole number, counted as the server's clock counts.
+/// The state of an identifier, in the reply to a Query.
+///
+/// A day is a whole number, counted as the server's clock counts.
 #[derive(Clone, Copy, Debug, PartialEq, Eq)]
 pub enum Status {
-    /// In no range.
+    /// The identifier is in no range.
     Unknown,
-    /// In a range, and never issued.
+    /// The identifier is in a range, and was never issued.
     Never,
-    /// Issued, on this day for the last time.
+    /// The identifier was last issued on this day.
     Issued { day: u32 },
-    /// Voided after it was issued, on this day for the last time.
+    /// The identifier was last issued on this day, and then voided.
     Voided { day: u32 },
 }

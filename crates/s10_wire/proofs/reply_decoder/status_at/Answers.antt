@@ -10,7 +10,7 @@ use Rattle.s10_wire.specs.WireFault.{byte, number, first_refusal, done_fields}
 use Rattle.s10_wire.proofs.Done.{after_byte}
 use Rattle.s10_wire.proofs.reply_decoder.status_at.Goals as goal
 
--- what is refused of a status and its day
+-- The refusals of a status and its day.
 abbrev status_refusal : ℕ → ℕ → Option WireFault
 status_refusal code day =
     first_refusal ((nat_lt 3 code, Field 26) ∷ (nat_lt code 2 && not (day == 0), Field 27) ∷ [])
@@ -20,7 +20,7 @@ stands_refused : (b : List ℕ) (code day : ℕ) → byte b 26 ≡ code → day 
 stands_refused b code day is value = ap (λ (n : ℕ). status_refusal n day) (sym is)
     ∙ ap (λ (n : ℕ). status_refusal (byte b 26) n) value
 
--- a day that is none is refused
+-- A day other than 0 is refused.
 refused_day : (day : ℕ) → ¬ (day ≡ 0) → Some (Field 27) ≡ cond (not (day == 0)) (Some (Field 27))
     None
 refused_day day other = ap (λ (t : Bool). cond (not t) (Some (Field 27)) None)
