@@ -20,7 +20,7 @@ spaced-append (word ∷ words) more =
     ap (λ (t : List ℕ). 32 ∷ word ++ t) (spaced-append words more)
     ∙ sym (append_assoc (32 ∷ word) (spaced words) (spaced more))
 
--- more words after some
+-- Words written after others are all of them, in order.
 pub words_then : (u v w : Option (List ℕ)) (words more : List (List ℕ)) → Appends u v (spaced words)
     → Appends v w (spaced more) → Appends u w (spaced (words ++ more))
 words_then u v w words more first second =
@@ -28,7 +28,7 @@ words_then u v w words more first second =
     subst P (sym (spaced-append words more)) (Appends-then u v w (spaced words) (spaced more) first
     second)
 
--- the same, where the last of them are written by a call that is returned as it is
+-- The same if a call whose result is returned unchanged writes the last of them.
 pub words_follow : {T E : Type 0} (u v w : Option (List ℕ)) (words more : List (List ℕ))
     (r : Result T E)
     → Appends u v (spaced words) → OnOk r (Appends v w (spaced more))
@@ -36,13 +36,13 @@ pub words_follow : {T E : Type 0} (u v w : Option (List ℕ)) (words more : List
 words_follow u v w words more (Ok done) first second = words_then u v w words more first second
 words_follow u v w words more (Err fault) first second = tt
 
--- a word that is known under another name
+-- A word may be replaced by an equal one.
 pub same_word : {T E : Type 0} (u v : Option (List ℕ)) (a b : List ℕ) (r : Result T E) → a ≡ b
     → OnOk r (Appends u v (spaced (a ∷ []))) → OnOk r (Appends u v (spaced (b ∷ [])))
 same_word u v a b r e written = let P : List ℕ → Type 0 =
     λ word. OnOk r (Appends u v (spaced (word ∷ []))) in subst P e written
 
--- a line: its first word, the others, and its end
+-- A first word, other words and a line feed are a line.
 pub line_follows : {T E : Type 0} (u v w x : Option (List ℕ)) (first : List ℕ)
     (words : List (List ℕ)) (r : Result T E)
     → Appends u v first → Appends v w (spaced words) → OnOk r (Appends w x (codes "\n"))
@@ -52,7 +52,7 @@ line_follows u v w x first words (Ok done) a b c =
     a b) c
 line_follows u v w x first words (Err fault) a b c = tt
 
--- no word
+-- No words append nothing.
 pub Appends-nothing : (u : Option (List ℕ)) → Appends u u (spaced [])
 unfolding spaced
 Appends-nothing None = tt

@@ -18,16 +18,16 @@ use Rattle.s10_wire.specs.declared.outcome.Outcome.TheVariants.{NoneFree, NotYou
 use Rattle.s10_wire.specs.declared.outcome.Outcome.TheVariants.{AlreadyVoid, NoSuchRange, Closed}
 use Rattle.s10_wire.specs.declared.outcome.Outcome.TheVariants.{NumberReused}
 
--- words with a space before each
+-- The words, with a space before each.
 unfoldable pub spaced : List (List ℕ) → List ℕ
 spaced [] = []
 spaced (word ∷ words) = 32 ∷ word ++ spaced words
 
--- words with a space between, and a line feed at the end
+-- The line of a first word and others, with a space between them and a line feed at the end.
 abbrev pub line_of : List ℕ → List (List ℕ) → List ℕ
 line_of first words = first ++ spaced words ++ codes "\n"
 
--- what is asked, but for its kind
+-- The words of a body after its kind.
 abbrev pub body_words : Body → List (List ℕ)
 body_words (Grant holder service country first last) =
     codes "holder" ∷ decimal holder ∷ letters_of service ∷ letters_of country ∷ digits_of first
@@ -39,6 +39,7 @@ body_words (DrawMany service country count) = letters_of service ∷ letters_of 
     ∷ decimal count ∷ []
 body_words (Withdraw range) = decimal range ∷ []
 
+-- The word of the kind of a body.
 abbrev pub kind_word : Body → List ℕ
 kind_word (Grant holder service country first last) = codes "grant"
 kind_word (Draw service country) = codes "draw"
@@ -47,19 +48,20 @@ kind_word (Query id) = codes "query"
 kind_word (DrawMany service country count) = codes "draw-many"
 kind_word (Withdraw range) = codes "withdraw"
 
--- a request
+-- The words of a request.
 abbrev pub request_words : Request → List (List ℕ)
 request_words q =
     kind_word q.body ∷ codes "customer" ∷ decimal q.customer ∷ codes "number" ∷ decimal q.number
     ∷ body_words q.body
 
+-- The words of a status.
 abbrev pub status_words : Status → List (List ℕ)
 status_words Unknown = codes "unknown" ∷ []
 status_words Never = codes "never" ∷ []
 status_words (Issued day) = codes "issued" ∷ decimal day ∷ []
 status_words (StatusVoided day) = codes "voided" ∷ decimal day ∷ []
 
--- what came of it
+-- The words of an outcome.
 abbrev pub outcome_words : Outcome → List (List ℕ)
 outcome_words (Granted range) = codes "done" ∷ codes "range" ∷ decimal range ∷ []
 outcome_words (Drawn day id) = codes "done" ∷ codes "day" ∷ decimal day ∷ spelling_of id ∷ []
@@ -79,8 +81,10 @@ outcome_words NoSuchRange = codes "no-such-range" ∷ []
 outcome_words Closed = codes "closed" ∷ []
 outcome_words NumberReused = codes "number-reused" ∷ []
 
+-- The line of a request.
 abbrev pub request_line : Request → List ℕ
 request_line q = line_of (codes "request") (request_words q)
 
+-- The line of a reply.
 abbrev pub reply_line : Request → Outcome → List ℕ
 reply_line q o = line_of (codes "reply") (request_words q ++ outcome_words o)

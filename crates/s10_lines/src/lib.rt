@@ -1,4 +1,4 @@
-//! Requests and replies as lines, and the words that lines are made of.
+//! Requests and replies as lines of text, and the words of these lines.
 #![tactic(auto)]
 
 mod lines;

@@ -1,4 +1,4 @@
-//! Requests and replies as lines that a person reads.
+//! Requests and replies as lines for a person to read.
 
 ghost use Rattle.std.specs.Prelude.{◌≡◌, [], ◌∷◌, ◌++◌, map, codes, decimal, OnOk};
 ghost use Rattle.std.specs.Io.KnownBytes.{Appends};
@@ -14,7 +14,11 @@ use s10_core::{Country, Id, Serial, Service};
 use s10_wire::{Body, Ids, Outcome, Reply, Request, Status};
 use std::io::Write;
 
-/// Writes the line of a request, with its line feed. A fault may leave part of it written.
+/// Writes the line of a request, with its line feed.
+///
+/// # Errors
+///
+/// - `WriteFault` if the writer fails; part of the line may be written.
 pub fn write_request_line<W: Write>(request: &Request, out: &mut W) -> Result<(), WriteFault>
     ensures { OnOk result (Appends (W.contents out.old) (W.contents out.new)
         (request_line request.now)) }
@@ -24,7 +28,11 @@ pub fn write_request_line<W: Write>(request: &Request, out: &mut W) -> Result<()
     write_text(b"\n", out)
 }
 
-/// Writes the line of a reply, with its line feed. A fault may leave part of it written.
+/// Writes the line of a reply, with its line feed.
+///
+/// # Errors
+///
+/// - `WriteFault` if the writer fails; part of the line may be written.
 pub fn write_reply_line<W: Write>(reply: &Reply, out: &mut W) -> Result<(), WriteFault>
     ensures { OnOk result (Appends (W.contents out.old) (W.contents out.new)
         (reply_line (request_of reply.now) (outcome_of reply.now))) }
@@ -58,7 +66,7 @@ fn kind_name(body: &Body) -> &'static [u8]
     }
 }
 
-// A number after its name.
+// Writes a name and the number after it, as two words.
 fn write_named<W: Write>(name: &[u8], number: u32, out: &mut W) -> Result<(), WriteFault>
     ensures { OnOk result (Appends (W.contents out.old) (W.contents out.new)
         (spaced (name.now ∷ decimal number ∷ []))) }
@@ -152,7 +160,6 @@ fn write_drawn<W: Write>(day: u32, id: &Id, out: &mut W) -> Result<(), WriteFaul
     write_id(id, out)
 }
 
-// Identifiers, each as a word.
 fn write_ids<W: Write>(ids: &[Id], out: &mut W) -> Result<(), WriteFault>
     ensures { OnOk result (Appends (W.contents out.old) (W.contents out.new)
         (spaced (map spelling_of ids.now))) }

@@ -1,4 +1,4 @@
-//! The words of lines, each with a space before it. Nothing here takes memory.
+//! The words of lines, each with a space before it. No function here allocates memory.
 
 ghost use Rattle.std.specs.Prelude.{[], ◌∷◌, codes, decimal, OnOk};
 ghost use Rattle.std.specs.Io.KnownBytes.{Appends};
@@ -12,7 +12,11 @@ use itoa::Buffer;
 use s10_core::{Country, Id, Serial, Service, serial_digits};
 use std::io::Write;
 
-/// Writes a text as it stands.
+/// Writes a text unchanged.
+///
+/// # Errors
+///
+/// - `WriteFault` if the writer fails; part of the text may be written.
 pub fn write_text<W: Write>(text: &[u8], out: &mut W) -> Result<(), WriteFault>
     ensures { OnOk result (Appends (W.contents out.old) (W.contents out.new) text.now) }
 {
@@ -23,6 +27,10 @@ pub fn write_text<W: Write>(text: &[u8], out: &mut W) -> Result<(), WriteFault>
 }
 
 /// Writes a space and a word.
+///
+/// # Errors
+///
+/// - `WriteFault` if the writer fails; part of it may be written.
 #[tactic(auto, unfolding(crate::specs::Lines::spaced))]
 pub fn write_word<W: Write>(word: &[u8], out: &mut W) -> Result<(), WriteFault>
     ensures { OnOk result (Appends (W.contents out.old) (W.contents out.new)
@@ -32,8 +40,12 @@ pub fn write_word<W: Write>(word: &[u8], out: &mut W) -> Result<(), WriteFault>
     write_text(word, out)
 }
 
-/// Writes a number in decimal, without leading zeros and with no space before it: the first word
-/// of a line.
+/// Writes a number in decimal without leading zeros and without a space before it, as the first
+/// word of a line.
+///
+/// # Errors
+///
+/// - `WriteFault` if the writer fails; part of it may be written.
 pub fn write_first_decimal<W: Write>(number: u32, out: &mut W) -> Result<(), WriteFault>
     ensures { OnOk result (Appends (W.contents out.old) (W.contents out.new) (decimal number)) }
 {
@@ -42,6 +54,10 @@ pub fn write_first_decimal<W: Write>(number: u32, out: &mut W) -> Result<(), Wri
 }
 
 /// Writes a space and a number in decimal, without leading zeros.
+///
+/// # Errors
+///
+/// - `WriteFault` if the writer fails; part of it may be written.
 pub fn write_decimal<W: Write>(number: u32, out: &mut W) -> Result<(), WriteFault>
     ensures { OnOk result (Appends (W.contents out.old) (W.contents out.new)
         (spaced (decimal number ∷ []))) }
@@ -50,7 +66,11 @@ pub fn write_decimal<W: Write>(number: u32, out: &mut W) -> Result<(), WriteFaul
     write_word(buffer.format(number).as_bytes(), out)
 }
 
-/// Writes the letters of a service and of a country, as two words.
+/// Writes the letters of a service and of a country as two words.
+///
+/// # Errors
+///
+/// - `WriteFault` if the writer fails; part of it may be written.
 pub fn write_letters<W: Write>(
     service: Service,
     country: Country,
@@ -64,6 +84,10 @@ pub fn write_letters<W: Write>(
 }
 
 /// Writes two serial numbers as two words of eight digits.
+///
+/// # Errors
+///
+/// - `WriteFault` if the writer fails; part of it may be written.
 pub fn write_serials<W: Write>(first: Serial, last: Serial, out: &mut W) -> Result<(), WriteFault>
     ensures { OnOk result (Appends (W.contents out.old) (W.contents out.new)
         (spaced (digits_of first ∷ digits_of last ∷ []))) }
@@ -72,7 +96,11 @@ pub fn write_serials<W: Write>(first: Serial, last: Serial, out: &mut W) -> Resu
     write_word(&serial_digits(last), out)
 }
 
-/// Writes an identifier as a word.
+/// Writes an identifier as a word of 13 characters.
+///
+/// # Errors
+///
+/// - `WriteFault` if the writer fails; part of it may be written.
 pub fn write_id<W: Write>(id: &Id, out: &mut W) -> Result<(), WriteFault>
     ensures { OnOk result (Appends (W.contents out.old) (W.contents out.new)
         (spaced (spelling_of id.now ∷ []))) }
