@@ -22,22 +22,22 @@ use Rattle.std.proofs.lemmas.Option.{same_Some, none-some}
 own : IsNumeralModel (AllDigits 10) (digits_value 10)
 own = numerals_by_value (AllDigits 10) tells_digits
 
--- a number of two bytes is one of eight
+-- A number of 16 bits is one of 64 bits.
 pub wide : (n : ℕ) → n < 2 ^ 16 → n < 2 ^ 64
 wide n h = omega arith
 
--- a number begins with a digit
+-- A number begins with a digit.
 pub first_digit : (n : ℕ) → n < 2 ^ 16 → IsInRange 48 57 (get_or (decimal n) 0 0)
 first_digit n h = digit_at (decimal n) 0 (decimal_is_IsNumeral n (wide n h)).0.1
     (decimal_nonempty n (wide n h))
 
--- and with a zero only where it is zero
+-- A number that begins with a zero has one digit.
 pub no_leading_zero : (n : ℕ) → n < 2 ^ 16 → get_or (decimal n) 0 0 ≡ 48 → length (decimal n) ≡ 1
 no_leading_zero zero h first = ap length (decimal_digit 0 (omega arith))
 no_leading_zero (suc n) h first = let above : 48 < get_or (decimal (suc n)) 0 0 =
     first_decimal (suc n) (omega arith) (wide (suc n) h) in absurd (omega (arith, above))
 
--- what is parsed is spelled
+-- A parsed number is the one that the text spells.
 pub parsed_number : {E : Type 0} → (bs : List ℕ) (r : Result ℕ E) → ParsesUnsigned 16 10 bs r
     → get_or bs 0 0 ≢ 43 → (get_or bs 0 0 ≡ 48 → length bs ≤ 1)
     → IfSome (result_ok r) (λ n. bs ≡ decimal n)
@@ -50,12 +50,12 @@ parsed_number {E} bs (Ok x) parses plain single =
     sym same ∙ ap decimal (sym read.1)
 parsed_number {E} bs (Err e) parses plain single = tt
 
--- what is spelled is parsed
+-- A number that the text spells is parsed.
 pub number_parsed : {E : Type 0} → (bs : List ℕ) (r : Result ℕ E) → ParsesUnsigned 16 10 bs r
     → (n : ℕ) → n < 2 ^ 16 → bs ≡ decimal n → result_ok r ≡ Some n
 number_parsed bs r parses n h is = ap result_ok (parse-decimal 16 n bs r h (wide n h) is parses)
 
--- the first separator after a number
+-- The index of the first separator after a number.
 pub position_after : (n : ℕ) (rest : List ℕ) (sep : ℕ) → n < 2 ^ 16 → ¬ (IsAsciiDigit sep)
     → position (λ b. b == sep) (decimal n ++ sep ∷ rest) ≡ Some (length (decimal n))
 position_after n rest sep h other =
@@ -76,7 +76,7 @@ position_after n rest sep h other =
     lt-ltb (length ds) (length whole) (omega (arith, len)) in
     rw (is, low) refl
 
--- where a separator was found it stands
+-- The separator is at the index that was found for it.
 pub stands_at_position : (sep : ℕ) (xs : List ℕ) (at : ℕ) → position (λ b. b == sep) xs ≡ Some at
     → (at < length xs) × (xs ≡ take at xs ++ sep ∷ drop (at + 1) xs)
 stands_at_position sep xs at found = found_at (nat_lt (position_or_len p xs) (length xs)) refl found
@@ -100,7 +100,7 @@ stands_at_position sep xs at found = found_at (nat_lt (position_or_len p xs) (le
         )
     found_at false low is = absurd cc
 
--- a number before a separator is what stands before the separator's place
+-- A number before a separator is the text up to its index.
 pub cut_after : (xs : List ℕ) (at n : ℕ) (rest : List ℕ) (sep : ℕ) → n < 2 ^ 16
     → ¬ (IsAsciiDigit sep) → xs ≡ decimal n ++ sep ∷ rest
     → Some at ≡ position (λ b. b == sep) xs → (take at xs ≡ decimal n) × (drop (at + 1) xs ≡ rest)
@@ -111,14 +111,14 @@ cut_after xs at n rest sep h other is found =
     let front : take at xs ≡ ds = rw (place, is) (take-append_seam ds (sep ∷ rest)) in
     (front, rw (place, is) (drop-append-add ds (sep ∷ rest) 1))
 
--- and has such a place
+-- A text with a separator has an index of it.
 pub place_after : (xs : List ℕ) (n : ℕ) (rest : List ℕ) (sep : ℕ) → n < 2 ^ 16
     → ¬ (IsAsciiDigit sep) → xs ≡ decimal n ++ sep ∷ rest
     → None ≡ position (λ b. b == sep) xs → ⊥
 place_after xs n rest sep h other is found = none-some _ (found ∙ ap (position (λ b. b == sep)) is
     ∙ position_after n rest sep h other)
 
--- what holds of a result holds of the value that is taken from it
+-- A property of a result holds of the value in it.
 pub taken : {A E : Type 0} → (r : Result A E) (P : A → Type 0) (Q : E → Type 0) (x : A)
     → MatchResult r P Q → Some x ≡ result_ok r → P x
 taken (Ok y) P Q x holds is = subst P (same_Some y x (sym is)) holds
@@ -129,7 +129,7 @@ pub refused : {A E : Type 0} → (r : Result A E) (P : A → Type 0) (Q : E → 
 refused (Ok y) P Q holds is = absurd (none-some y is)
 refused (Err e) P Q holds is = (e, holds)
 
--- a number that is put into fewer bytes
+-- A number keeps its value in fewer bytes.
 pub kept_value : {E : Type 0} → (r : Result ℕ E) (P : Type 0) (n m : ℕ) → OkIff r P n
     → Some m ≡ result_ok r → m ≡ n
 kept_value (Ok k) P n m holds is = same_Some m k is ∙ holds.1
@@ -143,7 +143,7 @@ not_too_great (Err e) P n holds is = holds
 pub behind : (xs : List ℕ) (k : ℕ) → take (length xs - k) (drop k xs) ≡ drop k xs
 behind xs k = take_all (length xs - k) (drop k xs) (omega (arith, length-drop k xs))
 
--- a list of four
+-- A list of four elements, one by one.
 pub list_of_four : (xs : List ℕ) → length xs ≡ 4 → xs ≡ get_or xs 0 0 ∷ get_or xs 1 0
     ∷ get_or xs 2 0 ∷ get_or xs 3 0 ∷ []
 list_of_four (a ∷ b ∷ c ∷ d ∷ []) four = refl

@@ -1,4 +1,4 @@
--- What `==` says of peers and frames.
+-- The meaning of `==` for peers and frames.
 use Rattle.std.proofs.Common.{◌≡◌, true, length, ap, sym, ◌∙◌, nat_eq, Option, Some}
 use Rattle.std.specs.Prelude.{◌&&◌, unwrap_or}
 use Rattle.std.specs.Cmp.Lexicographic.{pointwise}
@@ -28,7 +28,7 @@ pub frames_pass : (f g : Frame) → f ≡ g → (pointwise nat_eq (zero_padded 2
 frames_pass f g e = and_from _ _ ((bytes_eq-Decides (zero_padded 256 f) (zero_padded 256 g)).1
     (ap (zero_padded 256) e)) (eq-eqb _ _ (ap length e))
 
--- one option holds one frame
+-- An option holds at most one frame.
 pub one_frame : (o : Option (Peer × Frame)) (p q : Peer) (f g : Frame) → o ≡ Some (p, f)
     → o ≡ Some (q, g) → f ≡ g
 one_frame o p q f g a b =

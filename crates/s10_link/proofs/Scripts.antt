@@ -23,14 +23,14 @@ pub takes_receipt : (xs : List Receipt) (k : ℕ) (r : Receipt) (result : Receiv
     result
 takes_receipt xs k r result found is = rw (add-one k) (takes_suc xs k r result found is)
 
--- the receipt that was looked up stands at its place
+-- The receipt that was looked up is the one at its index.
 pub receipt_at : (xs : List Receipt) (k : ℕ) (found : Option (Bor Receipt)) (r : Receipt)
     → IsItemAt xs k found → Some r ≡ option_copied found → slice_get xs k ≡ Some r
 receipt_at xs k None r looked is = absurd (none-some r (sym is))
 receipt_at xs k (Some b) r looked is = slice_get_read xs (length xs) k b.now refl looked.3.0
     looked.1 ∙ sym is
 
--- the bool that stands at its place says what the send answers
+-- The bool at its index is the result of the send.
 pub takes_send : (xs : List Bool) (k : ℕ) (read passes : Bool) (result : SendResult) → k < length xs
     → read ≡ get_or xs k read → read ≡ passes → TakesSend (passes ∷ drop (k + 1) xs)
     (drop (k + 1) xs) result

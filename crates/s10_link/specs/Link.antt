@@ -1,4 +1,4 @@
--- How the calls of a link move its trace, by what they answer.
+-- How a call of a link changes its trace, by its result.
 use Rattle.std.specs.Prelude.{◌≡◌, ◌-◌, ◌^◌, Option, Some, None, Result, Ok, Err}
 use Rattle.s10_link.specs.declared.trace.Trace.{Trace}
 use Rattle.s10_link.specs.declared.peer.Peer.{Peer}
@@ -8,15 +8,15 @@ use Rattle.s10_link.specs.declared.link_fault.LinkFault.{LinkFault}
 use Rattle.s10_link.specs.declared.link_fault.LinkFault.TheVariants.{Bind, Receive, Send, Spent}
 use Rattle.s10_link.specs.Trace.{after_call, after_failure, after_datagram, IsAfterFrame}
 
--- what a receive answers
+-- The result of a receive.
 abbrev pub ReceiveResult : Type 0
 ReceiveResult = Result (Option (Peer × Packet)) LinkFault
 
--- what a send answers
+-- The result of a send.
 abbrev pub SendResult : Type 0
 SendResult = Result (Unit {0}) LinkFault
 
--- what a receive does
+-- A receive with this result leads from the old trace to the new one.
 abbrev pub Receives : Trace → Trace → ReceiveResult → Type 0
 Receives old new (Ok None) = new ≡ after_call old
 Receives old new (Ok (Some p)) = new ≡ after_datagram old p
@@ -25,7 +25,7 @@ Receives old new (Err Spent) = (new ≡ old) × (old.calls ≡ 2 ^ 64 - 1)
 Receives old new (Err Bind) = ⊥
 Receives old new (Err Send) = ⊥
 
--- what a send of a frame to a peer does
+-- A send of a frame to a peer with this result leads from the old trace to the new one.
 abbrev pub Sends : Trace → Trace → Peer × Frame → SendResult → Type 0
 Sends old new p (Ok _) = IsAfterFrame old new p
 Sends old new p (Err Send) = new ≡ after_failure old

@@ -5,7 +5,7 @@ use Rattle.s10_link.specs.declared.peer.Peer.{Peer}
 use Rattle.s10_link.specs.declared.packet.Packet.{Packet}
 use Rattle.s10_wire.specs.declared.frame.Frame.{Frame}
 
--- nothing was called yet
+-- The trace before the first call.
 abbrev pub new_trace : Trace
 new_trace = record {
   calls = 0;
@@ -17,24 +17,25 @@ new_trace = record {
   given = None;
 }
 
--- each call was counted as one thing at most
+-- A trace is counted if each call is at most one of a failure, a send and a receipt.
 pub record IsCounted (t : Trace) : Type 0 where
   pub each : t.failures + t.sends + t.received ≤ t.calls
   pub run : t.alike ≤ t.sends
 
--- a call in which nothing came
+-- The trace after a call in which nothing arrived.
 abbrev pub after_call : Trace → Trace
 after_call t = record t { calls = t.calls + 1 }
 
--- a call that failed
+-- The trace after a call that failed.
 abbrev pub after_failure : Trace → Trace
 after_failure t = record t { calls = t.calls + 1; failures = t.failures + 1 }
 
--- a call in which this datagram was received from this peer
+-- The trace after a call in which this datagram was received from this peer.
 abbrev pub after_datagram : Trace → Peer × Packet → Trace
 after_datagram t p = record t { calls = t.calls + 1; received = t.received + 1; taken = Some p }
 
--- a call in which this frame was sent to this peer: `alike` goes on where it was the last one sent, and else starts over
+-- The new trace is the old one after a send of this frame to this peer: `alike` grows if the last
+-- send was equal, and is 1 otherwise.
 pub record IsAfterFrame (old new : Trace) (p : Peer × Frame) : Type 0 where
   pub after : new ≡ record old {
     calls = old.calls + 1;

@@ -1,11 +1,11 @@
-//! What holds of all frames and packets.
+//! Laws of frames and packets.
 
 ghost use Rattle.std.specs.Prelude.{◌≤◌, length};
 
 use crate::packet::Packet;
 use s10_wire::Frame;
 
-/// A frame holds 256 bytes at most, and a packet 512.
+/// States that a frame has at most 256 bytes, and a packet at most 512.
 pub fn padding_is_zero(frame: &Frame, packet: &Packet)
     ensures frame { length frame.now ≤ 256 }
     ensures packet { length packet.now ≤ 512 }

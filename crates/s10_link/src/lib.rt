@@ -1,4 +1,4 @@
-//! What carries datagrams: an end of an unreliable network, its peers, and what it counts.
+//! Links, which carry datagrams: an end of an unreliable network, its peers, and its trace.
 #![tactic(auto)]
 
 mod laws;

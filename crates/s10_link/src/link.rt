@@ -1,4 +1,4 @@
-//! What carries datagrams.
+//! The trait of links.
 
 ghost use Rattle.std.specs.Prelude.{◌≡◌, ⊤};
 ghost use Rattle.s10_link.specs.declared.trace.Trace.{Trace};
@@ -10,31 +10,44 @@ use crate::peer::Peer;
 use crate::trace::Trace;
 use s10_wire::Frame;
 
-/// An end of an unreliable network: datagrams may be lost, repeated or reordered.
+/// An end of an unreliable network: it may lose, repeat or reorder datagrams.
 pub trait Link {
-    /// What the link has counted.
+    /// The trace of the link.
     ghost trace_of: { Self → Trace };
 
-    /// How one call may change the link, beside its trace.
+    /// How one call may change the link, besides its trace.
     ghost step: { Self → Self → Type 0 } = { λ _ _. ⊤ };
 
-    /// The next datagram and the peer that it came from, or `None` where nothing came. Refused with
-    /// Receive or Spent alone.
+    /// Waits for the next datagram and returns it with its sender, or `None` if nothing arrived.
+    ///
+    /// # Errors
+    ///
+    /// - `Receive` if receiving failed.
+    /// - `Spent` if no call is left to the link; its trace is unchanged.
     fn receive(&mut self) -> Result<Option<(Peer, Packet)>, LinkFault>
         ensures trace { Receives (trace_of self.old) (trace_of self.new) result }
         ensures step { step self.old self.new };
 
-    /// The next datagram that has come already: as a receive, without a wait.
+    /// Returns the next datagram with its sender if it has already arrived, without waiting.
+    ///
+    /// # Errors
+    ///
+    /// The errors of `receive`.
     fn try_receive(&mut self) -> Result<Option<(Peer, Packet)>, LinkFault>
         ensures trace { Receives (trace_of self.old) (trace_of self.new) result }
         ensures step { step self.old self.new };
 
-    /// Sends a frame. Refused with Send or Spent alone.
+    /// Sends a frame to a peer.
+    ///
+    /// # Errors
+    ///
+    /// - `Send` if sending failed; whether the frame was sent is unknown.
+    /// - `Spent` if no call is left to the link; its trace is unchanged.
     fn send(&mut self, to: Peer, frame: &Frame) -> Result<(), LinkFault>
         ensures trace { Sends (trace_of self.old) (trace_of self.new) (to, frame.now) result }
         ensures step { step self.old self.new };
 
-    /// The calls since the link was made.
+    /// Returns the trace of the link: its calls since it was created.
     fn trace(&self) -> Trace
         ensures { result ≡ trace_of self.now };
 }

@@ -2,11 +2,13 @@ ghost use Rattle.std.specs.Prelude.{◌≡◌, ◌≤◌, take, length};
 
 use std::marker::Model;
 
-/// A datagram that came: its first 512 bytes. Packets of the same bytes are the same packet.
+/// A received datagram, of which the first 512 bytes are kept. Packets with the same bytes are
+/// equal.
 #[derive(Clone, Copy, Debug, PartialEq, Eq)]
 pub struct Packet {
-    // zeros after the bytes, so that equal bytes are equal in every field
+    // The bytes, then zeros, so that equal bytes are equal in every field.
     room: [u8; 512],
+    // The number of bytes, 0 to 512.
     len: usize,
 }
 
@@ -29,7 +31,7 @@ impl Model for Packet {
 impl Packet {
     ghost use Rattle.std.specs.Prelude.{◌≡◌, ◌≤◌, take, length};
 
-    /// Keeps the first 512 bytes; what a datagram has beyond them is left out.
+    /// Returns the first 512 bytes of a datagram; any others are ignored.
     pub fn new(datagram: &[u8]) -> Packet
         ensures { result ≡ take 512 datagram.now }
     {
@@ -40,7 +42,7 @@ impl Packet {
         Packet { room, len }
     }
 
-    /// The bytes that were kept.
+    /// Returns the bytes, at most 512.
     pub fn bytes(&self) -> &[u8]
         ensures bytes { result.now ≡ self.now }
         ensures few { length self.now ≤ 512 }
@@ -49,7 +51,7 @@ impl Packet {
     }
 }
 
-/// At most n of the first bytes.
+// Returns the first `most` bytes, or all if there are fewer.
 fn front(bytes: &[u8], most: usize) -> &[u8]
     ensures front { result.now ≡ take most bytes.now }
     ensures bound { length result.now ≤ most }

@@ -9,7 +9,9 @@ use std::{fmt, str};
 /// An IPv4 address and a port.
 #[derive(Clone, Copy, Debug, PartialEq, Eq)]
 pub struct Peer {
+    /// The four numbers of the address, in order.
     pub ip: [u8; 4],
+    /// The port.
     pub port: u16,
 }
 
@@ -18,7 +20,9 @@ impl Peer {
     ghost use Rattle.s10_link.specs.declared.peer.Peer.{Peer};
     ghost use Rattle.s10_link.specs.Peer.{SpellsPeer};
 
-    /// Reads an address as `127.0.0.1:4711`: no number has a leading zero.
+    /// Reads an address such as `127.0.0.1:4711`, or returns `None` for any other text.
+    ///
+    /// No number may have a leading zero.
     pub fn read(text: &[u8]) -> Option<Peer>
         // What is read is what the text spells.
         ensures spelled { IfSome result (SpellsPeer text.now) }
@@ -49,7 +53,7 @@ impl fmt::Display for Peer {
     }
 }
 
-// The number of one byte that stands before the first separator, and what follows it.
+// Reads the number of one byte before the first separator, and returns it with the text after that.
 fn octet_before(separator: u8, text: &[u8]) -> Option<(u8, &[u8])>
     requires { ¬ (IsAsciiDigit separator) }
     ensures spelled { IfSome result (λ read. text.now ≡ decimal read.0 ++ separator ∷ read.1.now) }
@@ -61,14 +65,14 @@ fn octet_before(separator: u8, text: &[u8]) -> Option<(u8, &[u8])>
     Some((octet, &text[at + 1..]))
 }
 
-// Where a byte first stands.
+// Returns the index of the first such byte.
 fn place_of(byte: u8, text: &[u8]) -> Option<usize>
     ensures { result ≡ position (λ other. other == byte) text.now }
 {
     text.iter().position(|other| *other == byte)
 }
 
-// The number that decimal digits spell without a leading zero.
+// Reads a decimal number without a leading zero or a plus sign, which the parser would accept.
 fn read_number(digits: &[u8]) -> Option<u16>
     ensures spelled { IfSome result (λ number. digits.now ≡ decimal number) }
     ensures read { (n : ℕ) → n < 2 ^ 16 → digits.now ≡ decimal n → result ≡ Some n }

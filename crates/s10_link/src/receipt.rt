@@ -1,12 +1,12 @@
 use crate::packet::Packet;
 use crate::peer::Peer;
 
-/// What a receive of a scripted link meets.
+/// The result of one receive of a scripted link.
 #[derive(Clone, Copy, Debug, PartialEq, Eq)]
 pub enum Receipt {
-    /// This datagram comes from this peer.
+    /// This datagram arrives from this peer.
     Deliver(Peer, Packet),
-    /// Nothing comes.
+    /// Nothing arrives.
     Nothing,
     /// The receive fails.
     Fail,

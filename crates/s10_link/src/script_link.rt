@@ -1,4 +1,4 @@
-//! A link that follows a script.
+//! A link that follows a script, for tests.
 
 use crate::link::Link;
 use crate::link_fault::LinkFault;
@@ -10,7 +10,7 @@ use s10_wire::Frame;
 use std::alloc::{AllocError, Global};
 use std::marker::Model;
 
-/// A link that takes what its calls meet from two lists.
+/// A link that takes the results of its calls from two lists.
 #[derive(Drop)]
 pub struct ScriptLink {
     receipts: Vec<Receipt>,
@@ -44,9 +44,15 @@ impl ScriptLink {
     ghost use Rattle.s10_link.specs.Trace.{new_trace};
     ghost use Rattle.s10_link.specs.ScriptLink.{Script};
 
-    /// Each receive takes the next receipt, and past the last one nothing comes; each send takes the
-    /// next bool, which says whether it succeeds, and past the last one the link is spent. The room
-    /// of the log is reserved here. A refusal drops both lists.
+    /// Creates a link from the results of its receives and of its sends, in order.
+    ///
+    /// Each receive takes the next receipt; after the last one nothing arrives. Each send takes the
+    /// next bool, which says whether it succeeds; after the last one the link is spent.
+    ///
+    /// # Errors
+    ///
+    /// - `AllocError` if the log, one entry per send, cannot be allocated; both lists are dropped
+    ///   then.
     pub fn new(
         alloc: Global,
         receipts: Vec<Receipt>,
@@ -70,7 +76,7 @@ impl ScriptLink {
         })
     }
 
-    /// All frames sent, with the peers that they went to, in order.
+    /// Returns all frames sent, each with the peer that it was sent to, in order.
     pub fn log(&self) -> &[(Peer, Frame)]
         ensures { result.now ≡ self.now.log }
     {

@@ -4,22 +4,23 @@ use crate::packet::Packet;
 use crate::peer::Peer;
 use s10_wire::Frame;
 
-/// The calls of a link since it was made.
+/// The calls of a link since it was created.
 #[derive(Clone, Copy, Debug, PartialEq, Eq)]
 pub struct Trace {
-    /// Calls of `receive` and `send`, but for those that answered Spent.
+    /// Number of calls of `receive`, `try_receive` and `send`, without those that returned `Spent`.
     pub calls: u64,
-    /// Calls that failed.
+    /// Number of these calls that failed.
     pub failures: u64,
-    /// Sends that succeeded.
+    /// Number of sends that succeeded.
     pub sends: u64,
-    /// How many of these, the last ones in a row, were `given`.
+    /// Number of successive sends, the last one included, of the same frame to the same peer as
+    /// `given`.
     pub alike: u64,
-    /// Datagrams received.
+    /// Number of datagrams received.
     pub received: u64,
-    /// The last datagram received, with the peer that it came from.
+    /// The last datagram received, with its sender.
     pub taken: Option<(Peer, Packet)>,
-    /// The last frame sent, with the peer that it went to.
+    /// The last frame sent, with the peer that it was sent to.
     pub given: Option<(Peer, Frame)>,
 }
 
@@ -28,7 +29,7 @@ impl Trace {
     ghost use Rattle.s10_link.specs.Trace.{IsCounted, new_trace, after_call, after_failure};
     ghost use Rattle.s10_link.specs.Trace.{after_datagram, IsAfterFrame};
 
-    /// The trace of a link that did nothing yet.
+    /// Returns the trace of a link without calls.
     pub fn new() -> Trace
         ensures trace { result ≡ new_trace }
         ensures counted { IsCounted result }
@@ -44,7 +45,7 @@ impl Trace {
         }
     }
 
-    /// One more call.
+    /// Returns the trace after one more call, in which nothing arrived.
     pub fn after_call(&self) -> Trace
         requires counted { IsCounted self.now }
         requires room { self.now.calls < 2 ^ 64 - 1 }
@@ -57,7 +58,7 @@ impl Trace {
         }
     }
 
-    /// One more call, which failed.
+    /// Returns the trace after one more call, which failed.
     pub fn after_failure(&self) -> Trace
         requires counted { IsCounted self.now }
         requires room { self.now.calls < 2 ^ 64 - 1 }
@@ -71,7 +72,7 @@ impl Trace {
         }
     }
 
-    /// One more call, in which a datagram was received.
+    /// Returns the trace after one more call, in which a datagram was received.
     pub fn after_datagram(&self, from: Peer, packet: Packet) -> Trace
         requires counted { IsCounted self.now }
         requires room { self.now.calls < 2 ^ 64 - 1 }
@@ -86,7 +87,7 @@ impl Trace {
         }
     }
 
-    /// One more call, in which a frame was sent.
+    /// Returns the trace after one more call, in which a frame was sent.
     pub fn after_send(&self, to: Peer, frame: &Frame) -> Trace
         requires counted { IsCounted self.now }
         requires room { self.now.calls < 2 ^ 64 - 1 }
@@ -103,7 +104,7 @@ impl Trace {
         }
     }
 
-    // Whether the last frame sent was this one, to this peer.
+    // Returns whether the last send was of this frame to this peer.
     fn is_given(&self, to: Peer, frame: &Frame) -> bool
         ensures { IsTrue result ↔ (self.now.given ≡ Some (to, frame.now)) }
     {

@@ -4,7 +4,7 @@ use Rattle.s10_link.proofs.Numerals.{list_of_four}
 use Rattle.std.proofs.lemmas.Option.{same_Some, none-some}
 use Rattle.s10_link.proofs.peer.Peer.read.Goals as goal
 
--- an address whose numbers were all read
+-- An address is the one whose numbers were read.
 same_peer : (p : Peer) (a b d e port : ℕ) → length p.ip ≡ 4 → a ≡ get_or p.ip 0 0
     → b ≡ get_or p.ip 1 0 → d ≡ get_or p.ip 2 0 → e ≡ get_or p.ip 3 0
     → port ≡ p.port → Some (record { ip = a ∷ b ∷ d ∷ e ∷ []; port = port }) ≡ Some p

@@ -12,7 +12,7 @@ below next sends len upto other is = omega arith
 fitting : (next sends len : ℕ) → next < sends → len ≡ sends → len < 2 ^ 64 → Fits w64 (next + 1)
 fitting next sends len under is short = omega arith
 
--- the room of the log
+-- The log has capacity for one more frame.
 room_left : (log sends room next : ℕ) → log + sends ≤ room + next → next < sends → log < room
 room_left log sends room next zero_padded under = omega arith
 
