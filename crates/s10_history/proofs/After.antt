@@ -1,4 +1,4 @@
--- The serials of a range after one of its own, wrapping around.
+-- The serials of a range after one of its own, wrapping from last to first.
 use Rattle.std.proofs.Common.{◌≡◌, ℕ, zero, suc, ◌+◌, ◌-◌, ◌<◌, ◌≤◌, Option, Some, None, ◌⊎◌, inl}
 use Rattle.std.proofs.Common.{inr, arith}
 use Rattle.std.specs.Option.{unwrap_or, SomeIff}
@@ -6,7 +6,7 @@ use Rattle.std.proofs.lemmas.Bool.{cases_eq, eq-eqb, ne_eqb}
 use Rattle.s10_history.specs.declared.range.Range.{Range}
 use Rattle.s10_history.specs.Issues.{serial_after, serial_after_steps, size_of}
 
--- the serial n after the mark, wrapping around
+-- A serial is k steps after the mark m, wrapping from last to first.
 abbrev pub IsAfterSteps : Range → ℕ → ℕ → ℕ → Type 0
 IsAfterSteps r m k v = ((v ≡ m + k) × (m + k ≤ r.last)) ⊎ ((v + (r.last + 1 - r.first) ≡ m + k)
     × (r.last < m + k))
@@ -29,13 +29,13 @@ behind r m zero low high le = inl (omega arith, omega arith)
 behind r m (suc k) low high le = after_next r m k (serial_after_steps r m k) low high (omega arith)
     (behind r m k low high (omega arith))
 
--- they are serials of the range
+-- These are serials of the range.
 pub after_within : (r : Range) (m k v : ℕ) → r.first ≤ m → m ≤ r.last → k ≤ size_of r
     → IsAfterSteps r m k v → (r.first ≤ v) × (v ≤ r.last)
 after_within r m k v low high le (inl w) = (omega (arith, w.0), omega (arith, w.0, w.1))
 after_within r m k v low high le (inr w) = (omega (arith, w.0, w.1), omega (arith, w.0, w.1))
 
--- no two of fewer than the range has are the same
+-- No two of them are equal, up to the size of the range.
 pub after_apart : (r : Range) (m i j u v : ℕ) → r.first ≤ m → m ≤ r.last → i < j → j < size_of r
     → IsAfterSteps r m i u → IsAfterSteps r m j v → u ≡ v → ⊥
 after_apart r m i j u v low high lt few (inl a) (inl b) e = omega (arith, a.0, b.0, e)
@@ -43,13 +43,13 @@ after_apart r m i j u v low high lt few (inl a) (inr b) e = omega (arith, a.0, b
 after_apart r m i j u v low high lt few (inr a) (inl b) e = omega (arith, a.1, b.1)
 after_apart r m i j u v low high lt few (inr a) (inr b) e = omega (arith, a.0, b.0, e)
 
--- and the mark comes again after all of them
+-- After as many steps as the range has serials, the mark is reached again.
 pub after_lap : (r : Range) (m k v : ℕ) → r.first ≤ m → m ≤ r.last → k ≡ size_of r
     → IsAfterSteps r m k v → v ≡ m
 after_lap r m k v low high e (inl w) = absurd (omega (arith, w.1, e))
 after_lap r m k v low high e (inr w) = omega (arith, w.0, e)
 
--- the serial n after, by its number
+-- The serial after k steps, by its number.
 pub after_low : (r : Range) (m k v : ℕ) → r.first ≤ m → m ≤ r.last → k < size_of r → m + k ≤ r.last
     → v ≡ m + k → v ≡ serial_after_steps r m k
 after_low r m k v low high few le is =

@@ -17,7 +17,7 @@ use Rattle.s10_history.specs.History.{day_of}
 use Rattle.s10_history.specs.Usage.{usage_of}
 use Rattle.s10_history.proofs.Issued.{free_last}
 
--- how many serials of the range pass: n of those below low, and those from low on
+-- n serials below low pass; with those from low on, they are all that pass in the range.
 abbrev pub Counted : (ℕ → Bool) → Range → ℕ → ℕ → Type 0
 Counted p r low n = n + count_by p (range_with_len low (r.last + 1 - low)) ≡ count_by p (serials r)
 
@@ -32,7 +32,7 @@ Counted-start p r low at = omega (
       at,
 )
 
--- no more serials pass than there are
+-- At most as many serials pass as there are.
 pub Counted-le : (p : ℕ → Bool) (r : Range) (low n : ℕ) → Counted p r low n
     → n ≤ r.last + 1 - r.first
 Counted-le p r low n counted = omega (
@@ -52,7 +52,7 @@ Counted-step p r low n b le is counted =
     ∙ ap (λ t. cond t 1 0 + count_by p rest) (sym is) in
     omega (arith, counted, split)
 
--- after the last serial all are counted
+-- After the last serial, all are counted.
 pub Counted-all : (p : ℕ → Bool) (r : Range) (low n : ℕ) → r.last < low → Counted p r low n
     → n ≡ count_by p (serials r)
 Counted-all p r low n lt counted =
@@ -76,7 +76,7 @@ last_at : {A : Type 0} (b rest : Bool) (x : A) (ys : List A) → is_some (last_o
 last_at true rest x ys with_x without_x = with_x
 last_at false rest x ys with_x without_x = without_x
 
--- there is a last one where there is one
+-- A list has a last element that passes if any passes.
 some_last : {A : Type 0} (p : A → Bool) (xs : List A) → is_some (last_or None (filter p xs))
     ≡ list_any p xs
 some_last p [] = refl
@@ -101,7 +101,7 @@ pub voided_is : (h : List Entry) (x : Id)
     → unwrap_or (option_map (λ (i : Issue). i.voided) (last_issue_of h x)) false ≡ is_voided h x
 voided_is h x = voided_by (last_issuance_of (issues_of h) x) _ _ (λ i. refl)
 
--- the usage by the serials below low
+-- The usage of the serials below low.
 pub record UsedBelow (h : List Entry) (is : List Issuance) (r : Range) (day interval low : ℕ)
     (u : Usage) : Type 0 where
   pub used : Counted (λ serial. is_issued is (id_at r serial)) r low u.used

@@ -1,4 +1,4 @@
--- The serial whose last issue stands earliest, by the first issue of a list.
+-- The serial whose last issuance is the earliest, by the first element of a list.
 use Rattle.std.proofs.Common.{◌≡◌, Bool, true, false, cond, not, ◌&&◌, List, ◌∷◌, Some, refl}
 use Rattle.std.specs.Prelude.{find}
 use Rattle.std.specs.Option.{option_map}

@@ -1,4 +1,4 @@
--- The last issue of an identifier in a growing list.
+-- The last issuance of an identifier in a growing list.
 use Rattle.std.proofs.Common.{◌≡◌, ℕ, ◌+◌, ◌-◌, leb, ◌<◌, Bool, true, false, cond, List, [], ◌∷◌}
 use Rattle.std.proofs.Common.{◌++◌, Option, Some, None, refl, sym, ap, ◌∙◌, length, get_or, take}
 use Rattle.std.proofs.Common.{append-nil}
@@ -22,7 +22,7 @@ last-find_entry : {A : Type 0} (b : Bool) (xs : List A) (y : A)
 last-find_entry true xs y = last_or-push None xs y
 last-find_entry false xs y = ap (last_or None) (append-nil xs)
 
--- one more issue at the end
+-- The last issuance after one more at the end.
 pub last_issuance_of-push : (xs : List Issuance) (y : Issuance) (x : Id)
     → last_issuance_of (xs ++ y ∷ []) x ≡ cond (is_of x y) (Some y) (last_issuance_of xs x)
 last_issuance_of-push xs y x = ap (last_or None) (filter-append (is_of x) xs (y ∷ []))
@@ -34,7 +34,7 @@ pub last_issuance_of-more : (xs : List Issuance) (i : ℕ) (d : Issuance) (x : I
 last_issuance_of-more xs i d x h = ap (λ l. last_issuance_of l x) (take_more xs i d h)
     ∙ last_issuance_of-push (take i xs) (get_or xs i d) x
 
--- a step of a loop, by its element and its test
+-- One step of a loop, by its element and its test.
 pub last_issuance_of-step : (xs : List Issuance) (i : ℕ) (d : Issuance) (x : Id) (b : Bool)
     → i < length xs → d ≡ get_or xs i d → b ≡ is_of x d → last_issuance_of (take (i + 1) xs) x
     ≡ cond b (Some d) (last_issuance_of (take i xs) x)
@@ -43,7 +43,7 @@ last_issuance_of-step xs i d x b h e t =
     ∙ ap (λ y. cond (is_of x y) (Some y) (last_issuance_of (take i xs) x)) (sym e)
     ∙ ap (λ c. cond c (Some d) (last_issuance_of (take i xs) x)) (sym t)
 
--- whether it is free is decided by its day alone
+-- Only the day of an issuance decides whether an identifier is free.
 pub free_last : (day interval : ℕ) (o : Option Issuance) (f : Issuance → Issue)
     → ((i : Issuance) → (f i).day ≡ i.day)
     → is_free_since day interval (option_map (λ (i : Issue). i.day) (option_map f o))

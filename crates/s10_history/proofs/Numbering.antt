@@ -13,16 +13,16 @@ use Rattle.s10_history.specs.declared.entry.Entry.{Entry}
 use Rattle.s10_history.specs.declared.range.Range.{Range}
 use Rattle.s10_history.specs.History.{ranges_from, range_of_grant, then_ranges}
 
--- whether the range passes the test and its number is above another
+-- Whether the range passes the test, and its number is above `after`.
 abbrev pub above : (Range → Bool) → ℕ → Range → Bool
 above p after r = ltb after r.num && p r
 
--- the numbers go up by one
+-- The numbers grow by one.
 abbrev pub Numbered : ℕ → List Range → Type 0
 Numbered n [] = Unit {0}
 Numbered n (r ∷ rs) = (r.num ≡ n) × Numbered (n + 1) rs
 
--- the range of a grant has the number
+-- The range of a Grant has the given number.
 num_of_grant : (num : ℕ) (b : Body) (o : Outcome) (r : Range) → range_of_grant num b o ≡ Some r
     → r.num ≡ num
 num_of_grant num (Grant holder service country first last) (Granted n) r h =
@@ -41,7 +41,7 @@ numbered num [] = tt
 numbered num (e ∷ es) = numbered_then num es (range_of_grant num e.request.body e.outcome)
     (num_of_grant num e.request.body e.outcome) (numbered num es) (numbered (num + 1) es)
 
--- all ranges from a number on are above each lower one
+-- All ranges from a number on are above each lower number.
 pub filter_above : (p : Range → Bool) (after n : ℕ) (rs : List Range) → after < n → Numbered n rs
     → filter (above p after) rs ≡ filter p rs
 filter_above p after n [] lower h = refl
@@ -56,7 +56,7 @@ pub chosen : {A : Type 0} (b : Bool) (x r : A) (o : Option A) → cond b (Some x
 chosen true x r o h = inl (refl, same_Some x r h)
 chosen false x r o h = inr (refl, h)
 
--- what is found is the first element, or it is found after it
+-- What is found is the first element, or is found among the later ones.
 pub find_cases : {A : Type 0} (p : A → Bool) (x r : A) (xs : List A) → find p (x ∷ xs) ≡ Some r
     → ((p x ≡ true) × (x ≡ r)) ⊎ ((p x ≡ false) × (find p xs ≡ Some r))
 find_cases p x r xs h = chosen (p x) x r (find p xs) h
@@ -70,7 +70,7 @@ found_since p n (x ∷ rs) r h found =
       | inr w ↦ omega (arith, found_since p (n + 1) rs r h.1 w.1)
     ]
 
--- the ranges above a number are the first of them, and those above that one
+-- The ranges above a number are the first of them, followed by those above that one.
 pub next_above : (p : Range → Bool) (after n : ℕ) (rs : List Range) (r : Range) → Numbered n rs
     → find (above p after) rs ≡ Some r → filter (above p after) rs ≡ r ∷ filter (above p r.num) rs
 next_above p after n [] r h found = absurd (none-some r found)
@@ -93,7 +93,7 @@ next_above p after n (x ∷ rs) r h found =
           rw (w.0, test) (next_above p after (n + 1) rs r h.1 w.1)
     ]
 
--- what is found is there
+-- What is found is in the list.
 pub Contains-find : {A : Type 0} (p : A → Bool) (xs : List A) (x : A) → find p xs ≡ Some x
     → Contains xs x
 Contains-find p [] x found = absurd (none-some x found)
@@ -104,7 +104,7 @@ Contains-find p (y ∷ ys) x found =
           (suc there.0, omega (arith, there.1), there.2)
     ]
 
--- what isn't found isn't kept
+-- If nothing is found, nothing passes the filter.
 pub filter_none : {A : Type 0} (p : A → Bool) (xs : List A) → find p xs ≡ None → filter p xs ≡ []
 filter_none p [] h = refl
 filter_none p (x ∷ xs) h = none_at (p x) x (find p xs) (filter p xs) h (filter_none p xs)
@@ -115,7 +115,7 @@ filter_none p (x ∷ xs) h = none_at (p x) x (find p xs) (filter p xs) h (filter
     none_at true x o find_entry same rest = absurd (none-some x (sym same))
     none_at false x o find_entry same rest = rest same
 
--- what is found passes
+-- What is found passes the test.
 pub found_passes : {A : Type 0} (p : A → Bool) (xs : List A) (x : A) → find p xs ≡ Some x
     → p x ≡ true
 found_passes p [] x found = absurd (none-some x found)
@@ -131,7 +131,7 @@ found_above q after rs None e = tt
 found_above q after rs (Some r) e =
     ltb-true after r.num (and_parts _ _ (found_passes (above q after) rs r (sym e))).0
 
--- what a look-up answers is kept
+-- What a look-up returns is in the list.
 pub Contains-answered : {A E : Type 0} (p : A → Bool) (xs : List A) (result : Result (Option A) E)
     (found : Option A) (x : A) → result ≡ Ok (find p xs) → result ≡ Ok found → found ≡ Some x
     → Contains xs x

@@ -60,7 +60,7 @@ then_few : (o : Option Range) (xs : List Entry) (n : ℕ) → length (ranges_fro
 then_few None xs n here next = omega arith
 then_few (Some r) xs n here next = omega arith
 
--- there are no more ranges than calls
+-- There are at most as many ranges as calls.
 pub length-ranges_from : (n : ℕ) (xs : List Entry) → length (ranges_from n xs) ≤ length xs
 length-ranges_from n [] = omega arith
 length-ranges_from n (x ∷ xs) =
@@ -70,7 +70,7 @@ length-ranges_from n (x ∷ xs) =
           (length-ranges_from n xs) (length-ranges_from (n + 1) xs),
     )
 
--- the kept ranges stay those of the history
+-- The stored ranges remain those of the history.
 pub granted-push : (h new : List Entry) (rs rs' : List Range) (made : Option Range) (count : ℕ)
     (e : Entry) → rs ≡ ranges_of h → new ≡ h ++ e ∷ [] → count ≡ length rs
     → made ≡ range_of_grant (count + 1) e.request.body e.outcome → rs' ≡ rs ++ option_to_list made
@@ -82,7 +82,7 @@ granted-push h new rs rs' made count e are grown counted is after =
     (is ∙ ap (λ n. range_of_grant n e.request.body e.outcome) num)
     ∙ sym (ranges_from-push 1 h e) ∙ ap ranges_of (sym grown)
 
--- and the kept issues
+-- The stored issuances remain those of the history.
 pub issued-push : (h new : List Entry) (is is' : List Issuance) (count : ℕ) (e : Entry)
     → is ≡ issues_of h → new ≡ h ++ e ∷ [] → count ≡ length h
     → is' ≡ is ++ issues_at (count + 1) e → is' ≡ issues_of new

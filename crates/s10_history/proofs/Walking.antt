@@ -7,7 +7,7 @@ serials-at : (p : ℕ → Bool) (low n : ℕ) → p low ≡ false → find p (ra
     ≡ find p (range_with_len (low + 1) n)
 serials-at p low n fails = ap (λ b. cond b (Some low) (find p (range_with_len (low + 1) n))) fails
 
--- a serial that fails is passed over
+-- A serial that fails the test is skipped.
 pub serials-step : (p : ℕ → Bool) (low high : ℕ) → low ≤ high → p low ≡ false
     → find p (range_with_len (low + 1) (high + 1 - (low + 1)))
     ≡ find p (range_with_len low (high + 1 - low))

@@ -1,4 +1,4 @@
--- How the serials of a range were used.
+-- The usage of the serials of a range.
 use Rattle.std.specs.Prelude.{ℕ, max, List, count_by}
 use Rattle.s10_history.specs.declared.entry.Entry.{Entry}
 use Rattle.s10_history.specs.declared.range.Range.{Range}
@@ -6,7 +6,8 @@ use Rattle.s10_history.specs.declared.usage.Usage.{Usage}
 use Rattle.s10_history.specs.History.{day_of}
 use Rattle.s10_history.specs.Issues.{issues_of, is_issued, is_voided, is_free, id_at, serials}
 
--- how many serials of the range were ever issued, how many are voided, and how many are free on the greater of the day and the history's
+-- The numbers of serials that were ever issued, that are voided, and that are free on the later of
+-- the day and the day of the history.
 unfoldable pub usage_of : List Entry → Range → ℕ → ℕ → Usage
 usage_of h r day interval =
     record {

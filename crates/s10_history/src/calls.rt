@@ -9,7 +9,7 @@ use crate::entry::Entry;
 use s10_core::Id;
 use s10_wire::{Body, Outcome};
 
-/// The call with that key, if there is one.
+/// Returns the call with this key, if there is one.
 pub fn find_in(entries: &[Entry], customer: u32, number: u32) -> Option<Entry>
     ensures { result ≡ find_entry entries.now customer number }
 {
@@ -19,7 +19,7 @@ pub fn find_in(entries: &[Entry], customer: u32, number: u32) -> Option<Entry>
         .copied()
 }
 
-/// Call number `at`, counted from 1, if it exists.
+/// Returns call number `at`, from 1, if there is one.
 pub fn entry_in(entries: &[Entry], at: u32) -> Option<Entry>
     ensures { result ≡ entry_at entries.now at }
 {
@@ -38,7 +38,7 @@ fn withdraws(entry: &Entry, num: u32) -> bool
     }
 }
 
-/// Whether the range of that number is closed: a Withdraw of it was done.
+/// Returns whether the range with this number is closed: a Withdraw of it was done.
 pub fn closed_in(entries: &[Entry], num: u32) -> bool
     ensures { result ≡ is_closed entries.now num }
 {

@@ -1,4 +1,4 @@
-//! The use of the serials of a range, counted.
+//! The usage of the serials of a range.
 
 ghost use Rattle.std.specs.Prelude.{◌≡◌, ◌≤◌, ◌+◌, if◌then◌else◌, count_by};
 ghost use Rattle.s10_history.specs.Issues.{issues_of, is_issued, id_at, serials};
@@ -11,7 +11,7 @@ use crate::range::Range;
 use crate::ranges::id_in_range;
 use crate::usage::Usage;
 
-/// The count of serials, and one more where the test passed.
+/// Returns the count, plus one if the test passed.
 pub fn count_if(count: u32, passed: bool) -> u32
     requires { count ≤ 100000000 }
     ensures { result ≡ count + (if passed then 1 else 0) }
@@ -19,7 +19,9 @@ pub fn count_if(count: u32, passed: bool) -> u32
     if passed { count + 1 } else { count }
 }
 
-/// How many serials of the range were issued, are voided, and are free on the day. `issues` are those that the calls made.
+/// Returns how many serials of the range were issued, are voided, and are free on a day.
+///
+/// `issues` must be the issuances of the calls; `interval` is the reuse interval in days.
 pub fn usage_in(
     entries: &[Entry],
     issues: &[Issuance],

@@ -7,19 +7,20 @@ use crate::range::Range;
 use s10_core::Id;
 use s10_wire::{Body, Outcome, Request};
 
-/// A kept call: what was asked, the day it was executed on, and what came of it.
+/// A kept call: its request, its day and its outcome.
 #[derive(Clone, Copy, Debug, PartialEq, Eq)]
 pub struct Entry {
-    /// The request as it came.
+    /// The request as it was received.
     pub request: Request,
-    /// The day of the ledger, which never falls from one entry to the next.
+    /// The day of the ledger on which it was executed. It never decreases from one entry to the
+    /// next.
     pub day: u32,
-    /// The outcome by the rules, a refusal too.
+    /// The outcome by the rules: done, or a refusal.
     pub outcome: Outcome,
 }
 
 impl Entry {
-    /// How many issues this call made.
+    /// Returns the number of issuances of this call, 0 to 16.
     pub fn issued(&self) -> usize
         ensures { result ≡ length (carried_by self.now.outcome) }
     {
@@ -30,8 +31,9 @@ impl Entry {
         }
     }
 
-    /// The issue at a place, counted from 0, among those that this call made as call number `arrival`, or
-    /// `None` where these end before it.
+    /// Returns the issuance at an index from 0 of this call, which is call number `arrival`.
+    ///
+    /// Returns `None` if the call has fewer.
     pub fn issue(&self, arrival: u32, place: usize) -> Option<Issuance>
         ensures { result ≡ slice_get (issues_at arrival self.now) place }
     {
@@ -47,7 +49,7 @@ impl Entry {
         }
     }
 
-    /// The range of this number that this call made, where it is a Grant that is done.
+    /// Returns the range with number `num` that this call created, if it is a Grant that was done.
     pub fn range_made(&self, num: u32) -> Option<Range>
         ensures { result ≡ range_of_grant num self.now.request.body self.now.outcome }
     {
@@ -73,7 +75,7 @@ impl Entry {
         }
     }
 
-    // The day and the identifier of the issue at a place.
+    // Returns the day and the identifier of the issuance at an index from 0.
     fn issued_at(&self, place: usize) -> Option<(u32, Id)>
         ensures { result ≡ slice_get (carried_by self.now.outcome) place }
     {

@@ -1,9 +1,9 @@
 use s10_core::{Country, Service};
 
-/// Whose ranges, and of which service and country: what a Draw is drawn from.
+/// A holder with a service and a country: the key by which a Draw looks up its ranges.
 #[derive(Clone, Copy, Debug, PartialEq, Eq)]
 pub struct HolderKey {
-    /// The customer that has the ranges.
+    /// The customer who holds the ranges.
     pub holder: u32,
     /// The service of their identifiers.
     pub service: Service,

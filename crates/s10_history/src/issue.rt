@@ -1,11 +1,11 @@
-/// The last issue of an identifier.
+/// The state of the last issuance of an identifier.
 #[derive(Clone, Copy, Debug, PartialEq, Eq)]
 pub struct Issue {
-    /// The day that it was issued on.
+    /// The day of the issuance.
     pub day: u32,
-    /// Whether it was voided since.
+    /// Whether the identifier was voided after it.
     pub voided: bool,
-    /// The customer that drew it.
+    /// The customer who drew the identifier.
     pub customer: u32,
     /// The number of that customer's request.
     pub number: u32,
@@ -14,8 +14,8 @@ pub struct Issue {
 impl Issue {
     ghost use Rattle.std.specs.Prelude.{◌≡◌, ◌-◌, nat_le};
 
-    /// Whether the identifier is free again on a day: the reuse interval, in days, has passed since
-    /// its issue.
+    /// Returns whether the identifier may be issued again on `day`: at least `interval` days after
+    /// this issue.
     pub fn is_free(&self, day: u32, interval: u32) -> bool
         ensures { result ≡ nat_le interval (day - self.now.day) }
     {

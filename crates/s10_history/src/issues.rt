@@ -1,4 +1,4 @@
-//! Look-ups in the issues of a history.
+//! Look-ups in the issuances of a history.
 
 ghost use Rattle.std.specs.Prelude.{◌≡◌, false};
 ghost use Rattle.std.specs.Option.{option_map, unwrap_or};
@@ -35,7 +35,9 @@ pub(crate) fn was_issued(issues: &[Issuance], id: &Id) -> bool
     issues.iter().any(|i| i.id == *id)
 }
 
-/// The last issue of an identifier, if it was ever issued: `issues` are those that the calls made.
+/// Returns the last issue of an identifier, if it was ever issued.
+///
+/// `issues` must be the issuances of the calls.
 pub fn last_issue_in(entries: &[Entry], issues: &[Issuance], id: &Id) -> Option<Issue>
     requires { issues.now ≡ issues_of entries.now }
     ensures { result ≡ last_issue_of entries.now id.now }
@@ -51,7 +53,7 @@ pub fn last_issue_in(entries: &[Entry], issues: &[Issuance], id: &Id) -> Option<
     }
 }
 
-/// Whether an identifier with that last issue is voided since; with none it is not.
+/// Returns whether an identifier with this last issue is voided; one without an issue is not.
 pub fn is_voided(issue: &Option<Issue>) -> bool
     ensures { result ≡ unwrap_or (option_map (λ i. i.voided) issue.now) false }
 {
@@ -61,7 +63,8 @@ pub fn is_voided(issue: &Option<Issue>) -> bool
     }
 }
 
-/// Whether an identifier with that last issue, or with none, is free on a day: the reuse interval, in days, has passed since.
+/// Returns whether an identifier with this last issue may be issued on `day`: it was never issued,
+/// or at least `interval` days before.
 pub fn is_free(issue: &Option<Issue>, day: u32, interval: u32) -> bool
     ensures { result ≡ is_free_since day interval (option_map (λ i. i.day) issue.now) }
 {

@@ -1,4 +1,5 @@
-//! What a ledger holds: its settings and the history of its calls, with the ranges and the issues that these make.
+//! What a ledger holds: its settings and the history of its calls, with the ranges and the
+//! issuances of these calls.
 #![tactic(auto)]
 
 mod calls;

@@ -1,19 +1,19 @@
 use s10_core::{Country, Serial, Service};
 
-/// Serials that a customer may draw from, as a Grant made them.
+/// Serials that a customer may draw, as a Grant created them.
 #[derive(Clone, Copy, Debug, PartialEq, Eq)]
 pub struct Range {
-    /// Its number: the i-th Grant that was Done makes range i, from 1.
+    /// Number of the range: the i-th Grant that was done creates range i, from 1.
     pub num: u32,
-    /// The customer that may draw from it.
+    /// The customer who may draw from it.
     pub holder: u32,
-    /// The service indicator of its identifiers.
+    /// The service of its identifiers.
     pub service: Service,
-    /// The country code of its identifiers.
+    /// The country of its identifiers.
     pub country: Country,
     /// Its first serial.
     pub first: Serial,
-    /// Its last serial, which belongs to it.
+    /// Its last serial, included in the range.
     pub last: Serial,
 }
 
@@ -22,15 +22,16 @@ impl Range {
     ghost use Rattle.s10_history.specs.Issues.{size_of, serial_after_steps};
     ghost use Rattle.s10_history.specs.History.{is_held, overlaps};
 
-    /// How many serials it has.
+    /// Returns the number of serials in the range, at most 100,000,000.
     pub fn size(&self) -> u32
         ensures { result ≡ size_of self.now }
     {
         (self.last.value() + 1).saturating_sub(self.first.value())
     }
 
-    /// The serial that it gives n after one of its own, fewer than it has, wrapping around: after its last serial comes
-    /// its first again.
+    /// Returns the serial `count` steps after `serial`, wrapping from `last` to `first`.
+    ///
+    /// This is promised if `serial` is in the range and `count < size()`.
     pub fn serial_after(&self, serial: Serial, count: u8) -> Serial
         ensures { self.now.first ≤ serial → serial ≤ self.now.last → count < size_of self.now
             → result ≡ serial_after_steps self.now serial count }
@@ -43,17 +44,18 @@ impl Range {
         }
     }
 
-    /// Whether the customer is its holder and its identifiers are of that service indicator and
-    /// country code.
+    /// Returns whether the customer holds the range, and it has this service and country.
     pub fn is_held_by(&self, customer: u32, service: Service, country: Country) -> bool
         ensures { result ≡ is_held customer service country self.now }
     {
         self.holder == customer && self.service == service && self.country == country
     }
 
-    /// Whether one of its identifiers has that service indicator and country code and a serial of
-    /// `first` to `last`, which belongs to them. False where `last` is below `first`. The range's
-    /// own `last` is taken not to be below its `first`, as in every range that a Grant made.
+    /// Returns whether the range has this service and country, and a serial from `first` to `last`,
+    /// both included.
+    ///
+    /// Returns false if `last` is below `first`. The result is right for a range that is not empty,
+    /// as each range of a Grant is.
     pub fn overlaps(&self, service: Service, country: Country, first: Serial, last: Serial) -> bool
         ensures { result ≡ overlaps service country first last self.now }
     {

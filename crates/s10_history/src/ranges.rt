@@ -11,14 +11,16 @@ use crate::range::Range;
 use crate::serial_span::SerialSpan;
 use s10_core::{Id, Serial};
 
-/// The range of that number, if there is one.
+/// Returns the range with this number, if there is one.
 pub fn range_in(ranges: &[Range], num: u32) -> Option<Range>
     ensures { result ≡ find (λ r. r.num == num) ranges.now }
 {
     ranges.iter().find(|r| r.num == num).copied()
 }
 
-/// The first range with a number above `after` that is held so and that none of the calls closed, if there is one.
+/// Returns the first open range of a holder key whose number is above `after`, if there is one.
+///
+/// A range is open if none of the calls closed it.
 pub fn next_range_in(
     entries: &[Entry],
     ranges: &[Range],
@@ -38,7 +40,7 @@ pub fn next_range_in(
         .copied()
 }
 
-/// The first range that has a serial of the block, if there is one.
+/// Returns the first range that has a serial of the span, if there is one.
 pub fn covering_in(ranges: &[Range], block: &SerialSpan) -> Option<Range>
     ensures { result ≡ find (overlaps block.now.service block.now.country block.now.first
         block.now.last) ranges.now }
@@ -49,7 +51,7 @@ pub fn covering_in(ranges: &[Range], block: &SerialSpan) -> Option<Range>
         .copied()
 }
 
-/// The identifier of the range with that serial.
+/// Returns the identifier of the range with this serial.
 pub fn id_in_range(range: &Range, serial: u32) -> Id
     requires { serial < 100000000 }
     ensures { result ≡ id_at range.now serial }

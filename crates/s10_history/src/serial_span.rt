@@ -1,6 +1,6 @@
 use s10_core::{Country, Id, Serial, Service};
 
-/// The serials of a service and country from `first` to `last`; none where `first` is above `last`.
+/// The serials of a service and country from `first` to `last`; none if `first` is above `last`.
 #[derive(Clone, Copy, Debug, PartialEq, Eq)]
 pub struct SerialSpan {
     /// The service of the identifiers.
@@ -9,7 +9,7 @@ pub struct SerialSpan {
     pub country: Country,
     /// The first serial.
     pub first: Serial,
-    /// The last serial.
+    /// The last serial, included in the span.
     pub last: Serial,
 }
 
@@ -17,7 +17,7 @@ impl SerialSpan {
     ghost use Rattle.std.specs.Prelude.{◌≡◌};
     ghost use Rattle.s10_history.specs.declared.serial_span.SerialSpan.{SerialSpan};
 
-    /// The block of one identifier.
+    /// Returns the span of one identifier.
     pub fn of(id: &Id) -> SerialSpan
         ensures { let one : SerialSpan = record {
           service = id.now.service;

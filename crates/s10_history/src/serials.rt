@@ -12,7 +12,6 @@ use crate::range::Range;
 use crate::ranges::{id_in_range, lies_within};
 use s10_core::Serial;
 
-// The least serial of the range that was never issued.
 fn least_unissued(issues: &[Issuance], range: &Range) -> Option<Serial>
     ensures { result ≡ least_serial_unissued range.now issues.now }
 {
@@ -25,7 +24,8 @@ fn least_unissued(issues: &[Issuance], range: &Range) -> Option<Serial>
     None
 }
 
-// The serial of the first issue in the range that is not issued again after it.
+// Returns the serial of the first issuance in the range whose identifier is not issued again after
+// it.
 fn issued_earliest(issues: &[Issuance], range: &Range) -> Option<Serial>
     ensures { result ≡ serial_issued_earliest range.now issues.now }
 {
@@ -37,7 +37,9 @@ fn issued_earliest(issues: &[Issuance], range: &Range) -> Option<Serial>
     None
 }
 
-/// The pick of a range with its last issue: the serial that the range gives next. `issues` are those that the calls made.
+/// Returns the candidate of a range: the serial that it gives next, with its last issue.
+///
+/// `issues` must be the issuances of the calls.
 pub fn candidate_in(entries: &[Entry], issues: &[Issuance], range: &Range) -> Candidate
     requires { issues.now ≡ issues_of entries.now }
     ensures { result ≡ candidate_of entries.now range.now }

@@ -4,14 +4,16 @@ ghost use Rattle.s10_history.specs.declared.settings.TheConstants.{MAX_INTERVAL,
 
 use std::marker::Model;
 
-/// The longest reuse interval, in days.
+/// The greatest reuse interval, in days.
 pub const MAX_INTERVAL: u32 = 3_650;
 
 /// The greatest limit of a ledger, in calls.
 pub const MAX_LIMIT: u32 = 1_000_000_000;
 
-/// What a ledger is made with and keeps: the reuse interval in days, and how many calls it holds at most. The bounds of
-/// both are this project's choice.
+/// The settings with which a ledger is created, and which it keeps: the reuse interval in days, and
+/// the limit in calls.
+///
+/// The bounds of both are this project's choice.
 #[derive(Clone, Copy, Debug, PartialEq, Eq)]
 pub struct Settings {
     interval: u32,
@@ -31,7 +33,8 @@ impl Model for Settings {
 }
 
 impl Settings {
-    /// An interval of 1 to [`MAX_INTERVAL`] days and a limit of 1 to [`MAX_LIMIT`] calls; None for any other numbers.
+    /// Returns settings of 1 to [`MAX_INTERVAL`] days and 1 to [`MAX_LIMIT`] calls, or `None` for
+    /// other numbers.
     pub fn new(interval: u32, limit: u32) -> Option<Settings>
         ensures { let terms : Terms = record { interval = interval; limit = limit } in
             SomeIff result (AreTerms terms) terms }
@@ -43,7 +46,7 @@ impl Settings {
         }
     }
 
-    /// The reuse interval in days.
+    /// Returns the reuse interval in days, 1 to [`MAX_INTERVAL`].
     pub fn interval(&self) -> u32
         ensures value { result ≡ self.now.interval }
         ensures range { (1 ≤ result) × (result ≤ MAX_INTERVAL) }
@@ -51,7 +54,7 @@ impl Settings {
         self.interval
     }
 
-    /// How many calls the ledger keeps at most.
+    /// Returns the greatest number of calls that the ledger keeps, 1 to [`MAX_LIMIT`].
     pub fn limit(&self) -> u32
         ensures value { result ≡ self.now.limit }
         ensures range { (1 ≤ result) × (result ≤ MAX_LIMIT) }

@@ -1,10 +1,10 @@
-/// How the serials of a range were used. Each number counts serials, at most 100,000,000.
+/// The usage of a range. Each field is a number of serials, at most 100,000,000.
 #[derive(Clone, Copy, Debug, PartialEq, Eq)]
 pub struct Usage {
-    /// Serials ever issued.
+    /// Serials that were ever issued.
     pub used: u32,
-    /// Serials voided since their last issue.
+    /// Serials that were voided after their last issuance.
     pub voided: u32,
-    /// Serials that are free on the day.
+    /// Serials that may be issued on the day.
     pub free: u32,
 }
