@@ -33,7 +33,7 @@ Sends old new p (Err Spent) = new ≡ old
 Sends old new p (Err Bind) = ⊥
 Sends old new p (Err Receive) = ⊥
 
--- calls, each by such a step, lead from the old link to the new
+-- Any number of calls, each by such a step, lead from the old link to the new one.
 pub data LeadsTo {L : Type 0} (Step : L → L → Type 0) : L → L → Type 0 where
   none : {link : L} → LeadsTo Step link link
   more : {old between new : L} → LeadsTo Step old between → Step between new → LeadsTo Step old new

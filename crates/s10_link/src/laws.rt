@@ -10,6 +10,7 @@ pub fn padding_is_zero(frame: &Frame, packet: &Packet)
     ensures frame { length frame.now ≤ 256 }
     ensures packet { length packet.now ≤ 512 }
 {
+    // Brings the bounds of both lengths into scope.
     let _ = frame.bytes();
     let _ = packet.bytes();
 }
