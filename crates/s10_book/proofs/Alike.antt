@@ -1,4 +1,5 @@
--- A pick looks at the identifiers of the issues and at their days alone, so Draws in a row are picks in a row.
+-- A pick depends only on the identifiers of the issuances and on their days. Hence successive Draws
+-- are successive picks.
 use Rattle.std.proofs.Common.{◌≡◌, ℕ, zero, suc, ◌+◌, Bool, true, false, cond, not, ◌&&◌, ◌||◌}
 use Rattle.std.proofs.Common.{List, [], ◌∷◌, ◌++◌, Option, Some, None, refl, sym, ap, ap₂, ◌∙◌}
 use Rattle.std.proofs.Common.{subst, length}
@@ -20,7 +21,7 @@ use Rattle.s10_history.proofs.Push.{issues_from-push}
 use Rattle.s10_book.proofs.Closing.{draw_open}
 use Rattle.s10_book.proofs.Picking.{then_found, then_same, picks}
 
--- the issues have the same identifiers, on the same days
+-- Two lists are alike if they have issuances of the same identifiers, on the same days.
 abbrev pub Alike : List Issuance → List Issuance → Type 0
 Alike [] [] = Unit {0}
 Alike [] (j ∷ js) = ⊥
@@ -115,7 +116,7 @@ drawn_then is day (r ∷ rs) None next = refl
 drawn_then is day [] (Some r) next = refl
 drawn_then is day (x ∷ rs) (Some r) next = refl
 
--- Draws in a row give the picks in a row
+-- Successive Draws give successive picks.
 pub row_is : (made : Id → Issuance) (customer : ℕ) (s c : ℕ × ℕ) (day n : ℕ)
     → ((x : Id) → (made x).id ≡ x) → ((x : Id) → (made x).day ≡ day)
     → (count : ℕ) (h : List Entry) (is : List Issuance) → Alike (issues_of h) is

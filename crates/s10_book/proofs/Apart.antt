@@ -25,7 +25,7 @@ use Rattle.s10_book.specs.Promises.{IsApart}
 use Rattle.s10_history.proofs.Push.{ranges_from-push}
 use Rattle.s10_book.proofs.Legal.{legal_induction}
 
--- what a range and an identifier in it share
+-- What a range and an identifier in it have in common.
 pub record Within (r : Range) (x : Id) : Type 0 where
   pub service : x.service ≡ r.service
   pub country : x.country ≡ r.country
@@ -65,7 +65,7 @@ overlapping s c first last r es ec low high order =
     (and_from _ _ (and_from _ _ (letters_same r.service s es) (letters_same r.country c ec))
     (le-leb r.first last low)) (le-leb first r.last high)) (le-leb first last order)
 
--- a Grant is Done only where no range overlaps
+-- A Grant is done only if no range overlaps.
 granted_when : (b1 b2 b3 : Bool) (n m : ℕ)
     → cond b1 NotThePost (cond b2 BadGrant (cond b3 Overlap (Granted n))) ≡ Granted m → b3 ≡ false
 granted_when true b2 b3 n m h = cc

@@ -1,4 +1,4 @@
--- The identifiers that a call carries, each over the issues with those before it.
+-- The identifiers that a call carries, each over the issuances with those before it.
 use Rattle.std.proofs.Common.{◌≡◌, ℕ, zero, suc, ◌+◌, Bool, true, false, List, [], ◌∷◌, ◌++◌, map}
 use Rattle.std.proofs.Common.{Option, Some, None, refl, sym, ◌∙◌, subst, length, append-nil}
 use Rattle.std.proofs.Common.{append_assoc}
@@ -29,7 +29,7 @@ use Rattle.s10_book.proofs.Fitting.{answer_fits}
 use Rattle.s10_book.proofs.Picking.{then_found, picks}
 use Rattle.s10_book.proofs.Alike.{alike_itself, row_is}
 
--- the issue of what a call carries
+-- The issuance of an identifier that a call carries.
 abbrev pub made_by : Entry → ℕ → ℕ × Id → Issuance
 made_by e arrival c = record {
   id = c.1;
@@ -39,13 +39,13 @@ made_by e arrival c = record {
   arrival = arrival;
 }
 
--- of what is carried each holds over the issues with those before it
+-- P holds of each carried identifier, over the issuances with those before it.
 abbrev pub InTurn : (List Issuance → ℕ × Id → Type 0) → (ℕ × Id → Issuance) → List Issuance
     → List (ℕ × Id) → Type 0
 InTurn P made is [] = Unit {0}
 InTurn P made is (c ∷ cs) = P is c × InTurn P made (is ++ made c ∷ []) cs
 
--- what holds before, and is kept by each issue, holds after all of them
+-- A property that holds before, and is preserved by each issuance, holds after all of them.
 pub in_turn : (P : List Issuance → ℕ × Id → Type 0) (Q : List Issuance → Type 0)
     (made : ℕ × Id → Issuance) (is : List Issuance) (cs : List (ℕ × Id))
     → InTurn P made is cs → Q is → ((js : List Issuance) (c : ℕ × Id) → P js c → Q js
@@ -55,7 +55,7 @@ in_turn P Q made is (c ∷ cs) turn start step =
     subst Q (append_assoc is (made c ∷ []) (map made cs)) (in_turn P Q made (is ++ made c ∷ []) cs
     turn.1 (step is c turn.0 start) step)
 
--- an identifier on its day is the pick of one of the customer's ranges, and it is free
+-- An identifier on its day is picked if it is the pick of one of the customer's ranges, and free.
 pub record IsPicked (rs : List Range) (customer day n : ℕ) (is : List Issuance) (c : ℕ × Id) :
     Type 0 where
   pub same_day : c.0 ≡ day
@@ -70,7 +70,7 @@ pub Contains-filter : {A : Type 0} (p : A → Bool) (xs : List A) (x : A) → Co
 Contains-filter {A} p xs x in' = let P : A → Type 0 = Contains xs in
     All-contains P (filter p xs) x (All-filter p P xs (All-contains_itself xs)) in'
 
--- the range of a pick that is free is the customer's
+-- The range of a free pick is the customer's.
 unfoldable pub picked_from : (g : List Entry) (rs : List Range) (customer day n : ℕ) (s c : ℕ × ℕ)
     (is : List Issuance) (r : Range)
     → find (has_free_pick is day n) (filter (is_open g customer s c) rs) ≡ Some r
@@ -91,7 +91,7 @@ picked_from g rs customer day n s c is r found =
       picked = refl;
     }
 
--- what holds of each pick that is found among the ranges holds of what a Draw carries
+-- A property of each pick that is found among the ranges holds of what a Draw carries.
 carried_at : (P : List Issuance → ℕ × Id → Type 0) (day n : ℕ) (among : List Range)
     (is : List Issuance) (made : ℕ × Id → Issuance) (held : List Range) (o : Option Range)
     → find (has_free_pick is day n) among ≡ o
@@ -103,7 +103,7 @@ carried_at P day n among is made (y ∷ ys) None found holds = tt
 carried_at P day n among is made [] (Some r) found holds = (holds is r found, tt)
 carried_at P day n among is made (y ∷ ys) (Some r) found holds = (holds is r found, tt)
 
--- the picks of n Draws in a row
+-- The picks of successive Draws.
 row_carried : (P : List Issuance → ℕ × Id → Type 0) (day n : ℕ) (among : List Range)
     (made : ℕ × Id → Issuance)
     → ((js : List Issuance) (r : Range) → find (has_free_pick js day n) among ≡ Some r
@@ -147,7 +147,7 @@ row_at P [] day made is row turn = tt
 row_at P (x ∷ xs) day made is None turn = tt
 row_at P (x ∷ xs) day made is (Some ids) turn = turn ids refl
 
--- an outcome that fits no Draw carries none
+-- An outcome that fits no Draw carries no identifier.
 none_carried : (b : Body) (o : Outcome) → ((d : ℕ) (x : Id) → fits b (Drawn d x) ≡ false)
     → ((d : ℕ) (ids : List Id) → fits b (DrawnMany d ids) ≡ false) → IsTrue (fits b o)
     → carried_by o ≡ []
@@ -161,7 +161,8 @@ in_turn_none : (P : List Issuance → ℕ × Id → Type 0) (made : ℕ × Id �
 in_turn_none P made is cs e = let Q : List (ℕ × Id) → Type 0 = InTurn P made is in
     subst Q (sym e) tt
 
--- what holds of each pick that is found among a customer's open ranges holds of what the answer of the rules carries, one after another
+-- A property of each pick that is found among a customer's open ranges holds of what the answer of
+-- the rules carries, one after another.
 pub carried : (P : List Issuance → ℕ × Id → Type 0) (g : List Entry) (customer day n : ℕ) (b : Body)
     (made : ℕ × Id → Issuance) → ((c : ℕ × Id) → (made c).id ≡ c.1)
     → ((c : ℕ × Id) → (made c).day ≡ c.0)
@@ -192,7 +193,7 @@ carried P g customer day n (DrawMany s c count) made same on holds =
     (sym (row_is (λ x. made (day, x)) customer s c day n (λ x. same (day, x)) (λ x. on (day, x))
     count g (issues_of g) (alike_itself (issues_of g))) ∙ e))
 
--- what holds of each issue that an outcome makes holds of all of them
+-- A property of each issuance of an outcome holds of all of them.
 pub issued_at : (P : Issuance → Type 0) (customer number arrival : ℕ) (o : Outcome)
     → ((d : ℕ) (x : Id) → o ≡ Drawn d x
     → P (record { id = x; day = d; customer = customer; number = number; arrival = arrival }))
@@ -243,7 +244,7 @@ issued_at P customer number arrival (DrawnMany d ids) new many = all_made ids (m
         All-cons P _ _ (All-head Q x xs holds) (all_made xs (All-tail Q x xs holds))
 issued_at P customer number arrival o new many = All-nil P
 
--- what a call carries was picked, one after another
+-- The identifiers that a call carries were picked, one after another.
 pub carried_call : (g : List Entry) (t : Terms) (e : Entry) → MayFollow g t e
     → InTurn (IsPicked (ranges_of g) e.request.customer e.day t.interval) (made_by e (1 + length g))
     (issues_of g) (carried_by e.outcome)
@@ -256,7 +257,7 @@ carried_call g t e may =
     t.interval e.request.body (made_by e (1 + length g)) (λ c. refl) (λ c. refl)
     (λ s c. picked_from g (ranges_of g) e.request.customer e.day t.interval s c))
 
--- what holds of the issues of a history, and is kept by each pick, holds after one more call
+-- A property of the issuances of a history that each pick preserves holds after one more call.
 pub after_call : (Q : List Issuance → Type 0) (g : List Entry) (t : Terms) (e : Entry)
     → MayFollow g t e → Q (issues_of g)
     → ((is : List Issuance) (c : ℕ × Id) → IsPicked (ranges_of g) e.request.customer e.day

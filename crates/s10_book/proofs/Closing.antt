@@ -1,4 +1,4 @@
--- Which calls leave the open ranges as they are.
+-- Calls that leave the open ranges unchanged.
 use Rattle.std.proofs.Common.{◌≡◌, ℕ, ◌+◌, Bool, true, false, not, ◌&&◌, ◌||◌, List, [], ◌∷◌, ◌++◌}
 use Rattle.std.proofs.Common.{length, refl, ap, ◌∙◌, append-nil}
 use Rattle.std.specs.Prelude.{filter, option_to_list}
@@ -15,7 +15,7 @@ or_false : (a : Bool) → (a || (false || false)) ≡ a
 or_false true = refl
 or_false false = refl
 
--- a call that withdraws no range closes none
+-- A call that withdraws no range closes none.
 pub closed_push : (h : List Entry) (e : Entry) (num : ℕ) → withdraws num e.request.body e.outcome
     ≡ false → is_closed (h ++ e ∷ []) num ≡ is_closed h num
 closed_push h e num none =
@@ -27,7 +27,7 @@ pub filter_same : {A : Type 0} (p q : A → Bool) (xs : List A) → ((x : A) →
 filter_same p q [] same = refl
 filter_same p q (x ∷ xs) same = rw (same x, filter_same p q xs same) refl
 
--- a Done Draw makes no range
+-- A Done Draw creates no range.
 pub draw_ranges : (g : List Entry) (e : Entry) (customer : ℕ) (s c : ℕ × ℕ) (day : ℕ) (x : Id)
     → without_number e ≡ draw_done customer s c day x → ranges_of (g ++ e ∷ []) ≡ ranges_of g
 draw_ranges g e customer s c day x is =
@@ -36,7 +36,7 @@ draw_ranges g e customer s c day x is =
     (range_of_grant (1 + length (ranges_of g)) f.request.body f.outcome)) is
     ∙ append-nil (ranges_of g)
 
--- and closes none
+-- A Done Draw closes no range.
 pub draw_open : (g : List Entry) (e : Entry) (customer : ℕ) (s c : ℕ × ℕ) (day : ℕ) (x : Id)
     → without_number e ≡ draw_done customer s c day x → ranges_open (g ++ e ∷ []) customer s c
     ≡ ranges_open g customer s c

@@ -16,7 +16,7 @@ use Rattle.s10_wire.specs.declared.outcome.Outcome.TheVariants.{Drawn, NoRange, 
 use Rattle.s10_history.proofs.Numbering.{above, Numbered, filter_above, next_above, filter_none}
 use Rattle.s10_history.proofs.Issued.{free_last}
 
--- no range up to the number passes, and there is one if the number isn't 0
+-- No range up to the number `after` passes; if that is not 0, there is a range.
 pub record Remaining (passes p : Range → Bool) (rs : List Range) (after : ℕ) : Type 0 where
   pub free : find passes (filter p rs) ≡ find passes (filter (above p after) rs)
   pub some : 0 < after → 0 < length (filter p rs)
@@ -28,7 +28,7 @@ Remaining-start passes p rs h = record {
   some = λ lt. absurd (omega (arith, lt));
 }
 
--- the next range is the first of those that are left
+-- The next range is the first of the remaining ones.
 rest_is : (passes p : Range → Bool) (rs : List Range) (after : ℕ) (r : Range) → Numbered 1 rs
     → find (above p after) rs ≡ Some r → Remaining passes p rs after
     → find passes (filter p rs) ≡ cond (passes r) (Some r) (find passes (filter (above p r.num) rs))
@@ -58,27 +58,27 @@ Remaining-next passes p rs after r h found fails left = record {
   some = λ _. some_is p rs after r h found left.some;
 }
 
--- the next range passes
+-- The next range passes.
 pub Remaining-found : (passes p : Range → Bool) (rs : List Range) (after : ℕ) (r : Range)
     → Numbered 1 rs → find (above p after) rs ≡ Some r → passes r ≡ true
     → Remaining passes p rs after → find passes (filter p rs) ≡ Some r
 Remaining-found passes p rs after r h found pass left = rest_is passes p rs after r h found left
     ∙ ap (λ b. cond b (Some r) (find passes (filter (above p r.num) rs))) pass
 
--- no range is left
+-- No range remains.
 pub Remaining-none : (passes p : Range → Bool) (rs : List Range) (after : ℕ)
     → find (above p after) rs ≡ None → Remaining passes p rs after → find passes (filter p rs)
     ≡ None
 Remaining-none passes p rs after none left =
     left.free ∙ ap (find passes) (filter_none (above p after) rs none)
 
--- there never was one
+-- There is no range at all.
 pub Remaining-empty : (p : Range → Bool) (rs : List Range) → Numbered 1 rs → find (above p 0) rs
     ≡ None → filter p rs ≡ []
 Remaining-empty p rs h none = sym (filter_above p 0 1 rs (omega arith) h) ∙ filter_none (above p 0)
     rs none
 
--- the test of the candidate's issue is the test of its range
+-- The test of the candidate's last issue is the test of its range.
 pub passes_is : (h : List Entry) (r : Range) (day interval : ℕ) (found : Candidate) (b : Bool)
     → found ≡ candidate_of h r
     → b ≡ is_free_since day interval (option_map (λ (i : Issue). i.day) found.issue)

@@ -1,4 +1,4 @@
--- Where n Draws in a row are not all Done, fewer serials than that are free.
+-- If successive Draws are not all done, fewer serials are free than they ask for.
 use Rattle.std.proofs.Common.{◌≡◌, ℕ, zero, suc, ◌+◌, ◌-◌, ◌<◌, ◌≤◌, Bool, true, false, cond, leb}
 use Rattle.std.proofs.Common.{List, [], ◌∷◌, ◌++◌, Option, Some, None, Result, Ok, refl, sym, ap}
 use Rattle.std.proofs.Common.{◌∙◌, ◌⊎◌, inl, inr, arith, subst, get_or}
@@ -60,7 +60,7 @@ count_none p low (suc n) none =
     (none low (omega arith) (omega arith)) in
     omega (arith, here, count_none p (low + 1) n (λ s le lt. none s (omega arith) (omega arith)))
 
--- one serial fewer passes the second test
+-- One serial fewer passes the second test.
 count_one : (p q : ℕ → Bool) (m low len : ℕ) → low ≤ m → m < low + len → p m ≡ true → q m ≡ false
     → ((s : ℕ) → (s ≡ m → ⊥) → p s ≡ q s) → count_by p (range_with_len low len)
     ≡ count_by q (range_with_len low len) + 1
@@ -152,7 +152,7 @@ total_outside (r ∷ rs) is y day n out =
     total_outside rs is y day n (All-tail (λ s. lies_in s y.id ≡ false) r rs out) in
     ap (λ k. k + free_serials is day n rs) here ∙ ap (λ k. free_in (is ++ y ∷ []) day n r + k) rest
 
--- one more issue of a range's free pick leaves one serial fewer free, at most
+-- One more issuance of a range's free pick leaves at most one free serial fewer.
 total_one : (rs : List Range) (is : List Issuance) (y : Issuance) (day n : ℕ) → AllPairs Apart rs
     → Ready rs is → y.day ≡ day → 1 ≤ n → ((r : Range) → Contains rs r → lies_in r y.id ≡ true
     → (y.id ≡ id_at r (pick_of is r)) × (has_free_pick is day n r ≡ true))
@@ -205,7 +205,7 @@ none_free_in is day n r days taken =
         lies yes'))
     at s lies (inr no') = no'
 
--- where no range has a free pick no serial is free
+-- If no range has a free pick, no serial is free.
 total_none : (rs : List Range) (is : List Issuance) (day n : ℕ) → InDays is
     → find (has_free_pick is day n) rs ≡ None → free_serials is day n rs ≡ 0
 unfolding free_in
@@ -221,7 +221,7 @@ rest_none : (x : Id) (row : Option (List Id)) → option_map (λ xs. x ∷ xs) r
 rest_none x None is = refl
 rest_none x (Some xs) is = absurd (none-some _ (sym is))
 
--- n picks in a row fail only where fewer serials than that are free
+-- Successive picks fail only if fewer serials are free than they ask for.
 pub fewer_free : (made : Id → Issuance) (day n : ℕ) (rs : List Range) → ((x : Id) → (made x).id ≡ x)
     → ((x : Id) → (made x).day ≡ day) → 1 ≤ n → AllPairs Apart rs
     → (k : ℕ) (is : List Issuance) → Ready rs is → InDays is → All (λ i. i.day ≤ day) is
@@ -278,7 +278,7 @@ no_row day [] row is = cc
 no_row day (r ∷ rs) None is = refl
 no_row day (r ∷ rs) (Some ids) is = cc
 
--- NoneFree is answered only where fewer serials than that are free
+-- `NoneFree` is the outcome only if fewer serials are free than the DrawMany asks for.
 pub few_free : (h : List Entry) (t : Terms) → IsLegal h t → 1 ≤ t.interval
     → (customer : ℕ) (s c : ℕ × ℕ) (count day : ℕ) → day_of h ≤ day
     → draw_many_answer h customer s c count day t.interval ≡ NoneFree
@@ -297,7 +297,7 @@ few_free h t legal pos customer s c count day le is =
     known.upto)
     (sym (row_of h customer s c day t.interval count) ∙ none)
 
--- where the interval is none each pick is free
+-- If the interval is 0, each pick is free.
 free_at_once : (day : ℕ) (last : Option ℕ) → is_free_since day 0 last ≡ true
 free_at_once day None = refl
 free_at_once day (Some d) = le-leb 0 (day - d) (omega arith)
@@ -321,7 +321,7 @@ some_interval made day zero (r ∷ rs) is k told =
     told))
 some_interval made day (suc n) (r ∷ rs) is k told = omega arith
 
--- the same of what a call of a book answers
+-- The same for the result of a call of a book.
 pub few_told : (h : List Entry) (t : Terms) → IsLegal h t → (customer : ℕ) (service country : ℕ × ℕ)
     (count day : ℕ) → day_of h ≤ day → (result : Result Outcome BookFault) (s c : ℕ × ℕ) (k : ℕ)
     → IfOk result (λ o. o ≡ draw_many_answer h customer service country count day t.interval)

@@ -57,7 +57,7 @@ row_step (Drawn day x) next n ids rest is = mapped (next x) refl is
     mapped (Some xs) e is' = sym (ap length (same_Some (x ∷ xs) ids is')) ∙ ap suc (rest x xs e)
 row_step o next n ids rest is = absurd (none-some ids is)
 
--- n Draws in a row give n identifiers
+-- Successive Draws give as many identifiers as there are Draws.
 pub row_length : (h : List Entry) (customer : ℕ) (s c : ℕ × ℕ) (day n count : ℕ) (ids : List Id)
     → successive_draws h customer s c day n count ≡ Some ids → length ids ≡ count
 row_length h customer s c day n zero ids is = sym (ap length (same_Some [] ids is))
@@ -111,7 +111,7 @@ found_place p (y ∷ ys) x found =
       | inr w ↦ let there = found_place p ys x w.1 in (suc there.0, there.1)
     ]
 
--- the outcome of a call that is found fits it
+-- The outcome of an entry that is found fits its request.
 pub found_fits : (h : List Entry) (t : Terms) (customer number : ℕ) (o : Option Entry) → IsLegal h t
     → o ≡ find_entry h customer number → IfSome o (λ e. IsTrue (fits e.request.body e.outcome))
 found_fits h t customer number None legal e = tt

@@ -1,4 +1,4 @@
--- Where any serial of a range is free, so is its pick.
+-- If any serial of a range is free, its pick is free.
 use Rattle.std.proofs.Common.{◌≡◌, ℕ, zero, suc, ◌+◌, ◌-◌, ◌<◌, ◌≤◌, Bool, true, false, not, ◌&&◌}
 use Rattle.std.proofs.Common.{List, [], ◌∷◌, Option, Some, None, refl, sym, ap, ◌∙◌, inl, inr}
 use Rattle.std.proofs.Common.{arith, subst, Ok}
@@ -42,7 +42,7 @@ id_equal a b h =
     let k : ℕ × ℕ → Id = λ u. record { service = b.service; serial = b.serial; country = u } in
     ap f e0 ∙ ap g e1 ∙ ap k e2
 
--- an identifier of a range is named by its serial
+-- An identifier of a range is determined by its serial.
 pub id_within : (r : Range) (x : Id) → lies_in r x ≡ true → id_at r x.serial ≡ x
 id_within r x lies =
     let in' = within r x lies in
@@ -55,7 +55,7 @@ last_or-more : {A : Type 0} (o : Option A) (xs : List A) (l : A) → last_or Non
 last_or-more o [] l e = absurd (none-some l e)
 last_or-more o (x ∷ xs) l e = e
 
--- what holds of each element holds of the last that passes
+-- A property of each element holds of the last one that passes.
 last_all : (P : Issuance → Type 0) (p : Issuance → Bool) (o : Option Issuance) (xs : List Issuance)
     (l : Issuance) → All P xs → ((m : Issuance) → o ≡ Some m → P m) → last_or o (filter p xs)
     ≡ Some l → P l
@@ -79,7 +79,7 @@ latest_some is x None e yes' =
     (list_any_none (is_of x) is (last_none (is_of x) None is e).1) yes')
 latest_some is x (Some l) e yes' = (l, e)
 
--- an identifier that was issued has a last issue
+-- An identifier that was issued has a last issuance.
 pub issued_latest : (is : List Issuance) (x : Id) → is_issued is x ≡ true → (l : Issuance)
     × (last_issuance_of is x ≡ Some l)
 issued_latest is x yes' = latest_some is x (last_issuance_of is x) refl yes'
@@ -92,7 +92,7 @@ latest_cons j js y i e =
       | inr f ↦ rw f e
     ]
 
--- the oldest of the last issues in a range
+-- The oldest of the last issuances in a range.
 record IsOldest (r : Range) (is : List Issuance) (l : Issuance) : Type 0 where
   i : Issuance
   found : serial_issued_earliest r is ≡ Some i.id.serial
@@ -154,7 +154,7 @@ oldest_of r (j ∷ js) x l days lies e =
           }
     ]
 
--- what isn't found among numbers fails at each of them
+-- If no number is found, the test fails at each of them.
 pub none_within : (p : ℕ → Bool) (low n s : ℕ) → find p (range_with_len low n) ≡ None → low ≤ s
     → s < low + n → p s ≡ false
 none_within p low zero s e le lt = absurd (omega arith)
@@ -209,7 +209,7 @@ pick_free is r x day n days lies free =
         let Q : Option ℕ → Type 0 = λ o. is_free is (id_at r (unwrap_or o r.first)) day n ≡ true in
         subst Q (sym old.found) (free_some _ old.i day n old.last (omega (arith, le, old.before)))
 
--- where any serial of a range is free on a day, so is its pick
+-- If any serial of a range is free on a day, its pick is free.
 pub free_pick : (h : List Entry) (t : Terms) → IsLegal h t → (r : Range) (x : Id) (day : ℕ)
     → day_of h ≤ day → IsTrue (lies_in r x) → IsTrue (is_free (issues_of h) x day t.interval)
     → IsTrue (has_free_pick (issues_of h) day t.interval r)
@@ -231,7 +231,8 @@ none_drawn is day (x ∷ xs) None e = refl
 none_drawn is day [] (Some r) e = cc
 none_drawn is day (x ∷ xs) (Some r) e = cc
 
--- NoneFree is answered only where no serial of the customer's ranges of that service and country is free
+-- `NoneFree` is the outcome only if no serial of the customer's open ranges of that service and
+-- country is free.
 pub none_free : (h : List Entry) (t : Terms) → IsLegal h t
     → (customer : ℕ) (service country : ℕ × ℕ) (day : ℕ) → day_of h ≤ day
     → draw_answer h customer service country day t.interval ≡ NoneFree
@@ -247,7 +248,7 @@ none_free h t legal customer service country day le is =
     (none_all (has_free_pick (issues_of h) day t.interval) (ranges_open h customer service country)
     (none_drawn (issues_of h) day (ranges_open h customer service country) _ is))
 
--- the same of an answer that was given
+-- The same for a result that was returned.
 pub nothing_free : (h : List Entry) (t : Terms) → IsLegal h t
     → (customer : ℕ) (service country : ℕ × ℕ) (day : ℕ) → day_of h ≤ day
     → (result : Result Outcome BookFault) (s c : ℕ × ℕ)

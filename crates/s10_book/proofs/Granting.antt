@@ -1,4 +1,4 @@
--- When a Grant is Done.
+-- When a Grant is done.
 use Rattle.std.proofs.Common.{◌≡◌, ℕ, ◌+◌, ◌≤◌, Bool, true, false, cond, eqb, ltb, ◌||◌, List, []}
 use Rattle.std.proofs.Common.{◌∷◌, Option, Some, refl, sym, ap, ◌∙◌, length}
 use Rattle.std.specs.Prelude.{find, is_some}
@@ -32,7 +32,7 @@ grant_of_post h customer holder s c first lst b post someone order any =
       any,
     ) refl
 
--- the test of a look-up
+-- The test of a look-up.
 pub any_is : (p : Range → Bool) (rs : List Range) (o : Option Range) (b : Bool) → o ≡ find p rs
     → is_some o ≡ b → list_any p rs ≡ b
 any_is p rs o b e t = any_find p rs ∙ sym (ap is_some e) ∙ t

@@ -1,4 +1,4 @@
--- What comes of a larger draw, by the ranges that the customer holds.
+-- The outcome of a DrawMany, by the open ranges of the customer.
 use Rattle.std.proofs.Common.{◌≡◌, ℕ, true, false, List, [], ◌∷◌, Option, Some, None, refl, sym, ap}
 use Rattle.std.proofs.Common.{◌∙◌, arith}
 use Rattle.std.specs.Prelude.{find, filter, is_some}
@@ -11,7 +11,7 @@ use Rattle.s10_history.specs.History.{ranges_of, is_open, ranges_open}
 use Rattle.s10_book.specs.Rules.{outcome_of_draws, draw_many_answer, successive_draws}
 use Rattle.s10_history.proofs.Numbering.{above, numbered, filter_above, next_above, filter_none}
 
--- what a customer who holds such a range is told
+-- The outcome for a customer who holds an open range.
 abbrev pub told_of : ℕ → Option (List Id) → Outcome
 told_of day None = NoneFree
 told_of day (Some ids) = DrawnMany day ids
@@ -21,7 +21,7 @@ told_after : (day : ℕ) (r : Range) (rs : List Range) (row : Option (List Id))
 told_after day r rs None = refl
 told_after day r rs (Some ids) = refl
 
--- the customer holds such a range
+-- The customer holds an open range.
 pub many_told : (h : List Entry) (customer : ℕ) (s c : ℕ × ℕ) (count day n : ℕ) (o : Option Range)
     (row : Option (List Id)) → is_some o ≡ true → o ≡ find (above (is_open h customer s c) 0)
     (ranges_of h)
@@ -39,7 +39,7 @@ many_told h customer s c count day n (Some r) row some found e =
     ∙ told_after day r (filter (above (is_open h customer s c) r.num) (ranges_of h))
     (successive_draws h customer s c day n count) ∙ ap (told_of day) (sym e))
 
--- the customer holds none
+-- The customer holds no open range.
 pub many_nowhere : (h : List Entry) (customer : ℕ) (s c : ℕ × ℕ) (count day n : ℕ)
     (o : Option Range) → is_some o ≡ false → o ≡ find (above (is_open h customer s c) 0)
     (ranges_of h) → NoRange ≡ draw_many_answer h customer s c count day n

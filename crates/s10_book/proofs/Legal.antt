@@ -13,7 +13,7 @@ use Rattle.s10_history.specs.History.{has_key}
 use Rattle.s10_book.specs.Rules.{IsLegal, MayFollow}
 use Rattle.s10_book.proofs.Push.{IsLegal-push, IsLegal-nil}
 
--- the element at a place, and the list up to it and with it
+-- The element at an index, and the list up to it and with it.
 pub element : {A : Type 0} (xs : List A) (n : ℕ) → n < length xs
     → (x : A) × (slice_get xs n ≡ Some x) × (take (suc n) xs ≡ take n xs ++ x ∷ [])
 element [] n h = absurd (omega arith)
@@ -32,7 +32,7 @@ none_found p [] h = refl
 none_found p (x ∷ xs) h = none_at (p x) x (find p xs) (All-head (λ y. p y ≡ false) x xs h)
     (none_found p xs (All-tail (λ y. p y ≡ false) x xs h))
 
--- the last of days that are at most n is so
+-- The last of days that are at most n is at most n.
 day_at_most : (n a : ℕ) (xs : List Entry) → All (λ e. e.day ≤ n) xs → a ≤ n
     → fold (λ d e. e.day) a xs ≤ n
 day_at_most n a [] h le = le
@@ -51,7 +51,7 @@ key_turned d e apart = false_from_ne_true _ (λ same.
     (eq-eqb e.request.number d.request.number
     (sym (eqb-true d.request.number e.request.number both.1)))))
 
--- each call of a legal history may follow those before it
+-- Each call of a legal history may follow those before it.
 pub MayFollow-at : (h : List Entry) (t : Terms) (k : ℕ) (e : Entry) → IsLegal h t
     → slice_get h k ≡ Some e → MayFollow (take k h) t e
 MayFollow-at h t k e legal is =
@@ -96,7 +96,7 @@ grown P h t legal base step (suc n) le =
       step (take n h) next.0 before.0 before.1 may,
     )
 
--- what a new history has, and what each call that may follow keeps, a legal history has
+-- A property of the empty history that each call preserves holds of every legal history.
 pub legal_induction : (P : List Entry → Type 0) (h : List Entry) (t : Terms) → IsLegal h t → P []
     → ((g : List Entry) (e : Entry) → IsLegal g t → P g → MayFollow g t e → P (g ++ e ∷ [])) → P h
 legal_induction P h t legal base step =

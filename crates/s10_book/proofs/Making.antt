@@ -1,4 +1,4 @@
--- The issues of one call, one after another.
+-- The issuances of one call, one after another.
 use Rattle.std.proofs.Common.{◌≡◌, ℕ, suc, ◌+◌, ◌<◌, List, [], ◌∷◌, ◌++◌, Option, sym, ap, ◌∙◌}
 use Rattle.std.proofs.Common.{arith, length, take, append_assoc}
 use Rattle.std.specs.Prelude.{slice_get, option_to_list}
@@ -13,7 +13,7 @@ pub length-issues_at : (arrival : ℕ) (e : Entry) → length (issues_at arrival
     ≡ length (carried_by e.outcome)
 length-issues_at arrival e = length-mapped (made_by e arrival) (carried_by e.outcome)
 
--- one more of them after those so far
+-- One more issuance after those so far.
 pub issues_more : (old now new xs : List Issuance) (i : ℕ) (o : Option Issuance) → i < length xs
     → o ≡ slice_get xs i → now ≡ old ++ take i xs → new ≡ now ++ option_to_list o
     → new ≡ old ++ take (i + 1) xs

@@ -1,4 +1,4 @@
--- A range gives its serials in turn, from its first to its last and then from its first again.
+-- A range gives its serials in order, wrapping from last to first.
 use Rattle.std.proofs.Common.{◌≡◌, ℕ, zero, suc, ◌+◌, ◌-◌, ◌<◌, ◌≤◌, Bool, true, false, cond, not}
 use Rattle.std.proofs.Common.{eqb, ◌&&◌, ◌||◌, List, [], ◌∷◌, ◌++◌, map, Option, Some, None, refl}
 use Rattle.std.proofs.Common.{sym, ap, ◌∙◌, ◌⊎◌, inl, inr, arith, subst, length, get_or, append-nil}
@@ -37,7 +37,7 @@ use Rattle.s10_book.proofs.Own.{lies_at, new_ordered, lies_picked}
 use Rattle.s10_book.proofs.Carried.{made_by, InTurn, IsPicked, carried_call, after_call}
 use Rattle.s10_book.proofs.Free.{id_equal, id_within}
 
--- the serials of a range that were issued, in the order of their last issues
+-- The issued serials of a range, in the order of their last issuances.
 abbrev pub lasts : Range → List Issuance → List ℕ
 lasts r [] = []
 lasts r (i ∷ is) = cond (lies_in r i.id && not (is_issued is i.id)) (i.id.serial ∷ lasts r is)
@@ -62,7 +62,7 @@ oldest_first r (i ∷ is) = earliest_cons r i is
     ∙ oldest_step (lies_in r i.id && not (is_issued is i.id)) i.id.serial
     (serial_issued_earliest r is) (lasts r is) (oldest_first r is)
 
--- in one range identifiers are the same where their serials are
+-- In one range, identifiers are equal if their serials are.
 serial_same : (r : Range) (x y : Id) → lies_in r x ≡ true → lies_in r y ≡ true → x.serial ≡ y.serial
     → x ≡ y
 serial_same r x y lx ly e = sym (id_within r x lx) ∙ ap (id_at r) e ∙ id_within r y ly
@@ -85,7 +85,7 @@ issued_now : (is : List Issuance) (y : Issuance) (x : Id) → is_of x y ≡ true
 issued_now is y x yes' = issued_push is y x ∙ or_right (is_issued is x) (is_of x y || false)
     (or_left (is_of x y) false yes')
 
--- how a test changes by an issue of s at the end, at an issue of k
+-- How an issuance of s at the end changes a test at an issuance of k.
 abbrev Changes : Bool → Bool → ℕ → ℕ → Type 0
 Changes t' t k s = ((t' ≡ false) × (t ≡ false))
     ⊎ (((t' ≡ t) × (k ≡ s → ⊥)) ⊎ ((t' ≡ false) × (k ≡ s)))
@@ -141,7 +141,7 @@ changes r i is y ly =
       ]
     ]
 
--- an issue in the range moves its serial to the end
+-- An issuance in the range moves its serial to the end.
 lasts_inside : (r : Range) (is : List Issuance) (y : Issuance) → lies_in r y.id ≡ true
     → lasts r (is ++ y ∷ []) ≡ without y.id.serial (lasts r is) ++ y.id.serial ∷ []
 lasts_inside r [] y ly = rw ly refl
@@ -162,7 +162,7 @@ same_tests r i is y ly =
       ]
     ]
 
--- an issue outside it changes nothing
+-- An issuance outside the range changes nothing.
 lasts_outside : (r : Range) (is : List Issuance) (y : Issuance) → lies_in r y.id ≡ false
     → lasts r (is ++ y ∷ []) ≡ lasts r is
 lasts_outside r [] y ly = rw ly refl
@@ -179,7 +179,7 @@ lasts_none r (i ∷ is) all =
     rw (and_left (lies_in r i.id) (not (is_issued is i.id)) (All-head (λ j. lies_in r j.id ≡ false)
     i is all)) (lasts_none r is (All-tail (λ j. lies_in r j.id ≡ false) i is all))
 
--- a serial was issued where it is among them
+-- A serial was issued if it is among them.
 issued_step : (t : Bool) (e rest : Bool) (k s : ℕ) (l : List ℕ)
     → rest ≡ list_any (λ (n : ℕ). eqb n s) l → (t ≡ true → e ≡ eqb k s)
     → (t ≡ false → e ≡ true → rest ≡ true) → (e || rest) ≡ list_any (λ (n : ℕ). eqb n s)
@@ -226,7 +226,7 @@ issued_lasts r s (i ∷ is) ls = issued_step (lies_in r i.id && not (is_issued i
           | inr no' ↦ subst Q same (not-false (is_issued is i.id) no')
         ]
 
--- numbers in a row
+-- A number is among consecutive numbers if it is in their range.
 in_row : (low n s : ℕ) → low ≤ s → s < low + n
     → list_any (λ (k : ℕ). eqb k s) (range_with_len low n) ≡ true
 in_row low zero s le lt = absurd (omega arith)
@@ -282,7 +282,7 @@ none_found p low zero all = refl
 none_found p low (suc len) all = rw (all low (omega arith) (omega arith))
     (none_found p (low + 1) len (λ s le lt. all s (omega arith) (omega arith)))
 
--- the serials that were issued are those up to the mark, or all of them, the one at the mark first
+-- The issued serials are those before the mark, or all of them, beginning with the one at the mark.
 pub record Turns (r : Range) (is : List Issuance) (m : ℕ) : Type 0 where
   pub low : r.first ≤ m
   pub high : m ≤ r.last
@@ -299,7 +299,7 @@ at_serial : (r : Range) (s : ℕ) → r.first ≤ s → s < r.first + (r.last + 
     → lies_in r (id_at r s) ≡ true
 at_serial r s le lt = lies_at r s (record { low = le; high = omega arith })
 
--- the pick is the mark
+-- The pick is the mark.
 pub pick_turns : (r : Range) (is : List Issuance) (m : ℕ) → Turns r is m → pick_of is r ≡ m
 pick_turns r is m turns =
     pick_choice r.first (serial_issued_earliest r is)
@@ -363,7 +363,7 @@ turns_outside r is y m ly turns =
           turns.shape;
     }
 
--- the serials up to the mark, with the one at the mark after them
+-- The serials before the mark, followed by the one at the mark.
 row_to : (first m : ℕ) → first ≤ m → range_with_len first (m - first) ++ m ∷ []
     ≡ range_with_len first (m + 1 - first)
 row_to first m le =
@@ -372,14 +372,14 @@ row_to first m le =
     ap (λ (k : ℕ). range_with_len first (m - first) ++ k ∷ []) (sym e)
     ∙ sym (row_push first (m - first)) ∙ ap (range_with_len first) (sym f)
 
--- the serials from the mark on, without the one at the mark
+-- The serials from the mark on, without the one at the mark.
 row_from : (m n : ℕ) → without m (range_with_len m (suc n)) ≡ range_with_len (m + 1) n
 row_from m n = rw (eq-eqb m m refl) (without_row m (m + 1) n (inl (omega arith)))
 
 without_append : (s : ℕ) (xs ys : List ℕ) → without s (xs ++ ys) ≡ without s xs ++ without s ys
 without_append s xs ys = filter-append (λ k. not (eqb k s)) xs ys
 
--- a range whose first serial is the mark and of which all were issued
+-- A range whose first serial is the mark, and all of whose serials were issued.
 all_issued : (first last : ℕ) (l : List ℕ) → l ≡ range_with_len first (last + 1 - first)
     → l ≡ range_with_len first (last + 1 - first) ++ range_with_len first (first - first)
 all_issued first last l e =
@@ -421,7 +421,7 @@ moved : (r : Range) (m : ℕ) (l : List ℕ) → r.first ≤ m → m ≤ r.last
 moved r m l low high (inl e) = inl (moved_low r m l low e)
 moved r m l low high (inr e) = inr (moved_high r m l low high e)
 
--- at the last serial both shapes are the same
+-- At the last serial, both forms are the same.
 at_last : (r : Range) (m : ℕ) (l : List ℕ) → m ≡ r.last
     → (l ≡ range_with_len r.first (m + 1 - r.first))
     ⊎ (l ≡ range_with_len (m + 1) (r.last - m) ++ range_with_len r.first (m + 1 - r.first))
@@ -443,7 +443,7 @@ before_last r m l (inr is) =
     inr (is ∙ ap (λ (k : ℕ). range_with_len (m + 1) k ++ range_with_len r.first (m + 1 - r.first))
     n)
 
--- an issue of the serial at the mark
+-- An issuance of the serial at the mark.
 pub turns_inside : (r : Range) (is : List Issuance) (y : Issuance) (m : ℕ) → lies_in r y.id ≡ true
     → y.id.serial ≡ m → Turns r is m → Turns r (is ++ y ∷ []) (serial_after r m)
 turns_inside r is y m ly e turns =
@@ -469,7 +469,7 @@ turns_inside r is y m ly e turns =
       }
     ]
 
--- a range of which nothing was issued
+-- A range without an issuance.
 turns_new : (r : Range) (is : List Issuance) → r.first ≤ r.last
     → All (λ i. lies_in r i.id ≡ false) is → Turns r is r.first
 turns_new r is order none =
@@ -477,7 +477,7 @@ turns_new r is order none =
     let e : [] ≡ range_with_len r.first (r.first - r.first) = ap (range_with_len r.first) (sym z) in
     record { low = omega arith; high = order; shape = inl (lasts_none r is none ∙ e) }
 
--- a range in two places of a list is the same range, and two ranges of one identifier are one
+-- Two ranges of a list that have an identifier in common are the same range.
 pub one_range : (rs : List Range) (r s : Range) (x : Id) → AllPairs Apart rs → Contains rs r
     → Contains rs s → lies_in r x ≡ true → lies_in s x ≡ true → r ≡ s
 one_range rs r s x pairs cr cs lr ls =
@@ -501,7 +501,7 @@ one_range rs r s x pairs cr cs lr ls =
     again {y} c d = same_Some (get_or rs c.0 d) y (sym (slice_get-get_or rs c.0 d c.1)
         ∙ slice_get-get_or rs c.0 y c.1 ∙ ap Some c.2)
 
--- each issue lies in a range
+-- An issuance is covered if it lies in a range.
 abbrev IsCovered : List Entry → Issuance → Type 0
 IsCovered h i = list_any (λ r. lies_in r i.id) (ranges_of h) ≡ true
 
@@ -532,7 +532,7 @@ covered h t legal = legal_induction (λ g. All (IsCovered g) (issues_of g)) h t 
     All-push P is (made_by e (1 + length g) c) all (covered_more g e (made_by e (1 + length g) c)
     (covered_picked g t e.request.customer e.day t.interval is c legal_g picked))))
 
--- a new range has no issue
+-- A new range has no issuance.
 none_issued : (h : List Entry) (t : Terms) (e : Entry) (r : Range) (num : ℕ) → IsLegal h t
     → MayFollow h t e → range_of_grant num e.request.body e.outcome ≡ Some r
     → All (λ i. lies_in r i.id ≡ false) (issues_of h)
@@ -556,13 +556,13 @@ none_issued h t e r num legal may made =
         false_of true no' = absurd (no' refl)
         false_of false no' = refl
 
--- the call that makes a range issues nothing
+-- The call that creates a range issues no identifier.
 carries_none : (num : ℕ) (b : Body) (o : Outcome) (r : Range) → range_of_grant num b o ≡ Some r
     → carried_by o ≡ []
 carries_none num (Grant holder s c first last) (Granted n) r made = refl
 carries_none num b o r made = absurd (none-some r made)
 
--- the serial that is picked in a range is its mark
+-- The serial that is picked in a range is its mark.
 pub picked_mark : (g : List Entry) (t : Terms) (customer day n : ℕ) (is : List Issuance)
     (c : ℕ × Id) (r : Range) → IsLegal g t → IsPicked (ranges_of g) customer day n is c
     → Contains (ranges_of g) r → lies_in r c.1 ≡ true → c.1.serial ≡ pick_of is r
@@ -571,7 +571,7 @@ picked_mark g t customer day n is c r legal from there lies =
     from.there there (lies_picked g t customer day n is c legal from) lies in
     sym (ap (λ (y : Id). y.serial) from.picked) ∙ ap (λ (s : Range). pick_of is s) same
 
--- the mark of a range after what is carried
+-- The mark of a range after the carried identifiers.
 abbrev pub marks : Range → ℕ → List (ℕ × Id) → ℕ
 marks r m cs = fold (λ pick c. pick_after r pick c.1) m cs
 
@@ -586,7 +586,7 @@ mark_step r is y m at turns =
       | inr out ↦ rw out (turns_outside r is y m out turns)
     ]
 
--- how the mark of a range moves by what is carried
+-- The carried identifiers move the mark of a range.
 turns_carried : (g : List Entry) (t : Terms) (customer day n : ℕ) (made : ℕ × Id → Issuance)
     (r : Range) → IsLegal g t → Contains (ranges_of g) r → ((c : ℕ × Id) → (made c).id ≡ c.1)
     → (is : List Issuance) (m : ℕ) (cs : List (ℕ × Id))
@@ -604,13 +604,13 @@ turns_carried g t customer day n made r legal there same is m (c ∷ cs) turn tu
     subst Q (append_assoc is (made c ∷ []) (map made cs)) (turns_carried g t customer day n made r
     legal there same (is ++ made c ∷ []) (pick_after r m c.1) cs turn.1 next)
 
--- the mark of each range is its pick
+-- The mark of each range is its pick.
 pub turns_pick : (r : Range) (is : List Issuance) → (m : ℕ) × Turns r is m
     → Turns r is (pick_of is r)
 turns_pick r is found = let P : ℕ → Type 0 = Turns r is in
     subst P (sym (pick_turns r is found.0 found.1)) found.1
 
--- how a call moves the mark of a range that was there
+-- A call moves the mark of an existing range.
 turns_call : (h : List Entry) (t : Terms) (e : Entry) (r : Range) (m : ℕ) → IsLegal h t
     → MayFollow h t e → Contains (ranges_of h) r → Turns r (issues_of h) m
     → Turns r (issues_of (h ++ e ∷ [])) (marks r m (carried_by e.outcome))
@@ -656,19 +656,19 @@ all_turn h t legal = legal_induction AllTurn h t legal (λ r c. absurd (omega (a
       | inr new ↦ (r.first, turns_made g t e r (1 + length (ranges_of g)) legal_g may new)
     ])
 
--- the pick of each range of a legal history is its mark
+-- The pick of each range of a legal history is its mark.
 pub all_at_pick : (h : List Entry) (t : Terms) → IsLegal h t → (r : Range)
     → Contains (ranges_of h) r → Turns r (issues_of h) (pick_of (issues_of h) r)
 all_at_pick h t legal r there = turns_pick r (issues_of h) (all_turn h t legal r there)
 
--- the pick of a new range is its first serial
+-- The pick of a new range is its first serial.
 pub pick_new : (h : List Entry) (t : Terms) (e : Entry) → IsLegal h t → MayFollow h t e
     → (r : Range) → range_of_grant (length (ranges_of h) + 1) e.request.body e.outcome ≡ Some r
     → pick_of (issues_of (h ++ e ∷ [])) r ≡ r.first
 pick_new h t e legal may r made =
     pick_turns r _ r.first (turns_made h t e r (length (ranges_of h) + 1) legal may made)
 
--- a call moves the pick of a range by each identifier that it carries
+-- A call moves the pick of a range by each identifier that it carries.
 pub pick_turned : (h : List Entry) (t : Terms) (e : Entry) → IsLegal h t → MayFollow h t e
     → (r : Range) → Contains (ranges_of h) r
     → pick_of (issues_of (h ++ e ∷ [])) r ≡ fold (λ pick c. pick_after r pick c.1)
@@ -680,7 +680,7 @@ pick_turned h t e legal may r there =
     (turns_call h t e r (pick_of (issues_of h) r) legal may there
     (all_at_pick h t legal r there))
 
--- after a Draw that is Done it is the next serial, or the first one after the last
+-- After a Done Draw the pick is the next serial, wrapping from last to first.
 pub pick_drawn : (h : List Entry) (t : Terms) (e : Entry) → IsLegal h t → MayFollow h t e
     → (r : Range) → Contains (ranges_of h) r → (day : ℕ) (x : Id) → e.outcome ≡ Drawn day x
     → IsTrue (lies_in r x)
@@ -700,7 +700,7 @@ left_at r m (c ∷ cs) other =
       | inr out ↦ rw out (left_at r m cs (All-tail P c cs other))
     ]
 
--- a call that issues none of its identifiers leaves it
+-- A call that issues no identifier of the range leaves its pick unchanged.
 pub pick_left : (h : List Entry) (t : Terms) (e : Entry) → IsLegal h t → MayFollow h t e
     → (r : Range) → Contains (ranges_of h) r → All (λ c. ¬ (IsTrue (lies_in r c.1)))
     (carried_by e.outcome)

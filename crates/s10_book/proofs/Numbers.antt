@@ -6,7 +6,8 @@ use Rattle.std.proofs.lemmas.Bool.{eqb-true, eqb-false, true≢false}
 use Rattle.s10_history.specs.declared.range.Range.{Range}
 use Rattle.s10_history.proofs.Numbering.{Numbered}
 
--- a number that is found lies among the numbers, and one that isn't doesn't
+-- A number that is found is one of the numbers of the ranges, and a number that is not found is
+-- not.
 record Counted (m n : ℕ) (rs : List Range) (found : Bool) : Type 0 where
   inside : found ≡ true → m < n + length rs
   outside : found ≡ false → n ≤ m → n + length rs ≤ m

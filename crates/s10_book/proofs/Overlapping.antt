@@ -1,4 +1,4 @@
--- What overlaps a range has a serial in common with it.
+-- A span that overlaps a range has a serial in common with it.
 use Rattle.std.proofs.Common.{◌≡◌, ℕ, ◌≤◌, true, inl, inr, arith, ◌∙◌, sym}
 use Rattle.std.proofs.lemmas.Bool.{and_parts, leb-true, cases_lt}
 use Rattle.s10_core.specs.declared.id.Id.{Id}

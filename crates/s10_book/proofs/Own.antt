@@ -1,4 +1,4 @@
--- In a legal history each issue lies in a range that its customer holds by an earlier call.
+-- In a legal history each issuance lies in a range that its customer holds by an earlier call.
 use Rattle.std.proofs.Common.{◌≡◌, ℕ, zero, suc, ◌+◌, ◌-◌, ◌<◌, ◌≤◌, Bool, true, false, cond, not}
 use Rattle.std.proofs.Common.{eqb, ltb, ◌&&◌, List, [], ◌∷◌, ◌++◌, Option, Some, None, refl, sym}
 use Rattle.std.proofs.Common.{ap, ◌∙◌, inl, inr, arith, subst, length, take, append-nil}
@@ -33,7 +33,7 @@ use Rattle.s10_book.proofs.Apart.{within}
 use Rattle.s10_book.proofs.Spaced.{letters_itself}
 use Rattle.s10_book.proofs.Carried.{made_by, IsPicked, after_call}
 
--- a serial of a range
+-- A number is a serial of a range if it is from its first to its last.
 pub record IsSerialOf (r : Range) (s : ℕ) : Type 0 where
   pub low : r.first ≤ s
   pub high : s ≤ r.last
@@ -66,7 +66,7 @@ choice_within r (Some s) o order fs os = fs s refl
 choice_within r None (Some s) order fs os = os s refl
 choice_within r None None order fs os = record { low = omega arith; high = order }
 
--- a range gives one of its serials
+-- A range gives one of its serials.
 pub pick_within : (is : List Issuance) (r : Range) → r.first ≤ r.last → IsSerialOf r (pick_of is r)
 pick_within is r order =
     choice_within r _ _ order
@@ -79,7 +79,7 @@ lies_at r s in' =
     and_from _ _ (and_from _ _ (and_from _ _ (letters_itself r.service) (letters_itself r.country))
     (le-leb r.first s in'.low)) (le-leb s r.last in'.high)
 
--- a Grant is Done only where its first serial is not above its last
+-- A Grant is done only if its first serial is not above its last.
 granted_order : (b1 b2 b3 : Bool) (n m : ℕ)
     → cond b1 NotThePost (cond b2 BadGrant (cond b3 Overlap (Granted n))) ≡ Granted m → b2 ≡ false
 granted_order true b2 b3 n m h = cc
@@ -102,7 +102,7 @@ all_more : {A : Type 0} (P : A → Type 0) (rs : List A) (made : Option A) → A
 all_more P rs None all new = rw append-nil all
 all_more P rs (Some r) all new = All-push P rs r all (new r refl)
 
--- each range has a serial
+-- Each range has a serial.
 pub ordered : (h : List Entry) (t : Terms) → IsLegal h t → All (λ r. r.first ≤ r.last) (ranges_of h)
 ordered h t legal = legal_induction (λ g. All (λ r. r.first ≤ r.last) (ranges_of g)) h t legal
     (All-nil (λ r. r.first ≤ r.last))
@@ -113,7 +113,7 @@ ordered h t legal = legal_induction (λ g. All (λ r. r.first ≤ r.last) (range
     (λ r made. new_ordered g e.request.customer e.day t.interval _ e.request.body e.outcome r
     may.right made)))
 
--- what is picked from a range lies in it
+-- The pick of a range lies in it.
 pub lies_picked : (g : List Entry) (t : Terms) (customer day n : ℕ) (is : List Issuance)
     (c : ℕ × Id) → IsLegal g t → (from : IsPicked (ranges_of g) customer day n is c)
     → lies_in from.range c.1 ≡ true
@@ -133,7 +133,7 @@ own_picked g t customer day n is c legal from =
     (subst P (sym from.there.2) (and_from (eqb from.range.holder customer) (lies_in from.range c.1)
     (eq-eqb _ _ from.holder) (lies_picked g t customer day n is c legal from)))
 
--- what each legal history has: an issue is made by one of its calls, from a range of those before
+-- An issuance is owned if one of the calls made it, from a range of the calls before that one.
 abbrev pub IsOwned : List Entry → Issuance → Type 0
 IsOwned h i = (1 ≤ i.arrival) × (i.arrival ≤ length h)
     × (list_any (is_own i.customer i.id) (ranges_of (take (i.arrival - 1) h)) ≡ true)

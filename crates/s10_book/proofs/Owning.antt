@@ -1,4 +1,4 @@
--- The one range of an identifier says whose it is.
+-- The one range of an identifier decides who its customer is.
 use Rattle.std.proofs.Common.{◌≡◌, ℕ, suc, Bool, true, false, cond, eqb, leb, ◌&&◌, ◌||◌, List, []}
 use Rattle.std.proofs.Common.{◌∷◌, Option, Some, None, refl, sym, ap, ◌∙◌, arith, get_or}
 use Rattle.std.specs.Prelude.{find, AllPairs}
@@ -18,7 +18,7 @@ use Rattle.s10_book.specs.Rules.{status_of, status_of_issue, query_answer}
 use Rattle.s10_book.proofs.Granting.{any_is}
 use Rattle.s10_book.proofs.Apart.{Apart}
 
--- whose the range is that was found
+-- Whether the range that was found is the customer's.
 abbrev pub found_own : ℕ → Option Range → Bool
 found_own customer None = false
 found_own customer (Some r) = eqb r.holder customer
@@ -69,7 +69,7 @@ any_agree p q same [] = refl
 any_agree p q same (x ∷ xs) = ap (λ b. b || list_any p xs) (same x)
     ∙ ap (λ b. q x || b) (any_agree p q same xs)
 
--- whether an identifier lies in a range
+-- Whether an identifier lies in a range.
 pub lies_any : (x : Id) (rs : List Range) (o : Option Range) (b : Bool)
     → o ≡ find (overlaps x.service x.country x.serial x.serial) rs → is_some o ≡ b
     → list_any (λ r. lies_in r x) rs ≡ b
@@ -92,7 +92,7 @@ own_lies_at true false c d own rest = rest own
 own_lies_at false true c d own rest = refl
 own_lies_at false false c d own rest = rest own
 
--- an identifier in a range of the customer's lies in a range
+-- An identifier in a range of the customer lies in a range.
 own_lies : (customer : ℕ) (x : Id) (rs : List Range) → list_any (is_own customer x) rs ≡ true
     → list_any (λ r. lies_in r x) rs ≡ true
 own_lies customer x [] own = own
@@ -103,7 +103,7 @@ or_true : (a : Bool) → (a || true) ≡ true
 or_true true = refl
 or_true false = refl
 
--- the customer of an identifier is told what became of its last issue
+-- The customer of an identifier gets the status of its last issue.
 pub own_query : (h : List Entry) (customer : ℕ) (x : Id)
     → list_any (is_own customer x) (ranges_of h) ≡ true → query_answer h customer x
     ≡ Told (status_of_issue (last_issue_of h x))

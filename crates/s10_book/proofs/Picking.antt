@@ -1,4 +1,4 @@
--- Picks in a row, over a list of issues that each of them makes longer.
+-- Successive picks, each over the issuances with those before it.
 use Rattle.std.proofs.Common.{◌≡◌, ℕ, zero, suc, List, [], ◌∷◌, ◌++◌, Option, Some, None, refl}
 use Rattle.std.specs.Prelude.{find}
 use Rattle.std.specs.Option.{option_map}
@@ -8,7 +8,7 @@ use Rattle.s10_history.specs.declared.issuance.Issuance.{Issuance}
 use Rattle.s10_history.specs.Issues.{pick_of, id_at}
 use Rattle.s10_book.specs.Rules.{has_free_pick}
 
--- what follows the range that was found
+-- The result for the range that was found; none if none was.
 abbrev pub then_found : Option Range → (Range → Option (List Id)) → Option (List Id)
 then_found None next = None
 then_found (Some r) next = next r
@@ -18,7 +18,7 @@ pub then_same : (o : Option Range) (f g : Range → Option (List Id))
 then_same None f g same = refl
 then_same (Some r) f g same = same r refl
 
--- the picks of n Draws in a row from the ranges, each over the issues with those before it
+-- The picks of successive Draws from the ranges, each over the issuances with those before it.
 abbrev pub picks : (Id → Issuance) → ℕ → ℕ → List Range → List Issuance → ℕ → Option (List Id)
 picks made day n rs is zero = Some []
 picks made day n rs is (suc k) =

@@ -12,7 +12,7 @@ use Rattle.s10_history.specs.Settings.{Terms}
 use Rattle.s10_history.specs.History.{has_key, day_of}
 use Rattle.s10_book.specs.Rules.{IsLegal, MayFollow}
 
--- the day of each call is at most that of the last
+-- The day of each call is at most that of the last.
 days_below : (a : ℕ) (xs : List Entry) → AllPairs (λ d e. d.day ≤ e.day) xs
     → All (λ e. a ≤ e.day) xs → (a ≤ fold (λ d e. e.day) a xs)
     × All (λ e. e.day ≤ fold (λ d e. e.day) a xs) xs
@@ -35,12 +35,12 @@ none_at : (p : Entry → Bool) (x : Entry) (xs : List Entry) (b : Bool) → p x 
 none_at p x xs true e none rest = absurd (none-some x (sym none))
 none_at p x xs false e none rest = All-cons (λ y. p y ≡ false) x xs e (rest none)
 
--- what isn't found passes nowhere
+-- If nothing is found, nothing passes.
 pub none_kept : (p : Entry → Bool) (xs : List Entry) → find p xs ≡ None → All (λ e. p e ≡ false) xs
 none_kept p [] none = All-nil (λ e. p e ≡ false)
 none_kept p (x ∷ xs) none = none_at p x xs (p x) refl none (none_kept p xs)
 
--- whether two calls have one key is the same in both orders
+-- Whether two calls have the same key does not depend on their order.
 keys_turned : (d e : Entry) → has_key e.request.customer e.request.number d ≡ false
     → ¬ (IsTrue (has_key d.request.customer d.request.number e))
 keys_turned d e other same =
@@ -53,7 +53,7 @@ keys_turned d e other same =
     (eq-eqb d.request.number e.request.number
     (sym (eqb-true e.request.number d.request.number both.1))))
 
--- the call at a place is one of those before the last, or the last
+-- The call at an index is one of those before the last, or the last.
 place_cases : (h : List Entry) (e : Entry) (k : ℕ) (x : Entry) → slice_get (h ++ e ∷ []) k ≡ Some x
     → ((slice_get h k ≡ Some x) × (take k (h ++ e ∷ []) ≡ take k h))
     ⊎ ((x ≡ e) × (take k (h ++ e ∷ []) ≡ h))
@@ -66,7 +66,7 @@ place_cases (y ∷ ys) e (suc k) x is =
       | inr w ↦ inr (w.0, ap (λ l. y ∷ l) w.1)
     ]
 
--- a history stays legal under a call that may follow it
+-- A history remains legal after a call that may follow it.
 pub IsLegal-push : (h : List Entry) (t : Terms) (e : Entry) → IsLegal h t → MayFollow h t e
     → IsLegal (h ++ e ∷ []) t
 IsLegal-push h t e legal may = record {
@@ -85,7 +85,7 @@ IsLegal-push h t e legal may = record {
   ];
 }
 
--- a new history is legal
+-- An empty history is legal.
 pub IsLegal-nil : (t : Terms) → IsLegal [] t
 IsLegal-nil t = record {
   distinct = λ i j d lt in'. absurd (omega arith);

@@ -1,4 +1,4 @@
--- Draws in a row, over a list of issues that each of them makes longer.
+-- Successive Draws, over a list of issuances that grows with each of them.
 use Rattle.std.proofs.Common.{◌≡◌, ℕ, zero, suc, true, false, List, [], ◌∷◌, ◌++◌, refl, sym, ap}
 use Rattle.std.proofs.Common.{◌∙◌, inl, inr, subst}
 use Rattle.std.specs.Prelude.{find, AllPairs, Contains}
@@ -32,7 +32,7 @@ steps_from r m (suc k) = ap (serial_after r) (steps_from r m k)
 lies_mark : (r : Range) (is : List Issuance) (m : ℕ) → Turns r is m → lies_in r (id_at r m) ≡ true
 lies_mark r is m turns = lies_at r m (record { low = turns.low; high = turns.high })
 
--- the mark after n of the range's own picks
+-- The mark after k further picks of the range.
 pub turns_with : (r : Range) (is : List Issuance) (m k : ℕ) → Turns r is m
     → Turns r (with_picks r is k) (serial_after_steps r m k)
 turns_with r is m zero turns = turns
@@ -48,7 +48,7 @@ turns_with r is m (suc k) turns =
     subst P (steps_from r m k) (turns_with r (is ++ issue_of (id_at r (pick_of is r)) ∷ [])
     (serial_after r m) k next)
 
--- the candidate after n is the serial n after the pick
+-- The candidate after k further picks is the serial k steps after the pick.
 pub candidate_after_is : (h : List Entry) (t : Terms) (r : Range) (k : ℕ) → IsLegal h t
     → Contains (ranges_of h) r
     → candidate_after_of h r k ≡ record {
@@ -62,7 +62,7 @@ candidate_after_is h t r k legal there =
     (serial_after_steps r (pick_of (issues_of h) r) k)
     (turns_with r (issues_of h) (pick_of (issues_of h) r) k (all_at_pick h t legal r there)))
 
--- the ranges of a legal history over the issues so far: each has its pick as its mark
+-- The ranges are ready over the issuances so far if each has its pick as its mark.
 abbrev pub Ready : List Range → List Issuance → Type 0
 Ready rs is = (r : Range) → Contains rs r → Turns r is (pick_of is r)
 
@@ -71,7 +71,7 @@ lies_pick : (rs : List Range) (is : List Issuance) (r : Range) (x : Id) → Read
 lies_pick rs is r x ready there e = let P : Id → Type 0 = λ y. lies_in r y ≡ true in
     subst P (sym e) (lies_mark r is (pick_of is r) (ready r there))
 
--- a pick of one range lies in no other
+-- A pick of one range lies in no other.
 pub outside_other : (rs : List Range) (is : List Issuance) (r s : Range) (x : Id)
     → AllPairs Apart rs → Ready rs is → Contains rs r → Contains rs s → (s ≡ r → ⊥)
     → x ≡ id_at s (pick_of is s) → lies_in r x ≡ false
@@ -82,7 +82,7 @@ outside_other rs is r s x pairs ready in_r in_s other e =
       | inr out ↦ out
     ]
 
--- a pick of one of them leaves them so
+-- A pick of one range leaves all of them ready.
 pub ready_next : (rs : List Range) (is : List Issuance) (s : Range) (y : Issuance)
     → AllPairs Apart rs → Ready rs is → Contains rs s → y.id ≡ id_at s (pick_of is s)
     → Ready rs (is ++ y ∷ [])
@@ -96,13 +96,13 @@ ready_next rs is s y pairs ready in_s e r in_r =
       mark_step r is y (pick_of is r) at (ready r in_r),
     )
 
--- an issue outside a range leaves its pick
+-- An issuance outside a range leaves its pick unchanged.
 pub pick_outside : (r : Range) (is : List Issuance) (y : Issuance) → Turns r is (pick_of is r)
     → lies_in r y.id ≡ false → pick_of (is ++ y ∷ []) r ≡ pick_of is r
 pick_outside r is y turns out = pick_turns r (is ++ y ∷ []) (pick_of is r)
     (turns_outside r is y (pick_of is r) out turns)
 
--- and the last issue of each other identifier
+-- An issuance leaves the last issuance of each other identifier unchanged.
 pub last_other : (is : List Issuance) (y : Issuance) (x : Id) → (y.id ≡ x → ⊥)
     → last_issuance_of (is ++ y ∷ []) x ≡ last_issuance_of is x
 last_other is y x other =
@@ -117,7 +117,7 @@ last_outside r is y x out in' =
     last_other is y x (λ e. both_ways (lies_in r y.id) out (let P : Id → Type 0 = λ z. lies_in r z
     ≡ true in subst P (sym e) in'))
 
--- and whether its pick is free
+-- An issuance outside a range does not change whether its pick is free.
 pub free_outside : (r : Range) (is : List Issuance) (y : Issuance) (day n : ℕ)
     → Turns r is (pick_of is r) → lies_in r y.id ≡ false → has_free_pick (is ++ y ∷ []) day n r
     ≡ has_free_pick is day n r
@@ -127,14 +127,14 @@ free_outside r is y day n turns out =
     ∙ ap (λ o. is_free_since day n (option_map (λ (i : Issuance). i.day) o))
     (last_outside r is y (id_at r (pick_of is r)) out (lies_mark r is (pick_of is r) turns))
 
--- the first range gives its pick where that is free
+-- The first range gives its pick if that is free.
 pub picks_here : (made : Id → Issuance) (day n : ℕ) (r : Range) (rs : List Range)
     (is : List Issuance) (k : ℕ) → has_free_pick is day n r ≡ true
     → picks made day n (r ∷ rs) is (suc k) ≡ option_map (λ xs. id_at r (pick_of is r) ∷ xs)
     (picks made day n (r ∷ rs) (is ++ made (id_at r (pick_of is r)) ∷ []) k)
 picks_here made day n r rs is k free = rw free refl
 
--- a range whose pick is not free gives none, whatever the others give
+-- A range whose pick is not free gives none, regardless of the others.
 pub picks_past : (made : Id → Issuance) (day n : ℕ) (all : List Range) (r : Range) (rs : List Range)
     → ((x : Id) → (made x).id ≡ x) → AllPairs Apart all → Contains all r
     → ((s : Range) → Contains rs s → Contains all s × (s ≡ r → ⊥))

@@ -1,4 +1,4 @@
--- A larger draw beside the single Draws of its identifiers.
+-- A DrawMany compared with the single Draws of its identifiers.
 use Rattle.std.proofs.Common.{◌≡◌, ℕ, zero, suc, ◌+◌, ◌≤◌, List, [], ◌∷◌, ◌++◌, map, take, drop}
 use Rattle.std.proofs.Common.{Option, Some, None, refl, sym, ap, ◌∙◌, arith, subst, length}
 use Rattle.std.proofs.Common.{append-nil, append_assoc}
@@ -26,7 +26,7 @@ use Rattle.s10_book.proofs.Alike.{Alike, alike_itself, alike_push, pick_alike, f
 use Rattle.s10_book.proofs.Alike.{free_alike}
 use Rattle.s10_book.proofs.Taking.{drawn_on, row_of, no_picks}
 
--- the issues of single Draws are alike to any other issues of their identifiers on their day
+-- The issuances of single Draws are alike to any other issuances of their identifiers on their day.
 single_issues : (customer : ℕ) (s c : ℕ × ℕ) (day : ℕ) (made : ℕ × Id → Issuance)
     → ((p : ℕ × Id) → (made p).id ≡ p.1) → ((p : ℕ × Id) → (made p).day ≡ p.0)
     → (ids : List Id) (m : List Entry) (is : List Issuance) → Alike is (issues_of m)
@@ -58,7 +58,7 @@ single_issues customer s c day made same on (x ∷ xs) m is alike =
     (single_issues customer s c day made same on xs (m ++ draw_done customer s c day x ∷ [])
     (is ++ made (day, x) ∷ []) next))
 
--- after a larger draw each range has the pick that the single Draws of it would leave
+-- After a DrawMany each range has the pick that its single Draws would leave.
 pub pick_singles : (h : List Entry) (e : Entry) (customer : ℕ) (s c : ℕ × ℕ) (day : ℕ)
     (ids : List Id) → e.outcome ≡ DrawnMany day ids
     → (r : Range) → pick_of (issues_of (h ++ e ∷ [])) r
@@ -72,7 +72,7 @@ pick_singles h e customer s c day ids is r =
     ∙ pick_alike r _ _ (single_issues customer s c day (made_by e (1 + length h)) (λ p. refl)
     (λ p. refl) ids h (issues_of h) (alike_itself (issues_of h)))
 
--- the answer to a Draw looks at the ranges, and at the issues alike
+-- The outcome of a Draw is the same over lists of issuances that are alike.
 pick_alike_answer : (is js : List Issuance) (day : ℕ) (rs : List Range) (o : Option Range)
     → Alike is js → outcome_of_pick is day rs o ≡ outcome_of_pick js day rs o
 pick_alike_answer is js day [] None alike = refl
@@ -110,7 +110,7 @@ calls_before : (g es : List Entry) → take (length g) (g ++ es) ≡ g
 calls_before [] es = refl
 calls_before (x ∷ g) es = ap (λ (l : List Entry). x ∷ l) (calls_before g es)
 
--- what a Done Draw of a legal history says of the rule
+-- The outcome of a Done Draw in a legal history is that of the rules.
 draw_told : (g : List Entry) (e : Entry) (es : List Entry) (t : Terms) (customer : ℕ) (s c : ℕ × ℕ)
     (day : ℕ) (x : Id) → IsLegal (g ++ e ∷ es) t → without_number e ≡ draw_done customer s c day x
     → Drawn day x ≡ draw_answer g customer s c day t.interval
@@ -167,7 +167,7 @@ row_given day n count is [] row ids some e found =
     absurd (none-some ids (sym (e ∙ no_picks day n count is some) ∙ found))
 row_given day n count is (r ∷ rs) row ids some e found = ap (outcome_of_draws day (r ∷ rs)) found
 
--- what single Draws of a legal history gave, a larger draw in their place gives
+-- A DrawMany gives what single Draws of a legal history gave in its stead.
 pub singles_many : (h es : List Entry) (t : Terms) (customer : ℕ) (s c : ℕ × ℕ) (day : ℕ)
     (ids : List Id) → IsLegal (h ++ es) t → 1 ≤ length es → map without_number es
     ≡ map (draw_done customer s c day) ids
@@ -203,7 +203,7 @@ given_at h customer s c day n d y xs first rest (suc j) x at =
     (sym (append_assoc h (draw_done customer s c day y ∷ [])
     (map (draw_done customer s c day) (take j xs)))) ∙ rest j x at
 
--- each identifier of a row is what a single Draw gives after those before it
+-- Each identifier of successive Draws is what a single Draw gives after those before it.
 row_singles : (h : List Entry) (customer : ℕ) (s c : ℕ × ℕ) (day n count : ℕ) (ids : List Id)
     → successive_draws h customer s c day n count ≡ Some ids
     → (k : ℕ) (x : Id) → slice_get ids k ≡ Some x
@@ -249,7 +249,7 @@ row_done day [] row ids is = absurd cc
 row_done day (r ∷ rs) None ids is = absurd cc
 row_done day (r ∷ rs) (Some xs) ids is = let same : xs ≡ ids = cc in ap Some same
 
--- each identifier of a larger draw is what a single Draw gives after those before it
+-- Each identifier of a DrawMany is what a single Draw gives after those before it.
 pub many_singles : (h : List Entry) (customer : ℕ) (s c : ℕ × ℕ) (count day n : ℕ) (ids : List Id)
     → draw_many_answer h customer s c count day n ≡ DrawnMany day ids
     → (k : ℕ) (x : Id) → slice_get ids k ≡ Some x

@@ -1,4 +1,4 @@
--- In a legal history the issues of one identifier are an interval apart.
+-- In a legal history the issuances of one identifier are an interval apart.
 use Rattle.std.proofs.Common.{◌≡◌, ℕ, suc, ◌+◌, ◌-◌, ◌<◌, ◌≤◌, Bool, true, false, eqb, List, []}
 use Rattle.std.proofs.Common.{◌∷◌, ◌++◌, Option, Some, None, refl, sym, ap, ◌∙◌, inl, inr, arith}
 use Rattle.std.proofs.Common.{subst, length, get_or}
@@ -32,7 +32,7 @@ tail_days x xs h = λ i j d lt lt'. h (suc i) (suc j) d (omega arith) (omega ari
 pub head_days : (x : Issuance) (xs : List Issuance) → InDays (x ∷ xs) → All (λ i. x.day ≤ i.day) xs
 head_days x xs h = λ k d lt. h 0 (suc k) d (omega arith) (omega arith)
 
--- the last that passes has the greatest day of those that pass
+-- The last element that passes has the greatest day of those that pass.
 record IsLatest (p : Issuance → Bool) (o : Option Issuance) (is : List Issuance) (l : Issuance) :
     Type 0 where
   each : All (λ i. p i ≡ true → i.day ≤ l.day) is
@@ -74,7 +74,7 @@ is_latest p o (i ∷ is) l days from last =
     (from m s)) (rw f at last))
     (λ m s. All-head (λ j. m.day ≤ j.day) i is (from m s))
 
--- without a last one none passes
+-- If there is no last one, none passes.
 pub last_none : (p : Issuance → Bool) (o : Option Issuance) (is : List Issuance)
     → last_or o (filter p is) ≡ None → (o ≡ None) × All (λ i. p i ≡ false) is
 last_none p o [] last = (last, All-nil (λ i. p i ≡ false))
@@ -100,7 +100,7 @@ free_at is x day n (Some l) last days free pos =
     (λ i up t. omega (arith, up t)) is
     (is_latest (is_of x) None is l days (λ m s. absurd (none-some m s)) last).each
 
--- a free identifier was issued an interval before, if at all
+-- A free identifier was issued at least an interval before, if at all.
 pub free_since : (is : List Issuance) (x : Id) (day n : ℕ) → InDays is → is_free is x day n ≡ true
     → 0 < n → All (λ i. is_of x i ≡ true → i.day + n ≤ day) is
 free_since is x day n days free pos = free_at is x day n (last_issuance_of is x) refl days free pos
@@ -115,13 +115,13 @@ id_itself x = and_from _ _ (and_from _ _ (letters_itself x.service) (eq-eqb x.se
 pub id_same : (x y : Id) → x ≡ y → same_id x y ≡ true
 id_same x y e = let P : Id → Type 0 = λ z. same_id x z ≡ true in subst P e (id_itself x)
 
--- what each legal history has
+-- The properties of the issuances of every legal history.
 pub record IsSound (is : List Issuance) (day n : ℕ) : Type 0 where
   pub days : AllPairs (λ i j. i.day ≤ j.day) is
   pub upto : All (λ i. i.day ≤ day) is
   pub spaced : AllPairs (λ i j. i.id ≡ j.id → i.day + n ≤ j.day) is
 
--- one more issue of an identifier that is free
+-- One more issuance of an identifier that is free.
 pub sound_more : (is : List Issuance) (y : Issuance) (day n : ℕ) → y.day ≡ day
     → is_free is y.id day n ≡ true → IsSound is day n → IsSound (is ++ y ∷ []) day n
 sound_more is y day n same free sound =
@@ -143,7 +143,7 @@ sound_more is y day n same free sound =
           ));
     }
 
--- the same on a later day
+-- The same on a later day.
 pub sound_later : (is : List Issuance) (before day n : ℕ) → before ≤ day → IsSound is before n
     → IsSound is day n
 sound_later is before day n le sound =

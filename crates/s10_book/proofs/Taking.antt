@@ -1,4 +1,5 @@
--- A walk over ranges that takes picks from each in turn, until there are enough or no range is left.
+-- A walk over ranges that takes picks from each of them, until there are enough or no range
+-- remains.
 use Rattle.std.proofs.Common.{◌≡◌, ℕ, zero, suc, ◌-◌, ◌<◌, ◌≤◌, Bool, true, false, cond, leb, ltb}
 use Rattle.std.proofs.Common.{◌&&◌, List, [], ◌∷◌, ◌++◌, map, Option, Some, None, refl, sym, ap}
 use Rattle.std.proofs.Common.{◌∙◌, inl, inr, arith, subst, length, append-nil, append_assoc}
@@ -36,12 +37,12 @@ use Rattle.s10_book.proofs.Rows.{candidate_after_is, Ready, outside_other, ready
 use Rattle.s10_book.proofs.Rows.{last_other, last_outside, picks_here, picks_past}
 use Rattle.s10_book.proofs.Picking.{picks}
 
--- a range from which nothing was taken
+-- A range from which nothing was taken.
 pub record Untouched (s : Range) (old is : List Issuance) : Type 0 where
   pub pick : pick_of is s ≡ pick_of old s
   pub last : (x : Id) → lies_in s x ≡ true → last_issuance_of is x ≡ last_issuance_of old x
 
--- a range from which n picks were taken on the day
+-- A range from which k picks were taken on the day.
 pub record Taken (r : Range) (day : ℕ) (old is : List Issuance) (k : ℕ) : Type 0 where
   pub few : k ≤ size_of r
   pub pick : pick_of is r ≡ serial_after_steps r (pick_of old r) k
@@ -51,7 +52,7 @@ pub record Taken (r : Range) (day : ℕ) (old is : List Issuance) (k : ℕ) : Ty
   pub first : 0 < k → (i : Issuance) × (last_issuance_of is (id_at r (pick_of old r)) ≡ Some i)
       × (i.day ≡ day)
 
--- how far the walk is: the picks so far, and those that are still to come from this range and those above it
+-- The state of the walk: the picks so far, and those to come from this range and those after it.
 pub record IsAt (rs : List Range) (p : Range → Bool) (made : Id → Issuance) (day n : ℕ)
     (old : List Issuance) (count : ℕ) (r : Range) (k : ℕ) (taken : List Id) : Type 0 where
   pub there : Contains rs r
@@ -65,7 +66,7 @@ pub record IsAt (rs : List Range) (p : Range → Bool) (made : Id → Issuance) 
       (picks made day n (r ∷ filter (above p r.num) rs) (old ++ map made taken)
       (count - length taken))
 
--- what is asked of the ranges and of the issues
+-- The premises on the ranges and on the issuances.
 pub record Given (rs : List Range) (made : Id → Issuance) (day n : ℕ) (old : List Issuance) :
     Type 0 where
   pub numbers : Numbered 1 rs
@@ -94,7 +95,7 @@ no_more (Some xs) = refl
 not_itself : (r s : Range) → r.num < s.num → s ≡ r → ⊥
 not_itself r s lt e = omega (arith, lt, ap (λ (x : Range). x.num) e)
 
--- the walk begins at the first range
+-- The walk begins at the first range.
 pub at_first : (rs : List Range) (p : Range → Bool) (made : Id → Issuance) (day n : ℕ)
     (old : List Issuance) (count : ℕ) (r : Range) → Given rs made day n old → find (above p 0) rs
     ≡ Some r → IsAt rs p made day n old count r 0 []
@@ -126,7 +127,7 @@ at_first rs p made day n old count r given found =
           (count - 0));
     }
 
--- the issues with one more pick
+-- The issuances with one more pick.
 one_more : (made : Id → Issuance) (old : List Issuance) (taken : List Id) (x : Id)
     → old ++ map made taken ++ made x ∷ [] ≡ old ++ map made (taken ++ x ∷ [])
 one_more made old taken x = append_assoc old (map made taken) (made x ∷ [])
@@ -198,7 +199,7 @@ untouched_still rs r s old is y pairs ready in_r in_s lt e un =
       last = λ x lies. last_outside s is y x out lies ∙ un.last x lies;
     }
 
--- the pick of the range is taken, where it is free
+-- The pick of the range is taken if it is free.
 pub at_pick : (rs : List Range) (p : Range → Bool) (made : Id → Issuance) (day n : ℕ)
     (old : List Issuance) (count : ℕ) (r : Range) (k : ℕ) (taken : List Id) (x : Id)
     → Given rs made day n old
@@ -244,7 +245,7 @@ at_pick rs p made day n old count r k taken x given lt few e free at =
       whole = at.whole ∙ ap (option_map (λ xs. taken ++ xs)) here ∙ after_one taken x _;
     }
 
--- what stands above a range in the list is not that range
+-- A range with a number above that of another is not that range.
 apart_above : (rs : List Range) (p : Range → Bool) (r s : Range)
     → Contains (filter (above p r.num) rs) s → Contains rs s × (s ≡ r → ⊥)
 apart_above rs p r s in' =
@@ -266,7 +267,7 @@ past rs p made day n old count r k taken given spent at =
     (picks_past made day n rs r (filter (above p r.num) rs) given.same given.pairs at.there
     (apart_above rs p r) (old ++ map made taken) (count - length taken) at.ready spent)
 
--- the walk goes on to the next range
+-- The walk continues with the next range.
 pub at_next : (rs : List Range) (p : Range → Bool) (made : Id → Issuance) (day n : ℕ)
     (old : List Issuance) (count : ℕ) (r : Range) (k : ℕ) (taken : List Id) (s : Range)
     → Given rs made day n old
@@ -292,7 +293,7 @@ at_next rs p made day n old count r k taken s given spent found at =
           (count - length taken))) (next_above p r.num 1 rs s given.numbers found);
     }
 
--- no range is left
+-- No range remains.
 pub at_last : (rs : List Range) (p : Range → Bool) (made : Id → Issuance) (day n : ℕ)
     (old : List Issuance) (count : ℕ) (r : Range) (k : ℕ) (taken : List Id)
     → Given rs made day n old
@@ -306,7 +307,7 @@ at_last rs p made day n old count r k taken given spent none few at =
     (count - length taken))) (filter_none (above p r.num) rs none)
     ∙ ap (λ c. option_map (λ xs. taken ++ xs) (picks made day n [] (old ++ map made taken) c)) num
 
--- there are enough
+-- There are enough picks.
 pub at_end : (rs : List Range) (p : Range → Bool) (made : Id → Issuance) (day n : ℕ)
     (old : List Issuance) (count : ℕ) (r : Range) (k : ℕ) (taken : List Id) → count ≤ length taken
     → IsAt rs p made day n old count r k taken → picks made day n (filter p rs) old count
@@ -317,7 +318,7 @@ at_end rs p made day n old count r k taken enough at =
     (picks made day n (r ∷ filter (above p r.num) rs) (old ++ map made taken) c)) num
     ∙ ap Some (append-nil taken)
 
--- the test of the candidate's issue is the test of its range
+-- The test of the candidate's last issue is the test of its range.
 pub at_candidate : (h : List Entry) (t : Terms) (p : Range → Bool) (made : Id → Issuance)
     (day n count : ℕ) (r : Range) (k : ℕ) (taken : List Id) (found : Candidate) (b : Bool)
     → IsLegal h t → k < size_of r
@@ -348,7 +349,7 @@ at_candidate h t p made day n count r k taken found b legal lt e test at =
       ap (λ (c : Candidate). c.serial) is ∙ sym at.own.pick,
     )
 
--- a range of which all serials were taken gives none
+-- A range all of whose serials were taken gives none.
 pub at_round : (rs : List Range) (p : Range → Bool) (made : Id → Issuance) (day n : ℕ)
     (old : List Issuance) (count : ℕ) (r : Range) (k : ℕ) (taken : List Id)
     → Given rs made day n old → size_of r ≤ k
@@ -373,11 +374,11 @@ at_round rs p made day n old count r k taken given all at =
           | inr no' ↦ no'
         ]
 
--- an issue of the identifier on the day
+-- An issuance of the identifier on the day.
 abbrev pub drawn_on : ℕ → Id → Issuance
 drawn_on day x = record { id = x; day = day; customer = 0; number = 0; arrival = 0 }
 
--- the ranges and the issues of a legal history are as is asked
+-- The ranges and the issuances of a legal history satisfy the premises.
 pub given_legal : (h : List Entry) (t : Terms) (day n : ℕ) → IsLegal h t → 1 ≤ n
     → Given (ranges_of h) (drawn_on day) day n (issues_of h)
 given_legal h t day n legal pos = record {
@@ -396,7 +397,7 @@ test_at true false y x o e is = absurd (none-some x (sym e ∙ is))
 test_at false true y x o e is = absurd (none-some x (sym e ∙ is))
 test_at false false y x o e is = absurd (none-some x (sym e ∙ is))
 
--- the walk goes on where a pick was given
+-- The walk continues if a pick was given.
 pub at_given : (h : List Entry) (t : Terms) (p : Range → Bool) (day n count : ℕ) (r : Range) (k : ℕ)
     (taken : List Id) (o : Option Id) (x : Id) → IsLegal h t → 1 ≤ n → length taken < count
     → o ≡ free_pick_of h r k day n → o ≡ Some x → IsAt (ranges_of h) p (drawn_on day) day n
@@ -428,7 +429,7 @@ untaken h t p day n count r k taken false c legal pos e f is at =
     at_round (ranges_of h) p (drawn_on day) day n (issues_of h) count r k taken
     (given_legal h t day n legal pos) (ltb-false k (size_of r) (sym e)) at
 
--- no pick was given
+-- No pick was given.
 pub at_none_given : (h : List Entry) (t : Terms) (p : Range → Bool) (day n count : ℕ) (r : Range)
     (k : ℕ) (taken : List Id) (o : Option Id) → IsLegal h t → 1 ≤ n → o ≡ free_pick_of h r k day n
     → o ≡ None
@@ -443,7 +444,7 @@ pub row_of : (h : List Entry) (customer : ℕ) (s c : ℕ × ℕ) (day n count :
 row_of h customer s c day n count = row_is (drawn_on day) customer s c day n (λ x. refl) (λ x. refl)
     count h (issues_of h) (alike_itself (issues_of h))
 
--- the walk has enough
+-- The walk has enough picks.
 pub walked : (h : List Entry) (customer : ℕ) (s c : ℕ × ℕ) (day n count : ℕ) (r : Range) (k : ℕ)
     (taken : List Id) → count ≤ length taken
     → IsAt (ranges_of h) (is_open h customer s c) (drawn_on day) day n (issues_of h) count r k taken
@@ -452,7 +453,7 @@ walked h customer s c day n count r k taken enough at =
     sym (row_of h customer s c day n count ∙ at_end (ranges_of h) (is_open h customer s c)
     (drawn_on day) day n (issues_of h) count r k taken enough at)
 
--- no range is left before there are enough
+-- No range remains before there are enough picks.
 pub walked_out : (h : List Entry) (t : Terms) (customer : ℕ) (s c : ℕ × ℕ) (day n count : ℕ)
     (r : Range) (k : ℕ) (taken : List Id) → IsLegal h t → 1 ≤ n → length taken < count
     → has_free_pick (issues_of h ++ map (drawn_on day) taken) day n r ≡ false
@@ -469,7 +470,7 @@ pub no_picks : (day n count : ℕ) (is : List Issuance) → 1 ≤ count
 no_picks day n zero is some = absurd (omega (arith, some))
 no_picks day n (suc k) is some = refl
 
--- there was no range at all
+-- There is no range at all.
 pub walked_nowhere : (h : List Entry) (customer : ℕ) (s c : ℕ × ℕ) (day n count : ℕ) → 1 ≤ count
     → find (above (is_open h customer s c) 0) (ranges_of h) ≡ None
     → None ≡ successive_draws h customer s c day n count

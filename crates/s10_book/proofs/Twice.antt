@@ -1,4 +1,4 @@
--- No identifier stands twice in one reply.
+-- No identifier occurs twice in one reply.
 use Rattle.std.proofs.Common.{◌≡◌, ◌≢◌, ℕ, ◌+◌, ◌≤◌, true, List, [], ◌∷◌, ◌++◌, map, refl, ◌∙◌}
 use Rattle.std.proofs.Common.{arith, subst, length}
 use Rattle.std.specs.Prelude.{All, AllPairs, Contains}
@@ -18,7 +18,7 @@ use Rattle.s10_book.specs.Rules.{IsLegal, MayFollow}
 use Rattle.s10_book.proofs.Carried.{made_by, InTurn, IsPicked, carried_call}
 use Rattle.s10_book.proofs.Spaced.{IsSound, sound, sound_more, sound_later, free_since, id_same}
 
--- an issue of the identifier on the day is among them
+-- The list has an issuance of the identifier on the day.
 abbrev Has : List Issuance → Id → ℕ → Type 0
 Has is x day = (y : Issuance) × Contains is y × (y.id ≡ x) × (y.day ≡ day)
 
@@ -63,7 +63,7 @@ apart_ids rs customer day n d e arrival is (z ∷ zs) pos turn known =
     (apart_ids rs customer day n d e arrival (is ++ made_by e arrival (d, z) ∷ []) zs pos turn.1
     grown)
 
--- no identifier stands twice in a reply
+-- No identifier occurs twice in a reply.
 pub never_twice : (h : List Entry) (t : Terms) (e : Entry) → IsLegal h t → 1 ≤ t.interval
     → MayFollow h t e → (day : ℕ) (ids : List Id) → e.outcome ≡ DrawnMany day ids
     → AllPairs (λ x y. x ≢ y) ids

@@ -1,4 +1,4 @@
--- What a withdrawn range gives, and what its withdrawal leaves as it was.
+-- What a withdrawn range gives, and what its withdrawal leaves unchanged.
 use Rattle.std.proofs.Common.{◌≡◌, ℕ, zero, suc, ◌+◌, Bool, true, false, not, ◌||◌, cond, eqb, ltb}
 use Rattle.std.proofs.Common.{List, [], ◌∷◌, ◌++◌, map, length, Option, Some, None, refl, sym, ap}
 use Rattle.std.proofs.Common.{ap₂, ◌∙◌, arith, subst, append-nil}
@@ -35,14 +35,14 @@ use Rattle.s10_book.proofs.Carried.{made_by, InTurn, IsPicked, picked_from, carr
 use Rattle.s10_book.proofs.Own.{lies_picked}
 use Rattle.s10_book.proofs.Marks.{one_range}
 
--- a range that is closed stays closed
+-- A closed range stays closed.
 pub stays_closed : (h : List Entry) (e : Entry) (num : ℕ) → IsTrue (is_closed h num)
     → IsTrue (is_closed (h ++ e ∷ []) num)
 stays_closed h e num closed =
     let does : Entry → Bool = λ f. withdraws num f.request.body f.outcome in
     list_any-append does h (e ∷ []) ∙ or_left (is_closed h num) (list_any does (e ∷ [])) closed
 
--- an identifier that is picked from a range that is not closed
+-- An identifier that is picked from a range that is not closed.
 record IsPickedOpen (g : List Entry) (customer day n : ℕ) (is : List Issuance) (c : ℕ × Id) :
     Type 0 where
   pub picked : IsPicked (ranges_of g) customer day n is c
@@ -76,7 +76,7 @@ all_in_turn P Q made weaker is [] turn = All-nil Q
 all_in_turn P Q made weaker is (c ∷ cs) turn = All-cons Q c cs (weaker is c turn.0)
     (all_in_turn P Q made weaker (is ++ made c ∷ []) cs turn.1)
 
--- after its withdrawal no identifier of a range is issued
+-- After its withdrawal no identifier of a range is issued.
 pub none_withdrawn : (h : List Entry) (t : Terms) (e : Entry) → IsLegal h t → MayFollow h t e
     → (r : Range) → Contains (ranges_of h) r → IsTrue (is_closed h r.num)
     → All (λ c. ¬ (IsTrue (lies_in r c.1))) (carried_by e.outcome)
@@ -152,7 +152,7 @@ same_last h e num x asks done =
     ∙ told_same h e x (last_issuance_of (issues_of h) x)
     (ap₂ (λ (b : Body) (o : Outcome). voids_by x b o) asks done)
 
--- a withdrawal changes no answer to a Grant
+-- A withdrawal changes no outcome of a Grant.
 pub same_grants : (h : List Entry) (e : Entry) (num : ℕ) → e.request.body ≡ Withdraw num
     → e.outcome ≡ Withdrawn → (customer holder : ℕ) (service country : ℕ × ℕ) (first last : ℕ)
     → grant_answer (h ++ e ∷ []) customer holder service country first last
@@ -165,7 +165,7 @@ same_grants h e num asks done customer holder service country first last =
     (Granted (length rs + 1)))))
     (same_ranges h e num asks done)
 
--- nor to a Void
+-- A withdrawal changes no outcome of a Void.
 pub same_voids : (h : List Entry) (e : Entry) (num : ℕ) → e.request.body ≡ Withdraw num
     → e.outcome ≡ Withdrawn → (customer : ℕ) (x : Id) → void_answer (h ++ e ∷ []) customer x
     ≡ void_answer h customer x
@@ -173,7 +173,7 @@ same_voids h e num asks done customer x =
     ap₂ (λ (rs : List Range) (o : Option Issue). cond (list_any (is_own customer x) rs)
     (void_issue o) NotYours) (same_ranges h e num asks done) (same_last h e num x asks done)
 
--- nor to a Query
+-- A withdrawal changes no outcome of a Query.
 pub same_queries : (h : List Entry) (e : Entry) (num : ℕ) → e.request.body ≡ Withdraw num
     → e.outcome ≡ Withdrawn → (customer : ℕ) (x : Id) → query_answer (h ++ e ∷ []) customer x
     ≡ query_answer h customer x

@@ -1,4 +1,4 @@
--- The rules: the outcome of each request, and the histories that keep them.
+-- The rules: the outcome of each request, and the histories that follow them.
 use Rattle.std.specs.Prelude.{◌≡◌, ℕ, zero, suc, ◌+◌, ◌==◌, nat_lt, ◌<◌, ◌≤◌, Bool, not, ◌||◌}
 use Rattle.std.specs.Prelude.{if◌then◌else◌, List, [], ◌∷◌, ◌++◌, length, Option, Some, None}
 use Rattle.std.specs.Prelude.{is_none, find, slice_get, take, All, AllPairs, IsTrue, count_by}
@@ -27,7 +27,7 @@ use Rattle.s10_history.specs.History.{has_key, find_entry, day_of, ranges_of, li
 use Rattle.s10_history.specs.History.{overlaps, is_closed, ranges_open}
 use Rattle.s10_history.specs.Issues.{issues_of, last_issue_of, pick_of, id_at, serials, is_free}
 
--- the outcome of a Grant: the post alone makes ranges, and no two of them have a serial in common
+-- The outcome of a Grant: only the post creates ranges, and no two of them have a serial in common.
 abbrev pub grant_answer : List Entry → ℕ → ℕ → ℕ × ℕ → ℕ × ℕ → ℕ → ℕ → Outcome
 grant_answer h customer holder service country first last =
     if not (customer == 0) then NotThePost
@@ -35,23 +35,23 @@ grant_answer h customer holder service country first last =
     else if list_any (overlaps service country first last) (ranges_of h) then Overlap
     else Granted (length (ranges_of h) + 1)
 
--- whether the pick of the range is free on the day
+-- Whether the pick of the range is free on the day.
 abbrev pub has_free_pick : List Issuance → ℕ → ℕ → Range → Bool
 has_free_pick is day interval r = is_free is (id_at r (pick_of is r)) day interval
 
--- the pick of the range that was found, or why none was found among the ranges
+-- The pick of the range that was found, or the refusal if none of the ranges was.
 abbrev pub outcome_of_pick : List Issuance → ℕ → List Range → Option Range → Outcome
 outcome_of_pick is day rs (Some r) = Drawn day (id_at r (pick_of is r))
 outcome_of_pick is day [] None = NoRange
 outcome_of_pick is day (r ∷ rs) None = NoneFree
 
--- the outcome of a Draw: the pick of the first of the customer's open ranges whose pick is free
+-- The outcome of a Draw: the pick of the first of the customer's open ranges whose pick is free.
 abbrev pub draw_answer : List Entry → ℕ → ℕ × ℕ → ℕ × ℕ → ℕ → ℕ → Outcome
 draw_answer h customer service country day interval =
     let rs = ranges_open h customer service country in
     outcome_of_pick (issues_of h) day rs (find (has_free_pick (issues_of h) day interval) rs)
 
--- the call of a Draw that issued the identifier on the day; no rule looks at its number
+-- The call of a Draw that issued the identifier on the day. Its number is 0: no rule depends on it.
 abbrev pub draw_done : ℕ → ℕ × ℕ → ℕ × ℕ → ℕ → Id → Entry
 draw_done customer service country day x =
     record {
@@ -60,12 +60,13 @@ draw_done customer service country day x =
       outcome = Drawn day x;
     }
 
--- the identifier of a Draw that was Done with those that follow it; None where it was not Done
+-- The identifier of a Draw that was done, followed by those of the Draws after it; none if it was
+-- not done.
 abbrev pub then_drawn : Outcome → (Id → Option (List Id)) → Option (List Id)
 then_drawn (Drawn day x) next = option_map (λ xs. x ∷ xs) (next x)
 then_drawn outcome next = None
 
--- the identifiers of n single Draws in a row, each after those before it; None where one of them is not Done
+-- The identifiers of `count` single Draws, one after another; none if one of them is not done.
 abbrev pub successive_draws : List Entry → ℕ → ℕ × ℕ → ℕ × ℕ → ℕ → ℕ → ℕ → Option (List Id)
 successive_draws h customer service country day interval zero = Some []
 successive_draws h customer service country day interval (suc count) =
@@ -73,70 +74,75 @@ successive_draws h customer service country day interval (suc count) =
     (λ x. successive_draws (h ++ draw_done customer service country day x ∷ []) customer service
     country day interval count)
 
--- what comes of n Draws in a row from the ranges: all their identifiers, or none
+-- The outcome of successive Draws from the customer's open ranges: all their identifiers, or a
+-- refusal.
 abbrev pub outcome_of_draws : ℕ → List Range → Option (List Id) → Outcome
 outcome_of_draws day [] row = NoRange
 outcome_of_draws day (r ∷ rs) None = NoneFree
 outcome_of_draws day (r ∷ rs) (Some ids) = DrawnMany day ids
 
--- the outcome of a DrawMany: that of n single Draws in a row
+-- The outcome of a DrawMany: that of `count` successive Draws.
 abbrev pub draw_many_answer : List Entry → ℕ → ℕ × ℕ → ℕ × ℕ → ℕ → ℕ → ℕ → Outcome
 draw_many_answer h customer service country count day interval =
     outcome_of_draws day (ranges_open h customer service country)
     (successive_draws h customer service country day interval count)
 
--- how many serials of the ranges are free on the day
+-- The number of serials of the ranges that are free on the day.
 abbrev pub free_serials : List Issuance → ℕ → ℕ → List Range → ℕ
 free_serials is day interval [] = 0
 free_serials is day interval (r ∷ rs) =
     count_by (λ serial. is_free is (id_at r serial) day interval) (serials r) + free_serials is day
     interval rs
 
--- fewer serials than that of the customer's open ranges of that service and country are free on the day
+-- Few are free if fewer than `count` serials of the customer's open ranges of that service and
+-- country are free on the day.
 abbrev pub FewFree : List Entry → ℕ → ℕ × ℕ → ℕ × ℕ → ℕ → ℕ → ℕ → Type 0
 FewFree h customer service country count day interval = free_serials (issues_of h) day interval
     (ranges_open h customer service country) < count
 
--- no serial of the customer's open ranges of that service and country is free on the day
+-- Nothing is free if no serial of the customer's open ranges of that service and country is free on
+-- the day.
 abbrev pub NothingFree : List Entry → ℕ → ℕ × ℕ → ℕ × ℕ → ℕ → ℕ → Type 0
 NothingFree h customer service country day interval =
     All (λ r. (x : Id) → IsTrue (lies_in r x) → ¬ (IsTrue (is_free (issues_of h) x day interval)))
     (ranges_open h customer service country)
 
--- what comes of a Void of an identifier with that last issue
+-- The outcome of a Void of an identifier with that last issue.
 abbrev pub void_issue : Option Issue → Outcome
 void_issue None = NotIssued
 void_issue (Some i) = if i.voided then AlreadyVoid else Voided
 
--- the outcome of a Void: of an identifier of the customer's own ranges, that was issued and is not voided since
+-- The outcome of a Void: the identifier must lie in the customer's ranges, be issued, and not be
+-- voided.
 abbrev pub void_answer : List Entry → ℕ → Id → Outcome
 void_answer h customer x =
     if list_any (is_own customer x) (ranges_of h) then void_issue (last_issue_of h x) else NotYours
 
--- the status of an identifier that lies in a range, by its last issue
+-- The status of an identifier in a range, by its last issue.
 abbrev pub status_of_issue : Option Issue → Status
 status_of_issue None = Never
 status_of_issue (Some i) = if i.voided then StatusVoided i.day else Issued i.day
 
--- what is known of an identifier: the post alone is told that it lies in no range
+-- The status of an identifier; `Unknown` if it lies in no range.
 abbrev pub status_of : List Entry → Id → Status
 status_of h x = if list_any (λ r. lies_in r x) (ranges_of h)
     then status_of_issue (last_issue_of h x) else Unknown
 
--- the outcome of a Query
+-- The outcome of a Query: the status, for the post and for the customer in whose ranges the
+-- identifier lies.
 abbrev pub query_answer : List Entry → ℕ → Id → Outcome
 query_answer h customer x =
     if (customer == 0) || list_any (is_own customer x) (ranges_of h) then Told (status_of h x)
     else NotYours
 
--- the outcome of a Withdraw: the post alone closes a range, once
+-- The outcome of a Withdraw: only the post closes a range, and only once.
 abbrev pub withdraw_answer : List Entry → ℕ → ℕ → Outcome
 withdraw_answer h customer num =
     if not (customer == 0) then NotThePost
     else if is_none (find (λ r. r.num == num) (ranges_of h)) then NoSuchRange
     else if is_closed h num then Closed else Withdrawn
 
--- the outcome of what a customer asks on a day
+-- The outcome of a body that a customer sends on a day.
 abbrev pub body_answer : List Entry → ℕ → Body → ℕ → ℕ → Outcome
 body_answer h customer (Grant holder service country first last) day interval =
     grant_answer h customer holder service country first last
@@ -148,20 +154,20 @@ body_answer h customer (DrawMany service country count) day interval =
     draw_many_answer h customer service country count day interval
 body_answer h customer (Withdraw range) day interval = withdraw_answer h customer range
 
--- the answer of the rules: the outcome of a request on a day, over the calls kept before it
+-- The answer of the rules: the outcome of a request on a day, over the calls kept before it.
 abbrev pub answer_of : List Entry → Request → ℕ → ℕ → Outcome
 answer_of h q day interval = body_answer h q.customer q.body day interval
 
--- a call may follow the history: its key is new, its day isn't before the last, there is room for it,
--- and its outcome is the answer of the rules
+-- A call may follow a history if its key is new, its day is not before the last, the limit is not
+-- reached, and its outcome is the answer of the rules.
 pub record MayFollow (h : List Entry) (t : Terms) (e : Entry) : Type 0 where
   pub new_key : find_entry h e.request.customer e.request.number ≡ None
   pub in_order : day_of h ≤ e.day
   pub room : length h < t.limit
   pub right : e.outcome ≡ answer_of h e.request e.day t.interval
 
--- a legal history: keys are distinct, days never fall, there are no more calls than the limit, and each outcome is the
--- answer of the rules over the calls before it
+-- A history is legal if its keys are distinct, its days never decrease, it has no more calls than
+-- the limit, and each outcome is the answer of the rules over the calls before it.
 pub record IsLegal (h : List Entry) (t : Terms) : Type 0 where
   pub distinct : AllPairs (λ d e. ¬ (IsTrue (has_key d.request.customer d.request.number e))) h
   pub in_order : AllPairs (λ d e. d.day ≤ e.day) h

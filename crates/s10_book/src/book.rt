@@ -2,13 +2,19 @@ use crate::book_fault::BookFault;
 use s10_core::Id;
 use s10_history::{Candidate, Entry, HolderKey, Issue, Range, SerialSpan, Settings, Usage};
 
-/// Kept calls in order of arrival, with what follows from them.
+/// Kept calls in order of arrival, with the reads that the rules need.
 ///
-/// A book may stand on something that can break, such as a disk. It is honest while that works as promised, and what is
-/// said of its history and its answers holds where it is honest as the call ends. A condition on the history is asked
-/// only where the book is honest as the call begins. What is said of its counts of faults holds for every book: a call
-/// that answers Memory counts one fault of memory, a call that answers Store one of the store (a count stays at the
-/// greatest u64), any other answer none, and no call answers Full. After a fault history and settings are as before.
+/// A book may depend on a store that can fail, for example a disk. It is honest while the store
+/// works as promised.
+///
+/// - What a clause says of the history, the settings and a returned value holds if the book is
+///   honest as the call ends.
+/// - A requirement on the history applies only if the book is honest as the call begins.
+/// - What a clause says of the fault counts holds for every book. A call that returns `Memory`
+///   counts one fault of memory, a call that returns `Store` one of the store, and any other call
+///   none. A count stays at the greatest u64.
+/// - No call returns `Full`.
+/// - A call that fails leaves the history and the settings of an honest book unchanged.
 pub trait Book {
     ghost use Rattle.s10_history.specs.declared.entry.Entry.{Entry};
     ghost use Rattle.s10_book.specs.declared.faults.Faults.{Faults};
@@ -32,56 +38,81 @@ pub trait Book {
     /// The settings.
     ghost terms: { Self → Terms };
 
-    /// How many faults there were, of each kind.
+    /// The number of faults so far, of each kind.
     ghost faults: { Self → Faults };
 
-    /// Whether what is under the book works as promised.
+    /// Whether the store beneath the book works as promised.
     ghost honest: { Self → Type 0 };
 
-    /// What the book was made with.
+    /// Returns the settings with which the book was created.
     fn settings(&self) -> Settings
         ensures { honest self.now → result ≡ terms self.now };
 
-    /// How many calls are kept.
+    /// Returns the number of kept calls, at most `MAX_LIMIT`.
     fn len(&self) -> u32
         ensures answer { honest self.now → result ≡ length (history self.now) }
         ensures few { result ≤ MAX_LIMIT };
 
-    /// The day of the last kept call, 0 where there is none.
+    /// Returns the day of the last kept call, or 0 if there is none.
     fn day(&self) -> u32
         ensures { honest self.now → result ≡ day_of (history self.now) };
 
-    /// The kept call with that key, if there is one.
+    /// Returns the kept call with this key, if there is one.
+    ///
+    /// # Errors
+    ///
+    /// - `Memory` if memory is refused.
+    /// - `Store` if the store fails.
     fn find(&mut self, customer: u32, number: u32) -> Result<Option<Entry>, BookFault>
         ensures faults { CountsResult result (faults self.old) (faults self.new) }
         ensures unchanged { Unchanged history terms honest self.old self.new }
         ensures answer { honest self.new
             → IfOk result (λ e. e ≡ find_entry (history self.old) customer number) }
 
-        // Of an entry that is answered the outcome fits the request, even if the store fails.
+        // The outcome of a returned entry fits its request, even if the store fails.
         ensures fits { IfOk result
             (λ found. IfSome found (λ e. IsTrue (fits e.request.body e.outcome))) };
 
-    /// Kept call number `at`, counted from 1, if it exists.
+    /// Returns kept call number `at`, from 1, if there is one.
+    ///
+    /// # Errors
+    ///
+    /// - `Memory` if memory is refused.
+    /// - `Store` if the store fails.
     fn entry(&mut self, at: u32) -> Result<Option<Entry>, BookFault>
         ensures faults { CountsResult result (faults self.old) (faults self.new) }
         ensures unchanged { Unchanged history terms honest self.old self.new }
         ensures answer { honest self.new → IfOk result (λ e. e ≡ entry_at (history self.old) at) };
 
-    /// The range of that number, if there is one. Numbers begin at 1.
+    /// Returns the range with this number, from 1, if there is one.
+    ///
+    /// # Errors
+    ///
+    /// - `Memory` if memory is refused.
+    /// - `Store` if the store fails.
     fn range(&mut self, num: u32) -> Result<Option<Range>, BookFault>
         ensures faults { CountsResult result (faults self.old) (faults self.new) }
         ensures unchanged { Unchanged history terms honest self.old self.new }
         ensures answer { honest self.new
             → IfOk result (λ r. r ≡ find (λ x. x.num == num) (ranges_of (history self.old))) };
 
-    /// Whether the range of that number is closed. No range is where there is none of that number.
+    /// Returns whether the range with this number is closed; false if there is no such range.
+    ///
+    /// # Errors
+    ///
+    /// - `Memory` if memory is refused.
+    /// - `Store` if the store fails.
     fn closed(&mut self, num: u32) -> Result<bool, BookFault>
         ensures faults { CountsResult result (faults self.old) (faults self.new) }
         ensures unchanged { Unchanged history terms honest self.old self.new }
         ensures answer { honest self.new → IfOk result (λ b. b ≡ is_closed (history self.old) num) };
 
-    /// The open range of least number above `after` that is held so, if there is one.
+    /// Returns the open range of a holder key with the least number above `after`, if there is one.
+    ///
+    /// # Errors
+    ///
+    /// - `Memory` if memory is refused.
+    /// - `Store` if the store fails.
     fn next_range(&mut self, held: &HolderKey, after: u32) -> Result<Option<Range>, BookFault>
         ensures faults { CountsResult result (faults self.old) (faults self.new) }
         ensures unchanged { Unchanged history terms honest self.old self.new }
@@ -91,7 +122,12 @@ pub trait Book {
             ≡ find (is_open_after (history self.old) after held.now.holder held.now.service
             held.now.country) (ranges_of (history self.old))) };
 
-    /// The range of least number that has a serial of the block, if there is one.
+    /// Returns the range with the least number that has a serial of the span, if there is one.
+    ///
+    /// # Errors
+    ///
+    /// - `Memory` if memory is refused.
+    /// - `Store` if the store fails.
     fn covering(&mut self, block: &SerialSpan) -> Result<Option<Range>, BookFault>
         ensures faults { CountsResult result (faults self.old) (faults self.new) }
         ensures unchanged { Unchanged history terms honest self.old self.new }
@@ -100,14 +136,25 @@ pub trait Book {
             ≡ find (overlaps block.now.service block.now.country block.now.first block.now.last)
             (ranges_of (history self.old))) };
 
-    /// The last issue of an identifier, if it was ever issued.
+    /// Returns the last issue of an identifier, if it was ever issued.
+    ///
+    /// # Errors
+    ///
+    /// - `Memory` if memory is refused.
+    /// - `Store` if the store fails.
     fn last_issue(&mut self, id: &Id) -> Result<Option<Issue>, BookFault>
         ensures faults { CountsResult result (faults self.old) (faults self.new) }
         ensures unchanged { Unchanged history terms honest self.old self.new }
         ensures answer { honest self.new
             → IfOk result (λ i. i ≡ last_issue_of (history self.old) id.now) };
 
-    /// The pick of one of the book's ranges with its last issue: the serial that the range gives next.
+    /// Returns the candidate of one of the book's ranges: the serial that it gives next, with its
+    /// last issue.
+    ///
+    /// # Errors
+    ///
+    /// - `Memory` if memory is refused.
+    /// - `Store` if the store fails.
     fn candidate(&mut self, range: &Range) -> Result<Candidate, BookFault>
         requires { honest self.old → Contains (ranges_of (history self.old)) range.now }
         ensures faults { CountsResult result (faults self.old) (faults self.new) }
@@ -115,8 +162,15 @@ pub trait Book {
         ensures answer { honest self.new
             → IfOk result (λ c. c ≡ candidate_of (history self.old) range.now) };
 
-    /// The pick of one of the book's ranges after n issues of its own successive picks, fewer than it has serials, with
-    /// its last issue.
+    /// Returns the candidate of one of the book's ranges after `issued` further picks of it.
+    ///
+    /// `issued` must be less than the number of its serials. The last issue is that of the history,
+    /// without those picks.
+    ///
+    /// # Errors
+    ///
+    /// - `Memory` if memory is refused.
+    /// - `Store` if the store fails.
     fn candidate_after(&mut self, range: &Range, issued: u8) -> Result<Candidate, BookFault>
         requires there { honest self.old → Contains (ranges_of (history self.old)) range.now }
         requires fewer { issued < size_of range.now }
@@ -125,8 +179,15 @@ pub trait Book {
         ensures answer { honest self.new
             → IfOk result (λ c. c ≡ candidate_after_of (history self.old) range.now issued) };
 
-    /// How many serials of one of the book's ranges were ever issued, are voided since their last issue, and are free on the greater of
-    /// `day` and the day of the last kept call.
+    /// Returns how many serials of one of the book's ranges were ever issued, are voided, and are
+    /// free.
+    ///
+    /// Free is counted on the later of `day` and the day of the last kept call.
+    ///
+    /// # Errors
+    ///
+    /// - `Memory` if memory is refused.
+    /// - `Store` if the store fails.
     fn usage(&mut self, range: &Range, day: u32) -> Result<Usage, BookFault>
         requires { honest self.old → Contains (ranges_of (history self.old)) range.now }
         ensures faults { CountsResult result (faults self.old) (faults self.new) }
@@ -135,8 +196,15 @@ pub trait Book {
             → IfOk result (λ u. u ≡ usage_of (history self.old) range.now day
             (terms self.old).interval) };
 
-    /// Adds a call at the end. Its key is new, its day is not before the book's, there is room below the limit, and its
-    /// outcome is that of the rules.
+    /// Adds a call at the end of the history.
+    ///
+    /// Its key must be new, its day must not be before the book's, the limit must not be reached,
+    /// and its outcome must be that of the rules.
+    ///
+    /// # Errors
+    ///
+    /// - `Memory` if memory is refused.
+    /// - `Store` if the store fails.
     fn keep(&mut self, entry: Entry) -> Result<(), BookFault>
         requires { honest self.old → MayFollow (history self.old) (terms self.old) entry }
         ensures faults { CountsResult result (faults self.old) (faults self.new) }
@@ -146,6 +214,6 @@ pub trait Book {
             ∷ []) }
         ensures err { honest self.new → OnErr result (history self.new ≡ history self.old) };
 
-    // A history is legal.
+    // The history of an honest book is legal.
     ghost legal: { (book : Self) → honest book → IsLegal (history book) (terms book) };
 }

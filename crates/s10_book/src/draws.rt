@@ -1,4 +1,4 @@
-//! The identifiers of single Draws in a row.
+//! The identifiers of successive Draws.
 
 ghost use Rattle.std.specs.Prelude.{ℕ, ◌≡◌, length, IfOk, IfSome, Contains};
 ghost use Rattle.s10_history.specs.History.{ranges_of};
@@ -14,8 +14,8 @@ use s10_core::{Country, Id, Service};
 use s10_history::{HolderKey, Range, id_in_range, is_free};
 use s10_wire::{Count, Ids};
 
-// The identifier that the range gives after n picks of its own: none where each of its serials is among them, or
-// where that one is not free.
+// Returns the identifier that the range gives after `issued` further picks of it, or `None` if
+// those are all of its serials, or if that identifier is not free.
 fn free_pick<B: Book>(
     book: &mut B,
     range: &Range,
@@ -43,9 +43,15 @@ fn free_pick<B: Book>(
     }))
 }
 
-/// The identifiers that n single Draws of the customer in a row on that day would give, in their order, or `None`
-/// where one of them would give none. They are all that were asked for, even if the store fails. Nothing is kept.
-/// Refused with Memory or Store where a call of the book was, with the same of the two.
+/// Returns the identifiers of `count` single Draws of the customer, one after another on that day.
+///
+/// Returns `None` if one of these Draws would not be done. A returned sheet has `count`
+/// identifiers, even if the store fails. The history is unchanged.
+///
+/// # Errors
+///
+/// - `Memory` if memory is refused to a read of the book.
+/// - `Store` if the store fails in a read of the book.
 pub fn successive_draws<B: Book>(
     book: &mut B,
     customer: u32,

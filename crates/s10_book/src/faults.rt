@@ -3,19 +3,19 @@ ghost use Rattle.s10_book.specs.BookFault.{CountsFault};
 
 use crate::book_fault::BookFault;
 
-/// How many faults a book had, of each kind. A count stays at the greatest u64.
+/// The number of faults of a book, of each kind. A count stays at the greatest u64.
 #[derive(Clone, Copy, Debug, PartialEq, Eq)]
 pub struct Faults {
-    /// How often memory was refused.
+    /// Number of calls for which memory was refused.
     pub memory: u64,
-    /// How often what is under the book failed.
+    /// Number of calls for which the store beneath the book failed.
     pub store: u64,
 }
 
 impl Faults {
     ghost use Rattle.std.specs.Prelude.{◌≡◌};
 
-    /// No fault yet.
+    /// Returns the counts before the first fault.
     pub fn none() -> Faults
         ensures memory { result.memory ≡ 0 }
         ensures store { result.store ≡ 0 }
@@ -26,7 +26,7 @@ impl Faults {
         }
     }
 
-    /// Counts a fault. Full is no fault of a book, and counts nothing.
+    /// Counts a fault of the book. Ignores `Full`, which is the server's answer.
     pub fn add(&mut self, fault: BookFault)
         ensures { CountsFault fault self.old self.new }
     {

@@ -1,8 +1,10 @@
 use crate::book::Book;
 use crate::book_fault::BookFault;
 
-/// A book that may commit its calls some time after it keeps them. A kept call that is not committed is in the history, and
-/// goes with the process; one that is committed stays, whatever becomes of that. A server sends a reply once its call is committed.
+/// A book that may keep calls first and commit them later, several at once.
+///
+/// A pending call is in the history but is lost if the process dies. A committed call is durable. A
+/// server sends a reply only once its call is committed.
 pub trait GroupCommit: Book {
     ghost use Rattle.s10_history.specs.declared.entry.Entry.{Entry};
     ghost use Rattle.s10_book.specs.BookFault.{CountsResult};
@@ -10,10 +12,17 @@ pub trait GroupCommit: Book {
     ghost use Rattle.s10_book.specs.GroupCommit.{IsCommittedCall};
     ghost use Rattle.std.specs.Prelude.{◌≡◌, ◌↔◌, ◌++◌, List, IsTrue, OnErr, OnOk};
 
-    /// The calls that are committed.
+    /// The committed calls.
     ghost committed: { Self → List Entry };
 
-    /// Commits all calls. A fault leaves those committed that were.
+    /// Commits all pending calls.
+    ///
+    /// # Errors
+    ///
+    /// - `Memory` if memory is refused.
+    /// - `Store` if the store fails.
+    ///
+    /// The committed calls of an honest book are then the same as before.
     fn commit(&mut self) -> Result<(), BookFault>
         ensures faults { CountsResult result (Self.faults self.old) (Self.faults self.new) }
         ensures unchanged { Unchanged Self.history Self.terms Self.honest self.old self.new }
@@ -21,13 +30,13 @@ pub trait GroupCommit: Book {
             → OnOk result (committed self.new ≡ Self.history self.new) }
         ensures left { Self.honest self.new → OnErr result (committed self.new ≡ committed self.old) };
 
-    /// Whether no call of that key is kept that is not committed.
+    /// Returns whether no pending call has this key.
     fn is_committed(&self, customer: u32, number: u32) -> bool
         ensures { Self.honest self.now
             → (IsTrue result ↔ IsCommittedCall (committed self.now) (Self.history self.now) customer
             number) };
 
-    // What is committed comes first in the history.
+    // The committed calls come first in the history.
     ghost first: { (book : Self) → Self.honest book → (rest : List Entry)
         × (Self.history book ≡ committed book ++ rest) };
 }

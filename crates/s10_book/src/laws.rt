@@ -1,4 +1,4 @@
-//! What every legal history keeps.
+//! Laws of every legal history.
 
 ghost use Rattle.std.specs.Prelude.{◌≡◌, ◌≢◌, ℕ, ◌+◌, ◌≤◌, List, [], ◌∷◌, ◌++◌, length, map, take};
 ghost use Rattle.std.specs.Prelude.{slice_get, fold, Some, All, AllPairs, Contains, IsTrue};
@@ -20,9 +20,11 @@ ghost use Rattle.s10_book.specs.Promises.{without_number};
 
 use s10_wire::{Body, Outcome};
 
-/// In a legal history no identifier goes to two requests within the interval, each is issued from a range that its
-/// customer holds by an earlier call, and none lies in two ranges. Each outcome follows from what stands before it: the
-/// requests with their days make the whole history.
+/// States that in a legal history no identifier goes to two requests within the interval, each is
+/// issued from a range that its customer holds by an earlier call, and none lies in two ranges.
+///
+/// Each outcome follows from the calls before it: the requests with their days determine the whole
+/// history.
 pub fn legal_histories()
     ensures spaced { (h : List Entry) (t : Terms) → IsLegal h t → IsSpaced h t.interval }
     ensures own { (h : List Entry) (t : Terms) → IsLegal h t → IsOwn h }
@@ -31,7 +33,8 @@ pub fn legal_histories()
         → map request_on_day g ≡ map request_on_day h → g ≡ h }
 {}
 
-/// What overlaps a range has a serial in common with it.
+/// States that a range that is not empty overlaps a span if and only if they have an identifier in
+/// common.
 pub fn overlaps_are_common_serials()
     ensures common { (r : Range) (service country : ℕ × ℕ) (first last : ℕ) → r.first ≤ r.last
         → IsTrue (overlaps service country first last r)
@@ -41,8 +44,10 @@ pub fn overlaps_are_common_serials()
         → IsTrue (overlaps service country first last r) }
 {}
 
-/// In a legal history, where any serial of a range is free on a day, so is its pick. So NoneFree is answered only where
-/// no serial of the sender's ranges of that service and country is free.
+/// States that in a legal history the pick of a range is free on a day if any of its serials is.
+///
+/// Hence a Draw gets `NoneFree` only if no serial of the sender's open ranges of that service and
+/// country is free. The day is not before the history's.
 pub fn free_picks()
     ensures pick { (h : List Entry) (t : Terms) → IsLegal h t → (r : Range) (x : Id) (day : ℕ)
         → day_of h ≤ day
@@ -54,8 +59,10 @@ pub fn free_picks()
         → NothingFree h customer service country day t.interval }
 {}
 
-/// In a legal history NoneFree is answered to a DrawMany only where fewer serials than it asks for are free in the
-/// sender's ranges of that service and country.
+/// States that in a legal history a DrawMany gets `NoneFree` only if fewer serials than it asks for
+/// are free in the sender's open ranges of that service and country.
+///
+/// The day is not before the history's.
 pub fn few_free()
     ensures { (h : List Entry) (t : Terms) → IsLegal h t → 1 ≤ t.interval
         → (customer : ℕ) (service country : ℕ × ℕ) (count day : ℕ) → day_of h ≤ day
@@ -63,9 +70,12 @@ pub fn few_free()
         → FewFree h customer service country count day t.interval }
 {}
 
-/// A larger draw gives what n single Draws in a row on its day would give. Where a customer's Draws stand in a legal
-/// history one after the other, of one day and all of them Done, a DrawMany of n in their place would have had their
-/// identifiers. And each identifier of a DrawMany is what a single Draw would give after the Draws of those before it.
+/// States that a sheet has the identifiers of as many single Draws, one after another on its day.
+///
+/// - If a legal history ends with Done Draws of one customer, service, country and day, one
+///   DrawMany of their number instead of them would issue the same identifiers.
+/// - Each identifier of a Done DrawMany is the one that a single Draw would issue after Draws of
+///   those before it.
 pub fn sheets_are_successive_draws()
     ensures drawn { (h es : List Entry) (t : Terms) (customer : ℕ) (service country : ℕ × ℕ)
         (day : ℕ) (ids : List Id) → IsLegal (h ++ es) t → 1 ≤ length es
@@ -80,16 +90,18 @@ pub fn sheets_are_successive_draws()
         service country day interval ≡ Outcome.Drawn day x }
 {}
 
-/// No identifier stands twice in the reply to a DrawMany.
+/// States that no identifier occurs twice in the reply to a DrawMany.
 pub fn never_twice()
     ensures { (h : List Entry) (t : Terms) (e : Entry) → IsLegal h t → 1 ≤ t.interval
         → MayFollow h t e → (day : ℕ) (ids : List Id)
         → e.outcome ≡ Outcome.DrawnMany day ids → AllPairs (λ x y. x ≢ y) ids }
 {}
 
-/// A range that was withdrawn is closed for good: no identifier of it is issued after that. Its withdrawal changes no
-/// answer to a Grant, a Void or a Query, so it bars the serials that it barred, and what was issued from it can be voided
-/// and asked for as before.
+/// States that a withdrawn range stays closed, and that no identifier of it is issued after its
+/// withdrawal.
+///
+/// A withdrawal changes no outcome of a Grant, a Void or a Query. The serials of the range stay
+/// taken, and its issued identifiers can still be voided and queried.
 pub fn withdrawn_ranges()
     ensures closed { (h : List Entry) (e : Entry) (num : ℕ) → IsTrue (is_closed h num)
         → IsTrue (is_closed (h ++ e ∷ []) num) }
@@ -109,9 +121,12 @@ pub fn withdrawn_ranges()
         → query_answer (h ++ e ∷ []) customer x ≡ query_answer h customer x }
 {}
 
-/// The pick of a range in a legal history: its first serial as the range is made, after a Done Draw from it the next
-/// serial, or its first one after its last. After a Done DrawMany it is what the single Draws of it, one by one, would
-/// leave. A call that issues no identifier of the range leaves it.
+/// States the pick of a range in a legal history, by the last call.
+///
+/// - A Done Grant that creates the range: its first serial.
+/// - A Done Draw from the range: the next serial, wrapping from last to first.
+/// - A Done DrawMany: the same as after its single Draws, one after another.
+/// - A call that issues no identifier of the range: unchanged.
 pub fn successive_picks()
     ensures made { (h : List Entry) (t : Terms) (e : Entry) → IsLegal h t → MayFollow h t e
         → (r : Range)
@@ -135,7 +150,8 @@ pub fn successive_picks()
         → pick_of (issues_of (h ++ e ∷ [])) r ≡ pick_of (issues_of h) r }
 {}
 
-/// In a legal history the candidate of a range after n of its own picks is the serial n after its pick.
+/// States that in a legal history the candidate of a range after n further picks is the serial n
+/// steps after its pick.
 pub fn successive_candidates()
     ensures { (h : List Entry) (t : Terms) (r : Range) (issued : ℕ) → IsLegal h t
         → Contains (ranges_of h) r

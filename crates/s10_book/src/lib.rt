@@ -1,4 +1,4 @@
-//! The ledger: the rules that each outcome follows, and books that keep a history by them.
+//! The rules, which give each request its outcome, and books, which keep a history by these rules.
 #![tactic(auto)]
 
 mod book;

@@ -23,7 +23,7 @@ impl Model for Picks {
 impl Picks {
     ghost use Rattle.std.specs.Prelude.{◌≡◌, ◌<◌, ◌≤◌, ◌++◌, ◌∷◌, [], length};
 
-    /// None yet; the room is filled with some identifier.
+    /// Returns an empty list. `any` only fills the unused array.
     pub(crate) fn new(any: Id) -> Picks
         ensures { result ≡ [] }
     {
@@ -33,14 +33,14 @@ impl Picks {
         }
     }
 
-    /// How many there are.
+    /// Returns the number of identifiers.
     pub(crate) fn len(&self) -> usize
         ensures { result ≡ length self.now }
     {
         self.len
     }
 
-    /// Adds one.
+    /// Appends an identifier; there must be fewer than sixteen.
     pub(crate) fn push(&mut self, id: Id)
         requires { length self.old < 16 }
         ensures { self.new ≡ self.old ++ id ∷ [] }
@@ -49,7 +49,7 @@ impl Picks {
         self.len += 1;
     }
 
-    /// All of them, at least one.
+    /// Returns the identifiers as a sheet; there must be at least one.
     pub(crate) fn ids(&self) -> Ids
         requires { 1 ≤ length self.now }
         ensures { result ≡ self.now }

@@ -1,4 +1,4 @@
-//! The book in memory.
+//! A book as lists in memory.
 
 ghost use Rattle.std.specs.Prelude.{◌≡◌, ◌∷◌, ◌++◌, [], ⊤, OnOk, OnErr, IfOk, IfErr, IfSome};
 ghost use Rattle.std.specs.Prelude.{IsTrue, Contains, find, ◌==◌, ◌<◌, ◌≤◌, ◌+◌, ◌-◌, ◌^◌, vec_len};
@@ -24,8 +24,9 @@ use s10_history::{
 };
 use std::alloc::{AllocError, Global};
 
-/// A book as lists in memory: the calls, and the ranges and issues that they make. It is always honest, and only `keep`
-/// can be refused, by Memory.
+/// A book as lists in memory: the calls, with their ranges and their issuances.
+///
+/// It is always honest. Only `keep` can fail, with `Memory`.
 #[derive(Drop)]
 pub struct PlainBook {
     settings: Settings,
@@ -39,7 +40,7 @@ pub struct PlainBook {
 }
 
 impl PlainBook {
-    /// An empty book with these settings and no fault counted.
+    /// Creates an empty book with these settings, without a fault counted.
     pub fn new(alloc: Global, settings: Settings) -> PlainBook
         ensures history { ⟦<PlainBook as Book>⟧.history result ≡ [] }
         ensures terms { ⟦<PlainBook as Book>⟧.terms result ≡ settings }
@@ -55,7 +56,7 @@ impl PlainBook {
         }
     }
 
-    // Adds a call and what it makes, once there is room for all of it.
+    // Appends a call with its range and its issuances, once memory for all of them is reserved.
     fn add(&mut self, entry: Entry) -> Result<(), AllocError>
         requires { MayFollow self.old.entries.items self.old.settings entry }
         ensures terms { self.new.settings ≡ self.old.settings }
@@ -63,6 +64,7 @@ impl PlainBook {
         ensures ok { OnOk result (self.new.entries.items ≡ self.old.entries.items ++ entry ∷ []) }
         ensures err { OnErr result (self.new.entries.items ≡ self.old.entries.items) }
     {
+        // Brings limit <= MAX_LIMIT into scope.
         let _limit = self.settings.limit();
         self.ranges.reserve(1)?;
         self.issues.reserve(entry.issued())?;
@@ -76,7 +78,7 @@ impl PlainBook {
     }
 }
 
-// Adds what was made, for which there is room.
+// Appends the value, if there is one; memory for it is reserved.
 fn push_made<T: Copy>(list: &mut Vec<T>, made: Option<T>)
     requires { vec_len list.old < vec_capacity list.old }
     ensures items { list.new.items ≡ list.old.items ++ option_to_list made }
@@ -87,7 +89,7 @@ fn push_made<T: Copy>(list: &mut Vec<T>, made: Option<T>)
     }
 }
 
-// Adds the issues of a call, for which there is room.
+// Appends the issuances of a call; memory for them is reserved.
 fn push_issues(list: &mut Vec<Issuance>, arrival: u32, entry: &Entry)
     requires { vec_len list.old + length (issues_at arrival entry.now) ≤ vec_capacity list.old }
     ensures { list.new.items ≡ list.old.items ++ issues_at arrival entry.now }
@@ -97,7 +99,7 @@ fn push_issues(list: &mut Vec<Issuance>, arrival: u32, entry: &Entry)
     }
 }
 
-// The range that a call makes after n.
+// Returns the range that a call creates as the one after `count` others.
 fn range_made(count: usize, entry: &Entry) -> Option<Range>
     requires { count < 2 ^ 32 - 1 }
     ensures { result ≡ range_of_grant (count + 1) entry.now.request.body entry.now.outcome }
@@ -105,7 +107,7 @@ fn range_made(count: usize, entry: &Entry) -> Option<Range>
     entry.range_made(count as u32 + 1)
 }
 
-// The pick after n of the range's own, with its last issue.
+// Returns the candidate of the range after `issued` further picks of it.
 fn candidate_after_in(
     entries: &[Entry],
     issues: &[Issuance],
@@ -148,6 +150,7 @@ impl Book for PlainBook {
     }
 
     fn len(&self) -> u32 {
+        // Brings limit <= MAX_LIMIT into scope.
         let _limit = self.settings.limit();
         self.entries.len() as u32
     }
@@ -272,7 +275,7 @@ impl Book for PlainBook {
     }
 }
 
-// What a book in memory keeps is committed as far as it can be.
+// A book in memory has no durable store, so each of its calls counts as committed.
 impl GroupCommit for PlainBook {
     ghost use Rattle.std.proofs.Common.{sym, append-nil};
 

@@ -1,4 +1,4 @@
-//! The rules: what comes of a request.
+//! The rules: the outcome of each request (docs/RULES.md).
 
 ghost use Rattle.std.specs.Prelude.{ℕ, ◌≡◌, ◌≤◌, ◌+◌, length, IfOk, IsTrue};
 ghost use Rattle.std.specs.List.{list_any};
@@ -18,7 +18,8 @@ use s10_core::{Country, Id, Serial, Service};
 use s10_history::{HolderKey, Issue, SerialSpan, is_free};
 use s10_wire::{Body, Count, Outcome, Request, Status};
 
-// The outcome of a Draw: the pick of the lowest-numbered open range of the sender whose pick is free.
+// Returns the outcome of a Draw: the pick of the lowest-numbered open range of the sender whose
+// pick is free.
 fn decide_draw<B: Book>(
     book: &mut B,
     customer: u32,
@@ -59,7 +60,7 @@ fn decide_draw<B: Book>(
     }
 }
 
-// The outcome of a DrawMany: the identifiers of n single Draws in a row, or why there are none.
+// Returns the outcome of a DrawMany: the identifiers of successive Draws, or why there are none.
 fn decide_draw_many<B: Book>(
     book: &mut B,
     customer: u32,
@@ -90,7 +91,8 @@ fn decide_draw_many<B: Book>(
     }
 }
 
-// Whether the identifier lies in one of the customer's ranges.
+// Returns whether the identifier lies in one of the customer's ranges. No two ranges have an
+// identifier in common, so the one that is found decides.
 fn owns<B: Book>(book: &mut B, customer: u32, id: &Id) -> Result<bool, BookFault>
     ensures faults { CountsResult result (B.faults book.old) (B.faults book.new) }
     ensures unchanged { Unchanged B.history B.terms B.honest book.old book.new }
@@ -105,7 +107,6 @@ fn owns<B: Book>(book: &mut B, customer: u32, id: &Id) -> Result<bool, BookFault
     }
 }
 
-// The outcome of a Void.
 fn decide_void<B: Book>(book: &mut B, customer: u32, id: &Id) -> Result<Outcome, BookFault>
     ensures faults { CountsResult result (B.faults book.old) (B.faults book.new) }
     ensures unchanged { Unchanged B.history B.terms B.honest book.old book.new }
@@ -128,7 +129,7 @@ fn decide_void<B: Book>(book: &mut B, customer: u32, id: &Id) -> Result<Outcome,
     }
 }
 
-// What is known of an identifier that lies in a range.
+// Returns the status of an identifier that lies in a range.
 fn issue_status<B: Book>(book: &mut B, id: &Id) -> Result<Status, BookFault>
     ensures faults { CountsResult result (B.faults book.old) (B.faults book.new) }
     ensures unchanged { Unchanged B.history B.terms B.honest book.old book.new }
@@ -147,7 +148,8 @@ fn issue_status<B: Book>(book: &mut B, id: &Id) -> Result<Status, BookFault>
     }
 }
 
-// The number of the next range. Range numbers have no gap, and are at most the number of calls.
+// Returns the number of the next range, by binary search: range numbers have no gap, and are at
+// most the number of calls.
 fn next_number<B: Book>(book: &mut B) -> Result<u32, BookFault>
     ensures faults { CountsResult result (B.faults book.old) (B.faults book.new) }
     ensures unchanged { Unchanged B.history B.terms B.honest book.old book.new }
@@ -167,7 +169,6 @@ fn next_number<B: Book>(book: &mut B) -> Result<u32, BookFault>
     Ok(low + 1)
 }
 
-// The outcome of a Grant.
 fn decide_grant<B: Book>(
     book: &mut B,
     customer: u32,
@@ -204,7 +205,7 @@ fn decide_grant<B: Book>(
     Ok(Outcome::Granted { range })
 }
 
-// What the post is told of an identifier.
+// Returns the status of an identifier for the post, which may ask for one that lies in no range.
 fn known_status<B: Book>(book: &mut B, id: &Id) -> Result<Status, BookFault>
     ensures faults { CountsResult result (B.faults book.old) (B.faults book.new) }
     ensures unchanged { Unchanged B.history B.terms B.honest book.old book.new }
@@ -219,7 +220,6 @@ fn known_status<B: Book>(book: &mut B, id: &Id) -> Result<Status, BookFault>
     issue_status(book, id)
 }
 
-// The outcome of a Query.
 fn decide_query<B: Book>(book: &mut B, customer: u32, id: &Id) -> Result<Outcome, BookFault>
     ensures faults { CountsResult result (B.faults book.old) (B.faults book.new) }
     ensures unchanged { Unchanged B.history B.terms B.honest book.old book.new }
@@ -238,7 +238,6 @@ fn decide_query<B: Book>(book: &mut B, customer: u32, id: &Id) -> Result<Outcome
     Ok(Outcome::Told(status))
 }
 
-// The outcome of a Withdraw.
 fn decide_withdraw<B: Book>(book: &mut B, sender: u32, num: u32) -> Result<Outcome, BookFault>
     ensures faults { CountsResult result (B.faults book.old) (B.faults book.new) }
     ensures unchanged { Unchanged B.history B.terms B.honest book.old book.new }
@@ -258,8 +257,14 @@ fn decide_withdraw<B: Book>(book: &mut B, sender: u32, num: u32) -> Result<Outco
     Ok(Outcome::Withdrawn)
 }
 
-/// The outcome of a request by the rules, on a day that is not before the book's. Nothing is kept. Refused with Memory
-/// or Store where a call of the book was, with the same of the two.
+/// Returns the outcome of a request by the rules (docs/RULES.md).
+///
+/// `day` must not be before the day of the book. The history is unchanged.
+///
+/// # Errors
+///
+/// - `Memory` if memory is refused to a read of the book.
+/// - `Store` if the store fails in a read of the book.
 pub fn decide<B: Book>(book: &mut B, request: &Request, day: u32) -> Result<Outcome, BookFault>
     requires { B.honest book.old → day_of (B.history book.old) ≤ day }
     ensures faults { CountsResult result (B.faults book.old) (B.faults book.new) }

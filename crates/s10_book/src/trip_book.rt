@@ -1,4 +1,4 @@
-//! A book that fails once.
+//! A book that fails once, for tests.
 
 ghost use Rattle.std.specs.Prelude.{◌≡◌, ◌||◌, false};
 ghost use Rattle.std.specs.Bool.{OnTrue};
@@ -10,19 +10,22 @@ use crate::group_commit::GroupCommit;
 use s10_core::Id;
 use s10_history::{Candidate, Entry, HolderKey, Issue, Range, SerialSpan, Settings, Usage};
 
-/// A book over a book, to show what a failure does. Of its calls that answer a Result, counted from 0, the one with the
-/// number that it was made with answers Store without asking the inner book, and counts as one fault more. All other
-/// calls are the inner book's.
+/// A book over another book that fails once, to show the effect of a failure.
+///
+/// Its calls that return a Result are counted from 0. The one with the given number returns `Store`
+/// without calling the inner book, and counts one more fault of the store. All other calls are
+/// those of the inner book.
 #[derive(Drop)]
 pub struct TripBook<B> {
     inner: B,
-    // how many calls come before the one that fails
+    // The number of calls before the one that fails.
     left: u64,
+    // Whether that call has failed.
     tripped: bool,
 }
 
 impl<B: Book> TripBook<B> {
-    /// The book over `inner` whose call number `at` fails; none has been made yet.
+    /// Returns a book over `inner` whose call number `at`, from 0, fails.
     pub fn new(inner: B, at: u64) -> TripBook<B>
         ensures history { ⟦<TripBook<B> as Book>⟧.history result ≡ B.history inner }
         ensures terms { ⟦<TripBook<B> as Book>⟧.terms result ≡ B.terms inner }
@@ -37,7 +40,7 @@ impl<B: Book> TripBook<B> {
         }
     }
 
-    /// Gives the inner book back, as the calls that did not fail left it.
+    /// Returns the inner book, as the calls that did not fail left it.
     pub fn into_inner(self) -> B
         ensures history { B.history result ≡ ⟦<TripBook<B> as Book>⟧.history self }
         ensures terms { B.terms result ≡ ⟦<TripBook<B> as Book>⟧.terms self }
@@ -46,7 +49,7 @@ impl<B: Book> TripBook<B> {
         self.inner
     }
 
-    // Counts a call, and says whether it is the one that fails.
+    // Counts a call, and returns whether it is the one that fails.
     fn trips(&mut self) -> bool
         ensures inner { self.new.inner ≡ self.old.inner }
         ensures tripped { self.new.tripped ≡ (self.old.tripped || result) }

@@ -2,7 +2,7 @@ use Rattle.std.proofs.Common.{◌≡◌, ◌≤◌, ◌+◌, ◌++◌, length, t
 use Rattle.s10_history.specs.Issues.{issues_at}
 use Rattle.s10_book.proofs.plain_book.push_issues.Given as goal
 
--- the issues so far were added, and there is room for all of them
+-- The issuances so far were added, and memory for all of them is reserved.
 abbrev pub invariant-loop-place : goal.invariant-loop-place
 invariant-loop-place l =
     record {
