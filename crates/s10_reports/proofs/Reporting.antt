@@ -25,13 +25,13 @@ use Rattle.s10_reports.specs.ReportFault.{Reported}
 use Rattle.s10_history.proofs.Push.{issues_from-push}
 use Rattle.s10_history.proofs.Numbering.{Numbered, numbered, find_cases}
 
--- a report begins with its first line
+-- A report begins with its first line.
 pub joined_one : (u v : Option (List ℕ)) (line : List ℕ) → Appends u v line
     → Appends u v (joined (line ∷ []))
 joined_one u v line written = let P : List ℕ → Type 0 = λ text. Appends u v text in
     subst P (sym (append-nil line)) written
 
--- one line more
+-- One more line.
 pub joined_more : (u v w : Option (List ℕ)) (lines : List (List ℕ)) (line : List ℕ)
     → Appends u v (joined lines) → Appends v w line → Appends u w (joined (lines ++ line ∷ []))
 joined_more u v w lines line before written =
@@ -57,7 +57,7 @@ not_first n k x r xs num (inl here) = let same : x.num ≡ n + suc k =
     eqb-true x.num (n + suc k) here.0 in absurd (omega (arith, num, same))
 not_first n k x r xs num (inr there) = there.1
 
--- the range of the next number is the next range
+-- The range with the next number is the next range.
 pub next_taken : (f : Range → List ℕ) (n k : ℕ) (rs : List Range) (r : Range) → Numbered n rs
     → find (λ y. y.num == n + k) rs ≡ Some r
     → take (suc k) (map f rs) ≡ take k (map f rs) ++ f r ∷ []
@@ -72,7 +72,7 @@ next_taken f n (suc k) (x ∷ xs) r h e =
     (next_taken f (n + 1) k xs r h.1 (ap (λ (m : ℕ). find (λ y. y.num == m) xs) (sym on)
     ∙ there))
 
--- the issues of some calls and of those after them
+-- The issuances of some calls and of those after them.
 pub issues_from-append : (n : ℕ) (xs ys : List Entry) → issues_from n (xs ++ ys) ≡ issues_from n xs
     ++ issues_from (n + length xs) ys
 issues_from-append n [] ys = let same : n ≡ n + 0 = omega arith in
@@ -84,13 +84,13 @@ issues_from-append n (x ∷ xs) ys =
     ∙ sym (append_assoc (issues_at n x) (issues_from (n + 1) xs)
     (issues_from (n + length (x ∷ xs)) ys))
 
--- the report is written once its lines are
+-- The report is written once its lines are.
 pub report_whole : (u v : Option (List ℕ)) (lines : List (List ℕ)) (k : ℕ) → take k lines ≡ lines
     → Appends u v (joined (take k lines)) → Appends u v (joined lines)
 report_whole u v lines k all written = let P : List (List ℕ) → Type 0 =
     λ l. Appends u v (joined l) in subst P all written
 
--- one line more
+-- One more line, for a list that is longer by it.
 report_more_by : (u v w : Option (List ℕ)) (lines longer : List (List ℕ)) (line : List ℕ)
     → longer ≡ lines ++ line ∷ [] → Appends u v (joined lines) → Appends v w line
     → Appends u w (joined longer)
@@ -98,7 +98,7 @@ report_more_by u v w lines longer line more before written =
     let P : List (List ℕ) → Type 0 = λ l. Appends u w (joined l) in
     subst P (sym more) (joined_more u v w lines line before written)
 
--- one line more of a report
+-- One more line of a report.
 pub report_more : (u v w : Option (List ℕ)) (lines : List (List ℕ)) (k : ℕ) (line : List ℕ)
     → take (k + 1) lines ≡ take k lines ++ line ∷ []
     → Appends u v (joined (take k lines)) → Appends v w line
@@ -106,19 +106,19 @@ pub report_more : (u v w : Option (List ℕ)) (lines : List (List ℕ)) (k : ℕ
 report_more u v w lines k line more before written =
     report_more_by u v w (take k lines) (take (k + 1) lines) line more before written
 
--- the first lines of a report
+-- The first lines of a report.
 take_header : (header : List ℕ) (lines : List (List ℕ)) (n : ℕ) → take (n + 1) (header ∷ lines)
     ≡ header ∷ take n lines
 take_header header lines n = let on : n + 1 ≡ suc n = omega arith in
     ap (λ (m : ℕ). take m (header ∷ lines)) on
 
--- the report of the ranges has a line for each
+-- The report of the ranges has a line for each.
 pub ranges_all : (h : List Entry) (day interval n : ℕ) → length (ranges_of h) ≤ n
     → take (n + 1) (ranges_report h day interval) ≡ ranges_report h day interval
 ranges_all h day interval n few =
     take_all (n + 1) (ranges_report h day interval) (grind (arith, common_steps, few))
 
--- the line of the next range is the next line
+-- The line of the next range is the next line.
 pub ranges_next : (h : List Entry) (day interval n : ℕ) (r : Range)
     → find (λ x. x.num == (n + 1)) (ranges_of h) ≡ Some r
     → take (n + 1 + 1) (ranges_report h day interval) ≡ take (n + 1) (ranges_report h day interval)
@@ -135,11 +135,11 @@ ranges_next h day interval n r found =
     ∙ next_taken f 1 n (ranges_of h) r (numbered 1 h) here)
     ∙ ap (λ (l : List (List ℕ)). l ++ f r ∷ []) (sym (take_header ranges_header lines n))
 
--- how many issues the first calls made
+-- The number of issuances of the first k calls.
 abbrev pub issued_by : List Entry → ℕ → ℕ
 issued_by h k = length (issues_from 1 (take k h))
 
--- the lines of the first issues
+-- The lines of the first issuances.
 taken : (f : Issuance → List ℕ) (some more : List Issuance)
     → take (length some) (map f (some ++ more)) ≡ map f some
 taken f [] more = refl
@@ -153,7 +153,7 @@ past_none (x ∷ xs) (suc k) e = let rest : length xs ≤ k = past_none xs k e i
 entry_is : (h : List Entry) (k : ℕ) → entry_at h (k + 1) ≡ slice_get h k
 entry_is h k = let on : k + 1 ≡ suc k = omega arith in ap (entry_at h) on
 
--- a call that is not there comes after all
+-- If there is no call with the next number, all calls were reported.
 pub entries_past : (h : List Entry) (k : ℕ) (o : Option Entry) → o ≡ entry_at h (k + 1) → o ≡ None
     → length h ≤ k
 entries_past h k o is none = past_none h k (sym (entry_is h k) ∙ sym is ∙ none)
@@ -165,7 +165,7 @@ calls_more h k e found =
     take_more h k e within ∙ ap (λ (x : Entry). take k h ++ x ∷ [])
     (get_or_from_slice_get h k e e found)
 
--- the issues of one call more
+-- The issuances of one more call.
 pub issues_more : (h : List Entry) (k : ℕ) (o : Option Entry) (e : Entry) → o ≡ entry_at h (k + 1)
     → o ≡ Some e
     → issues_from 1 (take (k + 1) h) ≡ issues_from 1 (take k h) ++ issues_at (k + 1) e
@@ -189,7 +189,7 @@ front_lines h k f =
     ap (λ (l : List Issuance). take (issued_by h k) (map f l)) (issues_split h k)
     ∙ taken f (issues_from 1 (take k h)) (issues_from (1 + length (take k h)) (drop k h))
 
--- the lines of the issues of one call more
+-- The lines of the issuances of one more call.
 pub call_lines : (h : List Entry) (k : ℕ) (o : Option Entry) (e : Entry) → o ≡ entry_at h (k + 1)
     → o ≡ Some e
     → take (issued_by h (k + 1) + 1) (issues_report h) ≡ take (issued_by h k + 1) (issues_report h)
@@ -215,7 +215,7 @@ next_line f (x ∷ is) zero i found = ap (λ (y : Issuance). f y ∷ []) (same_S
 next_line f (x ∷ is) (suc k) i found = ap (λ (l : List (List ℕ)). f x ∷ l)
     (next_line f is k i found)
 
--- the line of the next issue of a call
+-- The line of the next issuance of a call.
 pub issue_next : (h : List Entry) (is : List Issuance) (k : ℕ) (i : Issuance)
     → slice_get is k ≡ Some i
     → take (k + 1) (issue_lines h is) ≡ take k (issue_lines h is) ++ issue_line i
@@ -225,7 +225,7 @@ issue_next h is k i found =
     ap (λ (m : ℕ). take m (issue_lines h is)) on
     ∙ next_line (λ x. issue_line x (last_issue_of h x.id)) is k i found
 
--- the lines of the calls so far, and those of the next call
+-- The lines of the calls so far, followed by those of the next call.
 pub call_written : (u v w : Option (List ℕ)) (front part all : List (List ℕ)) → all ≡ front ++ part
     → Appends u v (joined front) → Appends v w (joined part) → Appends u w (joined all)
 call_written u v w front part all is before written =
@@ -233,7 +233,7 @@ call_written u v w front part all is before written =
     subst P (sym (ap joined is ∙ flat_map-append (λ (x : List ℕ). x) front part))
     (Appends-then u v w (joined front) (joined part) before written)
 
--- some of the lines after the first ones are the first ones of all, n more
+-- First lines, followed by some of the next ones, are first lines of the whole.
 cut_within : (all : List (List ℕ)) (m n count : ℕ) (part : List (List ℕ)) → take n all ≡ take m all
     ++ part → (c : ℕ) × (take c all ≡ take m all ++ take count part)
 cut_within all m n count part is =
@@ -257,7 +257,7 @@ cut_within all m n count part is =
       ]
     ]
 
--- some lines of the next call
+-- Some lines of the next call were written.
 pub call_cut : (u v w : Option (List ℕ)) (all : List (List ℕ)) (m n count : ℕ)
     (part : List (List ℕ)) → take n all ≡ take m all ++ part
     → Appends u v (joined (take m all)) → Appends v w (joined (take count part)) → (c : ℕ)
@@ -269,7 +269,7 @@ call_cut u v w all m n count part is before written =
           written,
     )
 
--- a report of which a call's lines were not all written
+-- A report in which not all lines of a call were written.
 cut_by : (T : Type 0) (u v w : Option (List ℕ)) (all : List (List ℕ)) (m n : ℕ)
     (part : List (List ℕ)) (fault : ReportFault) → take n all ≡ take m all ++ part
     → Appends u v (joined (take m all)) → Reported {T = T} v w part (Err fault)
@@ -278,7 +278,7 @@ cut_by T u v w all m n part (Book fault) is before cut = call_cut u v w all m n 
     cut.1
 cut_by T u v w all m n part Write is before cut = cut
 
--- its fault is the report's
+-- The fault of the call is that of the report.
 pub report_cut : {T : Type 0} → (u v w : Option (List ℕ)) (all : List (List ℕ)) (m n : ℕ)
     (part : List (List ℕ)) (fault : ReportFault) (r : Result T ReportFault)
     → IsErrAnd r (λ e. e ≡ fault)
@@ -289,7 +289,7 @@ report_cut {T = T} u v w all m n part fault (Err e) passed is before cut =
     let P : ReportFault → Type 0 = λ f. Reported {T = T} u w all (Err f) in
     subst P (sym passed) (cut_by T u v w all m n part fault is before cut)
 
--- the report of the issues has a line for each issue of all calls
+-- The report of the issuances has a line for each issuance of all calls.
 pub issues_all : (h : List Entry) (k : ℕ) → length h ≤ k
     → take (issued_by h k + 1) (issues_report h) ≡ issues_report h
 issues_all h k past =

@@ -1,4 +1,4 @@
--- The two reports of a ledger: a header, then a line for each range, or for each issue.
+-- The two reports of a ledger: a header, then a line for each range, or for each issuance.
 use Rattle.std.specs.Prelude.{ℕ, ◌==◌, Bool, true, false, ◌&&◌, if◌then◌else◌, List, [], ◌∷◌, map}
 use Rattle.std.specs.Prelude.{codes, decimal, Option, Some, None}
 use Rattle.std.specs.List.{flat_map}
@@ -15,16 +15,16 @@ use Rattle.s10_history.specs.History.{ranges_of, is_closed}
 use Rattle.s10_history.specs.Issues.{issues_of, last_issue_of}
 use Rattle.s10_history.specs.Usage.{usage_of}
 
--- lines as one text
+-- The lines as one text.
 abbrev pub joined : List (List ℕ) → List ℕ
 joined lines = flat_map (λ line. line) lines
 
--- the line of a closed range says so at its end
+-- The word at the end of the line of a closed range.
 abbrev pub closed_words : Bool → List (List ℕ)
 closed_words true = codes "closed" ∷ []
 closed_words false = []
 
--- a range, how its serials were used, and whether it is closed
+-- The line of a range, with its usage, and whether it is closed.
 unfoldable pub range_line : Range → Usage → Bool → List ℕ
 range_line r usage closed =
     line_of (decimal r.num)
@@ -32,40 +32,42 @@ range_line r usage closed =
     ∷ digits_of r.last
     ∷ decimal usage.used ∷ decimal usage.voided ∷ decimal usage.free ∷ closed_words closed)
 
+-- The header of the report of the ranges.
 abbrev pub ranges_header : List ℕ
 ranges_header = codes "range customer service country first last used voided free\n"
 
--- the report of the ranges, in order of their numbers, on a day
+-- The report of the ranges, in order of their numbers, on a day.
 abbrev pub ranges_report : List Entry → ℕ → ℕ → List (List ℕ)
 ranges_report h day interval =
     ranges_header ∷ map (λ r. range_line r (usage_of h r day interval) (is_closed h r.num))
     (ranges_of h)
 
--- whether the identifier's last issue is that of the call
+-- Whether the identifier's last issue is that of the call.
 abbrev pub is_last : Issuance → Issue → Bool
 is_last i last = (last.customer == i.customer) && (last.number == i.number)
 
--- what became of an issue, by the last issue of its identifier
+-- The state of an issuance, by the last issue of its identifier.
 abbrev pub state_of : Issuance → Option Issue → List ℕ
 state_of i None = codes "reissued"
 state_of i (Some last) =
     if is_last i last then (if last.voided then codes "voided" else codes "issued")
     else codes "reissued"
 
--- an issue and what became of it
+-- The line of an issuance, with its state.
 unfoldable pub issue_line : Issuance → Option Issue → List ℕ
 issue_line i last =
     line_of (decimal i.arrival)
     (decimal i.day ∷ decimal i.customer ∷ decimal i.number ∷ spelling_of i.id ∷ state_of i last
     ∷ [])
 
+-- The header of the report of the issuances.
 abbrev pub issues_header : List ℕ
 issues_header = codes "arrival day customer number identifier state\n"
 
--- a line for each of these issues, with what became of it in the history
+-- The lines of these issuances, each with its state in the history.
 abbrev pub issue_lines : List Entry → List Issuance → List (List ℕ)
 issue_lines h is = map (λ i. issue_line i (last_issue_of h i.id)) is
 
--- the report of the issues, in order of arrival
+-- The report of the issuances, in order of arrival.
 abbrev pub issues_report : List Entry → List (List ℕ)
 issues_report h = issues_header ∷ issue_lines h (issues_of h)

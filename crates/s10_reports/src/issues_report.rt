@@ -1,4 +1,4 @@
-//! The report of the issues.
+//! The report of the issuances.
 
 ghost use Rattle.std.specs.Prelude.{◌≡◌, OnOk};
 ghost use Rattle.std.specs.Io.KnownBytes.{Appends};
@@ -13,9 +13,17 @@ use s10_history::{Entry, Issuance, Issue};
 use s10_lines::{WriteFault, write_decimal, write_first_decimal, write_id, write_text, write_word};
 use std::io::Write;
 
-/// Writes a header and a line for each issue, in order of arrival, with its state: `issued` or
-/// `voided` where this is the identifier's last issue, else `reissued`. Each line is read before
-/// it goes out.
+/// Writes a header and a line for each issuance, in order of arrival, with its state.
+///
+/// The state is `issued` or `voided` if this is the identifier's last issuance, otherwise
+/// `reissued`. All that a line says is read from the book before the line is written. The history
+/// is unchanged.
+///
+/// # Errors
+///
+/// - `Book` if a call of the book fails; the lines before are written whole, and nothing of the
+///   next one.
+/// - `Write` if the writer fails; part of a line may be written.
 pub fn write_issues<B: Book, W: Write>(book: &mut B, out: &mut W) -> Result<(), ReportFault>
     ensures faults { CountsReport result (B.faults book.old) (B.faults book.new) }
     ensures unchanged { Unchanged B.history B.terms B.honest book.old book.new }
@@ -34,7 +42,7 @@ pub fn write_issues<B: Book, W: Write>(book: &mut B, out: &mut W) -> Result<(), 
     Ok(())
 }
 
-// Writes a line for each issue of a call, in the order of its reply.
+// Writes a line for each issuance of a call, in the order of its reply.
 fn write_call<B: Book, W: Write>(
     book: &mut B,
     arrival: u32,

@@ -16,9 +16,17 @@ use s10_lines::{
 };
 use std::io::Write;
 
-/// Writes a header and a line for each range, in order of their numbers: what it is, and how many
-/// of its serials were ever issued, are voided, and are free on the greater of `day` and the
-/// book's day; the line of a closed range ends with that word. Each line is read before it goes out.
+/// Writes a header and a line for each range, in order of their numbers, with its usage.
+///
+/// The usage is how many of its serials were ever issued, are voided, and are free. Free is counted
+/// on the later of `day` and the book's day. The line of a closed range ends with `closed`. All
+/// that a line says is read from the book before the line is written. The history is unchanged.
+///
+/// # Errors
+///
+/// - `Book` if a call of the book fails; the lines before are written whole, and nothing of the
+///   next one.
+/// - `Write` if the writer fails; part of a line may be written.
 pub fn write_ranges<B: Book, W: Write>(
     book: &mut B,
     day: u32,
@@ -73,7 +81,7 @@ fn write_usage<W: Write>(usage: &Usage, out: &mut W) -> Result<(), WriteFault>
     write_decimal(usage.free, out)
 }
 
-// The word at the end of a closed range's line.
+// Writes the word at the end of a closed range's line.
 fn write_closed<W: Write>(closed: bool, out: &mut W) -> Result<(), WriteFault>
     ensures { OnOk result (Appends (W.contents out.old) (W.contents out.new)
         (spaced (closed_words closed))) }

@@ -5,10 +5,10 @@ use thiserror::Error;
 /// Why a report was not written to its end.
 #[derive(Clone, Copy, Debug, PartialEq, Eq, Error)]
 pub enum ReportFault {
-    /// The book gave no answer. The lines before went out whole, and nothing of the next one did.
+    /// A call of the book failed. The lines before are written whole, and nothing of the next one.
     #[error("book: {0}")]
     Book(BookFault),
-    /// The writer failed: part of a line may have gone out.
+    /// The writer failed. Part of a line may be written.
     #[error("the report could not be written")]
     Write,
 }

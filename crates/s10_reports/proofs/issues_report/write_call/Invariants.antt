@@ -5,7 +5,7 @@ use Rattle.s10_history.specs.Issues.{issues_at}
 use Rattle.s10_reports.specs.Reports.{joined, issue_lines}
 use Rattle.s10_reports.proofs.issues_report.write_call.Given as goal
 
--- a line for each of the issues so far was written
+-- A line for each issuance so far was written.
 abbrev pub invariant-loop-place : goal.invariant-loop-place
 invariant-loop-place g l =
     record {

@@ -5,7 +5,7 @@ use Rattle.s10_reports.specs.Reports.{joined, issues_report}
 use Rattle.s10_reports.proofs.Reporting.{issued_by}
 use Rattle.s10_reports.proofs.issues_report.write_issues.Given as goal
 
--- the header and a line for each issue of the calls so far were written
+-- The header and a line for each issuance of the calls so far were written.
 abbrev pub invariant-loop-done : goal.invariant-loop-done
 invariant-loop-done g l =
     record {

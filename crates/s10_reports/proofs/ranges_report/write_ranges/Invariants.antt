@@ -4,7 +4,7 @@ use Rattle.s10_book.specs.Book.{Unchanged}
 use Rattle.s10_reports.specs.Reports.{joined, ranges_report}
 use Rattle.s10_reports.proofs.ranges_report.write_ranges.Given as goal
 
--- the header and a line for each range so far were written
+-- The header and a line for each range so far were written.
 abbrev pub invariant-loop-done : goal.invariant-loop-done
 invariant-loop-done g l =
     record {
