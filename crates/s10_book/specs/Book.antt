@@ -4,8 +4,8 @@ use Rattle.std.specs.Prelude.{◌≡◌, List}
 use Rattle.s10_history.specs.declared.entry.Entry.{Entry}
 use Rattle.s10_history.specs.Settings.{Terms}
 
--- A call leaves a book unchanged if one that is honest as the call ends was honest as it began,
--- with the same history and terms.
+-- A call leaves a book unchanged if one that is honest at its end was honest at its start, with the
+-- same history and terms.
 pub record Unchanged {B : Type 0} (history : B → List Entry) (terms : B → Terms)
     (honest : B → Type 0) (before after : B) : Type 0 where
   pub was_honest : honest after → honest before

@@ -158,16 +158,16 @@ body_answer h customer (Withdraw range) day interval = withdraw_answer h custome
 abbrev pub answer_of : List Entry → Request → ℕ → ℕ → Outcome
 answer_of h q day interval = body_answer h q.customer q.body day interval
 
--- A call may follow a history if its key is new, its day is not before the last, the limit is not
--- reached, and its outcome is the answer of the rules.
+-- A call may follow a history if its key is new and its day is not before the last. The history
+-- must be below its limit, and the outcome must be the answer of the rules.
 pub record MayFollow (h : List Entry) (t : Terms) (e : Entry) : Type 0 where
   pub new_key : find_entry h e.request.customer e.request.number ≡ None
   pub in_order : day_of h ≤ e.day
   pub room : length h < t.limit
   pub right : e.outcome ≡ answer_of h e.request e.day t.interval
 
--- A history is legal if its keys are distinct, its days never decrease, it has no more calls than
--- the limit, and each outcome is the answer of the rules over the calls before it.
+-- A history is legal if its keys are distinct and its days never decrease. It has no more calls
+-- than the limit, and each outcome is the answer of the rules over the calls before it.
 pub record IsLegal (h : List Entry) (t : Terms) : Type 0 where
   pub distinct : AllPairs (λ d e. ¬ (IsTrue (has_key d.request.customer d.request.number e))) h
   pub in_order : AllPairs (λ d e. d.day ≤ e.day) h

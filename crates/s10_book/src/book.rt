@@ -198,8 +198,8 @@ pub trait Book {
 
     /// Adds a call at the end of the history.
     ///
-    /// Its key must be new, its day must not be before the book's, the limit must not be reached,
-    /// and its outcome must be that of the rules.
+    /// The call must be one that may follow: a new key, a day that is not before the book's, and
+    /// the outcome of the rules. The limit must not be reached.
     ///
     /// # Errors
     ///

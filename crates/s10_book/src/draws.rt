@@ -14,7 +14,7 @@ use s10_core::{Country, Id, Service};
 use s10_history::{HolderKey, Range, id_in_range, is_free};
 use s10_wire::{Count, Ids};
 
-// Returns the identifier that the range gives after `issued` further picks of it, or `None` if
+// Returns the identifier that the range gives after `issued` further picks of it. Returns `None` if
 // those are all of its serials, or if that identifier is not free.
 fn free_pick<B: Book>(
     book: &mut B,

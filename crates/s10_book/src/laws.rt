@@ -20,11 +20,11 @@ ghost use Rattle.s10_book.specs.Promises.{without_number};
 
 use s10_wire::{Body, Outcome};
 
-/// States that in a legal history no identifier goes to two requests within the interval, each is
-/// issued from a range that its customer holds by an earlier call, and none lies in two ranges.
+/// States the promises on every legal history: spaced, own and apart.
 ///
-/// Each outcome follows from the calls before it: the requests with their days determine the whole
-/// history.
+/// No identifier goes to two requests within the interval. Each is issued from a range that its
+/// customer holds by an earlier call. None lies in two ranges. Each outcome follows from the calls
+/// before it: the requests with their days determine the whole history.
 pub fn legal_histories()
     ensures spaced { (h : List Entry) (t : Terms) → IsLegal h t → IsSpaced h t.interval }
     ensures own { (h : List Entry) (t : Terms) → IsLegal h t → IsOwn h }
@@ -59,10 +59,11 @@ pub fn free_picks()
         → NothingFree h customer service country day t.interval }
 {}
 
-/// States that in a legal history a DrawMany gets `NoneFree` only if fewer serials than it asks for
-/// are free in the sender's open ranges of that service and country.
+/// States that in a legal history a DrawMany gets `NoneFree` only if fewer serials are free than it
+/// asks for.
 ///
-/// The day is not before the history's.
+/// The serials are those of the sender's open ranges of that service and country. The day is not
+/// before the history's.
 pub fn few_free()
     ensures { (h : List Entry) (t : Terms) → IsLegal h t → 1 ≤ t.interval
         → (customer : ℕ) (service country : ℕ × ℕ) (count day : ℕ) → day_of h ≤ day
@@ -72,8 +73,8 @@ pub fn few_free()
 
 /// States that a sheet has the identifiers of as many single Draws, one after another on its day.
 ///
-/// - If a legal history ends with Done Draws of one customer, service, country and day, one
-///   DrawMany of their number instead of them would issue the same identifiers.
+/// - Let a legal history end with Done Draws of one customer, service, country and day. One
+///   DrawMany of their number, in their stead, has the same identifiers.
 /// - Each identifier of a Done DrawMany is the one that a single Draw would issue after Draws of
 ///   those before it.
 pub fn sheets_are_successive_draws()

@@ -6,8 +6,8 @@ use Rattle.s10_history.specs.declared.usage.Usage.{Usage}
 use Rattle.s10_history.specs.History.{day_of}
 use Rattle.s10_history.specs.Issues.{issues_of, is_issued, is_voided, is_free, id_at, serials}
 
--- The numbers of serials that were ever issued, that are voided, and that are free on the later of
--- the day and the day of the history.
+-- The numbers of serials that were ever issued, are voided, and are free. Free is counted on the
+-- later of the day and the day of the history.
 unfoldable pub usage_of : List Entry → Range → ℕ → ℕ → Usage
 usage_of h r day interval =
     record {

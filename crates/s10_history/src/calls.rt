@@ -54,6 +54,7 @@ fn voids_id(entry: &Entry, id: &Id) -> bool
     }
 }
 
+/// Returns whether a Void of the identifier was done after call number `arrival`.
 pub(crate) fn is_voided_after(entries: &[Entry], arrival: u32, id: &Id) -> bool
     ensures { result ≡ voided_after arrival entries.now id.now }
 {

@@ -29,6 +29,7 @@ fn last_issuance_in(issues: &[Issuance], id: &Id) -> Option<Issuance>
     found
 }
 
+/// Returns whether an identifier is among the issuances.
 pub(crate) fn was_issued(issues: &[Issuance], id: &Id) -> bool
     ensures { result ≡ is_issued issues.now id.now }
 {

@@ -63,6 +63,7 @@ pub fn id_in_range(range: &Range, serial: u32) -> Id
     }
 }
 
+/// Returns whether an identifier lies in a range.
 pub(crate) fn lies_within(range: &Range, id: &Id) -> bool
     ensures { result ≡ lies_in range.now id.now }
 {

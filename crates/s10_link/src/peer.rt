@@ -24,9 +24,9 @@ impl Peer {
     ///
     /// No number may have a leading zero.
     pub fn read(text: &[u8]) -> Option<Peer>
-        // What is read is what the text spells.
+        // An address that is read is the one that the text spells.
         ensures spelled { IfSome result (SpellsPeer text.now) }
-        // What the text spells is read.
+        // A text that spells an address is read as that address.
         ensures read { (p : Peer) → SpellsPeer text.now p → result ≡ Some p }
     {
         let (a, rest) = octet_before(b'.', text)?;

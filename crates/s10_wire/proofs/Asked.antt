@@ -1,4 +1,4 @@
--- A datagram asks at most one request, and a request is refused for nothing.
+-- A datagram asks at most one request, and bytes that ask one are not refused.
 use Rattle.std.proofs.Common.{◌≡◌, ℕ, ◌+◌, ◌^◌, ◌<◌, true, List, [], ◌∷◌, ◌++◌, length, take, drop}
 use Rattle.std.proofs.Common.{None, Result, Ok, Err, refl, sym, ap, ◌∙◌, arith}
 use Rattle.std.specs.Prelude.{IfOk, IfErr, nat_lt, if◌then◌else◌, ◌==◌}
@@ -181,7 +181,7 @@ asked_is_read b (Err fault) found refused q asks =
     ap (λ (x : List ℕ). first_refusal (request_refusals x)) asks.1 ∙ not_refused q asks.0 in
     absurd cc
 
--- Bytes that are refused ask nothing.
+-- Bytes that are refused ask no request.
 pub refused_asks_nothing : (b : List ℕ) (r : Result Request WireFault)
     → result_err r ≡ first_refusal (request_refusals b)
     → IfErr r (λ fault. (q : Request) → ¬ Asks b q)

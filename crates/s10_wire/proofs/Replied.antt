@@ -1,4 +1,4 @@
--- A datagram is at most one reply, and a reply is refused for nothing.
+-- A datagram is at most one reply, and bytes that are one are not refused.
 use Rattle.std.proofs.Common.{Bool, true, cond, Some, ltb, eqb, ◌≡◌, ℕ, ◌+◌, ◌*◌, ◌/◌, List, []}
 use Rattle.std.proofs.Common.{◌++◌, length, drop, None, Result, Ok, Err, refl, sym, ap, ◌∙◌, arith}
 use Rattle.std.proofs.Common.{append-nil}
@@ -221,7 +221,7 @@ replied_is_read b (Ok reply) found refused q o replies = one_reply b reply.reque
 replied_is_read b (Err fault) found refused q o replies =
     let none : first_refusal (reply_refusals b) ≡ None = reply_unrefused b q o replies in absurd cc
 
--- Bytes that are refused reply to nothing.
+-- Bytes that are refused are not a reply.
 pub refused_replies_nothing : (b : List ℕ) (r : Result Reply WireFault)
     → result_err r ≡ first_refusal (reply_refusals b)
     → IfErr r (λ fault. (q : Request) (o : Outcome) → ¬ Replies b q o)

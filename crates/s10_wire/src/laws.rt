@@ -23,7 +23,8 @@ use crate::wire_fault::WireFault;
 /// States that a request and a reply have one datagram each, and that bytes ask at most one request
 /// and are at most one reply.
 ///
-/// A datagram of a request is refused for nothing, and neither is one of a reply.
+/// Bytes that ask a request are not refused as a request, and bytes that are a reply are not
+/// refused as a reply.
 pub fn one_datagram_each()
     ensures one_request { (b : List ℕ) (p q : Request) → Asks b p → Asks b q → p ≡ q }
     ensures one_datagram { (a b : List ℕ) (q : Request) → Asks a q → Asks b q → a ≡ b }

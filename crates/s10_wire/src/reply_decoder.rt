@@ -169,13 +169,13 @@ fn reply_of(bytes: &[u8]) -> Result<Reply, WireFault>
 /// - `Field` if a field is wrong: the offset of the leftmost one.
 /// - `Outcome` if the outcome byte does not fit the kind.
 pub fn decode_reply(bytes: &[u8]) -> Result<Reply, WireFault>
-    // What is read is what the bytes reply.
+    // A decoded reply is the one that the bytes are.
     ensures found { IfOk result (λ reply. Replies bytes.now (request_of reply) (outcome_of reply)) }
-    // What the bytes reply is read.
+    // Bytes that are a reply are decoded as that reply.
     ensures replied { (q : Request) (o : Outcome) → Replies bytes.now q o
         → IsOkAnd result (λ reply. (request_of reply ≡ q) × (outcome_of reply ≡ o)) }
     ensures refused { IfErr result (IsFirstRefusalOfReply bytes.now) }
-    // Bytes that are refused reply nothing.
+    // Bytes that are refused are not a reply.
     ensures nothing { IfErr result (λ fault. (q : Request) (o : Outcome)
         → ¬ Replies bytes.now q o) }
 {

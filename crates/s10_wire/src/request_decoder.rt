@@ -164,12 +164,12 @@ fn request_of(bytes: &[u8]) -> Result<Request, WireFault>
 /// - `Length` if the length is not that of the kind.
 /// - `Field` if a field is wrong: the offset of the leftmost one.
 pub fn decode_request(bytes: &[u8]) -> Result<Request, WireFault>
-    // What is read is what the bytes ask.
+    // A decoded request is the one that the bytes ask.
     ensures found { IfOk result (Asks bytes.now) }
-    // What the bytes ask is read.
+    // Bytes that ask a request are decoded as that request.
     ensures asked { (q : Request) → Asks bytes.now q → result ≡ Ok q }
     ensures refused { IfErr result (IsFirstRefusalOfRequest bytes.now) }
-    // Bytes that are refused ask nothing.
+    // Bytes that are refused ask no request.
     ensures nothing { IfErr result (λ fault. (q : Request) → ¬ Asks bytes.now q) }
 {
     request_of(bytes)
