@@ -1,6 +1,6 @@
 use thiserror::Error;
 
-/// Why a call of a book failed. Such a call changes nothing but the fault counts.
+/// Why a call of a book failed. Such a call changes nothing of an honest book but the fault counts.
 #[derive(Clone, Copy, Debug, PartialEq, Eq, Error)]
 pub enum BookFault {
     /// Memory that the call needed was refused.

@@ -91,7 +91,7 @@ pub fn sheets_are_successive_draws()
         service country day interval ≡ Outcome.Drawn day x }
 {}
 
-/// States that no identifier occurs twice in the reply to a DrawMany.
+/// States that in a legal history no identifier occurs twice in the reply to a DrawMany.
 pub fn never_twice()
     ensures { (h : List Entry) (t : Terms) (e : Entry) → IsLegal h t → 1 ≤ t.interval
         → MayFollow h t e → (day : ℕ) (ids : List Id)

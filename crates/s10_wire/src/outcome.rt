@@ -27,7 +27,8 @@ pub enum Outcome {
     Overlap,
     /// A Draw or a DrawMany of a customer without an open range of that service and country.
     NoRange,
-    /// A Draw or a DrawMany for which these ranges do not have enough free identifiers.
+    /// A Draw or a DrawMany for which the customer's open ranges do not have enough free
+    /// identifiers.
     NoneFree,
     /// A Void or a Query of an identifier outside the customer's ranges.
     NotYours,
