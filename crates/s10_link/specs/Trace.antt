@@ -17,8 +17,8 @@ new_trace = record {
   given = None;
 }
 
--- A trace is counted if each call is at most one of a failure, a send and a received datagram, and
--- `alike` is at most the number of sends.
+-- A trace is counted if each call is at most one of a failure, a send and a received datagram.
+-- Also, `alike` is at most the number of sends.
 pub record IsCounted (t : Trace) : Type 0 where
   pub each : t.failures + t.sends + t.received ≤ t.calls
   pub run : t.alike ≤ t.sends
