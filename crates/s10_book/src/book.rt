@@ -128,12 +128,12 @@ pub trait Book {
     ///
     /// - `Memory` if memory is refused.
     /// - `Store` if the store fails.
-    fn covering(&mut self, block: &SerialSpan) -> Result<Option<Range>, BookFault>
+    fn covering(&mut self, span: &SerialSpan) -> Result<Option<Range>, BookFault>
         ensures faults { CountsResult result (faults self.old) (faults self.new) }
         ensures unchanged { Unchanged history terms honest self.old self.new }
         ensures answer { honest self.new
             → IfOk result (λ found. found
-            ≡ find (overlaps block.now.service block.now.country block.now.first block.now.last)
+            ≡ find (overlaps span.now.service span.now.country span.now.first span.now.last)
             (ranges_of (history self.old))) };
 
     /// Returns the last issue of an identifier, if it was ever issued.

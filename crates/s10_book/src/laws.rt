@@ -157,7 +157,7 @@ pub fn successive_candidates()
     ensures { (h : List Entry) (t : Terms) (r : Range) (issued : ℕ) → IsLegal h t
         → Contains (ranges_of h) r
         → let serial = serial_after_steps r (pick_of (issues_of h) r) issued in
-        let behind : Candidate =
+        let later : Candidate =
         record { serial = serial; issue = last_issue_of h (id_at r serial) } in
-        candidate_after_of h r issued ≡ behind }
+        candidate_after_of h r issued ≡ later }
 {}

@@ -205,13 +205,13 @@ impl Book for PlainBook {
         Ok(next_range_in(&self.entries, &self.ranges, held, after))
     }
 
-    fn covering(&mut self, block: &SerialSpan) -> Result<Option<Range>, BookFault>
+    fn covering(&mut self, span: &SerialSpan) -> Result<Option<Range>, BookFault>
         ensures same { self.new ≡ self.old }
         ensures answer { result
-            ≡ Ok (find (overlaps block.now.service block.now.country block.now.first block.now.last)
+            ≡ Ok (find (overlaps span.now.service span.now.country span.now.first span.now.last)
             (ranges_of (⟦<PlainBook as Book>⟧.history self.old))) }
     {
-        Ok(covering_in(&self.ranges, block))
+        Ok(covering_in(&self.ranges, span))
     }
 
     fn last_issue(&mut self, id: &Id) -> Result<Option<Issue>, BookFault>

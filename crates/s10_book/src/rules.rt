@@ -100,8 +100,8 @@ fn owns<B: Book>(book: &mut B, customer: u32, id: &Id) -> Result<bool, BookFault
         → IfOk result (λ b. b ≡ list_any (is_own customer id.now)
         (ranges_of (B.history book.old))) }
 {
-    let block = SerialSpan::of(id);
-    match book.covering(&block)? {
+    let span = SerialSpan::of(id);
+    match book.covering(&span)? {
         None => Ok(false),
         Some(range) => Ok(range.holder == customer),
     }
@@ -212,8 +212,8 @@ fn known_status<B: Book>(book: &mut B, id: &Id) -> Result<Status, BookFault>
     ensures answer { B.honest book.new
         → IfOk result (λ s. s ≡ status_of (B.history book.old) id.now) }
 {
-    let block = SerialSpan::of(id);
-    let found = book.covering(&block)?;
+    let span = SerialSpan::of(id);
+    let found = book.covering(&span)?;
     if found.is_none() {
         return Ok(Status::Unknown);
     }

@@ -125,11 +125,11 @@ impl<B: Book> Book for TripBook<B> {
         self.inner.next_range(held, after)
     }
 
-    fn covering(&mut self, block: &SerialSpan) -> Result<Option<Range>, BookFault> {
+    fn covering(&mut self, span: &SerialSpan) -> Result<Option<Range>, BookFault> {
         if self.trips() {
             return Err(BookFault::Store);
         }
-        self.inner.covering(block)
+        self.inner.covering(span)
     }
 
     fn last_issue(&mut self, id: &Id) -> Result<Option<Issue>, BookFault> {

@@ -10,10 +10,10 @@ pub enum TextFault {
     #[error("an identifier has 13 characters")]
     Length,
     /// The leftmost wrong place, 0, 1, 11 or 12, needs a letter from A to Z.
-    #[error("place {0} wants a letter from A to Z")]
+    #[error("place {0} needs a letter from A to Z")]
     Letter(u8),
     /// The leftmost wrong place, 2 to 10, needs a digit.
-    #[error("place {0} wants a digit")]
+    #[error("place {0} needs a digit")]
     Digit(u8),
     /// The check digit is not that of the serial number.
     #[error("the check digit is not that of the serial number")]

@@ -41,13 +41,13 @@ pub fn next_range_in(
 }
 
 /// Returns the first range that has a serial of the span, if there is one.
-pub fn covering_in(ranges: &[Range], block: &SerialSpan) -> Option<Range>
-    ensures { result ≡ find (overlaps block.now.service block.now.country block.now.first
-        block.now.last) ranges.now }
+pub fn covering_in(ranges: &[Range], span: &SerialSpan) -> Option<Range>
+    ensures { result ≡ find (overlaps span.now.service span.now.country span.now.first
+        span.now.last) ranges.now }
 {
     ranges
         .iter()
-        .find(|r| r.overlaps(block.service, block.country, block.first, block.last))
+        .find(|r| r.overlaps(span.service, span.country, span.first, span.last))
         .copied()
 }
 

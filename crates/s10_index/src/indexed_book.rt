@@ -174,16 +174,16 @@ impl Book for IndexedBook {
         Ok(next)
     }
 
-    fn covering(&mut self, block: &SerialSpan) -> Result<Option<Range>, BookFault>
+    fn covering(&mut self, span: &SerialSpan) -> Result<Option<Range>, BookFault>
         ensures same { self.new ≡ self.old }
         ensures answer { result
-            ≡ Ok (find (overlaps block.now.service block.now.country block.now.first block.now.last)
+            ≡ Ok (find (overlaps span.now.service span.now.country span.now.first span.now.last)
             (ranges_of (⟦<IndexedBook as Book>⟧.history self.old))) }
     {
         let found = self
             .index
             .ranges()
-            .covering_range(block.service, block.country, block.first, block.last);
+            .covering_range(span.service, span.country, span.first, span.last);
         Ok(found)
     }
 

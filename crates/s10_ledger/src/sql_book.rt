@@ -514,7 +514,7 @@ impl<S: Alter> Book for SqlBook<S> {
         Ok(next)
     }
 
-    fn covering(&mut self, block: &SerialSpan) -> Result<Option<Range>, BookFault>
+    fn covering(&mut self, span: &SerialSpan) -> Result<Option<Range>, BookFault>
         ensures faults { CountsResult result self.old.faults self.new.faults }
         ensures unchanged { Unchanged (history_of S.Store) (λ b. b.terms) (IsHonest S.Store)
             self.old self.new }
@@ -522,7 +522,7 @@ impl<S: Alter> Book for SqlBook<S> {
             → OnOk result (IsTrue (state S.Store self.new.conn).is_open) }
         ensures answer { IsHonest S.Store self.new
             → IfOk result (λ found. found
-            ≡ find (overlaps block.now.service block.now.country block.now.first block.now.last)
+            ≡ find (overlaps span.now.service span.now.country span.now.first span.now.last)
             (ranges_of (history_of S.Store self.old))) }
     {
         if let Err(fault) = self.ask_again() {
@@ -531,7 +531,7 @@ impl<S: Alter> Book for SqlBook<S> {
         let found = self
             .index
             .ranges()
-            .covering_range(block.service, block.country, block.first, block.last);
+            .covering_range(span.service, span.country, span.first, span.last);
         Ok(found)
     }
 

@@ -6,7 +6,7 @@ use crate::packet::Packet;
 use s10_wire::Frame;
 
 /// States that a frame has at most 256 bytes, and a packet at most 512.
-pub fn padding_is_zero(frame: &Frame, packet: &Packet)
+pub fn datagrams_fit(frame: &Frame, packet: &Packet)
     ensures frame { length frame.now ≤ 256 }
     ensures packet { length packet.now ≤ 512 }
 {

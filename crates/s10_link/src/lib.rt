@@ -10,7 +10,7 @@ mod receipt;
 mod script_link;
 mod trace;
 
-pub use laws::padding_is_zero;
+pub use laws::datagrams_fit;
 pub use link::Link;
 pub use link_fault::LinkFault;
 pub use packet::Packet;

@@ -18,14 +18,14 @@ first_id [] = record { service = (65, 65); serial = 0; country = (65, 65) }
 first_id (id ∷ ids) = id
 
 -- The identifiers, followed by copies of the first one, 16 in all.
-abbrev pub zero_padded : List Id → List Id
-zero_padded ids = ids ++ replicate (16 - length ids) (first_id ids)
+abbrev pub padded_with_first : List Id → List Id
+padded_with_first ids = ids ++ replicate (16 - length ids) (first_id ids)
 
 -- An array holds `len` identifiers if copies of the first one follow them, 16 in all.
-pub record AreZeroPadded (room : List Id) (len : ℕ) : Type 0 where
+pub record ArePaddedWithFirst (room : List Id) (len : ℕ) : Type 0 where
   pub count : IsCount len
   pub long : length (take len room) ≡ len
-  pub rest : room ≡ zero_padded (take len room)
+  pub rest : room ≡ padded_with_first (take len room)
 
 -- The texts of the identifiers, one after the other.
 abbrev pub spellings_of : List Id → List ℕ

@@ -22,15 +22,15 @@ impl Model for Ids {
     ghost use Rattle.std.specs.Prelude.{List, take, length};
     ghost use Rattle.std.proofs.Common.{sym};
     ghost use Rattle.s10_core.specs.declared.id.Id.{Id};
-    ghost use Rattle.s10_wire.specs.Ids.{AreZeroPadded, zero_padded};
+    ghost use Rattle.s10_wire.specs.Ids.{ArePaddedWithFirst, padded_with_first};
 
     ghost Value = { List Id };
 
     ghost view = { λ ids. take ids.len ids.room };
 
-    ghost invariant = { λ ids. AreZeroPadded ids.room ids.len };
+    ghost invariant = { λ ids. ArePaddedWithFirst ids.room ids.len };
 
-    ghost inverse = { λ list. record { room = zero_padded list; len = length list } };
+    ghost inverse = { λ list. record { room = padded_with_first list; len = length list } };
 
     ghost inverse_ok = { λ ids known i. record { room = sym known.rest i; len = known.long i } };
 }

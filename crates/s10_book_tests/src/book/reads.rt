@@ -92,13 +92,13 @@ fn has_one_range(book: &mut PlainBook) -> bool {
 
 /// Whether the range found over these serials is this.
 fn has_over(book: &mut PlainBook, first: u32, last: u32, range: Option<Range>) -> bool {
-    let block = SerialSpan {
+    let span = SerialSpan {
         service: ra(),
         country: gb(),
         first: serial(first),
         last: serial(last),
     };
-    book.covering(&block) == Ok(range)
+    book.covering(&span) == Ok(range)
 }
 
 /// Whether the first range gives this serial next, which was issued last so.

@@ -91,8 +91,8 @@ fn next_range<B: Book>(book: &mut B, id: &Id) -> Result<(), BookFault> {
 }
 
 fn covering<B: Book>(book: &mut B, id: &Id) -> Result<(), BookFault> {
-    let block = SerialSpan::of(id);
-    told(book.covering(&block))
+    let span = SerialSpan::of(id);
+    told(book.covering(&span))
 }
 
 /// What a new request of customer or post would be answered.

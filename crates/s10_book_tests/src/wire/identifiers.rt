@@ -126,8 +126,8 @@ fn the_first_letter_names_the_group(rt: HostRuntime) {
 
 const TEXTS: &[(TextFault, &str)] = &[
     (TextFault::Length, "an identifier has 13 characters"),
-    (TextFault::Letter(11), "place 11 wants a letter from A to Z"),
-    (TextFault::Digit(2), "place 2 wants a digit"),
+    (TextFault::Letter(11), "place 11 needs a letter from A to Z"),
+    (TextFault::Digit(2), "place 2 needs a digit"),
     (
         TextFault::CheckDigit,
         "the check digit is not that of the serial number",

@@ -316,13 +316,13 @@ fn has_after<B: Book>(book: &mut B, holder: u32, after: u32, is_there: bool) -> 
 
 /// Whether the range over these serials is the first, or none.
 fn has_over<B: Book>(book: &mut B, first: u32, last: u32, is_there: bool) -> bool {
-    let block = SerialSpan {
+    let span = SerialSpan {
         service: ra(),
         country: gb(),
         first: serial(first),
         last: serial(last),
     };
-    is_first(&book.covering(&block), is_there)
+    is_first(&book.covering(&span), is_there)
 }
 
 /// Whether the first range gives this serial next, which was issued last so.

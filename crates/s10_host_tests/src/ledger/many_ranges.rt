@@ -66,7 +66,7 @@ fn draws_are_alike<A: Book, B: Book>(one: &mut A, other: &mut B, draws: u32) -> 
 fn range_is_alike<A: Book, B: Book>(one: &mut A, other: &mut B, place: u32) -> bool
     requires { place ≤ 2000 }
 {
-    let block = SerialSpan {
+    let span = SerialSpan {
         service: ra(),
         country: gb(),
         first: serial(place * 10 + 5),
@@ -78,7 +78,7 @@ fn range_is_alike<A: Book, B: Book>(one: &mut A, other: &mut B, place: u32) -> b
         country: gb(),
     };
     one.range(place) == other.range(place)
-        && one.covering(&block) == other.covering(&block)
+        && one.covering(&span) == other.covering(&span)
         && one.next_range(&held, place) == other.next_range(&held, place)
 }
 

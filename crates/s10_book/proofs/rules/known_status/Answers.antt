@@ -11,7 +11,7 @@ pub returns-then-is_none-clause-answer : goal.returns-then-is_none-clause-answer
 returns-then-is_none-clause-answer g c = λ h.
     sym (status_at (g.B.Book.history c.args.book.now) c.args.id.now false
     (lies_any c.args.id.now (ranges_of (g.B.Book.history c.args.book.now)) c.in_ok-found.found false
-    (rw c.of-block.ensures at c.in_ok-found.ensures.answer h) (c.is_none.ensures
+    (rw c.of-span.ensures at c.in_ok-found.ensures.answer h) (c.is_none.ensures
     ∙ ap not c.if-is_none.true)))
 
 pub returns-clause-answer : goal.returns-clause-answer
@@ -21,7 +21,7 @@ returns-clause-answer g c = λ h.
     ≡ status_of_issue (last_issue_of (g.B.Book.history c.args.book.now) c.args.id.now) =
     status_at (g.B.Book.history c.args.book.now) c.args.id.now true
     (lies_any c.args.id.now (ranges_of (g.B.Book.history c.args.book.now)) c.in_ok-found.found true
-    (rw c.of-block.ensures at c.in_ok-found.ensures.answer h1) (c.is_none.ensures
+    (rw c.of-span.ensures at c.in_ok-found.ensures.answer h1) (c.is_none.ensures
     ∙ ap not c.if-is_none.false)) in
     IfOk-weaker c.issue_status.result _ _
     (λ s e. e ∙ ap (λ l. status_of_issue (last_issue_of l c.args.id.now))

@@ -6,6 +6,6 @@ use Rattle.s10_history.proofs.ranges.covering_in.Goals as goal
 
 pub returns : goal.returns
 returns c = c.copied.ensures
-    ∙ find_from_yields_List (overlaps c.args.block.now.service c.args.block.now.country
-    c.args.block.now.first c.args.block.now.last) _ _ c.find.result c.find.ensures.ran
+    ∙ find_from_yields_List (overlaps c.args.span.now.service c.args.span.now.country
+    c.args.span.now.first c.args.span.now.last) _ _ c.find.result c.find.ensures.ran
     (YieldsList-from_slice c.args.ranges.now cc) (λ x b q k. search (rules, tests))

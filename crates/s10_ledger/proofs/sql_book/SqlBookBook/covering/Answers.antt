@@ -9,9 +9,9 @@ pub returns-clause-answer : goal.returns-clause-answer
 returns-clause-answer g c =
     let kept = rw (← c.self.view_is) at c.ask_again.ensures.unchanged in
     rw (← c.self.view_is) (λ honest. c.covering_range-found.ensures
-    ∙ ap (find (overlaps c.args.block.now.service c.args.block.now.country
-    c.args.block.now.first c.args.block.now.last)) (ap (λ (r : Ranges). r.ranges.items)
+    ∙ ap (find (overlaps c.args.span.now.service c.args.span.now.country
+    c.args.span.now.first c.args.span.now.last)) (ap (λ (r : Ranges). r.ranges.items)
     c.ranges-2.ensures
     ∙ (c.self.invariant.followed honest.clean honest.is_open).indexed.ranges.ranges)
-    ∙ ap (λ (h : List Entry). find (overlaps c.args.block.now.service c.args.block.now.country
-    c.args.block.now.first c.args.block.now.last) (ranges_of h)) (kept.same_history honest))
+    ∙ ap (λ (h : List Entry). find (overlaps c.args.span.now.service c.args.span.now.country
+    c.args.span.now.first c.args.span.now.last) (ranges_of h)) (kept.same_history honest))
