@@ -77,9 +77,9 @@ def public_functions():
     return sum(has_clause(lines, head) for lines in sources(folders()) for head in public_heads(lines))
 
 
-def headline_counts():
+def theorem_counts():
     """The numbers of checks/definition_lines.py: of both functions together, and of each."""
-    each, (clause_lines, both) = definition_lines.headline()
+    each, (clause_lines, both) = definition_lines.main_theorem()
     counts = {
         "clause-lines": clause_lines,
         "definitions": len(both.definitions),
@@ -104,7 +104,7 @@ def counts():
         "wrong-bodies": len(list(CRATES.glob("*/must-fail/*.edit"))),
         "tests": tests(),
         "public-functions": public_functions(),
-        **headline_counts(),
+        **theorem_counts(),
     }
 
 

@@ -1,5 +1,5 @@
 #!/usr/bin/env python3
-"""Counts the lines of definitions that a reader must read to know what the headline says: the definitions in specs/ that the
+"""Counts the lines of definitions that a reader must read to know what the main theorem says: the definitions in specs/ that the
 clauses of Server::run and of World::run cite, and those that these cite in turn.
 
     python3 checks/definition_lines.py           how many definitions and lines, for each function and for both
@@ -102,7 +102,7 @@ def clauses_of(crate, file, function):
     return [line for line in lines if line.strip() and not line.strip().startswith("//")], scope_of(text)
 
 
-def headline():
+def main_theorem():
     """For each function its clauses' lines and what they cite; and the same for both together."""
     both, clause_lines, each = Cited(), 0, []
     for crate, file, function in FUNCTIONS:
@@ -124,7 +124,7 @@ def print_names(cited):
 
 
 def main():
-    each, (clause_lines, both) = headline()
+    each, (clause_lines, both) = main_theorem()
     for function, lines, cited in each:
         print(f"{function}: {lines} lines of clauses, {len(cited.definitions)} definitions of {cited.lines()} lines")
     print(f"both: {clause_lines} lines of clauses, {len(both.definitions)} definitions of {both.lines()} lines,", end=" ")
