@@ -1,7 +1,7 @@
 pub mod Orders
 pub mod Found
 pub mod Pairs
-pub mod Holding
+pub mod HeldOrder
 pub mod Placing
 pub mod Pushing
 pub mod Leasts

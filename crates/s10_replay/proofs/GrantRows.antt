@@ -22,7 +22,7 @@ use Rattle.s10_rows.specs.declared.range_write.RangeWrite.TheVariants.{New}
 use Rattle.s10_rows.specs.Tables.{range_row, range_rows, serial_rows}
 use Rattle.s10_rows.specs.RowWrites.{MakesWrites}
 use Rattle.s10_rows.proofs.Replaced.{same_rows}
-use Rattle.s10_replay.proofs.MadeRows.{same_issues, same_serial_rows, none_voided}
+use Rattle.s10_replay.proofs.RowsAfterCall.{same_issues, same_serial_rows, none_voided}
 
 granted_parts : (b1 b2 b3 : Bool) (n m : ℕ)
     → cond b1 NotThePost (cond b2 BadGrant (cond b3 Overlap (Granted n))) ≡ Granted m → n ≡ m

@@ -50,7 +50,7 @@ use Rattle.s10_replay.proofs.LastIssues.{none_filter, last_of, All-last_issues}
 use Rattle.s10_replay.proofs.SerialRows.{issues_at_fit, issues_of_fit, row_of_is, filter_image}
 use Rattle.s10_rows.proofs.Replaced.{same_images, map_twice, images_agree, all_left, same_rows}
 use Rattle.s10_replay.proofs.CallIssues.{IsIssueAt, issue_at, pick_moved, before_more}
-use Rattle.s10_replay.proofs.MadeRows.{row_in, same_row_in, same_ranges, none_made, none_voided}
+use Rattle.s10_replay.proofs.RowsAfterCall.{row_in, same_row_in, same_ranges, none_made, none_voided}
 
 -- the number of a range tells its place
 num_at : (n : ℕ) (r : Range) (rs : List Range) → Numbered n rs → (there : Contains rs r)

@@ -13,7 +13,7 @@ pub mod Sums
 pub mod Usage
 pub mod Replayed
 pub mod Compared
-pub mod MadeRows
+pub mod RowsAfterCall
 pub mod GrantRows
 pub mod CallIssues
 pub mod IssueRows

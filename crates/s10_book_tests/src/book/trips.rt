@@ -49,7 +49,7 @@ const QUESTIONS: &[(&str, Question, u64)] = &[
     ("next range", Question::Read(Read::NextRange), 1),
     ("covering", Question::Read(Read::Covering), 1),
     ("last issue", Question::Read(Read::LastIssue), 1),
-    ("settle", Question::GroupCommit, 1),
+    ("commit", Question::GroupCommit, 1),
     ("candidate", Question::Candidate, 2),
     ("sheet", Question::Sheet, 2),
     ("usage", Question::Usage, 3),

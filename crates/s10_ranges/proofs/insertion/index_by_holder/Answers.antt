@@ -1,4 +1,4 @@
-use Rattle.s10_ranges.proofs.Holding.{held_apart}
+use Rattle.s10_ranges.proofs.HeldOrder.{held_apart}
 use Rattle.s10_ranges.proofs.insertion.index_by_holder.Goals as goal
 
 pub returns-clause-above : goal.returns-clause-above

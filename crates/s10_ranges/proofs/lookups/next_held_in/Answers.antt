@@ -1,6 +1,6 @@
 use Rattle.std.proofs.Common.{arith, ◌∙◌, ◌+◌, ◌<◌, sym, ap, length}
 use Rattle.s10_ranges.specs.Keys.{holder_key}
-use Rattle.s10_ranges.proofs.Holding.{IsCut, held_past, held_found, held_missed}
+use Rattle.s10_ranges.proofs.HeldOrder.{IsCut, held_past, held_found, held_missed}
 use Rattle.s10_ranges.proofs.lookups.next_held_in.Goals as goal
 
 pub returns-then-at-by_holder : goal.returns-then-at-by_holder
