@@ -1,4 +1,4 @@
--- The numbers that ranges are sorted by.
+-- Defines the numbers by which ranges are sorted.
 use Rattle.std.specs.Prelude.{ℕ, ◌+◌, ◌*◌, ◌++◌}
 use Rattle.std.specs.Int.{w32, from_be_bytes}
 use Rattle.s10_core.specs.Letters.{AreCapitals, letters_of}
@@ -7,26 +7,27 @@ use Rattle.s10_history.specs.declared.range.Range.{Range}
 use Rattle.s10_ranges.specs.declared.sort_key.SortKey.{SortKey}
 use Rattle.s10_ranges.specs.declared.sort_key.SortKey.TheVariants.{First, Last, Holder}
 
--- the four bytes of service and country as a big-endian number
+-- The four bytes of service and country as a big-endian number.
 unfoldable pub pair_of : ℕ × ℕ → ℕ × ℕ → ℕ
 pair_of service country = from_be_bytes w32 (letters_of service ++ letters_of country)
 
--- the pair, and after it the serial
+-- The pair in the upper 32 bits, and the serial in the lower 32 bits.
 unfoldable pub serial_key : ℕ × ℕ → ℕ × ℕ → ℕ → ℕ
 serial_key service country serial = pair_of service country * 4294967296 + serial
 
--- the holder, after it the pair, and after that the number
+-- The holder, the pair and the range number as digits in base 2^32, in this order.
 unfoldable pub holder_key : ℕ → ℕ × ℕ → ℕ × ℕ → ℕ → ℕ
 holder_key holder service country num =
     (holder * 4294967296 + pair_of service country) * 4294967296 + num
 
--- the number of a range by which it is sorted
+-- The number by which a range is sorted.
 abbrev pub key_by : SortKey → Range → ℕ
 key_by First r = serial_key r.service r.country r.first
 key_by Last r = serial_key r.service r.country r.last
 key_by Holder r = holder_key r.holder r.service r.country r.num
 
--- the parts of a range are in theirs
+-- A range is fitting if its service and country are capital letters and both serials are in their
+-- bounds.
 pub record IsFitting (r : Range) : Type 0 where
   pub service : AreCapitals r.service
   pub country : AreCapitals r.country

@@ -1,22 +1,23 @@
--- Places of ranges in an order of their own.
+-- Defines sorted orders of ranges, given by their indices.
 use Rattle.std.specs.Prelude.{◌≡◌, ℕ, ◌<◌, ◌≤◌, List, length, Option, Some, None, slice_index}
 use Rattle.std.specs.Prelude.{slice_index_or}
 use Rattle.s10_history.specs.declared.range.Range.{Range}
 
--- the range whose place is the j-th of the order
+-- The range whose index is at position j of the order, or the default if there is none.
 abbrev pub range_at : List Range → List ℕ → ℕ → Range → Range
 range_at rs order j d = slice_index_or rs (slice_index order j) d
 
--- each is the place of a range
+-- Each element of the order is the index of a range.
 abbrev pub AreIndices : List Range → List ℕ → Type 0
 AreIndices rs order = (j : ℕ) → j < length order → slice_index order j < length rs
 
--- the key goes up along the order
+-- The keys rise strictly along the order.
 abbrev pub IsRising : (Range → ℕ) → List Range → List ℕ → Type 0
 IsRising key rs order = (i j : ℕ) (d : Range) → i < j → j < length order
     → key (range_at rs order i d) < key (range_at rs order j d)
 
--- the places of all ranges, so that each ends before the next one begins
+-- An order has each index of a range once, and each range ends (high) before the next one begins
+-- (low).
 pub record IsOrder (low high : Range → ℕ) (rs : List Range) (order : List ℕ) : Type 0 where
   pub size : length order ≡ length rs
   pub places : AreIndices rs order
@@ -24,7 +25,7 @@ pub record IsOrder (low high : Range → ℕ) (rs : List Range) (order : List �
       < low (range_at rs order j d)
   pub all : (k : ℕ) → k < length rs → ((j : ℕ) → j < length order → slice_index order j ≡ k → ⊥) → ⊥
 
--- the least of those from start up to end, if there are any
+-- The least index from position start up to, but without, end: none if that part is empty.
 abbrev pub IsLeastIn : List ℕ → ℕ → ℕ → Option ℕ → Type 0
 IsLeastIn order start end None = end ≤ start
 IsLeastIn order start end (Some m) =

@@ -1,9 +1,9 @@
--- Room for a further range.
+-- Defines when memory is reserved for one more range.
 use Rattle.std.specs.Prelude.{◌<◌, vec_len, vec_capacity}
 use Rattle.std.specs.HashSet.{spare}
 use Rattle.s10_ranges.specs.declared.ranges.Ranges.{Ranges}
 
--- each of the four lists has room for one more, and so have the closed ranges
+-- Each of the four lists, and the set of closed ranges, has memory for one more element.
 pub record HasRoom (r : Ranges) : Type 0 where
   pub ranges : vec_len r.ranges < vec_capacity r.ranges
   pub marks : vec_len r.marks < vec_capacity r.marks

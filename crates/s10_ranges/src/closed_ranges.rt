@@ -1,4 +1,4 @@
-//! The closed ranges in memory.
+//! The numbers of the closed ranges, held in memory.
 
 ghost use Rattle.std.specs.Prelude.{◌≡◌, ◌<◌, ◌++◌, ◌∷◌, [], List, OnOk};
 ghost use Rattle.std.specs.HashSet.{spare};
@@ -11,14 +11,15 @@ use s10_wire::{Body, Outcome};
 use std::alloc::{AllocError, Global};
 use std::collections::HashSet;
 
-/// The numbers of the ranges that are closed.
+/// The numbers of the closed ranges of a history.
 #[derive(Drop)]
 pub struct ClosedRanges {
+    /// Range numbers, from 1, in no order.
     numbers: HashSet<u32>,
 }
 
 impl ClosedRanges {
-    /// None is closed.
+    /// Creates an empty set: no range is closed.
     pub fn new(alloc: Global) -> ClosedRanges
         ensures { HasClosed result [] }
     {
@@ -27,7 +28,11 @@ impl ClosedRanges {
         }
     }
 
-    /// Makes room for one more.
+    /// Reserves memory for one more closed range. The set stays the same.
+    ///
+    /// # Errors
+    ///
+    /// `AllocError` if the memory cannot be allocated.
     pub fn reserve(&mut self) -> Result<(), AllocError>
         ensures same { (h : List Entry) → HasClosed self.old h → HasClosed self.new h }
         ensures room { OnOk result (0 < spare self.new.numbers) }
@@ -35,7 +40,10 @@ impl ClosedRanges {
         self.numbers.reserve(1)
     }
 
-    /// Adds the range that a kept call closes, if it closes one. There is room for it.
+    /// Adds the range that the call closes, if the call is a Done Withdraw. Otherwise changes
+    /// nothing.
+    ///
+    /// Requires memory reserved for one more closed range.
     pub fn follow(&mut self, entry: &Entry)
         requires room { 0 < spare self.old.numbers }
         ensures { (h : List Entry) → HasClosed self.old h
@@ -49,7 +57,7 @@ impl ClosedRanges {
         }
     }
 
-    /// Whether the range of that number is closed.
+    /// Returns whether the range with the number `num` is closed.
     pub fn has(&self, num: u32) -> bool
         ensures { (h : List Entry) → HasClosed self.now h → result ≡ is_closed h num }
     {

@@ -1,4 +1,4 @@
-//! The place of a new range in each order.
+//! The position of a new range in each order.
 
 ghost use Rattle.std.specs.Prelude.{◌≡◌, ℕ, ◌+◌, ◌≤◌, ◌<◌, length, find, None};
 ghost use Rattle.s10_history.specs.declared.range.Range.{Range};
@@ -13,7 +13,7 @@ use crate::order::first_at;
 use crate::sort_key::SortKey;
 use s10_history::Range;
 
-// After all ranges that end before it, and before all others.
+// Returns the position after all ranges that end before `range` begins, and before all others.
 pub(crate) fn index_by_serial(ranges: &[Range], by_serial: &[u32], range: &Range) -> usize
     requires sound { AreSound ranges.now }
     requires placed { IsOrder (key_by First) (key_by Last) ranges.now by_serial.now }
@@ -32,7 +32,7 @@ pub(crate) fn index_by_serial(ranges: &[Range], by_serial: &[u32], range: &Range
     first_at(ranges, by_serial, SortKey::Last, start)
 }
 
-// After all ranges of a lower holder, pair or number, and before all others.
+// Returns the position after all ranges of a lower holder, pair or number, and before all others.
 pub(crate) fn index_by_holder(ranges: &[Range], by_holder: &[u32], range: &Range) -> usize
     requires sound { AreSound ranges.now }
     requires held { IsOrder (key_by Holder) (key_by Holder) ranges.now by_holder.now }

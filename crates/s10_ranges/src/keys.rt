@@ -1,4 +1,4 @@
-//! The numbers that ranges are sorted by.
+//! The numbers by which ranges are sorted.
 
 ghost use Rattle.std.specs.Prelude.{◌≡◌, ◌≤◌, ◌<◌, ◌^◌};
 ghost use Rattle.s10_core.specs.Letters.{AreCapitals};
@@ -9,7 +9,7 @@ use crate::sort_key::SortKey;
 use s10_core::{Country, Serial, Service};
 use s10_history::Range;
 
-// The four letters as a big-endian number.
+// Returns the four letters as a big-endian number.
 fn pair_number(service: Service, country: Country) -> u32
     ensures value { result ≡ pair_of service country }
     ensures service { AreCapitals service }
@@ -20,7 +20,7 @@ fn pair_number(service: Service, country: Country) -> u32
     u32::from_be_bytes([s0, s1, c0, c1])
 }
 
-// The pair, and after it the serial.
+// Returns the pair in the upper 32 bits and the serial in the lower 32 bits.
 pub(crate) fn serial_sort_key(service: Service, country: Country, serial: Serial) -> u128
     ensures value { result ≡ serial_key service country serial }
     ensures service { AreCapitals service }
@@ -31,7 +31,8 @@ pub(crate) fn serial_sort_key(service: Service, country: Country, serial: Serial
     u128::from(pair_number(service, country)) * 4_294_967_296 + u128::from(serial.value())
 }
 
-// The holder, after it the pair, and after that the number.
+// Returns the holder, the pair and the range number as the digits of one number in base 2^32, in
+// this order.
 pub(crate) fn holder_sort_key(holder: u32, service: Service, country: Country, num: u128) -> u128
     requires { num ≤ 4294967296 }
     ensures value { result ≡ holder_key holder service country num }
@@ -42,7 +43,7 @@ pub(crate) fn holder_sort_key(holder: u32, service: Service, country: Country, n
         + num
 }
 
-// The number of a range by which it is sorted.
+// Returns the sort key of the range.
 pub(crate) fn sort_key_of(by: SortKey, range: &Range) -> u128
     ensures { result ≡ key_by by range.now }
 {
@@ -58,7 +59,7 @@ pub(crate) fn sort_key_of(by: SortKey, range: &Range) -> u128
     }
 }
 
-// What is known of every range: its parts are in theirs.
+// Brings the bounds of the range's service, country and serials into scope.
 pub(crate) fn parts_fit(range: &Range)
     ensures { IsFitting range.now }
 {

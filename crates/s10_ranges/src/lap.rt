@@ -1,8 +1,8 @@
-/// How often a range has given its last serial.
+/// Whether a range has issued its last serial yet.
 #[derive(Clone, Copy, Debug, PartialEq, Eq)]
 pub enum Lap {
-    /// Never: no serial from the mark on has been issued.
+    /// No serial at or after the mark was issued.
     First,
-    /// Once and more: the range has wrapped around, and each of its serials has been issued.
+    /// The mark has wrapped around: every serial of the range was issued at least once.
     Later,
 }

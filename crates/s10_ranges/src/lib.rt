@@ -1,4 +1,5 @@
-//! The ranges of a ledger with their marks, held in memory in the orders in which they are looked up.
+//! The ranges of a ledger with their marks, held in memory and sorted for look-ups by serial and by
+//! holder.
 #![tactic(auto)]
 
 mod closed_ranges;

@@ -1,4 +1,4 @@
-//! Look-ups among ranges by the orders of their places.
+//! Look-ups among ranges by binary search in their orders.
 
 ghost use Rattle.std.specs.Prelude.{◌≡◌, ◌-◌, ◌<◌, ◌==◌, find, slice_get, None};
 ghost use Rattle.s10_history.specs.History.{is_held_after, overlaps};
@@ -32,7 +32,7 @@ pub(crate) fn mark_in(marks: &[Mark], num: u32) -> Option<Mark>
     marks.get(place as usize).copied()
 }
 
-// Whether the range is the customer's, of that service and country, with a number above another.
+// Returns whether the range has a number above `after` and the given holder, service and country.
 fn is_later(range: &Range, after: u32, customer: u32, service: Service, country: Country) -> bool
     ensures { result ≡ is_held_after after customer service country range.now }
 {

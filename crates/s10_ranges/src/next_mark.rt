@@ -1,4 +1,4 @@
-//! The mark after a serial that a range gave.
+//! The mark after a serial that a range issued.
 
 ghost use Rattle.std.specs.Prelude.{◌≡◌, ◌==◌, ◌≤◌, ◌+◌, if◌then◌else◌};
 ghost use Rattle.s10_ranges.specs.Laps.{mark_after};
@@ -8,7 +8,7 @@ use crate::mark::Mark;
 use s10_core::Serial;
 use s10_history::Range;
 
-// The serial after that one of the range: the next, or the first one after the last.
+// Returns the next serial of the range, wrapping from the last to the first.
 fn serial_after(range: &Range, serial: Serial) -> Serial
     requires { serial ≤ range.now.last }
     ensures { result ≡ (if serial == range.now.last then range.now.first else serial + 1) }
@@ -20,7 +20,7 @@ fn serial_after(range: &Range, serial: Serial) -> Serial
     Serial::new(serial.value() + 1).unwrap_or(range.first)
 }
 
-// The mark after a serial that the range gave in that turn.
+// Returns the mark of the range after it issued `serial` in the lap `lap`.
 pub(crate) fn next_mark(range: &Range, lap: Lap, serial: Serial) -> Mark
     requires { serial ≤ range.now.last }
     ensures { result ≡ mark_after range.now lap serial }

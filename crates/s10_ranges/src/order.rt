@@ -1,4 +1,4 @@
-//! Places of ranges in an order of their own.
+//! Ranges in a sorted order, given by their indices.
 
 ghost use Rattle.std.specs.Prelude.{◌≡◌, ℕ, ◌<◌, ◌≤◌, length, MatchOption, slice_index};
 ghost use Rattle.s10_history.specs.declared.range.Range.{Range};
@@ -9,7 +9,7 @@ use crate::keys::sort_key_of;
 use crate::sort_key::SortKey;
 use s10_history::Range;
 
-// How many ranges, in the order, come before the key. By halving.
+// Returns the number of ranges in the order whose key is below `key`, by binary search.
 pub(crate) fn first_at(ranges: &[Range], order: &[u32], by: SortKey, key: u128) -> usize
     requires places { AreIndices ranges.now order.now }
     requires rising { IsRising (key_by by) ranges.now order.now }
@@ -33,7 +33,7 @@ pub(crate) fn first_at(ranges: &[Range], order: &[u32], by: SortKey, key: u128) 
     low
 }
 
-// The least of the places.
+// Returns the least of the indices.
 fn least(places: &[u32]) -> Option<u32>
     ensures { MatchOption result (length places.now ≡ 0) (λ m. ((k : ℕ) → k < length places.now
         → m ≤ slice_index places.now k) × ((k : ℕ) × (k < length places.now)
@@ -42,7 +42,7 @@ fn least(places: &[u32]) -> Option<u32>
     places.iter().copied().min()
 }
 
-// The least of a part of the order.
+// Returns the least index at the positions `start` to `end - 1` of the order.
 pub(crate) fn least_in(order: &[u32], start: usize, end: usize) -> Option<u32>
     requires { end ≤ length order.now }
     ensures { IsLeastIn order.now start end result }

@@ -1,4 +1,4 @@
-//! Ranges with their marks in memory.
+//! Ranges with their marks, held in memory.
 
 ghost use Rattle.std.specs.Prelude.{◌≡◌, ◌≤◌, ◌<◌, ◌+◌, ◌-◌, ◌==◌, ◌++◌, ◌∷◌, [], length, find};
 ghost use Rattle.std.specs.Prelude.{set, None, OnOk, slice_get};
@@ -20,16 +20,22 @@ use s10_history::{Entry, Range};
 use s10_wire::Outcome;
 use std::alloc::{AllocError, Global};
 
-/// The ranges of a ledger, numbered from 1, each with its mark: the serial that it gives next, and its
-/// turn; and which of them are closed. No two have a serial in common. A look-up takes steps as the logarithm of how many ranges there are, and
-/// `over` besides as many as there are ranges with a serial in common, and `next_open_range` as many times
-/// that as there are closed ranges before the one that it finds.
+/// The ranges of a ledger, each with its mark, and the set of closed ranges.
+///
+/// Ranges are numbered from 1, and no two share a serial. Each binary search takes O(log n) steps
+/// for n ranges. `covering_range` takes one step more per range that overlaps the span.
+/// `next_open_range` makes one search per closed range before the one that it finds.
 #[derive(Drop)]
 pub struct Ranges {
+    /// The ranges in order of their numbers: range n has the index n - 1.
     ranges: Vec<Range>,
+    /// The marks, with the same indices.
     marks: Vec<Mark>,
+    /// The indices of the ranges, sorted by service, country and serials.
     by_serial: Vec<u32>,
+    /// The indices of the ranges, sorted by holder, service, country and number.
     by_holder: Vec<u32>,
+    /// The numbers of the closed ranges.
     closed: ClosedRanges,
     ghost sound: { AreSound ranges.items },
     ghost marked: { length marks.items ≡ length ranges.items },
@@ -50,7 +56,7 @@ impl Ranges {
     ghost use Rattle.s10_ranges.specs.Mirror.{Mirrors, MirrorsAt};
     ghost use Rattle.s10_ranges.specs.Room.{HasRoom};
 
-    /// No ranges.
+    /// Creates an empty list of ranges.
     pub fn new(alloc: Global) -> Ranges
         ensures { Mirrors result [] }
     {
@@ -63,7 +69,11 @@ impl Ranges {
         }
     }
 
-    /// Makes room for one more range.
+    /// Reserves memory for one more range, its mark and its closing. The ranges stay the same.
+    ///
+    /// # Errors
+    ///
+    /// `AllocError` if the memory cannot be allocated.
     pub fn reserve(&mut self) -> Result<(), AllocError>
         ensures same { (h : List Entry) → Mirrors self.old h → Mirrors self.new h }
         ensures room { OnOk result (HasRoom self.new) }
@@ -75,8 +85,8 @@ impl Ranges {
         self.closed.reserve()
     }
 
-    // Adds the next range, for which there is room. It has the next number and no serial in common
-    // with another one.
+    // Adds the range, in reserved memory. Requires that it has the next number and shares no serial
+    // with another range.
     fn push_reserved(&mut self, range: Range, mark: Mark)
         requires room { HasRoom self.old }
         requires few { length self.old.ranges.items < 4294967295 }
@@ -97,8 +107,8 @@ impl Ranges {
         self.marks.push_reserved(mark);
     }
 
-    // Adds the range, where it is the next one and has no serial in common with another: there is room
-    // for it. Leaves the ranges as they are where it is not.
+    // Adds the range, in reserved memory. Changes nothing if its number is not the next one, if it
+    // is empty, or if it shares a serial with another range.
     fn push_next(&mut self, range: Range, mark: Mark)
         requires room { HasRoom self.old }
         ensures next { length self.old.ranges.items < 4294967295
@@ -129,8 +139,9 @@ impl Ranges {
         }
     }
 
-    // Sets the mark of the range of the identifier after its serial: the next, or the first one after
-    // the last, which begins a later turn. Leaves the marks as they are where it lies in no range.
+    // Sets the mark of the identifier's range to the serial after that of the identifier. Wrapping
+    // from the last serial to the first begins the later lap. Changes nothing if the identifier is
+    // in no range.
     fn advance_mark(&mut self, id: &Id)
         ensures ranges { self.new.ranges.items ≡ self.old.ranges.items }
         ensures marks { (r : Range) (m : Mark)
@@ -159,7 +170,7 @@ impl Ranges {
         self.set_mark(range.num, next);
     }
 
-    // Turns the mark of the range of each identifier that a call issued, one after another.
+    // Advances the mark of a range for each identifier that the call issued, in their order.
     fn advance_marks(&mut self, entry: &Entry)
         ensures marks { (h : List Entry) (t : Terms) → IsLegal h t → MayFollow h t entry.now
             → MirrorsAt (ranges_of h) (issues_of h) self.old
@@ -167,14 +178,14 @@ impl Ranges {
         ensures closed { self.new.closed ≡ self.old.closed }
     {
         for place in 0..entry.issued() {
-            // Which arrival the issues have is no matter to a mark.
+            // A mark does not depend on the arrival of the issuance, so 0 will do.
             if let Some(issuance) = entry.issue(0, place) {
                 self.advance_mark(&issuance.id);
             }
         }
     }
 
-    // Adds the range of a Done Grant, and sets the marks after each issue of another call.
+    // Adds the range of a Done Grant. For any other call, advances a mark for each issuance.
     fn follow_made(&mut self, entry: &Entry)
         requires room { HasRoom self.old }
         ensures made { (h : List Entry) (t : Terms) → IsLegal h t → MayFollow h t entry.now
@@ -197,9 +208,12 @@ impl Ranges {
         }
     }
 
-    /// Adds what a kept call makes: the range of a Done Grant, the marks after each issue of another
-    /// call, and the range that a Done Withdraw closes. Where the ranges are not those of a legal history
-    /// that the call may follow, a range that is not the next one, or overlaps another, is left out.
+    /// Follows a kept call: adds the range of a Done Grant, advances the marks for each issuance,
+    /// and closes the range of a Done Withdraw.
+    ///
+    /// Requires memory reserved by `reserve`. If the ranges are not those of a legal history that
+    /// the call may follow, a granted range that lacks the next number, is empty or overlaps
+    /// another is ignored.
     pub fn follow(&mut self, entry: &Entry)
         requires room { HasRoom self.old }
         ensures { (h : List Entry) (t : Terms) → IsLegal h t → MayFollow h t entry.now
@@ -209,7 +223,7 @@ impl Ranges {
         self.closed.follow(entry);
     }
 
-    // Sets the mark of the range of that number.
+    // Sets the mark of the range with the number `num`.
     fn set_mark(&mut self, num: u32, mark: Mark)
         requires from { 0 < num }
         requires to { num ≤ length self.old.ranges.items }
@@ -220,21 +234,21 @@ impl Ranges {
         self.marks[num as usize - 1] = mark;
     }
 
-    /// The ranges, in order of their numbers.
+    /// Returns the ranges, in order of their numbers.
     pub fn all(&self) -> &[Range]
         ensures { result.now ≡ self.now.ranges.items }
     {
         &self.ranges
     }
 
-    /// The marks of the ranges, in the same order.
+    /// Returns the marks of the ranges, in the same order.
     pub fn marks(&self) -> &[Mark]
         ensures { result.now ≡ self.now.marks.items }
     {
         &self.marks
     }
 
-    /// The mark of the range of that number, if there is one.
+    /// Returns the mark of the range with the number `num`, or `None` if there is no such range.
     pub fn mark(&self, num: u32) -> Option<Mark>
         ensures some { 0 < num → result ≡ slice_get self.now.marks.items (num - 1) }
         ensures none { num ≡ 0 → result ≡ None }
@@ -242,21 +256,22 @@ impl Ranges {
         mark_in(&self.marks, num)
     }
 
-    /// The range of that number, if there is one.
+    /// Returns the range with the number `num`, or `None` if there is no such range.
     pub fn range_by_number(&self, num: u32) -> Option<Range>
         ensures { result ≡ find (λ r. r.num == num) self.now.ranges.items }
     {
         range_in(&self.ranges, num)
     }
 
-    /// Whether the range of that number is closed.
+    /// Returns whether the range with the number `num` is closed.
     pub fn is_closed(&self, num: u32) -> bool
         ensures { (h : List Entry) → Mirrors self.now h → result ≡ is_closed h num }
     {
         self.closed.has(num)
     }
 
-    /// The open range of least number above `after` with that holder, service and country, if there is one.
+    /// Returns the open range of least number above `after` with that holder, service and country,
+    /// or `None`.
     pub fn next_open_range(
         &self,
         customer: u32,
@@ -285,8 +300,10 @@ impl Ranges {
         None
     }
 
-    /// The range of least number of that service and country that has a serial in common with `first`
-    /// to `last`, if there is one. Where `first` is above `last` there is none.
+    /// Returns the range of least number with that service and country that has a serial from
+    /// `first` to `last`, or `None`.
+    ///
+    /// Returns `None` if `first` is above `last`.
     pub fn covering_range(
         &self,
         service: Service,

@@ -1,4 +1,4 @@
-/// What the places of ranges are sorted by.
+/// What the indices of ranges are sorted by.
 #[derive(Clone, Copy, Debug, PartialEq, Eq)]
 pub(crate) enum SortKey {
     /// The service, the country and the first serial.
