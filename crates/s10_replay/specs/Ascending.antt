@@ -1,8 +1,8 @@
--- Lists whose elements rise.
+-- Defines when the elements of a list rise.
 use Rattle.std.specs.Prelude.{List, [], ◌∷◌, ⊤}
 use Rattle.std.specs.List.{AllByRecursion}
 
--- each element is below each later one
+-- Each element is below each later one, by the relation R.
 abbrev pub IsAscending : {X : Type 0} → (X → X → Type 0) → List X → Type 0
 IsAscending R [] = ⊤
 IsAscending R (x ∷ xs) = AllByRecursion (R x) xs × IsAscending R xs

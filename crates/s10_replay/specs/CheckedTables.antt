@@ -1,4 +1,4 @@
--- What is found of the rows of the five tables.
+-- Defines what an opening finds of the rows of the five tables.
 use Rattle.std.specs.Prelude.{◌≡◌, ◌≢◌, ℕ, zero, suc, ℤ, pos, List, [], ◌∷◌, length, take}
 use Rattle.std.specs.Prelude.{slice_get, Some, ⊤}
 use Rattle.s10_history.specs.Settings.{Terms, AreTerms}
@@ -13,18 +13,18 @@ use Rattle.s10_rows.specs.Tables.{Tables, HaveSameRows, head_row, range_rows, se
 use Rattle.s10_rows.specs.Tables.{closed_rows}
 use Rattle.s10_replay.specs.RightRows.{IsRightRow, AreRight, kept_of}
 
--- head is one row with that schema number, and with settings in their limits
+-- Head is one row with that schema number, and with settings in their limits.
 pub record IsHead (heads : List HeadRow) (schema : ℤ) (t : Terms) : Type 0 where
   pub row : heads ≡ record (head_row t) { schema = schema } ∷ []
   pub in_limits : AreTerms t
 
--- the rows of ranges, of serials and of closed are those that the kept calls make
+-- The derived rows (ranges, serials and closed) are those of the kept calls.
 pub record AreDerived (tables : Tables) : Type 0 where
   pub ranges : HaveSameRows (range_rows (kept_of tables.calls)) tables.ranges
   pub serials : HaveSameRows (serial_rows (kept_of tables.calls)) tables.serials
   pub closed : HaveSameRows (closed_rows (kept_of tables.calls)) tables.closed
 
--- the rows, those of calls in order of arrival, are a ledger's
+-- The rows, with those of calls in order of arrival, are a ledger's, and the summary is theirs.
 pub record IsConsistent (tables : Tables) (found : LedgerSummary) : Type 0 where
   pub head : IsHead tables.heads (pos 1) found.settings
   pub right : AreRight found.settings tables.calls
@@ -32,14 +32,14 @@ pub record IsConsistent (tables : Tables) (found : LedgerSummary) : Type 0 where
   pub len : found.len ≡ length tables.calls
   pub day : found.day ≡ day_of (kept_of tables.calls)
 
--- row k, from 0, is the first that is not right
+-- Row k, from 0, is the first that is not right.
 pub record IsFirstWrong (t : Terms) (calls : List StoredCall) (k : ℕ) : Type 0 where
   pub right : AreRight t (take k calls)
   pub row : StoredCall
   pub there : slice_get calls k ≡ Some row
   pub wrong : ¬ IsRightRow t (kept_of (take k calls)) row
 
--- what is wrong with the rows, where the refusals before it do not apply
+-- The fault is what is wrong with the rows if no fault before it applies.
 abbrev pub IsRefusal : Tables → OpenFault → Type 0
 IsRefusal tables NotALedger = (schema : ℤ) (t : Terms) → ¬ IsHead tables.heads schema t
 IsRefusal tables (Schema n) = (t : Terms) × IsHead tables.heads n t × (n ≢ pos 1)

@@ -1,4 +1,4 @@
--- What the rows say that were read, even if the store fails.
+-- Defines what rows that were read say, even if the store fails.
 use Rattle.std.specs.Prelude.{◌≡◌, ℕ, ◌+◌, ◌-◌, nat_le, pos, Bool, not, length, count_by, List}
 use Rattle.std.specs.Ordering.{int_eq}
 use Rattle.s10_wire.specs.Datagrams.{Replies}
@@ -12,29 +12,30 @@ use Rattle.s10_rows.specs.Tables.{flag}
 use Rattle.s10_replay.specs.RightRows.{entry_of, day_in}
 use Rattle.s10_rows.specs.Selected.{IsCall}
 
--- the row stands for the call: its reply decodes, and its day is that of the call
+-- A row is the row of a call if its reply decodes to the call, and its day is that of the call.
 pub record IsCallOf (row : StoredCall) (e : Entry) : Type 0 where
   pub entry : e ≡ entry_of row
   pub call : IsCall e
   pub replies : Replies row.reply e.request e.outcome
   pub day : row.day ≡ pos e.day
 
--- the row records the issue
+-- A row records an issue if each of its columns is that of the issue.
 pub record IsRowOfIssue (row : SerialRow) (i : Issue) : Type 0 where
   pub day : row.day ≡ pos i.day
   pub voided : row.voided ≡ pos (flag i.voided)
   pub customer : row.customer ≡ pos i.customer
   pub number : row.number ≡ pos i.number
 
--- whether the row is of a voided issue
+-- Whether the row is of a voided issue.
 abbrev pub is_voided_row : SerialRow → Bool
 is_voided_row row = int_eq row.voided (pos 1)
 
--- whether the issue that the row records is too new for its identifier to be issued on the day
+-- Whether the issue that the row records is too recent for its identifier to be issued on the day.
 abbrev pub is_taken : ℕ → ℕ → SerialRow → Bool
 is_taken day interval row = not (nat_le interval (day - day_in row.day))
 
--- the usage that the rows of a range say: of its serials those with a row were issued, and all are free but those of rows that are taken
+-- The usage of a range by its rows: each row is of a used serial, and a serial is free unless its
+-- row is too recent.
 pub record IsUsageOf (rows : List SerialRow) (r : Range) (day interval : ℕ) (u : Usage) :
     Type 0 where
   pub used : u.used ≡ length rows

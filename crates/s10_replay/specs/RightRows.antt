@@ -1,4 +1,4 @@
--- The rows of calls that are right, and the calls that they keep.
+-- Defines which rows of calls are right, and the calls that they keep.
 use Rattle.std.specs.Prelude.{◌≡◌, ℕ, ◌+◌, ◌^◌, ◌<◌, ℤ, pos, negsuc, List, length, map, take}
 use Rattle.std.specs.Prelude.{slice_get, Some}
 use Rattle.s10_wire.specs.Datagrams.{Replies}
@@ -8,11 +8,12 @@ use Rattle.s10_book.specs.Rules.{MayFollow}
 use Rattle.s10_rows.specs.CallRow.{StoredCall}
 use Rattle.s10_rows.specs.Replies.{request_in, outcome_in}
 
+-- The day in a column: 0 if the column is negative.
 abbrev pub day_in : ℤ → ℕ
 day_in (pos day) = day
 day_in (negsuc _) = 0
 
--- the call that a row stands for
+-- The call of a row.
 abbrev pub entry_of : StoredCall → Entry
 entry_of row = record {
   request = request_in row.reply;
@@ -20,9 +21,10 @@ entry_of row = record {
   outcome = outcome_in row.reply;
 }
 
--- the row is the next one after the calls before it: its arrival is the next, its reply decodes, its key columns are those of
--- the request, its day is a number of 32 bits, and the call may follow (its key is new, its day does not fall, there is room, and
--- its outcome is that of the rules)
+-- A row is right after the calls before it if its arrival is the next, its reply decodes, its key
+-- columns are those of the request, its day is a number of 32 bits, and the call may follow. That
+-- is: its key is new, its day does not fall, the limit is not reached, and its outcome is that of
+-- the rules.
 pub record IsRightRow (t : Terms) (before : List Entry) (row : StoredCall) : Type 0 where
   pub arrival : row.arrival ≡ pos (length before + 1)
   pub replies : Replies row.reply (entry_of row).request (entry_of row).outcome
@@ -32,11 +34,11 @@ pub record IsRightRow (t : Terms) (before : List Entry) (row : StoredCall) : Typ
   pub day_fits : (entry_of row).day < 2 ^ 32
   pub follows : MayFollow before t (entry_of row)
 
--- the calls that the rows keep, where all rows are right
+-- The calls that the rows keep, if all rows are right.
 abbrev pub kept_of : List StoredCall → List Entry
 kept_of rows = map entry_of rows
 
--- each row is right after those before it
+-- Each row is right after those before it.
 abbrev pub AreRight : Terms → List StoredCall → Type 0
 AreRight t rows = (k : ℕ) (row : StoredCall) → slice_get rows k ≡ Some row
     → IsRightRow t (kept_of (take k rows)) row

@@ -1,4 +1,4 @@
-//! Rows of `calls` are read.
+//! Reads rows of `calls`.
 
 ghost use Rattle.std.specs.Prelude.{◌≡◌, ℕ, pos, Some, IfSome, IfNone};
 ghost use Rattle.s10_wire.specs.Datagrams.{Replies};
@@ -12,7 +12,8 @@ use s10_history::Entry;
 use s10_rows::CallRow;
 use s10_wire::decode_reply;
 
-// The call that the row stands for. None where its reply does not decode, or its day is no number of 32 bits.
+// Returns the call of the row. None if its reply does not decode, or its day is not a number of 32
+// bits.
 pub(crate) fn entry_in_row(row: &CallRow) -> Option<Entry>
     ensures read { IfSome result (IsCallOf row.now) }
     ensures none { IfNone result ((e : Entry) → IsCall e → Replies row.now.reply e.request e.outcome

@@ -1,4 +1,4 @@
-//! The rows that a kept call makes.
+//! The writes of a call to the derived rows.
 
 ghost use Rattle.std.specs.Prelude.{◌≡◌, ℕ, ◌+◌, pos, true, false, List, [], ◌++◌, ◌∷◌, length};
 ghost use Rattle.std.specs.Prelude.{filter, option_to_list, slice_get, All, Contains, Some, None};
@@ -24,7 +24,7 @@ use s10_history::{Entry, Issuance, Range};
 use s10_rows::{PriorIssue, RangeRow, RangeWrite, SerialRow, SerialWrite};
 use s10_wire::Outcome;
 
-// The write of the mark after a serial that the range gave.
+// Returns the write of the mark after the range issued `serial`.
 fn mark_write(range: &Range, serial: Serial) -> RangeWrite
     ensures { result ≡ RangeWrite.Mark (pos range.now.num) (pos (serial_after range.now serial)) }
 {
@@ -39,7 +39,7 @@ fn mark_write(range: &Range, serial: Serial) -> RangeWrite
     }
 }
 
-// The write of an issue, by whether its identifier was issued before.
+// Returns the write of an issuance, by whether its identifier was issued before.
 fn issue_write(issued: PriorIssue, row: SerialRow) -> SerialWrite
     ensures { result ≡ write_of issued row }
 {
@@ -49,8 +49,11 @@ fn issue_write(issued: PriorIssue, row: SerialRow) -> SerialWrite
     }
 }
 
-/// What an issue of a call makes: the mark after it, of the range that has its identifier, and its row, which is new where the
-/// identifier was never issued, neither by the calls before nor by this one before that place.
+/// Returns the writes of one issuance of a call: the next mark of its range, and its row of
+/// `serials`.
+///
+/// `issued` is `Never` only if neither the calls before nor the earlier issuances of this call
+/// issued the identifier.
 pub fn issue_writes(
     range: &Range,
     issued: PriorIssue,
@@ -71,8 +74,8 @@ pub fn issue_writes(
     )
 }
 
-/// Before its first issue a call has made no row. After its last one it has made all of its rows, where it was no Done Grant
-/// and no Done Void.
+/// Brings into scope that no writes make the rows before the first issuance, and that the writes of
+/// all issuances make the rows of the call, unless it is a Done Grant or a Done Void.
 pub fn issue_writes_are_complete()
     ensures none { (h : List Entry) (e : Entry) → IssueWritesMake h e 0 [] [] }
     ensures all { (h : List Entry) (e : Entry) (place : ℕ) (ranges : List RangeWrite)
@@ -82,7 +85,8 @@ pub fn issue_writes_are_complete()
         → IssueWritesMake h e place ranges serials → MakesWrites h e ranges serials }
 {}
 
-/// The row of the range that a Grant makes where it is Done: its first serial is the mark. None for another call.
+/// Returns the write that inserts the range of a Done Grant, with its first serial as the mark, or
+/// `None` for any other call.
 pub fn grant_write(entry: &Entry) -> Option<RangeWrite>
     ensures made { (h : List Entry) (t : Terms) (n : ℕ) → IsLegal h t → MayFollow h t entry.now
         → entry.now.outcome ≡ Granted n
@@ -97,7 +101,7 @@ pub fn grant_write(entry: &Entry) -> Option<RangeWrite>
     Some(RangeWrite::New(RangeRow::of(&range, range.first.value())))
 }
 
-/// What a Done Void makes of the rows: that of the last issue of its identifier, voided.
+/// Returns the write of a Done Void: the row of the identifier's last issuance, voided.
 pub fn void_write(issuance: &Issuance) -> SerialWrite
     ensures { (h : List Entry) (t : Terms) (e : Entry) (id : Id) → IsLegal h t → MayFollow h t e
         → All IsCall h → IsCall e → e.request.body ≡ Void id → e.outcome ≡ Voided

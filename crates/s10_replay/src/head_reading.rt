@@ -1,4 +1,4 @@
-//! The row of `head` is read.
+//! Reads the row of `head`.
 
 ghost use Rattle.std.specs.Prelude.{◌≡◌, ◌≢◌, ℤ, pos, IfSome, IfNone, IfOk, IfErr};
 ghost use Rattle.s10_history.specs.Settings.{Terms, AreTerms};
@@ -9,7 +9,8 @@ use crate::column::number_in;
 use s10_history::Settings;
 use s10_rows::{HeadRow, OpenFault};
 
-// The settings of the row, whatever its number of the schema.
+// Returns the settings of the row, regardless of its schema number. None if they are not in their
+// limits.
 fn settings_of(head: &HeadRow) -> Option<Settings>
     ensures some { IfSome result (λ t. AreTerms t
         × (head.now ≡ record (head_row t) { schema = head.now.schema })) }
@@ -24,7 +25,12 @@ fn settings_of(head: &HeadRow) -> Option<Settings>
     Settings::new(interval, cap)
 }
 
-/// The settings that the rows of `head` hold.
+/// Returns the settings in the rows of `head`.
+///
+/// # Errors
+///
+/// - `NotALedger` if there is not exactly one row, or its settings are not in their limits.
+/// - `Schema` with the schema number if that is not 1.
 pub fn settings_in(heads: &[HeadRow]) -> Result<Settings, OpenFault>
     ensures ok { IfOk result (IsHead heads.now (pos 1)) }
     ensures err { (tables : Tables) → tables.heads ≡ heads.now → IfErr result (IsRefusal tables) }

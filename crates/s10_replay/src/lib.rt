@@ -1,4 +1,5 @@
-//! The calls of a ledger are read off their rows and done again; which rows a call makes, and whether others are those.
+//! Reads the calls of a ledger from their rows and executes them again; computes the derived rows
+//! of a call, and compares rows.
 #![tactic(auto)]
 
 mod call_reading;

@@ -1,4 +1,4 @@
-//! The calls of a ledger are replayed.
+//! Replays the calls of a ledger.
 
 ghost use Rattle.std.specs.Prelude.{◌≡◌, ◌↔◌, ◌<◌, ◌≤◌, pos, length, IfSome, IfNone, IfOk, IfErr};
 ghost use Rattle.std.specs.Prelude.{IsTrue, None, OnOk, []};
@@ -16,7 +16,7 @@ use s10_history::Entry;
 use s10_rows::{CallRow, OpenFault};
 use s10_wire::same_outcome;
 
-// Whether the row is call number `arrival`, with the key of the call.
+// Returns whether the row has the arrival and the key of the call.
 fn has_key_columns(row: &CallRow, arrival: u32, call: &Entry) -> bool
     ensures { IsTrue result
         ↔ ((row.now.arrival ≡ pos arrival) × (row.now.customer ≡ pos call.now.request.customer)
@@ -27,7 +27,7 @@ fn has_key_columns(row: &CallRow, arrival: u32, call: &Entry) -> bool
         && row.number() == i64::from(call.request.number)
 }
 
-// Whether no call of the book has the key of the call.
+// Returns whether no call of the book has the key of the call.
 fn is_new<B: Book>(book: &mut B, call: &Entry) -> Result<bool, BookFault>
     ensures unchanged { Unchanged B.history B.terms B.honest book.old book.new }
     ensures answer { B.honest book.new
@@ -39,7 +39,8 @@ fn is_new<B: Book>(book: &mut B, call: &Entry) -> Result<bool, BookFault>
     Ok(found.is_none())
 }
 
-// Whether there is room for the call, its day is not before the book's, and its key is new.
+// Returns whether the limit is not reached, the day of the call is not before the book's, and its
+// key is new.
 fn may_follow<B: Book>(book: &mut B, call: &Entry) -> Result<bool, BookFault>
     ensures unchanged { Unchanged B.history B.terms B.honest book.old book.new }
     ensures answer { B.honest book.new
@@ -55,7 +56,7 @@ fn may_follow<B: Book>(book: &mut B, call: &Entry) -> Result<bool, BookFault>
     }
 }
 
-// The call of the row, where it is right after the book's calls.
+// Returns the call of the row if the row is right after the book's calls. None if it is wrong.
 fn right_call<B: Book>(book: &mut B, row: &CallRow) -> Result<Option<Entry>, BookFault>
     ensures unchanged { Unchanged B.history B.terms B.honest book.old book.new }
     ensures right { B.honest book.new
@@ -79,7 +80,12 @@ fn right_call<B: Book>(book: &mut B, row: &CallRow) -> Result<Option<Entry>, Boo
     }
 }
 
-/// Keeps the calls of the rows in a book without calls, each of them right after those before it.
+/// Executes the calls of the rows again and keeps them in the book, which has no calls yet.
+///
+/// # Errors
+///
+/// - `Damaged` with the arrival of the first wrong row. The book then has the calls before it.
+/// - `Memory` or `Store` if the book fails.
 pub fn replay_rows<B: Book>(book: &mut B, rows: &[CallRow]) -> Result<(), OpenFault>
     ensures was_honest { B.honest book.new → B.honest book.old }
     ensures same_terms { B.honest book.new → B.terms book.new ≡ B.terms book.old }

@@ -1,4 +1,4 @@
-//! Rows are compared, in any order they come.
+//! Compares rows in any order.
 
 ghost use Rattle.std.specs.Prelude.{◌≡◌, ◌↔◌, false, List, IsTrue};
 ghost use Rattle.std.specs.Ordering.{int_cmp, ordering_then, is_eq};
@@ -27,7 +27,8 @@ fn are_closed(rows: &[ClosedRow], others: &[ClosedRow]) -> bool
     rows == others
 }
 
-/// Whether the rows are the same closed ranges, where those that were made rise by arrival.
+/// Returns whether both lists have the same rows of `closed`, in any order. Requires that `made`
+/// rises by arrival.
 pub fn same_closed(made: &[ClosedRow], mut rows: Vec<ClosedRow>) -> bool
     ensures { IsAscending (λ a b. int_cmp a.arrival b.arrival ≡ Less) made.now → IsTrue result
         ↔ HaveSameRows made.now rows.items }
@@ -36,7 +37,8 @@ pub fn same_closed(made: &[ClosedRow], mut rows: Vec<ClosedRow>) -> bool
     are_closed(made, &rows)
 }
 
-/// Whether the rows are the same ranges, where those that were made rise by number.
+/// Returns whether both lists have the same rows of `ranges`, in any order. Requires that `made`
+/// rises by number.
 pub fn same_ranges(made: &[RangeRow], mut rows: Vec<RangeRow>) -> bool
     ensures { IsAscending (λ a b. int_cmp a.num b.num ≡ Less) made.now → IsTrue result
         ↔ HaveSameRows made.now rows.items }
@@ -45,7 +47,8 @@ pub fn same_ranges(made: &[RangeRow], mut rows: Vec<RangeRow>) -> bool
     are_ranges(made, &rows)
 }
 
-/// Whether the rows are the same serials, where no two of those that were made have one key.
+/// Returns whether both lists have the same rows of `serials`, in any order. Requires that no two
+/// rows of `made` have the same pair and serial.
 pub fn same_serials(mut made: Vec<SerialRow>, mut rows: Vec<SerialRow>) -> bool
     ensures { (keyed : List SerialRow)
         → IsAscending

@@ -1,4 +1,4 @@
-//! Rows of `serials` are read.
+//! Reads rows of `serials`.
 
 ghost use Rattle.std.specs.Prelude.{◌≡◌, Bool, Some, IfSome};
 ghost use Rattle.s10_history.specs.declared.issuance.Issuance.{Issuance};
@@ -10,7 +10,7 @@ use crate::column::{flag_in, number_in};
 use s10_history::Issue;
 use s10_rows::SerialRow;
 
-// The issue that the row records. None where a column of it does not read.
+// Returns the issue that the row records. None if a column is out of its bounds.
 pub(crate) fn issue_in(row: &SerialRow) -> Option<Issue>
     ensures read { IfSome result (IsRowOfIssue row.now) }
     ensures kept { (voided : Bool) (i : Issuance) → IsIssuance i → row.now ≡ serial_row voided i

@@ -1,4 +1,4 @@
-//! How the serials of a range were used, by its rows of `serials`.
+//! Counts the usage of a range by its rows of `serials`.
 
 ghost use Rattle.std.specs.Prelude.{◌≡◌, ℕ, ◌+◌, ◌-◌, ◌<◌, ◌≤◌, ◌^◌, pos, max, nat_le, not};
 ghost use Rattle.std.specs.Prelude.{if◌then◌else◌, List, filter, All, Ok, IfOk, IfErr};
@@ -14,7 +14,7 @@ use s10_book::BookFault;
 use s10_history::{Issue, Range, Usage};
 use s10_rows::SerialRow;
 
-// The usage with one more issue, of a serial that was counted as free.
+// Returns the usage with one more issue, of a serial that was counted as free.
 fn count_issue(usage: Usage, issue: &Issue, day: u32, interval: u32) -> Usage
     requires used { usage.used < 100000000 }
     requires voided { usage.voided < 100000000 }
@@ -36,7 +36,7 @@ fn count_issue(usage: Usage, issue: &Issue, day: u32, interval: u32) -> Usage
     }
 }
 
-// How many serials the range has.
+// Returns the number of serials in the range.
 fn range_size(range: &Range) -> u32
     ensures count { result ≡ range.now.last + 1 - range.now.first }
     ensures few { result ≤ 100000000 }
@@ -44,8 +44,15 @@ fn range_size(range: &Range) -> u32
     (range.last.value() + 1).saturating_sub(range.first.value())
 }
 
-/// How the serials were used, of the rows of the range: its serials that have a row were issued, the others are free. The
-/// day is the greater of the one asked for and the ledger's.
+/// Returns the usage of a range, by its rows of `serials`: serials with a row were issued, all
+/// others are free.
+///
+/// `day` is the later of the day asked for and the ledger's; `interval` is the reuse interval in
+/// days.
+///
+/// # Errors
+///
+/// `Store` if there are more rows than serials, or a column of a row is out of its bounds.
 pub fn usage_among(
     rows: &[SerialRow],
     range: &Range,

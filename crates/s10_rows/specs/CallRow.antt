@@ -1,4 +1,4 @@
--- A row of calls, as it is stored.
+-- Defines a row of calls, as it is stored.
 use Rattle.std.specs.Prelude.{ℕ, ℤ, List}
 
 pub record StoredCall : Type 0 where
@@ -6,5 +6,5 @@ pub record StoredCall : Type 0 where
   pub customer : ℤ
   pub number : ℤ
   pub day : ℤ
-  -- the bytes of the reply's datagram
+  -- The bytes of the reply's datagram.
   pub reply : List ℕ

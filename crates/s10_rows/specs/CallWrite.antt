@@ -1,11 +1,11 @@
--- What kept calls make of the tables.
+-- Defines what kept calls write to the tables.
 use Rattle.std.specs.Prelude.{◌≡◌, pos, List, [], ◌∷◌, ◌++◌, option_to_list}
 use Rattle.s10_rows.specs.CallRow.{StoredCall}
 use Rattle.s10_rows.specs.Tables.{Tables, HaveSameRows, closing}
 use Rattle.s10_rows.specs.RowWrites.{FindAtMostOne, with_ranges, with_serials}
 use Rattle.s10_rows.specs.declared.call_write.CallWrite.{CallWrite}
 
--- the row of the call
+-- The row of the call.
 abbrev pub row_written : CallWrite → StoredCall
 row_written w = record {
   arrival = pos w.arrival;
@@ -15,7 +15,7 @@ row_written w = record {
   reply = w.reply;
 }
 
--- the tables after a call
+-- The tables after a call.
 abbrev pub with_call : CallWrite → Tables → Tables
 with_call w tables = record tables {
   calls = tables.calls ++ row_written w ∷ [];
@@ -24,7 +24,8 @@ with_call w tables = record tables {
   closed = tables.closed ++ option_to_list (closing w.arrival w.entry.request.body w.entry.outcome);
 }
 
--- the call makes the tables into these, whose ranges and serials may stand in another order
+-- A call writes if it changes the tables before into those after, with rows of ranges and serials
+-- in any order.
 pub record Writes (w : CallWrite) (before after : Tables) : Type 0 where
   pub few : FindAtMostOne w.serials.items before.serials
   pub heads : after.heads ≡ before.heads
@@ -33,7 +34,7 @@ pub record Writes (w : CallWrite) (before after : Tables) : Type 0 where
   pub serials : HaveSameRows (with_call w before).serials after.serials
   pub closed : after.closed ≡ (with_call w before).closed
 
--- the calls do so, one after another
+-- The calls write, one after another.
 unfoldable pub AreWritten : List CallWrite → Tables → Tables → Type 0
 AreWritten [] before after = after ≡ before
 AreWritten (w ∷ ws) before after = (between : Tables) × Writes w before between

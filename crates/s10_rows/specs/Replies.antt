@@ -1,4 +1,5 @@
--- What the bytes of a reply say, by their offsets. Where they are the datagram of a reply, these are its request and its outcome.
+-- Defines what the bytes of a reply say, by their offsets: if they are the datagram of a reply,
+-- these are its request and its outcome.
 use Rattle.std.specs.Prelude.{ℕ, zero, suc, ◌+◌, ◌/◌, ◌==◌, if◌then◌else◌, List, [], ◌∷◌, ◌++◌}
 use Rattle.std.specs.Prelude.{length, take, drop}
 use Rattle.s10_core.specs.declared.id.Id.{Id}
@@ -22,9 +23,11 @@ use Rattle.s10_wire.specs.Kind.{kind_of, request_length}
 use Rattle.s10_wire.specs.WireFault.{byte, number}
 use Rattle.s10_wire.specs.Datagrams.{datagram, outcome_bytes}
 
+-- The two letters at an offset.
 abbrev pub pair_in : List ℕ → ℕ → ℕ × ℕ
 pair_in b at = (byte b at, byte b (at + 1))
 
+-- The identifier at an offset.
 abbrev pub id_in : List ℕ → ℕ → Id
 id_in b at = record {
   service = pair_in b at;
@@ -32,12 +35,12 @@ id_in b at = record {
   country = pair_in b (at + 11);
 }
 
--- n identifiers, one after the other
+-- The first n identifiers, of thirteen bytes each.
 abbrev pub ids_in : ℕ → List ℕ → List Id
 ids_in zero b = []
 ids_in (suc count) b = id_in b 0 ∷ ids_in count (drop 13 b)
 
--- the body, by the kind byte of the reply
+-- The body, by the kind byte of the reply.
 unfoldable pub body_in : List ℕ → Body
 body_in b =
     let code = byte b 3 in
@@ -49,14 +52,17 @@ body_in b =
     else if code == 0x86 then Withdraw (number b 12)
     else Query (id_in b 12)
 
+-- The request that the bytes reply to.
 abbrev pub request_in : List ℕ → Request
 request_in b = record { customer = number b 4; number = number b 8; body = body_in b }
 
+-- The status of a Query, by its code.
 abbrev pub status_in : ℕ → ℕ → Status
 status_in code day =
     if code == 0 then statuses.Unknown else if code == 1 then statuses.Never
     else if code == 2 then statuses.Issued day else statuses.Voided day
 
+-- The outcome of a request of that kind that was done.
 abbrev pub done_in : Kind → List ℕ → Outcome
 done_in kinds.Grant rest = Granted (number rest 1)
 done_in kinds.Draw rest = Drawn (number rest 1) (id_in rest 5)
@@ -65,6 +71,7 @@ done_in kinds.Void rest = Voided
 done_in kinds.Withdraw rest = Withdrawn
 done_in kinds.Query rest = Told (status_in (byte rest 1) (number rest 2))
 
+-- The refusal, by its code.
 abbrev pub refusal_in : ℕ → Outcome
 refusal_in code =
     if code == 1 then NotThePost else if code == 2 then BadGrant else if code == 3 then Overlap
@@ -72,13 +79,14 @@ refusal_in code =
     else if code == 7 then NotIssued else if code == 8 then AlreadyVoid
     else if code == 10 then NoSuchRange else if code == 11 then Closed else NumberReused
 
--- the outcome, by the bytes from the outcome byte on
+-- The outcome, by the bytes from the outcome byte on.
 unfoldable pub outcome_from : Kind → List ℕ → Outcome
 outcome_from k rest = if byte rest 0 == 0 then done_in k rest else refusal_in (byte rest 0)
 
+-- The outcome in the bytes of a reply.
 abbrev pub outcome_in : List ℕ → Outcome
 outcome_in b = let k = kind_of (body_in b) in outcome_from k (drop (request_length k) b)
 
--- the datagram of the reply to the request with the outcome
+-- The datagram of the reply to a request with an outcome.
 unfoldable pub reply_bytes : Request → Outcome → List ℕ
 reply_bytes q o = datagram 0x80 q ++ outcome_bytes o

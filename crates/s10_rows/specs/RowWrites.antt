@@ -1,4 +1,4 @@
--- What keeping a call makes of the rows.
+-- Defines the writes of a call to the rows of ranges and serials.
 use Rattle.std.specs.Prelude.{◌≡◌, ⊤, ℕ, ◌+◌, ◌≤◌, ℤ, Bool, not, ◌&&◌, if◌then◌else◌, List, [], ◌∷◌}
 use Rattle.std.specs.Prelude.{◌++◌, map, length, filter, take}
 use Rattle.std.specs.Ordering.{int_eq}
@@ -16,59 +16,61 @@ use Rattle.s10_rows.specs.declared.serial_write.SerialWrite.{SerialWrite}
 use Rattle.s10_rows.specs.declared.serial_write.SerialWrite.TheVariants.{New as NewSerial, Again}
 use Rattle.s10_rows.specs.Tables.{HaveSameRows, range_row, range_rows, serial_row, serial_rows}
 
--- whether the row is the one of the range with that number
+-- Whether the row is that of the range with that number.
 abbrev pub has_num : ℤ → RangeRow → Bool
 has_num num r = int_eq r.num num
 
--- the row, with that mark where it is the one of the range with that number
+-- The row, with that mark if it is the row of the range with that number.
 abbrev pub marked : ℤ → ℤ → RangeRow → RangeRow
 marked num mark r = if has_num num r then record r { mark = mark } else r
 
--- whether the row is the one of the identifier with that pair and serial
+-- Whether the row is that of the identifier with that pair and serial.
 abbrev pub is_at : ℤ → ℤ → SerialRow → Bool
 is_at pair serial r = int_eq r.pair pair && int_eq r.serial serial
 
--- the rows after one write of a range
+-- The rows after one write to ranges.
 abbrev pub with_range : RangeWrite → List RangeRow → List RangeRow
 with_range (NewRange row) rows = rows ++ row ∷ []
 with_range (Mark num mark) rows = map (marked num mark) rows
 
--- the rows after one write of a serial
+-- The rows after one write to serials.
 abbrev pub with_serial : SerialWrite → List SerialRow → List SerialRow
 with_serial (NewSerial row) rows = rows ++ row ∷ []
 with_serial (Again row) rows = filter (λ r. not (is_at row.pair row.serial r)) rows ++ row ∷ []
 
--- the rows after what a call makes of the ranges, write by write
+-- The rows after the writes to ranges, applied in order.
 abbrev pub with_ranges : List RangeWrite → List RangeRow → List RangeRow
 with_ranges [] rows = rows
 with_ranges (w ∷ ws) rows = with_ranges ws (with_range w rows)
 
--- the rows after what a call makes of the serials, write by write
+-- The rows after the writes to serials, applied in order.
 abbrev pub with_serials : List SerialWrite → List SerialRow → List SerialRow
 with_serials [] rows = rows
 with_serials (w ∷ ws) rows = with_serials ws (with_serial w rows)
 
--- the row that is written
+-- The row that is written.
 abbrev pub row_of : SerialWrite → SerialRow
 row_of (NewSerial row) = row
 row_of (Again row) = row
 
--- each write finds at most one row of its pair and serial, of those that the writes before it leave
+-- Each write finds at most one row of its identifier among the rows that the writes before it
+-- leave.
 abbrev pub FindAtMostOne : List SerialWrite → List SerialRow → Type 0
 FindAtMostOne [] rows = ⊤
 FindAtMostOne (w ∷ ws) rows = (length (filter (is_at (row_of w).pair (row_of w).serial) rows) ≤ 1)
     × FindAtMostOne ws (with_serial w rows)
 
--- the write of an issue, by whether its identifier was issued before
+-- The write of an issuance, by whether its identifier was issued before.
 abbrev pub write_of : PriorIssue → SerialRow → SerialWrite
 write_of Never row = NewSerial row
 write_of Before row = Again row
 
--- the issues of a history, and those that the call after it makes before a place
+-- The issuances of a history, followed by the first n (place) of the call after it.
 abbrev pub issues_before : ℕ → List Entry → Entry → List Issuance
 issues_before place h e = issues_of h ++ take place (issues_at (1 + length h) e)
 
--- what the call after the history issues before a place makes these rows
+-- The writes make the rows after the first n (place) issuances of the call out of the rows of the
+-- history.
 pub record IssueWritesMake (h : List Entry) (e : Entry) (place : ℕ) (made_ranges : List RangeWrite)
     (made_serials : List SerialWrite) : Type 0 where
   pub ranges : with_ranges made_ranges (range_rows h)
@@ -78,7 +80,7 @@ pub record IssueWritesMake (h : List Entry) (e : Entry) (place : ℕ) (made_rang
       (last_issues (issues_before place h e))
   pub few : FindAtMostOne made_serials (serial_rows h)
 
--- the call after the history makes these rows
+-- The writes make the rows after the call out of the rows of the history.
 pub record MakesWrites (h : List Entry) (e : Entry) (made_ranges : List RangeWrite)
     (made_serials : List SerialWrite) : Type 0 where
   pub ranges : HaveSameRows (with_ranges made_ranges (range_rows h)) (range_rows (h ++ e ∷ []))

@@ -1,4 +1,4 @@
--- Which rows the statements select, and what they are of a history.
+-- Defines which rows the statements select, and when a value has a row.
 use Rattle.std.specs.Prelude.{◌^◌, ◌<◌, ℤ, Bool, ◌&&◌, IsTrue, int_le}
 use Rattle.std.specs.Ordering.{int_eq}
 use Rattle.s10_core.specs.Letters.{AreCapitals}
@@ -13,14 +13,14 @@ use Rattle.s10_history.specs.declared.issuance.Issuance.{Issuance}
 use Rattle.s10_rows.specs.declared.serial_row.SerialRow.{SerialRow}
 use Rattle.s10_rows.specs.CallRow.{StoredCall}
 
--- the parts of a call are in their ranges, so that it has a row
+-- A call has a row if each part of it is in its bounds.
 pub record IsCall (e : Entry) : Type 0 where
   pub request : IsRequest e.request
   pub outcome : IsOutcome e.outcome
   pub fitting : IsTrue (fits e.request.body e.outcome)
   pub day : e.day < 2 ^ 32
 
--- the parts of a range are in theirs
+-- A range has a row if each part of it is in its bounds.
 pub record IsRange (r : Range) : Type 0 where
   pub num : r.num < 2 ^ 32
   pub holder : r.holder < 2 ^ 32
@@ -29,14 +29,14 @@ pub record IsRange (r : Range) : Type 0 where
   pub first : IsSerial r.first
   pub last : IsSerial r.last
 
--- the parts of an issue are in theirs
+-- An issuance has a row if each part of it is in its bounds.
 pub record IsIssuance (i : Issuance) : Type 0 where
   pub id : IsId i.id
   pub day : i.day < 2 ^ 32
   pub customer : i.customer < 2 ^ 32
   pub number : i.number < 2 ^ 32
 
--- the issue that its row records
+-- The issue that the row of an issuance records.
 abbrev pub issue_in_row : Bool → Issuance → Issue
 issue_in_row voided i = record {
   day = i.day;
@@ -45,10 +45,10 @@ issue_in_row voided i = record {
   number = i.number;
 }
 
--- whether the arrival is one of these
+-- Whether the arrival of a row is from low to high.
 abbrev pub arrives_between : ℤ → ℤ → StoredCall → Bool
 arrives_between low high c = int_le low c.arrival && int_le c.arrival high
 
--- whether the row is one of the pair, with a serial from low to high
+-- Whether the row has that pair, and a serial from low to high.
 abbrev pub is_within : ℤ → ℤ → ℤ → SerialRow → Bool
 is_within pair low high r = int_eq r.pair pair && int_le low r.serial && int_le r.serial high

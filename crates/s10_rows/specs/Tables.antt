@@ -1,4 +1,4 @@
--- What the rows of the five tables are for a history.
+-- Defines the rows of the five tables for a history.
 use Rattle.std.specs.Prelude.{ℕ, ◌+◌, pos, Bool, if◌then◌else◌, List, [], ◌∷◌, ◌++◌, map}
 use Rattle.std.specs.Prelude.{IsPermutation, Option, Some, None, option_to_list}
 use Rattle.std.specs.Int.{w32, from_be_bytes}
@@ -20,7 +20,7 @@ use Rattle.s10_rows.specs.declared.closed_row.ClosedRow.{ClosedRow}
 use Rattle.s10_rows.specs.CallRow.{StoredCall}
 use Rattle.s10_rows.specs.Replies.{reply_bytes}
 
--- the rows of the five tables
+-- The rows of the five tables.
 pub record Tables : Type 0 where
   pub heads : List HeadRow
   pub calls : List StoredCall
@@ -28,19 +28,19 @@ pub record Tables : Type 0 where
   pub serials : List SerialRow
   pub closed : List ClosedRow
 
--- the same rows, in any order
+-- Two lists have the same rows, in any order.
 abbrev pub HaveSameRows : {R : Type 0} → List R → List R → Type 0
 HaveSameRows rows others = ∥ IsPermutation rows others ∥₁
 
--- the four bytes of service and country as a big-endian number
+-- The four bytes of service and country as a big-endian number.
 unfoldable pub pair_of : ℕ × ℕ → ℕ × ℕ → ℕ
 pair_of service country = from_be_bytes w32 (letters_of service ++ letters_of country)
 
--- the one row of head: schema 1, and the settings
+-- The one row of head: schema 1, and the settings.
 abbrev pub head_row : Terms → HeadRow
 head_row t = record { one = pos 1; schema = pos 1; interval = pos t.interval; cap = pos t.limit }
 
--- the row of call number arrival
+-- The row of the call with that arrival.
 abbrev pub call_row : ℕ → Entry → StoredCall
 call_row arrival e = record {
   arrival = pos arrival;
@@ -50,15 +50,16 @@ call_row arrival e = record {
   reply = reply_bytes e.request e.outcome;
 }
 
--- the rows of the calls, the first of them being call number arrival
+-- The rows of the calls, with arrivals that begin at the given one.
 abbrev pub call_rows_from : ℕ → List Entry → List StoredCall
 call_rows_from arrival [] = []
 call_rows_from arrival (e ∷ es) = call_row arrival e ∷ call_rows_from (arrival + 1) es
 
+-- The rows of the calls of a history.
 abbrev pub call_rows : List Entry → List StoredCall
 call_rows h = call_rows_from 1 h
 
--- the row of a range whose next serial is the mark
+-- The row of a range with that mark.
 abbrev pub range_row : ℕ → Range → RangeRow
 range_row mark r = record {
   num = pos r.num;
@@ -69,14 +70,15 @@ range_row mark r = record {
   mark = pos mark;
 }
 
--- the ranges, in order of their numbers, each with its pick as the mark
+-- The rows of the ranges, in order of their numbers, each with its pick as the mark.
 abbrev pub range_rows : List Entry → List RangeRow
 range_rows h = map (λ r. range_row (pick_of (issues_of h) r) r) (ranges_of h)
 
+-- 1 if it is true, otherwise 0.
 abbrev pub flag : Bool → ℕ
 flag voided = if voided then 1 else 0
 
--- the row of an identifier at its last issue
+-- The row of an identifier at an issuance.
 abbrev pub serial_row : Bool → Issuance → SerialRow
 serial_row voided i = record {
   pair = pos (pair_of i.id.service i.id.country);
@@ -88,27 +90,27 @@ serial_row voided i = record {
   voided = pos (flag voided);
 }
 
--- one row for each identifier ever issued
+-- One row per identifier that was ever issued.
 abbrev pub serial_rows : List Entry → List SerialRow
 serial_rows h = map (λ i. serial_row (voided_after i.arrival h i.id) i) (last_issues (issues_of h))
 
--- the row that call number arrival makes of this body and this outcome: that of the range that it closes
+-- The row of closed that a call with that arrival, body and outcome adds.
 abbrev pub closing : ℕ → Body → Outcome → Option ClosedRow
 closing arrival (Withdraw range) Withdrawn =
     Some (record { num = pos range; arrival = pos arrival })
 closing arrival body outcome = None
 
--- the rows of the ranges that the calls close, the first of them being call number arrival
+-- The rows of closed that the calls add, with arrivals that begin at the given one.
 abbrev pub closed_rows_from : ℕ → List Entry → List ClosedRow
 closed_rows_from arrival [] = []
 closed_rows_from arrival (e ∷ es) = option_to_list (closing arrival e.request.body e.outcome)
     ++ closed_rows_from (arrival + 1) es
 
--- the closed ranges, in order of the calls that closed them
+-- The rows of the closed ranges, in order of the calls that closed them.
 abbrev pub closed_rows : List Entry → List ClosedRow
 closed_rows h = closed_rows_from 1 h
 
--- the tables that a history makes
+-- The tables of a history.
 abbrev pub tables_of : List Entry → Terms → Tables
 tables_of h t = record {
   heads = head_row t ∷ [];
@@ -118,5 +120,6 @@ tables_of h t = record {
   closed = closed_rows h;
 }
 
+-- Five empty tables.
 abbrev pub no_rows : Tables
 no_rows = record { heads = []; calls = []; ranges = []; serials = []; closed = [] }

@@ -5,13 +5,18 @@ ghost use Rattle.s10_rows.specs.CallRow.{StoredCall};
 
 use std::marker::Model;
 
-/// A row of `calls`: the key columns, the day, and the bytes of the reply.
+/// A row of `calls`: the arrival, the key, the day, and the bytes of the reply.
 #[derive(Debug, Drop)]
 pub struct CallRow {
+    /// The arrival of the call, from 1.
     arrival: i64,
+    /// The customer of the key.
     customer: i64,
+    /// The request number of the key.
     number: i64,
+    /// The day of the call.
     day: i64,
+    /// The bytes of the reply's datagram.
     reply: Vec<u8>,
 }
 
@@ -30,7 +35,8 @@ impl Model for CallRow {
 }
 
 impl CallRow {
-    /// The row with these columns: the arrival from 1, the key of the call, its day, and the datagram of its reply.
+    /// Creates the row with these columns: the arrival from 1, the key of the call, its day, and
+    /// the datagram of its reply.
     pub fn new(arrival: i64, customer: i64, number: i64, day: i64, reply: Vec<u8>) -> CallRow
         ensures { let row : StoredCall = record {
           arrival = arrival;
@@ -49,35 +55,35 @@ impl CallRow {
         }
     }
 
-    /// The place among the kept calls, from 1.
+    /// Returns the arrival of the call, from 1.
     pub fn arrival(&self) -> i64
         ensures { result ≡ self.now.arrival }
     {
         self.arrival
     }
 
-    /// The customer of the key.
+    /// Returns the customer of the key.
     pub fn customer(&self) -> i64
         ensures { result ≡ self.now.customer }
     {
         self.customer
     }
 
-    /// The request number of the key.
+    /// Returns the request number of the key.
     pub fn number(&self) -> i64
         ensures { result ≡ self.now.number }
     {
         self.number
     }
 
-    /// The day on which the call was executed.
+    /// Returns the day on which the call was executed.
     pub fn day(&self) -> i64
         ensures { result ≡ self.now.day }
     {
         self.day
     }
 
-    /// The bytes of the reply's datagram.
+    /// Returns the bytes of the reply's datagram.
     pub fn reply(&self) -> &[u8]
         ensures { result.now ≡ self.now.reply }
     {

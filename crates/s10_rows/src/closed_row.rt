@@ -4,15 +4,17 @@ ghost use Rattle.s10_rows.specs.Tables.{closing};
 use s10_history::Entry;
 use s10_wire::{Body, Outcome};
 
-/// A row of `closed`: the number of a range, and the arrival of the Withdraw that closed it.
+/// A row of `closed`: a withdrawn range.
 #[derive(Clone, Copy, Debug, PartialEq, Eq)]
 pub struct ClosedRow {
+    /// The number of the range, from 1.
     pub num: i64,
+    /// The arrival of the Withdraw that closed it, from 1.
     pub arrival: i64,
 }
 
 impl ClosedRow {
-    /// The row that call number `arrival` makes, where it is a Done Withdraw.
+    /// Returns the row that call number `arrival` adds if it is a Done Withdraw, or `None`.
     pub fn made_by(arrival: u32, entry: &Entry) -> Option<ClosedRow>
         ensures { result ≡ closing arrival entry.now.request.body entry.now.outcome }
     {

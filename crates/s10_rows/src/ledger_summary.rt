@@ -1,9 +1,12 @@
 use s10_history::Settings;
 
-/// What was found of a ledger as it was opened: its settings, how many calls are kept, and the day of the last one.
+/// What an opening found of a ledger.
 #[derive(Clone, Copy, Debug, PartialEq, Eq)]
 pub struct LedgerSummary {
+    /// The settings, from `head`.
     pub settings: Settings,
+    /// The number of kept calls.
     pub len: u32,
+    /// The day of the last kept call, 0 if there is none.
     pub day: u32,
 }

@@ -1,4 +1,4 @@
-//! The typed rows of a ledger's tables: what they are for a history, and what is written of them.
+//! The typed rows of a ledger's tables: the rows of a history, and what a call writes.
 #![tactic(auto)]
 
 mod call_row;

@@ -3,7 +3,7 @@ ghost use Rattle.s10_rows.specs.Tables.{pair_of};
 
 use s10_core::{Country, Service};
 
-/// The four letters as a big-endian number.
+/// Returns the four letters of service and country as a big-endian number.
 pub fn pair_number(service: Service, country: Country) -> u32
     ensures { result ≡ pair_of service country }
 {

@@ -1,8 +1,8 @@
 /// Whether an identifier was issued before.
 #[derive(Clone, Copy, Debug, PartialEq, Eq)]
 pub enum PriorIssue {
-    /// It never was.
+    /// It was never issued.
     Never,
-    /// It may have been.
+    /// It may have been issued.
     Before,
 }

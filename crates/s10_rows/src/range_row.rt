@@ -4,20 +4,25 @@ ghost use Rattle.s10_rows.specs.Tables.{range_row};
 use crate::pair::pair_number;
 use s10_history::Range;
 
-/// A row of `ranges`. `pair` is the four bytes of service and country as a big-endian number, `mark` the serial that
-/// the range gives next.
+/// A row of `ranges`: a range with its mark.
 #[derive(Clone, Copy, Debug, PartialEq, Eq)]
 pub struct RangeRow {
+    /// The number of the range, from 1.
     pub num: i64,
+    /// The customer that holds the range.
     pub holder: i64,
+    /// The four bytes of service and country as a big-endian number.
     pub pair: i64,
+    /// The first serial.
     pub low: i64,
+    /// The last serial.
     pub high: i64,
+    /// The mark: the serial that the range gives next.
     pub mark: i64,
 }
 
 impl RangeRow {
-    /// The row of the range whose next serial is the mark.
+    /// Returns the row of the range with that mark.
     pub fn of(range: &Range, mark: u32) -> RangeRow
         ensures { result ≡ range_row mark range.now }
     {

@@ -1,10 +1,10 @@
 use crate::range_row::RangeRow;
 
-/// What a call makes of the table `ranges`.
+/// One write of a call to the table `ranges`.
 #[derive(Clone, Copy, Debug, PartialEq, Eq)]
 pub enum RangeWrite {
-    /// The row is added.
+    /// Inserts the row.
     New(RangeRow),
-    /// The row of that number gets the mark.
+    /// Sets the mark of the row with that number.
     Mark { num: i64, mark: i64 },
 }

@@ -1,10 +1,10 @@
 use crate::serial_row::SerialRow;
 
-/// What a call makes of the table `serials`.
+/// One write of a call to the table `serials`.
 #[derive(Clone, Copy, Debug, PartialEq, Eq)]
 pub enum SerialWrite {
-    /// The row is added.
+    /// Inserts the row. The table has no row of its identifier.
     New(SerialRow),
-    /// The row stands in the place of the one of its identifier, if there is one.
+    /// Inserts the row, or replaces the row of its identifier if there is one.
     Again(SerialRow),
 }
