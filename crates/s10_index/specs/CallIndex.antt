@@ -1,4 +1,4 @@
--- What an index of calls holds.
+-- Defines what an index of calls holds.
 use Rattle.std.specs.Prelude.{◌≡◌, ◌≤◌, ◌<◌, List, length}
 use Rattle.std.specs.HashMap.{spare}
 use Rattle.s10_history.specs.declared.entry.Entry.{Entry}
@@ -9,14 +9,15 @@ use Rattle.s10_index.specs.declared.call_index.CallIndex.{CallIndex}
 use Rattle.s10_index.specs.Positions.{HasPositions}
 use Rattle.s10_index.specs.LastIssues.{HasIssues}
 
--- the calls of the history, its ranges with their marks, the place of each call, and the last issue of each identifier
+-- An index holds a history if it has its calls, its ranges with their marks, the index of each
+-- call, and the last issue of each identifier.
 pub record Indexes (index : CallIndex) (h : List Entry) : Type 0 where
   pub calls : index.entries.items ≡ h
   pub ranges : Mirrors index.ranges h
   pub positions : HasPositions index.positions h
   pub issues : HasIssues index.issues h
 
--- there is room for the call, and for all that it makes
+-- Memory is reserved for the call and for all that it records.
 pub record HasRoomFor (index : CallIndex) (e : Entry) : Type 0 where
   pub calls : 0 < index.entries.room
   pub ranges : HasRoom index.ranges

@@ -1,4 +1,4 @@
--- What outcomes in short stand for.
+-- Defines the outcomes and calls that compact ones represent.
 use Rattle.std.specs.Prelude.{ℕ, ◌<◌, ⊤, List, [], ◌∷◌, get_or}
 use Rattle.s10_core.specs.declared.id.Id.{Id}
 use Rattle.s10_wire.specs.declared.outcome.Outcome.{Outcome}
@@ -17,7 +17,7 @@ use Rattle.s10_index.specs.declared.compact_outcome.CompactOutcome.TheVariants.{
 use Rattle.s10_index.specs.declared.compact_outcome.CompactOutcome.TheVariants.{NumberReused}
 use Rattle.s10_index.specs.declared.compact_call.CompactCall.{CompactCall}
 
--- the outcome, its sheet one of these
+-- The outcome of a compact one, whose sheet is one of these.
 abbrev pub outcome_of : List (List Id) → CompactOutcome → Outcome
 outcome_of sheets (Granted range) = outcomes.Granted range
 outcome_of sheets (Drawn day id) = outcomes.Drawn day id
@@ -37,17 +37,17 @@ outcome_of sheets NoSuchRange = outcomes.NoSuchRange
 outcome_of sheets Closed = outcomes.Closed
 outcome_of sheets NumberReused = outcomes.NumberReused
 
--- the sheet that it names is one of n
+-- A compact outcome names one of n sheets, or none.
 abbrev pub NamesSheetOf : ℕ → CompactOutcome → Type 0
 NamesSheetOf count (DrawnMany day sheet) = sheet < count
 NamesSheetOf count outcome = ⊤
 
--- the sheet of an outcome, if it has one
+-- The sheet of an outcome: a list of none or one.
 abbrev pub sheet_of : Outcome → List (List Id)
 sheet_of (outcomes.DrawnMany day ids) = ids ∷ []
 sheet_of outcome = []
 
--- the call, its sheet one of these
+-- The call of a compact one, whose sheet is one of these.
 abbrev pub entry_of : List (List Id) → CompactCall → Entry
 entry_of sheets call = record {
   request = call.request;

@@ -1,4 +1,4 @@
--- The last issue of each identifier.
+-- Defines the map of the last issue of each identifier.
 use Rattle.std.specs.Prelude.{◌≡◌, ℕ, Bool, List, Some, if◌then◌else◌, true}
 use Rattle.std.specs.Option.{option_map}
 use Rattle.std.specs.HashMap.{HashMap, get}
@@ -10,11 +10,11 @@ use Rattle.s10_history.specs.declared.issuance.Issuance.{Issuance}
 use Rattle.s10_history.specs.Issues.{last_issuance_of, last_issue_of, voided_after}
 use Rattle.s10_index.specs.Keys.{same_key, id_key}
 
--- at the key of each identifier the map has its last issue
+-- At the key of each identifier the map has its last issue.
 abbrev pub HasIssues : {S : Type 0} → HashMap (ℕ × ℕ) Issue S → List Entry → Type 0
 HasIssues issues h = (x : Id) → IsId x → get same_key issues (id_key x) ≡ last_issue_of h x
 
--- an issue as it is noted, voided or not
+-- The issue that is recorded for an issuance, voided or not.
 abbrev pub as_issue : Issuance → Bool → Issue
 as_issue i voided = record {
   day = i.day;
@@ -23,26 +23,28 @@ as_issue i voided = record {
   number = i.number;
 }
 
--- what the history says about an issue of the identifier
+-- The issue that the history gives for an issuance of the identifier.
 abbrev pub issue_in_history : List Entry → Id → Issuance → Issue
 issue_in_history h x i = as_issue i (voided_after i.arrival h x)
 
--- at the key of each identifier the map has what the history says about the last of these issues that is of it
+-- At the key of each identifier the map has the issue that the history gives for the last of these
+-- issuances of it.
 abbrev pub HasLast : {S : Type 0} → HashMap (ℕ × ℕ) Issue S → List Entry → List Issuance → Type 0
 HasLast issues h is = (x : Id) → IsId x → get same_key issues (id_key x)
     ≡ option_map (issue_in_history h x) (last_issuance_of is x)
 
--- the map has the issue at that key, and the others as they were
+-- The new map has the issue at that key, and is otherwise the old one.
 abbrev pub RecordsIssue : {S : Type 0} → ℕ × ℕ → Issue → HashMap (ℕ × ℕ) Issue S
     → HashMap (ℕ × ℕ) Issue S → Type 0
 RecordsIssue key issue old new = (q : ℕ × ℕ) → get same_key new q
     ≡ (if same_key key q then Some issue else get same_key old q)
 
--- the issue, voided
+-- The issue, voided.
 abbrev pub as_voided : Issue → Issue
 as_voided i = record { day = i.day; voided = true; customer = i.customer; number = i.number }
 
--- the map has the issue at that key voided, if it has one, and the others as they were
+-- The new map has the issue at that key voided, if the old one has it, and is otherwise the old
+-- one.
 abbrev pub RecordsVoid : {S : Type 0} → ℕ × ℕ → HashMap (ℕ × ℕ) Issue S → HashMap (ℕ × ℕ) Issue S
     → Type 0
 RecordsVoid key old new = (q : ℕ × ℕ) → get same_key new q

@@ -1,4 +1,4 @@
--- Where the call of each key stands.
+-- Defines the map of the index of each call, by its key.
 use Rattle.std.specs.Prelude.{◌≡◌, ℕ, List}
 use Rattle.std.specs.List.{position_from}
 use Rattle.std.specs.HashMap.{HashMap, get}
@@ -6,7 +6,7 @@ use Rattle.s10_history.specs.declared.entry.Entry.{Entry}
 use Rattle.s10_history.specs.History.{has_key}
 use Rattle.s10_index.specs.Keys.{same_key}
 
--- at each key the map has the place of the call with that key, if there is one; the first call has place 0
+-- At each key the map has the index of the call with that key, from 0, if there is one.
 abbrev pub HasPositions : {S : Type 0} → HashMap (ℕ × ℕ) ℕ S → List Entry → Type 0
 HasPositions positions h = (customer number : ℕ) → get same_key positions (customer, number)
     ≡ position_from (has_key customer number) 0 h

@@ -1,4 +1,5 @@
--- A book in memory of the calls of a ledger, and the rows that are compared with what they make.
+-- Defines the book that results from executing calls again, and the rows that are compared with its
+-- derived ones.
 use Rattle.std.specs.Prelude.{◌≡◌, pos, List, length}
 use Rattle.s10_history.specs.History.{day_of}
 use Rattle.s10_rows.specs.declared.head_row.HeadRow.{HeadRow}
@@ -9,7 +10,7 @@ use Rattle.s10_replay.specs.CheckedTables.{IsHead}
 use Rattle.s10_index.specs.declared.replayed_book.ReplayedBook.{ReplayedBook}
 use Rattle.s10_index.specs.declared.stored_rows.StoredRows.{StoredRows}
 
--- the calls are right under the settings, and a book in memory keeps them
+-- The calls are right under the settings of head, and the book keeps them.
 pub record IsReplayedBook (heads : List HeadRow) (calls : List StoredCall) (made : ReplayedBook) :
     Type 0 where
   pub head : IsHead heads (pos 1) made.opened.settings
@@ -18,7 +19,7 @@ pub record IsReplayedBook (heads : List HeadRow) (calls : List StoredCall) (made
   pub len : made.opened.len ≡ length calls
   pub day : made.opened.day ≡ day_of (kept_of calls)
 
--- the rows are those of the three tables that are compared
+-- The stored rows are those of the three tables that are compared.
 pub record AreDerivedRows (tables : Tables) (rows : StoredRows) : Type 0 where
   pub ranges : tables.ranges ≡ rows.ranges.items
   pub serials : tables.serials ≡ rows.serials.items

@@ -1,4 +1,4 @@
--- The rows of a ledger's tables, from one on.
+-- Defines the rows of a ledger's tables from a given one on.
 use Rattle.std.specs.Prelude.{ℕ, ◌+◌, List, map, drop}
 use Rattle.s10_history.specs.declared.entry.Entry.{Entry}
 use Rattle.s10_history.specs.declared.issuance.Issuance.{Issuance}
@@ -8,15 +8,15 @@ use Rattle.s10_rows.specs.declared.range_row.RangeRow.{RangeRow}
 use Rattle.s10_rows.specs.declared.serial_row.SerialRow.{SerialRow}
 use Rattle.s10_rows.specs.Tables.{range_row, serial_row}
 
--- the rows of the ranges from that place on; the first range has place 0
+-- The rows of the ranges from that index on, counted from 0.
 abbrev pub range_rows_from : List Entry → ℕ → List RangeRow
 range_rows_from h place = map (λ r. range_row (pick_of (issues_of h) r) r)
     (drop place (ranges_of h))
 
--- the rows of the issues, of each identifier the last one alone
+-- The rows of the issuances that are the last ones of their identifiers.
 abbrev pub last_rows : List Entry → List Issuance → List SerialRow
 last_rows h is = map (λ i. serial_row (voided_after i.arrival h i.id) i) (last_issues is)
 
--- the rows of the last issues that the calls from that place on make; the first call has place 0
+-- The rows of the last issuances that the calls from that index on made, counted from 0.
 abbrev pub serial_rows_from : List Entry → ℕ → List SerialRow
 serial_rows_from h place = last_rows h (issues_from (place + 1) (drop place h))

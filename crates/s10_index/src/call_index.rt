@@ -19,13 +19,19 @@ use s10_ranges::Ranges;
 use std::alloc::{AllocError, Global};
 use std::collections::HashMap;
 
-/// Calls held in the process, with a map that finds a call by its key, another that finds the last issue of an
-/// identifier, and the ranges with their marks in the orders of `Ranges`. It takes any call; what is said of what it finds
-/// holds where its calls are a history, as `Indexes` says. No look-up takes longer in a long history than the logarithm of it.
+/// Calls held in the process, with maps that find a call by its key and the last issue of an
+/// identifier, and the ranges with their marks.
+///
+/// Any call can be added. What the reads return is that of a history only if the calls are one
+/// (`Indexes`). The maps are hash maps, and `Ranges` searches by halving: no read walks the calls.
 #[derive(Drop)]
+/// The calls, in order of arrival.
 pub struct CallIndex {
+    /// The ranges of the calls, with their marks.
     pub(crate) entries: CallLog,
+    /// The index of each call in `entries`, from 0, by customer and request number.
     pub(crate) ranges: Ranges,
+    /// The last issue of each identifier, by pair and serial.
     positions: HashMap<(u32, u32), u32>,
     pub(crate) issues: HashMap<(u32, u32), Issue>,
     ghost fitting: { All (λ e. IsTrue (fits e.request.body e.outcome)) entries.items },
@@ -34,7 +40,7 @@ pub struct CallIndex {
 impl CallIndex {
     ghost use Rattle.s10_index.specs.CallIndex.{Indexes, HasRoomFor};
 
-    /// No calls.
+    /// Creates an index of no calls.
     pub fn new(alloc: Global) -> CallIndex
         ensures { Indexes result [] }
     {
@@ -46,21 +52,21 @@ impl CallIndex {
         }
     }
 
-    /// The calls, in order of arrival.
+    /// Returns the calls, in order of arrival.
     pub fn calls(&self) -> &CallLog
         ensures { result.now.items ≡ self.now.entries.items }
     {
         &self.entries
     }
 
-    /// The ranges with their marks.
+    /// Returns the ranges with their marks.
     pub fn ranges(&self) -> &Ranges
         ensures { result.now ≡ self.now.ranges }
     {
         &self.ranges
     }
 
-    /// The day of the last call, 0 where there is none.
+    /// Returns the day of the last call, or 0 if there is none.
     pub fn day(&self) -> u32
         ensures { result ≡ day_of self.now.entries.items }
     {
@@ -70,7 +76,7 @@ impl CallIndex {
         }
     }
 
-    /// The call with that key, if there is one.
+    /// Returns the call with that key, or `None`.
     pub fn find(&self, customer: u32, number: u32) -> Option<Entry>
         ensures answer { (h : List Entry) → Indexes self.now h
             → result ≡ find_entry h customer number }
@@ -79,7 +85,7 @@ impl CallIndex {
         find_in(&self.entries, &self.positions, customer, number)
     }
 
-    /// Call number `at`, counted from 1, if it exists.
+    /// Returns the call with the arrival `at`, counted from 1, or `None`.
     pub fn entry(&self, at: u32) -> Option<Entry>
         ensures { result ≡ entry_at self.now.entries.items at }
     {
@@ -89,14 +95,14 @@ impl CallIndex {
         }
     }
 
-    /// The last issue of an identifier, if it was ever issued.
+    /// Returns the last issue of the identifier, or `None` if it was never issued.
     pub fn last_issue(&self, id: &Id) -> Option<Issue>
         ensures { (h : List Entry) → Indexes self.now h → result ≡ last_issue_of h id.now }
     {
         recorded_issue(&self.issues, id)
     }
 
-    /// The last issue of an identifier with the call that made it, if it was ever issued.
+    /// Returns the last issuance of the identifier, or `None` if it was never issued.
     pub fn last_issuance(&self, id: &Id) -> Option<Issuance>
         ensures { (h : List Entry) (t : Terms) → IsLegal h t → length h < 4294967295
             → Indexes self.now h → result ≡ last_issuance_of (issues_of h) id.now }
@@ -113,7 +119,7 @@ impl CallIndex {
         })
     }
 
-    // The serial that one of its ranges gives next.
+    // Returns the serial that the range, one of its own, gives next.
     fn pick(&self, range: &Range) -> Serial
         ensures { (h : List Entry) → Indexes self.now h → Contains (ranges_of h) range.now
             → result ≡ pick_of (issues_of h) range.now }
@@ -124,8 +130,9 @@ impl CallIndex {
         }
     }
 
-    /// The pick of one of its ranges after n issues of its own successive picks, fewer than it has serials, with
-    /// its last issue.
+    /// Returns the candidate of the range after `issued` further draws from it.
+    ///
+    /// Requires that the range is one of its own and `issued` is less than the range's size.
     pub fn candidate_after(&self, range: &Range, issued: u8) -> Candidate
         ensures { (h : List Entry) (t : Terms) → IsLegal h t → Indexes self.now h
             → Contains (ranges_of h) range.now → issued < size_of range.now
@@ -141,7 +148,11 @@ impl CallIndex {
         Candidate { serial, issue }
     }
 
-    /// Makes room for a call and all that it makes.
+    /// Reserves memory for a call and all that it records. The calls stay the same.
+    ///
+    /// # Errors
+    ///
+    /// `AllocError` if the memory cannot be allocated.
     pub fn reserve(&mut self, entry: &Entry) -> Result<(), AllocError>
         ensures calls { self.new.entries.items ≡ self.old.entries.items }
         ensures same { (h : List Entry) → Indexes self.old h → Indexes self.new h }
@@ -153,7 +164,9 @@ impl CallIndex {
         self.entries.reserve()
     }
 
-    /// Adds a call, for which there is room, and what it makes. Its outcome fits its request.
+    /// Adds a call and records what it did.
+    ///
+    /// Requires memory reserved for the call by `reserve`, and an outcome that fits the request.
     pub fn follow(&mut self, entry: Entry)
         requires room { HasRoomFor self.old entry }
         requires few { length self.old.entries.items < 4294967295 }

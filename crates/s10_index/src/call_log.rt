@@ -1,4 +1,4 @@
-//! Calls in the process.
+//! The calls in the process, in compact form.
 
 ghost use Rattle.std.specs.Prelude.{◌≡◌, ◌∷◌, ◌++◌, ◌-◌, [], ◌<◌, OnOk, Some, length, slice_get};
 ghost use Rattle.std.specs.Prelude.{vec_len, vec_capacity};
@@ -9,9 +9,11 @@ use s10_wire::Ids;
 use std::alloc::{AllocError, Global};
 use std::marker::Model;
 
-/// Kept calls in the order of their arrival, each in a row that takes little room, and the sheets that rows name.
+/// Kept calls in order of arrival, in compact form.
 #[derive(Drop)]
+/// The calls, in order of arrival. A sheet is named by its index in `sheets`.
 pub struct CallLog {
+    /// The identifiers of each sheet, in order of arrival.
     rows: Vec<CompactCall>,
     sheets: Vec<Ids>,
 }
@@ -35,7 +37,7 @@ impl Model for CallLog {
 }
 
 impl CallLog {
-    /// No calls.
+    /// Creates an empty log.
     pub fn new(alloc: Global) -> CallLog
         ensures { result.items ≡ [] }
     {
@@ -45,14 +47,14 @@ impl CallLog {
         }
     }
 
-    /// How many there are.
+    /// Returns the number of calls.
     pub fn len(&self) -> usize
         ensures { result ≡ length self.now.items }
     {
         self.rows.len()
     }
 
-    /// The call at a place, counted from 0, if it exists.
+    /// Returns the call at an index, counted from 0, or `None` if there is none.
     pub fn get(&self, place: usize) -> Option<Entry>
         ensures { result ≡ slice_get self.now.items place }
     {
@@ -62,14 +64,14 @@ impl CallLog {
         Some(self.at(place))
     }
 
-    /// The last call, if there is one.
+    /// Returns the last call, or `None` if there is none.
     pub fn last(&self) -> Option<Entry>
         ensures { result ≡ slice_get self.now.items (length self.now.items - 1) }
     {
         self.get(self.len().saturating_sub(1))
     }
 
-    /// The call at a place, counted from 0, where there is one.
+    /// Returns the call at an index, counted from 0. Requires that the index is less than `len()`.
     pub fn at(&self, place: usize) -> Entry
         requires { place < length self.now.items }
         ensures { slice_get self.now.items place ≡ Some result }
@@ -77,7 +79,11 @@ impl CallLog {
         self.rows[place].expand(&self.sheets)
     }
 
-    /// Makes room for a call of any kind.
+    /// Reserves memory for a call of any kind. The calls stay the same.
+    ///
+    /// # Errors
+    ///
+    /// `AllocError` if the memory cannot be allocated.
     pub fn reserve(&mut self) -> Result<(), AllocError>
         ensures calls { self.new.items ≡ self.old.items }
         ensures room { OnOk result (0 < self.new.room) }
@@ -86,7 +92,7 @@ impl CallLog {
         self.rows.reserve(1)
     }
 
-    /// Adds a call at the end, for which there is room.
+    /// Appends a call, in memory reserved by `reserve`.
     pub fn push_reserved(&mut self, entry: Entry)
         requires room { 0 < self.old.room }
         requires few { length self.old.items < 4294967295 }
@@ -97,7 +103,7 @@ impl CallLog {
     }
 }
 
-// Adds an item at the end, for which there is room.
+// Appends an item, in reserved memory.
 fn push_item<T: Copy>(list: &mut Vec<T>, item: T)
     requires { vec_len list.old < vec_capacity list.old }
     ensures { list.new.items ≡ list.old.items ++ item ∷ [] }

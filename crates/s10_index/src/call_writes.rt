@@ -1,4 +1,4 @@
-//! The rows that a call makes after those before it.
+//! What a call writes to the tables after the calls of an index.
 
 ghost use Rattle.std.specs.Prelude.{◌≡◌, ◌≢◌, ℕ, ◌+◌, ◌<◌, ◌++◌, ◌∷◌, [], List, length, All, Err};
 ghost use Rattle.std.specs.Prelude.{IfErr, IfOk, IsTrue};
@@ -24,7 +24,7 @@ use s10_rows::CallWrite;
 use s10_wire::{Body, Outcome, Reply, encode_reply};
 use std::alloc::Global;
 
-// What a Done Grant makes.
+// Returns the writes of a Done Grant.
 fn grant_writes(alloc: Global, entry: &Entry) -> Result<RowWrites, BookFault>
     ensures fault { result ≢ Err Full }
     ensures done { (h : List Entry) (t : Terms) (n : ℕ) → MayFollow h t entry.now
@@ -41,7 +41,7 @@ fn grant_writes(alloc: Global, entry: &Entry) -> Result<RowWrites, BookFault>
     Ok(made)
 }
 
-// What a Done Void makes, by the last issue of its identifier.
+// Returns the writes of a Done Void, by the last issuance of its identifier.
 fn void_writes(alloc: Global, index: &CallIndex, entry: &Entry) -> Result<RowWrites, BookFault>
     ensures fault { result ≢ Err Full }
     ensures done { (h : List Entry) (t : Terms) → IsLegal h t → MayFollow h t entry.now
@@ -64,7 +64,7 @@ fn void_writes(alloc: Global, index: &CallIndex, entry: &Entry) -> Result<RowWri
     Ok(made)
 }
 
-// The rows of ranges and of serials that the call makes after those of the index.
+// Returns the writes of the call to ranges and serials after the calls of the index.
 fn call_row_writes(
     alloc: Global,
     index: &CallIndex,
@@ -86,7 +86,14 @@ fn call_row_writes(
     }
 }
 
-/// What a call writes after those of the index. Refused by lack of memory, and with Store where the call may not follow them.
+/// Returns what a call writes after the calls of the index.
+///
+/// `arrival` is that of the call: one more than the number of calls in the index.
+///
+/// # Errors
+///
+/// - `Memory` if the writes cannot be allocated.
+/// - `Store` only if the call may not follow the calls of the index.
 pub fn call_write(
     alloc: Global,
     index: &CallIndex,

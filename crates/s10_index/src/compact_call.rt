@@ -1,4 +1,4 @@
-//! Kept calls that take little room.
+//! Kept calls in compact form.
 
 ghost use Rattle.std.specs.Prelude.{◌≡◌, ◌++◌, ◌<◌, length, vec_len, vec_capacity};
 ghost use Rattle.s10_index.specs.CompactOutcomes.{entry_of, sheet_of, NamesSheetOf};
@@ -7,16 +7,20 @@ use crate::compact_outcome::CompactOutcome;
 use s10_history::Entry;
 use s10_wire::{Ids, Request};
 
-/// A kept call as `Entry` has it, its outcome in short.
+/// A kept call, with a compact outcome.
 #[derive(Clone, Copy)]
 pub(crate) struct CompactCall {
+    /// The request.
     pub(crate) request: Request,
+    /// The day of the call.
     pub(crate) day: u32,
+    /// The outcome, in compact form.
     pub(crate) outcome: CompactOutcome,
 }
 
 impl CompactCall {
-    /// The call in short. Its sheet, if it has one, goes after the others, where there is room for it.
+    /// Returns the call in compact form. Appends its sheet, if it has one, to `sheets` in reserved
+    /// memory.
     pub(crate) fn of(entry: Entry, sheets: &mut Vec<Ids>) -> CompactCall
         requires room { vec_len sheets.old < vec_capacity sheets.old }
         requires few { length sheets.old.items < 4294967295 }
@@ -31,7 +35,7 @@ impl CompactCall {
         }
     }
 
-    /// The call, its sheet one of these.
+    /// Returns the call. Its sheet, if it has one, is in `sheets`.
     pub(crate) fn expand(self, sheets: &[Ids]) -> Entry
         requires { NamesSheetOf (length sheets.now) self.outcome }
         ensures { result ≡ entry_of sheets.now self }

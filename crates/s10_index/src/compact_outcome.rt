@@ -1,4 +1,4 @@
-//! Outcomes that take little room.
+//! Outcomes in compact form.
 
 ghost use Rattle.std.specs.Prelude.{◌≡◌, ◌++◌, ◌<◌, length, vec_len, vec_capacity};
 ghost use Rattle.s10_index.specs.CompactOutcomes.{outcome_of, sheet_of, NamesSheetOf};
@@ -6,8 +6,9 @@ ghost use Rattle.s10_index.specs.CompactOutcomes.{outcome_of, sheet_of, NamesShe
 use s10_core::Id;
 use s10_wire::{Ids, Outcome, Status};
 
-/// An outcome as `Outcome` has it, but for a sheet, which is named by its place in a list of sheets, counted from 0. An
-/// outcome with a sheet in it has room for sixteen identifiers, and most have one or none.
+/// An outcome in which a sheet is named by its index in a list of sheets, from 0.
+///
+/// An `Outcome` always has space for sixteen identifiers, and most outcomes have at most one.
 #[derive(Clone, Copy)]
 pub(crate) enum CompactOutcome {
     Granted { range: u32 },
@@ -30,7 +31,8 @@ pub(crate) enum CompactOutcome {
 }
 
 impl CompactOutcome {
-    /// The outcome in short. Its sheet, if it has one, goes after the others, where there is room for it.
+    /// Returns the outcome in compact form. Appends its sheet, if it has one, to `sheets` in
+    /// reserved memory.
     pub(crate) fn of(outcome: Outcome, sheets: &mut Vec<Ids>) -> CompactOutcome
         requires room { vec_len sheets.old < vec_capacity sheets.old }
         requires few { length sheets.old.items < 4294967295 }
@@ -63,7 +65,7 @@ impl CompactOutcome {
         }
     }
 
-    /// The outcome, its sheet one of these.
+    /// Returns the outcome. Its sheet, if it has one, is in `sheets`.
     pub(crate) fn expand(self, sheets: &[Ids]) -> Outcome
         requires { NamesSheetOf (length sheets.now) self }
         ensures { result ≡ outcome_of sheets.now self }

@@ -1,4 +1,4 @@
-//! The rows of a ledger are compared with those that its calls make.
+//! Compares the rows of a ledger with those of its calls.
 
 ghost use Rattle.std.specs.Prelude.{◌≡◌, ◌≤◌, ◌↔◌, pos, length, All, IfOk, IfErr, OnOk, IsTrue};
 ghost use Rattle.s10_history.specs.declared.settings.TheConstants.{MAX_LIMIT};
@@ -18,7 +18,7 @@ use s10_replay::{same_closed, same_ranges, same_serials};
 use s10_rows::{ClosedRow, LedgerSummary, OpenFault, RangeRow, SerialRow};
 use std::alloc::Global;
 
-// Whether these are the ranges of the book.
+// Returns whether these are the rows of `ranges` of the book's history.
 fn ranges_match(alloc: Global, book: &IndexedBook, rows: Vec<RangeRow>) -> Result<bool, OpenFault>
     ensures err { (tables : Tables) → IfErr result (IsRefusal tables) }
     ensures answer { IfOk result (λ b. IsTrue b
@@ -30,7 +30,7 @@ fn ranges_match(alloc: Global, book: &IndexedBook, rows: Vec<RangeRow>) -> Resul
     Ok(same_ranges(&made, rows))
 }
 
-// Whether these are the serials of the book.
+// Returns whether these are the rows of `serials` of the book's history.
 fn serials_match(alloc: Global, book: &IndexedBook, rows: Vec<SerialRow>) -> Result<bool, OpenFault>
     ensures err { (tables : Tables) → IfErr result (IsRefusal tables) }
     ensures answer { All IsCall book.now.index.entries.items
@@ -43,7 +43,7 @@ fn serials_match(alloc: Global, book: &IndexedBook, rows: Vec<SerialRow>) -> Res
     Ok(same_serials(made, rows))
 }
 
-// Whether these are the closed ranges of the book.
+// Returns whether these are the rows of `closed` of the book's history.
 fn closed_match(alloc: Global, book: &IndexedBook, rows: Vec<ClosedRow>) -> Result<bool, OpenFault>
     ensures err { (tables : Tables) → IfErr result (IsRefusal tables) }
     ensures answer { IfOk result (λ b. IsTrue b
@@ -55,7 +55,8 @@ fn closed_match(alloc: Global, book: &IndexedBook, rows: Vec<ClosedRow>) -> Resu
     Ok(same_closed(&made, rows))
 }
 
-// Compares the rows with those that the calls of the book make. Refused with Damaged(0) where they differ, and with Memory.
+// Compares stored rows with the derived rows of the book's calls. `Damaged(0)` if they differ,
+// `Memory` if out of memory.
 fn compare_rows(alloc: Global, book: &IndexedBook, rows: StoredRows) -> Result<(), OpenFault>
     ensures ok { (tables : Tables) (t : Terms) → AreDerivedRows tables rows
         → AreRight t tables.calls → book.now.index.entries.items ≡ kept_of tables.calls
@@ -75,8 +76,14 @@ fn compare_rows(alloc: Global, book: &IndexedBook, rows: StoredRows) -> Result<(
     }
 }
 
-/// What is found of a ledger whose calls were done again, by the rows of the tables that they make, and the index of its
-/// calls. Refused with Damaged(0) where another row is there, and with Memory.
+/// Checks the stored rows against the calls that were executed again.
+///
+/// Returns the summary of the ledger and the index of its calls if the rows are those of the calls.
+///
+/// # Errors
+///
+/// - `Damaged(0)` if a stored row differs from the derived ones, is missing or is extra.
+/// - `Memory` if out of memory.
 pub fn check_tables(
     alloc: Global,
     made: ReplayedBook,

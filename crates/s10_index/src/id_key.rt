@@ -6,7 +6,7 @@ ghost use Rattle.s10_index.specs.Keys.{id_key};
 
 use s10_core::Id;
 
-// The four letters as a big-endian number, and the serial.
+// Returns the four letters as a big-endian number, and the serial.
 pub(crate) fn key_of(id: &Id) -> (u32, u32)
     ensures value { result ≡ id_key id.now }
     ensures parts { IsId id.now }

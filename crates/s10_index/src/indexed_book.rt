@@ -24,19 +24,24 @@ use s10_history::{
 };
 use std::alloc::{AllocError, Global};
 
-/// A book in memory over an index of its calls. It is always honest, and only `keep` can be refused, by Memory. Of its calls
-/// `usage` alone takes longer in a long history than the logarithm of it: it asks for each serial of the range.
+/// A book in memory over an index of its calls. It is always honest, and only `keep` can fail, with
+/// `Memory`.
+///
+/// `usage` looks up each serial of the range; no other read walks the serials or the calls.
 #[derive(Drop)]
 pub struct IndexedBook {
+    /// The reuse interval in days and the limit.
     settings: Settings,
+    /// The faults counted.
     faults: Faults,
+    /// The calls, with their index.
     pub(crate) index: CallIndex,
     ghost indexed: { Indexes index index.entries.items },
     ghost legal: { IsLegal index.entries.items settings },
 }
 
 impl IndexedBook {
-    /// An empty book with these settings and no fault counted.
+    /// Creates an empty book with these settings and no fault counted.
     pub fn new(alloc: Global, settings: Settings) -> IndexedBook
         ensures history { ⟦<IndexedBook as Book>⟧.history result ≡ [] }
         ensures terms { ⟦<IndexedBook as Book>⟧.terms result ≡ settings }
@@ -50,7 +55,7 @@ impl IndexedBook {
         }
     }
 
-    /// Its calls, with their index.
+    /// Returns its calls, with their index.
     pub fn into_index(self) -> CallIndex
         ensures indexed { Indexes result self.index.entries.items }
         ensures few { length result.entries.items ≤ MAX_LIMIT }
@@ -59,7 +64,7 @@ impl IndexedBook {
         self.index
     }
 
-    // Adds a call and what it makes, once there is room for all of it.
+    // Adds a call and records what it did, in memory that is reserved first.
     fn add(&mut self, entry: Entry) -> Result<(), AllocError>
         requires { MayFollow self.old.index.entries.items self.old.settings entry }
         ensures terms { self.new.settings ≡ self.old.settings }
@@ -74,7 +79,8 @@ impl IndexedBook {
         Ok(())
     }
 
-    // How many serials of the range were issued, are voided, and are free on the day.
+    // Counts the serials of the range that were issued, that are voided, and that are free on the
+    // day.
     fn usage_on(&self, range: &Range, day: u32) -> Usage
         ensures used { result.used
             ≡ count_by (λ serial. is_issued (issues_of self.now.index.entries.items)
@@ -247,7 +253,7 @@ impl Book for IndexedBook {
     }
 }
 
-// What a book in memory keeps is committed as far as it can be.
+// A book in memory commits a call when it keeps it: nothing is ever pending.
 impl GroupCommit for IndexedBook {
     ghost use Rattle.std.proofs.Common.{sym, append-nil};
 

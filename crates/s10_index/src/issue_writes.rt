@@ -1,4 +1,4 @@
-//! The rows that the issues of a call make.
+//! What the issuances of a call write.
 
 ghost use Rattle.std.specs.Prelude.{◌≡◌, ◌≢◌, ℕ, ◌+◌, ◌<◌, ◌++◌, ◌∷◌, [], false, List, length};
 ghost use Rattle.std.specs.Prelude.{take, slice_get, All, Err, Some, IfOk, IfErr, IsOk, OnOk};
@@ -23,7 +23,7 @@ use s10_replay::issue_writes;
 use s10_rows::{PriorIssue, RangeWrite, SerialWrite};
 use std::alloc::Global;
 
-// Whether the call issues the identifier before that place.
+// Returns whether the call issues the identifier in its first `place` issuances.
 fn is_issued_before(entry: &Entry, arrival: u32, place: usize, id: &Id) -> bool
     ensures { result ≡ is_issued (take place (issues_at arrival entry.now)) id.now }
 {
@@ -37,8 +37,9 @@ fn is_issued_before(entry: &Entry, arrival: u32, place: usize, id: &Id) -> bool
     false
 }
 
-// Whether what the call issues of the range at a place was issued before: by an earlier call where the range is in a later
-// turn, and maybe by this one where it began such a turn before that place.
+// Returns whether the issuance at index `place` may be of an identifier that was issued before. It
+// never was if the range is in its first lap and this call did not issue the last serial of the
+// range before.
 fn prior_issue_in(lap: Lap, range: &Range, entry: &Entry, arrival: u32, place: usize) -> PriorIssue
     ensures { result ≡ PriorIssue.Never → (lap ≡ Lap.First)
         × (is_issued (take place (issues_at arrival entry.now)) (id_at range.now range.now.last)
@@ -55,7 +56,8 @@ fn prior_issue_in(lap: Lap, range: &Range, entry: &Entry, arrival: u32, place: u
     }
 }
 
-// What the issue at a place makes, by the range of its identifier. A fault of the store where no range has it.
+// Returns the writes of the issuance at index `place`, by the range of its identifier. `Store` if
+// no range has it.
 fn issue_writes_at(
     ranges: &Ranges,
     arrival: u32,
@@ -87,8 +89,8 @@ fn issue_writes_at(
     Ok(issue_writes(&range, issued, issuance))
 }
 
-// Adds what the issue at a place makes. Refused by lack of memory, and with a fault of the store where the call has no issue
-// there or no range has its identifier.
+// Adds the writes of the issuance at index `place`. `Memory` if out of memory, `Store` if the call
+// has no such issuance or no range has its identifier.
 fn add_issue_writes(
     made: &mut RowWrites,
     ranges: &Ranges,
@@ -114,8 +116,8 @@ fn add_issue_writes(
     made.add_serial(row)
 }
 
-// What the issues of a call that was no Done Grant and no Done Void make, one after another. Refused by lack of memory, and
-// with a fault of the store where no range has the identifier of one.
+// Returns the writes of all issuances of a call that is no Done Grant and no Done Void. `Memory` if
+// out of memory, `Store` if no range has one of its identifiers.
 pub(crate) fn issue_writes_of(
     alloc: Global,
     ranges: &Ranges,

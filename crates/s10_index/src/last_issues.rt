@@ -24,7 +24,7 @@ pub(crate) fn recorded_issue(issues: &HashMap<(u32, u32), Issue>, id: &Id) -> Op
     issues.get(&key_of(id)).copied()
 }
 
-// Notes what a kept call makes of the last issues of its identifiers. There is room for all that it issued.
+// Records what the call issued or voided, in memory reserved for all its issuances.
 pub(crate) fn record_call(issues: &mut HashMap<(u32, u32), Issue>, entry: &Entry)
     requires room { length (carried_by entry.now.outcome) ≤ spare issues.old }
     ensures { (h : List Entry) (t : Terms) → IsLegal h t → HasIssues issues.old h
@@ -40,21 +40,21 @@ pub(crate) fn record_call(issues: &mut HashMap<(u32, u32), Issue>, entry: &Entry
     }
 }
 
-// Notes each issue of the call, one after another. There is room for all of them.
+// Records each issuance of the call, in memory reserved for all of them.
 fn record_issues(issues: &mut HashMap<(u32, u32), Issue>, entry: &Entry)
     requires room { length (carried_by entry.now.outcome) ≤ spare issues.old }
     ensures { (h : List Entry) → HasLast issues.old (h ++ entry.now ∷ []) (issues_of h)
         → HasLast issues.new (h ++ entry.now ∷ []) (issues_of (h ++ entry.now ∷ [])) }
 {
     for place in 0..entry.issued() {
-        // Which arrival the issues have is no matter to what is noted.
+        // An issue has no arrival, so 0 will do.
         if let Some(issuance) = entry.issue(0, place) {
             record_issue(issues, &issuance);
         }
     }
 }
 
-// Notes an issue. There is room for one more.
+// Records an issuance, in memory reserved for one more.
 fn record_issue(issues: &mut HashMap<(u32, u32), Issue>, issuance: &Issuance)
     requires room { 0 < spare issues.old }
     ensures recorded { RecordsIssue (id_key issuance.now.id) (as_issue issuance.now false) issues.old

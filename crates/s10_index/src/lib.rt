@@ -1,5 +1,6 @@
-//! The calls of a ledger with an index, which finds what a call asks of them without a walk; the book in memory over it; and
-//! the rows that calls make, and whether a ledger's tables have those of its calls.
+//! The calls of a ledger with an index, which answers the reads of the rules without a walk over
+//! the calls; the book in memory over it; what a call writes to the tables; and the check of stored
+//! rows.
 #![tactic(auto)]
 
 mod call_index;

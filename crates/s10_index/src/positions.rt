@@ -1,4 +1,4 @@
-//! Where the call of each key stands.
+//! The index of each call in the log, by its key.
 
 ghost use Rattle.std.specs.Prelude.{◌≡◌, ◌<◌, ◌++◌, ◌∷◌, [], List, None, IfSome, Contains, length};
 ghost use Rattle.std.specs.HashMap.{get, spare};
@@ -25,7 +25,7 @@ pub(crate) fn find_in(
     calls.get(place as usize)
 }
 
-// The place of the call with that key, if there is one.
+// Returns the index of the call with that key, from 0, or `None`.
 pub(crate) fn position_of(
     positions: &HashMap<(u32, u32), u32>,
     customer: u32,
@@ -36,7 +36,7 @@ pub(crate) fn position_of(
     positions.get(&(customer, number)).copied()
 }
 
-// Notes the place of the next call. Its key is new, and there is room for it.
+// Records the index of the next call, in reserved memory. Its key is new.
 pub(crate) fn record_position(positions: &mut HashMap<(u32, u32), u32>, entry: &Entry, place: u32)
     requires room { 0 < spare positions.old }
     ensures { (h : List Entry) → HasPositions positions.old h → place ≡ length h

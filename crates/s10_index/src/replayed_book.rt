@@ -1,4 +1,4 @@
-//! The calls of a ledger are done again in memory.
+//! The book of a ledger's calls, executed again in memory.
 
 ghost use Rattle.std.specs.Prelude.{◌≡◌, pos, IfOk, IfErr};
 ghost use Rattle.s10_rows.specs.Tables.{Tables};
@@ -12,14 +12,17 @@ use s10_replay::{replay_rows, settings_in};
 use s10_rows::{CallRow, HeadRow, LedgerSummary, OpenFault};
 use std::alloc::Global;
 
-/// A book in memory of a ledger's calls, and what is to be restored of them.
+/// The book in memory that results from executing the calls of a ledger again, with the ledger's
+/// summary.
 #[derive(Drop)]
 pub struct ReplayedBook {
+    /// The book that keeps the calls.
     pub book: IndexedBook,
+    /// The settings, the number of calls and the day of the last one.
     pub opened: LedgerSummary,
 }
 
-// A book in memory that keeps the calls of the rows, each of them right after those before it.
+// Executes the calls of the rows again in a new book.
 fn replay_calls(
     alloc: Global,
     settings: Settings,
@@ -38,8 +41,14 @@ fn replay_calls(
 impl ReplayedBook {
     ghost use Rattle.s10_index.specs.ReplayedBook.{IsReplayedBook};
 
-    /// The book of these calls, each of them right after those before it. Refused with NotALedger where `head` is not its
-    /// one row, with Schema, with Damaged and the first call that is wrong, and with Memory.
+    /// Executes the calls of the rows again in a new book, with the settings of `head`.
+    ///
+    /// # Errors
+    ///
+    /// - `NotALedger` if `heads` is not one row with settings in their limits.
+    /// - `Schema` with the schema number if that is not 1.
+    /// - `Damaged` with the arrival of the first wrong call.
+    /// - `Memory` if out of memory.
     pub fn of(
         alloc: Global,
         heads: Vec<HeadRow>,

@@ -1,4 +1,4 @@
-//! The rows that a call makes, as they are gathered.
+//! The writes of a call, as they are gathered.
 
 ghost use Rattle.std.specs.Prelude.{◌≡◌, [], ◌++◌, ◌∷◌, IfErr, OnOk};
 
@@ -6,7 +6,7 @@ use s10_book::BookFault;
 use s10_rows::{RangeWrite, SerialWrite};
 use std::alloc::Global;
 
-// What a call makes of the ranges and of the serials, in the order in which it is written.
+// The writes of a call to ranges and to serials, in the order in which they are applied.
 #[derive(Drop)]
 pub(crate) struct RowWrites {
     pub(crate) ranges: Vec<RangeWrite>,
@@ -14,7 +14,7 @@ pub(crate) struct RowWrites {
 }
 
 impl RowWrites {
-    // No row.
+    // Creates an empty list of writes.
     pub(crate) fn new(alloc: Global) -> RowWrites
         ensures ranges { result.ranges.items ≡ [] }
         ensures serials { result.serials.items ≡ [] }
@@ -25,7 +25,7 @@ impl RowWrites {
         }
     }
 
-    // Adds what it makes of the ranges next. Refused by lack of memory alone.
+    // Appends a write to ranges. `Memory` if out of memory.
     pub(crate) fn add_range(&mut self, write: RangeWrite) -> Result<(), BookFault>
         ensures memory { IfErr result (λ f. f ≡ BookFault.Memory) }
         ensures ranges { OnOk result (self.new.ranges.items ≡ self.old.ranges.items ++ write ∷ []) }
@@ -37,7 +37,7 @@ impl RowWrites {
         }
     }
 
-    // Adds what it makes of the serials next. Refused by lack of memory alone.
+    // Appends a write to serials. `Memory` if out of memory.
     pub(crate) fn add_serial(&mut self, write: SerialWrite) -> Result<(), BookFault>
         ensures memory { IfErr result (λ f. f ≡ BookFault.Memory) }
         ensures ranges { self.new.ranges.items ≡ self.old.ranges.items }

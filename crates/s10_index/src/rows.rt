@@ -1,4 +1,4 @@
-//! The rows of a ledger's tables that the history of a book makes.
+//! The derived rows of a book's history.
 
 ghost use Rattle.std.specs.Prelude.{◌≡◌, ◌++◌, ◌∷◌, ◌+◌, ◌<◌, ◌≤◌, List, IfOk, OnOk, Some, drop};
 ghost use Rattle.std.specs.Prelude.{slice_get, option_to_list};
@@ -20,8 +20,8 @@ use s10_rows::{ClosedRow, RangeRow, SerialRow};
 use std::alloc::{AllocError, Global};
 use std::collections::HashMap;
 
-// The row of an issue of the history, where it is the last one of its identifier: where the noted one is on its day, since
-// no identifier is issued twice on one day.
+// Returns the row of an issuance of the history if it is the last one of its identifier. It is if
+// the recorded issue has its day, since no identifier is issued twice on one day.
 fn last_row(issues: &HashMap<(u32, u32), Issue>, issuance: &Issuance) -> Option<SerialRow>
     ensures { (h : List Entry) (t : Terms) (before behind : List Issuance) → IsLegal h t
         → 1 ≤ t.interval → HasIssues issues.now h
@@ -35,7 +35,8 @@ fn last_row(issues: &HashMap<(u32, u32), Issue>, issuance: &Issuance) -> Option<
     Some(SerialRow::of(issuance, last.voided))
 }
 
-// Adds the rows of the issues that a call made, of each that is the last one of its identifier. The first call has place 0.
+// Appends the rows of those issuances of a call that are the last ones of their identifiers. The
+// index of the first call (`place`) is 0.
 fn push_rows(
     rows: &mut Vec<SerialRow>,
     issues: &HashMap<(u32, u32), Issue>,
@@ -59,7 +60,11 @@ fn push_rows(
 }
 
 impl IndexedBook {
-    /// The rows of `ranges`, in order of their numbers. Refused by lack of memory alone.
+    /// Returns the rows of `ranges`, in order of their numbers.
+    ///
+    /// # Errors
+    ///
+    /// `AllocError` if the rows cannot be allocated.
     pub fn range_rows(&self, alloc: Global) -> Result<Vec<RangeRow>, AllocError>
         ensures { IfOk result (λ rows. rows.items ≡ range_rows self.now.index.entries.items) }
     {
@@ -72,11 +77,15 @@ impl IndexedBook {
         Ok(rows)
     }
 
-    /// The rows of `serials`, in order of the issues that they tell. Refused by lack of memory alone.
+    /// Returns the rows of `serials`, in order of the issuances that they record.
+    ///
+    /// # Errors
+    ///
+    /// `AllocError` if the rows cannot be allocated.
     pub fn serial_rows(&self, alloc: Global) -> Result<Vec<SerialRow>, AllocError>
         ensures { IfOk result (λ rows. rows.items ≡ serial_rows self.now.index.entries.items) }
     {
-        // At least 1, so that no identifier is issued twice on one day.
+        // Brings 1 <= interval into scope, so that no identifier is issued twice on one day.
         let _interval = self.settings().interval();
         let len = self.len();
         let mut rows = Vec::new(alloc);
@@ -87,7 +96,11 @@ impl IndexedBook {
         Ok(rows)
     }
 
-    /// The rows of `closed`, in order of the calls that closed them. Refused by lack of memory alone.
+    /// Returns the rows of `closed`, in order of the calls that closed them.
+    ///
+    /// # Errors
+    ///
+    /// `AllocError` if the rows cannot be allocated.
     pub fn closed_rows(&self, alloc: Global) -> Result<Vec<ClosedRow>, AllocError>
         ensures { IfOk result (λ rows. rows.items ≡ closed_rows self.now.index.entries.items) }
     {

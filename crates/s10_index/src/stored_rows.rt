@@ -1,9 +1,12 @@
 use s10_rows::{ClosedRow, RangeRow, SerialRow};
 
-/// The rows that are to be compared with what the calls make.
+/// The derived rows of a ledger as they were read from its tables, not yet checked.
 #[derive(Drop)]
 pub struct StoredRows {
+    /// The rows of `ranges`.
     pub ranges: Vec<RangeRow>,
+    /// The rows of `serials`.
     pub serials: Vec<SerialRow>,
+    /// The rows of `closed`.
     pub closed: Vec<ClosedRow>,
 }
