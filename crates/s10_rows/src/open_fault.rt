@@ -21,7 +21,7 @@ pub enum OpenFault {
     /// Out of memory.
     #[error("memory")]
     Memory,
-    /// A statement failed that should succeed.
+    /// A statement failed that should succeed, or the database of a new ledger is not empty.
     #[error("store")]
     Store,
 }

@@ -1,5 +1,5 @@
--- The five tables of a ledger, as CREATE TABLE makes them in an empty database, each with its tree, and what may follow them.
--- Ledgers of earlier builds have the first four alone.
+-- Defines the five tables of a ledger, as CREATE TABLE declares them in an empty database, each
+-- with its tree, and what may follow them. A ledger of an earlier build has only the first four.
 use Rattle.std.specs.Prelude.{◌≡◌, true, false, [], ◌∷◌, Some, None, codes, List, ℕ, Bool, not}
 use Rattle.std.specs.Prelude.{◌&&◌, ◌||◌, ◌==◌, drop, slice_index_or}
 use Rattle.std.specs.List.{list_all}
@@ -21,7 +21,7 @@ use Rattle.sqlite_schema.specs.declared.schema.Schema.{Schema}
 use Rattle.sqlite_schema.specs.declared.schema.Kind.{Kind}
 use Rattle.sqlite_schema.specs.declared.schema.Kind.TheVariants.{Integer, Blob}
 
--- a column of this type that is never NULL
+-- A column of this kind that is never NULL.
 abbrev pub column_of : List ℕ → Kind → Column
 column_of name kind = record {
   name = name;
@@ -32,24 +32,26 @@ column_of name kind = record {
   collation = Binary;
 }
 
+-- A column of integers that is never NULL.
 abbrev pub integer : List ℕ → Column
 integer name = column_of name Integer
 
--- CHECK (one = 1)
+-- The check of head: one = 1.
 abbrev pub one_is_one : Term
 one_is_one = op2 (Compare Eq Binary) (col 1 0) (lit (Int (pos 1)))
 
--- the node at a place, where NULL stands at each place that there is not
+-- The node at an index, or the literal NULL if there is none.
 abbrev pub node_at : List Op → ℕ → Op
 node_at nodes at = slice_index_or nodes at (Literal Null)
 
--- the table has no rule but its keys and its checks
+-- A table is bare if it has no rules but its keys and its checks.
 pub record IsBare (t : Table) : Type 0 where
   pub references : t.references ≡ []
   pub computed : t.computed ≡ []
   pub stamps : t.stamps ≡ record { places = []; terms = []; formats = [] }
   pub uncounted : t.is_counted ≡ false
 
+-- The table head.
 abbrev pub head_table : Table
 head_table = record {
   name = codes "head";
@@ -67,6 +69,7 @@ head_table = record {
   is_counted = false;
 }
 
+-- The table calls.
 abbrev pub calls_table : Table
 calls_table = record {
   name = codes "calls";
@@ -84,6 +87,7 @@ calls_table = record {
   is_counted = false;
 }
 
+-- The table ranges.
 abbrev pub ranges_table : Table
 ranges_table = record {
   name = codes "ranges";
@@ -101,6 +105,7 @@ ranges_table = record {
   is_counted = false;
 }
 
+-- The table serials.
 abbrev pub serials_table : Table
 serials_table = record {
   name = codes "serials";
@@ -119,6 +124,7 @@ serials_table = record {
   is_counted = false;
 }
 
+-- The table closed.
 abbrev pub closed_table : Table
 closed_table = record {
   name = codes "closed";
@@ -135,6 +141,7 @@ closed_table = record {
   is_counted = false;
 }
 
+-- The index that SQLite makes for the key of calls.
 abbrev pub calls_index : Index
 calls_index = record {
   name = codes "sqlite_autoindex_calls_1";
@@ -145,6 +152,7 @@ calls_index = record {
   is_unique = true;
 }
 
+-- The index that SQLite makes for the primary key of serials.
 abbrev pub serials_index : Index
 serials_index = record {
   name = codes "sqlite_autoindex_serials_1";
@@ -155,11 +163,11 @@ serials_index = record {
   is_unique = true;
 }
 
--- the schema of an empty database
+-- The schema of an empty database.
 abbrev pub no_schema : Schema
 no_schema = record { tables = []; indexes = []; views = [] }
 
--- the first four tables of a ledger, and others after them
+-- The first four tables of a ledger, with others after them.
 abbrev pub with_others : Schema → Schema
 with_others o = record {
   tables = head_table ∷ calls_table ∷ ranges_table ∷ serials_table
@@ -168,27 +176,27 @@ with_others o = record {
   views = o.views;
 }
 
--- closed, and others after it
+-- The table closed, with others after it.
 abbrev pub closed_first : Schema → Schema
 closed_first o = record o { tables = closed_table ∷ o.tables }
 
--- the five tables of a ledger, and others after them
+-- The five tables of a ledger, with others after them.
 abbrev pub with_closed : Schema → Schema
 with_closed o = with_others (closed_first o)
 
--- the schema of a ledger that has its database for itself
+-- The schema of a ledger with nothing else in its database.
 abbrev pub ledger_schema : Schema
 ledger_schema = with_closed no_schema
 
--- and that of one of an earlier build
+-- The schema of a ledger of an earlier build.
 abbrev pub four_tables : Schema
 four_tables = with_others no_schema
 
--- what follows the first four tables and their two indexes
+-- The tables after the first four, the indexes after the first two, and the views.
 abbrev pub others_in : Schema → Schema
 others_in s = record { tables = drop 4 s.tables; indexes = drop 2 s.indexes; views = s.views }
 
--- and what follows the first five
+-- The tables after the first five, the indexes after the first two, and the views.
 abbrev pub others_after_closed : Schema → Schema
 others_after_closed s = record {
   tables = drop 5 s.tables;
@@ -196,40 +204,49 @@ others_after_closed s = record {
   views = s.views;
 }
 
+-- Whether the tree is that of one of the first four tables.
 abbrev pub is_own_tree : ℕ → Bool
 is_own_tree t = (t == 0) || ((t == 1) || ((t == 3) || (t == 4)))
 
+-- Whether the name is that of one of the first four tables, without regard to case.
 abbrev pub is_own_name : List ℕ → Bool
 is_own_name name = same_name (codes "head") name || (same_name (codes "calls") name
     || (same_name (codes "ranges") name || same_name (codes "serials") name))
 
+-- None of the foreign keys refers to one of the first four tables.
 abbrev pub refer_apart : List Reference → Bool
 refer_apart refs = list_all (λ r. not (is_own_name r.parent)) refs
 
+-- None of the tables is one of the first four or refers to one of them.
 abbrev pub are_apart : List Table → Bool
 are_apart tables = list_all (λ t. not (is_own_tree t.tree) && refer_apart t.references) tables
 
+-- None of the indexes is on one of the first four tables.
 abbrev pub index_apart : List Index → Bool
 index_apart indexes = list_all (λ i. not (is_own_tree i.table)) indexes
 
--- The schema begins with the first four tables of a ledger and their indexes. No other table has a foreign key on them, and no other
--- index is of them.
+-- A schema is a ledger's if it begins with the first four tables of a ledger and their two indexes,
+-- no other table has a foreign key on these, and no other index is on them.
 pub record IsLedgerSchema (s : Schema) : Type 0 where
   pub is : s ≡ with_others (others_in s)
   pub tables : are_apart (drop 4 s.tables) ≡ true
   pub indexes : index_apart (drop 2 s.indexes) ≡ true
 
+-- None of the foreign keys refers to closed.
 abbrev pub refer_apart_from_closed : List Reference → Bool
 refer_apart_from_closed refs = list_all (λ r. not (same_name (codes "closed") r.parent)) refs
 
+-- None of the tables is closed or refers to it.
 abbrev pub are_apart_from_closed : List Table → Bool
 are_apart_from_closed tables =
     list_all (λ t. not (t.tree == 6) && refer_apart_from_closed t.references) tables
 
+-- None of the indexes is on closed.
 abbrev pub index_apart_from_closed : List Index → Bool
 index_apart_from_closed indexes = list_all (λ i. not (i.table == 6)) indexes
 
--- The schema begins with the five tables of a ledger. No table after them has a foreign key on `closed` either, and no index is of it.
+-- A schema is that of this build's ledger if it begins with the five tables of a ledger, no table
+-- after them has a foreign key on closed either, and no index is on it.
 pub record IsClosedSchema (s : Schema) : Type 0 where
   pub ledger : IsLedgerSchema s
   pub is : s ≡ with_closed (others_after_closed s)

@@ -1,4 +1,4 @@
-//! The declared tables are compared with the five of a ledger.
+//! Compares the declared tables with the five of a ledger.
 
 ghost use Rattle.std.specs.Prelude.{◌≡◌, not, ◌&&◌, ◌==◌, ◌↔◌, true, ◌∷◌, drop, codes, IsTrue};
 ghost use Rattle.sqlite_schema.specs.Names.{same_name};
@@ -31,7 +31,7 @@ fn is_closed(table: &Table) -> bool
         && is_bare(table)
 }
 
-// Whether none of the foreign keys is on `closed`.
+// Returns whether none of the foreign keys refers to `closed`.
 fn refer_apart(references: &[Reference]) -> bool
     ensures { result ≡ spec.refer_apart_from_closed references.now }
 {
@@ -47,21 +47,21 @@ fn is_apart(table: &Table) -> bool
     table.tree != 6 && refer_apart(table.references.as_slice())
 }
 
-// Whether the tables are others than `closed` and do not refer to it.
+// Returns whether no table is `closed` or refers to it.
 fn are_apart(tables: &[Table]) -> bool
     ensures { result ≡ spec.are_apart_from_closed tables.now }
 {
     tables.iter().all(|t| is_apart(t))
 }
 
-// Whether no index is of `closed`.
+// Returns whether no index is on `closed`.
 fn index_apart(indexes: &[Index]) -> bool
     ensures { result ≡ spec.index_apart_from_closed indexes.now }
 {
     indexes.iter().all(|i| i.table != 6)
 }
 
-// Whether the fifth table is `closed`, and no other has a part in it.
+// Returns whether the fifth table is `closed`, and no table after it refers to it.
 fn has_closed(tables: &[Table]) -> bool
     ensures known { IsTrue result ↔ ((drop 4 tables.now ≡ closed_table ∷ drop 5 tables.now)
         × (spec.are_apart_from_closed (drop 5 tables.now) ≡ true)) }
@@ -72,7 +72,8 @@ fn has_closed(tables: &[Table]) -> bool
     is_closed(closed) && are_apart(others)
 }
 
-/// Whether the first five tables are declared as those of a ledger are, and no other has a part in them.
+/// Returns whether the schema begins with the five tables of a ledger, no other table refers to one
+/// of them, and no other index is on them.
 pub fn is_closed_schema(schema: &Schema) -> bool
     ensures known { IsTrue result ↔ IsClosedSchema schema.now }
 {

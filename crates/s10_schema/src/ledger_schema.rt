@@ -1,4 +1,4 @@
-//! The declared tables are compared with the first four of a ledger.
+//! Compares the declared tables with the first four of a ledger.
 
 ghost use Rattle.std.specs.Prelude.{◌≡◌, not, ◌&&◌, ◌↔◌, ℕ, pos, true, [], ◌∷◌, drop, IsTrue};
 ghost use Rattle.std.specs.Prelude.{IfSome, IfNone};
@@ -44,7 +44,7 @@ fn is_unstamped(stamps: &Stamps) -> bool
     stamps.places.is_empty() && stamps.terms.roots.is_empty() && stamps.formats.is_empty()
 }
 
-// Whether the table has no rule but its keys and its checks.
+// Returns whether the table has no rules but its keys and its checks.
 pub(crate) fn is_bare(table: &Table) -> bool
     ensures { IsTrue result ↔ IsBare table.now }
 {
@@ -54,7 +54,8 @@ pub(crate) fn is_bare(table: &Table) -> bool
         && !table.is_counted
 }
 
-// The two nodes that the node compares, where it is an equality.
+// Returns the indices of the two nodes that the node compares for equality. None for any other
+// node.
 fn compared(op: &Op) -> Option<(usize, usize)>
     ensures some { IfSome result (λ p. op.now ≡ Op.Binary (Compare Eq Binary) p.0 p.1) }
     ensures none { IfNone result ((a b : ℕ) → ¬ (op.now ≡ Op.Binary (Compare Eq Binary) a b)) }
@@ -95,7 +96,7 @@ fn is_one_at(nodes: &[Op], place: usize) -> bool
     is_one(op)
 }
 
-// Whether the node at the place is the root of `one = 1`.
+// Returns whether the node at the index is the root of `one = 1`.
 fn is_key_one(nodes: &[Op], root: usize) -> bool
     ensures { IsTrue result ↔ (term_in nodes.now root ≡ one_is_one) }
 {
@@ -108,7 +109,7 @@ fn is_key_one(nodes: &[Op], root: usize) -> bool
     is_key_at(nodes, key) && is_one_at(nodes, one)
 }
 
-// Whether the terms are `one = 1` alone.
+// Returns whether the terms are `one = 1` alone.
 fn are_key_one(terms: &Terms) -> bool
     ensures { IsTrue result ↔ (terms.now ≡ one_is_one ∷ []) }
 {
@@ -142,7 +143,7 @@ pub(crate) fn has_key(table: &Table, key: Option<usize>, primary: &[usize]) -> b
     table.key == key && are_places(&table.primary, primary)
 }
 
-// Whether nothing but the primary key is unique.
+// Returns whether no columns but the rowid are declared unique.
 pub(crate) fn has_no_unique(table: &Table) -> bool
     ensures { IsTrue result ↔ ((table.now.uniques ≡ []) × (table.now.orders ≡ [])) }
 {
@@ -167,7 +168,8 @@ fn is_plain_alone(orders: &[Order]) -> bool
     *order == Order::PLAIN
 }
 
-// Whether no two rows have the same values at the places.
+// Returns whether the columns at the given positions, and no others but the rowid, are declared
+// unique.
 fn is_unique_at(table: &Table, expected: &[usize]) -> bool
     ensures { IsTrue result ↔ ((table.now.uniques ≡ expected.now ∷ [])
         × (table.now.orders ≡ plain ∷ [])) }
@@ -307,14 +309,14 @@ fn is_index(index: &Index, name: &[u8], tree: u32, table: u32, places: &[usize])
         && index.is_unique
 }
 
-// Whether a ledger has a table of that tree.
+// Returns whether the tree is that of one of the first four tables.
 fn is_own_tree(tree: u32) -> bool
     ensures { result ≡ spec.is_own_tree tree }
 {
     tree == 0 || tree == 1 || tree == 3 || tree == 4
 }
 
-// Whether a ledger has a table of that name, without regard to case.
+// Returns whether the name is that of one of the first four tables, without regard to case.
 fn is_own_name(name: &[u8]) -> bool
     ensures { result ≡ spec.is_own_name name.now }
 {
@@ -324,7 +326,7 @@ fn is_own_name(name: &[u8]) -> bool
         || same_name(b"serials", name)
 }
 
-// Whether none of the foreign keys is on a table of a ledger.
+// Returns whether none of the foreign keys refers to one of the first four tables.
 fn refer_apart(references: &[Reference]) -> bool
     ensures { result ≡ spec.refer_apart references.now }
 {
@@ -338,14 +340,14 @@ fn is_apart(table: &Table) -> bool
     !is_own_tree(table.tree) && refer_apart(table.references.as_slice())
 }
 
-// Whether the tables are no part of a ledger and refer to none of its tables.
+// Returns whether no table is one of the first four or refers to one of them.
 fn are_apart(tables: &[Table]) -> bool
     ensures { result ≡ spec.are_apart tables.now }
 {
     tables.iter().all(|t| is_apart(t))
 }
 
-// Whether the indexes are of other tables.
+// Returns whether no index is on one of the first four tables.
 fn index_apart(indexes: &[Index]) -> bool
     ensures { result ≡ spec.index_apart indexes.now }
 {
@@ -380,7 +382,10 @@ fn are_indexes(indexes: &[Index]) -> bool
         && index_apart(others)
 }
 
-/// Whether the first four tables are declared as those of a ledger are, and no other has a part in them.
+/// Returns whether the schema begins with the first four tables of a ledger and their two indexes,
+/// no other table refers to one of these, and no other index is on them.
+///
+/// It does not look for `closed`: see `is_closed_schema` and `is_old_schema`.
 pub fn is_ledger_schema(schema: &Schema) -> bool
     ensures { IsTrue result ↔ IsLedgerSchema schema.now }
 {

@@ -1,4 +1,4 @@
-//! The declared tables of a ledger, and what may stand beside them in its database.
+//! The declared tables of a ledger, and what else may be in its database.
 #![tactic(auto)]
 
 mod closed_schema;

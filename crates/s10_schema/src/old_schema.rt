@@ -1,4 +1,4 @@
-//! The declared tables are compared with those of a ledger of an earlier build.
+//! Compares the declared tables with those of a ledger of an earlier build.
 
 ghost use Rattle.std.specs.Prelude.{◌≡◌, ◌↔◌, IsTrue};
 ghost use Rattle.s10_schema.specs.Schema.{no_schema, four_tables, others_in, IsLedgerSchema};
@@ -6,7 +6,7 @@ ghost use Rattle.s10_schema.specs.Schema.{no_schema, four_tables, others_in, IsL
 use crate::ledger_schema::is_ledger_schema;
 use sqlite_schema::schema::Schema;
 
-/// Whether the first four tables of a ledger are declared, and nothing else.
+/// Returns whether the schema is the first four tables of a ledger and nothing else.
 pub fn is_old_schema(schema: &Schema) -> bool
     ensures known { IsTrue result ↔ (schema.now ≡ four_tables) }
 {
