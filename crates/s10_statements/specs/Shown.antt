@@ -1,4 +1,4 @@
--- The rows of the five tables as SQL shows them, and the tables that a database holds.
+-- Defines how SQL shows the rows of the five tables, and which tables a database has.
 use Rattle.std.specs.Prelude.{◌≡◌, IsTrue, List, [], ◌∷◌, map}
 use Rattle.std.specs.List.{AllByRecursion}
 use Rattle.sqlite_value.specs.declared.value.Value.TheVariants.{Int, Blob}
@@ -16,50 +16,60 @@ use Rattle.s10_rows.specs.CallRow.{StoredCall}
 use Rattle.s10_rows.specs.Tables.{Tables, HaveSameRows, tables_of}
 use Rattle.s10_schema.specs.Schema.{IsClosedSchema, four_tables}
 
+-- A row of head as SQL shows it.
 abbrev pub shown_head : HeadRow → Row
 shown_head r = Int r.one ∷ Int r.schema ∷ Int r.interval ∷ Int r.cap ∷ []
 
+-- A row of calls as SQL shows it.
 abbrev pub shown_call : StoredCall → Row
 shown_call c = Int c.arrival ∷ Int c.customer ∷ Int c.number ∷ Int c.day ∷ Blob c.reply ∷ []
 
+-- A row of ranges as SQL shows it.
 abbrev pub shown_range : RangeRow → Row
 shown_range r = Int r.num ∷ Int r.holder ∷ Int r.pair ∷ Int r.low ∷ Int r.high ∷ Int r.mark ∷ []
 
+-- A row of serials as SQL shows it.
 abbrev pub shown_serial : SerialRow → Row
 shown_serial r = Int r.pair ∷ Int r.serial ∷ Int r.arrival ∷ Int r.day ∷ Int r.customer
     ∷ Int r.number ∷ Int r.voided ∷ []
 
+-- A row of closed as SQL shows it.
 abbrev pub shown_closed : ClosedRow → Row
 shown_closed r = Int r.num ∷ Int r.arrival ∷ []
 
--- the columns of a row of serials that is shown with its rowid after them
+-- The columns of a row of serials that is shown with its rowid after them.
 abbrev pub serial_front : Row → Row
 serial_front v = column v 0 ∷ column v 1 ∷ column v 2 ∷ column v 3 ∷ column v 4 ∷ column v 5
     ∷ column v 6 ∷ []
 
--- the columns of a stored row. It begins with its rowid: that stands for the primary key of each table but serials, which has
--- nothing in the place of that column.
+-- The columns of a stored row of head. A stored row begins with its rowid. That is the primary key
+-- in each table but serials, and the position of that column holds no value.
 abbrev pub head_columns : Row → Row
 head_columns r = column r 0 ∷ column r 2 ∷ column r 3 ∷ column r 4 ∷ []
 
+-- The columns of a stored row of calls.
 abbrev pub call_columns : Row → Row
 call_columns r = column r 0 ∷ column r 2 ∷ column r 3 ∷ column r 4 ∷ column r 5 ∷ []
 
+-- The columns of a stored row of ranges.
 abbrev pub range_columns : Row → Row
 range_columns r = column r 0 ∷ column r 2 ∷ column r 3 ∷ column r 4 ∷ column r 5 ∷ column r 6 ∷ []
 
+-- The columns of a stored row of serials.
 abbrev pub serial_columns : Row → Row
 serial_columns r = column r 1 ∷ column r 2 ∷ column r 3 ∷ column r 4 ∷ column r 5 ∷ column r 6
     ∷ column r 7 ∷ []
 
+-- The columns of a stored row of closed.
 abbrev pub closed_columns : Row → Row
 closed_columns r = column r 0 ∷ column r 2 ∷ []
 
--- the rowid is an integer
+-- The rowid is an integer.
 abbrev pub HasIntegerRowid : Row → Type 0
 HasIntegerRowid r = IsTrue (is_int (rowid r))
 
--- the database has the five tables, with these rows; those of serials have rowids, which nothing shows
+-- A database has tables if it declares the five of a ledger, and its rows are these. The rowids of
+-- serials are integers, and no statement shows them as a column.
 pub record HasTables (db : Database) (tables : Tables) : Type 0 where
   pub schema : IsClosedSchema db.schema
   pub heads : HaveSameRows (map shown_head tables.heads) (map head_columns (db.trees 0))
@@ -69,7 +79,8 @@ pub record HasTables (db : Database) (tables : Tables) : Type 0 where
   pub numbered : AllByRecursion HasIntegerRowid (db.trees 4)
   pub closed : HaveSameRows (map shown_closed tables.closed) (map closed_columns (db.trees 6))
 
--- the database has the four tables of an earlier build and nothing else, with these rows; no range is closed
+-- A database has old tables if it declares the four of an earlier build and nothing else, and its
+-- rows are these. No range is closed.
 pub record HasOldTables (db : Database) (tables : Tables) : Type 0 where
   pub schema : db.schema ≡ four_tables
   pub heads : HaveSameRows (map shown_head tables.heads) (map head_columns (db.trees 0))
@@ -79,6 +90,6 @@ pub record HasOldTables (db : Database) (tables : Tables) : Type 0 where
   pub numbered : AllByRecursion HasIntegerRowid (db.trees 4)
   pub closed : tables.closed ≡ []
 
--- the tables stand for a history: they have the rows that it makes, and no others
+-- A database stands for a history if its five tables have the rows of the history and no others.
 abbrev pub StandsFor : Database → List Entry → Terms → Type 0
 StandsFor db h t = HasTables db (tables_of h t)

@@ -1,4 +1,4 @@
-//! The five tables of a new ledger are made.
+//! Creates the five tables of a new ledger.
 
 ghost use Rattle.std.specs.Prelude.{◌≡◌, ℕ, ◌++◌, ◌∷◌, [], codes, false, IsSome, IfSome, None, Ok};
 ghost use Rattle.std.specs.Prelude.{OnOk, OnErr};
@@ -31,7 +31,7 @@ const SERIALS: &str =
 pub(crate) const CLOSED: &str =
     "CREATE TABLE closed (num INTEGER NOT NULL PRIMARY KEY, arrival INTEGER NOT NULL) STRICT";
 
-// Runs a statement that has no parameters.
+// Runs a statement without parameters.
 pub(crate) fn run<S: Alter>(tx: &mut Transaction<'_, S>, sql: &str) -> Result<(), Error>
     ensures same_reference { tx.new.conn.ghost_name ≡ tx.old.conn.ghost_name }
     ensures runs { IsClean S.Store tx.new.conn.now → IsInTransaction S.Store tx.old.conn.now
@@ -51,7 +51,6 @@ pub(crate) fn run<S: Alter>(tx: &mut Transaction<'_, S>, sql: &str) -> Result<()
     Ok(())
 }
 
-// Makes the five tables, with no row.
 fn create_each_table<S: Alter>(tx: &mut Transaction<'_, S>) -> Result<(), Error>
     ensures same_reference { tx.new.conn.ghost_name ≡ tx.old.conn.ghost_name }
     ensures made { IsClean S.Store tx.new.conn.now → IsInTransaction S.Store tx.old.conn.now
@@ -73,7 +72,7 @@ fn create_each_table<S: Alter>(tx: &mut Transaction<'_, S>) -> Result<(), Error>
     run(tx, CLOSED)
 }
 
-// Adds the row of the settings.
+// Inserts the row of the settings.
 fn insert_head<S: Alter>(tx: &mut Transaction<'_, S>, settings: Settings) -> Result<(), Error>
     ensures same_reference { tx.new.conn.ghost_name ≡ tx.old.conn.ghost_name }
     ensures made { IsClean S.Store tx.new.conn.now → IsInTransaction S.Store tx.old.conn.now
@@ -98,8 +97,12 @@ fn insert_head<S: Alter>(tx: &mut Transaction<'_, S>, settings: Settings) -> Res
     Ok(())
 }
 
-/// Makes the tables of a ledger with no call in an empty database, in one transaction: all of them, or none. An error is that
-/// of the statement that failed, and `OutOfMemory` is lack of memory.
+/// Creates the tables of a ledger without calls in an empty database, in one transaction.
+///
+/// # Errors
+///
+/// The error of the statement or of the commit that failed; `OutOfMemory` if out of memory. If the
+/// disk is clean and the connection open, no table was created.
 pub fn create_tables<S: Alter>(conn: &mut Connection<S>, settings: Settings) -> Result<(), Error>
     requires idle { conn.old.in_transaction ≡ false }
     ensures settled { IsQuiescent S.Store conn.new }
@@ -112,7 +115,7 @@ pub fn create_tables<S: Alter>(conn: &mut Connection<S>, settings: Settings) -> 
     ensures none { IsClean S.Store conn.new → IsOpen S.Store conn.new
         → OnErr result ((state S.Store conn.new).now ≡ (state S.Store conn.old).now) }
 {
-    // A connection that is in no transaction has nothing to commit.
+    // Brings into scope that a connection in no transaction has nothing to commit.
     prove!(conn.is_autocommit());
     let mut tx = conn.transaction();
     create_each_table(&mut tx)?;
@@ -120,7 +123,10 @@ pub fn create_tables<S: Alter>(conn: &mut Connection<S>, settings: Settings) -> 
     tx.commit()
 }
 
-/// What a database that is not empty is refused for: None for an empty one.
+/// Returns why no ledger can be created in the database, or `None` if the database is empty.
+///
+/// The fault is `NotEmpty` if a table has one of the five names, and `Store` if there is any other
+/// table, index or view.
 pub fn refusal_of<S: Alter>(conn: &Connection<S>) -> Option<OpenFault>
     ensures refusal { IfSome result (IsCreateRefusal (state S.Store conn.now).now.schema) }
     ensures none { result ≡ None → (state S.Store conn.now).now.schema ≡ no_schema }

@@ -1,6 +1,6 @@
 use sqlite::{Error, Row};
 
-/// A typed row, which a row of an answer may read as.
+/// A typed row that can be read from a row of a result.
 pub trait FromRow: Copy {
     ghost use Rattle.std.specs.Prelude.{◌≡◌, IfOk};
     ghost use Rattle.sqlite_value.specs.Order.{Row};
@@ -8,7 +8,12 @@ pub trait FromRow: Copy {
     /// The row as SQL shows it.
     ghost shown: { Self → Row };
 
-    /// The typed row that is shown so.
+    /// Reads a typed row.
+    ///
+    /// # Errors
+    ///
+    /// The error of the column if the row has another number of columns, or a value of another
+    /// type.
     fn from_row(row: &Row) -> Result<Self, Error>
         ensures { IfOk result (λ typed. shown typed ≡ row.now) };
 }

@@ -1,4 +1,5 @@
-//! The statements over the five tables of a ledger: they make the tables, read typed rows from them, and write those of a kept call.
+//! The SQL statements over the five tables of a ledger: they create the tables, read typed rows
+//! from them, and write the rows of kept calls.
 #![tactic(auto)]
 
 mod creating;

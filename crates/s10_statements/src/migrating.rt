@@ -1,4 +1,4 @@
-//! A ledger of an earlier build gets the table that it lacks.
+//! Adds the table that a ledger of an earlier build lacks.
 
 ghost use Rattle.std.specs.Prelude.{◌≡◌, ◌⊎◌, OnOk, OnErr};
 ghost use Rattle.sqlite_trees.specs.Tree.{Trees};
@@ -11,8 +11,13 @@ ghost use Rattle.s10_statements.specs.ConnectionState.{IsQuiescent, IsClean, IsO
 use crate::creating::{CLOSED, run};
 use sqlite::{Alter, Connection, Error};
 
-/// Makes `closed`, with no row, after the four tables of an earlier build. An error is that of the statement, and leaves the
-/// four as they are.
+/// Creates `closed`, empty, after the four tables of an earlier build, in one transaction. The rows
+/// of the four stay the same.
+///
+/// # Errors
+///
+/// The error of the statement or of the commit that failed; `OutOfMemory` if out of memory. If the
+/// disk is clean and the connection open, the four tables are as before.
 pub fn create_closed<S: Alter>(conn: &mut Connection<S>) -> Result<(), Error>
     requires settled { IsQuiescent S.Store conn.old }
     ensures settled { IsQuiescent S.Store conn.new }

@@ -1,17 +1,19 @@
-//! Who looks on while a ledger is made or opened.
+//! Observers of the creation or the opening of a ledger.
 
 use sqlite::Error;
 
-/// Is told what a ledger's making or opening does not answer: how far it is, and the error of a statement that failed.
+/// Is informed while a ledger is created or opened: of its progress, and of the error of a
+/// statement that failed.
 pub trait Observer {
-    /// n rows of this table were read, of all that it has.
+    /// Reports that `rows` rows of this table were read so far. Called once per row of `calls` and
+    /// of `serials`.
     fn rows_read(&mut self, table: &str, rows: u64);
 
-    /// A statement failed, which ends the making or the opening.
+    /// Reports the error of the statement that failed and ended the creation or the opening.
     fn statement_failed(&mut self, error: &Error);
 }
 
-/// Nobody looks on.
+/// An observer that ignores every report.
 #[derive(Clone, Copy, Debug, Default, PartialEq, Eq)]
 pub struct NoObserver;
 

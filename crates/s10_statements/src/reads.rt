@@ -1,4 +1,4 @@
-//! The reads of the five tables.
+//! Reads the five tables.
 
 ghost use Rattle.std.specs.Prelude.{◌≡◌, ◌≢◌, pos, List, map, filter, IfOk, OnOk};
 ghost use Rattle.std.specs.List.{AllByRecursion};
@@ -29,7 +29,7 @@ use sqlite::types::ValueRef;
 use sqlite::{Alter, Connection, Error, Row, params};
 use std::alloc::Global;
 
-// The rows that a query shows.
+// Returns the rows of a query.
 fn read<S: Alter>(
     conn: &mut Connection<S>,
     sql: &str,
@@ -47,7 +47,12 @@ fn read<S: Alter>(
     conn.query_all(sql, params)
 }
 
-/// All rows of `head`.
+/// Returns all rows of `head`.
+///
+/// # Errors
+///
+/// The error of the query, or of a value of another type than its column's; `OutOfMemory` if out of
+/// memory.
 pub fn all_heads<S: Alter>(alloc: Global, conn: &mut Connection<S>) -> Result<Vec<HeadRow>, Error>
     ensures spares { AddsNoCrashState S.Store conn.old conn.new }
     ensures leaves { LeavesTables S.Store conn.old conn.new }
@@ -65,7 +70,12 @@ pub fn all_heads<S: Alter>(alloc: Global, conn: &mut Connection<S>) -> Result<Ve
     rows_in(alloc, &rows)
 }
 
-/// All rows of `calls`, in order of arrival.
+/// Returns all rows of `calls`, in order of arrival, and reports each to the observer.
+///
+/// # Errors
+///
+/// The error of the query, or of a value of another type than its column's; `OutOfMemory` if out of
+/// memory.
 pub fn all_calls<S: Alter, W: Observer>(
     alloc: Global,
     conn: &mut Connection<S>,
@@ -94,7 +104,12 @@ pub fn all_calls<S: Alter, W: Observer>(
     )
 }
 
-/// All rows of `ranges`, in order of their numbers.
+/// Returns all rows of `ranges`, in order of their numbers.
+///
+/// # Errors
+///
+/// The error of the query, or of a value of another type than its column's; `OutOfMemory` if out of
+/// memory.
 pub fn all_ranges<S: Alter>(alloc: Global, conn: &mut Connection<S>) -> Result<Vec<RangeRow>, Error>
     ensures spares { AddsNoCrashState S.Store conn.old conn.new }
     ensures leaves { LeavesTables S.Store conn.old conn.new }
@@ -116,7 +131,12 @@ pub fn all_ranges<S: Alter>(alloc: Global, conn: &mut Connection<S>) -> Result<V
     rows_in(alloc, &rows)
 }
 
-/// The rows of `serials` of a pair whose serial is from `low` to `high`.
+/// Returns the rows of `serials` with that pair and a serial from `low` to `high`.
+///
+/// # Errors
+///
+/// The error of the query, or of a value of another type than its column's; `OutOfMemory` if out of
+/// memory.
 pub fn serials_within<S: Alter>(
     alloc: Global,
     conn: &mut Connection<S>,
@@ -140,7 +160,13 @@ pub fn serials_within<S: Alter>(
     rows_in(alloc, &rows)
 }
 
-/// All rows of `serials`. Their rowids are read too, which shows that they are integers.
+/// Returns all rows of `serials`, and reports each to the observer. Their rowids are read too,
+/// which shows that they are integers.
+///
+/// # Errors
+///
+/// The error of the query, or of a value of another type than its column's; `OutOfMemory` if out of
+/// memory.
 pub fn all_serials<S: Alter, W: Observer>(
     alloc: Global,
     conn: &mut Connection<S>,
@@ -164,7 +190,12 @@ pub fn all_serials<S: Alter, W: Observer>(
     )
 }
 
-/// All rows of `closed`, in order of the numbers of their ranges.
+/// Returns all rows of `closed`, in order of the numbers of their ranges.
+///
+/// # Errors
+///
+/// The error of the query, or of a value of another type than its column's; `OutOfMemory` if out of
+/// memory.
 pub fn all_closed<S: Alter>(
     alloc: Global,
     conn: &mut Connection<S>,

@@ -1,4 +1,4 @@
-//! Rows of an answer as typed rows.
+//! Reads typed rows from the rows of a result.
 
 ghost use Rattle.std.specs.Prelude.{◌≡◌, length, IfOk, OnOk, IsTrue, map};
 ghost use Rattle.sqlite_value.specs.Order.{column};
@@ -11,7 +11,7 @@ use s10_rows::{CallRow, ClosedRow, HeadRow, RangeRow, SerialRow};
 use sqlite::{Error, Row};
 use std::alloc::Global;
 
-// A row of another width does not read.
+// Fails if the row has another number of columns.
 fn check_width(row: &Row, width: usize) -> Result<(), Error>
     ensures { IfOk result (λ _. length row.now ≡ width) }
 {
@@ -68,7 +68,7 @@ impl FromRow for RangeRow {
     }
 }
 
-// The columns of `serials`, which others may follow.
+// Reads the columns of `serials`, which other columns may follow.
 fn serial_columns_in(row: &Row) -> Result<SerialRow, Error>
     ensures { IfOk result (λ serial. shown_serial serial ≡ serial_front row.now) }
 {
@@ -94,7 +94,7 @@ impl FromRow for SerialRow {
     }
 }
 
-// A row of `serials` with its rowid after the columns.
+// Reads a row of `serials`, with its rowid after the columns.
 pub(crate) fn serial_with_rowid_in(row: &Row) -> Result<SerialRow, Error>
     ensures columns { IfOk result (λ serial. shown_serial serial ≡ serial_front row.now) }
     ensures numbered { OnOk result (IsTrue (is_int (column row.now 7))) }
@@ -117,7 +117,7 @@ impl FromRow for ClosedRow {
     }
 }
 
-/// The rows of an answer, each as a typed row.
+/// Reads each row of a result as a typed row.
 pub(crate) fn rows_in<T: FromRow>(alloc: Global, rows: &[Row]) -> Result<Vec<T>, Error>
     ensures { IfOk result (λ typed. map T.shown typed.items ≡ rows.now) }
 {

@@ -1,4 +1,4 @@
-//! The rows that a query shows, read one at a time into typed rows.
+//! Reads the rows of a query one at a time into typed rows.
 
 ghost use Rattle.std.specs.Prelude.{◌≡◌, List, [], map, All, IsTrue, IfOk, OnOk};
 ghost use Rattle.sqlite_value.specs.Order.{Row, column};
@@ -21,10 +21,10 @@ use sqlite::types::ValueRef;
 use sqlite::{Alter, Connection, Error, ErrorCode};
 use std::alloc::Global;
 
-// More rows than can be counted are a fault.
+// The error for more rows than a `u64` can count.
 const TOO_MANY: Error = Error::SqliteFailure(ErrorCode::TooBig);
 
-/// The rows of `calls` that a query shows.
+/// Returns the rows of `calls` that a query shows, and reports each to the observer.
 pub(crate) fn stream_calls<S: Alter, W: Observer>(
     alloc: Global,
     conn: &mut Connection<S>,
@@ -54,7 +54,8 @@ pub(crate) fn stream_calls<S: Alter, W: Observer>(
     Err(TOO_MANY)
 }
 
-/// The rows of `serials` that a query shows with their rowids, which are integers.
+/// Returns the rows of `serials` that a query shows with their rowids, which are integers, and
+/// reports each to the observer.
 pub(crate) fn stream_serials<S: Alter, W: Observer>(
     alloc: Global,
     conn: &mut Connection<S>,

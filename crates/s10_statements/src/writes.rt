@@ -1,4 +1,4 @@
-//! The writes of a kept call.
+//! Writes the rows of kept calls.
 
 ghost use Rattle.std.specs.Prelude.{◌≡◌, ◌≢◌, ◌≤◌, ◌⊎◌, ◌++◌, ◌∷◌, [], pos, true, List, length};
 ghost use Rattle.std.specs.Prelude.{filter, option_to_list, OnOk, OnErr};
@@ -18,7 +18,6 @@ use s10_history::Entry;
 use s10_rows::{CallWrite, ClosedRow, RangeRow, RangeWrite, SerialRow, SerialWrite};
 use sqlite::{Alter, Connection, Error, Transaction, params};
 
-/// Adds the row of a call.
 fn insert_call<S: Alter>(
     tx: &mut Transaction<'_, S>,
     arrival: u32,
@@ -59,7 +58,6 @@ fn insert_call<S: Alter>(
     Ok(())
 }
 
-/// Adds the row of a range.
 fn insert_range<S: Alter>(tx: &mut Transaction<'_, S>, range: &RangeRow) -> Result<(), Error>
     ensures same_reference { tx.new.conn.ghost_name ≡ tx.old.conn.ghost_name }
     ensures made { IsClean S.Store tx.new.conn.now → IsInTransaction S.Store tx.old.conn.now
@@ -89,7 +87,7 @@ fn insert_range<S: Alter>(tx: &mut Transaction<'_, S>, range: &RangeRow) -> Resu
     Ok(())
 }
 
-/// Sets the mark of the range of that number. It fails unless one row is changed.
+// Sets the mark of the range with the number `num`. Fails unless exactly one row changes.
 fn update_mark<S: Alter>(tx: &mut Transaction<'_, S>, num: i64, mark: i64) -> Result<(), Error>
     ensures same_reference { tx.new.conn.ghost_name ≡ tx.old.conn.ghost_name }
     ensures made { IsClean S.Store tx.new.conn.now → IsInTransaction S.Store tx.old.conn.now
@@ -115,7 +113,6 @@ fn update_mark<S: Alter>(tx: &mut Transaction<'_, S>, num: i64, mark: i64) -> Re
     }
 }
 
-/// Makes of the ranges what a call makes of them.
 fn apply_range_write<S: Alter>(tx: &mut Transaction<'_, S>, write: &RangeWrite) -> Result<(), Error>
     ensures same_reference { tx.new.conn.ghost_name ≡ tx.old.conn.ghost_name }
     ensures made { IsClean S.Store tx.new.conn.now → IsInTransaction S.Store tx.old.conn.now
@@ -136,7 +133,6 @@ fn apply_range_write<S: Alter>(tx: &mut Transaction<'_, S>, write: &RangeWrite) 
     }
 }
 
-/// Adds the row of a serial.
 fn insert_serial<S: Alter>(tx: &mut Transaction<'_, S>, serial: &SerialRow) -> Result<(), Error>
     ensures same_reference { tx.new.conn.ghost_name ≡ tx.old.conn.ghost_name }
     ensures made { IsClean S.Store tx.new.conn.now → IsInTransaction S.Store tx.old.conn.now
@@ -167,7 +163,7 @@ fn insert_serial<S: Alter>(tx: &mut Transaction<'_, S>, serial: &SerialRow) -> R
     Ok(())
 }
 
-/// Puts the row of a serial in the place of the one of its identifier, or adds it. It fails unless one row is changed.
+// Inserts the row, or updates the row of its identifier. Fails unless exactly one row changes.
 fn upsert_serial<S: Alter>(tx: &mut Transaction<'_, S>, serial: &SerialRow) -> Result<(), Error>
     ensures same_reference { tx.new.conn.ghost_name ≡ tx.old.conn.ghost_name }
     ensures made { IsClean S.Store tx.new.conn.now → IsInTransaction S.Store tx.old.conn.now
@@ -205,7 +201,6 @@ fn upsert_serial<S: Alter>(tx: &mut Transaction<'_, S>, serial: &SerialRow) -> R
     }
 }
 
-/// Makes of the serials what a call makes of them.
 fn apply_serial_write<S: Alter>(
     tx: &mut Transaction<'_, S>,
     write: &SerialWrite,
@@ -230,7 +225,7 @@ fn apply_serial_write<S: Alter>(
     }
 }
 
-/// Makes of the ranges what a call makes of them, write by write.
+// Applies the writes in their order.
 fn apply_range_writes<S: Alter>(
     tx: &mut Transaction<'_, S>,
     ranges: &[RangeWrite],
@@ -254,7 +249,7 @@ fn apply_range_writes<S: Alter>(
     Ok(())
 }
 
-/// Makes of the serials what a call makes of them, write by write.
+// Applies the writes in their order.
 fn apply_serial_writes<S: Alter>(
     tx: &mut Transaction<'_, S>,
     serials: &[SerialWrite],
@@ -278,7 +273,6 @@ fn apply_serial_writes<S: Alter>(
     Ok(())
 }
 
-/// Adds the row of a closed range.
 fn insert_closed<S: Alter>(tx: &mut Transaction<'_, S>, closed: &ClosedRow) -> Result<(), Error>
     ensures same_reference { tx.new.conn.ghost_name ≡ tx.old.conn.ghost_name }
     ensures made { IsClean S.Store tx.new.conn.now → IsInTransaction S.Store tx.old.conn.now
@@ -300,7 +294,7 @@ fn insert_closed<S: Alter>(tx: &mut Transaction<'_, S>, closed: &ClosedRow) -> R
     Ok(())
 }
 
-/// Adds the row of the range that a call closes, where it closes one.
+// Inserts the row of the range that the call closes, if the call is a Done Withdraw.
 fn insert_if_closed<S: Alter>(
     tx: &mut Transaction<'_, S>,
     arrival: u32,
@@ -328,7 +322,7 @@ fn insert_if_closed<S: Alter>(
     }
 }
 
-/// Writes the row of a call and those that it makes.
+// Inserts the row of the call, and writes its rows of the other tables.
 fn insert_call_and_writes<S: Alter>(
     tx: &mut Transaction<'_, S>,
     write: &CallWrite,
@@ -353,7 +347,7 @@ fn insert_call_and_writes<S: Alter>(
     insert_if_closed(tx, write.arrival, &write.entry)
 }
 
-/// Writes the rows of calls, call by call.
+// Writes the calls in their order.
 fn insert_calls<S: Alter>(tx: &mut Transaction<'_, S>, writes: &[CallWrite]) -> Result<(), Error>
     ensures same_reference { tx.new.conn.ghost_name ≡ tx.old.conn.ghost_name }
     ensures made { IsClean S.Store tx.new.conn.now → IsInTransaction S.Store tx.old.conn.now
@@ -376,7 +370,12 @@ fn insert_calls<S: Alter>(tx: &mut Transaction<'_, S>, writes: &[CallWrite]) -> 
     Ok(())
 }
 
-/// Writes the rows of calls and those that they make, in one transaction: all of them, or none.
+/// Writes the rows of the calls to all tables in one transaction: all of them, or none.
+///
+/// # Errors
+///
+/// The error of the statement or of the commit that failed; `OutOfMemory` if out of memory. If the
+/// disk is clean and the connection open, no row was written.
 pub fn commit_rows<S: Alter>(conn: &mut Connection<S>, writes: &[CallWrite]) -> Result<(), Error>
     requires settled { IsQuiescent S.Store conn.old }
     ensures settled { IsQuiescent S.Store conn.new }
