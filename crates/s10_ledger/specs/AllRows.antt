@@ -1,4 +1,4 @@
--- What is read of a database to be opened.
+-- Defines what an opening reads of a database.
 use Rattle.std.specs.Prelude.{◌≢◌, List, map, Result, IfOk, IfErr}
 use Rattle.std.specs.List.{AllByRecursion}
 use Rattle.std.specs.Ordering.{int_cmp}
@@ -25,21 +25,22 @@ use Rattle.s10_index.specs.declared.stored_rows.StoredRows.{StoredRows}
 use Rattle.s10_index.specs.ReplayedBook.{IsReplayedBook, AreDerivedRows}
 use Rattle.s10_ledger.specs.TableLayout.{HasTableLayout}
 
--- these are the rows of head and of calls, the latter in order of arrival
+-- The rows are those of head and of calls, the latter in order of arrival.
 pub record HasCallRows (db : Database) (heads : List HeadRow) (calls : List StoredCall) :
     Type 0 where
   pub heads_are : HaveSameRows (map shown_head heads) (map head_columns (db.trees 0))
   pub calls_are : HaveSameRows (map shown_call calls) (map call_columns (db.trees 1))
   pub in_order : IsAscending (λ a b. int_cmp a.arrival b.arrival ≢ Ordering.Greater) calls
 
--- these are the rows of ranges and of serials
+-- The rows are those of ranges and of serials.
 pub record HasDerivedRows (db : Database) (ranges : List RangeRow) (serials : List SerialRow) :
     Type 0 where
   pub ranges_are : HaveSameRows (map shown_range ranges) (map range_columns (db.trees 3))
   pub serials_are : HaveSameRows (map shown_serial serials) (map serial_columns (db.trees 4))
   pub numbered : AllByRecursion HasIntegerRowid (db.trees 4)
 
--- the tables of the database, of which the calls were done again or are refused
+-- The database has been read: the calls were executed again or are refused, and the stored rows are
+-- those of the other tables.
 pub record AreRead (form : TableLayout) (db : Database) (made : Result ReplayedBook OpenFault)
     (rows : StoredRows) : Type 0 where
   pub tables : Tables
@@ -49,7 +50,8 @@ pub record AreRead (form : TableLayout) (db : Database) (made : Result ReplayedB
   pub ok : IfOk made (IsReplayedBook tables.heads tables.calls)
   pub err : IfErr made (IsRefusal tables)
 
--- what was found of a database whose rows are whole, and the index of its calls
+-- An opening found a ledger: its rows are consistent with the summary, and the index holds its
+-- calls.
 pub record IsFound (form : TableLayout) (db : Database) (opened : LedgerSummary)
     (index : CallIndex) : Type 0 where
   pub tables : Tables

@@ -1,4 +1,4 @@
--- What a ledger in tables holds, and what is kept true of it.
+-- Defines what a ledger in tables holds, and when it is honest.
 use Rattle.std.specs.Prelude.{◌≡◌, ◌⊎◌, ℕ, zero, suc, ◌+◌, ℤ, pos, IsTrue, List, [], ◌++◌, length}
 use Rattle.std.specs.Prelude.{map, filter, All, refl}
 use Rattle.std.specs.Coded.{Coded, code_by, coded×, coded_ℕ, coded_list}
@@ -24,6 +24,7 @@ use Rattle.s10_rows.specs.Selected.{IsCall, arrives_between}
 use Rattle.s10_rows.specs.Tables.{tables_of}
 use Rattle.s10_statements.specs.Shown.{HasOldTables, StandsFor, call_columns}
 
+-- The integer of a value, 0 for a value of another type.
 abbrev pub int_in : Value → ℤ
 int_in Null = pos 0
 int_in (Int n) = n
@@ -31,6 +32,7 @@ int_in (Real x) = pos 0
 int_in (Text t) = pos 0
 int_in (Blob b) = pos 0
 
+-- The bytes of a value, none for a value of another type.
 abbrev pub blob_in : Value → List ℕ
 blob_in Null = []
 blob_in (Int n) = []
@@ -38,7 +40,7 @@ blob_in (Real x) = []
 blob_in (Text t) = []
 blob_in (Blob b) = b
 
--- the row of calls that shows so
+-- The row of calls that SQL shows so.
 abbrev pub call_from : Row → StoredCall
 call_from v = record {
   arrival = int_in (column v 0);
@@ -48,25 +50,26 @@ call_from v = record {
   reply = blob_in (column v 4);
 }
 
--- the calls of this and the next arrivals, a given number of them
+-- The calls with one of n successive arrivals, of which the first is the given one, in order of
+-- arrival.
 abbrev pub in_turn : ℕ → ℕ → List StoredCall → List Entry
 in_turn zero arrival calls = []
 in_turn (suc n) arrival calls =
     map entry_of (filter (arrives_between (pos arrival) (pos arrival)) calls)
     ++ in_turn n (arrival + 1) calls
 
--- the calls that the rows keep, in order of arrival
+-- The calls that the rows keep, in order of arrival.
 unfoldable pub history_in : Database → List Entry
 history_in db = let calls = map call_from (map call_columns (db.trees 1)) in
     in_turn (length calls) 1 calls
 
--- the calls held in the process are those of the history
+-- The index holds the committed history, if the disk is clean and the connection open.
 abbrev pub IsIndexed : {S : Type 0} → Ghosts S → Held S → CallIndex → Type 0
 IsIndexed g conn index = HasCleanDisk (state g conn) → IsTrue (state g conn).is_open
     → Indexes index (history_in (state g conn).now)
 
--- what a ledger holds: its connection, its settings, how many calls are committed, the day of the last of these, the faults so far,
--- and the calls that are kept and not yet committed
+-- The value of a ledger: its connection, its settings, the number of committed calls, the day of
+-- the last of these, the faults counted, and the pending calls.
 pub record Ledger (S : Type 0) : Type 0 where
   pub conn : Held S
   pub terms : Terms
@@ -75,14 +78,17 @@ pub record Ledger (S : Type 0) : Type 0 where
   pub faults : Faults
   pub pending : List Entry
 
+-- The settings as data.
 abbrev pub terms_code : Coded Terms
 terms_code = code_by (ℕ × ℕ) (coded× coded_ℕ coded_ℕ) (λ t. (t.interval, t.limit))
     (λ p. record { interval = p.0; limit = p.1 }) (λ _. refl)
 
+-- The fault counts as data.
 abbrev pub faults_code : Coded Faults
 faults_code = code_by (ℕ × ℕ) (coded× coded_ℕ coded_ℕ) (λ f. (f.memory, f.store))
     (λ p. record { memory = p.0; store = p.1 }) (λ _. refl)
 
+-- The value of a ledger as data.
 abbrev pub ledger_code : {S : Type 0} → Coded S → Coded (Ledger S)
 ledger_code {S} store =
     code_by (Held S × (Terms × (ℕ × (ℕ × (Faults × List Entry)))))
@@ -100,50 +106,53 @@ ledger_code {S} store =
     })
     (λ _. refl)
 
--- the tables stand for a history, whose length and last day are known
+-- The five tables stand for a history of that length, with that last day.
 pub record Holds (db : Database) (t : Terms) (len day : ℕ) : Type 0 where
   pub tables : StandsFor db (history_in db) t
   pub calls : All IsCall (history_in db)
   pub len_is : len ≡ length (history_in db)
   pub day_is : day ≡ day_of (history_in db)
 
--- the history is legal, and the tables stand for it
+-- A database is a ledger if its history is legal and its five tables stand for it.
 pub record IsLedger (db : Database) (t : Terms) (len day : ℕ) : Type 0 where
   pub legal : IsLegal (history_in db) t
   pub held : ∥ Holds db t len day ∥₁
 
--- the four tables of an earlier build stand for a history in which no range is closed
+-- The four tables of an earlier build stand for a history of that length, with that last day, in
+-- which no range is closed.
 pub record HoldsOld (db : Database) (t : Terms) (len day : ℕ) : Type 0 where
   pub tables : HasOldTables db (tables_of (history_in db) t)
   pub calls : All IsCall (history_in db)
   pub len_is : len ≡ length (history_in db)
   pub day_is : day ≡ day_of (history_in db)
 
--- the history is legal, and they stand for it
+-- A database is a ledger of an earlier build if its history is legal and its four tables stand for
+-- it.
 pub record IsOldLedger (db : Database) (t : Terms) (len day : ℕ) : Type 0 where
   pub legal : IsLegal (history_in db) t
   pub held : ∥ HoldsOld db t len day ∥₁
 
--- a ledger of this build, or of an earlier one
+-- A database is a ledger of this build or of an earlier one.
 abbrev pub IsAnyLedger : Database → Terms → ℕ → ℕ → Type 0
 IsAnyLedger db t len day = IsLedger db t len day ⊎ IsOldLedger db t len day
 
--- the calls that are committed
+-- The committed calls.
 abbrev pub committed_of : {S : Type 0} → Ghosts S → Ledger S → List Entry
 committed_of g l = history_in (state g l.conn).now
 
--- the calls that a ledger keeps: after those that are committed, those that are not
+-- The history: the committed calls, followed by the pending ones.
 abbrev pub history_of : {S : Type 0} → Ghosts S → Ledger S → List Entry
 history_of g l = history_in (state g l.conn).now ++ l.pending
 
--- what is said of the history holds where the store is clean and the connection open
+-- A ledger is honest if its disk is clean, its connection is open, its tables are a ledger, and its
+-- history is legal.
 pub record IsHonest {S : Type 0} (g : Ghosts S) (l : Ledger S) : Type 0 where
   pub clean : HasCleanDisk (state g l.conn)
   pub is_open : IsTrue (state g l.conn).is_open
   pub ledger : IsLedger (state g l.conn).now l.terms l.len l.day
   pub legal : IsLegal (history_of g l) l.terms
 
--- these trees hold the ledger with its pending calls after the others
+-- The trees hold the ledger with all its pending calls committed.
 pub record IsCommittedIn {S : Type 0} (g : Ghosts S) (l : Ledger S) (db : Trees) : Type 0 where
   pub history : history_in (record (state g l.conn).now { trees = db }) ≡ history_of g l
   pub ledger : IsLedger (record (state g l.conn).now { trees = db }) l.terms

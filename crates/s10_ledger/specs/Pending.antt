@@ -1,4 +1,4 @@
--- What is kept true of the calls that are kept and not yet committed.
+-- Defines what is always true of a book and its pending calls.
 use Rattle.std.specs.Prelude.{◌≤◌, ◌-◌, Bool, IsTrue, List, ◌++◌, length, map, take, All}
 use Rattle.sqlite_trees.specs.declared.store.Store.{Ghosts}
 use Rattle.sqlite.specs.Effect.{Database}
@@ -19,28 +19,29 @@ use Rattle.s10_statements.specs.ConnectionState.{IsQuiescent, IsOpenIf}
 use Rattle.s10_ledger.specs.declared.sql_book.TheConstants.{MAX_PENDING}
 use Rattle.s10_ledger.specs.Ledger.{IsLedger, history_in}
 
--- the calls that are written so
+-- The calls of these writes.
 abbrev pub calls_of : List CallWrite → List Entry
 calls_of ws = map (λ w. w.entry) ws
 
--- the calls before those that are pending
+-- The calls before the pending ones.
 abbrev pub committed_among : List CallWrite → List Entry → List Entry
 committed_among ws es = take (length es - length ws) es
 
--- the pending calls make the tables of the history into those of the history with them after
+-- The writes of the pending calls make the tables of the whole history out of those of the
+-- committed one.
 pub record HoldsPending (db : Database) (t : Terms) (ws : List CallWrite) : Type 0 where
   pub calls : All IsCall (calls_of ws)
   pub written : AreWritten ws (tables_of (history_in db) t)
       (tables_of (history_in db ++ calls_of ws) t)
 
--- the calls held in the process are those of the tables with the pending ones after them, and a legal history
+-- The index holds the committed calls followed by the pending ones, and these are a legal history.
 pub record IsFollowed (db : Database) (t : Terms) (index : CallIndex) (ws : List CallWrite) :
     Type 0 where
   pub indexed : Indexes index (history_in db ++ calls_of ws)
   pub legal : IsLegal (history_in db ++ calls_of ws) t
   pub held : ∥ HoldsPending db t ws ∥₁
 
--- what is kept true of a book
+-- What is always true of a book.
 pub record IsSound {S : Type 0} (g : Ghosts S) (conn : Held S) (t : Terms) (index : CallIndex)
     (ws : List CallWrite) (answered : Bool) : Type 0 where
   pub few : length index.entries.items ≤ MAX_LIMIT

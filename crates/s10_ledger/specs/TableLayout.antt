@@ -1,4 +1,4 @@
--- Which of a ledger's tables a database has.
+-- Defines which of a ledger's tables a database has.
 use Rattle.std.specs.Prelude.{◌≡◌, List, [], map}
 use Rattle.sqlite_schema.specs.declared.schema.Schema.{Schema}
 use Rattle.sqlite.specs.Effect.{Database}
@@ -9,17 +9,17 @@ use Rattle.s10_statements.specs.Shown.{HasTables, HasOldTables, shown_closed, cl
 use Rattle.s10_ledger.specs.declared.table_layout.TableLayout.{TableLayout}
 use Rattle.s10_ledger.specs.declared.table_layout.TableLayout.TheVariants.{Whole, Old}
 
--- the tables are declared so
+-- The schema declares the tables of this layout.
 abbrev pub IsOfTableLayout : TableLayout → Schema → Type 0
 IsOfTableLayout Whole s = IsClosedSchema s
 IsOfTableLayout Old s = s ≡ four_tables
 
--- the tables have these rows; where `closed` is missing, no range is closed
+-- The tables of this layout have these rows. If closed is missing, no range is closed.
 abbrev pub HasTableLayout : TableLayout → Database → Tables → Type 0
 HasTableLayout Whole db tables = HasTables db tables
 HasTableLayout Old db tables = HasOldTables db tables
 
--- these are the rows of `closed`, none where it is missing
+-- The rows are those of closed: none if it is missing.
 abbrev pub AreClosed : TableLayout → Database → List ClosedRow → Type 0
 AreClosed Whole db rows = HaveSameRows (map shown_closed rows) (map closed_columns (db.trees 6))
 AreClosed Old db rows = rows ≡ []

@@ -1,4 +1,4 @@
-//! What an error of a statement is for a book, and for an opening.
+//! The fault of a book, or of an opening, that an error of a statement becomes.
 
 ghost use Rattle.std.specs.Prelude.{◌≡◌, ◌≢◌, ◌↔◌, ◌⊎◌};
 ghost use Rattle.s10_book.specs.declared.book_fault.BookFault.TheVariants.{Full};
@@ -10,7 +10,7 @@ use s10_replay::fault_of_book;
 use s10_rows::OpenFault;
 use sqlite::{Error, ErrorCode};
 
-// Out of memory, or a fault of the store.
+// Returns `Memory` if the error is lack of memory, and `Store` for any other error.
 pub(crate) fn fault_of(error: Error) -> BookFault
     ensures not_full { result ≢ Full }
     ensures memory { (result ≡ BookFault.Memory)
@@ -22,7 +22,7 @@ pub(crate) fn fault_of(error: Error) -> BookFault
     }
 }
 
-// What an error of a statement that should pass is for the opening.
+// Returns the fault of the opening, for an error of a statement that should succeed.
 pub(crate) fn opening_fault(error: Error) -> OpenFault
     ensures memory { (result ≡ OpenFault.Memory)
         ↔ (error ≡ Error.SqliteFailure ErrorCode.OutOfMemory) }

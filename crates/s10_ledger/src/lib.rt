@@ -1,4 +1,5 @@
-//! The book of kept calls in the tables of a database.
+//! The book over SQL tables: the committed calls are in the tables of a database, the pending ones
+//! in the process.
 #![tactic(auto)]
 
 mod faults;

@@ -1,4 +1,4 @@
-//! What the tables of a book are asked.
+//! Reads the tables of a book that is in use.
 
 ghost use Rattle.std.specs.Prelude.{◌≡◌, ◌≢◌, ℕ, ◌<◌, ◌^◌, max, List, length, All, Contains, Err};
 ghost use Rattle.std.specs.Prelude.{IfOk, IsTrue, OnOk};
@@ -24,7 +24,7 @@ use s10_statements::{all_heads, serials_within};
 use sqlite::{Alter, Connection};
 use std::alloc::Global;
 
-// Asks the connection for its settings, to see whether it answers.
+// Reads the settings, to see whether the connection answers.
 pub(crate) fn ask<S: Alter>(alloc: Global, conn: &mut Connection<S>) -> Result<(), BookFault>
     ensures spares { AddsNoCrashState S.Store conn.old conn.new }
     ensures leaves { LeavesTables S.Store conn.old conn.new }

@@ -1,4 +1,4 @@
-//! The ledger that a connection holds is opened.
+//! Opens the ledger of a connection.
 
 ghost use Rattle.std.specs.Prelude.{◌≡◌, ◌≤◌, ◌⊎◌, length, IfOk, IfErr, OnOk, OnErr, IsTrue};
 ghost use Rattle.s10_history.specs.History.{day_of};
@@ -27,7 +27,7 @@ use s10_statements::{Observer, create_closed};
 use sqlite::{Alter, Connection};
 use std::alloc::Global;
 
-// What is found of the ledger in the tables, and the index of its calls.
+// Returns the summary of the ledger in the tables, and the index of its calls.
 fn replay_tables<S: Alter, W: Observer>(
     alloc: Global,
     conn: &mut Connection<S>,
@@ -57,7 +57,7 @@ fn replay_tables<S: Alter, W: Observer>(
     check_tables(alloc, made, rows)
 }
 
-// Makes the table that an earlier build does not have.
+// Creates `closed` if the tables are those of an earlier build.
 fn complete<S: Alter, W: Observer>(
     conn: &mut Connection<S>,
     form: TableLayout,
@@ -89,7 +89,8 @@ fn complete<S: Alter, W: Observer>(
     }
 }
 
-// What is found of the ledger in the tables, and the index of its calls. Tables of an earlier build are completed.
+// Returns the summary of the ledger in the tables, and the index of its calls. Completes the tables
+// of an earlier build.
 pub(crate) fn ledger_in<S: Alter, W: Observer>(
     alloc: Global,
     conn: &mut Connection<S>,
@@ -140,13 +141,25 @@ impl<S: Alter> SqlBook<S> {
     ghost use Rattle.s10_ledger.specs.Ledger.{IsAnyLedger, IsHonest, history_in};
     ghost use Rattle.s10_ledger.specs.Refusals.{IsOpeningRefusal};
 
-    /// Opens a ledger: all its calls are done again, and every table is compared with what they
-    /// make. Other tables may follow its five. The four tables of an earlier build, with
-    /// nothing beside them, are a ledger too: `closed` is made after them once all is right.
-    /// Refused with NotALedger where the first tables are not declared as a ledger's, another one
-    /// refers to them or an index is on them, or `head` is not its one row, with Schema, with Damaged
-    /// and the first call that is wrong, or 0 where another row is, with Memory, and with Store where a
-    /// statement failed; a refusal leaves the tables as they are.
+    /// Opens a ledger: executes all its calls again, and compares every table with what they make.
+    ///
+    /// The ledger has its five tables, which other tables may follow, or the four of an earlier
+    /// build and nothing else. In the second case `closed` is created once everything is found
+    /// right.
+    ///
+    /// # Errors
+    ///
+    /// - `NotALedger` if the first tables are not declared as a ledger's, another table refers to
+    ///   one of them, another index is on one, or `head` is not one row with settings in their
+    ///   limits.
+    /// - `Schema` with the schema number if that is not 1.
+    /// - `Damaged` with the arrival of the first wrong call, or with 0 if all calls are right and a
+    ///   derived row is wrong.
+    /// - `Memory` if out of memory.
+    /// - `Store` if a statement fails.
+    ///
+    /// A refusal returns the connection. Its tables are as before, if its disk is clean and it is
+    /// open.
     pub fn open<W: Observer>(
         alloc: Global,
         mut conn: Connection<S>,
@@ -185,7 +198,7 @@ impl<S: Alter> SqlBook<S> {
             → (t : Terms) (len day : ℕ) → AreTerms t → IsAnyLedger (state S.Store conn).now t len
             day → (r.fault ≡ OpenFault.Memory) ⊎ (r.fault ≡ OpenFault.Store)) }
     {
-        // A connection that is in no transaction has nothing to commit.
+        // Brings into scope that a connection in no transaction has nothing to commit.
         prove!(conn.is_autocommit());
         match ledger_in(alloc, &mut conn, watch) {
             Ok((opened, index)) => Ok(SqlBook::over(alloc, conn, opened.settings, index)),

@@ -1,4 +1,4 @@
-//! Calls are held in the process, and written.
+//! The pending calls: appends a call to them, and commits them.
 
 ghost use Rattle.std.specs.Prelude.{◌≡◌, ◌≢◌, ◌⊎◌, ◌≤◌, ◌+◌, ◌++◌, ◌∷◌, [], List, length, map, All};
 ghost use Rattle.std.specs.Prelude.{Err, IsTrue, OnOk, OnErr};
@@ -31,7 +31,8 @@ use s10_statements::commit_rows;
 use sqlite::{Alter, Connection};
 use std::alloc::Global;
 
-// Writes the pending calls in one transaction: all of them, and then none is pending, or none.
+// Commits the pending calls in one transaction: all of them, and then none is pending, or none of
+// them.
 pub(crate) fn commit_calls<S: Alter>(
     conn: &mut Connection<S>,
     pending: &mut Vec<CallWrite>,
@@ -69,8 +70,8 @@ pub(crate) fn commit_calls<S: Alter>(
     }
 }
 
-// Holds the call after those of the index, where they are fewer than the limit and there is room for it, for what it makes and for
-// what it writes.
+// Appends the call to the index and to the pending calls, or leaves both as they are. `Store` if
+// the limit is reached, `Memory` if out of memory.
 pub(crate) fn append_pending(
     alloc: Global,
     index: &mut CallIndex,
@@ -111,7 +112,7 @@ pub(crate) fn append_pending(
     Ok(())
 }
 
-// Whether a call of that key is pending.
+// Returns whether a call with that key is pending.
 pub(crate) fn is_pending(pending: &[CallWrite], customer: u32, number: u32) -> bool
     ensures { result ≡ list_any (has_key customer number) (calls_of pending.now) }
 {

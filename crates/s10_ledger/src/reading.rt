@@ -1,4 +1,5 @@
-//! The rows of a ledger's tables are read, those of the calls to be done again and dropped.
+//! Reads the tables of a ledger. The rows of `calls` are executed again, and dropped before the
+//! derived rows are read.
 
 ghost use Rattle.std.specs.Prelude.{List, IfOk, OnOk, IsTrue};
 ghost use Rattle.sqlite.specs.Held.{state};
@@ -19,7 +20,7 @@ use s10_statements::{Observer, all_calls, all_closed, all_heads, all_ranges, all
 use sqlite::{Alter, Connection, Error};
 use std::alloc::Global;
 
-// The rows of `head`, and those of `calls` in order of arrival.
+// Returns the rows of `head`, and those of `calls` in order of arrival.
 fn read_call_rows<S: Alter, W: Observer>(
     alloc: Global,
     conn: &mut Connection<S>,
@@ -37,7 +38,7 @@ fn read_call_rows<S: Alter, W: Observer>(
     Ok((heads, calls))
 }
 
-// The rows of `closed`, none where it is missing.
+// Returns the rows of `closed`: none if the table is missing.
 fn closed_rows<S: Alter>(
     alloc: Global,
     conn: &mut Connection<S>,
@@ -54,7 +55,7 @@ fn closed_rows<S: Alter>(
     }
 }
 
-// The rows of `ranges` and of `serials`.
+// Returns the rows of `ranges` and of `serials`.
 fn read_derived_rows<S: Alter, W: Observer>(
     alloc: Global,
     conn: &mut Connection<S>,
@@ -73,7 +74,7 @@ fn read_derived_rows<S: Alter, W: Observer>(
     Ok((ranges, serials))
 }
 
-// What is found of the settings and the calls, and the rows that are to be compared with what these make.
+// Executes the stored calls again. Returns what resulted, and the stored rows to compare with it.
 pub(crate) fn read_tables<S: Alter, W: Observer>(
     alloc: Global,
     conn: &mut Connection<S>,

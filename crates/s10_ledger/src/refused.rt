@@ -1,8 +1,10 @@
 use s10_rows::OpenFault;
 use sqlite::{Alter, Connection};
 
-/// Why a ledger could not be made or opened, and the connection, handed back.
+/// Why a ledger could not be created or opened, with its connection.
 pub struct Refused<S: Alter> {
+    /// Why it was refused.
     pub fault: OpenFault,
+    /// The connection, returned to the caller.
     pub connection: Connection<S>,
 }

@@ -20,21 +20,28 @@ use sqlite::{Alter, Connection, MemStore};
 use std::alloc::Global;
 use std::marker::Model;
 
-/// n calls are pending at most.
+/// The greatest number of pending calls.
 pub const MAX_PENDING: usize = 64;
 
-/// A book over the tables of a connection. It holds the calls that it keeps in the process, where they are pending until it
-/// commits: then it writes them in one transaction.
+/// A book over the tables of a connection.
+///
+/// A kept call is pending in the process until the book commits it. All pending calls are committed
+/// in one transaction. A pending call is in the history but is lost if the process dies.
 pub struct SqlBook<S: Alter> {
+    // The allocator of the index and of the rows that are read.
     alloc: Global,
+    // The connection, in no transaction between two calls.
     conn: Connection<S>,
+    // The reuse interval in days and the limit.
     settings: Settings,
+    // The faults counted.
     faults: Faults,
-    // The calls of the tables, and the pending ones after them.
+    // The calls of the tables, followed by the pending ones.
     index: CallIndex,
-    // What the pending calls write.
+    // What each pending call writes.
     pending: Vec<CallWrite>,
-    // Whether the connection answered the last statement.
+    // Whether the connection answered the last statement. If not, the next call reads the settings
+    // first.
     answered: bool,
 }
 
@@ -72,9 +79,16 @@ impl<S: Alter> SqlBook<S> {
     ghost use Rattle.s10_statements.specs.Creating.{HasOneOfTheNames, IsCreateRefusal};
     ghost use Rattle.s10_schema.specs.Schema.{ledger_schema};
 
-    /// Makes an empty ledger with these settings in an empty database, in one transaction. Refused
-    /// with NotEmpty where a table of one of the five names is there, with Memory, and with Store
-    /// where a statement failed or the database has other tables; a refusal leaves no table.
+    /// Creates an empty ledger with these settings in an empty database, in one transaction.
+    ///
+    /// # Errors
+    ///
+    /// - `NotEmpty` if a table with one of the five names exists.
+    /// - `Memory` if out of memory.
+    /// - `Store` if a statement fails, or the database has anything else in it.
+    ///
+    /// A refusal returns the connection. Its tables are as before, if its disk is clean and it is
+    /// open.
     pub fn create<W: Observer>(
         alloc: Global,
         conn: Connection<S>,
@@ -118,7 +132,7 @@ impl<S: Alter> SqlBook<S> {
         Ok(SqlBook::over(alloc, connection, settings, index))
     }
 
-    // The book over a connection whose tables stand for the calls of the index.
+    // Returns the book over a connection whose tables stand for the calls of the index.
     pub(crate) fn over(
         alloc: Global,
         conn: Connection<S>,
@@ -152,8 +166,9 @@ impl<S: Alter> SqlBook<S> {
         }
     }
 
-    /// The connection, to look at between two calls: where it is open over a clean disk, what the
-    /// book says of its history holds. Its tables stand for the committed calls.
+    /// Returns the connection between two calls. Its tables stand for the committed calls.
+    ///
+    /// The book is honest if this connection is open and its disk is clean.
     pub fn connection(&self) -> &Connection<S>
         ensures same { result.now ≡ self.now.conn }
         ensures idle { self.now.conn.in_transaction ≡ false }
@@ -166,7 +181,9 @@ impl<S: Alter> SqlBook<S> {
         &self.conn
     }
 
-    /// The connection, whose tables stand for the committed calls. The pending ones are let go: no server sent a reply to them.
+    /// Closes the book and returns its connection, whose tables stand for the committed calls.
+    ///
+    /// The pending calls are dropped: no server sent a reply to them.
     pub fn close(self) -> Connection<S>
         ensures same { result ≡ self.conn }
         ensures idle { result.in_transaction ≡ false }
@@ -198,8 +215,12 @@ impl SqlBook<MemStore> {
     ghost use Rattle.s10_ledger.specs.Ledger.{IsHonest, history_in};
     ghost use Rattle.s10_schema.specs.Schema.{ledger_schema};
 
-    /// Makes an empty ledger with these settings in memory. Refused with Memory, and with Store
-    /// where a statement failed.
+    /// Creates an empty ledger with these settings in memory.
+    ///
+    /// # Errors
+    ///
+    /// - `Memory` if out of memory.
+    /// - `Store` if a statement fails.
     pub fn in_memory(alloc: Global, settings: Settings) -> Result<SqlBook<MemStore>, OpenFault>
         ensures new { IfOk result (λ b. (b.terms ≡ settings) × (b.faults ≡ no_faults)) }
         ensures idle { IfOk result (λ b. b.conn.in_transaction ≡ false) }
@@ -226,7 +247,7 @@ impl SqlBook<MemStore> {
     }
 }
 
-// Counts an answer that is a fault, under its own name.
+// Counts the fault, if the result is one, and returns the result.
 fn counted<T>(faults: &mut Faults, answer: Result<T, BookFault>) -> Result<T, BookFault>
     requires { answer ≢ Err Full }
     ensures same { result ≡ answer }
@@ -250,8 +271,8 @@ impl<S: Alter> SqlBook<S> {
     ghost use Rattle.s10_book.specs.Book.{Unchanged};
     ghost use Rattle.s10_ledger.specs.Ledger.{IsCommittedIn, history_of, committed_of};
 
-    // Asks the connection where it did not answer the last statement, so that nothing is answered over a
-    // connection that is shut.
+    // Reads the settings if the connection did not answer the last statement, so that nothing is
+    // returned over a closed connection.
     fn ask_again(&mut self) -> Result<(), BookFault>
         ensures faults { CountsResult result self.old.faults self.new.faults }
         ensures unchanged { Unchanged (history_of S.Store) (λ b. b.terms) (IsHonest S.Store)
@@ -274,7 +295,7 @@ impl<S: Alter> SqlBook<S> {
         counted(&mut self.faults, asked)
     }
 
-    // Writes the pending calls in one transaction.
+    // Commits the pending calls in one transaction.
     fn commit_pending(&mut self) -> Result<(), BookFault>
         ensures faults { CountsResult result self.old.faults self.new.faults }
         ensures unchanged { Unchanged (history_of S.Store) (λ b. b.terms) (IsHonest S.Store)
@@ -294,7 +315,7 @@ impl<S: Alter> SqlBook<S> {
         counted(&mut self.faults, written)
     }
 
-    // Commits where no more calls may be pending, and else asks the connection as the reads do.
+    // Commits if `MAX_PENDING` calls are pending. Otherwise asks the connection, as the reads do.
     fn make_room(&mut self) -> Result<(), BookFault>
         ensures faults { CountsResult result self.old.faults self.new.faults }
         ensures unchanged { Unchanged (history_of S.Store) (λ b. b.terms) (IsHonest S.Store)
@@ -315,7 +336,7 @@ impl<S: Alter> SqlBook<S> {
         self.ask_again()
     }
 
-    // Holds the call after the others.
+    // Appends the call to the pending ones.
     fn append_call(&mut self, entry: &Entry) -> Result<(), BookFault>
         requires room { length self.old.pending < MAX_PENDING }
         requires follows { IsHonest S.Store self.old → MayFollow (history_of S.Store self.old)
@@ -332,7 +353,7 @@ impl<S: Alter> SqlBook<S> {
         counted(&mut self.faults, held)
     }
 
-    // The usage of a range, where no call is pending.
+    // Counts the usage of a range in the tables, when no call is pending.
     fn usage_committed(&mut self, range: &Range, day: u32) -> Result<Usage, BookFault>
         requires none_pending { self.old.pending ≡ [] }
         requires there { IsHonest S.Store self.old
@@ -366,6 +387,7 @@ impl<S: Alter> GroupCommit for SqlBook<S> {
 
     ghost first = { λ book honest. (book.pending, refl) };
 
+    /// Commits all pending calls in one transaction, or none of them: then they stay pending.
     fn commit(&mut self) -> Result<(), BookFault>
         ensures faults { CountsResult result self.old.faults self.new.faults }
         ensures unchanged { Unchanged (history_of S.Store) (λ b. b.terms) (IsHonest S.Store)
@@ -586,6 +608,7 @@ impl<S: Alter> Book for SqlBook<S> {
         Ok(self.index.candidate_after(range, issued))
     }
 
+    /// Commits the pending calls first, since the usage is counted in the tables.
     fn usage(&mut self, range: &Range, day: u32) -> Result<Usage, BookFault>
         requires { IsHonest S.Store self.old → Contains (ranges_of (history_of S.Store self.old))
             range.now }
@@ -604,6 +627,10 @@ impl<S: Alter> Book for SqlBook<S> {
         self.usage_committed(range, day)
     }
 
+    /// Appends the call to the pending ones, in the process. If `MAX_PENDING` calls are pending,
+    /// commits these first.
+    ///
+    /// A crash leaves the committed calls as they were, or followed by all calls that were pending.
     fn keep(&mut self, entry: Entry) -> Result<(), BookFault>
         requires { IsHonest S.Store self.old → MayFollow (history_of S.Store self.old)
             self.old.terms entry }

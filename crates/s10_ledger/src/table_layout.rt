@@ -8,13 +8,14 @@ use sqlite_schema::schema::Schema;
 /// Which of a ledger's tables a database has.
 #[derive(Clone, Copy, Debug, PartialEq, Eq)]
 pub(crate) enum TableLayout {
-    /// All five, and maybe others after them.
+    /// All five. Other tables may follow.
     Whole,
     /// The four of an earlier build, and nothing else.
     Old,
 }
 
-// Which of a ledger's tables are declared, where nothing else has a part in them.
+// Returns which of a ledger's tables are declared. None if they are not, or if another table or
+// index has a part in them.
 pub(crate) fn table_layout_of(schema: &Schema) -> Option<TableLayout>
     ensures some { IfSome result (λ form. IsOfTableLayout form schema.now) }
     ensures none { IfNone result (¬ HasSomeTableLayout schema.now) }
