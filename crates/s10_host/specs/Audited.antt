@@ -1,4 +1,4 @@
--- What an audit finds of a database, and prints.
+-- Defines what an audit finds of a database, and what it prints.
 use Rattle.std.specs.Prelude.{◌≡◌, ℕ, List, [], ◌∷◌, length, codes, decimal, Result, Ok, Err, OnOk}
 use Rattle.sqlite_trees.specs.declared.store.Store.{Ghosts}
 use Rattle.sqlite.specs.Effect.{Database}
@@ -14,7 +14,7 @@ use Rattle.s10_jobs.specs.declared.job_status.JobStatus.{JobStatus}
 use Rattle.s10_jobs.specs.declared.job_status.JobStatus.TheVariants.{Done, Failed}
 use Rattle.s10_jobs.specs.Words.{open_fault_words}
 
--- the database is a ledger of n calls, of this build or of an earlier one
+-- The database is a ledger of n calls, of this build or of an earlier one.
 pub record HoldsCalls (db : Database) (count : ℕ) : Type 0 where
   pub terms : Terms
   pub len : ℕ
@@ -22,19 +22,21 @@ pub record HoldsCalls (db : Database) (count : ℕ) : Type 0 where
   pub ledger : IsAnyLedger db terms len day
   pub counted : count ≡ length (history_in db)
 
--- what is found of a database: n kept calls, or why it is no ledger
+-- The finding is right for the database: the number of kept calls, or why it is no ledger.
 abbrev pub IsFinding : Database → Result ℕ OpenFault → Type 0
 IsFinding db (Ok count) = HoldsCalls db count
 IsFinding db (Err fault) = IsOpeningRefusal db fault
 
--- what is left of a database: it is as it was, or that of an earlier build completed, with its history
+-- An audit leaves the database as it was, or completes one of an earlier build, with the same
+-- history.
 abbrev pub IsLeftByAudit : Database → Database → Result ℕ OpenFault → Type 0
 IsLeftByAudit before after (Ok count) = (IsClosedSchema before.schema → after ≡ before)
     × (history_in after ≡ history_in before)
 IsLeftByAudit before after (Err fault) = after ≡ before
 
--- what was found of the database that a connection showed, by the connection that the audit leaves: it holds where that
--- one is open over disks that kept what they were given, and those are clean only where they were so before
+-- The finding is right for the database that the connection showed before the audit, if the
+-- connection is open afterwards and its disk is clean. The disk is clean afterwards only if it was
+-- clean before.
 pub record HasFound {S : Type 0} (g : Ghosts S) (before left : Held S)
     (found : Result ℕ OpenFault) : Type 0 where
   pub sound : WasSound g before left
@@ -43,10 +45,12 @@ pub record HasFound {S : Type 0} (g : Ghosts S) (before left : Held S)
   pub leaves : IsClean g left → IsOpen g left
       → IsLeftByAudit (state g before).now (state g left).now found
 
+-- The line that an audit prints.
 abbrev pub audit_line : Result ℕ OpenFault → List ℕ
 audit_line (Ok count) = line_of (codes "ledger") (codes "ok" ∷ decimal count ∷ [])
 audit_line (Err fault) = line_of (codes "ledger") (open_fault_words fault)
 
+-- The status of an audit.
 abbrev pub audit_status : Result ℕ OpenFault → JobStatus
 audit_status (Ok count) = Done
 audit_status (Err fault) = Failed

@@ -1,4 +1,5 @@
--- What is done with a ledger from its making or its opening to its end, over any connection and over files.
+-- Defines what a job does with a ledger, from its creation or opening to its end, over any
+-- connection and over files.
 use denote.RattleType.{RattleType}
 use Rattle.std.specs.Prelude.{◌≡◌, ◌⊎◌, ℕ, List, [], Option, None, Result, Ok, IfOk, IfSome}
 use Rattle.std.specs.Io.KnownBytes.{Appends}
@@ -32,13 +33,14 @@ use Rattle.s10_host.specs.Files.{IsAbsenceOr}
 use Rattle.s10_host.specs.Jobs.{ledger_line, FailsByLedger, FailsByClosing}
 
 module _ {S : Type 0} (g : Ghosts S) where
-  -- a ledger with no call and these settings
+  -- A ledger that was created with these settings, without calls.
   pub record IsMadeWith (terms : Terms) (book : Ledger S) : Type 0 where
     pub settings : book.terms ≡ terms
     pub honest : IsClean g book.conn → IsHonest g book
     pub empty : IsHonest g book → history_of g book ≡ []
 
-  -- a ledger that was opened from what a connection showed. It shows the same database, or that of an earlier build completed
+  -- A ledger that was opened from what a connection showed. It shows the same database, or one of
+  -- an earlier build completed.
   pub record IsOpenedFrom (was : Held S) (book : Ledger S) : Type 0 where
     pub honest : IsClean g book.conn → IsHonest g book
     pub found : IsHonest g book → IsAnyLedger (state g was).now book.terms book.len book.day
@@ -47,7 +49,8 @@ module _ {S : Type 0} (g : Ghosts S) where
     pub history : IsHonest g book → history_of g book ≡ history_in (state g was).now
     pub sound : WasSound g was book.conn
 
-  -- the ledger that was opened from a connection was served in turns, or its address could not be had, and then it was closed
+  -- The ledger was opened from a connection, then served in turns unless its address could not be
+  -- bound, and then closed.
   abbrev pub HasBeenServed : ℕ → Option ℕ → Held S → Option (List ℕ) → Option (List ℕ)
       → Result JobStatus WriteFault → Option BoundLink → Held S → Type 0
   HasBeenServed count day was old new done link closed =
@@ -56,7 +59,8 @@ module _ {S : Type 0} (g : Ghosts S) where
       × (link ≡ None → IsUnbound opened served old new done)
       × IfSome link (Turns g day count opened served old new done)
 
-  -- what was done of a work over a connection, what it wrote, and the link and the connection that it hands back
+  -- What a job did over a connection, what it printed, and the link and the connection that it
+  -- returned.
   abbrev pub HasRunBookJob : BookJob → Held S → Option (List ℕ) → Option (List ℕ)
       → Result JobStatus WriteFault → Option BoundLink → Held S → Type 0
   HasRunBookJob (Create terms) was old new done link closed =
@@ -74,19 +78,21 @@ module _ {S : Type 0} (g : Ghosts S) where
       (report_lines report (history_of g opened) opened.terms)))
       × (link ≡ None)
 
-  -- the database that the connection showed is refused as a ledger, where its disk kept what it was given
+  -- The database that the connection showed is refused as a ledger, if the disk is clean and the
+  -- connection open.
   abbrev pub IsRefusedLeft : Held S → Held S → OpenFault → Type 0
   IsRefusedLeft was left fault = IsClean g left → IsOpen g left
       → IsOpeningRefusal (state g was).now fault
 
-  -- why nothing was done: no ledger is made where another is, and none is opened where none is
+  -- Why the job was not run: its ledger could not be created, or could not be opened.
   abbrev pub IsBookJobRefusal : BookJob → Held S → Held S → OpenFault → Type 0
   IsBookJobRefusal (Create terms) was left fault = IsCreateRefusal (state g was).now.schema fault
   IsBookJobRefusal (Serve at count day) was left fault = IsRefusedLeft was left fault
   IsBookJobRefusal (Report report) was left fault = IsRefusedLeft was left fault
 
 module _ {D : Type 0} {g : disk.Ghosts D} where
-  -- the work was done over a connection, and the ledger is closed in these files, or could not be closed
+  -- The job was run over a connection, and the ledger was closed in these files or could not be
+  -- closed.
   pub record IsWorkedOver (work : BookJob) (was : Held (FileStore D g)) (old new : Option (List ℕ))
       (result : Result JobStatus WriteFault) (files : Option (Files D)) (link : Option BoundLink) :
       Type 0 where
@@ -97,7 +103,7 @@ module _ {D : Type 0} {g : disk.Ghosts D} where
     pub kept : IfSome files (λ f. Copies closed f × (result ≡ done) × (new ≡ between))
     pub lost : files ≡ None → FailsByClosing done between new result
 
-  -- nothing was done, and the line says why
+  -- The job was not run, and the line says why.
   pub record IsRefusedOver (work : BookJob) (was : Held (FileStore D g)) (old new : Option (List ℕ))
       (result : Result JobStatus WriteFault) (files : Option (Files D)) (link : Option BoundLink) :
       Type 0 where
@@ -108,13 +114,15 @@ module _ {D : Type 0} {g : disk.Ghosts D} where
     pub no_files : files ≡ None
     pub no_link : link ≡ None
 
+  -- How a job over a connection ended: it was run, or its ledger was refused.
   abbrev pub EndsOver : BookJob → Held (FileStore D g) → Option (List ℕ) → Option (List ℕ)
       → Result JobStatus WriteFault → Option (Files D) → Option BoundLink → Type 0
   EndsOver work was old new result files link = IsWorkedOver work was old new result files link
       ⊎ IsRefusedOver work was old new result files link
 
 module _ (S : RattleType) (first : start.Ghosts S.Denot) where
-  -- a file that is there was opened for the work; or it could not be, and the line says why
+  -- How a job over files ended: the files were opened for it, or could not be opened and the line
+  -- says why.
   abbrev pub EndsIn : BookJob → Option (List ℕ) → Option (List ℕ) → Result JobStatus WriteFault
       → Option (ClosedFiles S first) → Option BoundLink → Type 0
   EndsIn work old new result files link =

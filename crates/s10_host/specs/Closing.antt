@@ -1,4 +1,4 @@
--- What is done with a ledger to its end.
+-- Defines the turns of a ledger, and when it is closed.
 use Rattle.std.specs.Prelude.{◌≡◌, ℕ, List, Option, Result}
 use Rattle.sqlite_trees.specs.declared.store.Store.{Ghosts}
 use Rattle.sqlite.specs.Held.{Held, state}
@@ -11,15 +11,15 @@ use Rattle.s10_jobs.specs.declared.job_status.JobStatus.{JobStatus}
 use Rattle.s10_jobs.specs.Serving.{IsBatch, Serves}
 
 module _ {S : Type 0} (g : Ghosts S) where
-  -- the connection of a ledger as it was closed: what it shows is committed, and it shows an honest ledger, where its disk kept
-  -- what it was given
+  -- The ledger was closed with this connection. If the disk is clean and the connection open, what
+  -- it shows is committed and the ledger is honest.
   pub record IsClosedAs (book : Ledger S) (closed : Held S) : Type 0 where
     pub same : closed ≡ book.conn
     pub committed : IsClean g closed → IsOpen g closed → (state g closed).committed
         ≡ (state g closed).now
     pub honest : IsClean g closed → IsOpen g closed → IsHonest g book
 
-  -- the turns on a new link, and their lines
+  -- The turns on a new link, and their lines.
   abbrev pub Turns : Option ℕ → ℕ → Ledger S → Ledger S → Option (List ℕ) → Option (List ℕ)
       → Result JobStatus WriteFault → BoundLink → Type 0
   Turns day count opened served old new result link =

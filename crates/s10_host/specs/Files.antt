@@ -1,4 +1,4 @@
--- Ledgers in files, as they are made, opened and closed.
+-- Defines ledgers in files, as they are created, opened and closed.
 use denote.RattleType.{RattleType}
 use Rattle.std.specs.Prelude.{◌≡◌, ◌⊎◌, false, []}
 use Rattle.sqlite_disk.specs.declared.Disk.{Ghosts}
@@ -29,28 +29,29 @@ use Rattle.s10_statements.specs.Creating.{IsCreateRefusal}
 use Rattle.s10_statements.specs.ConnectionState.{IsClean, IsOpen}
 
 module _ {D : Type 0} {g : Ghosts D} where
-  -- the connection is open, and shows what the files held, where the disk has returned what was written
+  -- The connection is open and shows what the files held, if the disk is clean.
   abbrev pub IsFoundIn : Image → Held (FileStore D g) → Type 0
   IsFoundIn held c = IsClean over_files c → IsOpened c × FindsIn held (file_state c)
 
-  -- files that are new have no checksums: a write by a program that knows of none would spoil them
+  -- New files have no checksums: a write by a program that does not know of them would make them
+  -- wrong.
   abbrev pub IsPlain : Image → Held (FileStore D g) → Type 0
   IsPlain held c = IsClean over_files c → IsBlankAs false held → (view c.store).has_sums ≡ false
 
-  -- a fact of a book, where its disk has returned what was written
+  -- The predicate holds of the book if its disk is clean.
   abbrev pub WhereClean : (Ledger (FileStore D g) → Type 0) → Ledger (FileStore D g) → Type 0
   WhereClean Is book = IsClean over_files book.conn → Is book
 
-  -- a ledger with no call
+  -- An honest ledger without calls.
   pub record IsEmptyBook (book : Ledger (FileStore D g)) : Type 0 where
     pub honest : IsHonest over_files book
     pub empty : history_of over_files book ≡ []
 
-  -- a ledger over the database that the files held, which is a ledger as it was found. It shows the same database, or that of an
-  -- earlier build completed, with the history of that
+  -- An honest ledger over the database that the files held, which was a ledger when it was found.
+  -- It shows the same database, or one of an earlier build completed, with the same history.
   pub record IsFoundBook (held : Image) (book : Ledger (FileStore D g)) : Type 0 where
     pub honest : IsHonest over_files book
-    -- it showed this as the files were opened
+    -- What the connection showed when the files were opened.
     pub was : Held (FileStore D g)
     pub opened : IsOpened was × FindsIn held (file_state was)
     pub holds : (db : Trees) → HoldsDatabase held db → (file_state was).now.trees ≡ db
@@ -60,63 +61,67 @@ module _ {D : Type 0} {g : Ghosts D} where
         ≡ (file_state was).now
     pub history : history_of over_files book ≡ history_in (file_state was).now
 
-  -- the last commit is in the database file, where both files kept what they were given
+  -- The last commit is in the database file, if both files kept what was written.
   abbrev pub Copies : Held (FileStore D g) → Files D → Type 0
   Copies c files = AreClean g files.log files.db → IsCopied c files
 
-  -- the ledger was honest to the end, and what it showed is what the files hold, also after a crash
+  -- The ledger was honest to the end, and the files hold what it showed, also after a crash.
   pub record IsClosedInto (book : Ledger (FileStore D g)) (files : Files D) : Type 0 where
     pub honest : IsHonest over_files book
     pub settled : (file_state book.conn).committed ≡ (file_state book.conn).now
     pub copied : IsCopied book.conn files
 
-  -- the same, where both files kept what they were given
+  -- The ledger was closed in these files, if both kept what was written.
   abbrev pub ClosesInto : Ledger (FileStore D g) → Files D → Type 0
   ClosesInto book files = AreClean g files.log files.db → IsClosedInto book files
 
-  -- both files kept what they were given only where the connection's disk did
+  -- Both files kept what was written only if the connection's disk is clean.
   abbrev pub LeavesClean : Held (FileStore D g) → Files D → Type 0
   LeavesClean c files = AreClean g files.log files.db → IsClean over_files c
 
--- a file of the system
+-- A file of the operating system.
 abbrev pub SystemFile : (S : RattleType) → start.Ghosts S.Denot → Type 0
 SystemFile S first = Modelled Host S.Denot calls.ghosts first
 
+-- What the kit says of such files.
 abbrev pub system_files : (S : RattleType) (first : start.Ghosts S.Denot)
     → Ghosts (SystemFile S first)
 system_files S first = disk.ghosts host.the_row S calls.ghosts disk.no_dict first disk.no_dict
     disk.no_dict
 
--- a connection over files of the system that held this at first, and a ledger over its tables
+-- A connection over files of the operating system, with these initial contents.
 abbrev pub FileConnection : (S : RattleType) → start.Ghosts S.Denot → Type 0
 FileConnection S first = Held (FileStore (SystemFile S first) (system_files S first))
 
+-- A ledger over the tables of such a connection.
 abbrev pub FileLedger : (S : RattleType) → start.Ghosts S.Denot → Type 0
 FileLedger S first = Ledger (FileStore (SystemFile S first) (system_files S first))
 
--- the log and the database file, closed
+-- The log and the database file, closed.
 abbrev pub ClosedFiles : (S : RattleType) → start.Ghosts S.Denot → Type 0
 ClosedFiles S first = Files (SystemFile S first)
 
--- the file could not be opened as a database
+-- The file could not be opened as a database.
 abbrev pub IsFileFault : OpenFault → Type 0
 IsFileFault fault = (fault ≡ Memory) ⊎ (fault ≡ Store)
 
--- there is no such file, or something else is wrong
+-- The file is not there or is empty, or another fault occurred.
 abbrev pub IsAbsenceOr : (OpenFault → Type 0) → OpenFault → Type 0
 IsAbsenceOr IsFault fault = (fault ≡ NotALedger) ⊎ IsFault fault
 
 module _ (S : RattleType) (first : start.Ghosts S.Denot) where
-  -- the database that was found in the files is refused as the place of a new ledger
+  -- The database that was found in the files is refused for a new ledger.
   pub record IsRefusedPlace (fault : OpenFault) : Type 0 where
     pub was : FileConnection S first
     pub found : IsFoundIn (image_at first) was
     pub refusal : IsCreateRefusal (file_state was).now.schema fault
 
+  -- Why no ledger was created: the file could not be opened, or its database is refused.
   abbrev pub IsNotMade : OpenFault → Type 0
   IsNotMade fault = IsFileFault fault ⊎ IsRefusedPlace fault
 
-  -- the database that was found in the files is refused as a ledger, where the disks kept what they were given
+  -- The database that was found in the files is refused as a ledger, if the disk is clean and the
+  -- connection open.
   pub record IsRefusedLedger (fault : OpenFault) : Type 0 where
     pub was : FileConnection S first
     pub found : IsFoundIn (image_at first) was
@@ -124,5 +129,6 @@ module _ (S : RattleType) (first : start.Ghosts S.Denot) where
     pub refusal : IsClean over_files left → IsOpen over_files left
         → IsOpeningRefusal (file_state was).now fault
 
+  -- Why no ledger was opened: the file could not be opened, or its database is refused.
   abbrev pub IsNotOpened : OpenFault → Type 0
   IsNotOpened fault = IsAbsenceOr (λ f. IsFileFault f ⊎ IsRefusedLedger f) fault

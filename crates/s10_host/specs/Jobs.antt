@@ -1,4 +1,4 @@
--- What the subcommands have done as they end, and what they print.
+-- Defines what each job has done when it ends, and what it has printed.
 use denote.RattleType.{RattleType}
 use Rattle.std.specs.Prelude.{◌≡◌, ◌⊎◌, ℕ, Bool, true, false, List, [], ◌∷◌, ◌++◌, codes, Option}
 use Rattle.std.specs.Prelude.{None, Result, IsOk, IfOk, IfSome}
@@ -35,28 +35,29 @@ use Rattle.s10_host.specs.Files.{FileConnection, FileLedger, ClosedFiles, WhereC
 use Rattle.s10_host.specs.Files.{IsEmptyBook, IsFoundBook, ClosesInto, LeavesClean, IsFileFault}
 use Rattle.s10_host.specs.Files.{IsAbsenceOr, IsNotMade, IsNotOpened}
 
--- the line of a fault of the ledger
+-- The line of a fault of the ledger.
 abbrev pub ledger_line : OpenFault → List ℕ
 ledger_line fault = line_of (codes "ledger") (open_fault_words fault)
 
--- the job failed by such a fault of the ledger, which the line names
+-- The job failed by such a fault of the ledger, and the line names it.
 abbrev pub FailsByLedger : (OpenFault → Type 0) → Option (List ℕ) → Option (List ℕ) → JobStatus
     → Type 0
 FailsByLedger IsFault old new status = (status ≡ Failed) × (fault : OpenFault) × IsFault fault
     × Appends old new (ledger_line fault)
 
--- it was done so far, and then the ledger could not be closed
+-- The job was done, and then the ledger could not be closed.
 abbrev pub FailsByClosing : Result JobStatus WriteFault → Option (List ℕ) → Option (List ℕ)
     → Result JobStatus WriteFault → Type 0
 FailsByClosing done between new result =
     IfOk result (λ status. IsOk done × FailsByLedger (λ fault. fault ≡ Store) between new status)
 
--- the report that the words ask for: of the ranges, on the day that was given, where it is not that of the issues
+-- The report is the one asked for: that of the issues, or that of the ranges on the given day or on
+-- one of the clock.
 pub record IsAskedFor (is_of_issues : Bool) (day : Option ℕ) (report : Report) : Type 0 where
   pub issues : is_of_issues ≡ true → report ≡ Issues
   pub ranges : is_of_issues ≡ false → (d : ℕ) × (report ≡ Ranges d) × IsDay day d
 
--- the question was asked over the link that is handed back, or the line says why nothing was
+-- The question was asked over the link that is returned, or the line says why it was not.
 pub record HasAsked (question : Question) (old new : Option (List ℕ))
     (result : Result JobStatus WriteFault) (link : Option BoundLink) : Type 0 where
   pub asked : IfSome link (λ l. IsAsked question l old new result)
@@ -64,7 +65,8 @@ pub record HasAsked (question : Question) (old new : Option (List ℕ))
       → IfOk result (λ status. (line : List ℕ) × IsUnasked question status line
       × Appends old new line)
 
--- the calls of a loop were made on the day that was given, or on one of the clock; or that gives none, and nothing is bound
+-- The calls of a loop were made on the given day or on one of the clock. Or the clock gave no day,
+-- and nothing was bound.
 abbrev pub IsRunOn : Option ℕ → Option (List ℕ) → Option (List ℕ) → Result JobStatus WriteFault
     → Option LoopResources → Type 0
 IsRunOn day old new result looped =
@@ -73,14 +75,14 @@ IsRunOn day old new result looped =
     × Appends old new (codes "clock\n")))
 
 module _ (S : RattleType) (first : Ghosts S.Denot) where
-  -- an empty ledger with these settings was made, and closed in these files
+  -- An empty ledger with these settings was created, and closed in these files.
   pub record HasMadeLedger (terms : Terms) (files : ClosedFiles S first) : Type 0 where
     pub book : FileLedger S first
     pub settings : book.terms ≡ terms
     pub empty : WhereClean IsEmptyBook book
     pub closes_into : ClosesInto book files
 
-  -- such a ledger was made, and only then that was said; or the line says why there is none
+  -- A ledger was created, and only then `created` was printed. Or the line says why there is none.
   pub record HasCreated (terms : Terms) (old new : Option (List ℕ))
       (result : Result JobStatus WriteFault) (files : Option (ClosedFiles S first)) : Type 0 where
     pub made : IfSome files (HasMadeLedger terms)
@@ -88,7 +90,7 @@ module _ (S : RattleType) (first : Ghosts S.Denot) where
         × Appends old new (codes "created\n")))
     pub refused : files ≡ None → IfOk result (FailsByLedger (IsNotMade S first) old new)
 
-  -- the ledger was served in turns, which are all that this link carried, and closed in these files
+  -- The ledger was served in turns, which are all that the link carried, and closed in these files.
   pub record IsServed (opened : FileLedger S first) (day : Option ℕ) (count : ℕ)
       (old new : Option (List ℕ)) (result : Result JobStatus WriteFault) (link : BoundLink)
       (files : ClosedFiles S first) : Type 0 where
@@ -97,7 +99,7 @@ module _ (S : RattleType) (first : Ghosts S.Denot) where
     pub was_honest : IsHonest over_files served → IsHonest over_files opened
     pub closes_into : ClosesInto served files
 
-  -- it was served so, and could not be closed
+  -- The ledger was served in turns, and could not be closed.
   pub record IsLost (opened : FileLedger S first) (day : Option ℕ) (count : ℕ)
       (old new : Option (List ℕ)) (result : Result JobStatus WriteFault) (link : BoundLink) :
       Type 0 where
@@ -108,7 +110,7 @@ module _ (S : RattleType) (first : Ghosts S.Denot) where
     pub was_honest : IsHonest over_files served → IsHonest over_files opened
     pub printed : FailsByClosing turned between new result
 
-  -- it was opened, and its address could not be had
+  -- The ledger was opened, and its address could not be bound.
   pub record IsUnlinked (opened : FileLedger S first) (old new : Option (List ℕ))
       (result : Result JobStatus WriteFault) (files : Option (ClosedFiles S first)) : Type 0 where
     pub closes_into : IfSome files (ClosesInto opened)
@@ -118,7 +120,8 @@ module _ (S : RattleType) (first : Ghosts S.Denot) where
         → IfOk result (λ status. (status ≡ Failed)
         × Appends old new (line_of (codes "link") (codes "bind" ∷ []) ++ ledger_line Store))
 
-  -- what comes before the turns, in this order: the address reads, the ledger is opened, the address is had
+  -- Why there is no link, in this order: the address does not read, the ledger cannot be opened,
+  -- the address cannot be bound.
   abbrev pub HasNoLink : List ℕ → Option (List ℕ) → Option (List ℕ) → Result JobStatus WriteFault
       → Option (ClosedFiles S first) → Type 0
   HasNoLink bind old new result files =
@@ -128,8 +131,9 @@ module _ (S : RattleType) (first : Ghosts S.Denot) where
       ⊎ (IsPeerText bind × (opened : FileLedger S first) × WhereClean (IsFoundBook (image_at first))
       opened × IsUnlinked opened old new result files)
 
-  -- it was opened from the files and served; where the closed ones kept what they were given it was honest as it was closed, and so
-  -- it was honest as it was opened. Or there is no link, and the line says why
+  -- The ledger was opened from the files and served. If the closed files kept what was written, it
+  -- was honest when it was closed, and so when it was opened. Or there is no link, and the line
+  -- says why.
   pub record HasServed (bind : List ℕ) (day : Option ℕ) (count : ℕ) (old new : Option (List ℕ))
       (result : Result JobStatus WriteFault) (files : Option (ClosedFiles S first))
       (link : Option BoundLink) : Type 0 where
@@ -139,7 +143,7 @@ module _ (S : RattleType) (first : Ghosts S.Denot) where
         × (files ≡ None → IsLost opened day count old new result l))
     pub unlinked : link ≡ None → HasNoLink bind old new result files
 
-  -- the report of the ledger's history was written, as far as the book and the writer went
+  -- The report of the ledger's history was printed, unless the book or the writer failed.
   abbrev pub Writes : Report → FileLedger S first → FileLedger S first → Option (List ℕ)
       → Option (List ℕ) → Result JobStatus WriteFault → Type 0
   Writes report opened reported old new result =
@@ -147,7 +151,7 @@ module _ (S : RattleType) (first : Ghosts S.Denot) where
       → IfOk result (PrintsReport opened.faults reported.faults old new
       (report_lines report (history_of over_files opened) opened.terms))
 
-  -- and the ledger was closed in these files
+  -- The ledger was reported on, and closed in these files.
   pub record IsReported (opened : FileLedger S first) (report : Report) (old new : Option (List ℕ))
       (result : Result JobStatus WriteFault) (files : ClosedFiles S first) : Type 0 where
     pub reported : FileLedger S first
@@ -156,7 +160,7 @@ module _ (S : RattleType) (first : Ghosts S.Denot) where
         (IsHonest over_files) opened reported
     pub closes_into : ClosesInto reported files
 
-  -- or it could not be closed
+  -- The ledger was reported on, and could not be closed.
   pub record IsReportedAndLost (opened : FileLedger S first) (report : Report)
       (old new : Option (List ℕ)) (result : Result JobStatus WriteFault) : Type 0 where
     pub reported : FileLedger S first
@@ -165,7 +169,8 @@ module _ (S : RattleType) (first : Ghosts S.Denot) where
     pub written : Writes report opened reported old between done
     pub printed : FailsByClosing done between new result
 
-  -- what comes before the report, in this order: the clock gives a day where none was given, the ledger is opened
+  -- Why there is no report, in this order: no day was given and the clock gave none, or the ledger
+  -- cannot be opened.
   abbrev pub HasNoReport : Bool → Option ℕ → Option (List ℕ) → Option (List ℕ)
       → Result JobStatus WriteFault → Type 0
   HasNoReport is_of_issues day old new result =
@@ -173,7 +178,8 @@ module _ (S : RattleType) (first : Ghosts S.Denot) where
       × Appends old new (codes "clock\n")))
       ⊎ IfOk result (FailsByLedger (IsNotOpened S first) old new)
 
-  -- it was opened from the files, and reported on as was asked for; or the line says why there is no report
+  -- The ledger was opened from the files, and the report asked for was printed. Or the line says
+  -- why there is none.
   pub record HasReported (is_of_issues : Bool) (day : Option ℕ) (old new : Option (List ℕ))
       (result : Result JobStatus WriteFault) (files : Option (ClosedFiles S first)) : Type 0 where
     pub reported : IfSome files (λ f. (report : Report) × IsAskedFor is_of_issues day report
@@ -184,7 +190,8 @@ module _ (S : RattleType) (first : Ghosts S.Denot) where
         × (opened : FileLedger S first) × WhereClean (IsFoundBook (image_at first)) opened
         × IsReportedAndLost opened report old new result)
 
-  -- the ledger in the files was audited and left in these files, and what was found was written
+  -- The ledger in the files was audited, the finding was printed, and the files were closed as the
+  -- audit left them.
   pub record IsAudited (old new : Option (List ℕ)) (result : Result JobStatus WriteFault)
       (files : ClosedFiles S first) : Type 0 where
     pub opened : FileConnection S first
@@ -196,13 +203,14 @@ module _ (S : RattleType) (first : Ghosts S.Denot) where
         × Appends old new (audit_line finding))
     pub leaves : LeavesClean left files
 
-  -- or the line says why the files could not be opened
+  -- The ledger was audited, or the line says why the files could not be opened.
   pub record HasAudited (old new : Option (List ℕ)) (result : Result JobStatus WriteFault)
       (files : Option (ClosedFiles S first)) : Type 0 where
     pub audited : IfSome files (IsAudited old new result)
     pub refused : files ≡ None → IfOk result (FailsByLedger (IsAbsenceOr IsFileFault) old new)
 
-  -- what a job has done as it ends, by its result and by the files, the link or what is left of a loop, which it hands back
+  -- What a job has done when it ends, by its result and by its resources: files, link or those of a
+  -- loop.
   abbrev pub HasEnded : Job → Option (List ℕ) → Option (List ℕ) → Result JobStatus WriteFault
       → Option (ClosedFiles S first) → Option BoundLink → Option LoopResources → Type 0
   HasEnded (job.Create ledger settings) old new result files link looped =

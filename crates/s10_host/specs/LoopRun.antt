@@ -1,4 +1,4 @@
--- What `loop` does over a ledger in memory, and what it leaves.
+-- Defines what `loop` does over a ledger in memory, and what it returns.
 use Rattle.std.specs.Prelude.{◌≡◌, ◌⊎◌, ℕ, List, [], ◌∷◌, ◌++◌, codes, Option, None, Result, IfOk}
 use Rattle.std.specs.Prelude.{IfSome}
 use Rattle.sqlite_trees.specs.declared.memory.MemStore.{MemStore}
@@ -26,27 +26,27 @@ use Rattle.s10_sockets.specs.LoopCalls.{loop_calls, AreMadeInTurn}
 use Rattle.s10_host.specs.declared.loop_resources.LoopResources.{LoopResources}
 use Rattle.s10_host.specs.Files.{IsFileFault}
 
--- why nothing was asked: a socket cannot be bound, or else no ledger can be made in memory
+-- Why no call was made: a socket could not be bound, or no ledger could be created in memory.
 abbrev pub IsLoopFailure : List ℕ → Type 0
 IsLoopFailure line = (line ≡ line_of (codes "link") (codes "bind" ∷ []))
     ⊎ ((fault : OpenFault) × IsFileFault fault
     × (line ≡ line_of (codes "ledger") (open_fault_words fault)))
 
--- a link to a ledger in memory, over two sockets of this machine
+-- A link to a ledger in memory, over two sockets of this machine.
 abbrev pub LoopLink : Type 0
 LoopLink = NearLink (Ledger MemStore) BoundLink BoundLink
 
--- the settings of its ledger
+-- The settings of the ledger of a loop.
 abbrev pub loop_terms : Terms
 loop_terms = record { interval = 30; limit = 100 }
 
--- how a call changes it
+-- How a call changes the link of a loop.
 abbrev pub IsLoopStep : LoopLink → LoopLink → Type 0
 IsLoopStep = IsNearStep (λ (b : Ledger MemStore). b.faults) (IsHonest over_memory) (λ b. b.terms)
     (history_of over_memory) (committed_of over_memory) (λ (l : BoundLink). l.trace)
     (λ (l : BoundLink). l.trace)
 
--- it carried nothing, and its ledger is empty
+-- A new loop: its links carried nothing, and its ledger is empty.
 pub record IsNewLoop (day : ℕ) (link : LoopLink) : Type 0 where
   pub on_day : link.day ≡ day
   pub far : link.far.trace ≡ new_trace
@@ -54,16 +54,16 @@ pub record IsNewLoop (day : ℕ) (link : LoopLink) : Type 0 where
   pub terms : (book_of link.server).terms ≡ loop_terms
   pub empty : history_of over_memory (book_of link.server) ≡ []
 
--- what is left of it once its ledger is closed, which was honest to the end
+-- The resources of a loop after its ledger was closed. The ledger was honest to the end.
 pub record AreLoopResources (link : LoopLink) (looped : LoopResources) : Type 0 where
   pub honest : IsHonest over_memory (book_of link.server)
   pub closed : looped.connection ≡ (book_of link.server).conn
   pub far : looped.far ≡ link.far
   pub near : looped.near ≡ link.near
 
--- the calls are all that a new link carried, of which this is left: what was served on the day is the history of the ledger, but for
--- calls that could not be committed, of which there are none where it had no fault; where
--- the writer did not fail the lines of the calls were written
+-- A run of a loop. Its calls are all that a new link carried. The calls served on the day are the
+-- history of the ledger, followed by those that could not be committed: none if the ledger had no
+-- fault. The lines of the calls were printed unless the writer failed.
 pub record IsLoopRun (day : ℕ) (old new : Option (List ℕ)) (result : Result JobStatus WriteFault)
     (looped : LoopResources) : Type 0 where
   pub begun : LoopLink
@@ -78,7 +78,7 @@ pub record IsLoopRun (day : ℕ) (old new : Option (List ℕ)) (result : Result 
   pub asked : IfOk result (λ status. (to : Peer)
       × Prints old new (AreMadeInTurn to loop_calls new_trace looped.near.trace status))
 
--- so were they, or the line says why nothing was asked
+-- The loop was run, or the line says why no call was made.
 pub record HasRunLoop (day : ℕ) (old new : Option (List ℕ)) (result : Result JobStatus WriteFault)
     (looped : Option LoopResources) : Type 0 where
   pub asked : IfSome looped (IsLoopRun day old new result)

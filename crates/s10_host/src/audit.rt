@@ -1,4 +1,4 @@
-//! An audit of a ledger.
+//! Audits a ledger.
 
 ghost use Rattle.std.specs.Prelude.{◌≡◌, ◌∷◌, [], ℕ, false, codes, decimal, Result, OnOk, IfOk};
 ghost use Rattle.std.specs.Io.KnownBytes.{Appends};
@@ -14,8 +14,15 @@ use sqlite::{Alter, Connection};
 use std::alloc::Global;
 use std::io::Write;
 
-/// Opens the ledger of a connection, which does all its calls again, and writes `ledger ok N` with the number of its
-/// calls, or `ledger` and why it is none, which is a failure. Answers the connection too.
+/// Opens the ledger of a connection, which executes all its calls again, and prints what was found.
+/// Also returns the connection.
+///
+/// Prints `ledger ok N` with the number of calls; the status is `Done`. If there is no ledger,
+/// prints `ledger` with the fault; the status is `Failed`.
+///
+/// # Errors
+///
+/// `WriteFault` if the output fails.
 pub fn run_audit<S: Alter, K: Observer, W: Write>(
     alloc: Global,
     connection: Connection<S>,
@@ -31,7 +38,7 @@ pub fn run_audit<S: Alter, K: Observer, W: Write>(
     (write_audit(found, output), left)
 }
 
-// How many calls the ledger keeps, or why it is none; and the connection.
+// Returns the number of calls, or why there is no ledger. Also returns the connection.
 fn audit_ledger<S: Alter, K: Observer>(
     alloc: Global,
     connection: Connection<S>,

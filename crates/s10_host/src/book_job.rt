@@ -1,4 +1,4 @@
-//! What is done with the ledger of a connection, from its making or its opening to its end.
+//! Runs a job on the ledger of a connection, from its creation or opening to its end.
 
 ghost use Rattle.std.specs.Prelude.{◌≡◌, ◌≢◌, ℕ, false, Option, None, Ok, IfOk, IfErr, IfSome};
 ghost use Rattle.sqlite.specs.Held.{Held};
@@ -25,30 +25,39 @@ use sqlite::{Alter, Connection};
 use std::alloc::Global;
 use std::io::Write;
 
-/// What is done with a ledger.
+/// A job on a ledger.
 #[derive(Clone, Copy)]
 pub enum BookJob {
-    /// An empty one with these settings is made. Nothing is written.
+    /// The creation of an empty ledger with these settings. Nothing is printed.
     Create(Settings),
-    /// It is served at the address for n turns, on the day that is given or on those of the clock.
+    /// Serving the ledger at an address.
     Serve {
+        /// The address that the server binds.
         at: Peer,
+        /// The number of turns.
         count: u32,
+        /// The day of every turn, or `None` for the days of the clock.
         day: Option<u32>,
     },
-    /// The report of it is written.
+    /// The printing of a report of the ledger.
     Report(Report),
 }
 
-/// How it went, the link that the ledger was served over, and the connection.
+/// How a job on a ledger ended: its result, the link that the ledger was served over, and the
+/// connection.
 pub type BookJobEnd<A> = (
     Result<JobStatus, WriteFault>,
     Option<UdpLink>,
     Connection<A>,
 );
 
-/// Makes or opens the ledger of a connection, does the work, and closes it whatever came of that. Refused as the making or
-/// the opening is, before anything is written.
+/// Creates or opens the ledger of a connection, runs the job on it, and closes it whether or not
+/// the job succeeded.
+///
+/// # Errors
+///
+/// `Refused` if the ledger cannot be created or opened (`SqlBook::create`, `SqlBook::open`).
+/// Nothing is printed then.
 pub fn run_book_job<A: Alter, K: Observer, W: Write>(
     rt: &HostRuntime,
     connection: Connection<A>,
@@ -67,7 +76,7 @@ pub fn run_book_job<A: Alter, K: Observer, W: Write>(
     Ok(run_and_close_book(rt, book, work, out))
 }
 
-// The new ledger that the work asks for, or else the one of the connection.
+// Returns a new ledger if the job asks for one, and otherwise the ledger of the connection.
 fn book_for<A: Alter, K: Observer>(
     alloc: Global,
     connection: Connection<A>,
@@ -88,7 +97,7 @@ fn book_for<A: Alter, K: Observer>(
     }
 }
 
-// Does the work with its ledger, and closes that whatever came of it.
+// Runs the job on the ledger, and closes the ledger whether or not the job succeeded.
 fn run_and_close_book<A: Alter, W: Write>(
     rt: &HostRuntime,
     book: SqlBook<A>,
@@ -105,8 +114,8 @@ fn run_and_close_book<A: Alter, W: Write>(
     (done, link, book.close())
 }
 
-// Does the work with its ledger. One that was made for it is left as it is. Answers the link too: None where there was none to
-// serve on.
+// Runs the job on the ledger. A new ledger stays as it was created. Also returns the link that the
+// ledger was served over, or `None` if there is none.
 fn run_on_book<B: GroupCommit, W: Write>(
     rt: &HostRuntime,
     mut book: B,

@@ -1,4 +1,5 @@
-//! The front of a file that is to be opened as a database: a file that is none stays as it was, with nothing beside it.
+//! Checks the first bytes of a file before it is opened as a database. A file that is no database
+//! stays as it is, and no log is created beside it.
 
 ghost use Rattle.std.specs.Prelude.{◌≡◌, IfSome};
 ghost use Rattle.s10_host.specs.Files.{IsFileFault, IsAbsenceOr};
@@ -8,10 +9,10 @@ use std::fs::File;
 use std::io::{ErrorKind, Read};
 use std::{fs, io};
 
-/// The first bytes of every database file.
+/// The first 16 bytes of every database file.
 const MAGIC: [u8; 16] = *b"SQLite format 3\0";
 
-/// How long a log is that holds nothing: its header, and its mark.
+/// The length in bytes of a log that holds no commits: its header and its mark.
 const EMPTY_LOG: u64 = 41;
 
 #[derive(Clone, Copy, Debug, PartialEq, Eq)]
@@ -21,8 +22,10 @@ enum FileKind {
     Other,
 }
 
-/// Why a file that is there is no ledger, where its first bytes show it. None where a log stands beside it, which may hold
-/// its first pages, and where they cannot be read.
+/// Returns why an existing file is not a ledger, if its first bytes show it.
+///
+/// Returns `None` if a log is beside the file, since that may hold its first pages, or if the bytes
+/// cannot be read.
 pub(crate) fn fault_of_existing(rt: &HostRuntime, path: &str) -> Option<OpenFault>
     ensures { IfSome result (IsAbsenceOr IsFileFault) }
 {
@@ -33,7 +36,8 @@ pub(crate) fn fault_of_existing(rt: &HostRuntime, path: &str) -> Option<OpenFaul
     }
 }
 
-/// Why no ledger can be made in a file, where its first bytes show that it holds something else.
+/// Returns why no ledger can be created in a file, if its first bytes show that it holds something
+/// else.
 pub(crate) fn fault_of_new(rt: &HostRuntime, path: &str) -> Option<OpenFault>
     ensures { IfSome result IsFileFault }
 {
@@ -43,7 +47,7 @@ pub(crate) fn fault_of_new(rt: &HostRuntime, path: &str) -> Option<OpenFault>
     }
 }
 
-// Says on standard error that the file holds something else.
+// Prints to standard error that the file holds something else.
 fn fault_of_not_database(rt: &HostRuntime, path: &str) -> OpenFault
     ensures { result ≡ OpenFault.Store }
 {
@@ -63,7 +67,8 @@ fn file_kind_of(rt: &HostRuntime, path: &str) -> io::Result<FileKind> {
     read_file_kind(rt, real.as_str())
 }
 
-/// Where the log of a file is to be, where the file is there and has none.
+/// Returns the path of the log that an opening creates: `None` if the file does not exist or has a
+/// log.
 pub(crate) fn missing_log(rt: &HostRuntime, path: &str) -> Option<String> {
     let real = fs::canonicalize(rt, path).ok()?;
     let log = format!(in rt.alloc(); "{}-wal", real.as_str()).ok()?;
@@ -73,8 +78,10 @@ pub(crate) fn missing_log(rt: &HostRuntime, path: &str) -> Option<String> {
     }
 }
 
-/// Takes away a log that an opening made and that holds nothing, where the opening was refused: who may only read the file
-/// could not open it beside a log. The file has to be locked still, so that nobody else has the log open.
+/// Removes a log that an opening created and that holds no commits, after the opening was refused.
+///
+/// Beside such a log, a user who may only read the file could not open it. The file must still be
+/// locked, so that no other program has the log open.
 pub(crate) fn remove_log(rt: &HostRuntime, made: Option<String>) {
     let Some(log) = made else {
         return;
@@ -86,7 +93,8 @@ pub(crate) fn remove_log(rt: &HostRuntime, made: Option<String>) {
     }
 }
 
-// The log stands beside the file that a link leads to.
+// Returns whether the file has a log that is not empty. Requires the canonical path: the log is
+// beside the target of a symbolic link.
 fn has_log(rt: &HostRuntime, path: &str) -> io::Result<bool> {
     let log = format!(in rt.alloc(); "{path}-wal")?;
     match fs::metadata(rt, log.as_str()) {

@@ -1,4 +1,4 @@
-//! Ledgers in files, for any initial file contents: `S` stands for that.
+//! Ledgers in files, for any initial file contents: `S` represents these.
 
 ghost use Rattle.std.specs.Prelude.{◌≡◌, false, IfOk, IfErr};
 ghost use Rattle.sqlite_wal.specs.Files.{image_at};
@@ -12,19 +12,24 @@ use std::fs::OpenOptions;
 use std::io::ErrorKind;
 use std::{fs, io};
 
-/// How many megabytes a file has at least whose opening begins with its size.
+/// The size in megabytes from which an opening prints the file's size.
 const LARGE_FILE_MB: u64 = 10;
 
-/// The system's number for a file or a folder that is not there.
+/// The system's error number for a file or a folder that does not exist.
 const ENOENT: i32 = 2;
 
-/// A connection over a file.
+/// A connection over a database file and its log.
 pub type FileConnection<S> = Connection<FileStore<FileFrom<S>>>;
 
 /// A database file and its log, closed.
 pub type ClosedFiles<S> = Files<FileFrom<S>>;
 
-/// The files of a connection, with its last commit in the database file itself.
+/// Closes the files of a connection, with its last commit moved from the log into the database
+/// file.
+///
+/// # Errors
+///
+/// `Store` if they cannot be closed so. The reason is printed to standard error.
 pub fn checkpoint_and_close<D: Disk + Drop>(
     rt: &HostRuntime,
     path: &str,
@@ -39,7 +44,7 @@ pub fn checkpoint_and_close<D: Disk + Drop>(
     }
 }
 
-// Says on standard error what kept the file from being closed.
+// Prints to standard error why the file cannot be closed.
 fn fault_of_closing<D: Disk + Drop>(
     rt: &HostRuntime,
     path: &str,
@@ -53,8 +58,15 @@ fn fault_of_closing<D: Disk + Drop>(
     OpenFault::Store
 }
 
-/// Opens a file that is there as a database. One that is not there is no ledger, and is not made; in
-/// a folder that is not there it could not be. One whose front is no database's is not opened.
+/// Opens an existing file as a database. A missing file is not created. A file whose first bytes
+/// are not those of a database is not opened.
+///
+/// # Errors
+///
+/// - `NotALedger` if the file does not exist, or is empty and has no log.
+/// - `Memory` if out of memory.
+/// - `Store` if the file is not a database, its folder does not exist, or the file cannot be
+///   opened. The reason is printed to standard error.
 pub fn connect_to_ledger<S: Start>(
     rt: &HostRuntime,
     path: &str,
@@ -75,7 +87,7 @@ pub fn connect_to_ledger<S: Start>(
     }
 }
 
-// Says on standard error why a file could not be looked for.
+// Prints to standard error why the file cannot be looked up.
 fn fault_of_look(rt: &HostRuntime, path: &str, cause: &io::Error) -> OpenFault
     ensures { result ≡ OpenFault.Store }
 {
@@ -83,7 +95,14 @@ fn fault_of_look(rt: &HostRuntime, path: &str, cause: &io::Error) -> OpenFault
     OpenFault::Store
 }
 
-/// Opens the file of a new ledger as a database, or makes it. One that holds something else than a database is not opened.
+/// Opens the file of a new ledger as a database, or creates it. A file that holds anything but a
+/// database is not opened.
+///
+/// # Errors
+///
+/// - `Memory` if out of memory.
+/// - `Store` if the file holds something else or cannot be opened. The reason is printed to
+///   standard error.
 pub fn connect_to_new<S: Start>(
     rt: &HostRuntime,
     path: &str,
@@ -100,7 +119,8 @@ pub fn connect_to_new<S: Start>(
     }
 }
 
-// Why a file that is not there cannot be opened.
+// Returns why a missing file cannot be opened: `Store` if its folder is missing too, otherwise
+// `NotALedger`.
 fn fault_of_missing(rt: &HostRuntime, path: &str) -> OpenFault
     ensures { IsAbsenceOr IsFileFault result }
 {
@@ -114,7 +134,7 @@ fn fault_of_missing(rt: &HostRuntime, path: &str) -> OpenFault
     }
 }
 
-// Opens a file as a database, or makes it.
+// Opens a file as a database, or creates it.
 fn connect<S: Start>(rt: &HostRuntime, path: &str, start: S) -> Result<FileConnection<S>, OpenFault>
     ensures idle { IfOk result (λ connection. connection.in_transaction ≡ false) }
     ensures found { IfOk result (IsFoundIn (image_at S.Start)) }
@@ -126,7 +146,7 @@ fn connect<S: Start>(rt: &HostRuntime, path: &str, start: S) -> Result<FileConne
     match Connection::open_from(rt, path, false, start) {
         Ok(connection) => Ok(connection),
         Err((error, files)) => {
-            // Without the files in hand another program may have them open.
+            // If the files were not returned, another program may have them open.
             if files.is_some() {
                 remove_log(rt, missing);
             }
@@ -136,8 +156,8 @@ fn connect<S: Start>(rt: &HostRuntime, path: &str, start: S) -> Result<FileConne
     }
 }
 
-// Says on standard error how large a file is whose opening takes a second or more: the store looks through it first, and
-// informs nobody meanwhile.
+// Prints the size of a file whose opening takes a second or more to standard error: the store scans
+// it first, and reports no progress meanwhile.
 fn eprint_size(rt: &HostRuntime, path: &str) {
     let Ok(metadata) = fs::metadata(rt, path) else {
         return;
@@ -148,7 +168,7 @@ fn eprint_size(rt: &HostRuntime, path: &str) {
     }
 }
 
-// Says on standard error why a file could not be opened, in the system's words where these say more.
+// Prints to standard error why a file could not be opened, in the system's words if these say more.
 fn eprint_cause(rt: &HostRuntime, path: &str, error: &Error) {
     let _ = match cause_of(rt, path) {
         Some(cause) => eprintln!(rt; "cannot open {path}: {cause}"),
@@ -156,7 +176,8 @@ fn eprint_cause(rt: &HostRuntime, path: &str, error: &Error) {
     };
 }
 
-// What the system says where a file is opened again, or made where it is not there. One that was made so is taken away.
+// Returns the system's error of opening the file again, or of creating it if it does not exist.
+// Removes a file that this created.
 fn cause_of(rt: &HostRuntime, path: &str) -> Option<io::Error> {
     let mut options = OpenOptions::new();
     options.read(true).write(true);
@@ -184,7 +205,7 @@ fn fault_of_opening(error: &Error) -> OpenFault
     }
 }
 
-/// Why there is no ledger, with its file closed.
+/// Closes the file of a refused ledger, and returns why it was refused.
 pub fn fault_of_refusal<D: Disk + Drop>(refusal: Refused<FileStore<D>>) -> OpenFault
     ensures { result ≡ refusal.fault }
 {

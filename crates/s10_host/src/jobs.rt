@@ -1,4 +1,4 @@
-//! The subcommands over files, sockets and the clock. `S` stands for what the files held.
+//! Runs the jobs over files, sockets and the clock. `S` represents what the files held.
 
 ghost use Rattle.std.specs.Prelude.{◌≡◌, ℕ, codes, false, Some, None, Result, Ok, Err, IsOk, IfOk};
 ghost use Rattle.std.specs.Prelude.{IfSome};
@@ -33,17 +33,22 @@ use sqlite::{Connection, FileStore, Files, Start};
 use sqlite_disk::Disk;
 use std::io::Write;
 
-/// What came of a job, and what it leaves.
+/// How a job ended: its result and its resources.
 type JobEnd<S> = (Result<JobStatus, WriteFault>, JobResources<S>);
 
-/// What came of a task over the files of a ledger, the link that it was served on, and the files, where they were closed.
+/// How a job over the files of a ledger ended: its result, the link that the ledger was served
+/// over, and the files if they were closed.
 type FileJobEnd<D> = (
     Result<JobStatus, WriteFault>,
     Option<UdpLink>,
     Option<Files<D>>,
 );
 
-/// Does a job, and answers how it ended, and what it leaves.
+/// Runs a job. Returns its result and its resources.
+///
+/// # Errors
+///
+/// `WriteFault` if the output fails.
 pub fn run_job<S: Start, W: Write>(
     rt: &HostRuntime,
     job: &Job<'_>,
@@ -111,7 +116,7 @@ fn with_looped<S: Start>(ended: (Result<JobStatus, WriteFault>, Option<LoopResou
     )
 }
 
-// `created` is printed once the ledger is in its file.
+// Prints `created` only after the ledger is closed in its file.
 fn run_create<S: Start, W: Write>(
     rt: &HostRuntime,
     ledger: &str,
@@ -166,12 +171,12 @@ fn run_serve<S: Start, W: Write>(
     run_on_file(rt, ledger, LedgerJob::BookJob(serve), start, out)
 }
 
-// A large ledger takes a while; the turns go on where standard error is closed.
+// Opening a large ledger takes a while. The turns go on even if standard error is closed.
 fn eprint_opening(rt: &HostRuntime, ledger: &str) {
     let _ = eprintln!(rt; "opening {ledger}");
 }
 
-// The day is known before the ledger is opened.
+// Determines the day before the ledger is opened.
 fn run_report<S: Start, W: Write>(
     rt: &HostRuntime,
     ledger: &str,
@@ -195,7 +200,7 @@ fn run_report<S: Start, W: Write>(
     )
 }
 
-// Does the task over the ledger of a file that is there.
+// Runs the job over the ledger of an existing file.
 fn run_on_file<S: Start, W: Write>(
     rt: &HostRuntime,
     ledger: &str,
@@ -221,8 +226,9 @@ fn run_on_file<S: Start, W: Write>(
     }
 }
 
-// A ledger that was worked with is closed whatever came of that. A file that is refused is closed without the log that was made.
-// An audit leaves its files as they are: their last commits may stand in the log alone.
+// Closes the ledger whether or not the job succeeded. If the file was refused, removes the log that
+// opening it created. An audit leaves its files as they are: their last commits may be in the log
+// alone.
 fn run_and_close_file<D: Disk + Drop, W: Write>(
     rt: &HostRuntime,
     ledger: &str,
@@ -261,7 +267,7 @@ fn run_and_close_file<D: Disk + Drop, W: Write>(
     }
 }
 
-// What was done with a ledger, unless it could not be closed.
+// Returns how the job ended, or reports that the ledger could not be closed.
 fn ended<T, W: Write>(
     done: Result<JobStatus, WriteFault>,
     closed: Result<T, OpenFault>,
@@ -291,7 +297,8 @@ fn fail_by_closing<W: Write>(
     fail_by_ledger(fault, out)
 }
 
-// Takes away the log of a file that an audit refuses, which is locked still.
+// Removes the log that opening the file created, if the audit refused the file. The file is still
+// locked.
 fn remove_audit_log(
     rt: &HostRuntime,
     missing: Option<String>,
@@ -302,7 +309,7 @@ fn remove_audit_log(
     }
 }
 
-// The day is known before anything is bound.
+// Determines the day before a socket is bound.
 fn run_loop_on<W: Write>(
     rt: &HostRuntime,
     day: Option<u32>,

@@ -1,4 +1,4 @@
-//! What is asked of the ledger of a connection: a work, or an audit.
+//! Runs a job over the ledger of a connection: a job on an opened book, or an audit.
 
 ghost use Rattle.std.specs.Prelude.{◌≡◌, ◌≤◌, ℕ, false, Result, IfOk};
 ghost use Rattle.std.specs.Io.KnownBytes.{Appends};
@@ -16,23 +16,26 @@ use s10_lines::WriteFault;
 use sqlite::{Alter, Connection};
 use std::io::Write;
 
-/// What is asked of a ledger.
+/// A job over a ledger.
 #[derive(Clone, Copy)]
 pub enum LedgerJob {
+    /// A job on a ledger that is created or opened for it.
     BookJob(BookJob),
-    /// It is audited.
+    /// An audit.
     Audit,
 }
 
-/// What came of a task.
+/// How a job over a ledger ended.
 pub enum LedgerJobEnd<A: Alter> {
+    /// The end of a job on the ledger.
     BookJobEnd(BookJobEnd<A>),
+    /// Why the ledger could not be created or opened, with its connection.
     Refused(Refused<A>),
-    /// How the audit went, and the store that it left.
+    /// The result of an audit, and the store of its connection.
     Audited(Result<JobStatus, WriteFault>, A),
 }
 
-/// Does the task over the ledger of a connection.
+/// Runs the job over the ledger of a connection.
 pub fn run_ledger_job<A: Alter + Drop, K: Observer, W: Write>(
     rt: &HostRuntime,
     connection: Connection<A>,

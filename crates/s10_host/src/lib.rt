@@ -1,4 +1,4 @@
-//! The jobs over ledgers in tables, and over the host's files, sockets and clock.
+//! The jobs over ledgers in tables, and over the files, sockets and clock of the system.
 #![tactic(auto)]
 
 mod audit;

@@ -1,12 +1,15 @@
-//! What a loop leaves.
+//! What a loop returns besides its result.
 
 use s10_ends::UdpLink;
 use sqlite::{Connection, MemStore};
 
-/// The connection of the ledger in memory, and the sockets that it was served on and asked over.
+/// The resources of a loop.
 #[derive(Drop)]
 pub struct LoopResources {
+    /// The connection of the ledger in memory.
     pub connection: Connection<MemStore>,
+    /// The socket that the ledger was served on.
     pub far: UdpLink,
+    /// The socket that the calls were made over.
     pub near: UdpLink,
 }

@@ -1,4 +1,4 @@
-//! A run of calls between two sockets of this machine.
+//! Makes five calls between two sockets of this machine.
 
 ghost use Rattle.std.specs.Prelude.{◌≡◌, None, IfOk, IfErr, IfSome};
 ghost use Rattle.s10_ends.specs.declared.near_link.NearLink.{NearLink};
@@ -24,16 +24,24 @@ use s10_sockets::{bind_link, make_calls};
 use std::io::Write;
 use std::net::Net;
 
-/// The address of this machine to itself, with a port that the system picks.
+/// The loopback address, with a port that the system picks.
 const LOCALHOST: Peer = Peer {
     ip: [127, 0, 0, 1],
     port: 0,
 };
 
-/// Makes a ledger in memory with a reuse interval of 30 days, serves it on this day over a socket of this machine, and
-/// writes the lines of five calls to it over another: the post grants RA GB 0 to 2 to customer 7, who draws twice,
-/// voids the first identifier and asks about it. Done where all were; the first call that is not ends the run, and a fault
-/// of the ledger or of a socket is written. Answers what the loop leaves too: None where nothing was asked.
+/// Creates a ledger in memory, serves it on this day over one socket of this machine, and makes
+/// five calls to it over another. Also returns the resources of the loop, or `None` if no call was
+/// made.
+///
+/// The ledger has a reuse interval of 30 days. The post grants RA GB 0 to 2 to customer 7, who
+/// draws twice, voids the first identifier and queries it. Each call prints a line, and the first
+/// one that is not done ends the run. The status is `Done` if all five are done. A fault of the
+/// ledger or of a socket is printed.
+///
+/// # Errors
+///
+/// `WriteFault` if the output fails.
 pub fn run_loop<R: Net + Eprint + AllocGlobal, W: Write>(
     rt: &R,
     day: u32,
@@ -64,7 +72,8 @@ pub fn run_loop<R: Net + Eprint + AllocGlobal, W: Write>(
     (asked, Some(looped))
 }
 
-// Serves a book over the far link on this day, and makes the calls to it over the near one. Answers the book and the links too.
+// Serves a book over the far link on this day, and makes the calls to it over the near link. Also
+// returns the book and the links.
 fn loop_over<B: GroupCommit, W: Write>(
     book: B,
     far: UdpLink,
@@ -99,7 +108,7 @@ fn loop_over<B: GroupCommit, W: Write>(
     (asked, server.into_book(), far, near)
 }
 
-// The far and the near end.
+// Binds the far and the near link.
 fn two_links<R: Net + Eprint>(rt: &R) -> Result<(UdpLink, UdpLink), LinkFault>
     ensures ok { IfOk result (λ links. (links.0.trace ≡ new_trace) × (links.1.trace ≡ new_trace)) }
     ensures refused { IfErr result (λ fault. fault ≡ LinkFault.Bind) }

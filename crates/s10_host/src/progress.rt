@@ -1,4 +1,4 @@
-//! What standard error shows while the ledger of a file is made or opened.
+//! Prints the progress of the creation or opening of a ledger in a file to standard error.
 
 use crate::book_job::BookJob;
 use crate::ledger_job::LedgerJob;
@@ -6,16 +6,20 @@ use s10_ledger::{Observer, OpenFault};
 use sqlite::Error;
 use std::time::{Duration, Instant};
 
-/// How many rows are read between two looks at the clock.
+/// The number of rows that are read between two reads of the clock.
 const ROWS_PER_CLOCK_READ: u64 = 4096;
 
-/// Tells standard error how far an opening is, once a second, and why a statement failed. The work goes on where
-/// standard error is closed.
+/// An observer that prints the progress of an opening to standard error, at most once a second, and
+/// the error of a statement that failed.
+///
+/// The job goes on even if standard error is closed.
 #[derive(Drop)]
 pub(crate) struct Progress<'a> {
     rt: &'a HostRuntime,
     path: &'a str,
+    // When it printed progress last.
     spoke: Option<Instant>,
+    // Whether a statement failed.
     failed: bool,
 }
 
@@ -30,7 +34,7 @@ impl<'a> Progress<'a> {
         }
     }
 
-    // Why no ledger was made, where one was asked for and no statement failed.
+    // Prints why no ledger was created, if one was asked for and no statement failed.
     pub(crate) fn eprint_not_created(&self, task: &LedgerJob, fault: OpenFault) {
         if let LedgerJob::BookJob(BookJob::Create(_)) = task
             && fault == OpenFault::Store
@@ -43,7 +47,7 @@ impl<'a> Progress<'a> {
         }
     }
 
-    // Whether it has been silent for a second.
+    // Returns whether it has printed nothing for a second.
     fn is_due(&self) -> bool {
         let Some(spoke) = self.spoke else {
             return false;

@@ -40,8 +40,8 @@ pub struct SqlBook<S: Alter> {
     index: CallIndex,
     // What each pending call writes.
     pending: Vec<CallWrite>,
-    // Whether the connection answered the last statement. If not, the next call reads the settings
-    // first.
+    // Whether the connection answered the last statement. If not, a read asks it again before it
+    // returns.
     answered: bool,
 }
 
