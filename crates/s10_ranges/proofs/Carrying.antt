@@ -1,4 +1,4 @@
--- The issues of a call, one place after another.
+-- The issuances of a call, one after another.
 use Rattle.std.proofs.Common.{◌≡◌, ◌∙◌, ℕ, zero, suc, ◌+◌, ◌<◌, ◌≤◌, List, [], ◌∷◌, ◌++◌, map, take}
 use Rattle.std.proofs.Common.{Option, Some, None, length, get_or, refl, sym, ap, subst, arith}
 use Rattle.std.proofs.Common.{append-nil, append_assoc, take_all}
@@ -17,7 +17,7 @@ use Rattle.s10_book.specs.Rules.{MayFollow}
 use Rattle.s10_book.proofs.Carried.{made_by, InTurn, IsPicked, in_turn, carried_call}
 use Rattle.s10_history.proofs.Push.{issues_from-push}
 
--- the issues of a history, and of one more call those before a place
+-- The issuances of a history, followed by those of the next call before an index.
 abbrev pub issues_upto : List Entry → Entry → ℕ → List Issuance
 issues_upto h e place = issues_of h ++ map (made_by e (1 + length h))
     (take place (carried_by e.outcome))
@@ -61,7 +61,7 @@ turn_at P made is (d ∷ cs) (suc place) c lap at =
     subst Q (append_assoc is (made d ∷ []) (map made (take place cs)))
     (turn_at P made (is ++ made d ∷ []) cs place c lap.1 at)
 
--- what stands at a place of a call that may follow was picked after the issues before it
+-- The issuance at an index of a call that may follow was picked after the issuances before it.
 pub picked_at : (h : List Entry) (t : Terms) (e : Entry) (place : ℕ) (c : ℕ × Id) → MayFollow h t e
     → slice_get (carried_by e.outcome) place ≡ Some c
     → IsPicked (ranges_of h) e.request.customer e.day t.interval (issues_upto h e place) c
@@ -69,7 +69,8 @@ picked_at h t e place c may at =
     turn_at (IsPicked (ranges_of h) e.request.customer e.day t.interval) (made_by e (1 + length h))
     (issues_of h) (carried_by e.outcome) place c (carried_call h t e may) at
 
--- what holds of the issues of a history, and is kept by each pick, holds before each place of one more call
+-- What is true of the issuances of a history, and stays true after each pick, is true before each
+-- index of the next call.
 pub upto_holds : (Q : List Issuance → Type 0) (h : List Entry) (t : Terms) (e : Entry) (place : ℕ)
     → MayFollow h t e → Q (issues_of h)
     → ((is : List Issuance) (c : ℕ × Id) → IsPicked (ranges_of h) e.request.customer e.day
@@ -87,7 +88,7 @@ mapped_at : (made : ℕ × Id → Issuance) (o : Option (ℕ × Id)) (i : Issuan
 mapped_at made None i is = absurd (none-some i is)
 mapped_at made (Some c) i is = (c, refl, same_Some (made c) i is)
 
--- the issue at a place is of what is carried there
+-- The issuance at an index has the identifier that the outcome carries there.
 pub carried_at : (e : Entry) (arrival place : ℕ) (i : Issuance)
     → slice_get (issues_at arrival e) place ≡ Some i → (c : ℕ × Id)
     × (slice_get (carried_by e.outcome) place ≡ Some c) × (made_by e arrival c ≡ i)
@@ -95,7 +96,7 @@ carried_at e arrival place i at =
     mapped_at (made_by e arrival) (slice_get (carried_by e.outcome) place) i
     (sym (slice_get-map (made_by e arrival) (carried_by e.outcome) place) ∙ at)
 
--- at each place within there is one
+-- There is an issuance at each index below the number of carried identifiers.
 pub issue_within : (e : Entry) (arrival place : ℕ) → place < length (carried_by e.outcome)
     → slice_get (issues_at arrival e) place ≡ None → ⊥
 issue_within e arrival place within none = at (carried_by e.outcome) within none

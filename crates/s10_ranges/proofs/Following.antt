@@ -1,4 +1,4 @@
--- What a kept call makes of the ranges that are held.
+-- How a kept call changes the ranges that are held.
 use Rattle.std.proofs.Common.{append-nil, ◌≡◌, ◌∙◌, ℕ, zero, suc, ◌+◌, ◌-◌, ◌<◌, ◌≤◌, Bool, true}
 use Rattle.std.proofs.Common.{false, cond, List, [], ◌∷◌, ◌++◌, map, set, Option, Some, None}
 use Rattle.std.proofs.Common.{length, get_or, refl, sym, ap, ap₂, subst, arith, inl, inr}
@@ -39,7 +39,7 @@ use Rattle.s10_ranges.proofs.Carrying.{issues_upto, upto_next, picked_at, carrie
 use Rattle.s10_ranges.proofs.Turning.{AtPicks, at_picks, in_order, none_granted, mark_new}
 use Rattle.s10_ranges.proofs.Turning.{mark_inside, mark_outside}
 
--- a range that is found has a number of the list
+-- A range that is found has the number of one of the list.
 pub found_number : (p : Range → Bool) (rs : List Range) (r : Range) → AreSound rs
     → find p rs ≡ Some r → (0 < r.num) × (r.num ≤ length rs)
 found_number p rs r sound found =
@@ -48,7 +48,7 @@ found_number p rs r sound found =
     let e : (get_or rs there.0 r).num ≡ r.num = ap (λ (x : Range). x.num) there.2 in
     (omega (arith, at.num, e), omega (arith, at.num, e, there.1))
 
--- and one of the identifier ends not before its serial
+-- A range that is found for an identifier does not end before its serial.
 pub found_reaches : (s c : ℕ × ℕ) (n : ℕ) (rs : List Range) (r : Range) → find (overlaps s c n n) rs
     ≡ Some r → n ≤ r.last
 found_reaches s c n rs r found =
@@ -70,7 +70,7 @@ granted_when false true b3 n m h = cc
 granted_when false false true n m h = cc
 granted_when false false false n m h = refl
 
--- what is known of the range of a Done Grant
+-- What is known of the range of a Done Grant.
 pub record IsNext (h : List Entry) (e : Entry) (r : Range) : Type 0 where
   pub made : range_of_grant (length (ranges_of h) + 1) e.request.body e.outcome ≡ Some r
   pub num : r.num ≡ length (ranges_of h) + 1
@@ -110,7 +110,7 @@ is_next h t e num r may done made =
       apart = all.2;
     }
 
--- two functions that agree on each element make one list
+-- Two functions that agree on each element give the same list.
 pub same_map : {X : Type 0} (f g : Range → X) (rs : List Range)
     → ((k : ℕ) (d : Range) → k < length rs → f (get_or rs k d) ≡ g (get_or rs k d))
     → map f rs ≡ map g rs
@@ -118,7 +118,7 @@ same_map f g [] same = refl
 same_map f g (x ∷ xs) same =
     ap₂ ◌∷◌ (same 0 x (omega arith)) (same_map f g xs (λ k d lt. same (suc k) d (omega arith)))
 
--- but for one place
+-- Two functions that agree on each element but one give the same list, except at its index.
 pub set_map : {X : Type 0} (f g : Range → X) (rs : List Range) (k : ℕ) (v : X) → k < length rs
     → ((d : Range) → g (get_or rs k d) ≡ v)
     → ((i : ℕ) (d : Range) → i < length rs → (i ≡ k → ⊥) → f (get_or rs i d) ≡ g (get_or rs i d))
@@ -131,11 +131,11 @@ set_map f g (x ∷ xs) (suc k) v lt here same =
     ap₂ ◌∷◌ (same 0 x (omega arith) (λ e. omega (arith, e))) (set_map f g xs k v (omega arith) here
     (λ i d h ne. same (suc i) d (omega arith) (λ e. ne (omega (arith, e)))))
 
--- the mark of a range that gave no serial
+-- The mark of a range that issued no serial.
 abbrev pub first_mark : Range → Mark
 first_mark r = record { serial = r.first; lap = First }
 
--- the ranges and marks after a Done Grant
+-- The ranges and marks after a Done Grant.
 pub grant_ranges : (h : List Entry) (e : Entry) (r : Range) → IsNext h e r → ranges_of (h ++ e ∷ [])
     ≡ ranges_of h ++ r ∷ []
 grant_ranges h e r next =
@@ -155,7 +155,7 @@ grant_marks h t e num r legal may done next =
     ∙ ap₂ (λ (l : List Mark) (m : Mark). l ++ m ∷ []) old (mark_new h t e num r legal may done
     next.made)
 
--- a call that is no Done Grant makes no range
+-- A call that is no Done Grant adds no range.
 none_made : (n : ℕ) (b : Body) (o : Outcome) → ((m : ℕ) → o ≡ Granted m → ⊥) → range_of_grant n b o
     ≡ None
 none_made n (Grant holder s c first last) (Granted m) other = absurd (other m refl)
@@ -174,7 +174,7 @@ again [] k d lt = absurd (omega arith)
 again (x ∷ xs) zero d lt = refl
 again (x ∷ xs) (suc k) d lt = again xs k d (omega arith)
 
--- where the marks are those after a call that is no Done Grant, all is as after it
+-- After a call that is no Done Grant, ranges with the right marks mirror the history.
 pub other_mirrors : (r : Ranges) (h : List Entry) (e : Entry) → ((m : ℕ) → e.outcome ≡ Granted m
     → ⊥) → MirrorsAt (ranges_of h) (issues_of (h ++ e ∷ [])) r → MirrorsAt (ranges_of (h ++ e ∷ []))
     (issues_of (h ++ e ∷ [])) r
@@ -182,7 +182,7 @@ other_mirrors r h e no_grant m =
     let P : List Range → Type 0 = λ rs. MirrorsAt rs (issues_of (h ++ e ∷ [])) r in
     subst P (sym (same_ranges h e no_grant)) m
 
--- a Done Grant adds its range, whose mark is its first serial
+-- After a Done Grant, ranges with its range and its first serial as the mark mirror the history.
 pub grant_mirrors : (old new : Ranges) (h : List Entry) (t : Terms) (e : Entry) (num : ℕ)
     (r : Range) → IsLegal h t → MayFollow h t e → length h < 4294967295
     → MirrorsAt (ranges_of h) (issues_of h) old
@@ -205,7 +205,7 @@ grant_mirrors old new h t e num r legal may few m done made pushed =
           ∙ sym (grant_marks h t e num r legal may done next);
     }
 
--- two places with the identifier are one
+-- Two ranges that have the identifier have the same index.
 one_place : (h : List Entry) (t : Terms) (x : Id) (i k : ℕ) (d : Range) → IsLegal h t
     → i < length (ranges_of h) → k < length (ranges_of h)
     → lies_in (get_or (ranges_of h) i d) x ≡ true → lies_in (get_or (ranges_of h) k d) x ≡ true
@@ -219,7 +219,7 @@ one_place h t x i k d legal lt lt' li lk =
       ]
     ]
 
--- an issue of a pick turns the mark of its range
+-- Advancing the mark of a range mirrors the issuance of its pick.
 pub issue_mirrors : (old new : Ranges) (h : List Entry) (t : Terms) (e : Entry) (arrival : ℕ)
     (is : List Issuance) (c : ℕ × Id) → IsLegal h t → AreSound old.ranges.items
     → AtPicks (ranges_of h) is
@@ -273,7 +273,7 @@ issue_mirrors old new h t e arrival is c legal sound turns from m kept turned =
           ∙ ap₂ (λ (l : List Mark) (n : ℕ). set l n v) m.marks place ∙ moved;
     }
 
--- so does the issue at a place of a call
+-- Advancing the mark of a range mirrors the issuance at an index of a call.
 pub turned_mirrors : (old new : Ranges) (h : List Entry) (t : Terms) (e : Entry) (place : ℕ)
     (i : Issuance) → IsLegal h t → MayFollow h t e → AreSound old.ranges.items
     → slice_get (issues_at 0 e) place ≡ Some i → MirrorsAt (ranges_of h) (issues_upto h e place) old

@@ -9,7 +9,7 @@ use Rattle.s10_history.specs.declared.range.Range.{Range}
 use Rattle.s10_ranges.specs.Order.{range_at, IsOrder}
 use Rattle.s10_ranges.specs.Sound.{AreSound}
 
--- the first that passes is found
+-- The first range that passes the test is found.
 pub find_first : (p : Range → Bool) (xs : List Range) (k : ℕ) (r : Range) → k < length xs
     → get_or xs k r ≡ r → p r ≡ true
     → ((i : ℕ) (d : Range) → i < k → p (get_or xs i d) ≡ false) → find p xs ≡ Some r
@@ -19,14 +19,14 @@ find_first p (x ∷ xs) zero r lt is hit none = let test : p x ≡ true = ap p i
 find_first p (x ∷ xs) (suc k) r lt is hit none = let test : p x ≡ false = none 0 x (omega arith) in
     rw test (find_first p xs k r (omega arith) is hit (λ i d h. none (suc i) d (omega arith)))
 
--- where none passes, none is found
+-- If no range passes the test, none is found.
 pub find_none : (p : Range → Bool) (xs : List Range) → ((i : ℕ) (d : Range) → i < length xs
     → p (get_or xs i d) ≡ false) → find p xs ≡ None
 find_none p [] none = refl
 find_none p (x ∷ xs) none = let test : p x ≡ false = none 0 x (omega arith) in
     rw test (find_none p xs (λ i d h. none (suc i) d (omega arith)))
 
--- and none passes where none is found
+-- If none is found, no range passes the test.
 none_step : (p : Range → Bool) (x : Range) (xs : List Range) (b : Bool) → p x ≡ b → find p (x ∷ xs)
     ≡ None → (find p xs ≡ None → (i : ℕ) (d : Range) → i < length xs → p (get_or xs i d) ≡ false)
     → (i : ℕ) (d : Range) → i < length (x ∷ xs) → p (get_or (x ∷ xs) i d) ≡ false
@@ -41,7 +41,7 @@ pub none_found : (p : Range → Bool) (xs : List Range) → find p xs ≡ None �
 none_found p [] none i d lt = absurd (omega arith)
 none_found p (x ∷ xs) none i d lt = none_step p x xs (p x) refl none (none_found p xs) i d lt
 
--- none passes in the order, so none is found
+-- If no range in the order passes the test, none is found.
 pub none_in_order : (low high : Range → ℕ) (rs : List Range) (order : List ℕ)
     → IsOrder low high rs order → (p : Range → Bool)
     → ((j : ℕ) (d : Range) → j < length order → p (range_at rs order j d) ≡ false)
@@ -50,7 +50,7 @@ none_in_order low high rs order o p none =
     find_none p rs (λ k d lt. false_from_ne_true (p (get_or rs k d)) (λ hit. o.all k lt (λ j jlt e.
     both_ways (p (range_at rs order j d)) (none j d jlt) (ap (λ i. p (get_or rs i d)) e ∙ hit))))
 
--- one that passes is found, where each that passes in the order has no lower place
+-- A range that passes is found if no range that passes in the order has a lower index.
 pub first_in_order : (low high : Range → ℕ) (rs : List Range) (order : List ℕ)
     → IsOrder low high rs order → (p : Range → Bool) (m : ℕ) (r : Range) → m < length order
     → get_or rs (get_or order m 0) r ≡ r → p r ≡ true
@@ -62,7 +62,7 @@ first_in_order low high rs order o p m r inside is hit least =
     (λ i d lt. false_from_ne_true (p (get_or rs i d)) (λ also. o.all i (omega arith) (λ j jlt e.
     let le = least j d jlt (ap (λ k. p (get_or rs k d)) e ∙ also) in omega (arith, le, e, lt))))
 
--- the range of a number stands at its place
+-- The range of a number is at the index below it.
 pub number_found : (rs : List Range) (num : ℕ) (r : Range) → AreSound rs → 0 < num → num ≤ length rs
     → get_or rs (num - 1) r ≡ r → find (λ x. x.num == num) rs ≡ Some r
 number_found rs num r sound from to is =

@@ -1,4 +1,4 @@
--- What a customer's ranges are in the order of the holders.
+-- The ranges of a customer in the order of the holders.
 use Rattle.std.proofs.Common.{◌≡◌, ◌∙◌, ℕ, ◌+◌, ◌*◌, ◌<◌, ◌≤◌, true, false, List, length, get_or}
 use Rattle.std.proofs.Common.{sym, ap, ap₂, arith, inl, inr}
 use Rattle.std.specs.Prelude.{find, Some, None}
@@ -16,7 +16,7 @@ use Rattle.s10_ranges.proofs.Orders.{at_place}
 use Rattle.s10_ranges.proofs.Found.{none_in_order, first_in_order}
 use Rattle.s10_ranges.proofs.Pairs.{pair_fits, one_pair}
 
--- the range is the customer's, of that service and country, with a number above another
+-- The range is the customer's, of that service and country, with a number above another.
 pub record IsHeld (after customer : ℕ) (s c : ℕ × ℕ) (r : Range) : Type 0 where
   pub above : after < r.num
   pub holder : r.holder ≡ customer
@@ -43,7 +43,7 @@ held_from after customer s c r h =
     (and_from _ _ (and_from _ _ (eq-eqb r.holder customer h.holder)
     (letters_same r.service s h.service)) (letters_same r.country c h.country))
 
--- such a range isn't before the key of the next number
+-- The key of a held range is not below the key of the next number.
 pub held_key : (after customer : ℕ) (s c : ℕ × ℕ) (r : Range) → IsHeld after customer s c r
     → holder_key customer s c (after + 1) ≤ key_by Holder r
 unfolding holder_key
@@ -51,7 +51,7 @@ held_key after customer s c r h =
     let pairs : pair_of r.service r.country ≡ pair_of s c = ap₂ pair_of h.service h.country in
     omega (arith, h.above, h.holder, pairs)
 
--- of two such ranges that of the lower number comes first
+-- Of two held ranges the one with the lower number has the lower key.
 pub held_order : (after customer : ℕ) (s c : ℕ × ℕ) (r q : Range) → IsHeld after customer s c r
     → IsHeld after customer s c q → key_by Holder r < key_by Holder q → r.num < q.num
 unfolding holder_key
@@ -60,7 +60,7 @@ held_order after customer s c r q h g lt =
     let two : pair_of q.service q.country ≡ pair_of s c = ap₂ pair_of g.service g.country in
     omega (arith, h.holder, g.holder, one, two, lt)
 
--- a number of three parts has one first part
+-- Numbers in three digits with the same range have the same first digit.
 middle : (x y n m k : ℕ) → n < 4294967296 → k < 4294967296 → x * 4294967296 + m ≤ y * 4294967296 + n
     → y * 4294967296 + n < x * 4294967296 + k → x ≡ y
 middle x y n m k small large le lt = omega arith
@@ -69,7 +69,7 @@ parts : (h p i q : ℕ) → p < 4294967296 → q < 4294967296 → h * 4294967296
     → (h ≡ i) × (p ≡ q)
 parts h p i q small large e = let first : h ≡ i = omega arith in (first, omega arith)
 
--- what stands between the key and such a range is such a range
+-- A range whose key is between the key of the next number and that of a held range is held.
 pub held_between : (after customer : ℕ) (s c : ℕ × ℕ) (r q : Range) → AreCapitals s → AreCapitals c
     → IsFitting r → r.num < 4294967296 → q.num < 4294967296 → IsHeld after customer s c q
     → holder_key customer s c (after + 1) ≤ key_by Holder r → key_by Holder r < key_by Holder q
@@ -96,7 +96,7 @@ held_between after customer s c r q cs cc fit small large g le lt =
       country = sym letters.1;
     }
 
--- what is known of the order before and after the key of the next number
+-- What is known of the order before and after the key of the next number (the cut).
 pub record IsCut (rs : List Range) (order : List ℕ) (after customer : ℕ) (s c : ℕ × ℕ)
     (at key : ℕ) : Type 0 where
   pub sound : AreSound rs
@@ -108,7 +108,7 @@ pub record IsCut (rs : List Range) (order : List ℕ) (after customer : ℕ) (s 
   pub above : (j : ℕ) (d : Range) → at ≤ j → j < length order
       → key ≤ key_by Holder (range_at rs order j d)
 
--- such a range does not stand before the cut
+-- A held range is not before the cut.
 pub not_before : (rs : List Range) (order : List ℕ) (after customer : ℕ) (s c : ℕ × ℕ) (at key : ℕ)
     → IsCut rs order after customer s c at key
     → (j : ℕ) (d : Range) → is_held_after after customer s c (range_at rs order j d) ≡ true → at ≤ j
@@ -120,7 +120,7 @@ not_before rs order after customer s c at key cut j d hit =
       | inr ge ↦ ge
     ]
 
--- none is found where the cut is the end
+-- None is found if the cut is the end of the order.
 pub held_past : (rs : List Range) (order : List ℕ) (after customer : ℕ) (s c : ℕ × ℕ) (at key : ℕ)
     → IsCut rs order after customer s c at key → at ≡ length order
     → find (is_held_after after customer s c) rs ≡ None
@@ -131,7 +131,7 @@ held_past rs order after customer s c at key cut end =
     (λ hit. let ge = not_before rs order after customer s c at key cut j d hit in
     absurd (omega (arith, ge, end, lt))))
 
--- the range at the cut is found, where it is such a one
+-- The range at the cut is found if it is held.
 pub held_found : (rs : List Range) (order : List ℕ) (after customer : ℕ) (s c : ℕ × ℕ) (at key : ℕ)
     (r : Range) → IsCut rs order after customer s c at key → at < length order
     → get_or rs (get_or order at 0) r ≡ r → is_held_after after customer s c r ≡ true
@@ -160,7 +160,7 @@ held_found rs order after customer s c at key r cut inside is hit =
           ≡ get_or order j 0 = ap (λ i. get_or order i 0) e in omega (arith, same)
     ])
 
--- and none is found where it is not
+-- None is found if the range at the cut is not held.
 pub held_missed : (rs : List Range) (order : List ℕ) (after customer : ℕ) (s c : ℕ × ℕ) (at key : ℕ)
     (r : Range) → IsCut rs order after customer s c at key → at < length order
     → get_or rs (get_or order at 0) r ≡ r → is_held_after after customer s c r ≡ false
@@ -198,7 +198,7 @@ other_key : (h p q n m : ℕ) → n < m → n < 4294967296 → m < 4294967296 �
     ≡ q * 4294967296 + n → ⊥
 other_key h p q n m lt small large e = omega arith
 
--- after the place of a new range each key is above its own
+-- After the position of a new range each key is above its own.
 pub held_apart : (rs : List Range) (order : List ℕ) (r : Range) (at key : ℕ) → AreSound rs
     → IsOrder (key_by Holder) (key_by Holder) rs order → length rs < 4294967295
     → r.num ≡ length rs + 1

@@ -23,7 +23,7 @@ abbrev pub made_part : (r : Ranges) (h : List Entry) → Mirrors r h
     → MirrorsAt (ranges_of h) (issues_of h) r
 made_part r h m = record { ranges = m.ranges; marks = m.marks }
 
--- its number is one more than its place
+-- The number of a held range is one more than its index.
 numbered : (r : Ranges) (rs : List Range) (is : List Issuance) (range : Range)
     → AreSound r.ranges.items → MirrorsAt rs is r → (there : Contains rs range)
     → range.num ≡ there.0 + 1
@@ -37,7 +37,7 @@ pub mark_above : (r : Ranges) (h : List Entry) (range : Range) → AreSound r.ra
 mark_above r h range sound m there = let num = numbered r (ranges_of h) (issues_of h) range sound
     (made_part r h m) there in omega (arith, num)
 
--- the mark is that after the issues
+-- The mark of a range is the one after the issuances.
 pub mark_at_issues : (r : Ranges) (rs : List Range) (is : List Issuance) (range : Range)
     → AreSound r.ranges.items → MirrorsAt rs is r → Contains rs range
     → slice_get r.marks.items (range.num - 1) ≡ Some (mark_of is range)
@@ -48,7 +48,7 @@ mark_at_issues r rs is range sound m there =
     ap₂ slice_get m.marks place ∙ get_map f rs there.0 range there.1
     ∙ ap (λ (x : Range). Some (f x)) there.2
 
--- and of a history the history's
+-- The mark of a range of a history is the history's.
 pub mark_held : (r : Ranges) (h : List Entry) (range : Range) → AreSound r.ranges.items
     → Mirrors r h → Contains (ranges_of h) range → slice_get r.marks.items (range.num - 1)
     ≡ Some (mark_of (issues_of h) range)

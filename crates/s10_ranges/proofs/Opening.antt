@@ -8,7 +8,7 @@ use Rattle.s10_history.specs.History.{ranges_of, is_held, is_closed, is_open_aft
 use Rattle.s10_book.proofs.Alike.{find_same}
 use Rattle.s10_history.proofs.Numbering.{above, numbered, next_above, filter_none}
 
--- what is found of two tests is found of the second among those that pass the first
+-- An element found by two tests is found by the second among those that pass the first.
 find_filter : {A : Type 0} (p q : A → Bool) (xs : List A) → find (λ x. p x && q x) xs
     ≡ find q (filter p xs)
 find_filter p q [] = refl
@@ -44,7 +44,7 @@ front h after customer s c r found =
     open_is h after customer s c ∙ ap (find (is_left h)) (next_above (is_held customer s c) after 1
     (ranges_of h) r (numbered 1 h) found)
 
--- a closed range is passed over
+-- If the range found is closed, the search continues after it.
 pub next_open : (h : List Entry) (after customer : ℕ) (s c : ℕ × ℕ) (r : Range)
     → find (above (is_held customer s c) after) (ranges_of h) ≡ Some r → is_closed h r.num ≡ true
     → find (is_open_after h after customer s c) (ranges_of h)
@@ -55,7 +55,7 @@ next_open h after customer s c r found closed =
     (find (is_left h) (filter (above (is_held customer s c) r.num) (ranges_of h)))) closed
     ∙ sym (open_is h r.num customer s c)
 
--- an open one is found
+-- If the range found is open, it is the next open one.
 pub this_open : (h : List Entry) (after customer : ℕ) (s c : ℕ × ℕ) (r : Range)
     → find (above (is_held customer s c) after) (ranges_of h) ≡ Some r → is_closed h r.num ≡ false
     → find (is_open_after h after customer s c) (ranges_of h) ≡ Some r
@@ -64,7 +64,7 @@ this_open h after customer s c r found left =
     ∙ ap (λ (b : Bool). cond (not b) (Some r)
     (find (is_left h) (filter (above (is_held customer s c) r.num) (ranges_of h)))) left
 
--- where none is held, none is open
+-- If no range is found, none is open.
 pub none_open : (h : List Entry) (after customer : ℕ) (s c : ℕ × ℕ)
     → find (above (is_held customer s c) after) (ranges_of h) ≡ None
     → find (is_open_after h after customer s c) (ranges_of h) ≡ None

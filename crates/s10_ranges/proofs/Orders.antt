@@ -1,18 +1,18 @@
--- Places of ranges in an order of their own.
+-- Sorted orders of ranges, given by their indices.
 use Rattle.std.proofs.Common.{◌≡◌, ℕ, zero, suc, ◌+◌, ◌<◌, ◌≤◌, ◌⊎◌, inl, inr, List, [], ◌∷◌}
 use Rattle.std.proofs.Common.{length, get_or, ap, arith}
 use Rattle.std.proofs.lemmas.Bool.{cases_lt}
 use Rattle.s10_history.specs.declared.range.Range.{Range}
 use Rattle.s10_ranges.specs.Order.{range_at, IsRising, IsOrder}
 
--- an element that is there is the same by each default
+-- An element at an index of the list does not depend on the default.
 pub at_place : (rs : List Range) (k : ℕ) (d r : Range) → k < length rs → get_or rs k r ≡ r
     → get_or rs k d ≡ r
 at_place [] k d r lt is = absurd (omega arith)
 at_place (x ∷ xs) zero d r lt is = is
 at_place (x ∷ xs) (suc k) d r lt is = at_place xs k d r (omega arith) is
 
--- two numbers are one, or one of them is below the other
+-- Two numbers are equal, or one of them is below the other.
 pub compare : (i j : ℕ) → (i < j) ⊎ ((i ≡ j) ⊎ (j < i))
 compare i j = elim (cases_lt i j) [
   | inl lt ↦ inl lt
@@ -22,7 +22,7 @@ compare i j = elim (cases_lt i j) [
   ]
 ]
 
--- below the key at a place, so up to it
+-- If the key at a position is below a key, so are all up to it.
 pub up_to : (key : Range → ℕ) (rs : List Range) (order : List ℕ) (mid bound : ℕ) (r : Range)
     → mid < length order → get_or order mid 0 < length rs → IsRising key rs order
     → get_or rs (get_or order mid 0) r ≡ r → key r < bound → (j : ℕ) (d : Range) → j < mid + 1
@@ -37,7 +37,7 @@ up_to key rs order mid bound r inside place rising is here j d lt =
           omega (arith, eq, there, here)
     ]
 
--- not below the key at a place, so from it on
+-- If the key at a position is not below a key, none from it on is.
 pub from_on : (key : Range → ℕ) (rs : List Range) (order : List ℕ) (mid bound : ℕ) (r : Range)
     → get_or order mid 0 < length rs → IsRising key rs order
     → get_or rs (get_or order mid 0) r ≡ r → bound ≤ key r → (j : ℕ) (d : Range) → mid ≤ j
@@ -52,7 +52,7 @@ from_on key rs order mid bound r place rising is here j d le lt =
           omega (arith, eq, there, here)
     ]
 
--- where no range ends before it begins, its ends go up as its beginnings do
+-- If no range ends before it begins, the begins of an order rise.
 pub rising_low : (low high : Range → ℕ) (rs : List Range) (order : List ℕ)
     → IsOrder low high rs order → ((k : ℕ) (d : Range) → k < length rs → low (get_or rs k d)
     ≤ high (get_or rs k d)) → IsRising low rs order

@@ -14,7 +14,7 @@ each_byte s c p q (suc (suc zero)) = omega (arith, q.0.1)
 each_byte s c p q (suc (suc (suc zero))) = omega (arith, q.1.1)
 each_byte s c p q (suc (suc (suc (suc i)))) = omega arith
 
--- the four bytes of the number are the letters
+-- The four bytes of the number are the letters.
 pub pair_bytes : (n : ℕ) (s c : ℕ × ℕ) → AreCapitals s → AreCapitals c → n ≡ pair_of s c
     → to_be_bytes w32 n ≡ s.0 ∷ s.1 ∷ c.0 ∷ c.1 ∷ []
 unfolding pair_of
@@ -24,7 +24,7 @@ pub pair_fits : (s c : ℕ × ℕ) → AreCapitals s → AreCapitals c → pair_
 unfolding pair_of
 pair_fits s c p q = omega (arith, p.0.1, p.1.1, q.0.1, q.1.1)
 
--- a number is the pair of the letters that its bytes are
+-- A number is the pair of the letters that its bytes are.
 pub pair_from_bytes : (n : ℕ) (s c : ℕ × ℕ) → n < 2 ^ 32 → to_be_bytes w32 n ≡ s.0 ∷ s.1 ∷ c.0 ∷ c.1
     ∷ [] → n ≡ pair_of s c
 unfolding pair_of
@@ -33,7 +33,7 @@ pair_from_bytes n s c fit is = sym (from_be_bytes-to_be_bytes_4 n fit) ∙ ap (f
 same_letters_of : (s t : ℕ × ℕ) → s.0 ≡ t.0 → s.1 ≡ t.1 → s ≡ t
 same_letters_of s t p q = λ i. (p i, q i)
 
--- and has one service and one country
+-- Two pairs with the same number have the same service and country.
 pub one_pair : (s c t d : ℕ × ℕ) → AreCapitals s → AreCapitals c → AreCapitals t → AreCapitals d
     → pair_of s c ≡ pair_of t d → (s ≡ t) × (c ≡ d)
 one_pair s c t d p q u v is =

@@ -1,4 +1,4 @@
--- What ranges of a service and a country are in the order of the places.
+-- The ranges of a service and a country in the order by serial.
 use Rattle.std.proofs.Common.{◌≡◌, ◌∙◌, ℕ, ◌+◌, ◌*◌, ◌<◌, ◌≤◌, ◌^◌, true, false, List, length}
 use Rattle.std.proofs.Common.{get_or, sym, ap, ap₂, arith, inl, inr}
 use Rattle.std.specs.Prelude.{find, Some, None}
@@ -16,7 +16,8 @@ use Rattle.s10_ranges.proofs.Orders.{rising_low, rising_high}
 use Rattle.s10_ranges.proofs.Found.{none_in_order, first_in_order, find_none, none_found}
 use Rattle.s10_ranges.proofs.Pairs.{one_pair}
 
--- a range that overlaps ends not before the first serial, and begins not after the last
+-- A range that overlaps a span does not end before its first serial, and does not begin after its
+-- last.
 pub over_keys : (s c : ℕ × ℕ) (first last : ℕ) (r : Range) → overlaps s c first last r ≡ true
     → (serial_key s c first ≤ key_by Last r) × (key_by First r ≤ serial_key s c last)
 unfolding serial_key
@@ -35,7 +36,8 @@ same_first : (x y a b m n : ℕ) → a < 10 ^ 8 → b < 10 ^ 8 → m < 10 ^ 8 �
     → x * 4294967296 + m ≤ y * 4294967296 + a → y * 4294967296 + b ≤ x * 4294967296 + n → x ≡ y
 same_first x y a b m n p q u v le le' = omega arith
 
--- and the other way around
+-- A range that does not end before the first serial, and does not begin after the last, overlaps
+-- the span.
 pub over_from : (s c : ℕ × ℕ) (first last : ℕ) (r : Range) → AreCapitals s → AreCapitals c
     → IsSerial first → IsSerial last → first ≤ last → IsFitting r
     → serial_key s c first ≤ key_by Last r → key_by First r ≤ serial_key s c last
@@ -64,7 +66,7 @@ pub rising_first : (rs : List Range) (order : List ℕ) → AreSound rs
 rising_first rs order sound o = rising_low (key_by First) (key_by Last) rs order o
     (proper_keys rs sound)
 
--- after the place of a new range each begins after its end
+-- After the position of a new range each range begins after its end.
 pub placed_apart : (rs : List Range) (order : List ℕ) (r : Range) (at key : ℕ) → AreSound rs
     → IsOrder (key_by First) (key_by Last) rs order → IsFitting r → r.first ≤ r.last
     → find (overlaps r.service r.country r.first r.last) rs ≡ None → key ≡ key_by First r
@@ -86,7 +88,7 @@ placed_apart rs order r at key sound placed fit proper apart key_is above j d le
           fit.last proper one.fitting (omega (arith, up, key_is)) ge))
     ]
 
--- what is known of the order before, in and after the ranges that overlap
+-- What is known of the order before, in and after the ranges that overlap (the run).
 pub record IsRun (rs : List Range) (order : List ℕ) (s c : ℕ × ℕ) (first last start end low high :
     ℕ) : Type 0 where
   pub sound : AreSound rs
@@ -106,7 +108,7 @@ pub record IsRun (rs : List Range) (order : List ℕ) (s c : ℕ × ℕ) (first 
   pub behind : (j : ℕ) (d : Range) → end ≤ j → j < length order
       → high + 1 ≤ key_by First (range_at rs order j d)
 
--- those in the run overlap
+-- The ranges in the run overlap the span.
 pub in_run : (rs : List Range) (order : List ℕ) (s c : ℕ × ℕ) (first last start end low high : ℕ)
     → IsRun rs order s c first last start end low high
     → (j : ℕ) (d : Range) → start ≤ j → j < end → overlaps s c first last (range_at rs order j d)
@@ -120,7 +122,7 @@ in_run rs order s c first last start end low high run j d le lt =
     run.ordered one.fitting (omega (arith, since, run.low_is))
     (omega (arith, until, run.high_is))
 
--- and those alone
+-- Only the ranges in the run overlap the span.
 pub of_run : (rs : List Range) (order : List ℕ) (s c : ℕ × ℕ) (first last start end low high : ℕ)
     → IsRun rs order s c first last start end low high
     → (j : ℕ) (d : Range) → j < length order → overlaps s c first last (range_at rs order j d)
@@ -139,7 +141,7 @@ of_run rs order s c first last start end low high run j d inside hit =
     ] in
     (from, to)
 
--- none is found where the run is empty
+-- None is found if the run is empty.
 pub run_none : (rs : List Range) (order : List ℕ) (s c : ℕ × ℕ) (first last start end low high : ℕ)
     → IsRun rs order s c first last start end low high → end ≤ start
     → find (overlaps s c first last) rs ≡ None
@@ -149,7 +151,7 @@ run_none rs order s c first last start end low high run empty =
     (λ hit. let in' = of_run rs order s c first last start end low high run j d lt hit in
     omega (arith, in'.0, in'.1, empty)))
 
--- else the range of its least place
+-- The range with the least index in the run is found.
 pub run_found : (rs : List Range) (order : List ℕ) (s c : ℕ × ℕ) (first last start end low high m :
     ℕ) (r : Range) → IsRun rs order s c first last start end low high
     → IsLeastIn order start end (Some m) → get_or rs m r ≡ r → find (overlaps s c first last) rs
@@ -166,7 +168,7 @@ run_found rs order s c first last start end low high m r run least is =
     (λ k d lt hit. let in' = of_run rs order s c first last start end low high run k d lt hit in
     let le = least.0 k in'.0 in'.1 in omega (arith, le, at))
 
--- the place that was found is one of a range
+-- The least index in the run is that of a range.
 pub run_place : (rs : List Range) (order : List ℕ) (start end m : ℕ)
     → IsOrder (key_by First) (key_by Last) rs order → end ≤ length order
     → IsLeastIn order start end (Some m) → m < length rs
@@ -179,7 +181,7 @@ over_order : (s c : ℕ × ℕ) (first last : ℕ) (r : Range) → overlaps s c 
     → first ≤ last
 over_order s c first last r hit = let both = and_parts _ _ hit in leb-true first last both.1
 
--- nothing overlaps what is empty
+-- No range overlaps an empty span.
 pub empty_none : (rs : List Range) (s c : ℕ × ℕ) (first last : ℕ) → last < first
     → find (overlaps s c first last) rs ≡ None
 empty_none rs s c first last lt =

@@ -1,4 +1,4 @@
--- A further range in an order.
+-- One more range in an order.
 use Rattle.std.proofs.Common.{◌≡◌, ◌∙◌, ℕ, ◌+◌, ◌-◌, ◌<◌, ◌≤◌, ◌⊎◌, inl, inr, List, [], ◌∷◌, ◌++◌}
 use Rattle.std.proofs.Common.{length, get_or, sym, ap, ap₂, subst, arith, length-append}
 use Rattle.std.specs.Prelude.{insert}
@@ -10,7 +10,7 @@ use Rattle.s10_history.specs.declared.range.Range.{Range}
 use Rattle.s10_ranges.specs.Order.{range_at, IsOrder}
 use Rattle.s10_ranges.specs.Sound.{IsSound, AreSound}
 
--- an entry of the order with n at a place: an old one before it, n, or an old one after it
+-- An element of the order with n inserted: an old one before it, n, or an old one after it.
 abbrev pub Entry : List ℕ → ℕ → ℕ → ℕ → Type 0
 Entry order at n j =
     ((j < at) × (get_or (insert order at n) j 0 ≡ get_or order j 0))
@@ -41,7 +41,7 @@ entry order at n j le =
       ]
     ]
 
--- the place of an old range, and that of the new one
+-- The range at an old index, and the one at the new index.
 old_range : (rs : List Range) (r d : Range) (k p : ℕ) → p ≡ k → k < length rs
     → get_or (rs ++ r ∷ []) p d ≡ get_or rs k d
 old_range rs r d k p e lt = ap (λ i. get_or (rs ++ r ∷ []) i d) e ∙ get_or_append_left rs (r ∷ []) d
@@ -135,7 +135,7 @@ grown_all low high rs order at n o le is k lt none =
           ∙ (let e : n ≡ k = omega (arith, is, ge, lt) in e))
     ]
 
--- an order stays one under a new range at its place
+-- An order with the index of a new range at its position is an order.
 pub IsOrder-push : (low high : Range → ℕ) (rs : List Range) (order : List ℕ) (r : Range) (at n : ℕ)
     → IsOrder low high rs order → at ≤ length order → n ≡ length rs
     → ((j : ℕ) (d : Range) → j < at → high (range_at rs order j d) < low r)
@@ -154,7 +154,7 @@ IsOrder-push low high rs order r at n o le is below above =
           (λ j jlt e. none j (omega (arith, long, jlt)) e);
     }
 
--- the same of lists that are those
+-- The same for lists that are equal to these.
 pub IsOrder-grown : (low high : Range → ℕ) (rs rs0 rs' : List Range) (order order0 order' : List ℕ)
     (r : Range) (at n : ℕ) → IsOrder low high rs order → rs0 ≡ rs → order0 ≡ order
     → at ≤ length order0 → n ≡ length rs
@@ -169,7 +169,7 @@ IsOrder-grown low high rs rs0 rs' order order0 order' r at n o e0 f0 le is below
     (λ j d ge lt. let same = ap low (ap₂ (λ a b. range_at a b j d) e0 f0) in
     let fact = above j d ge (omega (arith, long, lt)) in omega (arith, fact, same)))
 
--- all ranges stay sound
+-- All ranges stay sound with a new one.
 pub AreSound-push : (rs rs' : List Range) (r : Range) → AreSound rs → IsSound (length rs) r
     → rs' ≡ rs ++ r ∷ [] → AreSound rs'
 AreSound-push rs rs' r sound new is =

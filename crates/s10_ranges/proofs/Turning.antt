@@ -1,4 +1,4 @@
--- Which turn a range is in, and how its mark moves.
+-- The lap of a range, and how its mark moves.
 use Rattle.std.proofs.Common.{◌≡◌, ◌∙◌, ℕ, ◌+◌, ◌-◌, ◌≤◌, Bool, true, false, cond, not, eqb, ◌||◌}
 use Rattle.std.proofs.Common.{List, [], ◌∷◌, ◌++◌, map, Option, Some, None, length, get_or, refl}
 use Rattle.std.proofs.Common.{sym, ap, ap₂, subst, arith, inl, inr, append-nil}
@@ -44,13 +44,13 @@ use Rattle.s10_ranges.proofs.Carrying.{issues_upto, upto_holds}
 abbrev mark_at : ℕ → Lap → Mark
 mark_at serial lap = record { serial = serial; lap = lap }
 
--- a range of a legal history has a serial
+-- A range of a legal history has a serial.
 pub in_order : (h : List Entry) (t : Terms) (r : Range) → IsLegal h t → Contains (ranges_of h) r
     → r.first ≤ r.last
 in_order h t r legal there = All-contains (λ s. s.first ≤ s.last) (ranges_of h) r
     (ordered h t legal) there
 
--- ---- after an issue in the range
+-- After an issue in the range.
 
 turned : (b c : Bool) → cond (b || (c || false)) Later First ≡ cond c Later (cond b Later First)
 turned true true = refl
@@ -84,7 +84,7 @@ mark_inside r is y turns lies at =
     (turns_inside r is y (pick_of is r) lies at turns) ∙ ap (serial_after r) (sym at))
     (turn_inside r is y lies)
 
--- ---- after an issue outside the range
+-- After an issue outside the range.
 
 or_false : (b : Bool) → (b || (false || false)) ≡ b
 or_false true = refl
@@ -110,13 +110,13 @@ mark_outside r is y order turns out =
     ap₂ mark_at (pick_turns r (is ++ y ∷ []) (pick_of is r) (turns_outside r is y (pick_of is r) out
     turns)) (turn_outside r is y order out)
 
--- ---- while a call's issues are made
+-- While the issues of a call are made.
 
--- the pick of each of the ranges is its mark
+-- The mark of each of the ranges is its pick.
 abbrev pub AtPicks : List Range → List Issuance → Type 0
 AtPicks rs is = (r : Range) → Contains rs r → Turns r is (pick_of is r)
 
--- so it is before each place of a call that may follow
+-- The mark of each range is its pick before each index of a call that may follow.
 pub at_picks : (h : List Entry) (t : Terms) (e : Entry) (place : ℕ) → IsLegal h t → MayFollow h t e
     → AtPicks (ranges_of h) (issues_upto h e place)
 at_picks h t e place legal may =
@@ -129,9 +129,9 @@ at_picks h t e place legal may =
           legal picked there) (before r there),
     ))
 
--- ---- after the Grant of the range
+-- After the Grant of the range.
 
--- each issue lies in a range
+-- The issue lies in a range.
 abbrev IsCovered : List Entry → Issuance → Type 0
 IsCovered h i = list_any (λ r. lies_in r i.id) (ranges_of h) ≡ true
 
@@ -162,7 +162,7 @@ covered h t legal = legal_induction (λ g. All (IsCovered g) (issues_of g)) h t 
     All-push P is (made_by e (1 + length g) c) all (covered_more g e (made_by e (1 + length g) c)
     (covered_picked g t e.request.customer e.day t.interval is c legal_g picked))))
 
--- the last serial of a new range was never issued
+-- The last serial of a new range was never issued.
 last_new : (h : List Entry) (t : Terms) (e : Entry) (r : Range) (num : ℕ) → IsLegal h t
     → MayFollow h t e → range_of_grant num e.request.body e.outcome ≡ Some r
     → is_issued (issues_of h) (id_at r r.last) ≡ false
@@ -184,7 +184,7 @@ last_new h t e r num legal may made =
     c))
     (issues_of h) (covered h t legal))
 
--- a Done Grant issues nothing
+-- A Done Grant issues nothing.
 pub none_granted : (h : List Entry) (e : Entry) (num : ℕ) → e.outcome ≡ Granted num
     → issues_of (h ++ e ∷ []) ≡ issues_of h
 none_granted h e num done =
@@ -201,7 +201,7 @@ mark_new h t e num r legal may done made =
     ∙ ap (λ (b : Bool). cond b Later First) (last_new h t e r (length (ranges_of h) + 1) legal
     may made))
 
--- ---- the serial at the mark in the first turn
+-- The serial at the mark in the first lap.
 
 not_yet : (b : Bool) → not b ≡ true → b ≡ false
 not_yet true h = absurd (let e = h in cc)
@@ -211,7 +211,7 @@ still_first : (b : Bool) → cond b Later First ≡ First → b ≡ false
 still_first true h = absurd (let e = h in cc)
 still_first false h = refl
 
--- it was never issued
+-- The pick of a range in its first lap was never issued.
 pub pick_unissued : (is : List Issuance) (r : Range) → r.first ≤ r.last → lap_of is r ≡ First
     → is_issued is (id_at r (pick_of is r)) ≡ false
 pick_unissued is r order lap = at (least_serial_unissued r is) refl
@@ -240,7 +240,7 @@ none_passes p (x ∷ xs) h = let both = or_parts (p x) (list_any p xs) h in
 abbrev new_candidate : ℕ → Option Issue → Candidate
 new_candidate serial issue = record { serial = serial; issue = issue }
 
--- so the candidate has no issue
+-- The candidate of a range in its first lap has no issue.
 pub candidate_new : (h : List Entry) (t : Terms) (r : Range) (m : Mark) → IsLegal h t
     → Contains (ranges_of h) r → m ≡ mark_of (issues_of h) r → m.lap ≡ First
     → new_candidate m.serial None ≡ candidate_of h r

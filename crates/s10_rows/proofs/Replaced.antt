@@ -1,4 +1,4 @@
--- Images of a list, one of which changes.
+-- Images of a list of which one changes.
 use Rattle.std.proofs.Common.{◌≡◌, Bool, true, false, not, cond, List, [], ◌∷◌, ◌++◌, map, length}
 use Rattle.std.proofs.Common.{refl, sym, ap, ap₂, ◌∙◌, subst, arith, inl, inr}
 use Rattle.std.specs.Prelude.{filter, All}
@@ -22,14 +22,14 @@ pub map_twice : {A B C : Type 0} (g : B → C) (f : A → B) (xs : List A) → m
 map_twice g f [] = refl
 map_twice g f (x ∷ xs) = ap (λ l. g (f x) ∷ l) (map_twice g f xs)
 
--- where they are the same for each element
+-- Two functions that agree on each element give the same images.
 pub images_agree : {A B : Type 0} (f g : A → B) (xs : List A) → All (λ x. f x ≡ g x) xs
     → map f xs ≡ map g xs
 images_agree f g [] all = refl
 images_agree f g (x ∷ xs) all = ap₂ ◌∷◌ (All-head (λ y. f y ≡ g y) x xs all)
     (images_agree f g xs (All-tail (λ y. f y ≡ g y) x xs all))
 
--- where none passes all others stay
+-- If no element passes, all others stay.
 pub all_left : {A : Type 0} (p : A → Bool) (xs : List A) → filter p xs ≡ []
     → filter (λ x. not (p x)) xs ≡ xs
 all_left p [] none = refl
@@ -44,7 +44,7 @@ at_first : {A B : Type 0} (f g : A → B) (b : Bool) (x : A) (l : List A) → (b
 at_first f g true x l same rest = rest
 at_first f g false x l same rest = ap₂ ◌∷◌ (same refl) rest
 
--- the images of those that fail are the same
+-- The images of those that fail are the same.
 pub rest_same : {A B : Type 0} (p : A → Bool) (f g : A → B) (xs : List A)
     → All (λ y. p y ≡ false → f y ≡ g y) xs → map f (filter (λ y. not (p y)) xs)
     ≡ map g (filter (λ y. not (p y)) xs)
@@ -54,7 +54,7 @@ rest_same p f g (x ∷ xs) all =
     all)
     (rest_same p f g xs (All-tail (λ y. p y ≡ false → f y ≡ g y) x xs all))
 
--- where one element passes, and the images of the others are the same, its image goes to the end
+-- If one element passes, and the images of the others are the same, its image goes to the end.
 pub replaced : {A B : Type 0} (p : A → Bool) (f g : A → B) (xs : List A) (x : A)
     → filter p xs ≡ x ∷ [] → All (λ y. p y ≡ false → f y ≡ g y) xs
     → HaveSameRows (map f (filter (λ y. not (p y)) xs) ++ g x ∷ []) (map g xs)
