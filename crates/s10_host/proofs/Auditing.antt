@@ -8,7 +8,7 @@ use Rattle.s10_ledger.specs.Ledger.{Ledger, IsAnyLedger, IsHonest, history_in, h
 use Rattle.s10_statements.specs.ConnectionState.{IsClean, IsOpen, WasSound}
 use Rattle.s10_host.specs.Audited.{HasFound}
 
--- a ledger that was opened and closed is found, with its calls
+-- A ledger that was opened and closed is found, with its calls.
 pub found_calls : {S : Type 0} (g : Ghosts S) (before closed : Held S) (book : Ledger S) (count : ℕ)
     → closed ≡ book.conn
     → (IsClean g book.conn → IsOpen g book.conn)

@@ -1,4 +1,4 @@
--- A ledger that is honest after batches was so before them.
+-- A ledger that is honest after batches was honest before them.
 use Rattle.std.proofs.Common.{◌≡◌, ◌≢◌, ℕ, List, [], ◌∷◌, Option, Result, refl, subst}
 use Rattle.s10_link.specs.declared.trace.Trace.{Trace}
 use Rattle.s10_history.specs.declared.entry.Entry.{Entry}

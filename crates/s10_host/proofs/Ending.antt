@@ -1,4 +1,4 @@
--- What a job says as it ends.
+-- How a job ends, and what it prints.
 use denote.RattleType.{RattleType}
 use Rattle.std.proofs.Common.{◌≡◌, ◌∙◌, inl, inr, ℕ, Bool, List, [], ◌∷◌, Option, Some, None}
 use Rattle.std.proofs.Common.{Result, Ok, Err, refl, sym, subst, true, false, ◌++◌}
@@ -48,17 +48,17 @@ use Rattle.s10_host.specs.BookJobs.{IsBookJobRefusal, EndsOver, EndsIn}
 use Rattle.s10_host.proofs.Opening.{empty_book, found_book, closed_into}
 use Rattle.s10_host.proofs.Backwards.{before_batches}
 
--- a task is one work
+-- A job over a ledger has one job on the book.
 pub asked_alike : (task : LedgerJob) (work same : BookJob) → task ≡ AsksFor work
     → task ≡ AsksFor same → work ≡ same
 asked_alike task work same is so = cc
 
--- and then it is no audit
+-- A job on a book is no audit.
 pub no_audit : {A : Type 0} (task : LedgerJob) (work : BookJob) → task ≡ AsksFor work → task ≡ Audit
     → A
 no_audit task work is so = absurd cc
 
--- of a fault that was written
+-- A fault that was printed.
 pub fails_by : (IsFault : OpenFault → Type 0) (fault : OpenFault) (old new : Option (List ℕ))
     (r : Result JobStatus WriteFault) → IsFault fault
     → IfOk r (λ status. (status ≡ Failed) × Appends old new (ledger_line fault))
@@ -66,7 +66,7 @@ pub fails_by : (IsFault : OpenFault → Type 0) (fault : OpenFault) (old new : O
 fails_by IsFault fault old new (Ok status) is (failed, written) = (failed, fault, is, written)
 fails_by IsFault fault old new (Err e) is says = tt
 
--- the same of what was handed on
+-- The same for a result that is returned unchanged.
 pub fails_as : (IsFault : OpenFault → Type 0) (fault : OpenFault) (old new : Option (List ℕ))
     (printed result : Result JobStatus WriteFault) → IsFault fault
     → IfOk printed (λ status. (status ≡ Failed) × Appends old new (ledger_line fault))
@@ -75,7 +75,7 @@ fails_as IsFault fault old new printed result is says same =
     subst (λ r. IfOk r (FailsByLedger IsFault old new)) (sym same)
     (fails_by IsFault fault old new printed is says)
 
--- a fault of this kind is one of that kind
+-- A fault of this kind is one of that kind.
 fails_weaker : (Is Was : OpenFault → Type 0) → ((fault : OpenFault) → Is fault → Was fault)
     → (done : Result JobStatus WriteFault) (old new : Option (List ℕ))
     (r : Result JobStatus WriteFault)
@@ -107,7 +107,7 @@ asked_for false day (Some r) report is issues ranges some =
       );
     }
 
--- no report is made of ranges alone, of a day that was not given
+-- Only a report of ranges without a given day may lack its day.
 pub no_report : (is_of_issues : Bool) (day : Option ℕ) (made : Option Report) → made ≡ None
     → (is_of_issues ≡ true → made ≡ Some Issues) → ((d : ℕ) → is_of_issues ≡ false → day ≡ Some d
     → made ≡ Some (Ranges d)) → (is_of_issues ≡ false) × (day ≡ None)
@@ -115,7 +115,7 @@ no_report true day made is issues ranges = absurd (let one = issues refl in cc)
 no_report false None made is issues ranges = (refl, refl)
 no_report false (Some d) made is issues ranges = absurd (let one = ranges d refl refl in cc)
 
--- what could not be closed
+-- A ledger that could not be closed.
 pub lost_closing : {D : Type 0} (put : Result (Files D) OpenFault)
     (done result : Result JobStatus WriteFault) (new last : Option (List ℕ))
     → IfErr put (λ fault. fault ≡ Store) → (fault : OpenFault) × (put ≡ Err fault)
@@ -126,7 +126,7 @@ lost_closing put done (Ok status) new last store (fault, is, (well, failed, writ
 lost_closing put done (Err e) new last store says = tt
 
 module _ {D : Type 0} {g : disk.Ghosts D} where
-  -- what was closed, and what came of that
+  -- A ledger that was closed, and how the job ended.
   pub kept_copied : (closed : Held (FileStore D g)) (put : Result (Files D) OpenFault)
       (files : Option (Files D)) (done result : Result JobStatus WriteFault)
       (new last : Option (List ℕ))
@@ -158,7 +158,7 @@ module _ {D : Type 0} {g : disk.Ghosts D} where
       })
 
 module _ (S : RattleType) (first : Ghosts S.Denot) where
-  -- a ledger that was made and closed, of which that was said then
+  -- A ledger that was created and closed, after which `created` was printed.
   pub created : (terms : Terms) (was : FileConnection S first) (old between new : Option (List ℕ))
       (done printed : Result JobStatus WriteFault) (files : Option (ClosedFiles S first))
       (link : Option BoundLink) (f : ClosedFiles S first)
@@ -183,7 +183,7 @@ module _ (S : RattleType) (first : Ghosts S.Denot) where
         refused = λ gone. absurd cc;
       }
 
-  -- one that was refused, or could not be closed
+  -- A ledger that was refused, or could not be closed.
   pub not_created : (terms : Terms) (was : FileConnection S first) (old new : Option (List ℕ))
       (result : Result JobStatus WriteFault) (files : Option (ClosedFiles S first))
       (link : Option BoundLink)
@@ -206,7 +206,7 @@ module _ (S : RattleType) (first : Ghosts S.Denot) where
             (subst (λ text. FailsByClosing over.done text new result) still (over.lost refl));
       }
 
-  -- and one whose file could not be opened
+  -- A ledger whose file could not be opened.
   pub not_connected : (terms : Terms) (fault : OpenFault) (old new : Option (List ℕ))
       (printed result : Result JobStatus WriteFault) (files : Option (ClosedFiles S first))
       → IsFileFault fault
@@ -221,7 +221,7 @@ module _ (S : RattleType) (first : Ghosts S.Denot) where
         (sym same) says);
   }
 
-  -- a file that is not there, or that is no database, is not opened
+  -- A file that does not exist, or is no database, is not opened.
   absent_or_refused : (old new : Option (List ℕ)) (result : Result JobStatus WriteFault)
       → IfOk result (FailsByLedger (IsAbsenceOr IsFileFault) old new)
       → IfOk result (FailsByLedger (IsNotOpened S first) old new)
@@ -307,7 +307,7 @@ module _ (S : RattleType) (first : Ghosts S.Denot) where
         lost = λ none. absurd (let one : Some f ≡ None = none in cc);
       }
 
-  -- what came of the turns over files that are there
+  -- How the turns over existing files ended.
   served_over : (bind : List ℕ) (at : Peer) (day : Option ℕ) (count : ℕ)
       (was : FileConnection S first) (old new : Option (List ℕ))
       (result : Result JobStatus WriteFault) (files : Option (ClosedFiles S first))
@@ -361,7 +361,7 @@ module _ (S : RattleType) (first : Ghosts S.Denot) where
         unlinked = λ none. absurd cc;
       }
 
-  -- an address that does not read
+  -- An address that does not read.
   pub no_peer : (bind text : List ℕ) (day : Option ℕ) (count : ℕ) (old new : Option (List ℕ))
       (printed result : Result JobStatus WriteFault) (files : Option (ClosedFiles S first))
       (link : Option BoundLink) (made : Option Peer)
@@ -502,7 +502,7 @@ module _ (S : RattleType) (first : Ghosts S.Denot) where
   reported_in is_of_issues day report old new result (Some f) link asked
       (inr (printed, no_files, no_link)) = absurd (let none = no_files in cc)
 
-  -- an audit that left these files
+  -- An audit that left these files.
   pub audited_in : (was left : FileConnection S first) (finding : Result ℕ OpenFault)
       (old new : Option (List ℕ)) (result : Result JobStatus WriteFault)
       (files : Option (ClosedFiles S first)) (f : ClosedFiles S first)
@@ -524,7 +524,7 @@ module _ (S : RattleType) (first : Ghosts S.Denot) where
         refused = λ none. absurd cc;
       })
 
-  -- and one of a file that could not be opened
+  -- An audit of a file that could not be opened.
   pub not_audited : (fault : OpenFault) (old new : Option (List ℕ))
       (printed result : Result JobStatus WriteFault) (files : Option (ClosedFiles S first))
       → IsAbsenceOr IsFileFault fault
@@ -536,7 +536,7 @@ module _ (S : RattleType) (first : Ghosts S.Denot) where
         refused = λ _. fails_as (IsAbsenceOr IsFileFault) fault old new printed result is says same;
       })
 
-  -- the same of what was handed on
+  -- The same for a result that is returned unchanged.
   pub ended_as : (job same : Job) (old new : Option (List ℕ))
       (result handed : Result JobStatus WriteFault) (files given : Option (ClosedFiles S first))
       (link over : Option BoundLink) (looped left : Option LoopResources)

@@ -26,7 +26,7 @@ use Rattle.s10_host.specs.declared.loop_resources.LoopResources.{LoopResources}
 use Rattle.s10_host.specs.LoopRun.{LoopLink, IsLoopStep, IsNewLoop, AreLoopResources, IsLoopRun}
 use Rattle.s10_host.specs.LoopRun.{loop_terms}
 
--- what was served over calls that lead from a new link to another
+-- What was served over calls that lead from a new link to another.
 served_over : (day : ℕ) (begun ended : LoopLink) → IsNewLoop day begun
     → LeadsTo IsLoopStep begun ended → IsHonest over_memory (book_of ended.server)
     → ServedOn day [] loop_terms (history_of over_memory (book_of ended.server))
@@ -43,7 +43,7 @@ served_over day begun ended fresh led honest =
     (subst (λ (h : List Entry). ServedOn begun.day h (book_of begun.server).terms last) fresh.empty
     (on.served honest)))
 
--- a part that is all of a list leaves nothing
+-- If the first part of a list is all of it, the rest is empty.
 all_of : {X : Type 0} (xs ys : List X) → xs ≡ xs ++ ys → ys ≡ []
 all_of xs ys is = nil_from_length ys (omega (arith, ap length is, length-append xs ys))
 
@@ -51,7 +51,7 @@ of_none : {X : Type 0} (xs ys : List X) → xs ++ ys ≡ [] → xs ≡ xs ++ ys
 of_none [] ys is = sym is
 of_none (x ∷ xs) ys is = absurd cc
 
--- with no fault none of its calls is left uncommitted
+-- If the ledger had no fault, none of the calls is uncommitted.
 whole_over : (day : ℕ) (begun ended : LoopLink) → IsNewLoop day begun
     → LeadsTo IsLoopStep begun ended → IsHonest over_memory (book_of ended.server)
     → (book_of ended.server).faults ≡ no_faults → (book_of ended.server).pending ≡ []
@@ -76,7 +76,7 @@ asked_over to last u v (Ok status) first none asked =
     (to, subst (λ (t : Trace). Prints u v (AreMadeInTurn to loop_calls t last status)) none asked)
 asked_over to last u v (Err fault) first none asked = tt
 
--- of calls over a link that was new
+-- A run of a loop, from calls over a new link.
 pub looped_over : (to : Peer) (day : ℕ) (begun ended : LoopLink) (looped : LoopResources)
     (u v : Option (List ℕ)) (r : Result JobStatus WriteFault) (first : Trace)
     → IsNewLoop day begun → LeadsTo IsLoopStep begun ended → AreLoopResources ended looped

@@ -7,7 +7,7 @@ use Rattle.sqlite.specs.Steps.{over_memory}
 use Rattle.s10_ledger.specs.Ledger.{Ledger, IsHonest}
 use Rattle.s10_statements.specs.ConnectionState.{IsClean, IsOpen}
 
--- by what its connection shows as it is closed
+-- A ledger in memory is honest, by what its closed connection shows.
 pub is_honest : (l : Ledger MemStore) (closed : Held MemStore)
     → (IsClean over_memory closed → IsOpen over_memory closed → IsHonest over_memory l)
     → IsHonest over_memory l

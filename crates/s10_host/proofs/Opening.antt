@@ -1,4 +1,5 @@
--- What a book says of the connection that it was made in or opened from, and of the files that it is closed in.
+-- What a book says of the connection that it was created in or opened from, and of the files that
+-- it is closed in.
 use Rattle.std.proofs.Common.{◌≡◌, ◌≢◌, ◌≤◌, ◌∙◌, ap, refl, sym, subst, arith, List, ◌++◌}
 use Rattle.std.proofs.Common.{append-nil, ℕ, Option, None, Result, Ok, Err}
 use Rattle.std.specs.Prelude.{IsTrue, [], IfOk, IfErr, IfSome}
@@ -40,14 +41,14 @@ use Rattle.s10_host.specs.declared.book_job.BookJob.TheVariants.{Create, Serve, 
 use Rattle.s10_host.specs.BookJobs.{IsMadeWith, IsOpenedFrom, HasRunBookJob, IsRefusedLeft}
 use Rattle.s10_host.specs.BookJobs.{IsBookJobRefusal}
 
--- a book of which no call is pending has the history that its tables hold
+-- A book without pending calls has the history that its tables hold.
 pub none_pending : {S : Type 0} (g : store.Ghosts S) (book : Ledger S) (h : List Entry)
     → book.pending ≡ [] → (IsHonest g book → history_in (state g book.conn).now ≡ h)
     → IsHonest g book → history_of g book ≡ h
 none_pending g book h none is honest = ap (λ (p : List Entry). history_in (state g book.conn).now
     ++ p) none ∙ append-nil _ ∙ is honest
 
--- the ledger that a work asks for, as it was made
+-- The ledger of a job, as it was created.
 pub made_for : {S E : Type 0} (g : store.Ghosts S) (terms made : Terms) (r : Result (Ledger S) E)
     → made ≡ terms
     → IfOk r (λ b. (b.terms ≡ made) × (b.faults ≡ no_faults))
@@ -63,7 +64,7 @@ made_for g terms made (Ok book) is new opened honest empty none =
     }
 made_for g terms made (Err e) is new opened honest empty none = tt
 
--- or as it was opened
+-- The ledger of a job, as it was opened.
 pub opened_for : {S E : Type 0} (g : store.Ghosts S) (was : Held S) (r : Result (Ledger S) E)
     → IfOk r (λ b. IsClean g b.conn → IsOpen g b.conn)
     → IfOk r (λ b. IsClean g b.conn → IsOpen g b.conn → IsHonest g b)
@@ -83,7 +84,7 @@ opened_for g was (Ok book) opened honest found same history none sound =
     }
 opened_for g was (Err e) opened honest found same history none sound = tt
 
--- what refuses an opening refuses a work with the ledger that is there
+-- What refuses an opening refuses a job on an existing ledger.
 refused_left : {S : Type 0} (g : store.Ghosts S) (work : BookJob) (was left : Held S)
     (fault : OpenFault) → ((terms : Terms) → work ≢ Create terms)
     → IsRefusedLeft g was left fault → IsBookJobRefusal g work was left fault
@@ -100,7 +101,7 @@ refused_for g work was (Ok book) left fault none refusal = tt
 refused_for g work was (Err e) left fault none refusal = refused_left g work was (left e) (fault e)
     none refusal
 
--- what was done of a work, by its ledger before and after and by how that was closed
+-- What a job did, by its ledger before and after and by how that was closed.
 pub worked_with : {S : Type 0} (g : store.Ghosts S) (work : BookJob) (was : Held S)
     (old new : Option (List ℕ)) (done : Result JobStatus WriteFault) (link : Option BoundLink)
     (book after : Ledger S) (closed : Held S)
@@ -154,7 +155,8 @@ module _ {D : Type 0} {g : Ghosts D} where
         history = opening.history sound;
       }
 
-  -- a connection whose last commit the files hold showed a ledger of which what was true is true of the book
+  -- If the files hold the last commit of a connection, what was true of the ledger that it showed
+  -- is true of the book.
   pub closed_into : (book : Ledger (FileStore D g)) (closed : Held (FileStore D g)) (files : Files D)
       → IsClosedAs over_files book closed → Copies closed files → ClosesInto book files
   closed_into book closed files put copies clean =
@@ -167,7 +169,7 @@ module _ {D : Type 0} {g : Ghosts D} where
         copied = here;
       }
 
-  -- files are as clean as the store that gave them back, and that one as the connection before
+  -- The files are as clean as the store that returned them, and the store as the connection before.
   pub left_clean : (c : Held (FileStore D g)) (store : FileStore D g) (files : Files D)
       → doubt (view c.store).is_clean ≤ doubt (view store).is_clean → (files.log, files.db)
       ≡ store_files store → LeavesClean c files

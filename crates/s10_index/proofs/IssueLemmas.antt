@@ -1,4 +1,5 @@
--- What an issue of a call finds: the range that has its identifier, and whether that was issued before.
+-- What an issuance of a call finds: the range of its identifier, and whether that was issued
+-- before.
 use Rattle.std.proofs.Common.{◌≡◌, ℕ, zero, suc, ◌+◌, ◌≤◌, Bool, true, false, cond, leb, List, []}
 use Rattle.std.proofs.Common.{◌∷◌, length, Some, None, refl, sym, ap, ◌∙◌, inl, inr, arith, subst}
 use Rattle.std.proofs.Common.{take}
@@ -25,11 +26,11 @@ use Rattle.s10_ranges.proofs.Turning.{pick_unissued}
 use Rattle.s10_rows.specs.RowWrites.{issues_before}
 use Rattle.s10_replay.proofs.CallIssues.{issue_at}
 
--- whether the range has the identifier
+-- Whether the range has the identifier.
 abbrev pub covers : Id → Range → Bool
 covers x = overlaps x.service x.country x.serial x.serial
 
--- the range that is found has it
+-- The range that is found has the identifier.
 pub covering : (h : List Entry) (x : Id) (r : Range) → find (covers x) (ranges_of h) ≡ Some r
     → Contains (ranges_of h) r × (lies_in r x ≡ true)
 covering h x r found = (
@@ -49,7 +50,7 @@ never_missed p (s ∷ rs) r (suc k, lt, is) passes none =
       | inr f ↦ never_missed p rs r (k, omega arith, is) passes (rw f at none)
     ]
 
--- some range has the identifier of an issue
+-- Some range has the identifier of an issuance.
 pub covered : (h : List Entry) (t : Terms) (e : Entry) (arrival place : ℕ) (y : Issuance)
     → IsLegal h t → MayFollow h t e → slice_get (issues_at arrival e) place ≡ Some y
     → find (covers y.id) (ranges_of h) ≡ None → ⊥
@@ -68,7 +69,8 @@ still_first : (b : Bool) → cond b Later First ≡ First → b ≡ false
 still_first true is = absurd (let e = is in cc)
 still_first false is = refl
 
--- what a range gives in its first turn, and not after its last serial in the same call, was never issued
+-- A range in its first lap issues an identifier that was never issued, unless this call issued the
+-- last serial before.
 pub never_issued : (h : List Entry) (t : Terms) (e : Entry) (place : ℕ) (y : Issuance) (r : Range)
     → IsLegal h t → MayFollow h t e → slice_get (issues_at (1 + length h) e) place ≡ Some y
     → Contains (ranges_of h) r → lies_in r y.id ≡ true

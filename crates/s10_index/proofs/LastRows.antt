@@ -1,4 +1,4 @@
--- The rows that a history makes, issue after issue.
+-- The rows of a history, issuance by issuance.
 use Rattle.std.proofs.Common.{◌≡◌, ◌∙◌, ℕ, zero, suc, ◌+◌, ◌≤◌, Bool, true, false, cond, List, []}
 use Rattle.std.proofs.Common.{◌∷◌, ◌++◌, drop, take, map, Option, Some, None, length, refl, sym, ap}
 use Rattle.std.proofs.Common.{subst, arith, append_assoc, append-nil, drop-cons}
@@ -32,9 +32,9 @@ use Rattle.s10_replay.proofs.SerialRows.{last_passes}
 use Rattle.s10_index.specs.LastIssues.{issue_in_history}
 use Rattle.s10_index.specs.RowsFrom.{range_rows_from, last_rows, serial_rows_from}
 
--- ---- the issues of a history, parted at a call and at an issue of it
+-- The issuances of a history, split at a call and at an issuance of it.
 
--- those of the calls from a place on follow the others
+-- The issuances of the calls from an index on come after all others.
 parted : (a : ℕ) (h : List Entry) (place : ℕ) → (front : List Issuance)
     × (issues_from a h ≡ front ++ issues_from (a + place) (drop place h))
 parted a h zero = ([], ap (λ n. issues_from n h) (omega arith))
@@ -47,7 +47,7 @@ parted a (d ∷ h) (suc n) =
           ∙ sym (append_assoc (issues_at a d) rest.0 (issues_from (a + suc n) (drop n h))),
     )
 
--- what stands from a place on begins with what stands there
+-- The rest of a list from an index on begins with the element at this index.
 pub from_place : {A : Type 0} (h : List A) (place : ℕ) (e : A) → slice_get h place ≡ Some e
     → drop place h ≡ e ∷ drop (place + 1) h
 from_place h place e at =
@@ -55,7 +55,7 @@ from_place h place e at =
     drop-cons h place e (slice_get_within h place e at) ∙ ap (λ x. x ∷ drop (suc place) h)
     (get_or_from_slice_get h place e e at) ∙ ap (λ n. e ∷ drop n h) (sym one)
 
--- the issues of the calls after one, and before them those of the call from a place on
+-- The issuances of a call from an index on, followed by those of the calls after it.
 abbrev pub issues_left : List Entry → ℕ → Entry → ℕ → List Issuance
 issues_left h place e at = drop at (issues_at (place + 1) e) ++ issues_from (place + 1 + 1)
     (drop (place + 1) h)
@@ -75,7 +75,7 @@ pub left_none : (h : List Entry) (place : ℕ) (e : Entry) (at : ℕ) → length
 left_none h place e at past = ap (λ l. l ++ issues_from (place + 1 + 1) (drop (place + 1) h))
     (drop_all at (issues_at (place + 1) e) past)
 
--- those of a call from a place on follow the others
+-- The issuances of a call from an index on come after all others.
 pub parted_at : (h : List Entry) (place : ℕ) (e : Entry) (at : ℕ) → slice_get h place ≡ Some e
     → (before : List Issuance) × (issues_of h ≡ before ++ issues_left h place e at)
 parted_at h place e at here =
@@ -92,7 +92,7 @@ parted_at h place e at here =
           ∙ sym (append_assoc front.0 (take at made) (issues_left h place e at)),
     )
 
--- ---- the last issue of an identifier
+-- The last issue of an identifier.
 
 abbrev row_in : List Entry → Issuance → SerialRow
 row_in h i = serial_row (voided_after i.arrival h i.id) i
@@ -102,7 +102,7 @@ last_kept : (p : Issuance → Bool) (o : Option Issuance) (is : List Issuance) (
 last_kept p o [] l e = absurd (none-some l e)
 last_kept p o (x ∷ xs) l e = e
 
--- the last of what follows is the last of all
+-- The last of what follows is the last of all.
 last_after : (p : Issuance → Bool) (o : Option Issuance) (front is : List Issuance) (l : Issuance)
     → last_or None (filter p is) ≡ Some l → last_or o (filter p (front ++ is)) ≡ Some l
 last_after p o [] is l e = last_kept p o (filter p is) l e
@@ -115,7 +115,7 @@ last_after p o (x ∷ front) is l e = at (p x) refl (last_after p (Some x) front
     at true does here past = rw does here
     at false fails here past = rw fails past
 
--- what is reported for the last issue
+-- The issue that the history gives for the last issuance.
 told_last : (h : List Entry) (x : Id) (l : Issuance) → last_issuance_of (issues_of h) x ≡ Some l
     → last_issue_of h x ≡ Some (issue_in_history h x l)
 told_last h x l e =
@@ -141,7 +141,7 @@ pairs_after R [] i behind pairs = λ k d lt. pairs 0 (suc k) d (omega arith) (om
 pairs_after R (b ∷ bs) i behind pairs =
     pairs_after R bs i behind (λ j k d lt lt'. pairs (suc j) (suc k) d (omega arith) (omega arith))
 
--- where the identifier is issued again after, its last issue is on a later day
+-- If the identifier is issued again later, its last issue is on a later day.
 issued_again : (h : List Entry) (t : Terms) (before behind : List Issuance) (i : Issuance)
     → IsLegal h t → issues_of h ≡ before ++ i ∷ behind → is_issued behind i.id ≡ true
     → (l : Issuance) × (last_issuance_of (issues_of h) i.id ≡ Some l) × (i.day + t.interval ≤ l.day)
@@ -157,18 +157,18 @@ issued_again h t before behind i legal split again =
       last.0 (sym last.1),
     )
 
--- where it is not, this is the last one
+-- If the identifier is not issued again later, this issuance is its last one.
 issued_last : (h : List Entry) (before behind : List Issuance) (i : Issuance) → issues_of h ≡ before
     ++ i ∷ behind → is_issued behind i.id ≡ false → last_issuance_of (issues_of h) i.id ≡ Some i
 issued_last h before behind i split never = last_from h before behind i i split
     (ap (last_or (Some i)) (none_filter (is_of i.id) behind never))
 
--- ---- the row of an issue
+-- The row of an issuance.
 
 abbrev rows_at : List Entry → Issuance → List Issuance → Bool → List SerialRow
 rows_at h i behind again = map (row_in h) (cond again (last_issues behind) (i ∷ last_issues behind))
 
--- what an identifier has that was issued
+-- An identifier that was issued has a last issue.
 pub some_issue : (h : List Entry) (t : Terms) (before behind : List Issuance) (i : Issuance)
     → IsLegal h t → issues_of h ≡ before ++ i ∷ behind → last_issue_of h i.id ≡ None → ⊥
 some_issue h t before behind i legal split none = by (is_issued behind i.id) refl
@@ -179,7 +179,7 @@ some_issue h t before behind i legal split none = by (is_issued behind i.id) ref
     by false never =
         none-some _ (sym none ∙ told_last h i.id i (issued_last h before behind i split never))
 
--- an issue on another day than the last one of its identifier makes no row
+-- An issuance on another day than the last one of its identifier adds no row.
 pub other_issue : (h : List Entry) (t : Terms) (before behind : List Issuance) (i : Issuance)
     (known : Issue) → IsLegal h t → issues_of h ≡ before ++ i ∷ behind → last_issue_of h i.id
     ≡ Some known
@@ -193,7 +193,7 @@ other_issue h t before behind i known legal split is other = by (is_issued behin
         (ap (λ (j : Issue). j.day)
         (same_Some _ _ (sym is ∙ told_last h i.id i (issued_last h before behind i split never)))))
 
--- an issue on the day of the last one of its identifier makes its row
+-- An issuance on the day of the last one of its identifier adds its row.
 pub own_issue : (h : List Entry) (t : Terms) (before behind : List Issuance) (i : Issuance)
     (known : Issue) → IsLegal h t → 1 ≤ t.interval → issues_of h ≡ before ++ i ∷ behind
     → last_issue_of h i.id ≡ Some known
@@ -212,28 +212,28 @@ own_issue h t before behind i known legal pos split is own = by (is_issued behin
         (sym is ∙ told_last h i.id i (issued_last h before behind i split never))) in
         ap (λ v. serial_row v i ∷ last_rows h behind) same ∙ sym (ap (rows_at h i behind) never)
 
--- ---- the rows so far
+-- The rows so far.
 
--- after the last call there is none
+-- No row comes after those of the last call.
 pub none_after : (h : List Entry) (place : ℕ) → length h ≤ place → serial_rows_from h place ≡ []
 none_after h place past = ap (λ l. last_rows h (issues_from (place + 1) l)) (drop_all place h past)
 
--- the rows so far, and those that one step makes
+-- The rows so far, with those that one step adds.
 pub grown : {A : Type 0} (rows new made next now all : List A) → made ++ next ≡ now
     → rows ++ now ≡ all → new ≡ rows ++ made → new ++ next ≡ all
 grown rows new made next now all step before is = ap (λ l. l ++ next) is
     ∙ append_assoc rows made next ∙ ap (λ l. rows ++ l) step ∙ before
 
--- an option without a value is no list
+-- An option without a value is an empty list.
 pub no_more : {A : Type 0} (o : Option A) → ((x : A) → o ≡ Some x → ⊥) → option_to_list o ≡ []
 no_more None none = refl
 no_more (Some x) none = absurd (none x refl)
 
--- the rows so far are all where no others follow
+-- The rows so far are all if no others follow.
 pub whole : {A : Type 0} (rows rest all : List A) → rest ≡ [] → rows ++ rest ≡ all → rows ≡ all
 whole rows rest all none before = sym (append-nil rows) ∙ ap (λ l. rows ++ l) (sym none) ∙ before
 
--- the row of a range stands before those of the ranges after it
+-- The row of a range comes before those of the ranges after it.
 pub range_row_next : (r : Ranges) (h : List Entry) (place : ℕ) (range : Range) (mark : Mark)
     (row : RangeRow) → Mirrors r h → slice_get r.ranges.items place ≡ Some range
     → slice_get r.marks.items place ≡ Some mark

@@ -1,4 +1,4 @@
--- The place of the first call that passes.
+-- The index of the first call that passes.
 use Rattle.std.proofs.Common.{◌≡◌, ◌∙◌, ℕ, suc, ◌+◌, ◌-◌, ◌≤◌, Bool, true, false, cond, eqb, List}
 use Rattle.std.proofs.Common.{[], ◌∷◌, ◌++◌, Option, Some, None, length, refl, sym, ap, ap₂, subst}
 use Rattle.std.proofs.Common.{inl, inr, arith}
@@ -23,7 +23,7 @@ use Rattle.s10_replay.proofs.SerialRows.{last_passes}
 use Rattle.s10_index.specs.LastIssues.{issue_in_history}
 use Rattle.s10_index.proofs.Recording.{last_told}
 
--- where no call has a place, none is found
+-- If no call has an index, none is found.
 pub none_placed : (p : Entry → Bool) (xs : List Entry) (i : ℕ) → position_from p i xs ≡ None
     → find p xs ≡ None
 none_placed p [] i none = refl
@@ -51,13 +51,13 @@ placed p (x ∷ xs) i k found = at (p x) refl (placed p xs (i + 1) k)
         let up : k - i ≡ suc (k - (i + 1)) = omega (arith, rest.0) in
         (omega (arith, rest.0), ap (slice_get (x ∷ xs)) up ∙ rw is rest.1)
 
--- the call at the place is the one that is found
+-- The call at the index is the one that is found.
 pub placed_call : (p : Entry → Bool) (xs : List Entry) (k : ℕ) → position_from p 0 xs ≡ Some k
     → slice_get xs k ≡ find p xs
 placed_call p xs k found = let e : k ≡ k - 0 = omega arith in ap (slice_get xs) e
     ∙ (placed p xs 0 k found).1
 
--- one more call, which is the first that passes if it does
+-- One more call, which is the first that passes if it passes.
 place_new : (p : Entry → Bool) (xs : List Entry) (i : ℕ) (e : Entry) → find p xs ≡ None
     → position_from p i (xs ++ e ∷ []) ≡ cond (p e) (Some (i + length xs)) None
 place_new p [] i e none = ap (λ n. cond (p e) (Some n) None) (omega arith)
@@ -70,13 +70,13 @@ place_new p (x ∷ xs) i e none = at (p x) refl (place_new p xs (i + 1) e)
     at false is rest =
         rw is (rest (rw is at none) ∙ ap (λ n. cond (p e) (Some n) None) (omega arith))
 
--- one more call that does not pass
+-- One more call that does not pass.
 place_same : (p : Entry → Bool) (xs : List Entry) (i : ℕ) (e : Entry) → p e ≡ false
     → position_from p i (xs ++ e ∷ []) ≡ position_from p i xs
 place_same p [] i e fails = rw fails refl
 place_same p (x ∷ xs) i e fails = ap (cond (p x) (Some i)) (place_same p xs (i + 1) e fails)
 
--- the place of a key after a call with a new key
+-- The index of a key after a call with a new key.
 pub place_after : (h : List Entry) (e : Entry) (customer number place : ℕ) (o : Option ℕ)
     → find_entry h e.request.customer e.request.number ≡ None → place ≡ length h
     → o ≡ position_from (has_key customer number) 0 h
@@ -95,7 +95,7 @@ place_after h e customer number place o new is old = at (has_key customer number
         ∙ ap (λ b. cond b (Some (0 + length h)) None) same ∙ ap Some (omega (arith, is)))
     at false other = old ∙ sym (place_same (has_key customer number) h 0 e other)
 
--- one more call leaves the place of a call that has one
+-- One more call leaves the index of a call that has one.
 place_kept : (p : Entry → Bool) (xs : List Entry) (i k : ℕ) (e : Entry) → position_from p i xs
     ≡ Some k → position_from p i (xs ++ e ∷ []) ≡ Some k
 place_kept p [] i k e found = absurd (none-some k found)
@@ -107,7 +107,7 @@ place_kept p (x ∷ xs) i k e found = at (p x) refl (place_kept p xs (i + 1) k e
     at true is rest = rw is (rw is at found)
     at false is rest = rw is (rest (rw is at found))
 
--- the call that made an issue stands at the place of its key
+-- The call of an issuance is at the index of its key.
 abbrev pub IsPlaced : List Entry → Issuance → Type 0
 IsPlaced h i = (place : ℕ) × (position_from (has_key i.customer i.number) 0 h ≡ Some place)
     × (i.arrival ≡ place + 1)
@@ -132,7 +132,7 @@ placed_issues h t legal = legal_induction (λ g. All (IsPlaced g) (issues_of g))
       omega arith,
     )))
 
--- a last issue that is known was made by the call at the place of its key
+-- A last issue that is recorded was made by the call at the index of its key.
 pub last_placed : (h : List Entry) (t : Terms) (x : Id) (known : Issue) (found : Option ℕ)
     → IsLegal h t → last_issue_of h x ≡ Some known
     → found ≡ position_from (has_key known.customer known.number) 0 h
@@ -191,7 +191,7 @@ last_placed h t x known found legal is at = by (last_issuance_of (issues_of h) x
         ) in
         subst Known (same_Some (issue_in_history h x i) known e) here at
 
--- what stands at a place is among all
+-- The element at an index is in the list.
 pub placed_among : (xs : List Entry) (k : ℕ) → IfSome (slice_get xs k) (Contains xs)
 placed_among xs k =
     elim (slice_get_cases xs k).1 [

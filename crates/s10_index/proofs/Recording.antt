@@ -36,9 +36,9 @@ use Rattle.s10_index.specs.Keys.{same_key, id_key}
 use Rattle.s10_ranges.proofs.Carrying.{issues_upto, upto_next, carried_at}
 use Rattle.s10_index.specs.LastIssues.{as_issue, issue_in_history, as_voided}
 
--- ---- keys
+-- Keys.
 
--- two identifiers have one key where they are the same
+-- Two identifiers have the same key exactly if they are the same.
 pub keys_tell : (x y : Id) → IsId x → IsId y → same_key (id_key x) (id_key y) ≡ same_id x y
 keys_tell x y fit_x fit_y =
     same_from_decides (same_key (id_key x) (id_key y)) (same_id x y) (one_id, same_keys)
@@ -59,14 +59,14 @@ keys_tell x y fit_x fit_y =
     same_keys e = and_from _ _ (eq-eqb _ _ (ap (λ (z : Id). pair_of z.service z.country) e))
         (eq-eqb _ _ (ap (λ (z : Id). z.serial) e))
 
--- ---- what is voided
+-- What is voided.
 
 or_none : (b c : Bool) → c ≡ false → (b || (c || false)) ≡ b
 or_none true c e = refl
 or_none false true e = e
 or_none false false e = refl
 
--- a call that voids nothing leaves what is voided
+-- A call that voids nothing leaves what is voided.
 same_voided : (arrival : ℕ) (h : List Entry) (e : Entry) (x : Id) → voids x e ≡ false
     → voided_after arrival (h ++ e ∷ []) x ≡ voided_after arrival h x
 same_voided zero h e x none = list_any-append (voids x) h (e ∷ []) ∙ or_none (list_any (voids x) h)
@@ -74,7 +74,7 @@ same_voided zero h e x none = list_any-append (voids x) h (e ∷ []) ∙ or_none
 same_voided (suc n) [] e x none = ap (list_any (voids x)) (drop_all n [] (omega arith))
 same_voided (suc n) (d ∷ h) e x none = same_voided n h e x none
 
--- a call that voids an identifier follows each call before it
+-- A call that voids an identifier comes after each call before it.
 now_voided : (arrival : ℕ) (h : List Entry) (e : Entry) (x : Id) → arrival ≤ length h
     → voids x e ≡ true → voided_after arrival (h ++ e ∷ []) x ≡ true
 now_voided zero h e x le does = list_any-append (voids x) h (e ∷ [])
@@ -82,7 +82,7 @@ now_voided zero h e x le does = list_any-append (voids x) h (e ∷ [])
 now_voided (suc n) [] e x le does = absurd (omega (arith, le))
 now_voided (suc n) (d ∷ h) e x le does = now_voided n h e x (omega (arith, le)) does
 
--- nothing follows the last call
+-- No call comes after the last one.
 none_after : (h : List Entry) (e : Entry) (x : Id) → voided_after (1 + length h) (h ++ e ∷ []) x
     ≡ false
 none_after h e x =
@@ -94,7 +94,7 @@ none_voided : (x : Id) (b : Body) (o : Outcome) → ((y : Id) → b ≡ Void y �
 none_voided x (Void id) Voided other = absurd (other id refl refl)
 none_voided x b o other = refl
 
--- a call that carries no identifier leaves the issues
+-- A call that carries no identifier leaves the issuances.
 same_issues : (h : List Entry) (e : Entry) → carried_by e.outcome ≡ [] → issues_of (h ++ e ∷ [])
     ≡ issues_of h
 same_issues h e none =
@@ -102,7 +102,7 @@ same_issues h e none =
     ∙ ap (λ (l : List (ℕ × Id)). issues_of h ++ map (made_by e (1 + length h)) l) none
     ∙ append-nil (issues_of h)
 
--- ---- the last issue
+-- The last issue.
 
 told_is : (h : List Entry) (x : Id) (o : Option Issuance)
     → option_map (λ (i : Issuance). record {
@@ -125,7 +125,7 @@ told_same h e x (Some i) none = let f : Bool → Option Issue =
     λ b. Some (record { day = i.day; voided = b; customer = i.customer; number = i.number }) in
     ap f (same_voided i.arrival h e x none)
 
--- a call that voids nothing leaves what is reported for the issues before it
+-- A call that voids nothing leaves the issue of each issuance before it.
 pub told_before : (h : List Entry) (e : Entry) (x : Id) → ((y : Id) → e.request.body ≡ Void y
     → e.outcome ≡ Voided → ⊥)
     → option_map (issue_in_history (h ++ e ∷ []) x) (last_issuance_of (issues_of h) x)
@@ -133,7 +133,7 @@ pub told_before : (h : List Entry) (e : Entry) (x : Id) → ((y : Id) → e.requ
 told_before h e x no_void = told_same h e x (last_issuance_of (issues_of h) x)
     (none_voided x e.request.body e.outcome no_void)
 
--- a call that issues nothing and voids nothing leaves each last issue
+-- A call that issues nothing and voids nothing leaves each last issue.
 pub last_left : (h : List Entry) (e : Entry) (x : Id) → carried_by e.outcome ≡ []
     → ((y : Id) → e.request.body ≡ Void y → e.outcome ≡ Voided → ⊥)
     → last_issue_of (h ++ e ∷ []) x ≡ last_issue_of h x
@@ -144,7 +144,7 @@ last_left h e x no_issue no_void =
     ∙ told_before h e x no_void
     ∙ sym (last_told h x)
 
--- no Void follows an issue that the last call made
+-- No Void comes after an issuance of the last call.
 new_told : (h : List Entry) (e : Entry) (x : Id) (y : Issuance) (b : Bool) (o : Option Issuance)
     → y.arrival ≡ 1 + length h
     → option_map (issue_in_history (h ++ e ∷ []) x) (cond b (Some y) o)
@@ -153,7 +153,7 @@ new_told h e x y true o at = ap (λ v. Some (as_issue y v)) (ap (λ n. voided_af
     at ∙ none_after h e x)
 new_told h e x y false o at = refl
 
--- what is reported for the last issue before the next place of a call
+-- The issue of the last issuance before the next index of a call.
 pub told_upto : (h : List Entry) (e : Entry) (x : Id) (place : ℕ) (i : Issuance)
     → slice_get (issues_at 0 e) place ≡ Some i
     → option_map (issue_in_history (h ++ e ∷ []) x) (last_issuance_of (issues_upto h e (place + 1))
@@ -172,7 +172,7 @@ told_upto h e x place i at =
     ∙ ap (λ (j : Issuance). cond (same_id j.id x) (Some (as_issue j false))
     (option_map (issue_in_history (h ++ e ∷ []) x) o)) found.2
 
--- what holds of each issue holds of the last
+-- What is true of each issuance is true of the last one.
 last_has : (P : Issuance → Type 0) (p : Issuance → Bool) (o : Option Issuance) (is : List Issuance)
     (l : Issuance) → All P is → ((m : Issuance) → o ≡ Some m → P m) → last_or o (filter p is)
     ≡ Some l → P l
@@ -197,7 +197,7 @@ void_or_not h e x true (Some i) does few =
     ap (λ v. Some (as_issue i v)) (now_voided i.arrival h e x (few i refl) does)
 void_or_not h e x false o none few = told_same h e x o none
 
--- a Done Void voids the last issue of its identifier
+-- A Done Void voids the last issue of its identifier.
 pub last_voided : (h : List Entry) (t : Terms) (e : Entry) (x id : Id) → IsLegal h t
     → e.request.body ≡ Void id → e.outcome ≡ Voided
     → last_issue_of (h ++ e ∷ []) x ≡ cond (same_id id x) (option_map as_voided (last_issue_of h x))

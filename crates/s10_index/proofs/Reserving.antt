@@ -1,4 +1,4 @@
--- What room for one more leaves as it was.
+-- What stays the same when memory is reserved for one more.
 use Rattle.std.proofs.Common.{◌∙◌, ℕ, List}
 use Rattle.std.specs.HashMap.{HashMap, IsReordered}
 use Rattle.s10_history.specs.declared.entry.Entry.{Entry}

@@ -1,4 +1,4 @@
--- What one more call leaves of the calls before it.
+-- One more call leaves the calls before it as they were.
 use Rattle.std.proofs.Common.{◌≡◌, ◌∙◌, ℕ, ◌≤◌, List, [], ◌∷◌, ◌++◌, map, length, refl, sym, subst}
 use Rattle.std.proofs.Common.{ap, ap₂, arith, append-nil}
 use Rattle.std.proofs.Math.ListN.{get_or-append}
@@ -14,14 +14,14 @@ use Rattle.s10_index.specs.declared.compact_outcome.CompactOutcome.TheVariants.{
 use Rattle.s10_index.specs.declared.compact_call.CompactCall.{CompactCall}
 use Rattle.s10_index.specs.CompactOutcomes.{outcome_of, entry_of, sheet_of, NamesSheetOf}
 
--- an outcome whose sheet is there is the same over more sheets
+-- An outcome whose sheet is in the list is the same over a longer list.
 same_outcome : (sheets more : List (List Id)) (o : CompactOutcome) → NamesSheetOf (length sheets) o
     → outcome_of (sheets ++ more) o ≡ outcome_of sheets o
 same_outcome sheets more (DrawnMany day sheet) there =
     ap (outcomes.DrawnMany day) (get_or-append sheets more [] sheet there)
 same_outcome sheets more o there = refl
 
--- and so is each call
+-- Each call is the same over a longer list of sheets.
 same_calls : (sheets more : List (List Id)) (rows : List CompactCall)
     → All (λ row. NamesSheetOf (length sheets) row.outcome) rows
     → map (entry_of (sheets ++ more)) rows ≡ map (entry_of sheets) rows
@@ -37,7 +37,7 @@ same_calls sheets more (row ∷ rows) there =
     (ap restored (same_outcome sheets more row.outcome (All-head Named row rows there)))
     (same_calls sheets more rows (All-tail Named row rows there))
 
--- one more call, restored in short over its own sheet too
+-- The calls with one more, expanded over the sheets with its own.
 pub calls-push : (old more new : List (List Id)) (rows all : List CompactCall) (row : CompactCall)
     (e : Entry) → new ≡ old ++ more → all ≡ rows ++ row ∷ []
     → All (λ r. NamesSheetOf (length old) r.outcome) rows
@@ -49,13 +49,13 @@ calls-push old more new rows all row e grown longer there is =
     (ap (λ (sheets : List (List Id)). map (entry_of sheets) rows) grown
     ∙ same_calls old more rows there) is
 
--- a sheet that is there is there among more
+-- A sheet in the list is in a longer one.
 still_named : (count more : ℕ) (o : CompactOutcome) → count ≤ more → NamesSheetOf count o
     → NamesSheetOf more o
 still_named count more (DrawnMany day sheet) le there = omega arith
 still_named count more o le there = tt
 
--- the sheets of all calls are there, that of one more call too
+-- The sheets of all calls are in the list, that of one more call too.
 pub named-push : (count more : ℕ) (rows all : List CompactCall) (row : CompactCall) → count ≤ more
     → all ≡ rows ++ row ∷ [] → All (λ r. NamesSheetOf count r.outcome) rows
     → NamesSheetOf more row.outcome → All (λ r. NamesSheetOf more r.outcome) all
@@ -65,12 +65,12 @@ named-push count more rows all row le longer there named =
     (All-push (Named more) rows row (All-weaker (Named count) (Named more)
     (λ r. still_named count more r.outcome le) rows there) named)
 
--- a call has at most one sheet
+-- A call has at most one sheet.
 pub one_sheet : (o : Outcome) → length (sheet_of o) ≤ 1
 one_sheet (outcomes.DrawnMany day ids) = omega arith
 one_sheet o = omega arith
 
--- an outcome with no sheet leaves the sheets as they were
+-- An outcome without a sheet leaves the sheets as they were.
 pub no_sheet : (sheets : List (List Id)) (o known : Outcome) → o ≡ known → sheet_of known ≡ []
     → sheets ≡ sheets ++ sheet_of o
 no_sheet sheets o known is none = sym (append-nil sheets)

@@ -1,4 +1,4 @@
--- What a Done Void has after it.
+-- A Done Void has an issuance to void.
 use Rattle.std.proofs.Common.{◌≡◌, ℕ, Bool, true, false, cond, List, Option, Some, None, ap}
 use Rattle.std.specs.Option.{option_map}
 use Rattle.s10_core.specs.declared.id.Id.{Id}
@@ -16,7 +16,7 @@ not_voided true None none is = cc
 not_voided true (Some i) none is = cc
 not_voided false last none is = cc
 
--- an identifier without an issue is not voided
+-- An identifier without an issuance is not voided.
 pub never_voided : (h : List Entry) (customer : ℕ) (x : Id) → last_issuance_of (issues_of h) x
     ≡ None → ¬ (void_answer h customer x ≡ Voided)
 never_voided h customer x none is =

@@ -1,4 +1,4 @@
--- A call writes the rows that the longer history has more.
+-- A call writes the rows that the longer history has in addition.
 use Rattle.std.proofs.Common.{◌≡◌, ℕ, ◌+◌, List, [], ◌∷◌, ◌++◌, length, refl, sym, ap, ◌∙◌, arith}
 use Rattle.std.proofs.Common.{append-nil, append_assoc}
 use Rattle.std.specs.Prelude.{option_to_list}
@@ -36,7 +36,7 @@ row_is : (n : ℕ) (w : CallWrite) → w.arrival ≡ n → w.reply ≡ reply_byt
     w.entry.outcome → row_written w ≡ call_row n w.entry
 row_is n w p q = cc
 
--- what a call writes after a history, with its reply, makes the tables into those of the longer one
+-- What a call writes after a history makes its tables into those of the longer history.
 pub writes_call : (h : List Entry) (t : Terms) (w : CallWrite) → w.arrival ≡ length h + 1
     → w.reply ≡ reply_bytes w.entry.request w.entry.outcome → MakesWrites h w.entry w.ranges.items
     w.serials.items

@@ -1,4 +1,4 @@
--- What a read leaves of a ledger, and what it answers.
+-- What a read leaves of a ledger, and what it returns.
 use Rattle.std.proofs.Common.{◌≡◌, ℕ, Bool, true, IsTrue, ◌++◌, Result, Ok, Err, IfOk, OnOk, ap}
 use Rattle.std.proofs.Common.{subst, refl, arith}
 use Rattle.std.specs.Result.{is_ok}
@@ -17,7 +17,7 @@ use Rattle.s10_statements.specs.Statements.{LeavesTables}
 use Rattle.s10_ledger.specs.Ledger.{Ledger, IsLedger, IsHonest, history_in, history_of}
 use Rattle.s10_statements.proofs.Apart.{is_ledger-prop, is_closed-prop}
 
--- what is kept true of a ledger's connection
+-- What is always true of a ledger's connection.
 abbrev pub IsKept : {S : Type 0} → Ghosts S → Held S → Terms → ℕ → ℕ → Type 0
 IsKept g conn t len day = HasCleanDisk (state g conn) → IsTrue (state g conn).is_open
     → IsLedger (state g conn).now t len day
@@ -34,7 +34,7 @@ closed_is db t len day it = ∥∥₁_elim it.held (is_closed-prop db.schema) (�
 module _ {S : Type 0} (g : Ghosts S) (old new : Held S) (t : Terms) (len day : ℕ)
     (leaves : LeavesTables g old new) (settled : IsQuiescent g old)
     (kept : IsKept g old t len day) where
-  -- the tables are as they were
+  -- The tables are as they were.
   pub same_tables : HasCleanDisk (state g new) → IsTrue (state g new).is_open → (state g new).now
       ≡ (state g old).now
   same_tables clean opened = leaves.now clean opened settled (schema_is (state g old).now t len day
@@ -69,7 +69,7 @@ pub answered : {A T E : Type 0} → IsSet T → (r : Result T E) (x : T) → ∥
 answered set (Ok y) x a f = ∥∥₁_elim a (set y x) f
 answered set (Err e) x a f = tt
 
--- what is known of an answer that was given
+-- What is known of an answer that was given.
 pub if_answered : {T E : Type 0} (r : Result T E) (P : Type 0) (answered : Bool)
     → answered ≡ is_ok r → OnOk r P → answered ≡ true → P
 if_answered (Ok x) P answered is p so = p

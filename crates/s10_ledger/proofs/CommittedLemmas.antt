@@ -14,7 +14,7 @@ use Rattle.s10_book.specs.Rules.{IsLegal}
 use Rattle.s10_rows.specs.declared.call_write.CallWrite.{CallWrite}
 use Rattle.s10_ledger.specs.Pending.{calls_of}
 
--- a test of the calls that are written so
+-- A test of the calls of these writes.
 pub any_call : (test : Entry → Bool) (ws : List CallWrite) → list_any test (calls_of ws)
     ≡ list_any (λ (w : CallWrite). test w.entry) ws
 any_call test [] = refl
@@ -25,14 +25,14 @@ any_at : (b : Bool) (e : Entry) (rest : Bool) (o : Option Entry) → rest ≡ is
 any_at true e rest o same = refl
 any_at false e rest o same = same
 
--- a call is found where one has its key
+-- A call is found if one has its key.
 found_if_any : (customer number : ℕ) (h : List Entry) → list_any (has_key customer number) h
     ≡ is_some (find_entry h customer number)
 found_if_any customer number [] = refl
 found_if_any customer number (e ∷ es) = any_at (has_key customer number e) e _ _
     (found_if_any customer number es)
 
--- no two calls have one key
+-- No two calls have the same key.
 abbrev HaveDistinctKeys : List Entry → Type 0
 HaveDistinctKeys = AllPairs (λ d e. ¬ (IsTrue (has_key d.request.customer d.request.number e)))
 
@@ -41,7 +41,7 @@ not_both : (customer number : ℕ) (d e : Entry)
     → has_key customer number d ≡ false
 not_both customer number d e apart there = grind arith
 
--- a key of a later call is not one of those before it
+-- The key of a later call is not one of those before it.
 not_before : (customer number : ℕ) (xs ys : List Entry) → HaveDistinctKeys (xs ++ ys)
     → list_any (has_key customer number) ys ≡ true → list_any (has_key customer number) xs ≡ false
 not_before customer number [] ys distinct there = refl
@@ -59,7 +59,7 @@ alone (Some e) other none = refl
 alone None (Some e) none = absurd (true≢false none)
 alone None None none = refl
 
--- a call of a legal history is committed where no pending one has its key
+-- A call of a legal history is committed if no pending one has its key.
 pub committed_unless_pending : (committed pending : List Entry) (t : Terms) (customer number : ℕ)
     (b : Bool) → IsLegal (committed ++ pending) t → b ≡ list_any (has_key customer number) pending
     → (IsTrue (not b) ↔ IsCommittedCall committed (committed ++ pending) customer number)

@@ -12,7 +12,7 @@ use Rattle.s10_ledger.specs.declared.table_layout.TableLayout.{TableLayout}
 use Rattle.s10_ledger.specs.declared.table_layout.TableLayout.TheVariants.{Whole, Old}
 use Rattle.s10_ledger.specs.TableLayout.{IsOfTableLayout, HasTableLayout, AreClosed}
 
--- the four tables alone are declared as a ledger's first four
+-- The four tables alone are declared as the first four of a ledger.
 four_are : IsLedgerSchema four_tables
 four_are = record { is = refl; tables = refl; indexes = refl }
 
@@ -20,7 +20,7 @@ pub form_ledger : (form : TableLayout) (s : Schema) → IsOfTableLayout form s �
 form_ledger Whole s declared = declared.ledger
 form_ledger Old s declared = subst IsLedgerSchema (sym declared) four_are
 
--- and lack the fifth
+-- The four tables alone lack the fifth.
 pub four_lack : (s : Schema) → s ≡ four_tables → IsClosedSchema s → ⊥
 four_lack s four closed = omega (
   arith,
@@ -33,7 +33,7 @@ pub form_declared : (form : TableLayout) (db : Database) (tables : Tables)
 form_declared Whole db tables has = has.schema
 form_declared Old db tables has = has.schema
 
--- the first four tables show these rows
+-- The first four tables show these rows.
 pub record AreShown (db : Database) (tables : Tables) : Type 0 where
   pub heads : HaveSameRows (map shown_head tables.heads) (map head_columns (db.trees 0))
   pub calls : HaveSameRows (map shown_call tables.calls) (map call_columns (db.trees 1))
@@ -55,7 +55,7 @@ form_shown Old db tables has = record {
   serials = has.serials;
 }
 
--- a database with these rows of its tables has that form
+-- A database with these rows of its tables has that layout.
 pub form_has : (form : TableLayout) (db : Database) (tables : Tables)
     → IsOfTableLayout form db.schema → AreShown db tables
     → AllByRecursion HasIntegerRowid (db.trees 4) → AreClosed form db tables.closed

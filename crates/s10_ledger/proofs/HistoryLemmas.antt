@@ -19,7 +19,7 @@ use Rattle.s10_replay.proofs.CallRows.{AreThose, selected_by_place}
 use Rattle.s10_statements.proofs.ReadLemmas.{again}
 use Rattle.sqlite_keyed.proofs.ListLemmas.{IsPermutation-filter}
 
--- the rows of one arrival are the row of its call
+-- The rows of one arrival are the row of its call.
 abbrev IsAt : List StoredCall → ℕ → Entry → Type 0
 IsAt calls at e = (n : ℕ) × IsCall e × (filter (arrives_between (pos at) (pos at)) calls
     ≡ call_row n e ∷ [])
@@ -52,14 +52,14 @@ at_rows h calls all same k e is =
     these in
     subst (λ n. IsAt calls n e) (omega arith) found
 
--- rows that stand for a history give it back
+-- Rows that stand for a history give this history.
 pub kept_history : (h : List Entry) (calls : List StoredCall) → All IsCall h
     → HaveSameRows (call_rows h) calls → in_turn (length calls) 1 calls ≡ h
 kept_history h calls all same =
     let long : length calls ≡ length h = same_length (call_rows h) calls same ∙ length_from 1 h in
     ap (λ n. in_turn n 1 calls) long ∙ in_turn_is h 1 calls (at_rows h calls all same)
 
--- the calls of the table are a history's
+-- The calls of the table are those of a history.
 pub calls_history : (db : Database) (h : List Entry) → All IsCall h
     → HaveSameRows (map shown_call (call_rows h)) (map call_columns (db.trees 1))
     → history_in db ≡ h

@@ -33,13 +33,13 @@ use Rattle.s10_ledger.proofs.Forms.{form_ledger, four_lack}
 use Rattle.s10_ledger.proofs.WholeLemmas.{history, whole_ledger, found_history, right_rows}
 use Rattle.s10_ledger.proofs.WholeLemmas.{right_legal, shown_again}
 
--- a disk that is clean was so before, and a connection that is open was so too
+-- A disk that is clean was clean before, and a connection that is open was open before.
 pub sound_before : {S : Type 0} (g : Ghosts S) (old new : Held S) → StaysUnclean g old new
     → (HasCleanDisk (state g new) → IsTrue (state g new).is_open → IsTrue (state g old).is_open)
     → WasSound g old new
 sound_before g old new stays was_open clean = (omega (arith, stays, clean), was_open clean)
 
--- the tables are read, and completed then
+-- The tables are read, and then completed.
 module _ {S : Type 0} (g : Ghosts S) (old read new : Held S) (form : TableLayout)
     (declared : IsOfTableLayout form (state g old).now.schema) (settled : IsQuiescent g old)
     (leaves : LeavesTables g old read) (sound : WasSound g read new) where
@@ -52,13 +52,13 @@ module _ {S : Type 0} (g : Ghosts S) (old read new : Held S) (form : TableLayout
   as_read clean opened = let s = sound clean in
       leaves.now s.0 (s.1 opened) settled (form_ledger form (state g old).now.schema declared)
 
--- what has all five tables is not touched
+-- A database with all five tables stays as it was.
 pub as_it_was : (form : TableLayout) (old read new : Database) → IsOfTableLayout form old.schema
     → read ≡ old → (form ≡ Whole → new ≡ read) → IsClosedSchema old.schema → new ≡ old
 as_it_was Whole old read new declared was same closed = same refl ∙ was
 as_it_was Old old read new declared was same closed = absurd (four_lack old.schema declared closed)
 
--- what holds of the calls that were counted holds of those of the index
+-- What is true of the calls that were counted is true of those of the index.
 counted : (P : ℕ → ℕ → Type 0) (found : LedgerSummary) (index : CallIndex) (tables : Tables)
     → IsConsistent tables found → Indexes index (kept_of tables.calls) → P found.len found.day
     → P (length index.entries.items) (day_of index.entries.items)
@@ -67,7 +67,7 @@ counted P found index tables whole indexed holds =
     (subst (λ n. P n found.day) (whole.len
     ∙ sym (ap length indexed.calls ∙ length-map tables.calls entry_of)) holds)
 
--- what was found of the tables is so of the completed ones
+-- What was found of the tables is true of the completed ones.
 module _ (form : TableLayout) (old read new : Database) (found : LedgerSummary) (index : CallIndex)
     (it : IsFound form old found index) (was : read ≡ old) (whole : (tables : Tables)
     → HasTableLayout form read tables → HasTables new tables) where
@@ -93,7 +93,7 @@ no_rows_left [] ys same none = refl
 no_rows_left (x ∷ xs) ys same none =
     absurd (omega (arith, same_length (x ∷ xs) ys same, ap length none))
 
--- tables of an earlier build whose rows are whole are a ledger of that
+-- Tables of an earlier build whose rows are consistent are a ledger of that build.
 old_ledger : (db : Database) (tables : Tables) (found : LedgerSummary) → HasOldTables db tables
     → IsConsistent tables found → IsOldLedger db found.settings found.len found.day
 old_ledger db tables found has whole =
@@ -119,7 +119,7 @@ old_ledger db tables found has whole =
       } ∣₁;
     }
 
--- what was found is a ledger, of whichever build
+-- What was found is a ledger, of this build or of an earlier one.
 pub found_ledger : (form : TableLayout) (db : Database) (found : LedgerSummary) (index : CallIndex)
     → IsFound form db found index → IsAnyLedger db found.settings (length index.entries.items)
     (day_of index.entries.items)
@@ -131,7 +131,7 @@ found_ledger form db found index it = counted (λ n d. IsAnyLedger db found.sett
     either Whole has = inl (whole_ledger db it.tables found has it.whole)
     either Old has = inr (old_ledger db it.tables found has it.whole)
 
--- lack of memory and a fault of the store refuse any database
+-- Lack of memory and a fault of the store are refusals of any database.
 pub refused_by_store : (db : Database) (fault : OpenFault) → (fault ≡ Memory) ⊎ (fault ≡ Store)
     → IsOpeningRefusal db fault
 refused_by_store db fault (inl is) = subst (λ (f : OpenFault). IsOpeningRefusal db f) (sym is) tt

@@ -1,4 +1,4 @@
--- What becomes of the calls that are pending.
+-- How the pending calls are kept and committed.
 use Rattle.std.proofs.Common.{◌≡◌, ℕ, ◌-◌, ◌<◌, ◌≤◌, length, Bool, false, if◌then◌else◌, IsTrue}
 use Rattle.std.proofs.Common.{List, [], ◌∷◌, ◌++◌, All, Result, Ok, Err, OnOk, OnErr, sym, ap}
 use Rattle.std.proofs.Common.{subst, refl, ◌∙◌, arith, length-append}
@@ -38,11 +38,11 @@ use Rattle.s10_ledger.specs.Pending.{calls_of, committed_among, HoldsPending, Is
 use Rattle.s10_ledger.proofs.HistoryLemmas.{history_is}
 use Rattle.s10_ledger.proofs.BookLemmas.{same_tables}
 
--- where nothing is pending all calls are committed
+-- If nothing is pending, all calls are committed.
 pub all_committed : (es : List Entry) → committed_among [] es ≡ es
 all_committed es = let n : length es - 0 ≡ length es = omega arith in rw n (take-length es)
 
--- one more pending call leaves the committed ones
+-- One more pending call leaves the committed ones.
 pub committed_push : (ws : List CallWrite) (w : CallWrite) (es : List Entry) (e : Entry)
     → committed_among (ws ++ w ∷ []) (es ++ e ∷ []) ≡ committed_among ws es
 committed_push ws w es e =
@@ -50,7 +50,7 @@ committed_push ws w es e =
     omega (arith, length-append es (e ∷ []), length-append ws (w ∷ [])) in
     rw n (take-append-le (length es - length ws) es (e ∷ []) (omega arith))
 
--- a call after those that are written
+-- One more call after those that are written.
 pub written_push : (ws : List CallWrite) (w : CallWrite) (a b c : Tables) → AreWritten ws a b
     → Writes w b c → AreWritten (ws ++ w ∷ []) a c
 unfolding AreWritten
@@ -61,7 +61,7 @@ none_written : (a b : Tables) → b ≡ a → AreWritten [] a b
 unfolding AreWritten
 none_written a b is = is
 
--- a history with nothing pending after it
+-- A history with nothing pending after it.
 pub nothing_pending : (db : Database) (t : Terms) (index : CallIndex)
     → Indexes index (history_in db) → IsLegal (history_in db) t → IsFollowed db t index []
 nothing_pending db t index indexed legal = record {
@@ -74,7 +74,7 @@ nothing_pending db t index indexed legal = record {
   } ∣₁;
 }
 
--- once the pending calls are written the tables stand for the history with them after
+-- Once the pending calls are written, the tables stand for the history with them.
 module _ (old new : Database) (t : Terms) (len day : ℕ) (index : CallIndex) (ws : List CallWrite)
     (was : IsLedger old t len day) (followed : IsFollowed old t index ws)
     (made : (before after : Tables) → AreWritten ws before after → HasTables old before
@@ -110,7 +110,7 @@ module _ (old new : Database) (t : Terms) (len day : ℕ) (index : CallIndex) (w
       followed.indexed) (subst (λ (h : List Entry). IsLegal h t) (sym written_history)
       followed.legal)
 
--- what is kept true of a book tells that it is honest
+-- What is always true of a book shows that it is honest.
 abbrev pub ledger_of : {S : Type 0} → Held S → Terms → CallIndex → List CallWrite → Faults
     → Ledger S
 ledger_of conn t index ws faults = record {
@@ -134,7 +134,7 @@ sound_is_honest g conn t index ws answered faults sound clean opened =
       legal = (sound.followed clean opened).legal;
     }
 
--- what is kept true of a new book
+-- What is always true is true of a new book.
 pub sound_at_first : {S : Type 0} (g : Ghosts S) (conn : Held S) (t : Terms) (index : CallIndex)
     (ws : List CallWrite) (answered : Bool) → ws ≡ [] → length index.entries.items ≤ MAX_LIMIT
     → IsQuiescent g conn
@@ -155,7 +155,7 @@ sound_at_first g conn t index ws answered none few settled opened ledger indexed
           (ledger clean is_open).legal;
     })
 
--- what a new book is
+-- The value of a new book.
 pub ledger_at_first : {S : Type 0} (conn : Held S) (t : Terms) (index : CallIndex)
     (ws : List CallWrite) (faults : Faults) → ws ≡ [] → faults.memory ≡ 0 → faults.store ≡ 0
     → ledger_of conn t index ws faults ≡ record {
@@ -189,7 +189,7 @@ ledger_at_first conn t index ws faults nothing memory store =
       pending = [];
     }) (all_committed index.entries.items))
 
--- after a read
+-- After a read.
 pub sound_after_read : {S : Type 0} (g : Ghosts S) (old new : Held S) (t : Terms)
     (index : CallIndex) (ws : List CallWrite) (before after : Bool)
     → IsSound g old t index ws before → LeavesTables g old new
@@ -210,7 +210,7 @@ sound_after_read g old new t index ws before after sound leaves opened =
           (sound.followed (omega (arith, leaves.clean)) (leaves.was_open clean is_open));
     }
 
--- after the pending calls were written, or were not
+-- After the pending calls were written, or were not.
 module _ {S : Type 0} (g : Ghosts S) (old new : Held S) (t : Terms) (index : CallIndex)
     (ws now : List CallWrite) (before after : Bool) (sound : IsSound g old t index ws before)
     (settled : IsQuiescent g new)
@@ -264,7 +264,7 @@ module _ {S : Type 0} (g : Ghosts S) (old new : Held S) (t : Terms) (index : Cal
       subst (λ (v : List CallWrite). IsSound g new t index v after) (sym left)
       (sound_unwritten same)
 
-  -- the history is as before
+  -- The history is as before.
   pub same_after_write : {T E : Type 0} (r : Result T E)
       → (HasCleanDisk (state g new) → OnOk r ((a b : Tables) → AreWritten ws a b
       → HasTables (state g old).now a → HasTables (state g new).now b))
@@ -283,7 +283,7 @@ module _ {S : Type 0} (g : Ghosts S) (old new : Held S) (t : Terms) (index : Cal
       ap (λ (d : Database). history_in d ++ calls_of now) (same is is_open)
       ∙ ap (λ (v : List CallWrite). history_in (state g old).now ++ calls_of v) left
 
--- one more call after those that are held
+-- One more call after those of the index.
 module _ (db : Database) (t : Terms) (len day : ℕ) (index after : CallIndex) (ws : List CallWrite)
     (w : CallWrite) (e : Entry) (was : IsLedger db t len day) (followed : IsFollowed db t index ws)
     (follows : MayFollow (history_in db ++ calls_of ws) t e) (call : w.entry ≡ e) where
@@ -314,7 +314,7 @@ module _ (db : Database) (t : Terms) (len day : ℕ) (index after : CallIndex) (
         }));
   }
 
--- what holding the call after those of the index writes
+-- What a call writes after those of the index.
 abbrev pub IsWriteOf : CallIndex → Entry → CallWrite → Type 0
 IsWriteOf index e w = (h : List Entry) (t : Terms) → IsLegal h t → MayFollow h t e → All IsCall h
     → Indexes index h → IsCall e × Writes w (tables_of h t) (tables_of (h ++ e ∷ []) t)
@@ -328,7 +328,7 @@ written_calls index ws now e (Ok x) written =
     ∙ ap (λ (d : Entry). calls_of ws ++ d ∷ []) written.2
 written_calls index ws now e (Err x) written = tt
 
--- after a call was held, or was not
+-- After a call was appended, or was not.
 module _ {S : Type 0} (g : Ghosts S) (conn : Held S) (t : Terms) (index after : CallIndex)
     (ws now : List CallWrite) (e : Entry) (answered : Bool)
     (sound : IsSound g conn t index ws answered)
@@ -401,7 +401,7 @@ pub unwritten_history : {T E : Type 0} (old new : Database) (r : Result T E) →
 unwritten_history old new (Ok x) same = tt
 unwritten_history old new (Err x) same = ap history_in same
 
--- what a stop leaves once they are written
+-- What a crash leaves once they are written.
 pub written_in : {S : Type 0} (g : Ghosts S) (conn : Held S) (t : Terms) (index : CallIndex)
     (ws : List CallWrite) (answered : Bool) (faults : Faults) (db : Trees)
     → IsSound g conn t index ws answered
@@ -419,7 +419,7 @@ written_in g conn t index ws answered faults db sound clean opened made =
           (sound.followed clean opened) made _ _ refl refl;
     }
 
--- a push that was not refused
+-- An append that succeeded.
 pub pushed : {T E : Type 0} (r : Result T E) (new old : List CallWrite) (w : CallWrite)
     → is_err r ≡ false → new ≡ (if is_ok r then old ++ w ∷ [] else old) → new ≡ old ++ w ∷ []
 pushed (Ok x) new old w passed is = is

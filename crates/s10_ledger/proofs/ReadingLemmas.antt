@@ -1,4 +1,4 @@
--- Two readings of a ledger's tables, one after the other.
+-- Two reads of a ledger's tables, one after the other.
 use Rattle.std.proofs.Common.{◌≡◌, IsTrue, sym, subst, ◌∙◌, arith}
 use Rattle.sqlite_trees.specs.declared.store.Store.{Ghosts}
 use Rattle.sqlite.specs.Effect.{Database}

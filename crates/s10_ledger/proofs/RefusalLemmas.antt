@@ -59,7 +59,7 @@ head_from v = record {
   cap = int_in (column v 3);
 }
 
--- rows that are shown as the same ones are the same
+-- Rows that SQL shows the same way are the same.
 same_typed : {X : Type 0} (shown : X → Row) (read : Row → X) → ((x : X) → read (shown x) ≡ x)
     → (xs ys : List X) (vs : List Row) → HaveSameRows (map shown xs) vs
     → HaveSameRows (map shown ys) vs
@@ -70,7 +70,7 @@ same_typed shown read back xs ys vs p q =
     IsPermutation-trans _ _ _ a (IsPermutation-sym _ _ b) in
     rw (again shown read back xs, again shown read back ys) at (IsPermutation-map read _ _ both)))
 
--- ---- rows in order of arrival
+-- Rows in order of arrival.
 
 abbrev by_arrival : StoredCall → StoredCall → Ordering
 by_arrival = on (λ (c : StoredCall). c.arrival) int_cmp
@@ -97,7 +97,7 @@ is_sorted : (xs : List StoredCall) → IsAscending (λ a b. int_cmp a.arrival b.
 is_sorted xs up k d low lt = rw Rattle.std.proofs.Common.add-one
     (sorted_from xs up k d (omega arith))
 
--- ---- the rows of a legal history are right
+-- The rows of a legal history are right.
 
 kept_again : (n : ℕ) (h : List Entry) → All IsCall h → kept_of (call_rows_from n h) ≡ h
 kept_again n [] calls = refl
@@ -146,7 +146,7 @@ rows_right t h legal calls k row is =
     rw (before, e.3) (right_call t (take k h) (1 + k) e.0 e.2 (omega arith)
     (MayFollow-at h t k e.0 legal e.1))
 
--- ---- settings
+-- Settings.
 
 head_of : (d : HeadRow) (a b : HeadRow) → a ∷ [] ≡ b ∷ [] → a ≡ b
 head_of d a b e = ap (λ l. get_or l 0 d) e
@@ -164,7 +164,7 @@ same_settings t u n e =
 abbrev closed_from : Row → ClosedRow
 closed_from v = record { num = int_in (column v 0); arrival = int_in (column v 1) }
 
--- the rows of closed are the same, in whichever form
+-- The rows of closed are the same in either layout.
 closed_same : (f g : TableLayout) (db : Database) (a b : Tables) → HasTableLayout f db a
     → HasTableLayout g db b → HaveSameRows a.closed b.closed
 closed_same Whole Whole db a b first second = same_typed shown_closed closed_from (λ r. refl)
@@ -274,7 +274,8 @@ module _ (db : Database) (t : Terms) (limits : AreTerms t) (legal : IsLegal (his
   held_opens Memory refusal = inl refl
   held_opens Store refusal = inr refl
 
--- a ledger, also one of an earlier build, is refused for lack of memory or a fault of the store alone
+-- A ledger, of this build or of an earlier one, is refused only for lack of memory or a fault of
+-- the store.
 pub ledger_opens : (db : Database) (t : Terms) (len day : ℕ) → AreTerms t → IsAnyLedger db t len day
     → (fault : OpenFault) → IsOpeningRefusal db fault → (fault ≡ Memory) ⊎ (fault ≡ Store)
 ledger_opens db t len day limits (inl it) =

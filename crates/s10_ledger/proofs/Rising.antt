@@ -1,4 +1,4 @@
--- The rows of calls rise by arrival, as the statements ask it.
+-- The rows of calls rise by arrival, as the statements require it.
 use Rattle.std.proofs.Common.{◌≡◌, List, [], ◌∷◌}
 use Rattle.std.specs.Ordering.{int_cmp}
 use Rattle.std.specs.declared.cmp.Ordering.TheVariants.{Less}
@@ -14,7 +14,7 @@ ascending : {X : Type 0} (R : X → X → Type 0) (xs : List X) → rows.IsAscen
 ascending R [] up = tt
 ascending R (x ∷ xs) up = (up.0, ascending R xs up.1)
 
--- the rows of calls rise by arrival
+-- The rows of calls rise by arrival.
 pub call_rows_rise : (h : List Entry)
     → IsAscending (λ (a b : StoredCall). int_cmp a.arrival b.arrival ≡ Less) (call_rows h)
 call_rows_rise h = ascending _ (call_rows h) (rows_rising.call_rows_rise h)

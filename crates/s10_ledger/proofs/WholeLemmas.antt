@@ -1,4 +1,4 @@
--- Rows that are whole stand for the history that they keep.
+-- Consistent rows stand for the history that they keep.
 use Rattle.std.proofs.Common.{◌≡◌, ℕ, zero, suc, ◌+◌, ◌<◌, ◌≤◌, List, [], ◌∷◌, ◌++◌, length, map}
 use Rattle.std.proofs.Common.{get_or, take, Some, Result, Ok, Err, IfOk, refl, sym, ap, subst, ◌∙◌}
 use Rattle.std.proofs.Common.{inr, arith}
@@ -39,7 +39,7 @@ use Rattle.s10_ledger.proofs.HistoryLemmas.{history_is, calls_history}
 use Rattle.s10_replay.proofs.Replayed.{there_at, kept_length}
 use Rattle.s10_replay.proofs.Compared.{right_calls}
 
--- a row that is right is that of the call that it stands for
+-- A right row is that of the call that it stands for.
 pub right_row : (t : Terms) (before : List Entry) (row : StoredCall) → IsRightRow t before row
     → row ≡ call_row (length before + 1) (entry_of row)
 unfolding reply_bytes
@@ -63,7 +63,7 @@ rows_from n (row ∷ rows) each =
 within : {A : Type 0} (xs : List A) (k : ℕ) (x : A) → slice_get xs k ≡ Some x → k < length xs
 within = Rattle.std.proofs.lemmas.Option.slice_get_within
 
--- rows that are right are those of the calls that they keep
+-- Right rows are those of the calls that they keep.
 pub right_rows : (t : Terms) (rows : List StoredCall) → AreRight t rows → call_rows (kept_of rows)
     ≡ rows
 right_rows t rows right = rows_from 1 rows (λ k row is.
@@ -87,7 +87,7 @@ legal_to t rows right some (suc n) few =
     (legal_to t rows right some n (omega arith))
     (right n row (there_at rows n some (omega arith))).follows)
 
--- and these calls are a legal history
+-- The calls of right rows are a legal history.
 pub right_legal : (t : Terms) (rows : List StoredCall) → AreRight t rows → IsLegal (kept_of rows) t
 right_legal t [] right = IsLegal-nil t
 right_legal t (row ∷ rows) right =
@@ -95,7 +95,7 @@ right_legal t (row ∷ rows) right =
     subst (λ l. IsLegal (kept_of l) t) (take_all (length all) all (omega arith))
     (legal_to t all right row (length all) (omega arith))
 
--- rows that are the same ones are so as they are shown
+-- The same rows are the same as SQL shows them.
 pub shown_again : {X : Type 0} (shown : X → Row) (xs ys : List X) (vs : List Row)
     → HaveSameRows xs ys → HaveSameRows (map shown ys) vs → HaveSameRows (map shown xs) vs
 shown_again shown xs ys vs same has =
@@ -128,7 +128,7 @@ module _ (db : Database) (tables : Tables) (found : LedgerSummary) (has : HasTab
   pub history : history_in db ≡ kept
   history = history_is db kept found.settings are_calls stands
 
-  -- a database whose rows are whole is a ledger
+  -- A database whose rows are consistent is a ledger.
   pub whole_ledger : IsLedger db found.settings found.len found.day
   whole_ledger = record {
     legal = rw history legal;
@@ -140,7 +140,7 @@ module _ (db : Database) (tables : Tables) (found : LedgerSummary) (has : HasTab
     } ∣₁;
   }
 
--- the history is that of the rows, also in the tables of an earlier build
+-- The history is that of the rows, also in the tables of an earlier build.
 pub found_history : (form : TableLayout) (db : Database) (tables : Tables) (found : LedgerSummary)
     → HasTableLayout form db tables → IsConsistent tables found
     → history_in db ≡ kept_of tables.calls
@@ -149,14 +149,14 @@ found_history Old db tables found has whole =
     calls_history db (kept_of tables.calls) (right_calls found.settings tables.calls whole.right)
     (rw (right_rows found.settings tables.calls whole.right) has.calls)
 
--- and it has no more calls than the settings allow
+-- The history has no more calls than the settings allow.
 pub whole_few : (tables : Tables) (found : LedgerSummary) → IsConsistent tables found
     → found.len ≤ MAX_LIMIT
 whole_few tables found whole =
     let legal = right_legal found.settings tables.calls whole.right in
     omega (arith, legal.few, whole.len, whole.head.in_limits, length-map tables.calls entry_of)
 
--- what the rows of a database are refused for, the database is
+-- A database is refused for what its rows are refused for.
 pub refused_for : (db : Database) (tables : Tables) → HasRows db tables → (fault : OpenFault)
     → IsRefusal tables fault → IsOpeningRefusal db fault
 refused_for db tables rows NotALedger refusal =
@@ -175,7 +175,7 @@ refused_for db tables rows NotEmpty refusal = refusal
 refused_for db tables rows Memory refusal = tt
 refused_for db tables rows Store refusal = tt
 
--- what is whole, and indexed, was found
+-- Consistent rows with their index are what was found.
 pub found_both : {E : Type 0} (form : TableLayout) (db : Database) (tables : Tables)
     → HasTableLayout form db tables → (r : Result (LedgerSummary × CallIndex) E)
     → IfOk r (λ found. IsConsistent tables found.0)

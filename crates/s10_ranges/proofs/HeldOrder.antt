@@ -60,7 +60,7 @@ held_order after customer s c r q h g lt =
     let two : pair_of q.service q.country ≡ pair_of s c = ap₂ pair_of g.service g.country in
     omega (arith, h.holder, g.holder, one, two, lt)
 
--- Numbers in three digits with the same range have the same first digit.
+-- If y·2^32 + n is at least x·2^32 + m, and below x·2^32 + k, then x and y are equal.
 middle : (x y n m k : ℕ) → n < 4294967296 → k < 4294967296 → x * 4294967296 + m ≤ y * 4294967296 + n
     → y * 4294967296 + n < x * 4294967296 + k → x ≡ y
 middle x y n m k small large le lt = omega arith

@@ -1,4 +1,4 @@
--- What holds at the issue of a call at a place, over the issues before it.
+-- What is true at one issuance of a call, over the issuances before it.
 use Rattle.std.proofs.Common.{◌≡◌, ℕ, true, zero, suc, ◌+◌, List, [], ◌∷◌, ◌++◌, map, length}
 use Rattle.std.proofs.Common.{Option, Some, None, refl, sym, ap, ◌∙◌, subst, take, append-nil}
 use Rattle.std.proofs.Common.{append_assoc}
@@ -21,7 +21,7 @@ use Rattle.s10_book.proofs.Marks.{Turns, all_at_pick, mark_step, one_range, pick
 use Rattle.s10_book.proofs.Own.{lies_picked}
 use Rattle.s10_rows.specs.RowWrites.{issues_before}
 
--- what is kept by each issue before a place holds there, and so does what holds of each in turn
+-- What each issuance keeps true is true at an index, and so is what is true of each in turn.
 reached : (P : List Issuance → ℕ × Id → Type 0) (Q : List Issuance → Type 0)
     (made : ℕ × Id → Issuance) (is : List Issuance) (cs : List (ℕ × Id)) (place : ℕ) (c : ℕ × Id)
     → InTurn P made is cs → Q is → ((js : List Issuance) (d : ℕ × Id) → P js d → Q js
@@ -37,11 +37,11 @@ reached P Q made is (d ∷ cs) (suc place) c turn start step at =
     subst R (append_assoc is (made d ∷ []) (take place (map made cs)))
     (reached P Q made (is ++ made d ∷ []) cs place c turn.1 (step is d turn.0 start) step at)
 
--- each range is at its mark
+-- Each range is at its mark.
 abbrev pub AllTurn : List Range → List Issuance → Type 0
 AllTurn rs is = (r : Range) → Contains rs r → Turns r is (pick_of is r)
 
--- what is picked in a range has the serial at its mark
+-- What is picked in a range has the serial at its mark.
 at_mark : (h : List Entry) (t : Terms) (customer day n : ℕ) (is : List Issuance) (c : ℕ × Id)
     (r : Range) → IsLegal h t → IsPicked (ranges_of h) customer day n is c
     → Contains (ranges_of h) r → lies_in r c.1 ≡ true
@@ -51,7 +51,7 @@ at_mark h t customer day n is c r legal from there lies =
     from.there there (lies_picked h t customer day n is c legal from) lies in
     sym (ap (λ (y : Id). y.serial) from.picked) ∙ ap (λ (s : Range). pick_of is s) same
 
--- an issue of a call, over the issues before it
+-- An issuance of a call, over the issuances before it.
 pub record IsIssueAt (h : List Entry) (e : Entry) (n place : ℕ) (c : ℕ × Id) : Type 0 where
   pub picked : IsPicked (ranges_of h) e.request.customer e.day n (issues_before place h e) c
   pub turns : AllTurn (ranges_of h) (issues_before place h e)
@@ -77,7 +77,8 @@ found_image : {A B : Type 0} (f : A → B) (o : Option A) (y : B) → option_map
 found_image f None y e = absurd (none-some y e)
 found_image f (Some x) y e = (x, refl, sym (same_Some (f x) y e))
 
--- the issue at a place, whatever number the call has, is of what it carries there
+-- The issuance at an index has the identifier that the outcome carries there, regardless of the
+-- arrival.
 pub issue_at : (h : List Entry) (t : Terms) (e : Entry) (arrival place : ℕ) (y : Issuance)
     → IsLegal h t → MayFollow h t e → slice_get (issues_at arrival e) place ≡ Some y
     → (c : ℕ × Id) × (y ≡ made_by e arrival c) × IsIssueAt h e t.interval place c
@@ -86,7 +87,7 @@ issue_at h t e arrival place y legal may at =
     (sym (slice_get-map (made_by e arrival) (carried_by e.outcome) place) ∙ at) in
     (found.0, found.2, carried_at h t e place found.0 legal may found.1)
 
--- it moves the pick of the range that has it, to the serial after its own
+-- An issuance moves the pick of the range that has it to the serial after its own.
 pub pick_moved : (h : List Entry) (t : Terms) (e : Entry) (place : ℕ) (c : ℕ × Id) (r : Range)
     → IsLegal h t → IsIssueAt h e t.interval place c → Contains (ranges_of h) r
     → pick_of (issues_before place h e ++ made_by e (1 + length h) c ∷ []) r
@@ -98,7 +99,7 @@ pick_moved h t e place c r legal here there =
     (mark_step r is y (pick_of is r) (at_mark h t e.request.customer e.day t.interval is c r legal
     here.picked there) (here.turns r there))
 
--- one more issue
+-- One more issuance.
 pub before_more : (h : List Entry) (e : Entry) (place : ℕ) (y : Issuance)
     → slice_get (issues_at (1 + length h) e) place ≡ Some y → issues_before (place + 1) h e
     ≡ issues_before place h e ++ y ∷ []

@@ -13,7 +13,7 @@ use Rattle.s10_rows.specs.contracts.call_row.CallRow.{the_row}
 use Rattle.s10_replay.proofs.Tests.{between_itself, passed_over}
 use Rattle.s10_replay.proofs.SameRows.{no_rows, one_row}
 
--- the rows are the row of the call, or none
+-- The rows are the row of the call, or none.
 abbrev pub AreThose : List StoredCall → Option Entry → Type 0
 AreThose rows None = rows ≡ []
 AreThose rows (Some e) = (n : ℕ) × IsCall e × (rows ≡ call_row n e ∷ [])
@@ -76,7 +76,7 @@ those_placed : (h : List Entry) (at : ℕ) → All IsCall h
 those_placed h zero calls = none_before 0 1 h (omega arith)
 those_placed h (suc k) calls = those_at (suc k) 1 k h (omega arith) calls
 
--- the rows with an arrival are the row of the call at that place
+-- The rows with an arrival are the row of the call with that arrival.
 pub selected_by_place : (rows : List StoredCall) (h : List Entry) → All IsCall h → (at : ℕ)
     → HaveSameRows (filter (arrives_between (pos at) (pos at)) (call_rows h)) rows
     → AreThose rows (entry_at h at)

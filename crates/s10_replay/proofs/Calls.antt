@@ -19,7 +19,7 @@ same_kept : (p q : Request) (c d : ℕ) (u o : Outcome) → p ≡ q → c ≡ d 
     → kept_as p c u ≡ kept_as q d o
 same_kept p q c d u o e f g = cc
 
--- what was read of a row is the call that it stands for
+-- The call that was read of a row is the call that it stands for.
 pub read_is : (row : StoredCall) (p q : Request) (day : ℕ) (u o : Outcome) → p ≡ q → u ≡ o
     → Replies row.reply q o → row.day ≡ pos day → day < 2 ^ 32
     → IsCallOf row (kept_as p day u)
@@ -36,7 +36,7 @@ read_is row p q day u o same_q same_o replies on fit =
       day = on;
     }
 
--- the row of a call replies to its request with its outcome
+-- The row of a call replies to its request with its outcome.
 pub row_replies : (row : StoredCall) (n : ℕ) (e : Entry) → IsCall e → row ≡ call_row n e
     → Replies row.reply e.request e.outcome
 unfolding reply_bytes
@@ -47,7 +47,7 @@ row_replies row n e call is = (
   ap (λ (r : StoredCall). r.reply) is,
 )
 
--- the row of a call stands for it
+-- The row of a call stands for it.
 pub entry_of-call_row : (n : ℕ) (e : Entry) → IsCall e → entry_of (call_row n e) ≡ e
 entry_of-call_row n e call =
     let at = replies_read (call_row n e).reply e.request e.outcome
@@ -55,7 +55,7 @@ entry_of-call_row n e call =
     same_kept (request_in (call_row n e).reply) e.request e.day e.day
     (outcome_in (call_row n e).reply) e.outcome at.0 refl at.1
 
--- a call that was read of the row of a call is this call
+-- The call that was read of the row of a call is this call.
 pub read_again : (row : StoredCall) (n : ℕ) (e d : Entry) → IsCall e → row ≡ call_row n e
     → d ≡ entry_of row → Some d ≡ Some e
 read_again row n e d call is read = ap Some (read ∙ ap entry_of is ∙ entry_of-call_row n e call)

@@ -1,4 +1,4 @@
--- The rows that calls make, and whether others are the same.
+-- The derived rows, and whether stored rows are the same.
 use Rattle.std.proofs.Common.{◌≡◌, Bool, true, false, cond, List, [], ◌∷◌, map, get_or, ℤ, ◌<ℤ◌}
 use Rattle.std.proofs.Common.{refl, sym, ap, ◌∙◌, subst, IsPermutation, IsSorted, Ordering, Less}
 use Rattle.std.proofs.Common.{Equal, Greater, is_eq}
@@ -34,7 +34,7 @@ use Rattle.s10_replay.proofs.LastIssues.{All-last_issues}
 use Rattle.s10_replay.proofs.SerialRows.{issues_of_fit}
 use Rattle.s10_replay.proofs.Replayed.{there_at}
 
--- sorted rows are those that rise where they are the same
+-- Sorted rows are equal to rising ones exactly if both have the same rows.
 pub same_where_sorted : {X : Type 0} (cmp : X → X → Ordering) → IsTotalOrder cmp
     → (made rows copied sorted : List X) (b : Bool)
     → IsAscending (λ x y. cmp x y ≡ Less) made → copied ≡ rows → IsPermutation copied sorted
@@ -50,7 +50,7 @@ same_where_sorted cmp total made rows copied sorted b up copy moved in_order sam
           in_order))),
     )
 
--- both sorted are one list where they are the same, and none of the rows that were made are tied
+-- Two lists are equal when sorted exactly if they have the same rows, if the first has no ties.
 pub same_where_both_sorted : {X : Type 0} (cmp : X → X → Ordering) → IsTotalOrder cmp
     → (apart made rows first second made' rows' : List X) (b : Bool)
     → IsAscending (λ x y. is_eq (cmp x y) ≡ false) apart → HaveSameRows apart made → first ≡ made
@@ -72,7 +72,7 @@ same_where_both_sorted cmp total apart made rows first second made' rows' b no_t
           in_order')))),
     )
 
--- what is the same as rows is so as others that are the same as they
+-- Lists with the same rows have the same rows as a third list, or both have not.
 pub alike : {X : Type 0} (rows others third : List X) (b : Bool) → HaveSameRows rows others
     → (IsTrue b ↔ HaveSameRows others third) → (IsTrue b ↔ HaveSameRows rows third)
 alike rows others third b like same = (
@@ -86,7 +86,7 @@ alike rows others third b like same = (
 abbrev pub by_key : SerialRow → SerialRow → Ordering
 by_key a b = ordering_then (int_cmp a.pair b.pair) (int_cmp a.serial b.serial)
 
--- rows of two keys
+-- Two rows of serials have different keys.
 abbrev pub HaveKeys : SerialRow → SerialRow → Type 0
 HaveKeys a b = is_eq (by_key a b) ≡ false
 
@@ -101,7 +101,7 @@ tied : (x y : ℤ) → int_cmp x y ≡ Equal → x ≡ y
 tied x y e = let P : Ordering → Type 0 = λ o. MatchOrdering o (x <ℤ y) (x ≡ y) (y <ℤ x) in
     subst P e (int_ranked x y (int_cmp x y) refl)
 
--- identifiers with rows of one key are the same
+-- Identifiers whose rows have the same key are the same.
 tied_ids : (u v : Bool) (i j : Issuance) → IsIssuance i → IsIssuance j
     → is_eq (by_key (serial_row u i) (serial_row v j)) ≡ true → is_of i.id j ≡ true
 tied_ids u v i j here there h =
@@ -161,19 +161,19 @@ no_ties f (i ∷ is) all =
       apart,
     )
 
--- no two rows of serials have one key
+-- No two rows of serials have the same key.
 pub serial_rows_apart : (h : List Entry) → All IsCall h → IsAscending HaveKeys (serial_rows h)
 serial_rows_apart h calls = no_ties (λ i. voided_after i.arrival h i.id) (issues_of h)
     (issues_of_fit h calls)
 
--- the calls of rows that are right have their parts in their ranges
+-- The calls of right rows have rows: each part is in its bounds.
 pub right_calls : (t : Terms) (rows : List StoredCall) → AreRight t rows → All IsCall (kept_of rows)
 right_calls t rows right = All-map IsCall entry_of rows (λ k d lt.
     let row = right k (get_or rows k d) (there_at rows k d lt) in
     let r = row.replies in
     record { request = r.0; outcome = r.1; fitting = r.2; day = row.day_fits })
 
--- whether two rows are the same
+-- Whether two rows are the same.
 pub range_decides : (a b : RangeRow)
     → Decides (int_eq a.num b.num
     && (int_eq a.holder b.holder

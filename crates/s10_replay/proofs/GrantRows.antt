@@ -1,4 +1,4 @@
--- The row that a Done Grant makes.
+-- The row that a Done Grant adds.
 use Rattle.std.proofs.Common.{◌≡◌, ℕ, ◌+◌, Bool, true, false, cond, List, [], ◌∷◌, ◌++◌, map}
 use Rattle.std.proofs.Common.{length, Option, Some, sym, ap, ap₂, ◌∙◌, arith}
 use Rattle.std.specs.Prelude.{option_to_list}
@@ -31,7 +31,7 @@ granted_parts false true b3 n m e = cc
 granted_parts false false true n m e = cc
 granted_parts false false false n m e = cc
 
--- a Done Grant makes the range of its number
+-- A Done Grant adds the range of its number.
 made_range : (h : List Entry) (customer day interval num : ℕ) (b : Body) (o : Outcome) (r : Range)
     → o ≡ body_answer h customer b day interval → o ≡ Granted num
     → range_of_grant num b (Granted num) ≡ Some r

@@ -1,4 +1,4 @@
--- The rows that the issues of a call make, one after another.
+-- The rows that the issuances of a call write, one after another.
 use Rattle.std.proofs.Common.{◌≡◌, ℕ, zero, suc, ◌+◌, ◌≤◌, Bool, true, false, not, cond, eqb, ◌&&◌}
 use Rattle.std.proofs.Common.{◌||◌, pos, List, [], ◌∷◌, ◌++◌, map, length, Option, Some, None, refl}
 use Rattle.std.proofs.Common.{sym, ap, ap₂, ◌∙◌, ◌⊎◌, inl, inr, arith, subst, take, take_all}
@@ -52,7 +52,7 @@ use Rattle.s10_rows.proofs.Replaced.{same_images, map_twice, images_agree, all_l
 use Rattle.s10_replay.proofs.CallIssues.{IsIssueAt, issue_at, pick_moved, before_more}
 use Rattle.s10_replay.proofs.RowsAfterCall.{row_in, same_row_in, same_ranges, none_made, none_voided}
 
--- the number of a range tells its place
+-- The number of a range gives its index.
 num_at : (n : ℕ) (r : Range) (rs : List Range) → Numbered n rs → (there : Contains rs r)
     → r.num ≡ n + there.0
 num_at n r [] up there = absurd (omega (arith, there.1))
@@ -60,7 +60,7 @@ num_at n r (s ∷ rs) up (zero, lt, is) = omega (arith, up.0, ap (λ (y : Range)
 num_at n r (s ∷ rs) up (suc k, lt, is) =
     omega (arith, num_at (n + 1) r rs up.1 (k, omega arith, is))
 
--- so two of one number are one
+-- Two ranges with the same number are the same.
 one_numbered : (rs : List Range) (r s : Range) → Numbered 1 rs → Contains rs r → Contains rs s
     → s.num ≡ r.num → s ≡ r
 one_numbered rs r s up cr cs same =
@@ -69,7 +69,7 @@ one_numbered rs r s up cr cs same =
     let g : slice_get rs cs.0 ≡ Some s = slice_get-get_or rs cs.0 s cs.1 ∙ ap Some cs.2 in
     same_Some s r (sym g ∙ ap (slice_get rs) at ∙ f)
 
--- ---- one more write
+-- One more write.
 
 more_ranges : (ws : List RangeWrite) (w : RangeWrite) (rows : List RangeRow)
     → with_ranges (ws ++ w ∷ []) rows ≡ with_range w (with_ranges ws rows)
@@ -87,9 +87,9 @@ few_more : (ws : List SerialWrite) (w : SerialWrite) (rows : List SerialRow) →
 few_more [] w rows few here = (here, tt)
 few_more (v ∷ ws) w rows few here = (few.0, few_more ws w (with_serial v rows) few.1 here)
 
--- ---- the rows of ranges
+-- The rows of ranges.
 
--- another range does not have an identifier of the range
+-- Another range does not have an identifier of the range.
 elsewhere : (h : List Entry) (t : Terms) (r s : Range) (x : Id) → IsLegal h t
     → Contains (ranges_of h) r → Contains (ranges_of h) s → lies_in r x ≡ true → eqb s.num r.num
     ≡ false → (lies_in s x ≡ true) ⊎ (lies_in s x ≡ false) → lies_in s x ≡ false
@@ -100,7 +100,7 @@ elsewhere h t r s x legal there in' lies other (inl ly) =
     (ap (λ (z : Range). z.num) (one_range (ranges_of h) s r x (apart h t legal) in' there ly
     lies))))
 
--- the rows of ranges after one more issue
+-- The rows of ranges after one more issuance.
 ranges_more : (h : List Entry) (t : Terms) (e : Entry) (place : ℕ) (c : ℕ × Id) (r : Range)
     → IsLegal h t → IsIssueAt h e t.interval place c → Contains (ranges_of h) r
     → lies_in r c.1 ≡ true
@@ -141,9 +141,9 @@ ranges_more h t e place c r legal here there lies =
     (All-weaker (λ s. Contains (ranges_of h) s) (λ s. write (old s) ≡ new s) each (ranges_of h)
     (All-contains_itself (ranges_of h)))
 
--- ---- the rows of serials
+-- The rows of serials.
 
--- the identifier of one more issue has its last issue there
+-- The identifier of one more issuance has its last issuance there.
 step_last : (again here : Bool) (i y : Issuance) (lasts rest : List Issuance) (p : Issuance → Bool)
     → p i ≡ here → rest ≡ filter (λ j. not (p j)) lasts ++ y ∷ []
     → cond (again || (here || false)) rest (i ∷ rest) ≡ filter (λ j. not (p j))
@@ -162,7 +162,7 @@ same_turned i y =
     same_from_decides (is_of i.id y) (is_of y.id i) (id_equal y.id i.id, id_same y.id i.id)
     (λ e. sym (id_equal i.id y.id e), λ e. id_same i.id y.id (sym e))
 
--- one more issue takes the place of the last one of its identifier
+-- One more issuance replaces the last one of its identifier.
 lasts_push : (is : List Issuance) (y : Issuance) → last_issues (is ++ y ∷ [])
     ≡ filter (λ j. not (is_of y.id j)) (last_issues is) ++ y ∷ []
 lasts_push [] y = refl
@@ -176,7 +176,7 @@ and_turned : (a b c : Bool) → (a && (b && c)) ≡ ((a && b) && c)
 and_turned true b c = refl
 and_turned false b c = refl
 
--- the row of an issue is at an identifier's place where the issue is the identifier's
+-- The row of an issuance has the key of an identifier exactly if the issuance is the identifier's.
 row_at : (v : Bool) (i : Issuance) (x : Id) → IsId i.id → IsId x
     → is_at (pos (pair_of x.service x.country)) (pos x.serial) (serial_row v i) ≡ is_of x i
 row_at v i x here there =
@@ -190,7 +190,7 @@ row_at v i x here there =
 
 module _ (h : List Entry) (is : List Issuance) (x : Id) (fit : All IsIssuance is)
     (right : IsId x) where
-  -- whether a row is at the identifier's place
+  -- Whether a row has the key of the identifier.
   abbrev here : SerialRow → Bool
   here row = is_at (pos (pair_of x.service x.country)) (pos x.serial) row
 
@@ -200,7 +200,7 @@ module _ (h : List Entry) (is : List Issuance) (x : Id) (fit : All IsIssuance is
   lasts : All IsIssuance (last_issues is)
   lasts = All-last_issues IsIssuance is fit
 
-  -- the rows of other identifiers
+  -- The rows of other identifiers.
   pub rows_but_at :
       filter (λ row. not (is_at (pos (pair_of x.service x.country)) (pos x.serial) row))
       (map (row_in h) (last_issues is))
@@ -208,7 +208,7 @@ module _ (h : List Entry) (is : List Issuance) (x : Id) (fit : All IsIssuance is
   rows_but_at = filter_image (λ row. not (here row)) (λ i. not (is_of x i)) (row_in h) IsIssuance
       (λ i fits. ap not (tests i fits)) (last_issues is) lasts
 
-  -- at most one row is the identifier's
+  -- At most one row is the identifier's.
   pub few_at : length (filter (is_at (pos (pair_of x.service x.country)) (pos x.serial))
       (map (row_in h) (last_issues is))) ≤ 1
   few_at =
@@ -227,7 +227,7 @@ module _ (h : List Entry) (is : List Issuance) (x : Id) (fit : All IsIssuance is
       short None = omega arith
       short (Some i) = omega arith
 
-  -- of an identifier that was never issued there is no row
+  -- An identifier that was never issued has no row.
   none_at : is_issued is x ≡ false
       → filter (λ row. not (is_at (pos (pair_of x.service x.country)) (pos x.serial) row))
       (map (row_in h) (last_issues is)) ≡ map (row_in h) (last_issues is)
@@ -240,7 +240,7 @@ written : (issued : PriorIssue) (row : SerialRow) → row_of (write_of issued ro
 written Never row = refl
 written Before row = refl
 
--- a row takes the place of that of its identifier
+-- A row replaces that of its identifier.
 replaced_row : (h : List Entry) (is : List Issuance) (y : Issuance) (issued : PriorIssue)
     → All IsIssuance is → IsId y.id → (issued ≡ Never → is_issued is y.id ≡ false)
     → with_serial (write_of issued (serial_row false y)) (map (row_in h) (last_issues is))
@@ -251,7 +251,7 @@ replaced_row h is y Never fit right never =
     (sym (none_at h is y.id fit right (never refl)))
 replaced_row h is y Before fit right never = refl
 
--- the rows of serials after one more issue
+-- The rows of serials after one more issuance.
 serials_more : (h : List Entry) (is : List Issuance) (y : Issuance) (issued : PriorIssue)
     → All IsIssuance is → IsId y.id → row_in h y ≡ serial_row false y
     → (issued ≡ Never → is_issued is y.id ≡ false)
@@ -265,9 +265,9 @@ serials_more h is y issued fit right unvoided never =
     ∙ sym (map-append (row_in h) others (y ∷ []))
     ∙ ap (map (row_in h)) (sym (lasts_push is y))
 
--- ---- the issues of a call
+-- The issuances of a call.
 
--- the issues of a history and of a call after it have their parts in their ranges
+-- The issuances of a history and of the call after it have rows: each part is in its bounds.
 before_fit : (h : List Entry) (e : Entry) (place : ℕ) → All IsCall h → IsCall e
     → All IsIssuance (issues_before place h e) × All IsIssuance (issues_at (1 + length h) e)
 before_fit h e place calls call =
@@ -280,12 +280,12 @@ before_fit h e place calls call =
 in_list : {A : Type 0} (xs : List A) (k : ℕ) (x : A) → slice_get xs k ≡ Some x → Contains xs x
 in_list xs k x is = (k, slice_get_within xs k x is, get_or_from_slice_get xs k x x is)
 
--- nothing of a history follows its next call
+-- No call of a history comes after its next call.
 none_after : (h : List Entry) (y : Issuance) → y.arrival ≡ 1 + length h
     → voided_after y.arrival h y.id ≡ false
 none_after h y next = ap (list_any (voids y.id)) (drop_all y.arrival h (omega (arith, next)))
 
--- the rows that a call makes by one more issue
+-- The rows that a call writes with one more issuance.
 pub issue_makes : (h : List Entry) (t : Terms) (e : Entry) (place : ℕ) (y : Issuance) (r : Range)
     (issued : PriorIssue) (ranges : List RangeWrite) (serials : List SerialWrite) → IsLegal h t
     → MayFollow h t e → All IsCall h → IsCall e
@@ -329,7 +329,7 @@ issue_makes h t e place y r issued ranges serials legal may calls call at there 
           (few_at h is y.id fits.0 right)));
     }
 
--- no issue makes no row
+-- Without an issuance no row is written.
 pub none_make : (h : List Entry) (e : Entry) → IssueWritesMake h e 0 [] []
 none_make h e =
     let none : issues_of h ≡ issues_before 0 h e = sym (append-nil (issues_of h)) in
@@ -345,7 +345,7 @@ past [] k none = omega arith
 past (x ∷ xs) zero none = absurd (none-some x (sym none))
 past (x ∷ xs) (suc k) none = let le = past xs k none in omega (arith, le)
 
--- a call that was no Grant and no Void makes the rows of its issues
+-- A call that is no Grant and no Void writes the rows of its issuances.
 pub all_make : (h : List Entry) (e : Entry) (place : ℕ) (ranges : List RangeWrite)
     (serials : List SerialWrite) → ((num : ℕ) → ¬ (e.outcome ≡ Granted num))
     → ¬ (e.outcome ≡ Voided)

@@ -1,4 +1,4 @@
--- Of the issues that are the last of their identifier, one is of each identifier that was issued.
+-- Each identifier that was issued has one issuance among those that are the last of theirs.
 use Rattle.std.proofs.Common.{◌≡◌, Bool, true, false, cond, List, [], ◌∷◌, Option, Some, None, refl}
 use Rattle.std.proofs.Common.{sym, ap, ◌∙◌}
 use Rattle.std.specs.Prelude.{filter, All, option_to_list}
@@ -11,7 +11,7 @@ use Rattle.s10_history.specs.declared.issuance.Issuance.{Issuance}
 use Rattle.s10_history.specs.Issues.{is_of, is_issued, last_issuance_of, last_issues}
 use Rattle.s10_book.proofs.Free.{id_equal, issued_latest}
 
--- where none passes
+-- If no element passes, the filtered list is empty.
 pub none_filter : {A : Type 0} (p : A → Bool) (xs : List A) → list_any p xs ≡ false
     → filter p xs ≡ []
 none_filter p [] h = refl
@@ -23,7 +23,8 @@ last_or-more : {A : Type 0} (o : Option A) (xs : List A) (l : A) → last_or Non
 last_or-more o [] l e = absurd (none-some l e)
 last_or-more o (x ∷ xs) l e = e
 
--- one more issue, which is or isn't issued again after, and is or isn't of the identifier
+-- One more issuance: its identifier is or is not issued again later, and is or is not the given
+-- one.
 at_first : (again here : Bool) (p : Issuance → Bool) (i : Issuance) (lasts passed : List Issuance)
     → p i ≡ here → filter p lasts ≡ option_to_list (last_or None passed)
     → (here ≡ true → again ≡ true → (l : Issuance) × (last_or None passed ≡ Some l))
@@ -42,7 +43,7 @@ at_first false true p i lasts passed e rest more none =
     ∙ ap (λ l. i ∷ l) (rest ∙ ap (λ l. option_to_list (last_or None l)) empty)
     ∙ sym (ap (λ l. option_to_list (last_or (Some i) l)) empty)
 
--- the one that is of the identifier is its last issue
+-- The one that is of the identifier is its last issuance.
 pub last_of : (is : List Issuance) (x : Id) → filter (is_of x) (last_issues is)
     ≡ option_to_list (last_issuance_of is x)
 last_of [] x = refl
@@ -58,7 +59,7 @@ all_at : (P : Issuance → Type 0) (b : Bool) (i : Issuance) (is : List Issuance
 all_at P true i is here rest = rest
 all_at P false i is here rest = All-cons P i is here rest
 
--- what holds of each issue holds of each that is the last of its identifier
+-- What is true of each issuance is true of each that is the last of its identifier.
 pub All-last_issues : (P : Issuance → Type 0) (is : List Issuance) → All P is
     → All P (last_issues is)
 All-last_issues P [] all = all

@@ -16,7 +16,7 @@ each_byte s c p q (suc (suc zero)) = omega (arith, q.0.1)
 each_byte s c p q (suc (suc (suc zero))) = omega (arith, q.1.1)
 each_byte s c p q (suc (suc (suc (suc i)))) = omega arith
 
--- the four bytes of the number are the letters
+-- The four bytes of the number are the letters.
 pub pair_bytes : (n : ℕ) (s c : ℕ × ℕ) → AreCapitals s → AreCapitals c → n ≡ pair_of s c
     → to_be_bytes w32 n ≡ s.0 ∷ s.1 ∷ c.0 ∷ c.1 ∷ []
 unfolding pair_of
@@ -26,7 +26,7 @@ pub pair_fits : (s c : ℕ × ℕ) → AreCapitals s → AreCapitals c → pair_
 unfolding pair_of
 pair_fits s c p q = omega (arith, p.0.1, p.1.1, q.0.1, q.1.1)
 
--- a number is the pair of the letters that its bytes are
+-- A number is the pair of the letters that its bytes are.
 pub pair_from_bytes : (n : ℕ) (s c : ℕ × ℕ) → n < 2 ^ 32 → to_be_bytes w32 n ≡ s.0 ∷ s.1 ∷ c.0 ∷ c.1
     ∷ [] → n ≡ pair_of s c
 unfolding pair_of
@@ -35,7 +35,7 @@ pair_from_bytes n s c fit is = sym (from_be_bytes-to_be_bytes_4 n fit) ∙ ap (f
 same_letters_of : (s t : ℕ × ℕ) → s.0 ≡ t.0 → s.1 ≡ t.1 → s ≡ t
 same_letters_of s t p q = λ i. (p i, q i)
 
--- and has one service and one country
+-- Two pairs with the same number have the same service and country.
 pub one_pair : (s c t d : ℕ × ℕ) → AreCapitals s → AreCapitals c → AreCapitals t → AreCapitals d
     → pair_of s c ≡ pair_of t d → (s ≡ t) × (c ≡ d)
 one_pair s c t d p q u v is =
@@ -45,7 +45,7 @@ one_pair s c t d p q u v is =
       same_letters_of c d (ap (λ l. get_or l 2 0) bytes) (ap (λ l. get_or l 3 0) bytes),
     )
 
--- what is read of the four bytes of a number is its service and its country
+-- The service and country that are read of the four bytes of a number are its own.
 pub pair_read : (n : ℕ) (bytes : List ℕ) (s c : ℕ × ℕ) → n < 2 ^ 32 → bytes ≡ to_be_bytes w32 n
     → letters_of s ≡ get_or bytes 0 0 ∷ get_or bytes 1 0 ∷ [] → letters_of c ≡ get_or bytes 2 0
     ∷ get_or bytes 3 0 ∷ [] → n ≡ pair_of s c
@@ -64,7 +64,7 @@ capitals_read s letters are all =
 pub capitals_all : (s : ℕ × ℕ) → AreCapitals s → All IsCapital (letters_of s)
 capitals_all s p = All-from_recursion IsCapital (letters_of s) (p.0, (p.1, tt))
 
--- the letters of a service and a country stand in the bytes of their number
+-- The letters of a service and a country are at their offsets in the bytes of their number.
 pub pair_places : (n : ℕ) (bytes : List ℕ) (s c : ℕ × ℕ) → AreCapitals s → AreCapitals c
     → bytes ≡ to_be_bytes w32 n → n ≡ pair_of s c
     → (get_or bytes 0 0 ∷ get_or bytes 1 0 ∷ [] ≡ letters_of s)

@@ -1,4 +1,4 @@
--- The ranges of calls whose parts are in their ranges have theirs in them too.
+-- The ranges of calls that have rows have rows too: each part is in its bounds.
 use Rattle.std.proofs.Common.{◌≡◌, ℕ, ◌+◌, ◌^◌, ◌<◌, ◌≤◌, List, [], ◌∷◌, length, Option, Some, None}
 use Rattle.std.proofs.Common.{refl, arith, subst}
 use Rattle.std.specs.Prelude.{All}
@@ -14,7 +14,7 @@ use Rattle.s10_history.specs.declared.range.Range.{Range}
 use Rattle.s10_history.specs.History.{range_of_grant, then_ranges, ranges_from, ranges_of}
 use Rattle.s10_rows.specs.Selected.{IsCall, IsRange}
 
--- a granted range
+-- A granted range.
 pub grant_fits : (num : ℕ) (b : Body) (o : Outcome) (r : Range) → num < 2 ^ 32 → IsBody b
     → range_of_grant num b o ≡ Some r → IsRange r
 grant_fits num (Grant holder service country first last) (Granted n) r fit ok is =

@@ -1,4 +1,4 @@
--- The rows of calls that were replayed.
+-- The rows of calls that were executed again.
 use Rattle.std.proofs.Common.{◌≡◌, ℕ, ℤ, zero, suc, ◌+◌, ◌^◌, ◌<◌, List, [], ◌∷◌, ◌++◌, length}
 use Rattle.std.proofs.Common.{get_or, take, length-take, Option, Some, refl, sym, ap, ◌∙◌, ◌⊎◌, inl}
 use Rattle.std.proofs.Common.{inr, arith, pos, subst}
@@ -18,13 +18,13 @@ use Rattle.s10_rows.specs.Selected.{IsCall}
 use Rattle.s10_replay.specs.CheckedTables.{IsHead, IsFirstWrong, IsRefusal}
 use Rattle.s10_wire.specs.Datagrams.{Replies}
 
--- a row that does not hold settings is not the one of head
+-- A row that does not hold settings is not that of head.
 pub no_head : (rows : List HeadRow) (d : HeadRow) → ((s : ℤ) (u : Terms) → AreTerms u
     → ¬ (get_or rows 0 d ≡ record (head_row u) { schema = s }))
     → (schema : ℤ) (t : Terms) → ¬ IsHead rows schema t
 no_head rows d none schema t head = none schema t head.in_limits (ap (λ l. get_or l 0 d) head.row)
 
--- a row that does not read is not right
+-- A row that does not read as a call is not right.
 pub unread_is_wrong : (row : StoredCall) (t : Terms) (before : List Entry)
     → ((e : Entry) → IsCall e → Replies row.reply e.request e.outcome → ¬ (row.day ≡ pos e.day))
     → ¬ IsRightRow t before row
@@ -37,7 +37,7 @@ unread_is_wrong row t before none right =
       day = right.day_fits;
     }) r right.day
 
--- a row that reads as a call which may follow is right
+-- A row that reads as a call which may follow is right.
 pub right_row : (row : StoredCall) (e : Entry) (t : Terms) (before : List Entry) → IsCallOf row e
     → row.arrival ≡ pos (length before + 1) → row.customer ≡ pos e.request.customer
     → row.number ≡ pos e.request.number → MayFollow before t e → (e ≡ entry_of row) × IsCall e
@@ -61,7 +61,7 @@ right_row row e t before read arrival customer number follows =
       },
     )
 
--- what stands at a place of a list with one more item
+-- The element at an index of a list with one more element.
 pub place_cases : {A : Type 0} (xs : List A) (a : A) (k : ℕ) (x : A) → slice_get (xs ++ a ∷ []) k
     ≡ Some x
     → ((slice_get xs k ≡ Some x) × (take k (xs ++ a ∷ []) ≡ take k xs))
@@ -86,7 +86,7 @@ right_push t xs a right here k row is =
 pub right_none : (t : Terms) → AreRight t []
 right_none t k row is = absurd (none-some row is)
 
--- the row after the first is right too
+-- The row after the first i is right too.
 pub right_more : (t : Terms) (rows : List StoredCall) (i : ℕ) (row : StoredCall) → i < length rows
     → row ≡ get_or rows i row
     → AreRight t (take i rows) → IsRightRow t (kept_of (take i rows)) row
@@ -109,7 +109,7 @@ there_at [] i d lt = absurd (omega arith)
 there_at (x ∷ xs) zero d lt = refl
 there_at (x ∷ xs) (suc i) d lt = there_at xs i d (omega arith)
 
--- the row after the right ones is the first wrong one
+-- The row after the right ones is the first wrong one.
 pub first_wrong : (tables : Tables) (t : Terms) (rows : List StoredCall) (i n : ℕ)
     (row : StoredCall) → tables.calls ≡ rows → IsHead tables.heads (pos 1) t
     → i < length rows → row ≡ get_or rows i row → n ≡ suc i → AreRight t (take i rows)
@@ -133,7 +133,7 @@ some_there P o x h is = subst (λ p. IfSome p P) is h
 pub none_there : {A : Type 0} (P : Type 0) (o : Option A) → IfNone o P → o ≡ None → P
 none_there P o h is = subst (λ p. IfNone p P) is h
 
--- what is right after a history is so after the same one
+-- A row that is right after a history is right after an equal one.
 pub right_again : (s t : Terms) (g h : List Entry) (row : StoredCall) → s ≡ t → g ≡ h
     → IsRightRow s g row → IsRightRow t h row
 right_again s t g h row e f right =
@@ -143,7 +143,7 @@ pub kept_length : (rows : List StoredCall) (i : ℕ) → i < length rows
     → length (kept_of (take i rows)) ≡ i
 kept_length rows i within = length-map (take i rows) entry_of ∙ omega (arith, length-take i rows)
 
--- the rows are right, and their calls are kept
+-- The rows are right, and their calls are kept.
 pub record HasReplayed (t : Terms) (rows : List StoredCall) (kept : List Entry) : Type 0 where
   pub right : AreRight t rows
   pub history : kept ≡ kept_of rows
@@ -151,7 +151,7 @@ pub record HasReplayed (t : Terms) (rows : List StoredCall) (kept : List Entry) 
 pub replayed_none : (t : Terms) (kept : List Entry) → kept ≡ [] → HasReplayed t [] kept
 replayed_none t kept none = record { right = right_none t; history = none }
 
--- the book with one more call keeps one more row's
+-- The book with one more call keeps the calls of one more row.
 pub replayed_more : (t : Terms) (rows : List StoredCall) (i : ℕ) (row : StoredCall)
     (old new : List Entry) (e : Entry) → i < length rows → row ≡ get_or rows i row
     → HasReplayed t (take i rows) old → IsRightRow t old row → e ≡ entry_of row

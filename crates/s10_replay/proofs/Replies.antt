@@ -1,4 +1,4 @@
--- The datagram of a reply says its request and its outcome at their offsets.
+-- The datagram of a reply has its request and its outcome at their offsets.
 use Rattle.std.proofs.Common.{true, ◌≡◌, ℕ, ◌/◌, ◌^◌, ◌<◌, List, [], ◌∷◌, ◌++◌, length, drop, refl}
 use Rattle.std.proofs.Common.{ap, ◌∙◌, arith}
 use Rattle.std.proofs.lemmas.Nat.{from_be_bytes-to_be_bytes_4}
@@ -101,7 +101,7 @@ outcome_again (Query id) NotYours ok fit = refl
 outcome_again (Query id) NumberReused ok fit = refl
 outcome_again body o ok fit = absurd cc
 
--- what follows the request's bytes
+-- The bytes after those of the request.
 behind : (customer number : ℕ) (body : Body) (rest : List ℕ) → drop (request_length (kind_of body))
     (datagram 0x80 (asked customer number body) ++ rest) ≡ rest
 behind customer number (Grant h s t f l) rest = refl
@@ -124,7 +124,7 @@ said customer number body o ok out fit =
 same_asked : (c d m n : ℕ) (a b : Body) → c ≡ d → m ≡ n → a ≡ b → asked c m a ≡ asked d n b
 same_asked c d m n a b p q r = cc
 
--- bytes that reply say what they reply to, and what came of it
+-- Bytes that are a reply give its request and its outcome.
 pub replies_read : (b : List ℕ) (q : Request) (o : Outcome) → Replies b q o → (request_in b ≡ q)
     × (outcome_in b ≡ o)
 replies_read b q o r = (
@@ -135,7 +135,7 @@ replies_read b q o r = (
   ap outcome_in r.3 ∙ said q.customer q.number q.body o r.0.2 r.1 r.2,
 )
 
--- the bytes of a reply are its datagram
+-- The bytes of a reply are its datagram.
 pub reply_replies : (q : Request) (o : Outcome) (b : List ℕ) → Replies b q o → b ≡ reply_bytes q o
 unfolding reply_bytes
 reply_replies q o b r = r.3

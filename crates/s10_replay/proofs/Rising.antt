@@ -43,7 +43,7 @@ ranges_rise f n (r ∷ rs) up = (
   ranges_rise f (n + 1) rs up.1,
 )
 
--- the rows of ranges rise by number
+-- The rows of ranges rise by number.
 pub range_rows_rise : (h : List Entry) → IsAscending (λ (a b : RangeRow). int_cmp a.num b.num
     ≡ Less) (range_rows h)
 range_rows_rise h = ranges_rise (λ r. pick_of (issues_of h) r) 1 (ranges_of h) (numbered 1 h)
@@ -59,12 +59,12 @@ calls_rise : (n : ℕ) (es : List Entry)
 calls_rise n [] = tt
 calls_rise n (e ∷ es) = (calls_above n (n + 1) es (omega arith), calls_rise (n + 1) es)
 
--- and those of calls by arrival
+-- The rows of calls rise by arrival.
 pub call_rows_rise : (h : List Entry)
     → IsAscending (λ (a b : StoredCall). int_cmp a.arrival b.arrival ≡ Less) (call_rows h)
 call_rows_rise h = calls_rise 1 h
 
--- what a call closes it closes at its arrival
+-- A call closes a range at its own arrival.
 closes_at : (arrival : ℕ) (e : Entry) (row : ClosedRow) → closing arrival e.request.body e.outcome
     ≡ Some row → row.arrival ≡ pos arrival
 closes_at arrival e row made = closed_at e.request.body e.outcome made
@@ -109,7 +109,7 @@ closed_rise n (e ∷ es) = at (closing n e.request.body e.outcome) (closes_at n 
         ≡ Less) (closed_rows_from (n + 1) es) in
         (subst P (sym (here row refl)) above, rest)
 
--- and those of closed
+-- The rows of closed rise by arrival.
 pub closed_rows_rise : (h : List Entry)
     → IsAscending (λ (a b : ClosedRow). int_cmp a.arrival b.arrival ≡ Less) (closed_rows h)
 closed_rows_rise h = closed_rise 1 h

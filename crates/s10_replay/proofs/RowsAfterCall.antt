@@ -1,4 +1,4 @@
--- The rows that a call makes after a history.
+-- The rows that a call writes after a history.
 use Rattle.std.proofs.Common.{◌≡◌, ℕ, zero, suc, ◌+◌, ◌≤◌, Bool, true, false, ◌||◌, List, [], ◌∷◌}
 use Rattle.std.proofs.Common.{◌++◌, map, length, Option, None, refl, sym, ap, ap₂, ◌∙◌, arith}
 use Rattle.std.proofs.Common.{append-nil, length-append}
@@ -24,7 +24,7 @@ use Rattle.s10_rows.specs.Tables.{range_row, range_rows, serial_row, serial_rows
 use Rattle.s10_rows.specs.declared.serial_row.SerialRow.{SerialRow}
 use Rattle.s10_rows.proofs.Replaced.{same_images}
 
--- a call that carries no identifier leaves the issues
+-- A call that carries no identifier leaves the issuances.
 pub same_issues : (h : List Entry) (e : Entry) → carried_by e.outcome ≡ [] → issues_of (h ++ e ∷ [])
     ≡ issues_of h
 same_issues h e none =
@@ -32,7 +32,7 @@ same_issues h e none =
     ∙ ap (λ (l : List (ℕ × Id)). issues_of h ++ map (made_by e (1 + length h)) l) none
     ∙ append-nil (issues_of h)
 
--- a call that makes no range leaves the ranges
+-- A call that adds no range leaves the ranges.
 pub same_ranges : (h : List Entry) (e : Entry) → range_of_grant (1 + length (ranges_of h))
     e.request.body e.outcome ≡ None → ranges_of (h ++ e ∷ []) ≡ ranges_of h
 same_ranges h e none = ranges_from-push 1 h e
@@ -43,7 +43,7 @@ or_none true c e = refl
 or_none false true e = e
 or_none false false e = refl
 
--- a call that voids nothing leaves what is voided
+-- A call that voids nothing leaves what is voided.
 pub same_voided : (arrival : ℕ) (h : List Entry) (e : Entry) (x : Id) → voids x e ≡ false
     → voided_after arrival (h ++ e ∷ []) x ≡ voided_after arrival h x
 same_voided zero h e x none = list_any-append (voids x) h (e ∷ []) ∙ or_none (list_any (voids x) h)
@@ -51,7 +51,7 @@ same_voided zero h e x none = list_any-append (voids x) h (e ∷ []) ∙ or_none
 same_voided (suc n) [] e x none = ap (list_any (voids x)) (drop_all n [] (omega arith))
 same_voided (suc n) (d ∷ h) e x none = same_voided n h e x none
 
--- a call that voids an identifier follows each call before it
+-- A call that voids an identifier comes after each call before it.
 pub now_voided : (arrival : ℕ) (h : List Entry) (e : Entry) (x : Id) → arrival ≤ length h
     → voids x e ≡ true → voided_after arrival (h ++ e ∷ []) x ≡ true
 now_voided zero h e x le does = list_any-append (voids x) h (e ∷ [])
@@ -59,7 +59,7 @@ now_voided zero h e x le does = list_any-append (voids x) h (e ∷ [])
 now_voided (suc n) [] e x le does = absurd (omega (arith, le))
 now_voided (suc n) (d ∷ h) e x le does = now_voided n h e x (omega (arith, le)) does
 
--- nothing follows the last call
+-- No call comes after the last one.
 pub none_behind : (h : List Entry) (e : Entry) (x : Id) → voided_after (1 + length h) (h ++ e ∷ [])
     x ≡ false
 none_behind h e x =

@@ -1,4 +1,4 @@
--- The rows of serials that a statement selects, and the issue that they tell.
+-- The rows of serials that a statement selects, and the issue that they record.
 use Rattle.std.proofs.Common.{◌≡◌, ℕ, ◌+◌, ◌≤◌, Bool, true, false, cond, pos, List, [], ◌∷◌, map}
 use Rattle.std.proofs.Common.{Option, Some, None, refl, ap, ap₂, ◌∙◌, arith, subst}
 use Rattle.std.specs.Prelude.{filter, All, option_to_list}
@@ -24,7 +24,7 @@ use Rattle.s10_rows.specs.Selected.{IsCall, IsIssuance, is_within, issue_in_row}
 use Rattle.s10_replay.proofs.Pairs.{one_pair, one_number}
 use Rattle.s10_replay.proofs.LastIssues.{last_of, All-last_issues}
 
--- the issues of a call whose parts are in their ranges have theirs in them too
+-- The issuances of a call that has a row have rows: each part is in its bounds.
 pub issues_at_fit : (arrival : ℕ) (e : Entry) → IsCall e → All IsIssuance (issues_at arrival e)
 issues_at_fit arrival e call =
     issued_at IsIssuance e.request.customer e.request.number arrival e.outcome
@@ -54,7 +54,7 @@ issues_fit arrival (e ∷ es) calls =
     (issues_at_fit arrival e (All-head IsCall e es calls))
     (issues_fit (arrival + 1) es (All-tail IsCall e es calls))
 
--- and so have those of a history
+-- The issuances of a history have rows.
 pub issues_of_fit : (h : List Entry) → All IsCall h → All IsIssuance (issues_of h)
 issues_of_fit h calls = issues_fit 1 h calls
 
@@ -86,7 +86,7 @@ of_itself v i =
     (le-leb i.id.serial i.id.serial (omega arith)))
     (le-leb i.id.serial i.id.serial (omega arith))
 
--- the row of an issue is the identifier's where the issue is
+-- The row of an issuance is the identifier's exactly if the issuance is.
 pub row_of_is : (v : Bool) (i : Issuance) (x : Id) → IsId i.id → IsId x
     → is_row_of x (serial_row v i) ≡ is_of x i
 row_of_is v i x here there =
@@ -102,7 +102,7 @@ image_at : {A B : Type 0} (f : A → B) (b : Bool) (x : A) (xs : List A)
 image_at f true x xs = refl
 image_at f false x xs = refl
 
--- of an image passes what passes before it
+-- An element passes in the image exactly if it passes before.
 pub filter_image : {A B : Type 0} (p : B → Bool) (q : A → Bool) (f : A → B) (P : A → Type 0)
     → ((x : A) → P x → p (f x) ≡ q x) → (xs : List A) → All P xs → filter p (map f xs)
     ≡ map f (filter q xs)
@@ -112,7 +112,7 @@ filter_image p q f P same (x ∷ xs) all =
     (filter_image p q f P same xs (All-tail P x xs all))
     ∙ image_at f (q x) x (filter q xs)
 
--- the rows are the row of an issue that tells this, or none
+-- The rows are the row of an issuance that records this issue, or none.
 abbrev pub Tell : List SerialRow → Option Issue → Type 0
 Tell rows None = rows ≡ []
 Tell rows (Some issue) = (v : Bool)
@@ -121,7 +121,7 @@ Tell rows (Some issue) = (v : Bool)
 abbrev last_row : List Entry → Issuance → SerialRow
 last_row h i = serial_row (voided_after i.arrival h i.id) i
 
--- what holds of the elements that pass holds of the last of them
+-- What is true of the elements that pass is true of the last of them.
 pub last_passes : (P : Issuance → Type 0) (x : Id) (is : List Issuance) (i : Issuance) → All P is
     → last_issuance_of is x ≡ Some i → P i × (i.id ≡ x)
 last_passes P x is i all last =

@@ -45,7 +45,8 @@ filter_none : {X : Type 0} (p : X → Bool) (xs : List X) → AllByRecursion (λ
 filter_none p [] h = refl
 filter_none p (x ∷ xs) h = rw (h.0, filter_none p xs h.1)
 
--- A relation holds along each permutation if it is reflexive and transitive, and goes under a head and over an exchange of two heads.
+-- A relation is true of each permutation if it is reflexive and transitive, and is kept under a
+-- head and over an exchange of two heads.
 module _ {X : Type 0} (R : List X → List X → Type 0) (same : (xs : List X) → R xs xs)
     (skip : (x : X) (xs ys : List X) → R xs ys → R (x ∷ xs) (x ∷ ys))
     (turn : (x y : X) (xs : List X) → R (x ∷ y ∷ xs) (y ∷ x ∷ xs))
@@ -150,7 +151,7 @@ module _ {X : Type 0} (cmp : X → X → Ordering) (total : IsTotalOrder cmp) wh
       go Equal b p q s t = absurd (true≢false (sym s))
       go Greater b p q s t = absurd (true≢false (sym s))
 
-  -- a sorted list is what is not above x, and then what is
+  -- A sorted list is the part that is not above x, followed by the rest.
   split : (x : X) (ys : List X) → IsAscending AtMost ys → ys ≡ filter (λ z. not (is_above x z)) ys
       ++ filter (is_above x) ys
   split x [] up = refl
@@ -169,7 +170,8 @@ module _ {X : Type 0} (cmp : X → X → Ordering) (total : IsTotalOrder cmp) wh
             filter_all _ ys above,
           )
 
-  -- Of the orders of a list with no ties, one is sorted. Its head is all that is not above the head, and the rest follows by induction.
+  -- Of the orders of a list with no ties, one is sorted. Its head is all that is not above the
+  -- head, and the rest follows by induction.
   same_order : (xs ys : List X) → IsAscending (λ a b. cmp a b ≡ Less) xs → IsPermutation xs ys
       → IsAscending AtMost ys → ys ≡ xs
   same_order [] [] strict same up = refl

@@ -1,4 +1,4 @@
--- A sum over the issues that lie in a range is one over its serials.
+-- A sum over the issuances in a range is a sum over its serials.
 use Rattle.std.proofs.Common.{◌≡◌, ℕ, zero, suc, ◌+◌, ◌-◌, Bool, true, false, cond, eqb, leb, ltb}
 use Rattle.std.proofs.Common.{◌&&◌, List, [], ◌∷◌, refl, sym, ap, ap₂, ◌∙◌, arith}
 use Rattle.std.specs.Prelude.{filter}
@@ -38,7 +38,7 @@ between_step low k n w s e = grind (arith, nat_tests)
 none_between : (low k w : ℕ) → 0 ≡ cond (leb low k && ltb k (low + 0)) w 0
 none_between low k w = grind (arith, nat_tests)
 
--- of the serials in turn, at most one is it
+-- Of successive serials at most one is the given one.
 one_serial : (w k low n : ℕ) → sum_by (λ s. cond (eqb k s) w 0) (range_with_len low n)
     ≡ cond (leb low k && ltb k (low + n)) w 0
 one_serial w k low zero = none_between low k w
@@ -55,7 +55,7 @@ letters_turned a b = ap₂ ◌&&◌ (turned a.0 b.0) (turned a.1 b.1)
     turned : (m n : ℕ) → eqb m n ≡ eqb n m
     turned m n = grind (arith, nat_tests)
 
--- the service and the country are the same, or not
+-- The service and the country are the same, or not.
 by_letters : (s c s' c' b : Bool) (w : ℕ) → s ≡ s' → c ≡ c' → cond ((s && b) && c) w 0
     ≡ cond (s' && c') (cond b w 0) 0
 by_letters true true s' c' true w p q = rw (← p, ← q) refl
@@ -75,7 +75,7 @@ cond_sum : {X : Type 0} (b : Bool) (f : X → ℕ) (xs : List X) → sum_by (λ 
 cond_sum true f xs = refl
 cond_sum false f xs = sum_none xs
 
--- an issue counts at one serial of the range that it lies in
+-- An issuance counts at one serial of the range that has it.
 one_place : (r : Range) (i : Issuance) (w : ℕ) → sum_by (λ s. cond (is_of (id_at r s) i) w 0)
     (serials r) ≡ cond (lies_in r i.id) w 0
 one_place r i w =
@@ -96,7 +96,7 @@ sum_at : {X : Type 0} (g : X → ℕ) (b : Bool) (x : X) (xs : List X) → sum_b
 sum_at g true x xs = sum_by-cons g x xs
 sum_at g false x xs = omega arith
 
--- a sum over the issues in a range, serial by serial
+-- A sum over the issuances in a range, serial by serial.
 pub by_serials : (g : Issuance → ℕ) (r : Range) (is : List Issuance)
     → sum_by g (filter (λ i. lies_in r i.id) is)
     ≡ sum_by (λ s. sum_by g (filter (is_of (id_at r s)) is)) (serials r)

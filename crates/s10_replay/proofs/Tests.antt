@@ -27,6 +27,6 @@ pub passed_over : {A : Type 0} (b : Bool) (x : A) (xs : List A) → b ≡ false 
 passed_over true x xs e = absurd (both_ways true e refl)
 passed_over false x xs e = refl
 
--- a number of 32 bits in a column
+-- A number of 32 bits in a column.
 pub column_back : (z : ℤ) (n : ℕ) → z ≡ pos n → n < 2 ^ 32 → to_z w64 (of_z w64 z) ≡ pos n
 column_back z n is fit = ap (λ x. to_z w64 (of_z w64 x)) is ∙ omega (arith, ints)

@@ -89,7 +89,7 @@ voided_flag : (v : Bool) → int_eq (pos (flag v)) (pos 1) ≡ v
 voided_flag true = refl
 voided_flag false = refl
 
--- a sum over the selected rows, serial by serial
+-- A sum over the selected rows, serial by serial.
 rows_sum : (g : SerialRow → ℕ) (h : List Entry) (r : Range) → All IsCall h → IsRange r
     → sum_by g (filter (rows_within r) (serial_rows h))
     ≡ sum_by (λ s. sum_by (λ i. g (last_row h i))
@@ -131,7 +131,7 @@ length_range : (low n : ℕ) → length (range_with_len low n) ≡ n
 length_range low zero = refl
 length_range low (suc n) = ap suc (length_range (low + 1) n)
 
--- what the rows of a range count
+-- What the rows of a range count.
 pub record IsCounted (h : List Entry) (r : Range) (day interval : ℕ) (rows : List SerialRow) :
     Type 0 where
   pub used : length rows ≡ count_by (λ s. is_issued (issues_of h) (id_at r s)) (serials r)
@@ -194,7 +194,7 @@ rows_counted h r day interval rows calls range same =
       few = omega (arith, long, c.few);
     }
 
--- the usage by the first rows
+-- The usage by the first i rows.
 pub record UsedSoFar (rows : List SerialRow) (day interval count i : ℕ) (u : Usage) : Type 0 where
   pub used : u.used ≡ i
   pub voided : u.voided ≡ count_by is_voided_row (take i rows)
@@ -242,7 +242,7 @@ UsedSoFar-step rows day interval count i d u v issue lt void_is day_is e0 e1 e2 
 same_usage : (a b : Usage) → a.used ≡ b.used → a.voided ≡ b.voided → a.free ≡ b.free → a ≡ b
 same_usage a b e0 e1 e2 = λ i. record { used = e0 i; voided = e1 i; free = e2 i }
 
--- all rows are counted
+-- All rows are counted.
 pub UsedSoFar-end : (r : Range) (day interval count i : ℕ) (rows : List SerialRow) (u : Usage)
     → length rows ≤ i → i ≤ length rows
     → count ≡ r.last + 1 - r.first → UsedSoFar rows day interval count i u
@@ -256,7 +256,7 @@ UsedSoFar-end r day interval count i rows u low high is_count so =
       free = omega (arith, so.free, is_count, ap (count_by (is_taken day interval)) whole);
     }
 
--- what the rows of a history say is its usage
+-- The usage by the rows of a history is the history's.
 pub usage_is : (h : List Entry) (r : Range) (asked day interval : ℕ) (rows : List SerialRow)
     (u : Usage)
     → day ≡ max (day_of h) asked → IsCounted h r day interval rows → IsUsageOf rows r day interval u
@@ -269,7 +269,7 @@ usage_is h r asked day interval rows u is_day counts is =
     (free ∙ ap (λ n. count_by (λ s. is_free (issues_of h) (id_at r s) n interval) (serials r))
     is_day)
 
--- the row is that of an issue whose parts are in their ranges
+-- The row is that of an issuance that has a row.
 abbrev Reads : SerialRow → Type 0
 Reads row = (v : Bool) × ((j : Issuance) × (IsIssuance j × (row ≡ serial_row v j)))
 
@@ -282,7 +282,7 @@ all_read h (i ∷ is) all =
       (i, (All-head IsIssuance i is all, refl)),
     ) (all_read h is (All-tail IsIssuance i is all))
 
--- each row reads
+-- Each row reads as an issue.
 pub never_unread : (h : List Entry) (r : Range) (rows : List SerialRow) (i : ℕ) (d : SerialRow)
     → All IsCall h → HaveSameRows (filter (rows_within r) (serial_rows h)) rows → i < length rows
     → ((v : Bool) (j : Issuance) → IsIssuance j → get_or rows i d ≡ serial_row v j

@@ -1,4 +1,4 @@
--- The row that a Done Void makes.
+-- The row that a Done Void writes.
 use Rattle.std.proofs.Common.{◌≡◌, ℕ, ◌+◌, Bool, true, false, not, pos, List, [], ◌∷◌, ◌++◌, map}
 use Rattle.std.proofs.Common.{length, get_or, Some, sym, ap, ap₂, ◌∙◌, subst}
 use Rattle.std.specs.Prelude.{filter, All, option_to_list}
@@ -40,7 +40,7 @@ voids_is : (e : Entry) (x y : Id) → e.request.body ≡ Void x → e.outcome �
     → voids y e ≡ same_id x y
 voids_is e x y asks done = ap₂ (λ (b : Body) (o : Outcome). voids_by y b o) asks done
 
--- the row of the last issue is made again as voided
+-- The row of the last issuance is written again, voided.
 pub void_makes : (h : List Entry) (t : Terms) (e : Entry) (x : Id) (i : Issuance) → IsLegal h t
     → All IsCall h → IsCall e → e.request.body ≡ Void x → e.outcome ≡ Voided
     → last_issuance_of (issues_of h) x ≡ Some i

@@ -21,7 +21,7 @@ within [] at there = absurd (there refl)
 within (x ∷ xs) zero there = omega arith
 within (x ∷ xs) (suc at) there = omega (arith, within xs at there)
 
--- the parts of an equality
+-- The parts of an equality.
 is_equality : (below : ℕ → Term) (op : Op) → op_term below op ≡ one_is_one → (a : ℕ) × (b : ℕ)
     × (op ≡ equality a b) × (below a ≡ col 1 0) × (below b ≡ lit (Int (pos 1)))
 is_equality below (node.Literal v) e = absurd (cc)
@@ -64,7 +64,7 @@ parts_to nodes (suc depth) root e =
     let p = is_equality (term_to nodes depth) (node_at nodes root) e in
     (p.0, p.1, p.2, is_column nodes depth p.0 p.3, is_literal nodes depth p.1 p.4)
 
--- what a term that is `one = 1` is made of
+-- The parts of a term that is `one = 1`.
 pub parts_of : (nodes : List Op) (root : ℕ) → term_in nodes root ≡ one_is_one → Parts nodes root
 parts_of nodes root e = parts_to nodes (length nodes) root e
 
@@ -75,7 +75,7 @@ whole_to nodes zero root a b deep is key one = absurd (omega arith)
 whole_to nodes (suc zero) root a b deep is key one = absurd (omega arith)
 whole_to nodes (suc (suc depth)) root a b deep is key one = rw (is, key, one) refl
 
--- two places of different nodes
+-- Two different indices of nodes.
 two_places : (n i j : ℕ) → i < n → j < n → i ≢ j → 2 ≤ n
 two_places n i j x y other = omega arith
 
@@ -91,7 +91,7 @@ whole_of nodes root a b is key one =
     whole_to nodes (length nodes) root a b (two_places (length nodes) root a top low other) is key
     one
 
--- the node that is found, or NULL
+-- The node that is found, or NULL.
 pub found_node : (nodes : List Op) (at : ℕ) (op : Op) → Some op ≡ slice_get nodes at
     → node_at nodes at ≡ op
 found_node [] at op e = absurd (none-some op (sym e))
@@ -134,7 +134,7 @@ no_equality nodes root op found none = (
       absurd (none p.0 p.1 (sym (found_node nodes root op found) ∙ p.2)),
 )
 
--- the sides of an equality are those that it has
+-- Equal equalities have equal sides.
 same_sides : (a b c d : ℕ) → equality a b ≡ equality c d → (a ≡ c) × (b ≡ d)
 same_sides a b c d e = ((cc), (cc))
 

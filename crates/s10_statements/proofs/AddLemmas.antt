@@ -1,4 +1,4 @@
--- What the INSERT of a range, and that of a serial, make of the tables.
+-- The tables after the INSERT of a range, and after that of a serial.
 use Rattle.std.proofs.Common.{◌≡◌, ◌≢◌, arith, ℕ, ℤ, [], ◌∷◌, ◌++◌, true, None, Ok, refl, sym, ap}
 use Rattle.std.proofs.Common.{subst, ◌∙◌}
 use Rattle.std.proofs.Math.Logic.{∥∥₁_map}
@@ -33,12 +33,12 @@ use Rattle.s10_statements.proofs.PutLemmas.{one_fresh}
 use Rattle.s10_statements.proofs.GoneLemmas.{all_moved}
 use Rattle.s10_statements.proofs.KeepLemmas.{one_more}
 
--- a range as its row is stored
+-- The row of a range as it is stored.
 abbrev pub stored_range : RangeRow → Row
 stored_range r = Int r.num ∷ Null ∷ Int r.holder ∷ Int r.pair ∷ Int r.low ∷ Int r.high ∷ Int r.mark
     ∷ []
 
--- a serial as its row is stored
+-- The row of a serial as it is stored.
 abbrev stored_serial : ℤ → SerialRow → Row
 stored_serial id r = Int id ∷ shown_serial r
 

@@ -1,4 +1,4 @@
--- What the reads show of a ledger's tables.
+-- What the reads of a ledger's tables show.
 use Rattle.std.proofs.Common.{◌≡◌, ℕ, ℤ, pos, List, [], ◌∷◌, ◌&&◌, Bool, true, false, map, filter}
 use Rattle.std.proofs.Common.{refl, sym, ap, subst, ◌∙◌, int_cmp, int_eq, int_le, Less}
 use Rattle.std.specs.List.Sorted.{IsPermutation}
@@ -39,7 +39,7 @@ use Rattle.s10_statements.proofs.Texts.{serials_is, serials_plain, serials_unlis
 use Rattle.s10_statements.proofs.Texts.{closed_is, closed_plain, closed_unlisted}
 use Rattle.s10_statements.proofs.ReadLemmas.{kept_are, rows_are, rows_rise, selected}
 
--- ---- values read back
+-- Values that are read back.
 
 abbrev pub int_in : Value → ℤ
 int_in Null = pos 0
@@ -93,7 +93,7 @@ abbrev pub wide_columns : Row → Row
 wide_columns r = column r 1 ∷ column r 2 ∷ column r 3 ∷ column r 4 ∷ column r 5 ∷ column r 6
     ∷ column r 7 ∷ column r 0 ∷ []
 
--- ---- the keys of ORDER BY
+-- The keys of ORDER BY.
 
 abbrev pub first_key : Row → Row
 first_key v = column v 0 ∷ []
@@ -101,7 +101,7 @@ first_key v = column v 0 ∷ []
 abbrev pair_key : Row → Row
 pair_key v = column v 0 ∷ column v 1 ∷ []
 
--- ---- the tests of WHERE
+-- The tests of WHERE.
 
 abbrev pub always : Row → Bool
 always v = true
@@ -197,7 +197,7 @@ module _ (params : Row) (old new : State) (rows : List Row)
       (kept_are params serials_query (old.now.trees 4) wide_columns pair_key always (λ r. refl)
       (λ r. refl) a.staged a.kept a.grouped a.distinct) a.same a.shown)
 
-  -- in order of their key
+  -- Rows of calls in order of arrival.
   pub calls_rise : (xs : List StoredCall) → IsAscending (λ a b. int_cmp a.arrival b.arrival ≡ Less)
       xs → IsPermutation (map shown_call xs) (map call_columns (old.now.trees 1))
       → Shown select_calls_sql params old new rows → rows ≡ map shown_call xs
@@ -214,7 +214,7 @@ module _ (params : Row) (old new : State) (rows : List Row)
       (kept_are params calls_query (old.now.trees 1) call_columns first_key always (λ r. refl)
       (λ r. refl) a.staged a.kept a.grouped a.distinct) a.same a.sorted a.shown
 
-  -- in order of their key
+  -- Rows of ranges in order of their numbers.
   pub ranges_rise : (xs : List RangeRow) → IsAscending (λ a b. int_cmp a.num b.num ≡ Less) xs
       → IsPermutation (map shown_range xs) (map range_columns (old.now.trees 3))
       → Shown select_ranges_sql params old new rows → rows ≡ map shown_range xs
@@ -250,7 +250,7 @@ module _ (params : Row) (old new : State) (rows : List Row)
       (kept_are params closed_query (old.now.trees 6) closed_columns first_key always (λ r. refl)
       (λ r. refl) a.staged a.kept a.grouped a.distinct) a.same a.shown)
 
-  -- in order of their key
+  -- Rows of closed in order of the numbers of their ranges.
   pub closed_rise : (xs : List ClosedRow) → IsAscending (λ a b. int_cmp a.num b.num ≡ Less) xs
       → IsPermutation (map shown_closed xs) (map closed_columns (old.now.trees 6))
       → Shown select_closed_sql params old new rows → rows ≡ map shown_closed xs
@@ -269,7 +269,7 @@ module _ (params : Row) (old new : State) (rows : List Row)
       (kept_are params closed_query (old.now.trees 6) closed_columns first_key always (λ r. refl)
       (λ r. refl) a.staged a.kept a.grouped a.distinct) a.same a.sorted a.shown
 
--- ---- typed rows
+-- Typed rows.
 
 regrouped : (a b c : Bool) → (a && (b && c)) ≡ (a && b && c)
 regrouped true b c = refl

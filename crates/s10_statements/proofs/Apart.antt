@@ -1,4 +1,4 @@
--- What follows the tables of a ledger has no part in its writes.
+-- The tables after those of a ledger have no part in its writes.
 use Rattle.std.proofs.Common.{◌≡◌, ℕ, ◌==◌, Bool, true, false, not, ◌&&◌, ◌||◌, cond, List, [], ◌∷◌}
 use Rattle.std.proofs.Common.{length, Option, Some, None, refl, sym, subst, ◌∙◌}
 use Rattle.std.specs.Prelude.{IfSome, find, filter_map, flat_map, option_map, option_and_then}
@@ -40,12 +40,12 @@ is_closed-prop s a b =
     let r = Bool-set _ _ a.indexes b.indexes in
     λ i. record { ledger = o i; is = p i; tables = q i; indexes = r i }
 
--- a schema that is as one of a ledger was
+-- A schema that is equal to that of a ledger.
 pub is_as_it_was : (s t : Schema) → IsClosedSchema s → t ≡ with_closed (others_after_closed s)
     → IsClosedSchema t
 is_as_it_was s t has e = subst IsClosedSchema (has.is ∙ sym e) has
 
--- what follows closed is apart from the four too
+-- The tables after closed are apart from the four too.
 pub after_apart : (s : Schema) → IsClosedSchema s → are_apart (others_after_closed s).tables ≡ true
 after_apart s has = subst (λ (x : Schema). are_apart (drop 4 x.tables) ≡ true) has.is
     has.ledger.tables
@@ -92,7 +92,7 @@ no_work_by depth tree moves child ref None key e = refl
 no_work_by depth tree moves child ref (Some deed) None e = refl
 no_work_by depth tree moves child ref (Some deed) (Some key) e = rw e refl
 
--- what a test says of each element, where all pass it, and what two say
+-- What a test shows of each element if all pass it, and what two tests show.
 each_of : {X : Type 0} (p : X → Bool) (P : X → Type 0) → ((x : X) → p x ≡ true → P x)
     → (xs : List X) → list_all p xs ≡ true → AllByRecursion P xs
 each_of p P says [] h = tt
@@ -114,7 +114,7 @@ found_elsewhere tree p (t ∷ ts) all =
     elim (p t) as (λ b. IfSome (cond b (Some t) (find p ts)) (Elsewhere tree))
     [ true ↦ all.0 | false ↦ found_elsewhere tree p ts all.1 ]
 
--- the foreign keys of the table are on other trees
+-- The foreign keys of the table are on other trees.
 abbrev PointsElsewhere : ℕ → List Table → Table → Type 0
 PointsElsewhere tree whole t = AllByRecursion (λ ref. Misses tree (parent_key whole ref))
     t.references
@@ -136,7 +136,7 @@ module _ (tree : ℕ) (whole : Schema) (keys : Keys) (depth : ℕ) (olds news : 
   no_work_in [] all = refl
   no_work_in (t ∷ ts) all = rw (no_work_of t t.references all.0) (no_work_in ts all.1)
 
--- a name that is none of the four is looked up after them
+-- A name that is none of the four is looked up after them.
 past_four : (o : Schema) (ref : Reference) → is_own_name ref.parent ≡ false
     → find (λ t. same_name t.name ref.parent) (with_others o).tables
     ≡ find (λ t. same_name t.name ref.parent) o.tables
@@ -147,14 +147,14 @@ past_four o ref other =
     b.1 in
     rw (a.0, b.0, c.0, c.1) refl
 
--- and one that is not that of closed either, after this
+-- A name that is not that of closed either is looked up after closed.
 past_closed : (o : Schema) (ref : Reference) → is_own_name ref.parent ≡ false
     → same_name (codes "closed") ref.parent ≡ false
     → find (λ t. same_name t.name ref.parent) (with_closed o).tables
     ≡ find (λ t. same_name t.name ref.parent) o.tables
 past_closed o ref other fifth = past_four (closed_first o) ref other ∙ rw fifth refl
 
--- no foreign key acts on a write of closed
+-- No foreign key acts on a write of closed.
 pub no_works_closed : (o : Schema) → are_apart o.tables ≡ true → are_apart_from_closed o.tables
     ≡ true → (keys : Keys) (depth : ℕ) (olds news : List Row)
     → works (with_closed o) keys depth 6 olds news ≡ []
@@ -207,7 +207,7 @@ module _ (tree : ℕ) (own : (n : ℕ) → is_own_tree n ≡ false → (n == tre
     points t h = each_of _ (λ ref. Misses tree (parent_key (with_others o).tables ref)) misses
         t.references (both (not (is_own_tree t.tree)) (refer_apart t.references) h).1
 
-    -- no foreign key acts on a write of that table
+    -- No foreign key acts on a write of that table.
     pub no_works : works (with_others o) keys depth tree olds news ≡ []
     no_works = no_work_in tree (with_others o) keys depth olds news o.tables
         (each_of _ (PointsElsewhere tree (with_others o).tables) points o.tables apart)
@@ -217,7 +217,7 @@ module _ (tree : ℕ) (own : (n : ℕ) → is_own_tree n ≡ false → (n == tre
   no_guard i table at e = elim (i.is_unique) as (λ b. (b && (i.table == table.tree)) ≡ false)
       [ true ↦ rw at (own i.table e) | false ↦ refl ]
 
-  -- and no index of another table has one of its keys
+  -- No index of another table has one of its keys.
   pub none_shares : (target : Option (List ℕ)) (table : Table) → table.tree ≡ tree
       → (new row : Row) (is : List Index) → index_apart is ≡ true
       → list_any (shares target table new row) is ≡ false

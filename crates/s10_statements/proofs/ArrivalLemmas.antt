@@ -41,7 +41,7 @@ module _ {X : Type 0} (cmp : X → X → Ordering) (total : IsTotalOrder cmp) wh
       ∙ turned _ (sorted 0 x (omega arith) (omega arith)) in
       (first, all_weaker _ (AtMost x) (λ z. upto total x y z first) ys up.0)
 
-  -- in a sorted list no element is above a later one
+  -- In a sorted list no element is above a later one.
   pub ascending_from_sorted : (xs : List X) → IsSorted cmp xs → IsAscending AtMost xs
   ascending_from_sorted [] sorted = tt
   ascending_from_sorted (x ∷ xs) sorted =
@@ -53,7 +53,7 @@ module _ {X : Type 0} (cmp : X → X → Ordering) (total : IsTotalOrder cmp) wh
 abbrev out : Row → Output
 out v = (first_key v, v)
 
--- outputs with their keys, from their rows
+-- Outputs with their keys, from their rows.
 keyed : (os : List Output) → AllByRecursion (λ (o : Output). o ≡ out o.1) os
     → os ≡ map out (map (λ (o : Output). o.1) os)
 keyed [] each = refl

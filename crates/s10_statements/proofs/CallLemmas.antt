@@ -1,4 +1,4 @@
--- The calls that are written so far, of those that are kept together.
+-- The calls that are written so far, of those that are committed together.
 use Rattle.std.proofs.Common.{◌≡◌, ◌≢◌, inl, ℕ, ◌+◌, ◌<◌, List, [], ◌∷◌, map, ◌++◌, length, take}
 use Rattle.std.proofs.Common.{get_or, IsTrue, refl, sym, ap, subst, ◌∙◌, arith}
 use Rattle.std.proofs.Math.Logic.{∥∥₁_map, ∥∥₁_elim, ∥∥₁_prop}
@@ -21,7 +21,7 @@ shown_same shown xs ys vs p q =
     (λ a. ∥∥₁_map q
     (λ b. IsPermutation-trans _ _ _ (IsPermutation-sym _ _ (IsPermutation-map shown xs ys b)) a))
 
--- tables with the rows of a call are those that it makes, in any order
+-- Tables with the rows of a call are those that it writes, in any order.
 pub written_so : (db : Database) (w : CallWrite) (before after : Tables) → Writes w before after
     → HasTables db (with_call w before) → HasTables db after
 written_so db w before after it held = record {
@@ -34,7 +34,7 @@ written_so db w before after it held = record {
   closed = rw it.closed held.closed;
 }
 
--- of calls the last one comes after those before it
+-- The last call is written after those before it.
 last_written : (ws : List CallWrite) (w : CallWrite) (before after : Tables)
     → AreWritten (ws ++ w ∷ []) before after → (between : Tables) × AreWritten ws before between
     × Writes w between after
@@ -44,7 +44,7 @@ last_written (x ∷ ws) w before after it =
     let rest = last_written ws w it.0 after it.2 in
     (rest.0, (it.0, it.1, rest.1), rest.2)
 
--- in a transaction, tables are made into what the calls make of them
+-- In a transaction, the tables become those that the calls write.
 pub record AreCalled (old new : State) (ws : List CallWrite) : Type 0 where
   pub made : HasCleanDisk new → IsTrue old.in_transaction → (before after : Tables)
       → AreWritten ws before after → HasTables old.now before → HasTables new.now after
@@ -84,7 +84,7 @@ module _ (a b c : State) (ws : List CallWrite) (so_far : AreCalled a b ws)
   survives_still = survives_then a b c _ _ _ (λ _ db none. none) (λ _ db none. none) so_far.survives
       survives
 
--- one more call of the list is written
+-- One more call of the list is written.
 pub one_called : (a b c : State) (ws : List CallWrite) (i : ℕ) (w : CallWrite) → i < length ws
     → w ≡ get_or ws i w → AreCalled a b (take i ws) → Survives b c (λ _. ⊥)
     → (HasCleanDisk c → IsTrue b.in_transaction → IsTrue b.is_open)

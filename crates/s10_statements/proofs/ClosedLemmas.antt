@@ -1,4 +1,4 @@
--- What the INSERT of a closed range makes of the tables.
+-- The tables after the INSERT of a closed range.
 use Rattle.std.proofs.Common.{◌≡◌, ◌≢◌, arith, ℕ, [], ◌∷◌, ◌++◌, true, None, Ok, refl, sym, ap}
 use Rattle.std.proofs.Common.{subst, ◌∙◌}
 use Rattle.std.proofs.Math.Logic.{∥∥₁_map}
@@ -27,7 +27,7 @@ use Rattle.s10_statements.proofs.PutLemmas.{cast_int, cast_null, went, same_valu
 use Rattle.s10_statements.proofs.PutLemmas.{one_fresh}
 use Rattle.s10_statements.proofs.KeepLemmas.{one_more}
 
--- a closed range as its row is stored
+-- The row of a closed range as it is stored.
 abbrev stored : ClosedRow → Row
 stored r = Int r.num ∷ Null ∷ Int r.arrival ∷ []
 

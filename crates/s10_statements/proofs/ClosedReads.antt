@@ -1,4 +1,4 @@
--- What a read of the closed ranges leaves, spares and shows, by its text.
+-- What a read of the closed ranges shows and leaves unchanged, by its text.
 use Rattle.std.proofs.Common.{◌≡◌, ℕ, List, sym, subst}
 use Rattle.sqlite_value.specs.Order.{Row}
 use Rattle.sqlite_trees.specs.declared.store.Store.{Ghosts}

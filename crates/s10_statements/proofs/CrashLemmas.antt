@@ -19,7 +19,7 @@ pub either : {A B C D : Type 0} → A ⊎ B → (A → C) → (B → D) → C �
 either (inl a) f h = inl (f a)
 either (inr b) f h = inr (h b)
 
--- a query that only reads commits nothing
+-- A query that only reads commits nothing.
 pub commits_none : (sql : List ℕ) (params : Row) (old : State) (schema : Schema)
     → old.now.schema ≡ schema → IsPlain (understood schema sql) → (db : Trees)
     → ¬ CommitsShowing sql params old db
@@ -30,12 +30,12 @@ commits_none sql params old schema has plain db h =
     let differ : ¬ (false ≡ true) = λ e. cc in
     differ (subst IsSome none h.2)
 
--- what commits nothing leaves what it left before
+-- After a step that commits nothing, a crash leaves what it left before.
 pub spared : (old new : State) → Survives old new (λ _. ⊥) → HasCleanDisk new → (db : Trees)
     → new.may_leave db → old.may_leave db
 spared old new it clean db left = first (λ x. x) (it.crash clean db left)
 
--- the trees that were shown, under the declarations of a ledger
+-- The trees that were shown, under the declarations of a ledger.
 pub tables_left : (shown : Database) (schema : Schema) (db : Trees) (tables : Tables)
     → IsClosedSchema schema → db ≡ shown.trees → HasTables shown tables
     → HasTables (record { schema = schema; trees = db }) tables

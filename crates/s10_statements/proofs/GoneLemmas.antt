@@ -1,4 +1,4 @@
--- Which rows a write takes out of a tree.
+-- Which rows a write removes from a tree.
 use Rattle.std.proofs.Common.{◌≡◌, inl, inr, ℤ, List, [], ◌∷◌, map, filter, Bool, true, false, not}
 use Rattle.std.proofs.Common.{cond, refl, sym, ap, subst, ◌∙◌, arith, int_eq, is_eq}
 use Rattle.std.proofs.lemmas.Int.{ints}
@@ -36,7 +36,7 @@ all_has P [] x all has = absurd has
 all_has P (y ∷ ys) x all (inl same) = subst P (sym same) all.0
 all_has P (y ∷ ys) x all (inr more) = all_has P ys x all.1 more
 
--- the number of a row
+-- The number of a row.
 abbrev pub HasId : Row → Type 0
 HasId r = (n : ℤ) × (rowid r ≡ Int n)
 
@@ -57,7 +57,7 @@ same_int a b h = grind (arith, ints)
 pub has_id : (num n : ℤ) (r : Row) → rowid r ≡ Int n → has_rowid num r ≡ int_eq n num
 has_id num n r e = ap (λ v. is_eq (value_cmp v (Int num))) e ∙ ap is_eq (value_cmp-Int n num)
 
--- what is kept passes
+-- What a filter keeps passes its test.
 pub passing : {X : Type 0} (p : X → Bool) (xs : List X)
     → AllByRecursion (λ x. p x ≡ true) (filter p xs)
 passing {X} p [] = tt
@@ -68,6 +68,6 @@ passing {X} p (x ∷ xs) = go (p x) refl (passing p xs)
     go true e more = (e, more)
     go false e more = more
 
--- the row has another rowid
+-- The row has another rowid.
 abbrev pub stays : ℤ → Row → Bool
 stays num r = not (has_rowid num r)

@@ -1,4 +1,4 @@
--- What the INSERT of the settings makes of the tables.
+-- The tables after the INSERT of the settings.
 use Rattle.std.proofs.Common.{◌≡◌, ◌≢◌, arith, ℕ, pos, List, [], ◌∷◌, ◌++◌, true, None, Ok, refl}
 use Rattle.std.proofs.Common.{sym, ap, subst, ◌∙◌}
 use Rattle.std.proofs.Math.Logic.{∥∥₁_map}
@@ -43,7 +43,7 @@ settings_plain : (o : Schema) → IsPlain (understood (with_others o) insert_hea
 unfolding understood everything
 settings_plain o = (refl, refl)
 
--- the settings as their row is stored, and as the statement is given them
+-- The row of the settings as it is stored, and the parameters of the statement.
 abbrev stored : Terms → Row
 stored t = Int (pos 1) ∷ Null ∷ Int (pos 1) ∷ Int (pos t.interval) ∷ Int (pos t.limit) ∷ []
 
@@ -111,7 +111,7 @@ begins old new t count tables held h =
       closed = rw (at 6 ∙ applied.tables.1.1.1.1.0 six_zero) held.closed;
     }
 
--- and nothing else is declared than before
+-- The declarations stay the same.
 pub as_declared : (old new : State) (t : Terms) (count : ℕ) (tables : Tables)
     → HasTables old.now tables → Executes insert_head_sql (given_settings t) old new (Ok count)
     → new.now.schema ≡ old.now.schema

@@ -1,4 +1,4 @@
--- What the write of a serial makes of the tables.
+-- The tables after the write of a serial.
 use Rattle.std.proofs.Common.{◌≡◌, ◌≢◌, inl, inr, arith, ℕ, suc, ℤ, ◌≤◌, drop, List, [], ◌∷◌, ◌++◌}
 use Rattle.std.proofs.Common.{length, map, filter, Bool, true, false, not, ◌&&◌, ◌||◌, cond, Option}
 use Rattle.std.proofs.Common.{Some, None, unwrap_or, Ok, refl, sym, ap, subst, ◌∙◌, int_eq, is_eq}
@@ -77,7 +77,7 @@ three_four e = omega arith
 six_four : ◌≢◌ {A = ℕ} 6 4
 six_four e = omega arith
 
--- whether the columns are those of the row's identifier
+-- Whether the columns are those of the row's identifier.
 abbrev pub at_key : SerialRow → Row → Bool
 at_key r v = is_true (binary (Compare Eq Binary) (column v 0) (Int r.pair))
     && (is_true (binary (Compare Eq Binary) (column v 1) (Int r.serial)) && true)
@@ -85,7 +85,8 @@ at_key r v = is_true (binary (Compare Eq Binary) (column v 0) (Int r.pair))
 abbrev pub others : SerialRow → List Row → List Row
 others r = filter (λ x. not (at_key r (serial_columns x)))
 
--- a row that shows as this one is put in place of those of its identifier, and the other tables are as they were
+-- A row that shows as this one replaces those of its identifier, and the other tables stay the
+-- same.
 pub record Upserted (old new : Trees) (r : SerialRow) : Type 0 where
   pub row : Row
   pub is_numbered : HasIntegerRowid row
@@ -111,7 +112,7 @@ task_of o limit params = record {
 cast_same : (id : ℤ) (r : SerialRow) → cast_row serials_table (new_row id r) ≡ new_row id r
 cast_same id r = rw (cast_int, cast_int, cast_int, cast_int, cast_int, cast_int, cast_int, cast_int)
 
--- ---- lists
+-- Lists.
 
 or_false : (b : Bool) → (b || false) ≡ b
 or_false true = refl
@@ -127,7 +128,7 @@ keeps_all : {X : Type 0} (p : X → Bool) (xs : List X) → ((x : X) → Has xs 
 keeps_all p [] each = refl
 keeps_all p (x ∷ xs) each = rw (each x (inl refl), keeps_all p xs (λ y has. each y (inr has)))
 
--- a list with this element and at most one has it alone
+-- A list with this element, and at most one, has this element alone.
 alone : {X : Type 0} (xs : List X) (x : X) → Has xs x → length xs ≤ 1 → xs ≡ x ∷ []
 alone [] x has len = absurd has
 alone (y ∷ []) x (inl same) len = ap (λ z. z ∷ []) (sym same)
@@ -144,7 +145,7 @@ by_case true false f g = sym (f refl)
 by_case false true f g = g refl
 by_case false false f g = refl
 
--- ---- a new identifier
+-- A new identifier.
 
 module _ (o : Schema) (apart : are_apart o.tables ≡ true) (limit : Option ℕ) (params : Row) (id : ℤ)
     (r : SerialRow) where
@@ -174,7 +175,7 @@ module _ (o : Schema) (apart : are_apart o.tables ≡ true) (limit : Option ℕ)
         closed = a.tables.1.1.1.1.0 six_four;
       })
 
--- ---- an identifier that is there
+-- An identifier that has a row.
 
 abbrev pub update_columns : SerialRow → Row → Row
 update_columns r x = column x 0 ∷ column x 0 ∷ column x 1 ∷ column x 2 ∷ Int r.arrival ∷ Int r.day
@@ -238,7 +239,7 @@ module _ (o : Schema) (apart : are_apart o.tables ≡ true) (limit : Option ℕ)
         (filter_on (λ x. same_id (rowid there) (update_columns r x)) (has_rowid k) rows
         same_there)
 
-    -- one row was found, so it is this one
+    -- One row was found, so it is this one.
     found_one : (found : List Row)
         → IsPermutation (filter (same_id (rowid there)) (map (update_columns r) rows)) found
         → length found ≡ 1
@@ -261,7 +262,7 @@ module _ (o : Schema) (apart : are_apart o.tables ≡ true) (limit : Option ℕ)
               (ap (map (update_columns r)) single ∙ ap (λ v. v ∷ []) it) q),
         )
 
-    -- the rows that stay are those of other identifiers
+    -- The rows that stay are those of other identifiers.
     stay_others : key_of r r0 ≡ true → length (filter (key_of r) rows) ≤ 1
         → filter (has_rowid k) rows ≡ r0 ∷ [] → filter (stays k) rows ≡ others r rows
     stay_others key len single =
@@ -319,7 +320,7 @@ module _ (o : Schema) (apart : are_apart o.tables ≡ true) (limit : Option ℕ)
         closed = a.tables.1.1.1.1.0 six_four;
       })
 
--- ---- the rows that conflict are those of the identifier
+-- The rows that conflict are those of the identifier.
 
 conflict_is : (o : Schema) → index_apart o.indexes ≡ true → (id : ℤ) (r : SerialRow) (x : Row)
     → conflicts (Some (1 ∷ 2 ∷ [])) (with_closed o).indexes serials_table (new_row id r) x
@@ -463,7 +464,7 @@ pub one_changed : (o : Option ℕ) → 1 ≡ unwrap_or o 0 → o ≡ Some 1
 one_changed None h = absurd (omega (arith, h))
 one_changed (Some n) h = ap Some (sym h)
 
--- the typed rows after the write
+-- The typed rows after the write.
 typed_after : (serials : List SerialRow) (r : SerialRow) (old new : Trees) → Upserted old new r
     → IsPermutation (map shown_serial serials) (map serial_columns (old 4))
     → IsPermutation (map shown_serial (with_serial (Again r) serials)) (map serial_columns (new 4))
@@ -482,7 +483,7 @@ typed_after serials r old new it p =
     one_more shown_serial serial_columns (filter (λ x. not (is_at r.pair r.serial x)) serials) r
     (others r (old 4)) (new 4) it.row it.shows it.put stay
 
--- at most one row is of the identifier
+-- At most one row is of the identifier.
 few_keyed : (serials : List SerialRow) (r : SerialRow) (rows : List Row)
     → IsPermutation (map shown_serial serials) (map serial_columns rows)
     → length (filter (is_at r.pair r.serial) serials) ≤ 1

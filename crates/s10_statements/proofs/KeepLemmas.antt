@@ -1,4 +1,4 @@
--- What the INSERT of a call makes of the tables.
+-- The tables after the INSERT of a call.
 use Rattle.std.proofs.Common.{◌≡◌, ◌≢◌, arith, ℕ, List, [], ◌∷◌, ◌++◌, map, true, None, Ok, refl}
 use Rattle.std.proofs.Common.{sym, ap, subst, ◌∙◌}
 use Rattle.std.proofs.Math.Logic.{∥∥₁_map}
@@ -28,7 +28,7 @@ use Rattle.s10_statements.proofs.Apart.{no_works, not_calls, is_as_it_was, after
 use Rattle.s10_statements.proofs.PutLemmas.{cast_int, cast_null, went, same_value, put_fresh}
 use Rattle.s10_statements.proofs.PutLemmas.{one_fresh}
 
--- a call as its row is stored
+-- The row of a call as it is stored.
 abbrev stored : StoredCall → Row
 stored c = Int c.arrival ∷ Null ∷ Int c.customer ∷ Int c.number ∷ Int c.day ∷ Blob c.reply ∷ []
 
@@ -44,7 +44,7 @@ four_one e = omega arith
 six_one : ◌≢◌ {A = ℕ} 6 1
 six_one e = omega arith
 
--- one row more, at the end of the typed rows
+-- One row more, at the end of the typed rows.
 pub one_more : {X : Type 0} (shown : X → Row) (columns : Row → Row) (xs : List X) (x : X)
     (old new : List Row) (row : Row) → columns row ≡ shown x → IsPermutation (row ∷ old) new
     → IsPermutation (map shown xs) (map columns old) → IsPermutation (map shown (xs ++ x ∷ []))

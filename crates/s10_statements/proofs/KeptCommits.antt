@@ -1,4 +1,4 @@
--- What is committed after a statement inside a transaction: what was committed before it.
+-- A statement in a transaction leaves what is committed.
 use Rattle.std.proofs.Common.{◌⊎◌, inl, inr, Bool}
 use Rattle.sqlite.specs.Effect.{Database}
 use Rattle.sqlite.specs.State.{State, Shows, KeepsCommit, IsUnchanged, IsRolledBack}
@@ -10,7 +10,7 @@ shown_keeps old new now mode it = record {
   committed = λ opened. it.committed_is;
 }
 
--- the statement failed in one of the ways that `ExecutesInside` tells
+-- The statement failed in one of the ways of `ExecutesInside`.
 pub failed_keeps : {Fails Ends Is : Type 0} (old new : State)
     → (Fails × (IsUnchanged old new ⊎ IsRolledBack old new)) ⊎ (Ends × Is × IsUnchanged old new)
     → KeepsCommit old new

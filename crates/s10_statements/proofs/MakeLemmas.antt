@@ -1,4 +1,4 @@
--- What the statements that make a ledger make of an empty database.
+-- The database after the statements that create a ledger in an empty one.
 use Rattle.std.proofs.Common.{◌≡◌, ℕ, List, [], ◌∷◌, false, None, Ok, refl, sym, ap, subst, ◌∙◌}
 use Rattle.std.proofs.lemmas.List.Sorted.{IsPermutation-refl}
 use Rattle.sqlite_schema.specs.declared.schema.Schema.{Schema}
@@ -39,7 +39,7 @@ three_tables = record {
   views = [];
 }
 
--- under the schema the text makes the table, which gives the next schema
+-- Under the schema the text declares the table, which gives the next schema.
 pub record Defines (schema : Schema) (text : List ℕ) (table : Table) (next : Schema) : Type 0 where
   pub command : command_of (understood schema text) ≡ CreateTable
   pub plain : IsPlain (understood schema text)
@@ -106,7 +106,7 @@ closed_defined = record {
   uncounted = refl;
 }
 
--- the next schema is there; the new table is empty, and the others are as they were
+-- The next schema is declared; the new table is empty, and the others are as they were.
 pub record IsNext (schema next : Schema) (old new : Database) : Type 0 where
   pub schema_is : new.schema ≡ next
   pub empty : new.trees (next_tree schema) ≡ []
@@ -145,7 +145,7 @@ is_ledger = record {
   indexes = refl;
 }
 
--- the five statements, one after the other
+-- The five statements, one after another.
 module _ (s0 s1 s2 s3 s4 s5 : State) (m n p q r : ℕ) (has : s0.now.schema ≡ no_schema)
     (h1 : Executes create_head_sql [] s0 s1 (Ok m)) (h2 : Executes create_calls_sql [] s1 s2 (Ok n))
     (h3 : Executes create_ranges_sql [] s2 s3 (Ok p))
@@ -194,11 +194,11 @@ module _ (s0 s1 s2 s3 s4 s5 : State) (m n p q r : ℕ) (has : s0.now.schema ≡ 
         closed = rw closed (∣ IsPermutation-refl [] ∣₁);
       }
 
-  -- and nothing else is declared
+  -- Nothing else is declared.
   pub all_declared : s5.now.schema ≡ ledger_schema
   all_declared = closed_next.schema_is
 
--- the fifth statement alone, in a database of an earlier build
+-- The fifth statement alone, in a database of an earlier build.
 pub gets_closed : (old new : State) (count : ℕ) (tables : Tables) → HasOldTables old.now tables
     → Executes create_closed_sql [] old new (Ok count) → HasTables new.now tables
 gets_closed old new count tables held h =

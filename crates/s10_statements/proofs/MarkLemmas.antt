@@ -1,4 +1,4 @@
--- What the UPDATE of a mark makes of the tables.
+-- The tables after the UPDATE of a mark.
 use Rattle.std.proofs.Common.{◌≡◌, arith, ℕ, ℤ, List, [], ◌∷◌, ◌++◌, drop, length, get_or, map}
 use Rattle.std.proofs.Common.{filter, Bool, true, false, ◌&&◌, cond, Option, Some, None, Ok, refl}
 use Rattle.std.proofs.Common.{sym, ap, subst, ◌∙◌, int_eq, is_eq}
@@ -54,7 +54,7 @@ use Rattle.s10_statements.proofs.IssueLemmas.{length_numbered, length_mapped, on
 use Rattle.s10_statements.proofs.GoneLemmas.{all_moved, all_of_map, all_shown, passing, same_int}
 use Rattle.s10_statements.proofs.GoneLemmas.{has_id, stays}
 
--- the rows that the statement finds, as it puts them back after their rowids
+-- The rows that the statement finds, as it writes them back after their rowids.
 abbrev update_columns : ℤ → Row → Row
 update_columns mark x = column x 0 ∷ column x 0 ∷ Null ∷ column x 2 ∷ column x 3 ∷ column x 4
     ∷ column x 5 ∷ Int mark ∷ []
@@ -68,7 +68,7 @@ same_num num v = is_true (binary (Compare Eq Binary) (column v 0) (Int num)) && 
 abbrev params_of : ℤ → ℤ → Row
 params_of num mark = Int num ∷ Int mark ∷ []
 
--- a row of ranges, as it shows
+-- A row of ranges, as SQL shows it.
 abbrev IsRange : Row → Type 0
 IsRange v = (s : RangeRow) × (v ≡ shown_range s)
 
@@ -91,7 +91,7 @@ filter_typed P p q (x ∷ xs) same all = rw (same x all.0, filter_typed P p q xs
 cast_same : (r : RangeRow) → cast_row ranges_table (stored_range r) ≡ stored_range r
 cast_same r = rw (cast_int, cast_null, cast_int, cast_int, cast_int, cast_int, cast_int)
 
--- a row that is put back
+-- A row that is written back.
 one_put : (o : Schema) → are_apart o.tables ≡ true → (r : RangeRow) (db next : Trees)
     → sqlWrites (with_closed o) Enforced db
     (edit_of db ranges_table (ids_of ((Int r.num ∷ stored_range r) ∷ [])) Given 1
@@ -117,7 +117,7 @@ one_put o apart r db next wrote =
       a.tables.1.1.1.1.0 six_three,
     )
 
--- the row with the number has the mark, and all else is as it was
+-- The row with the number has the mark, and everything else is as it was.
 record Marked (old new : Trees) (num mark : ℤ) : Type 0 where
   pub there : Row
   pub single : filter (has_rowid num) (old 3) ≡ there ∷ []
@@ -164,7 +164,7 @@ module _ (o : Schema) (apart : are_apart o.tables ≡ true) (limit : Option ℕ)
       (kept_are params mark_query (db 3) (update_columns mark) no_key (same_num num) (λ x. refl)
       (λ x. refl) a.staged a.kept a.grouped a.distinct) a.same a.shown)
 
-  -- one row was found, and it is put back with the mark
+  -- One row was found, and it is written back with the mark.
   updated : (one : Written) → Updates task (record { lets = []; body = mark_query }) params db
       (Ok one) → length one.rows ≡ 1 → Marked db one.trees num mark
   updated one h count =
@@ -234,7 +234,7 @@ module _ (o : Schema) (apart : are_apart o.tables ≡ true) (limit : Option ℕ)
         closed = it.4;
       })
 
--- ---- the typed rows after the write
+-- The typed rows after the write.
 
 abbrev with_mark : ℤ → Row → Row
 with_mark mark v = column v 0 ∷ column v 1 ∷ column v 2 ∷ column v 3 ∷ column v 4 ∷ Int mark ∷ []

@@ -1,4 +1,4 @@
--- Rows that are put in and taken out of a tree.
+-- Rows that are inserted into a tree and removed from it.
 use Rattle.std.proofs.Common.{◌≡◌, ◌⊎◌, inl, inr, ℤ, List, [], ◌∷◌, Bool, true, false, not, ◌&&◌}
 use Rattle.std.proofs.Common.{◌||◌, cond, Result, Ok, Err, refl, Ordering, Less, Equal, Greater}
 use Rattle.std.specs.Ordering.{is_eq, match_ordering}
@@ -27,7 +27,7 @@ pub cast_null : cast Integer Null ≡ Null
 unfolding unary
 cast_null = either _ Null
 
--- a part that gave a value did not stop on the way
+-- A part that gave a value did not stop before.
 pub went : {B E R : Type 0} {b : B} {Stops : E → Type 0}
     → ((stop : E) × Stops stop × (Ok b ≡ Err stop)) ⊎ R → R
 went (inl stopped) = absurd (let e = stopped.2 in cc)
@@ -40,7 +40,7 @@ swapped : (a b : Row) (rows : List Row) → IsPermutation (a ∷ b ∷ rows) (b 
 swapped a b rows = IsPermutation-append_left rows (a ∷ b ∷ []) (b ∷ a ∷ [])
     (IsPermutation-append_comm (a ∷ []) (b ∷ []))
 
--- a row whose rowid is free is one more
+-- A row whose rowid is free is one more row.
 pub put_fresh : (new : Row) (rows : List Row) → is_taken rows new ≡ false
     → IsPermutation (new ∷ rows) (put_row new rows)
 put_fresh new [] free = IsPermutation-refl (new ∷ [])
@@ -59,7 +59,7 @@ fresh_both : (a b : Bool) → (not a && b) ≡ true → a ≡ false
 fresh_both true b h = absurd (let e = h in cc)
 fresh_both false b h = refl
 
--- the one new row of an edit is fresh
+-- The one new row of an edit has a free rowid.
 pub one_fresh : (rows : List Row) (new : Row) → are_fresh rows (new ∷ []) ≡ true → is_taken rows new
     ≡ false
 one_fresh rows new h = fresh_both (is_taken rows new) _ h

@@ -31,7 +31,8 @@ pub filter_each : {A : Type 0} (p q : A → Bool) → ((x : A) → p x ≡ q x) 
 filter_each p q same [] = refl
 filter_each p q same (x ∷ xs) = rw (same x, filter_each p q same xs)
 
--- the columns that are shown are these of a stored row, of which the first are the key, and the test is one of them
+-- The columns shown are these of a stored row, their first ones are the key, and the test is one of
+-- them.
 module _ (params : Row) (q : Query) (raw : List Row) (columns key : Row → Row) (test : Row → Bool)
     (outs : (r : Row) → output q (params ∷ r ∷ []) ≡ (key (columns r), columns r))
     (tests : (r : Row) → list_all (holds (params ∷ r ∷ [])) q.filter ≡ test (columns r)) where
@@ -59,7 +60,7 @@ module _ (params : Row) (q : Query) (raw : List Row) (columns key : Row → Row)
   seconds [] = refl
   seconds (v ∷ vs) = ap (λ l. v ∷ l) (seconds vs)
 
-  -- the rows that pass, in some order
+  -- The rows that pass, in some order.
   pub rows_are : (kept ordered : List Output) (rows : List Row)
       → kept ≡ map out (filter test (map columns raw)) → IsPermutation kept ordered
       → rows ≡ map (λ (o : Output). o.1) ordered
@@ -73,7 +74,7 @@ module _ (params : Row) (q : Query) (raw : List Row) (columns key : Row → Row)
       rw shown (subst (λ l. IsPermutation l (map (λ (o : Output). o.1) ordered))
       (seconds (filter test (map columns raw))) moved)
 
-  -- where the rows that pass are these in some order, and these rise, the rows come in this order
+  -- If the rows that pass are these in some order, and these rise, the rows come in this order.
   pub rows_rise : {X : Type 0} (shown : X → Row) (xs : List X)
       → IsAscending (λ a b. output_cmp q (out (shown a)) (out (shown b)) ≡ Less) xs
       → IsPermutation (map shown xs) (filter test (map columns raw))
@@ -102,13 +103,13 @@ pub again : {X : Type 0} (shown : X → Row) (read : Row → X) → ((x : X) →
 again shown read back xs = map-map read shown xs ∙ map_each (λ x. read (shown x)) (λ x. x) back xs
     ∙ same_list xs
 
--- typed rows that show alike are the same
+-- Typed rows that SQL shows the same way are the same.
 pub read_back : {X : Type 0} (shown : X → Row) (read : Row → X) → ((x : X) → read (shown x) ≡ x)
     → (xs ys : List X) → map shown xs ≡ map shown ys → xs ≡ ys
 read_back shown read back xs ys e = sym (again shown read back xs) ∙ ap (map read) e
     ∙ again shown read back ys
 
--- typed rows that show as the rows that pass are those that pass
+-- Typed rows that show as the rows that pass are those that pass.
 pub selected : {X : Type 0} (shown : X → Row) (read : Row → X) → ((x : X) → read (shown x) ≡ x)
     → (test : Row → Bool) (p : X → Bool) → ((x : X) → test (shown x) ≡ p x)
     → (xs ys : List X) (vs : List Row) → IsPermutation (map shown xs) vs

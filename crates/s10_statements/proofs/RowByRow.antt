@@ -1,4 +1,4 @@
--- What rows that are read one at a time leave, and what they are.
+-- What reading rows one at a time leaves, and which rows it gives.
 use Rattle.std.proofs.Common.{◌≡◌, ◌≤◌, ◌⊎◌, inl, inr, IfOk, IfErr, OnErr, refl, ap, map, List, []}
 use Rattle.std.proofs.Common.{◌∷◌, ◌++◌, ℕ, Some, None, Ok, Err, Result, IsTrue, false, sym, subst}
 use Rattle.std.proofs.Common.{◌∙◌, arith}
@@ -21,11 +21,11 @@ use Rattle.s10_statements.specs.Statements.{LeavesTables}
 use Rattle.s10_statements.proofs.StateLemmas.{read_open, read_same, read_settled, leaves_then}
 use Rattle.s10_statements.proofs.CrashLemmas.{commits_none, first, spared}
 
--- the text only reads, in the database of any ledger
+-- The text only reads, in the database of any ledger.
 abbrev pub OnlyReads : List ℕ → Type 0
 OnlyReads sql = (o : Schema) → IsPlain (understood (with_others o) sql)
 
--- a step leaves the tables, or undoes the transaction
+-- A step leaves the tables, or rolls the transaction back.
 abbrev pub Moves : State → State → Type 0
 Moves old new = IsUnchanged old new ⊎ IsRolledBack old new
 
@@ -73,7 +73,7 @@ module _ {S : Type 0} (g : Ghosts S) (sql : List ℕ) (params : Row) (plain : On
     (old new : Held S)
     (clean : doubt (state g old).is_clean ≤ doubt (state g new).is_clean) (mode : old.in_transaction
     ≡ false → new.in_transaction ≡ false) where
-  -- what the query answered, all of it or with an error, leaves
+  -- What an answered query leaves, complete or with an error.
   answered_leaves : (r : HasCleanDisk (state g new) → Result (List Row) Error)
       → ((c : HasCleanDisk (state g new))
       → IfOk (r c) (Shown sql params (state g old) (state g new)))
@@ -149,7 +149,7 @@ module _ {S : Type 0} (g : Ghosts S) (sql : List ℕ) (params : Row) (plain : On
       (with_others (others_in (state g old).now.schema)) has.is
       (plain (others_in (state g old).now.schema)) db) (survives.crash c db left)
 
--- an answer that came after what changed nothing
+-- An answer that came after steps that changed nothing.
 shown_before : (sql : List ℕ) (params : Row) (a b c : State) (rows : List Row)
     → IsPlain (understood b.now.schema sql) → IsUnchanged a b → Shown sql params b c rows
     → Shown sql params a c rows
@@ -174,7 +174,7 @@ shown_before sql params a b c rows plain same h =
       ),
     )
 
--- so far rows were given of which P holds
+-- So far rows were given of which P is true.
 pub record IsUnderWay {S : Type 0} (g : Ghosts S) (sql : List ℕ) (params : Row)
     (P : List Row → Type 0) (old now : Held S) : Type 0 where
   pub leaves : LeavesTables g old now
@@ -183,7 +183,7 @@ pub record IsUnderWay {S : Type 0} (g : Ghosts S) (sql : List ℕ) (params : Row
       → (rows : List Row) × HasGiven g sql params now rows × IsUnchanged (state g old) (state g now)
       × P rows
 
--- and so in that of one
+-- A text that only reads in any ledger only reads in one.
 pub known_plain : (sql : List ℕ) → OnlyReads sql → (schema : Schema) → IsLedgerSchema schema
     → IsPlain (understood schema sql)
 known_plain sql plain schema has = subst (λ (s : Schema). IsPlain (understood s sql)) (sym has.is)
@@ -252,7 +252,7 @@ pub map_snoc : {A B : Type 0} (f : A → B) (xs : List A) (x : A) → map f (xs 
 map_snoc f [] x = refl
 map_snoc f (y ∷ ys) x = ap (λ l. f y ∷ l) (map_snoc f ys x)
 
--- a typed row after those that are typed
+-- One more typed row at the end.
 pub map_push : {A B : Type 0} (f : A → B) (xs new : List A) (x : A) (ys : List B) (y : B)
     → new ≡ xs ++ x ∷ [] → map f xs ≡ ys → f x ≡ y → map f new ≡ ys ++ y ∷ []
 map_push f xs new x ys y e was is = ap (map f) e ∙ map_snoc f xs x ∙ ap (λ l. l ++ f x ∷ []) was

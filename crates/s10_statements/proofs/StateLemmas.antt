@@ -31,7 +31,7 @@ pub by_result : {T E C : Type 0} (r : Result T E) (P : T → Type 0) (Q : E → 
 by_result (Ok x) P Q p q f g = f x p
 by_result (Err e) P Q p q f g = g e q
 
--- a query that failed leaves the rows, where nothing was pending
+-- A query that failed leaves the rows, if nothing was uncommitted.
 fails_same : (sql : List ℕ) (params : Row) (old new : State) (e : Error) (schema : Schema)
     → old.now.schema ≡ schema → IsPlain (understood schema sql)
     → (IsTrue old.is_open → old.now ≡ old.committed)
@@ -56,7 +56,7 @@ shown_open : (sql : List ℕ) (params : Row) (old new : State) (rows : List Row)
 unfolding Shown
 shown_open sql params old new rows h = rows_open old new sql h.0 _ rows h.0.returning h.2
 
--- after an answer the connection is open
+-- After an answer the connection is open.
 rows_opened : (old new : State) (sql : List ℕ) (c : Compiled) (params : Row) (rows : List Row)
     (r : Option Returning) → ShowsRows old new sql c params rows r → IsTrue new.is_open
 rows_opened old new sql c params rows None h = h.3.0.is_open
@@ -82,7 +82,7 @@ failed_open sql params old new e (inl (inr f)) opened = f.3.was_open opened
 failed_open sql params old new e (inr h) opened = show_fails_open old new sql h.0 _ e h.0.returning
     h.2 opened
 
--- where nothing was to commit, a query leaves nothing to commit
+-- If nothing was to commit, a query leaves nothing to commit.
 rows_settled : (old new : State) (sql : List ℕ) (c : Compiled) (params : Row) (rows : List Row)
     (r : Option Returning) → old.in_transaction ≡ false → old.committed ≡ old.now
     → ShowsRows old new sql c params rows r → new.committed ≡ new.now
@@ -146,7 +146,7 @@ module _ {V : Type 0} (items : V → List Row) (sql : List ℕ) (params : Row) (
       by_result r _ _ ok err (λ v h. shown_settled sql params old new (items v) idle before h)
       (λ e h. failed_settled sql params old new e before h opened)
 
--- two reads, one after the other
+-- Two reads, one after the other.
 pub leaves_then : {S : Type 0} {Fits : Schema → Type 0} (g : Ghosts S) (a b c : Held S)
     → LeavesTablesWhere Fits g a b → LeavesTablesWhere Fits g b c → LeavesTablesWhere Fits g a c
 leaves_then {S} {Fits} g a b c p q =
@@ -165,7 +165,7 @@ leaves_then {S} {Fits} g a b c p q =
       settled = λ settled. q.settled (p.settled settled);
     }
 
--- what leaves the tables under a schema leaves them under one of which more is known
+-- What leaves the tables under a schema leaves them under one of which more is known.
 pub leaves_weaker : {S : Type 0} {Fits More : Schema → Type 0} (g : Ghosts S) (old new : Held S)
     → ((s : Schema) → More s → Fits s) → LeavesTablesWhere Fits g old new
     → LeavesTablesWhere More g old new

@@ -5,11 +5,11 @@ use Rattle.sqlite.specs.State.{State, HasCleanDisk, KeepsCommit, Survives}
 use Rattle.sqlite.proofs.InsideLemmas.{keeps_then}
 use Rattle.sqlite.proofs.StateLemmas.{survives_then}
 
--- inside a transaction nothing is committed
+-- Inside a transaction nothing is committed.
 abbrev pub Keeps : State → State → Type 0
 Keeps a b = HasCleanDisk b → IsTrue a.in_transaction → KeepsCommit a b
 
--- what passed in a transaction, which goes on
+-- A step that succeeded in a transaction, which goes on.
 pub record Passed (a b : State) : Type 0 where
   pub clean : doubt a.is_clean ≤ doubt b.is_clean
   pub inside : HasCleanDisk b → IsTrue a.in_transaction → IsTrue b.in_transaction

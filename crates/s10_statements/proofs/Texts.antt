@@ -19,7 +19,7 @@ use Rattle.s10_statements.specs.Statements.{select_head_sql, select_calls_sql, s
 use Rattle.s10_statements.specs.Statements.{select_serials_within_sql, select_serials_sql}
 use Rattle.s10_statements.specs.Statements.{select_closed_sql}
 
--- a read of one table
+-- A read of one table.
 abbrev pub read_of : ℕ → List Term → List Term → List Term → Query
 read_of tree filter project order = record {
   from = inner tree end;

@@ -10,7 +10,7 @@ use Rattle.sqlite.specs.Steps.{FailsToCommit}
 use Rattle.s10_statements.specs.ConnectionState.{IsQuiescent, IsClean, IsOpen, StaysUnclean}
 use Rattle.s10_statements.proofs.StepLemmas.{Keeps}
 
--- what a commit that passed tells
+-- What is known after a commit that succeeded.
 abbrev pub Ends : State → State → Type 0
 Ends a b = IsTrue a.in_transaction × Shows a b a.now a.now false × KeepsCounts a b × (b.marks ≡ [])
 

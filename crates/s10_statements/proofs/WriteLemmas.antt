@@ -1,4 +1,4 @@
--- The writes so far, of those that a call makes.
+-- The writes so far, of those of a call.
 use Rattle.std.proofs.Common.{◌≡◌, inl, ℕ, zero, suc, ◌+◌, ◌≤◌, ◌<◌, List, [], ◌∷◌, ◌++◌, length}
 use Rattle.std.proofs.Common.{filter, take, get_or, IsTrue, true, refl, sym, ap, subst, ◌∙◌, arith}
 use Rattle.std.proofs.lemmas.List.{take_more}
@@ -15,7 +15,7 @@ use Rattle.s10_rows.specs.RowWrites.{FindAtMostOne, is_at, row_of, with_range, w
 use Rattle.s10_rows.specs.RowWrites.{with_serial, with_serials}
 use Rattle.s10_statements.specs.Shown.{HasTables}
 
--- in a transaction, the tables that fit are made into these
+-- In a transaction, the tables that fit become these.
 pub record AreMade (old new : State) (Fits : Tables → Type 0) (after : Tables → Tables) :
     Type 0 where
   pub made : HasCleanDisk new → IsTrue old.in_transaction → (tables : Tables) → Fits tables
@@ -88,7 +88,7 @@ serials_more : (ws : List SerialWrite) (i : ℕ) (d : SerialWrite) (rows : List 
 serials_more ws i d rows within = ap (λ (l : List SerialWrite). with_serials l rows)
     (take_more ws i d within) ∙ serials_then (take i ws) (get_or ws i d) rows
 
--- the write at a place finds at most one row, as the writes before it left them
+-- The write at an index finds at most one row among those that the writes before it left.
 pub finds_at : (ws : List SerialWrite) (i : ℕ) (d : SerialWrite) (rows : List SerialRow)
     → i < length ws → FindAtMostOne ws rows
     → length (filter (is_at (row_of (get_or ws i d)).pair (row_of (get_or ws i d)).serial)

@@ -2,7 +2,7 @@ use Rattle.std.proofs.Common.{◌≡◌, take, []}
 use Rattle.s10_replay.proofs.Replayed.{HasReplayed}
 use Rattle.s10_replay.proofs.replaying.replay_rows.Given as goal
 
--- the rows so far are right, and the book keeps their calls
+-- The rows so far are right, and the book keeps their calls.
 abbrev pub invariant-loop-row : goal.invariant-loop-row
 invariant-loop-row g l = g.B.Book.honest l.book → record {
   was_honest : g.B.Book.honest l.fn.book;

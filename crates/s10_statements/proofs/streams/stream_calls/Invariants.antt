@@ -5,7 +5,7 @@ use Rattle.s10_statements.specs.Shown.{shown_call}
 use Rattle.s10_statements.proofs.RowByRow.{IsUnderWay}
 use Rattle.s10_statements.proofs.streams.stream_calls.Given as goal
 
--- the rows so far are typed
+-- The rows so far are typed.
 abbrev pub invariant-rows : goal.invariant-rows
 invariant-rows g l = record {
   same_reference : l.shown.conn.ghost_name ≡ l.initial.shown.conn.ghost_name;

@@ -5,7 +5,7 @@ use Rattle.s10_statements.specs.Shown.{shown_serial, serial_front}
 use Rattle.s10_statements.proofs.RowByRow.{IsUnderWay}
 use Rattle.s10_statements.proofs.streams.stream_serials.Given as goal
 
--- the rows so far are typed, and have integers as rowids
+-- The rows so far are typed, and their rowids are integers.
 abbrev pub invariant-rows : goal.invariant-rows
 invariant-rows g l = record {
   same_reference : l.shown.conn.ghost_name ≡ l.initial.shown.conn.ghost_name;

@@ -4,7 +4,7 @@ use Rattle.sqlite.specs.Held.{state}
 use Rattle.s10_statements.proofs.WriteLemmas.{AreMade, with_ranges_in}
 use Rattle.s10_statements.proofs.writes.apply_range_writes.Given as goal
 
--- the writes so far are made
+-- The writes so far are applied.
 abbrev pub invariant-loop-write : goal.invariant-loop-write
 invariant-loop-write g l = record {
   same_reference : l.tx.conn.ghost_name ≡ l.initial.tx.conn.ghost_name;

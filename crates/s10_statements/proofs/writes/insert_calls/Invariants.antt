@@ -3,7 +3,7 @@ use Rattle.sqlite.specs.Held.{state}
 use Rattle.s10_statements.proofs.CallLemmas.{AreCalled}
 use Rattle.s10_statements.proofs.writes.insert_calls.Given as goal
 
--- the calls so far are written
+-- The calls so far are written.
 abbrev pub invariant-loop-write : goal.invariant-loop-write
 invariant-loop-write g l = record {
   same_reference : l.tx.conn.ghost_name ≡ l.initial.tx.conn.ghost_name;
