@@ -58,7 +58,7 @@ pub no_audit : {A : Type 0} (task : LedgerJob) (work : BookJob) → task ≡ Ask
     → A
 no_audit task work is so = absurd cc
 
--- A fault that was printed.
+-- A job that failed by a fault, which was printed.
 pub fails_by : (IsFault : OpenFault → Type 0) (fault : OpenFault) (old new : Option (List ℕ))
     (r : Result JobStatus WriteFault) → IsFault fault
     → IfOk r (λ status. (status ≡ Failed) × Appends old new (ledger_line fault))
@@ -107,7 +107,7 @@ asked_for false day (Some r) report is issues ranges some =
       );
     }
 
--- Only a report of ranges without a given day may lack its day.
+-- There is no report only if one of ranges was asked for and no day was given.
 pub no_report : (is_of_issues : Bool) (day : Option ℕ) (made : Option Report) → made ≡ None
     → (is_of_issues ≡ true → made ≡ Some Issues) → ((d : ℕ) → is_of_issues ≡ false → day ≡ Some d
     → made ≡ Some (Ranges d)) → (is_of_issues ≡ false) × (day ≡ None)

@@ -141,7 +141,8 @@ impl<S: Alter> SqlBook<S> {
     ghost use Rattle.s10_ledger.specs.Ledger.{IsAnyLedger, IsHonest, history_in};
     ghost use Rattle.s10_ledger.specs.Refusals.{IsOpeningRefusal};
 
-    /// Opens a ledger: executes all its calls again, and compares every table with what they make.
+    /// Opens a ledger: executes all its calls again, and compares the rows of the other tables with
+    /// the derived ones.
     ///
     /// The ledger has its five tables, which other tables may follow, or the four of an earlier
     /// build and nothing else. In the second case `closed` is created once everything is found

@@ -72,7 +72,7 @@ same_where_both_sorted cmp total apart made rows first second made' rows' b no_t
           in_order')))),
     )
 
--- Lists with the same rows have the same rows as a third list, or both have not.
+-- Two lists with the same rows agree on whether they have the rows of a third list.
 pub alike : {X : Type 0} (rows others third : List X) (b : Bool) → HaveSameRows rows others
     → (IsTrue b ↔ HaveSameRows others third) → (IsTrue b ↔ HaveSameRows rows third)
 alike rows others third b like same = (

@@ -141,7 +141,7 @@ closed_table = record {
   is_counted = false;
 }
 
--- The index that SQLite makes for the key of calls.
+-- The index that SQLite creates for the key of calls.
 abbrev pub calls_index : Index
 calls_index = record {
   name = codes "sqlite_autoindex_calls_1";
@@ -152,7 +152,7 @@ calls_index = record {
   is_unique = true;
 }
 
--- The index that SQLite makes for the primary key of serials.
+-- The index that SQLite creates for the primary key of serials.
 abbrev pub serials_index : Index
 serials_index = record {
   name = codes "sqlite_autoindex_serials_1";

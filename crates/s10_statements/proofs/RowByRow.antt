@@ -183,7 +183,7 @@ pub record IsUnderWay {S : Type 0} (g : Ghosts S) (sql : List ℕ) (params : Row
       → (rows : List Row) × HasGiven g sql params now rows × IsUnchanged (state g old) (state g now)
       × P rows
 
--- A text that only reads in any ledger only reads in one.
+-- A text that only reads in any ledger only reads in this one.
 pub known_plain : (sql : List ℕ) → OnlyReads sql → (schema : Schema) → IsLedgerSchema schema
     → IsPlain (understood schema sql)
 known_plain sql plain schema has = subst (λ (s : Schema). IsPlain (understood s sql)) (sym has.is)
