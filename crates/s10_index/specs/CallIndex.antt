@@ -9,8 +9,8 @@ use Rattle.s10_index.specs.declared.call_index.CallIndex.{CallIndex}
 use Rattle.s10_index.specs.Positions.{HasPositions}
 use Rattle.s10_index.specs.LastIssues.{HasIssues}
 
--- An index holds a history if it has its calls, its ranges with their marks, the index of each
--- call, and the last issue of each identifier.
+-- An index holds a history if it has its calls with the index of each, its ranges with their marks,
+-- and the last issue of each identifier.
 pub record Indexes (index : CallIndex) (h : List Entry) : Type 0 where
   pub calls : index.entries.items ≡ h
   pub ranges : Mirrors index.ranges h

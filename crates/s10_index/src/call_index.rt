@@ -19,8 +19,8 @@ use s10_ranges::Ranges;
 use std::alloc::{AllocError, Global};
 use std::collections::HashMap;
 
-/// Calls held in the process, with maps that find a call by its key and the last issue of an
-/// identifier, and the ranges with their marks.
+/// Calls held in the process, with their ranges and marks. Maps find a call by its key, and the
+/// last issue of an identifier.
 ///
 /// Any call can be added. What the reads return is that of a history only if the calls are one
 /// (`Indexes`). The maps are hash maps, and `Ranges` searches by halving: no read walks the calls.

@@ -150,9 +150,8 @@ impl<S: Alter> SqlBook<S> {
     ///
     /// # Errors
     ///
-    /// - `NotALedger` if the first tables are not declared as a ledger's, another table refers to
-    ///   one of them, another index is on one, or `head` is not one row with settings in their
-    ///   limits.
+    /// - `NotALedger` if the tables are not those of a ledger, another table refers to one of them,
+    ///   or another index is on one. Also if `head` is not one row with settings in their limits.
     /// - `Schema` with the schema number if that is not 1.
     /// - `Damaged` with the arrival of the first wrong call, or with 0 if all calls are right and a
     ///   derived row is wrong.

@@ -3,8 +3,8 @@ use Rattle.std.specs.Prelude.{◌≡◌, ℕ, ◌+◌, ◌<◌, ◌≤◌, List,
 use Rattle.s10_history.specs.declared.range.Range.{Range}
 use Rattle.s10_ranges.specs.Keys.{IsFitting}
 
--- A range is sound at index k if its number is k + 1 and fits in 32 bits, and it is fitting and not
--- empty.
+-- A range is sound at index k if its number is k + 1, its number fits in 32 bits, it is fitting,
+-- and it is not empty.
 pub record IsSound (k : ℕ) (r : Range) : Type 0 where
   pub fitting : IsFitting r
   pub num : r.num ≡ k + 1

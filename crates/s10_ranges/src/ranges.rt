@@ -211,9 +211,9 @@ impl Ranges {
     /// Follows a kept call: adds the range of a Done Grant, advances the marks for each issuance,
     /// and closes the range of a Done Withdraw.
     ///
-    /// Requires memory reserved by `reserve`. If the ranges are not those of a legal history that
-    /// the call may follow, a granted range that lacks the next number, is empty or overlaps
-    /// another is ignored.
+    /// Requires memory reserved by `reserve`. A granted range that lacks the next number, is empty
+    /// or overlaps another is ignored: that happens only if the ranges are not those of a legal
+    /// history that the call may follow.
     pub fn follow(&mut self, entry: &Entry)
         requires room { HasRoom self.old }
         ensures { (h : List Entry) (t : Terms) → IsLegal h t → MayFollow h t entry.now

@@ -45,8 +45,8 @@ filter_none : {X : Type 0} (p : X → Bool) (xs : List X) → AllByRecursion (λ
 filter_none p [] h = refl
 filter_none p (x ∷ xs) h = rw (h.0, filter_none p xs h.1)
 
--- A relation is true of each permutation if it is reflexive and transitive, and is kept under a
--- head and over an exchange of two heads.
+-- A relation is true of each permutation under four conditions. It is reflexive and transitive, and
+-- is kept under a head and over an exchange of two heads.
 module _ {X : Type 0} (R : List X → List X → Type 0) (same : (xs : List X) → R xs xs)
     (skip : (x : X) (xs ys : List X) → R xs ys → R (x ∷ xs) (x ∷ ys))
     (turn : (x y : X) (xs : List X) → R (x ∷ y ∷ xs) (y ∷ x ∷ xs))

@@ -21,10 +21,10 @@ entry_of row = record {
   outcome = outcome_in row.reply;
 }
 
--- A row is right after the calls before it if its arrival is the next, its reply decodes, its key
--- columns are those of the request, its day is a number of 32 bits, and the call may follow. That
--- is: its key is new, its day does not fall, the limit is not reached, and its outcome is that of
--- the rules.
+-- A row is right after the calls before it if its arrival is the next and its reply decodes, its
+-- key columns are those of the request, and its day is a number of 32 bits. The call must also be
+-- one that may follow: its key is new, its day does not fall, the limit is not reached, and its
+-- outcome is that of the rules.
 pub record IsRightRow (t : Terms) (before : List Entry) (row : StoredCall) : Type 0 where
   pub arrival : row.arrival ≡ pos (length before + 1)
   pub replies : Replies row.reply (entry_of row).request (entry_of row).outcome

@@ -74,8 +74,8 @@ pub fn issue_writes(
     )
 }
 
-/// Brings into scope that no writes make the rows before the first issuance, and that the writes of
-/// all issuances make the rows of the call, unless it is a Done Grant or a Done Void.
+/// Brings two facts into scope. Before the first issuance of a call no writes are needed. The
+/// writes of all its issuances make the rows of the call, unless it is a Done Grant or a Done Void.
 pub fn issue_writes_are_complete()
     ensures none { (h : List Entry) (e : Entry) → IssueWritesMake h e 0 [] [] }
     ensures all { (h : List Entry) (e : Entry) (place : ℕ) (ranges : List RangeWrite)

@@ -3,9 +3,8 @@ use thiserror::Error;
 /// Why a ledger could not be created or opened.
 #[derive(Clone, Copy, Debug, PartialEq, Eq, Error)]
 pub enum OpenFault {
-    /// The tables are not those of a ledger: the first ones are not declared as a ledger's, another
-    /// table refers to one of them, an index is on one, or `head` is not one row with settings in
-    /// their limits.
+    /// The tables are not those of a ledger, another table refers to one of them, or an index is on
+    /// one. Or `head` is not one row with settings in their limits.
     #[error("not-a-ledger")]
     NotALedger,
     /// The schema number, which is not 1.

@@ -225,8 +225,9 @@ are_apart tables = list_all (λ t. not (is_own_tree t.tree) && refer_apart t.ref
 abbrev pub index_apart : List Index → Bool
 index_apart indexes = list_all (λ i. not (is_own_tree i.table)) indexes
 
--- A schema is a ledger's if it begins with the first four tables of a ledger and their two indexes,
--- no other table has a foreign key on these, and no other index is on them.
+-- A schema is a ledger's if it begins with the first four tables of a ledger and their two indexes.
+-- No other table may have a tree of theirs or a foreign key on them, and no other index may be on
+-- them.
 pub record IsLedgerSchema (s : Schema) : Type 0 where
   pub is : s ≡ with_others (others_in s)
   pub tables : are_apart (drop 4 s.tables) ≡ true
@@ -245,8 +246,8 @@ are_apart_from_closed tables =
 abbrev pub index_apart_from_closed : List Index → Bool
 index_apart_from_closed indexes = list_all (λ i. not (i.table == 6)) indexes
 
--- A schema is that of this build's ledger if it begins with the five tables of a ledger, no table
--- after them has a foreign key on closed either, and no index is on it.
+-- A schema is that of a ledger of this build if it begins with the five tables of a ledger. No
+-- table after them may have the tree of closed or a foreign key on it, and no index may be on it.
 pub record IsClosedSchema (s : Schema) : Type 0 where
   pub ledger : IsLedgerSchema s
   pub is : s ≡ with_closed (others_after_closed s)

@@ -72,8 +72,8 @@ fn has_closed(tables: &[Table]) -> bool
     is_closed(closed) && are_apart(others)
 }
 
-/// Returns whether the schema begins with the five tables of a ledger, no other table refers to one
-/// of them, and no other index is on them.
+/// Returns whether the schema begins with the five tables of a ledger and the two indexes. No other
+/// table may refer to one of them, and no other index may be on one.
 pub fn is_closed_schema(schema: &Schema) -> bool
     ensures known { IsTrue result ↔ IsClosedSchema schema.now }
 {

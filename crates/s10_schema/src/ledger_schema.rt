@@ -382,8 +382,8 @@ fn are_indexes(indexes: &[Index]) -> bool
         && index_apart(others)
 }
 
-/// Returns whether the schema begins with the first four tables of a ledger and their two indexes,
-/// no other table refers to one of these, and no other index is on them.
+/// Returns whether the schema begins with the first four tables of a ledger and their two indexes.
+/// No other table may refer to one of these, and no other index may be on one.
 ///
 /// It does not look for `closed`: see `is_closed_schema` and `is_old_schema`.
 pub fn is_ledger_schema(schema: &Schema) -> bool
