@@ -63,7 +63,7 @@ fn fault_of_closing<D: Disk + Drop>(
 ///
 /// # Errors
 ///
-/// - `NotALedger` if the file does not exist, or is empty and has no log.
+/// - `NotALedger` if the file does not exist, or is empty and has no log or an empty one.
 /// - `Memory` if out of memory.
 /// - `Store` if the file is not a database, its folder does not exist, or the file cannot be
 ///   opened. The reason is printed to standard error.

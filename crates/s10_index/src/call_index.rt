@@ -132,7 +132,8 @@ impl CallIndex {
 
     /// Returns the candidate of the range after `issued` further draws from it.
     ///
-    /// Requires that the range is one of its own and `issued` is less than the range's size.
+    /// The answer is right for a range of its own, and if `issued` is less than the size of the
+    /// range.
     pub fn candidate_after(&self, range: &Range, issued: u8) -> Candidate
         ensures { (h : List Entry) (t : Terms) → IsLegal h t → Indexes self.now h
             → Contains (ranges_of h) range.now → issued < size_of range.now

@@ -166,9 +166,10 @@ impl<S: Alter> SqlBook<S> {
         }
     }
 
-    /// Returns the connection between two calls. Its tables stand for the committed calls.
+    /// Returns the connection between two calls.
     ///
-    /// The book is honest if this connection is open and its disk is clean.
+    /// If it is open and its disk is clean, the book is honest, and the tables stand for the
+    /// committed calls.
     pub fn connection(&self) -> &Connection<S>
         ensures same { result.now ≡ self.now.conn }
         ensures idle { self.now.conn.in_transaction ≡ false }
@@ -181,9 +182,10 @@ impl<S: Alter> SqlBook<S> {
         &self.conn
     }
 
-    /// Closes the book and returns its connection, whose tables stand for the committed calls.
+    /// Closes the book and returns its connection.
     ///
-    /// The pending calls are dropped: no server sent a reply to them.
+    /// If it is open and its disk is clean, its tables stand for the committed calls. The pending
+    /// calls are dropped: no server sent a reply to them.
     pub fn close(self) -> Connection<S>
         ensures same { result ≡ self.conn }
         ensures idle { result.in_transaction ≡ false }
@@ -387,7 +389,8 @@ impl<S: Alter> GroupCommit for SqlBook<S> {
 
     ghost first = { λ book honest. (book.pending, refl) };
 
-    /// Commits all pending calls in one transaction, or none of them: then they stay pending.
+    /// Commits all pending calls in one transaction. On an error they stay pending, and a book that
+    /// is honest has committed none of them.
     fn commit(&mut self) -> Result<(), BookFault>
         ensures faults { CountsResult result self.old.faults self.new.faults }
         ensures unchanged { Unchanged (history_of S.Store) (λ b. b.terms) (IsHonest S.Store)
@@ -630,7 +633,8 @@ impl<S: Alter> Book for SqlBook<S> {
     /// Appends the call to the pending ones, in the process. If `MAX_PENDING` calls are pending,
     /// commits these first.
     ///
-    /// A crash leaves the committed calls as they were, or followed by all calls that were pending.
+    /// If the book was honest and its disk is clean, a crash leaves the committed calls as they
+    /// were, or followed by all calls that were pending.
     fn keep(&mut self, entry: Entry) -> Result<(), BookFault>
         requires { IsHonest S.Store self.old → MayFollow (history_of S.Store self.old)
             self.old.terms entry }

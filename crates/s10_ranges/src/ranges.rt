@@ -24,7 +24,7 @@ use std::alloc::{AllocError, Global};
 ///
 /// Ranges are numbered from 1, and no two share a serial. Each binary search takes O(log n) steps
 /// for n ranges. `covering_range` takes one step more per range that overlaps the span.
-/// `next_open_range` makes one search per closed range before the one that it finds.
+/// `next_open_range` makes one search more per closed range before the one that it finds.
 #[derive(Drop)]
 pub struct Ranges {
     /// The ranges in order of their numbers: range n has the index n - 1.

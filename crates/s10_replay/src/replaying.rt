@@ -80,11 +80,11 @@ fn right_call<B: Book>(book: &mut B, row: &CallRow) -> Result<Option<Entry>, Boo
     }
 }
 
-/// Executes the calls of the rows again and keeps them in the book, which has no calls yet.
+/// Executes the calls of the rows again and keeps them, in a book without calls.
 ///
 /// # Errors
 ///
-/// - `Damaged` with the arrival of the first wrong row. The book then has the calls before it.
+/// - `Damaged` with the arrival of the first wrong row.
 /// - `Memory` or `Store` if the book fails.
 pub fn replay_rows<B: Book>(book: &mut B, rows: &[CallRow]) -> Result<(), OpenFault>
     ensures was_honest { B.honest book.new → B.honest book.old }

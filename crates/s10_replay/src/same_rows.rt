@@ -27,8 +27,8 @@ fn are_closed(rows: &[ClosedRow], others: &[ClosedRow]) -> bool
     rows == others
 }
 
-/// Returns whether both lists have the same rows of `closed`, in any order. Requires that `made`
-/// rises by arrival.
+/// Returns whether both lists have the same rows of `closed`, in any order. The answer is right if
+/// `made` rises by arrival.
 pub fn same_closed(made: &[ClosedRow], mut rows: Vec<ClosedRow>) -> bool
     ensures { IsAscending (λ a b. int_cmp a.arrival b.arrival ≡ Less) made.now → IsTrue result
         ↔ HaveSameRows made.now rows.items }
@@ -37,8 +37,8 @@ pub fn same_closed(made: &[ClosedRow], mut rows: Vec<ClosedRow>) -> bool
     are_closed(made, &rows)
 }
 
-/// Returns whether both lists have the same rows of `ranges`, in any order. Requires that `made`
-/// rises by number.
+/// Returns whether both lists have the same rows of `ranges`, in any order. The answer is right if
+/// `made` rises by number.
 pub fn same_ranges(made: &[RangeRow], mut rows: Vec<RangeRow>) -> bool
     ensures { IsAscending (λ a b. int_cmp a.num b.num ≡ Less) made.now → IsTrue result
         ↔ HaveSameRows made.now rows.items }
@@ -47,8 +47,8 @@ pub fn same_ranges(made: &[RangeRow], mut rows: Vec<RangeRow>) -> bool
     are_ranges(made, &rows)
 }
 
-/// Returns whether both lists have the same rows of `serials`, in any order. Requires that no two
-/// rows of `made` have the same pair and serial.
+/// Returns whether both lists have the same rows of `serials`, in any order. The answer is right if
+/// no two rows of `made` have the same pair and serial.
 pub fn same_serials(mut made: Vec<SerialRow>, mut rows: Vec<SerialRow>) -> bool
     ensures { (keyed : List SerialRow)
         → IsAscending
