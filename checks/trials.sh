@@ -146,8 +146,8 @@ refused nowhere/missing 'ledger store' 'cannot open nowhere/missing: No such fil
 create 3 'ledger store' 'cannot open nowhere/missing: No such file or directory (os error 2)' '' nowhere/missing
 create 3 'ledger store' 'cannot open dangling: No such file or directory (os error 2)' '' dangling
 for file in text short zeros; do
-    refused "$file" 'ledger store' "cannot open $file: it is no database" ''
-    create 3 'ledger store' "cannot open $file: it is no database" '' "$file"
+    refused "$file" 'ledger store' "cannot open $file: it is not a database" ''
+    create 3 'ledger store' "cannot open $file: it is not a database" '' "$file"
 done
 refused folder 'ledger store' 'cannot open folder: Is a directory (os error 21)' ''
 create 3 'ledger store' 'cannot open folder: Is a directory (os error 21)' '' folder
@@ -163,7 +163,7 @@ tries 0 'ledger ok 0' '' '~ledger-wal 41' audit --ledger link
 
 group databases
 sqlite3 notes "$note"
-tries 3 'ledger store' 'cannot make a ledger in notes: it has tables of its own' '' \
+tries 3 'ledger store' 'cannot create a ledger in notes: it has tables of its own' '' \
     create --ledger notes --interval 30 --limit 1000
 refused notes 'ledger not-a-ledger' '' ''
 [ "$(sqlite3 notes "INSERT INTO note VALUES (1, 'a'); SELECT * FROM note; PRAGMA integrity_check" | paste -sd' ')" = '1|a ok' ] ||

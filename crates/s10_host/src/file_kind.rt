@@ -51,7 +51,7 @@ pub(crate) fn fault_of_new(rt: &HostRuntime, path: &str) -> Option<OpenFault>
 fn fault_of_not_database(rt: &HostRuntime, path: &str) -> OpenFault
     ensures { result ≡ OpenFault.Store }
 {
-    let _ = eprintln!(rt; "cannot open {path}: it is no database");
+    let _ = eprintln!(rt; "cannot open {path}: it is not a database");
     OpenFault::Store
 }
 

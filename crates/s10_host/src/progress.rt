@@ -41,7 +41,7 @@ impl<'a> Progress<'a> {
             && !self.failed
         {
             let _ = eprintln!(self.rt;
-                "cannot make a ledger in {}: it has tables of its own",
+                "cannot create a ledger in {}: it has tables of its own",
                 self.path
             );
         }
