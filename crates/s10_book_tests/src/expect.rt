@@ -1,9 +1,9 @@
-//! The comparison of all tests here.
+//! The assertion that all tests here use.
 
 use std::fmt::Debug;
 use std::process::Abort;
 
-/// What was found is what was wanted, in the case that is shown.
+/// Asserts that the found value equals the wanted one, and prints the case otherwise.
 pub(crate) fn same<C: Debug, T: PartialEq + Debug>(
     rt: &impl Abort,
     case: &C,

@@ -1,4 +1,4 @@
-//! Tests of identifiers, datagrams and lines, of what carries datagrams, and of books, rules, ranges and reports.
+//! Tests of identifiers, datagrams, lines and links, and of books, rules, ranges and reports.
 #![tactic(auto)]
 
 #[cfg(test)]

@@ -1,4 +1,4 @@
-//! Tests of identifiers, of datagrams and lines, and of what carries datagrams.
+//! Tests of identifiers, datagrams, lines and links.
 
 mod datagrams;
 mod frames;

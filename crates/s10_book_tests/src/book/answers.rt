@@ -1,4 +1,4 @@
-//! What books answer, as worked by hand.
+//! Answers of books, worked by hand.
 
 use crate::book::books::Answered::{
     BadGrant, Drawn, DrawnMany, Full, Granted, NoRange, NoneFree, NotIssued, NotThePost, NotYours,
@@ -10,7 +10,7 @@ use crate::book::books::Asked::{
 use crate::book::books::{OPENING, Step, all_are_answered, are_answered};
 use s10_wire::Status;
 
-/// The interval ends on its thirtieth day; a repeat is not executed and moves no day.
+/// A serial is free again 30 days after its issue. A repeat is not executed and changes no day.
 const INTERVAL: &'static [Step] = &[
     OPENING,
     (7, 1, Draw, 20000, Drawn(20000, 0)),
@@ -24,14 +24,14 @@ const INTERVAL: &'static [Step] = &[
     (7, 1, Draw, 20400, Drawn(20000, 0)),
 ];
 
-/// A day that falls counts as the last one.
+/// A call on an earlier day than the last call gets the day of the last call.
 const FALLING_DAY: &'static [Step] = &[
     OPENING,
     (7, 1, Draw, 20010, Drawn(20010, 0)),
     (7, 2, Draw, 19000, Drawn(20010, 1)),
 ];
 
-/// The last serials, and a void that frees nothing.
+/// The two highest serials are issued, and a Void makes none of them free.
 const LAST_SERIALS: &'static [Step] = &[
     (0, 1, Grant(7, 99_999_998, 99_999_999), 20000, Granted(1)),
     (7, 1, Draw, 20000, Drawn(20000, 99_999_998)),
@@ -41,7 +41,7 @@ const LAST_SERIALS: &'static [Step] = &[
     (7, 5, Draw, 20000, NoneFree),
 ];
 
-/// A full ledger answers what it kept.
+/// A full ledger still replies to repeats of its kept calls.
 const FULL_LEDGER: &'static [Step] = &[
     OPENING,
     (7, 1, Draw, 20000, Drawn(20000, 0)),
@@ -69,7 +69,7 @@ fn draws_and_voids_are_answered_as_worked_by_hand(rt: HostRuntime) {
     are_answered(&rt, "a full ledger answers what it kept", 3, FULL_LEDGER);
 }
 
-/// No two ranges have a serial in common, and a draw stays in its own.
+/// Ranges have no serial in common, and a draw gives only serials of the customer's own ranges.
 const RANGES_APART: &'static [Step] = &[
     (0, 1, Grant(7, 10, 12), 20000, Granted(1)),
     (0, 2, Grant(8, 12, 15), 20000, Overlap),
@@ -87,7 +87,7 @@ const RANGES_APART: &'static [Step] = &[
     (8, 1, Draw, 20000, Drawn(20000, 13)),
 ];
 
-/// Grants are refused in their order.
+/// A Grant gets the first refusal that applies: not the post, bad grant, overlap.
 const REFUSED_GRANTS: &'static [Step] = &[
     OPENING,
     (0, 2, Grant(8, 2, 5), 20000, Overlap),
@@ -105,7 +105,7 @@ const REFUSED_GRANTS: &'static [Step] = &[
     (8, 1, Draw, 20000, Drawn(20000, 3)),
 ];
 
-/// Who may draw, void and query what.
+/// Which customers may draw, void and query an identifier.
 const WHO_MAY: &'static [Step] = &[
     OPENING,
     (8, 1, Query(0), 20000, NotYours),
@@ -137,7 +137,7 @@ fn grants_and_refusals_are_answered_as_worked_by_hand(rt: HostRuntime) {
     all_are_answered(&rt, GRANTS_AND_REFUSALS);
 }
 
-/// All that are asked for or none, and nothing is issued for none.
+/// A sheet has all identifiers that were asked for, or none is issued.
 const ALL_OR_NONE: &'static [Step] = &[
     OPENING,
     (7, 1, DrawMany(2), 20000, DrawnMany(20000, (0, 2), (0, 0))),
@@ -156,7 +156,7 @@ const ALL_OR_NONE: &'static [Step] = &[
     (7, 9, DrawMany(1), 20060, DrawnMany(20060, (0, 1), (0, 0))),
 ];
 
-/// One range after the other, and no more than they have.
+/// A sheet continues in the customer's next range, and is refused if all ranges have too few.
 const RANGE_AFTER_RANGE: &'static [Step] = &[
     OPENING,
     (0, 2, Grant(7, 4, 5), 20000, Granted(2)),
@@ -165,7 +165,7 @@ const RANGE_AFTER_RANGE: &'static [Step] = &[
     (7, 2, Draw, 20000, NoneFree),
 ];
 
-/// A sheet of sixteen, and one that wraps around.
+/// A sheet of sixteen wraps from the last serial of its range to the first.
 const SHEET_OF_SIXTEEN: &'static [Step] = &[
     (0, 1, Grant(7, 0, 15), 20000, Granted(1)),
     (7, 1, Draw, 20000, Drawn(20000, 0)),

@@ -1,4 +1,4 @@
-//! Calls in rows, and books after them.
+//! Requests and their expected answers as rows, and books that execute them.
 
 ghost use Rattle.std.specs.Prelude.{◌≤◌};
 
@@ -10,35 +10,40 @@ use s10_wire::{Body, Count, Ids, Outcome, Request, Status};
 use std::alloc::Global;
 use std::process::Abort;
 
-/// What a request asks, of RA GB where no other letters are named.
+/// What a request asks, of RA GB unless the name of the variant says otherwise.
 #[derive(Clone, Copy)]
 pub enum Asked {
-    /// The holder, and the serials from the first to the last.
+    /// The holder, the first and the last serial.
     Grant(u32, u32, u32),
+    /// The holder, the first and the last serial.
     GrantOfRb(u32, u32, u32),
     Draw,
     DrawOfRb,
-    /// For n identifiers.
+    /// The number of identifiers, 1 to 16.
     DrawMany(u8),
+    /// The serial.
     Void(u32),
+    /// The serial.
     Query(u32),
+    /// The serial.
     QueryOfUs(u32),
-    /// The range with this number.
+    /// The number of the range.
     Withdraw(u32),
 }
 
-/// Serials from the first up to the second, which is not one of them.
+/// The serials from the first value up to the second, without the second.
 pub type Run = (u32, u32);
 
-/// What is answered.
+/// The expected answer.
 #[derive(Clone, Copy)]
 pub enum Answered {
-    /// The day, and the serial of RA GB.
+    /// The day and the serial, of RA GB.
     Drawn(u32, u32),
-    /// The day, and the serials of RA GB in the order of the reply: one run, and then another.
+    /// The day and the serials of RA GB in the order of the reply, as two runs.
     DrawnMany(u32, Run, Run),
-    /// The range with this number.
+    /// The number of the range.
     Granted(u32),
+    /// The status of the identifier.
     Told(Status),
     Voided,
     Withdrawn,
@@ -53,33 +58,38 @@ pub enum Answered {
     NumberReused,
     NoSuchRange,
     Closed,
-    /// The book is full.
+    /// The book is full and keeps no call.
     Full,
 }
 
-/// Customer and number, what is asked, the day that it is handed in on, and what is answered.
+/// A call: customer, number, what it asks, its day, and the expected answer.
 pub type Step = (u32, u32, Asked, u32, Answered);
 
 /// Customer 7 is granted range 1: the serials 0 to 2.
 pub const OPENING: Step = (0, 1, Asked::Grant(7, 0, 2), 20000, Answered::Granted(1));
 
-/// Customer 7's first Draws, and a Void.
+/// Customer 7 draws serial 0.
 const FIRST_DRAW: Step = (7, 1, Asked::Draw, 20000, Answered::Drawn(20000, 0));
 
+/// Customer 7 draws serial 1.
 const SECOND_DRAW: Step = (7, 2, Asked::Draw, 20000, Answered::Drawn(20000, 1));
 
+/// Customer 7 voids serial 1.
 const FIRST_VOID: Step = (7, 3, Asked::Void(1), 20000, Answered::Voided);
 
-/// The first of the nine calls, the first two, and so on.
+/// The first of the nine calls.
 pub const ONE_CALL: &'static [Step] = &[OPENING];
 
+/// The first two of the nine calls.
 pub const TWO_CALLS: &'static [Step] = &[OPENING, FIRST_DRAW];
 
+/// The first three of the nine calls.
 pub const THREE_CALLS: &'static [Step] = &[OPENING, FIRST_DRAW, SECOND_DRAW];
 
+/// The first four of the nine calls.
 pub const FOUR_CALLS: &'static [Step] = &[OPENING, FIRST_DRAW, SECOND_DRAW, FIRST_VOID];
 
-/// One range of three serials is drawn, voided and drawn again.
+/// The first six of the nine calls: customer 7 draws three serials and voids one of them twice.
 pub const SIX_CALLS: &'static [Step] = &[
     OPENING,
     FIRST_DRAW,
@@ -89,14 +99,14 @@ pub const SIX_CALLS: &'static [Step] = &[
     (7, 5, Asked::Draw, 20000, Answered::Drawn(20000, 2)),
 ];
 
-/// Then three Draws, two of them on the thirtieth day.
+/// The last three of the nine calls: no serial is free, and 30 days later two are drawn again.
 pub const THREE_MORE: &'static [Step] = &[
     (7, 6, Asked::Draw, 20000, Answered::NoneFree),
     (7, 7, Asked::Draw, 20030, Answered::Drawn(20030, 0)),
     (7, 8, Asked::Draw, 20030, Answered::Drawn(20030, 1)),
 ];
 
-/// All of them.
+/// All nine calls.
 pub const NINE_CALLS: &'static [Step] = &[
     OPENING,
     FIRST_DRAW,
@@ -121,17 +131,17 @@ pub(crate) fn gb() -> Country {
     Country::new(*b"GB").unwrap()
 }
 
-/// The serial of this value, or the last one where there is none of it.
+/// Returns the serial of this value, or the last serial for greater values.
 pub(crate) fn serial(value: u32) -> Serial {
     Serial::new(value.min(99_999_999)).unwrap()
 }
 
-/// n, or the nearest that a sheet may have.
+/// Returns the count, clamped to 1 to 16.
 pub(crate) fn sheet(count: u8) -> Count {
     Count::new(count.clamp(1, 16)).unwrap()
 }
 
-/// The identifier of RA GB.
+/// Returns the identifier of RA GB with this serial.
 pub(crate) fn id(value: u32) -> Id {
     Id {
         service: ra(),
@@ -157,7 +167,7 @@ fn draw(service: Service) -> Body {
     }
 }
 
-/// A Query of the identifier of RA US.
+/// Returns a Query of the identifier of RA US with this serial.
 fn query_of_us(value: u32) -> Body {
     Body::Query {
         id: Id {
@@ -185,7 +195,7 @@ fn body(asked: Asked) -> Body {
     }
 }
 
-/// A customer's request with this number.
+/// Returns the customer's request with this number.
 pub(crate) fn request(customer: u32, number: u32, asked: Asked) -> Request {
     Request {
         customer,
@@ -194,7 +204,12 @@ pub(crate) fn request(customer: u32, number: u32, asked: Asked) -> Request {
     }
 }
 
-/// What a server does with a request: a kept one is answered from the book, a new one is decided and kept.
+/// Executes a request as a server does: repeats the kept outcome, or decides and keeps a new call.
+///
+/// # Errors
+///
+/// - `Full` if the request is new and the book has as many calls as its limit.
+/// - `Memory` or `Store` if a call of the book fails.
 pub(crate) fn answer<B: Book>(
     book: &mut B,
     request: &Request,
@@ -220,8 +235,7 @@ pub(crate) fn answer<B: Book>(
     Ok(outcome)
 }
 
-/// The place after a run of serials of RA GB that stands at this place among the identifiers, or
-/// `None` where it does not stand there.
+/// Returns the index after the run if `ids` has its serials from index `place`, otherwise `None`.
 fn after_run(ids: &Ids, place: usize, run: Run) -> Option<usize> {
     let mut at = place;
     for value in run.0..run.1 {
@@ -233,7 +247,7 @@ fn after_run(ids: &Ids, place: usize, run: Run) -> Option<usize> {
     Some(at)
 }
 
-/// Whether these are the identifiers of RA GB with the serials of one run, and then of another.
+/// Returns whether these are the identifiers of RA GB with the serials of both runs, in order.
 fn are_runs(ids: &Ids, first: Run, second: Run) -> bool {
     match after_run(ids, 0, first) {
         Some(middle) => after_run(ids, middle, second) == Some(ids.len()),
@@ -241,7 +255,7 @@ fn are_runs(ids: &Ids, first: Run, second: Run) -> bool {
     }
 }
 
-/// The outcome that a row says, other than a sheet.
+/// Returns the outcome that a row names, or `None` for a sheet and for a full book.
 fn outcome(answered: Answered) -> Option<Outcome> {
     Some(match answered {
         Answered::Drawn(day, value) => Outcome::Drawn { day, id: id(value) },
@@ -264,7 +278,7 @@ fn outcome(answered: Answered) -> Option<Outcome> {
     })
 }
 
-/// Whether the answer is as the row says.
+/// Returns whether the answer is the one that the row names.
 pub(crate) fn is_as_answered(answer: &Result<Outcome, BookFault>, answered: &Answered) -> bool {
     match (answer, answered) {
         (Ok(Outcome::DrawnMany { day, ids }), Answered::DrawnMany(on, first, second)) => {
@@ -276,7 +290,7 @@ pub(crate) fn is_as_answered(answer: &Result<Outcome, BookFault>, answered: &Ans
     }
 }
 
-/// An empty book whose interval is 30 days.
+/// Returns an empty book with an interval of 30 days.
 pub(crate) fn empty_book(alloc: Global, limit: u32) -> PlainBook
     requires least { 1 ≤ limit }
     requires most { limit ≤ 100 }
@@ -284,7 +298,7 @@ pub(crate) fn empty_book(alloc: Global, limit: u32) -> PlainBook
     PlainBook::new(alloc, Settings::new(30, limit).unwrap())
 }
 
-/// Whether a book answers each step as its row says; otherwise the place of the first that it doesn't.
+/// Executes the steps and returns the index of the first whose answer differs from its row, if any.
 pub(crate) fn first_unlike<B: Book>(book: &mut B, steps: &[Step]) -> Option<usize> {
     for (place, (customer, number, asked, day, answered)) in steps.iter().enumerate() {
         let request = request(*customer, *number, *asked);
@@ -295,12 +309,12 @@ pub(crate) fn first_unlike<B: Book>(book: &mut B, steps: &[Step]) -> Option<usiz
     None
 }
 
-/// The book answers these steps as their rows say.
+/// Asserts that the book answers each step as its row says.
 pub(crate) fn go_on(rt: &impl Abort, name: &str, book: &mut PlainBook, steps: &[Step]) {
     same(rt, &name, &first_unlike(book, steps), &None);
 }
 
-/// A book whose interval is 30 days, after these steps.
+/// Returns a book with an interval of 30 days after these steps.
 fn book_of<R: Abort + AllocGlobal>(rt: &R, name: &str, limit: u32, steps: &[Step]) -> PlainBook
     requires least { 1 ≤ limit }
     requires most { limit ≤ 100 }
@@ -310,7 +324,7 @@ fn book_of<R: Abort + AllocGlobal>(rt: &R, name: &str, limit: u32, steps: &[Step
     book
 }
 
-/// An empty book whose interval is 30 days answers these steps as their rows say.
+/// Asserts that an empty book with an interval of 30 days answers each step as its row says.
 pub(crate) fn are_answered<R: Abort + AllocGlobal>(rt: &R, name: &str, limit: u32, steps: &[Step])
     requires least { 1 ≤ limit }
     requires most { limit ≤ 100 }
@@ -318,14 +332,14 @@ pub(crate) fn are_answered<R: Abort + AllocGlobal>(rt: &R, name: &str, limit: u3
     drop(book_of(rt, name, limit, steps));
 }
 
-/// An empty book whose interval is 30 days and whose limit is 100 answers each row's steps as they say.
+/// Asserts the same for the steps of each row, on a book of its own with a limit of 100 calls.
 pub(crate) fn all_are_answered<R: Abort + AllocGlobal>(rt: &R, rows: &[(&str, &[Step])]) {
     for (name, steps) in rows {
         are_answered(rt, name, 100, steps);
     }
 }
 
-/// A book whose interval is 30 days and whose limit is 100, after these steps.
+/// Returns a book with an interval of 30 days and a limit of 100 calls after these steps.
 pub(crate) fn book_after<R: Abort + AllocGlobal>(rt: &R, name: &str, steps: &[Step]) -> PlainBook {
     book_of(rt, name, 100, steps)
 }

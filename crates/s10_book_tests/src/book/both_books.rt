@@ -1,4 +1,4 @@
-//! The book with an index beside the one without, and what is alike in them.
+//! Comparison of the book with an index and the book without.
 
 use crate::expect::same;
 use s10_book::{Book, PlainBook};
@@ -8,22 +8,22 @@ use s10_reports::{ReportFault, write_issues, write_ranges};
 use std::alloc::Global;
 use std::process::Abort;
 
-/// An interval of 30 days, and room for more calls than any test has.
+/// Returns an interval of 30 days and a limit that no test reaches.
 fn settings() -> Settings {
     Settings::new(30, 10_000).unwrap()
 }
 
-/// An empty book without an index.
+/// Returns an empty book without an index.
 pub(crate) fn plain_book(alloc: Global) -> PlainBook {
     PlainBook::new(alloc, settings())
 }
 
-/// An empty book with one.
+/// Returns an empty book with an index.
 pub(crate) fn indexed_book(alloc: Global) -> IndexedBook {
     IndexedBook::new(alloc, settings())
 }
 
-/// The reports of the ranges on a day and of the issues, one after the other.
+/// Returns the report of the ranges on a day, followed by the report of the issues.
 fn reports<B: Book>(alloc: Global, book: &mut B, day: u32) -> Result<Vec<u8>, ReportFault> {
     let mut out = Vec::new(alloc);
     write_ranges(book, day, &mut out)?;
@@ -31,7 +31,7 @@ fn reports<B: Book>(alloc: Global, book: &mut B, day: u32) -> Result<Vec<u8>, Re
     Ok(out)
 }
 
-/// The first of the days on which the books do not report alike, if any.
+/// Returns the first of the days on which the reports of the books differ, if any.
 fn first_day_unlike<A: Book, B: Book>(
     alloc: Global,
     one: &mut A,
@@ -46,8 +46,8 @@ fn first_day_unlike<A: Book, B: Book>(
     Ok(None)
 }
 
-/// The first number up to that one which has no like calls in both books, or no ranges that are closed alike; 0 where the books
-/// have not as many calls or not the same day.
+/// Returns the first number up to `last` at which the books have different calls, or a range that
+/// is closed in only one of them. Returns 0 if the books differ in length or day.
 fn first_call_unlike<A: Book, B: Book>(one: &mut A, other: &mut B, last: u32) -> Option<u32> {
     if one.len() != other.len() || one.day() != other.day() {
         return Some(0);
@@ -60,7 +60,7 @@ fn first_call_unlike<A: Book, B: Book>(one: &mut A, other: &mut B, last: u32) ->
     None
 }
 
-/// The first call up to that number which two books have not alike, and the first of the days on which they do not report alike.
+/// Returns the first number and the first day at which the books differ.
 fn unlike<A: Book + Drop, B: Book + Drop>(
     alloc: Global,
     mut one: A,
@@ -72,7 +72,7 @@ fn unlike<A: Book + Drop, B: Book + Drop>(
     (call, first_day_unlike(alloc, &mut one, &mut other, days))
 }
 
-/// Two books have their calls up to that number alike, and report alike on these days.
+/// Asserts that two books have equal calls up to number `last` and equal reports on these days.
 pub(crate) fn are_alike<R: Abort + AllocGlobal, A: Book + Drop, B: Book + Drop>(
     rt: &R,
     one: A,

@@ -1,4 +1,4 @@
-//! Books that fail at one of their calls, which is made good by a repeat.
+//! Books that fail at one of their calls, and succeed when the request is repeated.
 
 use crate::book::books::{
     Answered, Asked, FOUR_CALLS, ONE_CALL, OPENING, Step, THREE_CALLS, TWO_CALLS, answer,
@@ -9,12 +9,12 @@ use s10_wire::Status;
 use std::alloc::Global;
 use std::process::Abort;
 
-/// A book that fails at one of its calls, counted from 0.
+/// Returns a book that fails at call `at`, counted from 0.
 fn failing_book(alloc: Global, at: u64) -> TripBook<PlainBook> {
     TripBook::new(empty_book(alloc, 100), at)
 }
 
-/// Whether a book that fails at one of its calls, counted from 0, fails at that one of four reads alone.
+/// Returns whether of four reads only read `at` fails, counted from 0.
 fn fails_once(alloc: Global, at: u64) -> bool {
     let mut book = failing_book(alloc, at);
     for call in 0..4u64 {
@@ -30,7 +30,8 @@ fn fails_once(alloc: Global, at: u64) -> bool {
     true
 }
 
-/// Whether a step is answered as its row says, handed in again where the store failed, and whether it failed.
+/// Executes a step, and again if the store failed. Returns whether the answer is that of its row,
+/// and whether the store failed.
 fn is_answered_at_last<B: Book>(book: &mut B, step: &Step) -> (bool, bool) {
     let (customer, number, asked, day, answered) = *step;
     let request = request(customer, number, asked);
@@ -45,7 +46,8 @@ fn is_answered_at_last<B: Book>(book: &mut B, step: &Step) -> (bool, bool) {
     }
 }
 
-/// How often a book fails steps, which are handed in again; none where an answer or the ledger is wrong.
+/// Executes the steps, each again if the store failed. Returns the number of failures, or `None` if
+/// an answer or the number of kept calls is wrong.
 fn failures_made_good<B: Book + Drop>(mut book: B, steps: &[Step]) -> Option<u32> {
     let mut failures: u32 = 0;
     for step in steps {
@@ -64,7 +66,8 @@ fn failures_made_good<B: Book + Drop>(mut book: B, steps: &[Step]) -> Option<u32
     }
 }
 
-/// Whether the steps make n calls of the book: each of them fails in turn, and the next is never made.
+/// Returns whether the steps make exactly n calls of the book: a failure at each of them occurs
+/// once, and a failure at the next call never occurs.
 fn make(alloc: Global, steps: &[Step], calls: u64) -> bool {
     for at in 0..=calls {
         let failures = failures_made_good(failing_book(alloc, at), steps);
@@ -75,16 +78,16 @@ fn make(alloc: Global, steps: &[Step], calls: u64) -> bool {
     true
 }
 
-/// Each row's steps make n calls of the book.
+/// Asserts for each row that its steps make n calls of the book.
 fn all_make<R: Abort + AllocGlobal>(rt: &R, rows: &[(&[Step], u64)]) {
     for (steps, calls) in rows {
         assert!(rt; make(rt.alloc(), steps, *calls));
     }
 }
 
-// The first Grant looks for its key and for what it overlaps, and is kept; a Draw looks for its key, for a
-// range and for its candidate, and is kept; a Void looks for its key, for the range of the identifier and
-// for its last issue, and is kept.
+// The first Grant reads its key and the range that it overlaps, and is kept. A Draw reads its key,
+// a range and its candidate, and is kept. A Void reads its key, the range of the identifier and its
+// last issue, and is kept.
 const FIRST_CALLS: &'static [(&'static [Step], u64)] = &[
     (ONE_CALL, 3),
     (TWO_CALLS, 7),
@@ -100,29 +103,29 @@ fn a_retry_succeeds_after_a_failed_book_call(rt: HostRuntime) {
     all_make(&rt, FIRST_CALLS);
 }
 
-/// A Query of a serial that was never issued, by its customer.
+/// The customer who holds the range queries a serial that was never issued.
 const QUERY: Step = (7, 1, Asked::Query(0), 20000, Answered::Told(Status::Never));
 
-/// By the post.
+/// The post queries it.
 const QUERY_OF_THE_POST: Step = (0, 2, Asked::Query(0), 20000, Answered::Told(Status::Never));
 
-/// By another customer.
+/// Another customer queries it.
 const QUERY_OF_ANOTHER: Step = (8, 1, Asked::Query(0), 20000, Answered::NotYours);
 
-/// A Withdraw of the range of the first Grant.
+/// The post withdraws range 1.
 const WITHDRAW: Step = (0, 2, Asked::Withdraw(1), 20000, Answered::Withdrawn);
 
-/// Of no range.
+/// The post withdraws a range that does not exist.
 const WITHDRAW_OF_NONE: Step = (0, 2, Asked::Withdraw(2), 20000, Answered::NoSuchRange);
 
-/// By a customer.
+/// A customer withdraws range 1.
 const WITHDRAW_BY_A_CUSTOMER: Step = (7, 1, Asked::Withdraw(1), 20000, Answered::NotThePost);
 
-/// A second Withdraw of the range.
+/// The post withdraws range 1 again.
 const SECOND_WITHDRAW: Step = (0, 3, Asked::Withdraw(1), 20000, Answered::Closed);
 
-// A Withdraw looks for its key, by the post for the range too and, where there is one, for whether it is closed, and
-// is kept; the first Grant makes three calls before it.
+// A Withdraw reads its key. If the post asks, it also reads the range and, if there is one, whether
+// it is closed. Then it is kept. The first Grant makes three calls before it.
 const WITHDRAWALS: &'static [(&'static [Step], u64)] = &[
     (&[OPENING, WITHDRAW], 3 + 4),
     (&[OPENING, WITHDRAW_OF_NONE], 3 + 3),
@@ -135,8 +138,8 @@ fn a_retry_succeeds_after_a_failed_withdrawal(rt: HostRuntime) {
     all_make(&rt, WITHDRAWALS);
 }
 
-// A Query looks for its key, once for the range of the identifier and, where that is the sender's or the
-// sender is the post, for its last issue, and is kept.
+// A Query reads its key and, once, the range of the identifier. If the customer holds that range or
+// is the post, it also reads the last issue. Then it is kept.
 const QUERIES: &'static [(&'static [Step], u64)] = &[
     (&[OPENING, QUERY], 3 + 4),
     (&[OPENING, QUERY_OF_THE_POST], 3 + 4),

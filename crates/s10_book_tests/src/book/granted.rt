@@ -1,4 +1,4 @@
-//! Ranges that calls made.
+//! Ranges that follow Grants, Draws and Withdraws.
 
 use s10_core::{Country, Id, Serial, Service};
 use s10_history::{Entry, Range};
@@ -18,10 +18,10 @@ pub(crate) fn serial(rt: &impl Abort, value: u32) -> Serial {
     Serial::new(value).expect(rt, "a serial number")
 }
 
-/// What the post grants of GB: the holder, the service, the first and the last serial.
+/// A Grant for GB: holder, service, first and last serial.
 pub(crate) type Granted = (u32, [u8; 2], u32, u32);
 
-/// Seven ranges, in an order that is not that of their serials, of holders that take turns; two of them have one serial.
+/// Seven ranges of three holders, not in the order of their serials. Two of them have one serial.
 pub(crate) const GRANTS: [Granted; 7] = [
     (8, *b"RA", 50, 59),
     (7, *b"RA", 10, 19),
@@ -32,7 +32,7 @@ pub(crate) const GRANTS: [Granted; 7] = [
     (7, *b"RB", 10, 19),
 ];
 
-/// The range of a grant.
+/// Returns range `num` with the values of a grant.
 pub(crate) fn range(rt: &impl Abort, num: u32, granted: Granted) -> Range {
     let (holder, letters, first, last) = granted;
     Range {
@@ -45,7 +45,7 @@ pub(crate) fn range(rt: &impl Abort, num: u32, granted: Granted) -> Range {
     }
 }
 
-/// The range of that number of those granted. None for number 0.
+/// Returns range `num` of those in `GRANTS`, or `None` if there is none.
 pub(crate) fn numbered(rt: &impl Abort, num: u32) -> Option<Range> {
     let place = num.checked_sub(1)?;
     let granted = GRANTS.get(place as usize)?;
@@ -57,7 +57,7 @@ fn follow(rt: &impl Abort, ranges: &mut Ranges, entry: &Entry) {
     ranges.follow(entry);
 }
 
-/// A Grant of the range was Done.
+/// Lets the ranges follow a Grant of this range that was done.
 pub(crate) fn grant(rt: &impl Abort, ranges: &mut Ranges, range: &Range) {
     let body = Body::Grant {
         holder: range.holder,
@@ -78,7 +78,7 @@ pub(crate) fn grant(rt: &impl Abort, ranges: &mut Ranges, range: &Range) {
     follow(rt, ranges, &entry);
 }
 
-/// A Draw of RA GB was Done, and gave that serial.
+/// Lets the ranges follow a Draw of RA GB that gave this serial.
 pub(crate) fn draw(rt: &impl Abort, ranges: &mut Ranges, value: u32) {
     let service = service(rt, *b"RA");
     let country = country(rt, *b"GB");
@@ -101,7 +101,7 @@ pub(crate) fn draw(rt: &impl Abort, ranges: &mut Ranges, value: u32) {
     follow(rt, ranges, &entry);
 }
 
-/// A Withdraw of the range of that number was answered so.
+/// Lets the ranges follow a Withdraw of range `num` with this outcome.
 pub(crate) fn withdraw(rt: &impl Abort, ranges: &mut Ranges, num: u32, outcome: Outcome) {
     let entry = Entry {
         request: Request {
@@ -115,7 +115,7 @@ pub(crate) fn withdraw(rt: &impl Abort, ranges: &mut Ranges, num: u32, outcome: 
     follow(rt, ranges, &entry);
 }
 
-/// The ranges that were granted, in their order.
+/// Returns the ranges after all grants of `GRANTS`, in their order.
 pub(crate) fn all_granted<R: Abort + AllocGlobal>(rt: &R) -> Ranges {
     let mut ranges = Ranges::new(rt.alloc());
     let mut num = 0u32;

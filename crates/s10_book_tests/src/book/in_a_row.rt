@@ -1,4 +1,4 @@
-//! The identifiers of single Draws in a row, beside the Draws themselves.
+//! Sheets compared with successive single Draws.
 
 use crate::book::books::Answered::{Drawn, Granted, Withdrawn};
 use crate::book::books::Asked::{Draw, Grant, Withdraw};
@@ -8,10 +8,10 @@ use s10_book::{Book, successive_draws};
 use s10_wire::{Ids, Outcome};
 use std::process::Abort;
 
-/// Who asks, for how many and on which day, and the serials of RA GB that are given.
+/// Customer, number of identifiers, day, and the serials of RA GB, or `None` if it is refused.
 type Row = (u32, u8, u32, Option<&'static [u32]>);
 
-/// Whether these identifiers are what n single Draws give, kept one after another.
+/// Returns whether these identifiers are what n single Draws give, or none if one is refused.
 fn are_single_draws<B: Book>(book: &mut B, row: &Row, ids: &Option<Ids>) -> bool {
     let (customer, count, day, _) = *row;
     for place in 0..count {
@@ -44,7 +44,8 @@ fn are_serials(ids: &Option<Ids>, serials: Option<&[u32]>) -> bool {
     ids.len() == serials.len()
 }
 
-/// Whether a row is as it says of a book, and like single Draws of another one.
+/// Returns whether a book gives the serials of the row, and another one gives the same to single
+/// Draws.
 fn is_right<B: Book + Drop>(mut book: B, mut other: B, row: &Row) -> bool {
     let (customer, count, day, serials) = *row;
     match successive_draws(&mut book, customer, ra(), gb(), sheet(count), day) {
@@ -53,7 +54,7 @@ fn is_right<B: Book + Drop>(mut book: B, mut other: B, row: &Row) -> bool {
     }
 }
 
-/// Each row is right after these steps.
+/// Asserts that each row is right after these steps.
 fn are_right<R: Abort + AllocGlobal>(rt: &R, steps: &[Step], rows: &[Row]) {
     for (place, row) in rows.iter().enumerate() {
         let book = book_after(rt, "for a sheet", steps);
@@ -62,7 +63,7 @@ fn are_right<R: Abort + AllocGlobal>(rt: &R, steps: &[Step], rows: &[Row]) {
     }
 }
 
-/// Sheets of customer 7 from the last serial of its range, and of one who has none.
+/// Sheets of customer 7, whose next serial is 2, and of customer 8, who has no range.
 const SHEETS_OF_ONE_RANGE: &'static [Row] = &[
     (7, 1, 20000, Some(&[2])),
     (7, 2, 20000, None),
@@ -86,7 +87,7 @@ fn a_sheet_from_one_range_has_its_serials_in_turn(rt: HostRuntime) {
     are_right(&rt, TWO_OF_THREE_DRAWN, SHEETS_OF_ONE_RANGE);
 }
 
-/// Sheets of one range, and of more.
+/// Sheets of customer 7 from two ranges, and a sheet of sixteen of customer 8 from one.
 const SHEETS_OF_TWO_RANGES: &'static [Row] = &[
     (7, 3, 20000, Some(&[0, 1, 2])),
     (7, 5, 20000, Some(&[0, 1, 2, 4, 5])),
@@ -99,7 +100,7 @@ const SHEETS_OF_TWO_RANGES: &'static [Row] = &[
     ),
 ];
 
-/// Customer 7 has two ranges, and customer 8 another.
+/// Customer 7 has two ranges, and customer 8 has one.
 const THREE_GRANTS: &'static [Step] = &[
     OPENING,
     (0, 2, Grant(7, 4, 5), 20000, Granted(2)),
@@ -111,7 +112,7 @@ fn a_sheet_goes_on_in_the_next_range(rt: HostRuntime) {
     are_right(&rt, THREE_GRANTS, SHEETS_OF_TWO_RANGES);
 }
 
-/// Sheets that go on after a closed range.
+/// Sheets of customer 7, whose second range of three is closed.
 const SHEETS_OVER_A_CLOSED_RANGE: &'static [Row] = &[
     (7, 3, 20000, Some(&[0, 1, 2])),
     (7, 5, 20000, Some(&[0, 1, 2, 8, 9])),

@@ -1,4 +1,4 @@
-//! The look-ups of ranges.
+//! Look-ups of ranges.
 
 use crate::book::granted::{
     Granted, all_granted, country, grant, numbered, range, serial, service, withdraw,
@@ -8,14 +8,15 @@ use s10_ranges::Ranges;
 use s10_wire::Outcome;
 use std::process::Abort;
 
-/// Under the numbers from 0 to 8 stand the ranges that were granted.
+/// Asserts that the numbers 1 to 7 give the ranges that were granted, and 0 and 8 give none.
 fn are_numbered(rt: &impl Abort, ranges: &Ranges) {
     for num in 0..9u32 {
         same(rt, &num, &ranges.range_by_number(num), &numbered(rt, num));
     }
 }
 
-/// The next open range of RA GB of the customer after that number is the one of the wanted number, 0 for none.
+/// Asserts that the next open range of RA GB of the customer after `after` is range `want`, 0 for
+/// none.
 fn has_next(rt: &impl Abort, ranges: &Ranges, customer: u32, after: u32, want: u32) {
     let ra = service(rt, *b"RA");
     let gb = country(rt, *b"GB");
@@ -23,14 +24,15 @@ fn has_next(rt: &impl Abort, ranges: &Ranges, customer: u32, after: u32, want: u
     same(rt, &(customer, after), &found, &numbered(rt, want));
 }
 
-/// Customers, the number after which a range is looked for, and the wanted number.
+/// Asserts it for each row: customer, number after which to look, and expected number.
 fn have_next(rt: &impl Abort, ranges: &Ranges, wanted: &[(u32, u32, u32)]) {
     for (customer, after, want) in wanted {
         has_next(rt, ranges, *customer, *after, *want);
     }
 }
 
-/// The range found over those serials of a service and a country is the one of the wanted number, 0 for none.
+/// Asserts that the range of least number with a serial from `first` to `last` is range `want`, 0
+/// for none.
 fn has_over(
     rt: &impl Abort,
     ranges: &Ranges,
@@ -51,6 +53,7 @@ fn ranges_are_found_by_number(rt: HostRuntime) {
     are_numbered(&rt, &all_granted(&rt));
 }
 
+/// Customer, number after which to look, and number of the next range, 0 for none.
 const NEXT: &[(u32, u32, u32)] = &[
     (7, 0, 2),
     (7, 1, 2),
@@ -71,7 +74,7 @@ fn ranges_of_a_holder_are_found_in_order_of_their_numbers(rt: HostRuntime) {
     have_next(&rt, &all_granted(&rt), NEXT);
 }
 
-/// The seven ranges, of which the third and the second are closed, and then the fifth. A Withdraw that is refused closes none.
+/// Returns the seven ranges after ranges 3, 2 and 5 were withdrawn. A refused Withdraw closes none.
 fn three_closed<R: Abort + AllocGlobal>(rt: &R) -> Ranges {
     let mut ranges = all_granted(rt);
     withdraw(rt, &mut ranges, 3, Outcome::Withdrawn);
@@ -83,7 +86,7 @@ fn three_closed<R: Abort + AllocGlobal>(rt: &R) -> Ranges {
     ranges
 }
 
-/// Those three alone are closed.
+/// Asserts that only ranges 2, 3 and 5 are closed.
 fn are_closed(rt: &impl Abort, ranges: &Ranges) {
     for num in 0..9u32 {
         let is_closed = num == 2 || num == 3 || num == 5;
@@ -99,6 +102,7 @@ fn closed_ranges_are_found_by_number_and_by_serials(rt: HostRuntime) {
     are_over(&rt, &ranges);
 }
 
+/// Customer, number after which to look, and number of the next open range, 0 for none.
 const NEXT_OPEN: &[(u32, u32, u32)] = &[
     (7, 0, 4),
     (7, 1, 4),
@@ -117,7 +121,7 @@ fn open_ranges_alone_are_found_by_holder(rt: HostRuntime) {
     have_next(&rt, &three_closed(&rt), NEXT_OPEN);
 }
 
-/// The first and the last serials looked for, and the number of the range.
+/// First and last serial to look for, and number of the range, 0 for none.
 const OVER: &[(u32, u32, u32)] = &[
     (10, 10, 2),
     (19, 19, 2),
@@ -137,7 +141,7 @@ const OVER: &[(u32, u32, u32)] = &[
     (29, 19, 0),
 ];
 
-/// The ranges of RA GB are found over their serials.
+/// Asserts that the ranges of RA GB are found by their serials, as `OVER` says.
 fn are_over(rt: &impl Abort, ranges: &Ranges) {
     for (first, last, want) in OVER {
         has_over(rt, ranges, *b"RA", *b"GB", *first, *last, *want);
@@ -166,14 +170,15 @@ fn in_no_ranges_none_is_found(rt: HostRuntime) {
     has_over(&rt, &ranges, *b"RA", *b"GB", 0, 99_999_999, 0);
 }
 
-/// Once this is granted as well, nothing is found under the number 8.
+/// Asserts that after this Grant there is no range 8.
 fn is_left_out<R: Abort + AllocGlobal>(rt: &R, num: u32, granted: Granted) {
     let mut ranges = all_granted(rt);
     grant(rt, &mut ranges, &range(rt, num, granted));
     same(rt, &granted, &ranges.range_by_number(8), &None);
 }
 
-// A Grant that overlaps, one whose number is not the next, and one that ends before it begins.
+// A Grant that overlaps, one whose number is not the next, and one whose last serial is below its
+// first.
 #[test]
 fn ranges_that_no_ledger_grants_are_left_out(rt: HostRuntime) {
     is_left_out(&rt, 8, (7, *b"RA", 29, 31));

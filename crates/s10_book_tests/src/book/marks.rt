@@ -1,4 +1,4 @@
-//! The marks of ranges.
+//! Marks of ranges.
 
 use crate::book::granted::{all_granted, draw, serial, withdraw};
 use crate::expect::same;
@@ -14,14 +14,14 @@ fn has_mark(rt: &impl Abort, ranges: &Ranges, num: u32, mark: u32, lap: Lap) {
     same(rt, &num, &ranges.mark(num), &Some(mark));
 }
 
-/// Numbers of ranges in their first turn, and their marks.
+/// Asserts the mark of each range, all in their first lap.
 fn have_marks(rt: &impl Abort, ranges: &Ranges, marks: &[(u32, u32)]) {
     for (num, mark) in marks {
         has_mark(rt, ranges, *num, *mark, Lap::First);
     }
 }
 
-/// The first serials of the ranges granted.
+/// The number of each range, and its first serial.
 const FIRST: &[(u32, u32)] = &[(1, 50), (2, 10), (3, 30), (4, 90), (5, 0), (6, 20), (7, 10)];
 
 #[test]
@@ -32,8 +32,8 @@ fn new_range_is_marked_at_its_first_serial(rt: HostRuntime) {
     assert!(rt; ranges.mark(8).is_none());
 }
 
-/// Each drawn serial, the number of its range, and the mark after it: past the last serial it is the first again, and the range
-/// stays in a later turn.
+/// Each drawn serial, the number of its range, and the mark and lap after it. After the last serial
+/// the mark is the first serial, and the range stays in the later lap.
 const DRAWN: &[(u32, u32, u32, Lap)] = &[
     (10, 2, 11, Lap::First),
     (18, 2, 19, Lap::First),
@@ -63,7 +63,7 @@ fn draw_of_a_serial_in_no_range_sets_no_mark(rt: HostRuntime) {
     have_marks(&rt, &ranges, FIRST);
 }
 
-/// The same, but for one serial drawn of range 2.
+/// The marks after one serial of range 2 was drawn.
 const ONE_DRAWN: &[(u32, u32)] = &[(1, 50), (2, 11), (3, 30), (4, 90), (5, 0), (6, 20), (7, 10)];
 
 #[test]

@@ -1,4 +1,4 @@
-//! Some hundred calls of several customers on rising days, over both books.
+//! 720 calls of several customers on rising days, over the book with an index and the book without.
 
 ghost use Rattle.std.specs.Prelude.{◌≤◌, ◌<◌};
 
@@ -10,11 +10,12 @@ use s10_wire::{Outcome, Request};
 
 const PASSES: u32 = 60;
 
-// Of each turn of a batch, what is added to ten times the batch for the number of its call: turn 8 is turn 3 again, and turn 11
-// has the number of turn 4.
+// For each of the twelve calls of a pass, its number less ten times the pass. Call 8 repeats call
+// 3. Call 11 has the number of call 4, and asks for something else.
 const NUMBERS: [u32; 12] = [0, 1, 2, 3, 4, 5, 6, 7, 3, 8, 9, 4];
 
-// The customers 1 to 4 draw in turn; the others are the post, holders of a slot, and any.
+// Customers 1 to 4 draw in rotation. The other calls are by the post, by holders of ranges, or by
+// any customer.
 fn customer(pass: u32, lap: usize) -> u32
     requires { pass ≤ 1000 }
 {
@@ -22,7 +23,7 @@ fn customer(pass: u32, lap: usize) -> u32
         1 => 1 + (pass + 1) % 4,
         2 => 1 + (pass + 2) % 4,
         3 | 8 | 9 => 1 + (pass + 3) % 4,
-        // The holder of the slot of the serial.
+        // The holder of the range with the serial that call 4 voids.
         4 | 11 => 1 + pass * 5 % 12 % 3,
         5 => 1 + pass % 4,
         6 => pass % 2,
@@ -31,10 +32,12 @@ fn customer(pass: u32, lap: usize) -> u32
     }
 }
 
-// A Grant of one of twelve ranges, which have three serials each, from 0, 4, 8 and so on, and belong to customers 1 to 3 in turn;
-// a Void and a Query of a serial of the slots in turn; a Grant that is not the post's, or has its first serial above its last; a
-// Query of the post; a sheet of two; and four Withdraws of a range, the second by customer 1, and then of the next one, from a
-// number that no range has on. The others are Draws.
+// Call 0 grants one of twelve ranges of three serials each, from 0, 4, 8 and so on, to customers 1
+// to 3 in rotation. Call 4 voids and call 5 queries a serial of one of them. Call 6 is a Grant by a
+// customer, or one by the post whose first serial is above its last. Call 7 is a Query by the post.
+// Call 9 draws a sheet of two. Call 10 withdraws range 0, which does not exist, in the first four
+// passes, range 1 in the next four, and so on; customer 1 asks in the second of each four,
+// otherwise the post. All other calls are Draws.
 fn asked(pass: u32, lap: usize) -> Asked
     requires { pass ≤ 1000 }
 {
@@ -76,7 +79,7 @@ fn kind(outcome: &Outcome) -> usize
     }
 }
 
-// The days rise by five in four batches; one call of each batch is handed in on an earlier day.
+// The day rises by five in four passes. Call 2 of each pass has an earlier day.
 fn day(pass: u32, lap: usize) -> u32
     requires { pass ≤ 1000 }
 {
@@ -87,7 +90,8 @@ fn day(pass: u32, lap: usize) -> u32
     }
 }
 
-// Whether both books answer the call alike, and none fails; the kind of their answer is noted.
+// Executes a request on both books and records the kind of its outcome. Returns whether both give
+// the same outcome and none fails.
 fn turn_is_alike<A: Book, B: Book>(
     one: &mut A,
     other: &mut B,
@@ -108,7 +112,7 @@ fn turn_is_alike<A: Book, B: Book>(
     }
 }
 
-// Whether both books answer the twelve calls of the batch alike; the kinds of their answers are noted.
+// The same for the twelve calls of a pass.
 fn pass_agrees<A: Book, B: Book>(
     one: &mut A,
     other: &mut B,
@@ -127,7 +131,7 @@ fn pass_agrees<A: Book, B: Book>(
     true
 }
 
-// How many of the batches both books answer alike, one after another, and which kinds of answers came.
+// Returns how many passes have equal outcomes in both books, and which kinds of outcomes occurred.
 fn passes_agree<A: Book, B: Book>(one: &mut A, other: &mut B) -> (u32, [bool; 17]) {
     let mut seen = [false; 17];
     for pass in 0..PASSES {

@@ -1,4 +1,4 @@
-//! The nine worked calls over the book with an index, beside the one without.
+//! The nine calls over the book with an index and the book without.
 
 use crate::book::books::{
     Answered, Asked, NINE_CALLS, Step, answer, first_unlike, is_as_answered, request,
@@ -8,17 +8,18 @@ use crate::expect::same;
 use s10_book::Book;
 use s10_wire::Status;
 
-/// The first of the nine calls that a book does not answer as its row says, if any, and how many calls it has then.
+/// Executes the nine calls. Returns the index of the first whose answer differs from its row, if
+/// any, and the number of kept calls.
 fn nine_calls_of<B: Book>(book: &mut B) -> (Option<usize>, u32) {
     (first_unlike(book, NINE_CALLS), book.len())
 }
 
-/// What the nine calls of a new book come to.
+/// The same for a new book.
 fn nine_calls_of_new<B: Book + Drop>(mut book: B) -> (Option<usize>, u32) {
     nine_calls_of(&mut book)
 }
 
-/// Days on which they are to report alike.
+/// The days on which reports are compared.
 const DAYS: &[u32] = &[20000, 20029, 20030, 20060];
 
 #[test]
@@ -30,7 +31,7 @@ fn nine_calls_are_answered_as_worked_by_hand(rt: HostRuntime) {
     are_alike(&rt, plain, indexed, 10, DAYS);
 }
 
-/// What the post is told of each serial on day 20030.
+/// Queries by the post on day 20030, with the status of each serial.
 const REPORTED: &[Step] = &[
     (
         0,
@@ -62,7 +63,8 @@ const REPORTED: &[Step] = &[
     ),
 ];
 
-/// What the nine calls of a new book come to, and the first serial of which the post is told otherwise then, if any.
+/// Executes the nine calls, then the Queries by the post. Returns the result of the nine calls, and
+/// the index of the first Query whose answer differs from its row, if any.
 fn reported_after_nine_calls<B: Book + Drop>(mut book: B) -> ((Option<usize>, u32), Option<usize>) {
     let found = nine_calls_of(&mut book);
     (found, first_unlike(&mut book, REPORTED))
@@ -80,7 +82,8 @@ fn nine_calls_with_ample_memory_are_kept_at_once(rt: HostRuntime) {
     same(&rt, &"at once", &found, &(None, 9));
 }
 
-/// Whether the step is answered as its row says: at once, or once more where memory was refused and no call kept.
+/// Executes a step, and again if it failed and no call was kept. Returns whether the answer is that
+/// of its row.
 fn is_right_at_last<B: Book>(book: &mut B, step: &Step) -> bool {
     let (customer, number, asked, day, answered) = step;
     let request = request(*customer, *number, *asked);
@@ -92,7 +95,8 @@ fn is_right_at_last<B: Book>(book: &mut B, step: &Step) -> bool {
     is_as_answered(&found, answered)
 }
 
-/// The first of the nine calls that is not answered as its row says even so, if any, and how many calls the book has then.
+/// Executes the nine calls, each again if it failed. Returns the index of the first whose answer
+/// differs from its row, if any, and the number of kept calls.
 fn nine_calls_at_last<B: Book + Drop>(mut book: B) -> (Option<usize>, u32) {
     for (place, step) in NINE_CALLS.iter().enumerate() {
         if !is_right_at_last(&mut book, step) {

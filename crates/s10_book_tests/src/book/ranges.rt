@@ -1,4 +1,4 @@
-//! How many serials a range has, and which it gives in turn.
+//! The size of a range, and its serials in order.
 
 use crate::book::books::{gb, ra, serial};
 use crate::expect::same;
@@ -15,7 +15,8 @@ fn range(first: u32, last: u32) -> Range {
     }
 }
 
-/// The serial n after that one, where a range has that one and more serials than n.
+/// Returns the serial `count` after `from`, if `from` is in the range and `count` is below its
+/// size.
 fn behind(first: u32, last: u32, from: u32, count: u8) -> Option<u32> {
     let range = range(first, last);
     let from = serial(from);
@@ -27,7 +28,7 @@ fn behind(first: u32, last: u32, from: u32, count: u8) -> Option<u32> {
     }
 }
 
-/// The first serials of ranges, their last ones, and how many they have.
+/// First and last serial of a range, and its size.
 const SIZES: &[(u32, u32, u32)] = &[
     (5, 5, 1),
     (4, 6, 3),
@@ -42,7 +43,7 @@ fn a_range_has_its_last_serial_too(rt: HostRuntime) {
     }
 }
 
-/// The first serial of a range, its last one, one of them, n, and the serial that stands n after that one.
+/// First and last serial of a range, one of its serials, `count`, and the serial `count` after it.
 const AFTER: &[(u32, u32, u32, u8, u32)] = &[
     (5, 5, 5, 0, 5),
     (4, 6, 4, 0, 4),

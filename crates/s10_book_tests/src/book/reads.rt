@@ -1,4 +1,4 @@
-//! What the reads of a book answer.
+//! Reads of a book.
 
 use crate::book::books::{
     Asked, SIX_CALLS, THREE_MORE, book_after, gb, go_on, id, ra, request, serial,
@@ -8,7 +8,7 @@ use s10_history::{Candidate, Entry, HolderKey, Issuance, Issue, Range, SerialSpa
 use s10_wire::Outcome;
 use std::process::Abort;
 
-/// The range of the opening.
+/// Returns the range of the opening.
 fn first_range() -> Range {
     Range {
         num: 1,
@@ -29,7 +29,7 @@ fn issue(day: u32, voided: bool, number: u32) -> Issue {
     }
 }
 
-/// The sixth call: a Draw of the last serial.
+/// Returns the sixth call: a Draw of the last serial.
 fn sixth() -> Entry {
     Entry {
         request: request(7, 5, Asked::Draw),
@@ -41,7 +41,7 @@ fn sixth() -> Entry {
     }
 }
 
-/// The usage of the book's first range: used, voided and free.
+/// Returns the usage of range 1 on a day.
 fn usage_of_first(book: &mut PlainBook, day: u32) -> Option<Usage> {
     match book.range(1) {
         Ok(Some(range)) => book.usage(&range, day).ok(),
@@ -49,7 +49,7 @@ fn usage_of_first(book: &mut PlainBook, day: u32) -> Option<Usage> {
     }
 }
 
-/// What the book's first range gives next.
+/// Returns the candidate of range 1.
 fn candidate_of_first(book: &mut PlainBook) -> Option<Candidate> {
     match book.range(1) {
         Ok(Some(range)) => book.candidate(&range).ok(),
@@ -57,27 +57,27 @@ fn candidate_of_first(book: &mut PlainBook) -> Option<Candidate> {
     }
 }
 
-/// Whether the first range is used so on a day.
+/// Returns whether range 1 has this usage on a day.
 fn is_used(book: &mut PlainBook, day: u32, used: u32, voided: u32, free: u32) -> bool {
     usage_of_first(book, day) == Some(Usage { used, voided, free })
 }
 
-/// Whether serial 1 was issued last so.
+/// Returns whether this is the last issue of serial 1.
 fn was_last_issued(book: &mut PlainBook, issue: Issue) -> bool {
     book.last_issue(&id(1)) == Ok(Some(issue))
 }
 
-/// Whether the call of customer and number is this.
+/// Returns whether this is the call of the customer with this number.
 fn finds(book: &mut PlainBook, customer: u32, number: u32, entry: Option<Entry>) -> bool {
     book.find(customer, number) == Ok(entry)
 }
 
-/// Whether the call that arrived at a place is this.
+/// Returns whether this is call number `at`.
 fn holds(book: &mut PlainBook, at: u32, entry: Option<Entry>) -> bool {
     book.entry(at) == Ok(entry)
 }
 
-/// Whether range 1 is the first, there is no other, and customer 7 holds it alone.
+/// Returns whether range 1 is the only range, and customer 7 holds it.
 fn has_one_range(book: &mut PlainBook) -> bool {
     let held = HolderKey {
         holder: 7,
@@ -90,7 +90,7 @@ fn has_one_range(book: &mut PlainBook) -> bool {
         && book.next_range(&held, 1) == Ok(None)
 }
 
-/// Whether the range found over these serials is this.
+/// Returns whether this is the range found by these serials.
 fn has_over(book: &mut PlainBook, first: u32, last: u32, range: Option<Range>) -> bool {
     let span = SerialSpan {
         service: ra(),
@@ -101,7 +101,7 @@ fn has_over(book: &mut PlainBook, first: u32, last: u32, range: Option<Range>) -
     book.covering(&span) == Ok(range)
 }
 
-/// Whether the first range gives this serial next, which was issued last so.
+/// Returns whether range 1 gives this serial next, and this is its last issue.
 fn gives_next(book: &mut PlainBook, value: u32, issue: Issue) -> bool {
     let candidate = Candidate {
         serial: serial(value),
@@ -110,13 +110,13 @@ fn gives_next(book: &mut PlainBook, value: u32, issue: Issue) -> bool {
     candidate_of_first(book) == Some(candidate)
 }
 
-/// Whether the book is that of nine calls, the last on day 20030.
+/// Returns whether the book has nine calls, the last on day 20030.
 fn is_of_nine_calls(book: &PlainBook) -> bool {
     let settings = book.settings();
     book.len() == 9 && book.day() == 20030 && settings.interval() == 30 && settings.limit() == 100
 }
 
-/// Days on which 3 serials of the first range are used and none is voided, and how many are free.
+/// Days on which 3 serials of range 1 are used and none is voided, and how many are free.
 const FREE: &[(u32, u32)] = &[(0, 1), (20030, 1), (20059, 1), (20060, 3)];
 
 fn usages_are_read(rt: &impl Abort, book: &mut PlainBook) {
@@ -163,7 +163,7 @@ fn reads_answer_from_the_kept_calls(rt: HostRuntime) {
     nine_calls_are_read(&rt, book);
 }
 
-/// The one issue of the sixth call.
+/// Returns the one issuance of the sixth call.
 fn sixth_issue() -> Issuance {
     Issuance {
         id: id(2),
@@ -174,12 +174,12 @@ fn sixth_issue() -> Issuance {
     }
 }
 
-/// Whether a call made this issue alone as call number 6.
+/// Returns whether this call, as number 6, issued only this.
 fn made_one(entry: &Entry, issuance: Issuance) -> bool {
     entry.issued() == 1 && entry.issue(6, 0) == Some(issuance) && entry.issue(6, 1).is_none()
 }
 
-/// Whether a call made no issue as call number 6.
+/// Returns whether this call, as number 6, issued nothing.
 fn made_none(entry: &Entry) -> bool {
     entry.issued() == 0 && entry.issue(6, 0).is_none()
 }

@@ -1,4 +1,4 @@
-//! The two reports.
+//! The two reports of a ledger.
 
 use crate::book::books::Answered::{Drawn, DrawnMany, Granted, Voided, Withdrawn};
 use crate::book::books::Asked::{Draw, DrawMany, Grant, Void, Withdraw};
@@ -46,7 +46,7 @@ const SHEETS_ISSUES: &[u8] = b"arrival day customer number identifier state\n\
 3 20030 7 2 RA000000028GB issued\n\
 3 20030 7 2 RA000000005GB voided\n";
 
-/// Writes the report of a book's ranges on a day, or that of its issues where no day is named.
+/// Writes the report of the ranges on a day, or the report of the issues if there is no day.
 fn write_report<B: Book, W: Write>(
     book: &mut B,
     day: Option<u32>,
@@ -58,23 +58,23 @@ fn write_report<B: Book, W: Write>(
     }
 }
 
-/// Whether this is that report.
+/// Returns whether the report has this text.
 fn reports<B: Book>(alloc: Global, book: &mut B, day: Option<u32>, report: &[u8]) -> bool {
     let mut out = Vec::new(alloc);
     write_report(book, day, &mut out) == Ok(()) && out.as_slice() == report
 }
 
-/// A report: of the ranges on a day, or of the issues where no day is named.
+/// A report and its text: of the ranges on a day, or of the issues if there is no day.
 type Report = (Option<u32>, &'static [u8]);
 
-/// The book's reports are these, one after another.
+/// Asserts that the reports of the book have these texts.
 fn writes<R: Abort + AllocGlobal, B: Book + Drop>(rt: &R, mut book: B, wanted: &[Report]) {
     for (day, report) in wanted {
         assert!(rt; reports(rt.alloc(), &mut book, *day, report));
     }
 }
 
-/// After these steps a book's reports are these.
+/// Asserts that the reports have these texts after these steps.
 fn are_reported<R: Abort + AllocGlobal>(rt: &R, name: &str, steps: &[Step], wanted: &[Report]) {
     writes(rt, book_after(rt, name, steps), wanted);
 }
@@ -96,7 +96,7 @@ fn a_voided_identifier_is_counted_and_named(rt: HostRuntime) {
     are_reported(&rt, "six calls", SIX_CALLS, SIX_CALLS_REPORTS);
 }
 
-/// Two sheets, and a Void of what is on both.
+/// Two sheets with one identifier in common, which is voided.
 const TWO_SHEETS: &'static [Step] = &[
     OPENING,
     (7, 1, DrawMany(2), 20000, DrawnMany(20000, (0, 2), (0, 0))),
@@ -111,7 +111,7 @@ fn a_sheet_has_a_line_for_each_identifier(rt: HostRuntime) {
     are_reported(&rt, "two sheets", TWO_SHEETS, SHEETS_REPORTS);
 }
 
-/// A range is closed, and another granted after it.
+/// A range is closed, and another one is granted after it.
 const CLOSED_RANGE: &'static [Step] = &[
     OPENING,
     (7, 1, Draw, 20000, Drawn(20000, 0)),
@@ -132,19 +132,20 @@ fn an_empty_ledger_has_headers_alone(rt: HostRuntime) {
     are_reported(&rt, "one grant", &[OPENING], &[(None, NO_ISSUES)]);
 }
 
-/// Whether a text ends where a line of the whole ends.
+/// Returns whether a text is the beginning of the whole, and ends where a line ends.
 fn is_of_whole_lines(text: &[u8], whole: &[u8]) -> bool {
     whole.starts_with(text) && (text.is_empty() || text.ends_with(b"\n"))
 }
 
-/// Whether the report of a book that fails stops after whole lines.
+/// Returns whether the report stops after whole lines when the store fails.
 fn stops<B: Book + Drop>(alloc: Global, mut book: B, day: Option<u32>, whole: &[u8]) -> bool {
     let mut out = Vec::new(alloc);
     write_report(&mut book, day, &mut out) == Err(ReportFault::Book(BookFault::Store))
         && is_of_whole_lines(out.as_slice(), whole)
 }
 
-/// The first call of the book, of the nine calls, at which a report does not stop: it makes no more.
+/// Returns the first call of the book, after the nine calls, whose failure does not stop the
+/// report. The report makes this number of calls.
 fn first_passed_over<R: Abort + AllocGlobal>(rt: &R, day: Option<u32>, whole: &[u8]) -> u64 {
     for at in 0..100u64 {
         let book = TripBook::new(book_after(rt, "nine calls", NINE_CALLS), at);
@@ -155,7 +156,7 @@ fn first_passed_over<R: Abort + AllocGlobal>(rt: &R, day: Option<u32>, whole: &[
     100
 }
 
-// The report of issues makes n calls of the book, and that of ranges.
+// The report of the issues makes 14 calls of the book, and the report of the ranges makes 4.
 #[test]
 fn a_book_that_fails_leaves_whole_lines(rt: HostRuntime) {
     same(&rt, &"issues", &first_passed_over(&rt, None, ISSUES), &14);
@@ -167,7 +168,7 @@ fn a_book_that_fails_leaves_whole_lines(rt: HostRuntime) {
     );
 }
 
-/// Whether a report on a writer that cannot take it whole is its beginning up to where the writer failed.
+/// Returns whether the report fails and the writer has exactly its first `room` bytes.
 fn is_cut<B: Book>(
     alloc: Global,
     book: &mut B,
@@ -182,7 +183,7 @@ fn is_cut<B: Book>(
         && out.bytes.as_slice() == &whole[..room]
 }
 
-/// How many bytes a writer has room for at least that takes a report whole.
+/// Returns the least room with which a report is not cut.
 fn first_uncut<B: Book>(alloc: Global, book: &mut B, day: Option<u32>, whole: &[u8]) -> usize {
     for room in 0..whole.len() {
         if !is_cut(alloc, book, room, day, whole) {
@@ -192,7 +193,7 @@ fn first_uncut<B: Book>(alloc: Global, book: &mut B, day: Option<u32>, whole: &[
     whole.len()
 }
 
-/// Each of the book's reports is cut where the writer has no room for it whole.
+/// Asserts that every writer with less room than a report has bytes cuts it.
 fn are_cut<R: Abort + AllocGlobal, B: Book + Drop>(rt: &R, mut book: B, reports: &[Report]) {
     for (day, whole) in reports {
         let uncut = first_uncut(rt.alloc(), &mut book, *day, whole);
@@ -205,7 +206,7 @@ const TEXTS: &[(ReportFault, &str)] = &[
     (ReportFault::Write, "the report could not be written"),
 ];
 
-/// Whether a fault is written as this text.
+/// Returns whether a fault has this text.
 fn has_text(alloc: Global, fault: &ReportFault, text: &str) -> bool {
     match fault.to_string(alloc) {
         Ok(found) => found.as_str() == text,

@@ -1,4 +1,4 @@
-//! Which call of a book that fails once is the one that fails.
+//! Which call of a `TripBook` fails.
 
 use crate::book::books::{OPENING, answer, book_after, id, sheet};
 use crate::expect::same;
@@ -22,25 +22,25 @@ enum Read {
     LastIssue,
 }
 
-/// What a book is asked.
+/// A question to a book, of one call or more.
 #[derive(Clone, Copy)]
 enum Question {
     Read(Read),
     GroupCommit,
-    /// What a Draw would be given: the customer's range is looked for, and its candidate.
+    /// The outcome of a Draw: reads the customer's range and its candidate.
     Candidate,
-    /// What a sheet of one label would be given: the customer's range is looked for, and its pick after none.
+    /// The identifiers of a sheet of one: reads the customer's range and its first pick.
     Sheet,
-    /// The report of the ranges: range 1 is looked for, its usage, and whether it is closed.
+    /// The report of the ranges: reads range 1, its usage, and whether it is closed.
     Usage,
-    /// What a Withdraw would be answered: the range is looked for, and whether it is closed.
+    /// The outcome of a Withdraw: reads the range and whether it is closed.
     Withdraw,
-    /// A Query of the post with a new number: its key, the range of the identifier and its last issue are looked for,
-    /// and it is kept.
+    /// A Query by the post with a new number: reads its key, the range of the identifier and its
+    /// last issue, and keeps the call.
     Keep,
 }
 
-/// Each question by its name, and how many calls of the book it takes.
+/// Name of each question, and the number of calls of the book that it makes.
 const QUESTIONS: &[(&str, Question, u64)] = &[
     ("find", Question::Read(Read::Find), 1),
     ("entry", Question::Read(Read::Entry), 1),
@@ -65,7 +65,7 @@ fn asked(customer: u32, number: u32, body: Body) -> Request {
     }
 }
 
-/// A Draw of the service and country of an identifier.
+/// Returns a Draw of the service and country of an identifier.
 fn draw_of(id: &Id) -> Body {
     Body::Draw {
         service: id.service,
@@ -73,7 +73,7 @@ fn draw_of(id: &Id) -> Body {
     }
 }
 
-/// An answer, whatever it holds, or its fault.
+/// Returns the fault of an answer, if it is one.
 fn told<T: Copy>(answer: Result<T, BookFault>) -> Result<(), BookFault> {
     match answer {
         Ok(_) => Ok(()),
@@ -95,7 +95,7 @@ fn covering<B: Book>(book: &mut B, id: &Id) -> Result<(), BookFault> {
     told(book.covering(&span))
 }
 
-/// What a new request of customer or post would be answered.
+/// Decides a new request and ignores the outcome.
 fn decided<B: Book>(book: &mut B, request: &Request) -> Result<(), BookFault> {
     let day = book.day().max(20_000);
     told(decide(book, request, day))
@@ -150,7 +150,7 @@ fn ask<B: GroupCommit>(
     }
 }
 
-/// Whether a question is refused; None where it is refused with another fault than Store.
+/// Returns whether a question fails with `Store`, or `None` if it fails with another fault.
 fn is_refused<B: GroupCommit>(
     alloc: Global,
     book: &mut B,
@@ -165,7 +165,8 @@ fn is_refused<B: GroupCommit>(
     }
 }
 
-/// Which of two questions of a kind, and of a third one of a single call, a book refuses.
+/// Asks two questions of a kind, then one of a single call. Returns which of them fail, or `None`
+/// if one fails with another fault than `Store`.
 fn refused<B: GroupCommit + Drop>(
     alloc: Global,
     mut book: B,
@@ -178,14 +179,14 @@ fn refused<B: GroupCommit + Drop>(
     Some([first, second, third])
 }
 
-/// Which of three questions a book refuses that fails at one of its calls, counted from 0.
+/// The same for a book that fails at call `at`, counted from 0.
 fn refused_at<R: Abort + AllocGlobal>(rt: &R, question: Question, at: u64) -> Option<[bool; 3]> {
     let inner = book_after(rt, "opening", &[OPENING]);
     refused(rt.alloc(), TripBook::new(inner, at), question)
 }
 
-/// The first call, counted from 0, that is not refused in turn, if any, where a question of the kind makes n: a book that
-/// fails at one of its calls refuses that one of the questions that makes it.
+/// Returns the first call, counted from 0, whose failure does not show in the one question that
+/// makes it, if any. Each of the two questions makes n calls, and the third makes one.
 fn first_passed_over<R: Abort + AllocGlobal>(
     rt: &R,
     question: Question,

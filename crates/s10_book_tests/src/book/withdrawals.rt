@@ -1,4 +1,4 @@
-//! Withdraws, and what is issued after them.
+//! Withdraws, and calls after them.
 
 use crate::book::books::Answered::{
     AlreadyVoid, Closed, Drawn, DrawnMany, Full, Granted, NoRange, NoSuchRange, NoneFree,
@@ -16,10 +16,10 @@ use std::process::Abort;
 /// Customer 7 is granted range 2: the serials 4 to 6.
 const SECOND_GRANT: Step = (0, 2, Grant(7, 4, 6), 20000, Granted(2));
 
-/// And range 3: the serials 8 and 9.
+/// Customer 7 is granted range 3: the serials 8 and 9.
 const THIRD_GRANT: Step = (0, 3, Grant(7, 8, 9), 20000, Granted(3));
 
-/// Who asks comes first, then whether there is such a range, then whether it is closed.
+/// A Withdraw checks first who asks, then whether the range exists, then whether it is closed.
 const ORDER_OF_THE_RULE: &'static [Step] = &[
     OPENING,
     (7, 1, Withdraw(1), 20000, NotThePost),
@@ -36,7 +36,7 @@ const ORDER_OF_THE_RULE: &'static [Step] = &[
     (0, 6, Withdraw(2), 20000, NoSuchRange),
 ];
 
-/// A closed range keeps its serials and its number.
+/// The serials and the number of a closed range are not granted again.
 const CLOSED_RANGE: &'static [Step] = &[
     OPENING,
     (0, 2, Withdraw(1), 20000, Withdrawn),
@@ -48,7 +48,7 @@ const CLOSED_RANGE: &'static [Step] = &[
     (0, 8, Withdraw(3), 20000, NoSuchRange),
 ];
 
-/// A full ledger withdraws nothing.
+/// A full ledger executes no Withdraw.
 const FULL_LEDGER: &'static [Step] = &[OPENING, (0, 2, Withdraw(1), 20000, Full)];
 
 const WITHDRAWALS: &'static [(&'static str, &'static [Step])] = &[
@@ -68,7 +68,7 @@ fn withdrawals_are_answered_in_the_order_of_the_rule(rt: HostRuntime) {
     are_answered(&rt, "a full ledger withdraws nothing", 1, FULL_LEDGER);
 }
 
-/// What it gave is voided and told of as before.
+/// An identifier of a closed range is voided and queried as before.
 const VOIDED_AS_BEFORE: &'static [Step] = &[
     OPENING,
     (7, 1, Draw, 20000, Drawn(20000, 0)),
@@ -85,7 +85,7 @@ const VOIDED_AS_BEFORE: &'static [Step] = &[
     (7, 9, Draw, 20030, NoRange),
 ];
 
-/// Ranges of others, and of another service, are as open as before.
+/// Ranges of other customers and of other services stay open.
 const OTHER_RANGES: &'static [Step] = &[
     OPENING,
     (0, 2, Grant(8, 4, 6), 20000, Granted(2)),
@@ -115,7 +115,7 @@ fn a_closed_range_gives_no_more_identifiers(rt: HostRuntime) {
     all_are_answered(&rt, AFTER_A_WITHDRAWAL);
 }
 
-/// None is free where an open range has none, and there is no range where all are closed.
+/// A Draw is refused with none free if a range is open, and with no range if all are closed.
 const OPEN_RANGES: &'static [Step] = &[
     OPENING,
     SECOND_GRANT,
@@ -131,7 +131,7 @@ const OPEN_RANGES: &'static [Step] = &[
     (7, 8, DrawMany(1), 20000, NoRange),
 ];
 
-/// A sheet of three is of the open range alone, and not before the day of the withdrawal.
+/// A sheet of three is from the open range only, and not dated before the withdrawal.
 const SHEET_OF_AN_OPEN_RANGE: &'static [Step] = &[
     OPENING,
     SECOND_GRANT,
@@ -140,7 +140,7 @@ const SHEET_OF_AN_OPEN_RANGE: &'static [Step] = &[
     (7, 2, DrawMany(3), 20000, DrawnMany(20010, (4, 7), (0, 0))),
 ];
 
-/// A sheet passes over a closed range between two others.
+/// A sheet skips a closed range between two open ones.
 const SHEET_OVER_A_CLOSED_RANGE: &'static [Step] = &[
     OPENING,
     SECOND_GRANT,
@@ -171,7 +171,7 @@ fn draws_go_on_in_the_ranges_that_are_open(rt: HostRuntime) {
     all_are_answered(&rt, DRAWS);
 }
 
-/// Whether a range of this number was found; where none is named, whether there was none.
+/// Returns whether the range with this number was found, or none if no number is named.
 fn has_number(found: Result<Option<Range>, BookFault>, num: Option<u32>) -> bool {
     match (found, num) {
         (Ok(Some(range)), Some(num)) => range.num == num,
@@ -180,12 +180,12 @@ fn has_number(found: Result<Option<Range>, BookFault>, num: Option<u32>) -> bool
     }
 }
 
-/// Whether the range of that number is closed, or is not.
+/// Returns whether the book reports range `num` as closed, or as open if `closed` is false.
 fn has_closed<B: Book>(book: &mut B, num: u32, closed: bool) -> bool {
     book.closed(num) == Ok(closed)
 }
 
-/// Whether the next open range of customer 7 after that one has this number.
+/// Returns whether the next open range of customer 7 after number `after` has this number.
 fn has_open<B: Book>(book: &mut B, after: u32, num: Option<u32>) -> bool {
     let held = HolderKey {
         holder: 7,
@@ -195,12 +195,12 @@ fn has_open<B: Book>(book: &mut B, after: u32, num: Option<u32>) -> bool {
     has_number(book.next_range(&held, after), num)
 }
 
-/// Whether the range that has a serial has this number.
+/// Returns whether the range that contains this serial has this number.
 fn has_over<B: Book>(book: &mut B, value: u32, num: Option<u32>) -> bool {
     has_number(book.covering(&SerialSpan::of(&id(value))), num)
 }
 
-/// Numbers of ranges, and whether they are closed.
+/// Numbers of ranges, and whether each is closed.
 const CLOSED: &[(u32, bool)] = &[(0, false), (1, false), (2, true), (3, false), (4, false)];
 
 fn are_closed_as_reported<B: Book>(rt: &impl Abort, book: &mut B) {
@@ -209,7 +209,7 @@ fn are_closed_as_reported<B: Book>(rt: &impl Abort, book: &mut B) {
     }
 }
 
-/// Numbers of ranges, and that of the next open one after each.
+/// Numbers of ranges, and the number of the next open range after each.
 const NEXT: &[(u32, Option<u32>)] = &[(0, Some(1)), (1, Some(3)), (2, Some(3)), (3, None)];
 
 fn open_ranges_are_next<B: Book>(rt: &impl Abort, book: &mut B) {
@@ -218,7 +218,7 @@ fn open_ranges_are_next<B: Book>(rt: &impl Abort, book: &mut B) {
     }
 }
 
-/// Serials, and the number of the range of each.
+/// Serials, and the number of the range that contains each.
 const OVER: &[(u32, Option<u32>)] = &[(2, Some(1)), (4, Some(2)), (8, Some(3)), (7, None)];
 
 fn all_ranges_are_over_their_serials<B: Book>(rt: &impl Abort, book: &mut B) {
@@ -227,14 +227,14 @@ fn all_ranges_are_over_their_serials<B: Book>(rt: &impl Abort, book: &mut B) {
     }
 }
 
-/// The second of the book's three ranges is closed: a Draw alone passes over it.
+/// Asserts that range 2 of three is closed: only the look-up for a Draw skips it.
 fn second_is_closed<B: Book + Drop>(rt: &impl Abort, mut book: B) {
     are_closed_as_reported(rt, &mut book);
     open_ranges_are_next(rt, &mut book);
     all_ranges_are_over_their_serials(rt, &mut book);
 }
 
-/// The second of three ranges is closed.
+/// The second of three ranges is closed. Refused Withdraws close none.
 const SECOND_OF_THREE_CLOSED: &'static [Step] = &[
     OPENING,
     SECOND_GRANT,

@@ -1,4 +1,4 @@
-//! The datagrams: read, written, cut short and changed.
+//! Datagrams: decoded, encoded, cut short and changed.
 
 use crate::expect::same;
 use crate::wire::vectors::{Asked, Call, Came, outcome, replies, reply, request, requests};
@@ -7,7 +7,7 @@ use s10_wire::{
 };
 use std::process::Abort;
 
-/// These bytes are read as the request, and it is written as they stand.
+/// Asserts that these bytes decode to the request, and that it encodes to these bytes.
 fn stand_for(rt: &impl Abort, bytes: &[u8], request: &Request) {
     same(rt, &bytes, &decode_request(bytes), &Ok(*request));
     same(rt, &bytes, &encode_request(request).bytes(), &bytes);
@@ -20,7 +20,7 @@ fn requests_decode_and_encode_to_the_same_bytes(rt: HostRuntime) {
     }
 }
 
-/// These bytes are read as the reply, and it is written as they stand.
+/// Asserts that these bytes decode to the reply, and that it encodes to these bytes.
 fn stand_for_reply(rt: &impl Abort, bytes: &[u8], reply: &Reply) {
     same(rt, &bytes, &decode_reply(bytes), &Ok(*reply));
     same(rt, &bytes, &encode_reply(reply).bytes(), &bytes);
@@ -44,7 +44,7 @@ fn cut_at(end: usize) -> WireFault {
     }
 }
 
-/// These bytes are no request wherever they are cut.
+/// Asserts that these bytes are no request when cut at any offset.
 fn are_refused_where_cut(rt: &impl Abort, bytes: &[u8]) {
     for end in 0..bytes.len() {
         let cut = &bytes[..end];
@@ -52,7 +52,7 @@ fn are_refused_where_cut(rt: &impl Abort, bytes: &[u8]) {
     }
 }
 
-/// These bytes are no reply wherever they are cut.
+/// Asserts that these bytes are no reply when cut at any offset.
 fn are_no_reply_where_cut(rt: &impl Abort, bytes: &[u8]) {
     for end in 0..bytes.len() {
         let cut = &bytes[..end];
@@ -70,7 +70,7 @@ fn a_datagram_cut_short_is_refused(rt: HostRuntime) {
     }
 }
 
-/// What is written of the request that these bytes are.
+/// Returns the frame of the request that these bytes are, or `None` if they are none.
 fn request_again(bytes: &[u8]) -> Option<Frame> {
     match decode_request(bytes) {
         Ok(request) => Some(encode_request(&request)),
@@ -78,7 +78,7 @@ fn request_again(bytes: &[u8]) -> Option<Frame> {
     }
 }
 
-/// What is written of the reply that these bytes are.
+/// Returns the frame of the reply that these bytes are, or `None` if they are none.
 fn reply_again(bytes: &[u8]) -> Option<Frame> {
     match decode_reply(bytes) {
         Ok(reply) => Some(encode_reply(&reply)),
@@ -86,7 +86,7 @@ fn reply_again(bytes: &[u8]) -> Option<Frame> {
     }
 }
 
-/// Whether these bytes are read, as a reply or as a request; it is written as they stand then.
+/// Returns whether these bytes decode, and asserts that the message encodes to the same bytes.
 fn are_read(rt: &impl Abort, bytes: &[u8], is_reply: bool) -> bool {
     let again = if is_reply {
         reply_again(bytes)
@@ -102,7 +102,7 @@ fn are_read(rt: &impl Abort, bytes: &[u8], is_reply: bool) -> bool {
     }
 }
 
-/// How many of all changes of one byte are still read.
+/// Returns how many of all changes of one byte still decode.
 fn changes_read(rt: &impl Abort, bytes: &mut [u8], is_reply: bool) -> u32 {
     let mut count: u32 = 0;
     for at in 0..bytes.len() {
@@ -118,7 +118,7 @@ fn changes_read(rt: &impl Abort, bytes: &mut [u8], is_reply: bool) -> u32 {
     count
 }
 
-/// n of all changes of one byte of these are still read, as a reply or as a request.
+/// Asserts that n of all changes of one byte still decode, as a reply or as a request.
 fn change(rt: &impl Abort, bytes: &mut [u8], is_reply: bool, wanted: u32) {
     let read = changes_read(rt, bytes, is_reply);
     same(rt, &&*bytes, &read, &wanted);
@@ -150,7 +150,7 @@ fn changed_bytes_of_a_withdrawal_are_refused_or_written_again(rt: HostRuntime) {
     let mut asked = *b"S1\x02\x06\x00\x00\x00\x00\x00\x00\x00\x02\x00\x00\x00\x01";
     let mut done = *b"S1\x02\x86\x00\x00\x00\x00\x00\x00\x00\x02\x00\x00\x00\x01\x00";
     let mut refused = *b"S1\x02\x86\x00\x00\x00\x00\x00\x00\x00\x03\x00\x00\x00\x01\x0b";
-    // Any customer, number and range; and of outcomes each of the other four.
+    // Any other customer, number or range decodes, and in a reply any of the other four outcomes.
     change(&rt, &mut asked, false, 12 * 255);
     change(&rt, &mut done, true, 12 * 255 + 4);
     change(&rt, &mut refused, true, 12 * 255 + 4);

@@ -1,11 +1,12 @@
-//! Identifiers: how they are spelled, and the parts that they have.
+//! Identifiers: their texts and their parts.
 
 use crate::expect::same;
 use s10_core::{Country, Group, Id, Serial, Service, TextFault, check_digit};
 use std::process::Abort;
 use std::test::Fail;
 
-/// Serial numbers and their check digits, worked by hand from the weights, as S = 200 and C = 9 for the first.
+/// Serial numbers and their check digits, worked by hand from the weights of UPU S10. For the
+/// first, S = 200 and C = 9.
 const CHECK_DIGITS: &[(u32, u8)] = &[
     (47312482, 9),
     (12345678, 5),
@@ -28,13 +29,13 @@ fn check_digits_are_those_worked_by_hand(rt: HostRuntime) {
     }
 }
 
-/// The text is that of the identifier, both ways.
+/// Asserts that the identifier is written as this text, and that the text is read as it.
 fn is_spelled(rt: &impl Abort, id: &Id, text: &[u8; 13]) {
     same(rt, text, &id.write(), text);
     same(rt, text, &Id::read(text), &Ok(*id));
 }
 
-/// The digits of serial numbers, and the identifiers of RA GB with these.
+/// Digits of serial numbers, and the identifiers of RA GB with them.
 const SPELLED: &[(&[u8], &[u8; 13])] = &[
     (b"00000000", b"RA000000005GB"),
     (b"00000001", b"RA000000014GB"),
@@ -59,7 +60,7 @@ fn identifiers_are_spelled_from_their_parts(rt: HostRuntime) {
     }
 }
 
-/// Whether the identifier has these parts.
+/// Returns whether the identifier has these parts.
 fn has_parts(id: &Id, letters: [u8; 2], group: Group, serial: u32, country: [u8; 2]) -> bool {
     id.service.bytes() == letters
         && id.service.group() == group

@@ -8,7 +8,7 @@ use s10_wire::{Reply, Request, Status};
 use std::alloc::Global;
 use std::process::Abort;
 
-/// Requests and their lines.
+/// Requests, and the line of each.
 const REQUEST_LINES: &[(Call, &[u8])] = &[
     (
         (0, 1, Asked::Grant(7, 0, 2)),
@@ -36,7 +36,7 @@ const REQUEST_LINES: &[(Call, &[u8])] = &[
     ),
 ];
 
-/// Requests, what they came to, and the lines of the replies.
+/// Requests, their outcomes, and the line of each reply.
 const REPLY_LINES: &'static [(Call, Came, &'static [u8])] = &[
     (
         (0, 1, Asked::Grant(7, 0, 2)),
@@ -185,12 +185,12 @@ const REPLY_LINES: &'static [(Call, Came, &'static [u8])] = &[
     ),
 ];
 
-// A table is proved again wherever it is named, so this one is named once.
+// The prover proves a table again wherever it is named, so this one is named once.
 fn reply_lines() -> &'static [(Call, Came, &'static [u8])] {
     REPLY_LINES
 }
 
-/// The line was written whole.
+/// Asserts that the line was written whole.
 fn is_written(rt: &impl Abort, answer: Result<(), WriteFault>, out: &[u8], line: &[u8]) {
     same(rt, &line, &answer, &Ok(()));
     same(rt, &line, &out, &line);
@@ -214,7 +214,7 @@ fn each_outcome_of_each_kind_has_its_line(rt: HostRuntime) {
     }
 }
 
-/// Whether a writer that failed has got the line up to there, and nothing after it.
+/// Returns whether the writer failed and has exactly the first `room` bytes of the line.
 fn is_cut(answer: Result<(), WriteFault>, out: &Hiccup, line: &[u8], room: usize) -> bool {
     room < line.len() && answer == Err(WriteFault) && out.bytes.as_slice() == &line[..room]
 }

@@ -1,4 +1,4 @@
-//! Replies and requests as values.
+//! Requests and replies as values.
 
 use crate::expect::same;
 use crate::wire::vectors::{Asked, Call, Came, body, outcome, request};
@@ -14,7 +14,7 @@ const KINDS: [Asked; 6] = [
     Asked::Withdraw(1),
 ];
 
-/// Which outcomes fit the kinds above, a row for each outcome.
+/// Outcomes, and which of the kinds above each of them fits.
 const FITTING: &[(Came, [bool; 6])] = &[
     (Came::Granted(1), [true, false, false, false, false, false]),
     (
@@ -52,7 +52,7 @@ const FITTING: &[(Came, [bool; 6])] = &[
     (Came::NumberReused, [true, true, true, true, true, true]),
 ];
 
-/// Which kinds the outcome fits.
+/// Returns which kinds the outcome fits.
 fn fits(rt: &impl Abort, outcome: &Outcome) -> [bool; 6] {
     let mut fits = [false; 6];
     for place in 0..6 {
@@ -74,7 +74,7 @@ fn a_reply_is_made_of_an_outcome_that_fits(rt: HostRuntime) {
     }
 }
 
-/// Requests, the same ones and others.
+/// Two requests, and whether they are the same.
 const PAIRS: &[(Call, Call, bool)] = &[
     ((7, 1, Asked::Draw), (7, 1, Asked::Draw), true),
     ((0, 2, Asked::Withdraw(1)), (0, 2, Asked::Withdraw(1)), true),

@@ -1,10 +1,10 @@
-//! Packets, which are their bytes.
+//! Packets, which are equal if their bytes are equal.
 
 use crate::expect::same;
 use s10_link::Packet;
 use std::process::Abort;
 
-/// How many bytes a datagram has, and how many of them are kept.
+/// Length of a datagram, and the number of its bytes that a packet keeps.
 const LENGTHS: &[(usize, usize)] = &[
     (0, 0),
     (1, 1),
@@ -14,7 +14,7 @@ const LENGTHS: &[(usize, usize)] = &[
     (600, 512),
 ];
 
-/// The packet of the first n bytes has the first of them that are kept.
+/// Asserts that the packet of the first `len` bytes has the first `kept` of them.
 fn keeps(rt: &impl Abort, datagram: &[u8; 600], len: usize, kept: usize) {
     let packet = Packet::new(&datagram[..len.min(600)]);
     same(rt, &len, &packet.bytes(), &&datagram[..kept.min(600)]);
@@ -31,8 +31,8 @@ fn a_packet_keeps_512_bytes(rt: HostRuntime) {
     }
 }
 
-/// Whether the packets of n bytes, and of n, are equal. The bytes are all the same, but for one of the second packet
-/// where it has that many.
+/// Returns whether two packets are equal, of `one` and of `other` bytes. All bytes are equal,
+/// except that of index `changed` in the second packet, if it is below 600.
 fn are_equal(byte: u8, one: usize, other: usize, changed: usize) -> bool {
     let bytes = [byte; 600];
     let mut others = bytes;
@@ -42,7 +42,8 @@ fn are_equal(byte: u8, one: usize, other: usize, changed: usize) -> bool {
     Packet::new(&bytes[..one.min(600)]) == Packet::new(&others[..other.min(600)])
 }
 
-/// The byte, how many there are of it in the two packets, the place of the one that is another, and whether the packets are equal.
+/// The byte, the lengths of the two datagrams, the index of the changed byte, and whether the
+/// packets are equal.
 const PAIRS: &[(u8, usize, usize, usize, bool)] = &[
     (7, 600, 600, 599, true),
     (7, 600, 512, 600, true),

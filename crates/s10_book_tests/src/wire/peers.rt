@@ -35,7 +35,7 @@ const ADDRESSES: &[(&str, Peer)] = &[
     ),
 ];
 
-/// Whether the address is written as this text.
+/// Returns whether the address is written as this text.
 fn is_written(alloc: Global, peer: &Peer, text: &str) -> bool {
     match peer.to_string(alloc) {
         Ok(written) => written.as_str() == text,

@@ -1,4 +1,4 @@
-//! Why bytes are refused.
+//! Bytes that are refused, with the fault of each.
 
 use crate::expect::same;
 use s10_lines::WriteFault;
@@ -8,14 +8,14 @@ use std::fmt::{Debug, Display};
 use std::process::Abort;
 use std::test::Fail;
 
-/// These bytes are no request, and for this.
+/// Asserts that these bytes are no requests, each with its fault.
 fn are_no_requests(rt: &impl Abort, refused: &[(&[u8], WireFault)]) {
     for (bytes, fault) in refused {
         same(rt, bytes, &decode_request(bytes), &Err(*fault));
     }
 }
 
-/// These bytes are no reply, and for this.
+/// Asserts that these bytes are no replies, each with its fault.
 fn are_no_replies(rt: &impl Abort, refused: &[(&[u8], WireFault)]) {
     for (bytes, fault) in refused {
         same(rt, bytes, &decode_reply(bytes), &Err(*fault));
@@ -321,7 +321,7 @@ fn a_reply_to_a_withdrawal_is_refused_for_the_first_thing_wrong(rt: HostRuntime)
     are_no_replies(&rt, REPLIES_TO_WITHDRAWALS);
 }
 
-/// These bytes are no reply, since their outcome is none of their kind.
+/// Asserts that these bytes are no replies, since the outcome does not fit the kind.
 fn have_no_outcome(rt: &impl Abort, refused: &[&[u8]]) {
     for bytes in refused {
         same(rt, bytes, &decode_reply(bytes), &Err(WireFault::Outcome));
@@ -365,7 +365,7 @@ const FAULTS: &[(WireFault, &str)] = &[
     (WireFault::Outcome, "the outcome does not fit the kind"),
 ];
 
-/// The fault is shown as this text.
+/// Asserts that the fault is shown as this text.
 fn says<F: Debug + Display>(
     rt: &impl Abort,
     alloc: Global,

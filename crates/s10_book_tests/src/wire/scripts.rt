@@ -18,7 +18,7 @@ const FAR: Peer = Peer {
     port: 4712,
 };
 
-/// A Draw of RA GB with this number.
+/// Returns the frame of a Draw of RA GB with this number.
 fn draw(number: u32) -> Frame {
     encode_request(&Request {
         customer: 7,
@@ -30,7 +30,7 @@ fn draw(number: u32) -> Frame {
     })
 }
 
-/// A link that gives this packet, nothing and a failure, and sends once.
+/// Returns a link that receives this packet, nothing and a failure, and sends once.
 fn new_script(alloc: Global, packet: Packet) -> Result<ScriptLink, AllocError> {
     let receipts = vec![in alloc;
         Receipt::Deliver(FAR, packet),
@@ -41,22 +41,22 @@ fn new_script(alloc: Global, packet: Packet) -> Result<ScriptLink, AllocError> {
     ScriptLink::new(alloc, receipts, sends)
 }
 
-/// That link, for which there is memory.
+/// Returns that link, and aborts if there is no memory for it.
 fn new_link<R: Abort + AllocGlobal>(rt: &R, packet: Packet) -> ScriptLink {
     new_script(rt.alloc(), packet).expect(rt, "a link")
 }
 
-/// Whether the link's trace and log are these.
+/// Returns whether the link's trace and log are these.
 fn has_met(link: &ScriptLink, trace: Trace, log: &[(Peer, Frame)]) -> bool {
     link.trace() == trace && link.log() == log
 }
 
-/// A link's trace and log are these in the end.
+/// Asserts that the link's trace and log are these, and drops the link.
 fn ends_with(rt: &impl Abort, link: ScriptLink, trace: Trace, log: &[(Peer, Frame)]) {
     assert!(rt; has_met(&link, trace, log));
 }
 
-/// Whether four receives give the packet, nothing, a failure, and nothing.
+/// Returns whether four receives give the packet, nothing, a failure, and nothing.
 fn receives_in_turn(link: &mut ScriptLink, packet: Packet) -> bool {
     link.receive() == Ok(Some((FAR, packet)))
         && link.receive() == Ok(None)
@@ -64,14 +64,14 @@ fn receives_in_turn(link: &mut ScriptLink, packet: Packet) -> bool {
         && link.receive() == Ok(None)
 }
 
-/// Numbers of Draws that are sent to the far peer in turn, and how each send ends.
+/// Numbers of the Draws that are sent to the far peer one after another, and the result of each.
 const SENDS: &[(u32, Result<(), LinkFault>)] = &[
     (1, Ok(())),
     (2, Err(LinkFault::Send)),
     (2, Err(LinkFault::Spent)),
 ];
 
-/// The sends end as they are to.
+/// Asserts that the sends end as `SENDS` says.
 fn sends_end(rt: &impl Abort, link: &mut ScriptLink) {
     for (number, end) in SENDS {
         same(rt, number, &link.send(FAR, &draw(*number)), end);
@@ -98,7 +98,7 @@ fn calls_follow_the_script(rt: HostRuntime) {
     ends_with(&rt, link, trace, &[(FAR, first)]);
 }
 
-/// Whether receives give the packet, nothing, a failure, and nothing, whether they wait or not.
+/// Returns whether receives that wait and receives that do not wait follow the one script.
 fn receives_at_once(link: &mut ScriptLink, packet: Packet) -> bool {
     link.try_receive() == Ok(Some((FAR, packet)))
         && link.receive() == Ok(None)
@@ -121,12 +121,12 @@ fn receive_now_takes_the_next_receipt(rt: HostRuntime) {
     ends_with(&rt, link, trace, &[]);
 }
 
-/// A link that sends six times.
+/// Returns a link that sends six times.
 fn six_sends(alloc: Global) -> Result<ScriptLink, AllocError> {
     ScriptLink::new(alloc, Vec::new(alloc), vec![in alloc; true; 6]?)
 }
 
-/// Where Draws are sent to in turn, their numbers, and how many sends were alike then, one after another.
+/// Destination and number of each Draw, and the number of equal sends in a row after it.
 const ALIKE: &[(Peer, u32, u64)] = &[
     (FAR, 1, 1),
     (FAR, 1, 2),
@@ -136,7 +136,7 @@ const ALIKE: &[(Peer, u32, u64)] = &[
     (NEAR, 2, 3),
 ];
 
-/// How the send of a Draw ends, and how many sends were alike then.
+/// Sends a Draw. Returns the result, and the number of equal sends in a row after it.
 fn sent_alike(link: &mut ScriptLink, to: Peer, number: u32) -> (Result<(), LinkFault>, u64) {
     let sent = link.send(to, &draw(number));
     (sent, link.trace().alike)

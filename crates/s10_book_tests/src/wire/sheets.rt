@@ -1,4 +1,4 @@
-//! Sheets of labels: how many identifiers they have, and which.
+//! Sheets: how many identifiers they have, and which.
 
 use crate::expect::same;
 use crate::wire::vectors::serial;
@@ -14,7 +14,7 @@ fn id(rt: &impl Abort, value: u32) -> Id {
     }
 }
 
-/// One identifier more than a sheet has, by their serials.
+/// Returns the identifiers with the serials 0 to 16, one more than a sheet may have.
 fn seventeen(rt: &impl Abort) -> [Id; 17] {
     let mut ids = [id(rt, 0); 17];
     for place in 1..17 {
@@ -23,7 +23,7 @@ fn seventeen(rt: &impl Abort) -> [Id; 17] {
     ids
 }
 
-/// The sheet of the first of these identifiers, n as there shall be.
+/// Returns the sheet of the first `labels` identifiers, or `None` if there is no such sheet.
 fn sheet(ids: &[Id], labels: usize) -> Option<Ids> {
     if labels <= ids.len() {
         Ids::new(&ids[..labels])
@@ -32,20 +32,20 @@ fn sheet(ids: &[Id], labels: usize) -> Option<Ids> {
     }
 }
 
-/// How many labels such a sheet has.
+/// Returns how many identifiers that sheet has.
 fn len(ids: &[Id], labels: usize) -> Option<usize> {
     let sheet = sheet(ids, labels)?;
     Some(sheet.len())
 }
 
-/// The serial at a place of such a sheet.
+/// Returns the serial at index `at` of that sheet.
 fn serial_at(ids: &[Id], labels: usize, at: usize) -> Option<u32> {
     let sheet = sheet(ids, labels)?;
     let id = sheet.get(at)?;
     Some(id.serial.value())
 }
 
-/// Whether the sheet of the first of these identifiers is the one of those.
+/// Returns whether the sheet of the first `labels` identifiers equals the sheet of `those`.
 fn is_sheet_of(ids: &[Id], labels: usize, those: &[Id]) -> bool {
     match (sheet(ids, labels), Ids::new(those)) {
         (Some(left), Some(right)) => left == right,
@@ -53,7 +53,7 @@ fn is_sheet_of(ids: &[Id], labels: usize, those: &[Id]) -> bool {
     }
 }
 
-/// Values, and the counts that they are.
+/// Values, and the count that each gives, if any.
 const COUNTS: &[(u8, Option<u8>)] = &[
     (0, None),
     (1, Some(1)),
@@ -74,7 +74,7 @@ fn a_count_is_one_to_sixteen(rt: HostRuntime) {
     }
 }
 
-/// Labels asked for, and how many the sheet has.
+/// Numbers of identifiers, and the length of the sheet of each, if there is one.
 const LENGTHS: &[(usize, Option<usize>)] = &[(0, None), (1, Some(1)), (16, Some(16)), (17, None)];
 
 #[test]
@@ -85,7 +85,7 @@ fn a_sheet_has_one_to_sixteen_labels(rt: HostRuntime) {
     }
 }
 
-/// Labels, a place among them, and the serial that stands there.
+/// Number of identifiers, an index, and the serial at that index, if any.
 const PLACES: &[(usize, usize, Option<u32>)] = &[
     (0, 0, None),
     (1, 0, Some(0)),

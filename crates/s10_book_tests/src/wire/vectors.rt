@@ -1,31 +1,36 @@
-//! Datagrams as they stand in a dump, and what they say.
+//! Datagrams as bytes, and their meaning.
 
 use crate::expect::same;
 use s10_core::{Country, Id, Serial, Service};
 use s10_wire::{Body, Count, Ids, Outcome, Reply, Request, Status};
 use std::process::Abort;
 
-/// What a request of a table asks for, of RA and GB.
+/// What a request of a table asks, of RA GB unless it names an identifier.
 #[derive(Clone, Copy)]
 pub(crate) enum Asked {
-    /// The holder, and the first serial number and the last.
+    /// The holder, the first and the last serial.
     Grant(u32, u32, u32),
     Draw,
+    /// The text of the identifier.
     Void(&'static [u8]),
+    /// The text of the identifier.
     Query(&'static [u8]),
+    /// The number of identifiers.
     DrawMany(u8),
+    /// The number of the range.
     Withdraw(u32),
 }
 
-/// What a request of a table came to.
+/// The outcome of a request of a table.
 #[derive(Clone, Copy)]
 pub(crate) enum Came {
-    /// On this day, to the identifier with this text.
+    /// The day, and the text of the identifier.
     Drawn(u32, &'static [u8]),
-    /// On this day, to the sheet of the identifiers with these texts.
+    /// The day, and the texts of the identifiers of the sheet.
     DrawnMany(u32, &'static [&'static [u8]]),
-    /// To the range of this number.
+    /// The number of the range.
     Granted(u32),
+    /// The status of the identifier.
     Told(Status),
     Voided,
     Withdrawn,
@@ -42,10 +47,10 @@ pub(crate) enum Came {
     NumberReused,
 }
 
-/// A request of a table: the customer, the number, and what is asked.
+/// A request of a table: the customer, the number, and what it asks.
 pub(crate) type Call = (u32, u32, Asked);
 
-/// The bytes of a request, and what they say.
+/// The bytes of a request, and the request.
 pub(crate) type Vector = (&'static [u8], Call);
 
 const REQUESTS: &'static [Vector] = &[
@@ -91,12 +96,12 @@ const REQUESTS: &'static [Vector] = &[
     ),
 ];
 
-// A table is proved again wherever it is named, so each of the two is named once.
+// The prover proves a table again wherever it is named, so each of the two is named once.
 pub(crate) fn requests() -> &'static [Vector] {
     REQUESTS
 }
 
-/// The bytes of a reply, its request, and what that came to.
+/// The bytes of a reply, its request, and its outcome.
 pub(crate) type ReplyVector = (&'static [u8], Call, Came);
 
 const REPLIES: &'static [ReplyVector] = &[
@@ -269,7 +274,7 @@ pub(crate) fn outcome(rt: &impl Abort, came: &Came) -> Outcome {
     }
 }
 
-/// The sheet of the identifiers with these texts.
+/// Returns the sheet of the identifiers with these texts.
 fn sheet(rt: &impl Abort, texts: &[&[u8]]) -> Ids {
     let mut room = [id(rt, b"RA000000005GB"); 16];
     let labels = texts.len().min(16);
@@ -279,7 +284,7 @@ fn sheet(rt: &impl Abort, texts: &[&[u8]]) -> Ids {
     Ids::new(&room[..labels]).expect(rt, "a sheet without labels")
 }
 
-/// The reply of a row of a table, which is named by these bytes of it.
+/// Returns the reply of a row, which is printed if the outcome does not fit.
 pub(crate) fn reply(rt: &impl Abort, row: &[u8], call: &Call, came: &Came) -> Reply {
     let reply = Reply::new(request(rt, call), outcome(rt, came));
     same(rt, &row, &reply.is_some(), &true);
