@@ -1,4 +1,5 @@
-//! Tests of the server, the client and the links between them, of both ends in one world, and of jobs over them.
+//! Tests of the server, the client and the links between them, of both ends in one world, and of
+//! jobs.
 #![tactic(auto)]
 
 #[cfg(test)]

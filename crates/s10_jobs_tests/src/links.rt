@@ -3,9 +3,10 @@
 use s10_link::{Packet, Peer, Receipt, ScriptLink};
 use std::alloc::{AllocError, Global};
 
-/// What a receive meets.
+/// What a receive gives.
 #[derive(Clone, Copy)]
 pub enum Meets {
+    /// A datagram: its sender and its bytes.
     Bytes(Peer, &'static [u8]),
     Nothing,
     Fault,
@@ -19,7 +20,11 @@ fn receipt(meets: Meets) -> Receipt {
     }
 }
 
-/// A link whose receives and sends meet these.
+/// Returns a link whose receives give these, and whose sends succeed or fail as listed.
+///
+/// # Errors
+///
+/// `AllocError` if the link cannot be allocated.
 pub(crate) fn link_of(
     alloc: Global,
     receipts: &[Meets],
@@ -32,7 +37,12 @@ pub(crate) fn link_of(
     ScriptLink::new(alloc, list, sends.to_vec(alloc)?)
 }
 
-/// The same link, with a receive that fails before the one of the receipt with this number.
+/// Returns the same link with one more receive, which fails before receipt number `failing`,
+/// counted from 0.
+///
+/// # Errors
+///
+/// `AllocError` if the link cannot be allocated.
 pub(crate) fn link_with_failure(
     alloc: Global,
     receipts: &[Meets],

@@ -1,21 +1,24 @@
-//! What turns of a server end in.
+//! How turns of a server end.
 
 use s10_book::BookFault;
 use s10_ends::{ServerTurn, Turn};
 use s10_link::{LinkFault, Peer};
 use s10_wire::WireFault;
 
-/// What a turn ends in.
+/// The expected end of a turn.
 #[derive(Clone, Copy)]
 pub enum Ends {
+    /// The receiver of the reply, and its bytes.
     Replied(Peer, &'static [u8]),
+    /// The sender of the datagram, and its fault.
     Dropped(Peer, WireFault),
+    /// The sender of the request, and the fault of the book.
     Faulted(Peer, BookFault),
     Quiet,
     Failed(LinkFault),
 }
 
-/// Whether a turn that went through ends so.
+/// Returns whether a turn without a fault of the link ends as expected.
 fn has_ended(turn: &ServerTurn, ends: &Ends) -> bool {
     match (turn, ends) {
         (ServerTurn::Replied(to, frame), Ends::Replied(peer, reply)) => {
@@ -32,7 +35,7 @@ fn has_ended(turn: &ServerTurn, ends: &Ends) -> bool {
     }
 }
 
-/// Whether a turn ends so.
+/// Returns whether a turn ends as expected.
 pub(crate) fn is_as_wanted_reply(turn: &Turn, ends: &Ends) -> bool {
     match (turn, ends) {
         (Ok(turn), _) => has_ended(turn, ends),

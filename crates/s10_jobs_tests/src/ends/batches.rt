@@ -23,20 +23,25 @@ const OTHER: Peer = Peer {
     port: 4712,
 };
 
-/// A round: how many datagrams it takes at most, what its turns end in, and how many replies were sent by then.
+/// A batch: its limit of datagrams, the ends of its turns, and the number of replies sent after it.
 type Batch = (u32, &'static [Ends], usize);
 
-/// What the receives and the sends of a link meet, the batches over it, the replies that they send, and how often they call it.
+/// A script of a link, and what is expected of the batches over it.
 #[derive(Clone, Copy)]
 struct Script {
+    /// What each receive gives.
     receipts: &'static [Meets],
+    /// Whether each send succeeds.
     sends: &'static [bool],
     batches: &'static [Batch],
+    /// The replies that are sent, in order.
     replies: &'static [Sent],
+    /// The number of calls of the link.
     calls: u64,
 }
 
-/// A Grant, a Draw, a datagram that asks nothing, another Draw, and the first one again, from two peers.
+/// A Grant, a Draw, a datagram that is no request, a second Draw, and the first Draw again, from
+/// two peers.
 const FIVE_RECEIPTS: &'static [Meets] = &[
     Meets::Bytes(OTHER, GRANT),
     Meets::Bytes(PEER, DRAW),
@@ -45,7 +50,7 @@ const FIVE_RECEIPTS: &'static [Meets] = &[
     Meets::Bytes(OTHER, DRAW),
 ];
 
-/// Their replies, and where they go.
+/// The replies to them, each to the sender of its request.
 const FOUR_REPLIES: &'static [Sent] = &[
     (OTHER, GRANTED),
     (PEER, DRAWN),
@@ -53,7 +58,7 @@ const FOUR_REPLIES: &'static [Sent] = &[
     (OTHER, DRAWN),
 ];
 
-/// Whether turns end so, one by one.
+/// Returns whether the turns end as expected, in order.
 fn are_as_reported(turns: &[Turn], told: &[Ends]) -> bool {
     if turns.len() != told.len() {
         return false;
@@ -66,7 +71,7 @@ fn are_as_reported(turns: &[Turn], told: &[Ends]) -> bool {
     true
 }
 
-/// Whether a batch goes as scripted.
+/// Returns whether the next batch ends as expected.
 fn serves<B: GroupCommit>(
     alloc: Global,
     server: &mut Server<B>,
@@ -83,7 +88,8 @@ fn serves<B: GroupCommit>(
     }
 }
 
-/// Whether a server goes through the batches of a script as told, one after another, and so do its replies and calls.
+/// Returns whether the batches of a script, one after another, and its replies and calls of the
+/// link are as expected.
 fn goes_through<B: GroupCommit>(alloc: Global, server: &mut Server<B>, script: &Script) -> bool {
     let Ok(mut link) = link_of(alloc, script.receipts, script.sends) else {
         return false;
@@ -96,13 +102,13 @@ fn goes_through<B: GroupCommit>(alloc: Global, server: &mut Server<B>, script: &
     has_sent(&link, script.replies) && link.trace().calls == script.calls
 }
 
-/// Whether a script goes as scripted over an empty book, which then has n calls.
+/// Returns whether a script over an empty book ends as expected and leaves n calls in the book.
 fn leaves(alloc: Global, script: &Script, calls: u32) -> bool {
     let mut server = new_server(alloc, 100);
     goes_through(alloc, &mut server, script) && server.book().len() == calls
 }
 
-/// All five in one batch.
+/// All five datagrams are in one batch.
 const ONE_BATCH: Script = Script {
     receipts: FIVE_RECEIPTS,
     sends: &[true; 4],
@@ -126,7 +132,7 @@ fn each_reply_goes_to_its_peer_in_turn(rt: HostRuntime) {
     assert!(rt; leaves(rt.alloc(), &ONE_BATCH, 3));
 }
 
-/// Two at a time.
+/// Each batch receives up to two datagrams.
 const THREE_BATCHES: Script = Script {
     receipts: FIVE_RECEIPTS,
     sends: &[true; 4],
@@ -155,7 +161,7 @@ fn a_batch_leaves_the_rest_for_the_next(rt: HostRuntime) {
     assert!(rt; leaves(rt.alloc(), &THREE_BATCHES, 3));
 }
 
-/// A receive that fails between a Grant and a Draw.
+/// A receive fails between a Grant and a Draw.
 const FAILED_RECEIVE: Script = Script {
     receipts: &[
         Meets::Bytes(OTHER, GRANT),
@@ -183,7 +189,7 @@ fn a_failed_receive_is_reported_after_the_datagrams(rt: HostRuntime) {
     assert!(rt; leaves(rt.alloc(), &FAILED_RECEIVE, 2));
 }
 
-/// Batches over no receipt, over a receive that meets nothing, and over one that fails.
+/// Batches over no receipt, over a receive that gives nothing, and over a receive that fails.
 const LONE_BATCHES: &'static [Script] = &[
     Script {
         receipts: &[],
@@ -215,7 +221,7 @@ fn a_batch_without_a_datagram_is_one_turn(rt: HostRuntime) {
     }
 }
 
-/// A send that fails, and one that is not left.
+/// The second send fails, and the fourth finds no send left.
 const FAILED_SENDS: Script = Script {
     receipts: FIVE_RECEIPTS,
     sends: &[true, false, true],
@@ -239,7 +245,7 @@ fn a_failed_send_leaves_the_other_replies(rt: HostRuntime) {
     assert!(rt; leaves(rt.alloc(), &FAILED_SENDS, 3));
 }
 
-/// Two Draws in one batch, with their replies.
+/// Two Draws are in one batch, which sends both replies.
 const TWO_DRAWS: Script = Script {
     receipts: &[Meets::Bytes(PEER, DRAW), Meets::Bytes(OTHER, SECOND_DRAW)],
     sends: &[true; 2],
@@ -255,20 +261,20 @@ const TWO_DRAWS: Script = Script {
     calls: 4,
 };
 
-/// Whether a batch over two Draws sends both replies, and how a commit after it fails.
+/// Returns whether a batch of two Draws sends both replies, and the fault of a commit after it.
 fn sent_then_committed<B: GroupCommit + Drop>(alloc: Global, book: B) -> (bool, Option<BookFault>) {
     let mut server = Server::new(book);
     let is_sent = goes_through(alloc, &mut server, &TWO_DRAWS);
     (is_sent, server.commit().err())
 }
 
-/// The same where a book that has the first Grant fails at one of its calls from then on.
+/// The same for a book with the first Grant that fails at call `at` from then on, counted from 0.
 fn served_then_committed(alloc: Global, at: u64) -> (bool, Option<BookFault>) {
     let book = granted_server(alloc, 100).into_book();
     sent_then_committed(alloc, TripBook::new(book, at))
 }
 
-/// How many batches do not send both replies, where a call of the book fails, each in turn.
+/// Returns for how many of the first 20 calls of the book a failure keeps a reply from being sent.
 fn faulted_batches(alloc: Global) -> u64 {
     let mut faulted: u64 = 0;
     for at in 0..20u64 {
@@ -279,8 +285,9 @@ fn faulted_batches(alloc: Global) -> u64 {
     faulted
 }
 
-// All calls of a book in memory are committed. Its call after those of the Draws is the commit of the batch, and the next one the
-// commit after it: both replies are sent where either fails.
+// A book in memory commits each call when it keeps it. After its calls for the two Draws come the
+// commit of the batch and the commit after it. Both replies are sent even if one of these commits
+// fails.
 #[test]
 fn committed_calls_are_answered_though_a_commit_fails(rt: HostRuntime) {
     let own = faulted_batches(rt.alloc());

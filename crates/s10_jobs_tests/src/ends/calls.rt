@@ -17,13 +17,13 @@ const STRANGER: Peer = Peer {
     port: 9,
 };
 
-/// NoneFree, in reply to customer 7's Draw of RA GB with number 2.
+/// A reply to another request: NoneFree to customer 7's Draw of RA GB with number 2.
 const OTHER: Meets = Meets::Bytes(SERVER, b"S1\x01\x82\0\0\0\x07\0\0\0\x02RAGB\x05");
 
-/// The Draw with number 1, which is sent to the server.
+/// The Draw with number 1, sent to the server.
 const ASKED: Sent = (SERVER, DRAW);
 
-/// How a call fails, whose Draw has number 1 where it has a number.
+/// How a call fails. Its request, if it has one, is the Draw with number 1.
 #[derive(Clone, Copy)]
 enum Fails {
     Submit(SubmitFault),
@@ -39,7 +39,7 @@ fn fault(fails: Fails) -> CallFault {
     }
 }
 
-/// Whether a call fails so, and nothing is pending then.
+/// Returns whether a call fails in this way and leaves no request pending.
 fn has_failed(client: &mut Client, link: &mut ScriptLink, tries: u32, fails: Fails) -> bool {
     match call(client, link, SERVER, draw(), tries.max(1).min(100)) {
         Ok(_) => false,
@@ -47,7 +47,8 @@ fn has_failed(client: &mut Client, link: &mut ScriptLink, tries: u32, fails: Fai
     }
 }
 
-/// Whether a call sends the Draw twice and gets its reply, and the next one has no number left; the link was called five times.
+/// Returns whether a call sends the Draw twice and accepts its reply, and the next call has no
+/// number left. The link counts five calls then.
 fn is_answered_once(alloc: Global, receipts: &[Meets]) -> bool {
     let Ok(mut link) = link_of(alloc, receipts, &[true, true]) else {
         return false;
@@ -65,7 +66,8 @@ fn is_answered_once(alloc: Global, receipts: &[Meets]) -> bool {
         && link.trace().calls == 5
 }
 
-/// Nothing, another reply, its own from a stranger, and a failure that is not met.
+/// Nothing, a reply to another request, the right reply from a stranger, and a failure that no
+/// receive reaches.
 const OWN_REPLY: &'static [Meets] = &[
     Meets::Nothing,
     OTHER,
@@ -78,21 +80,24 @@ fn request_is_sent_until_its_own_reply_comes(rt: HostRuntime) {
     assert!(rt; is_answered_once(rt.alloc(), OWN_REPLY));
 }
 
-/// A call over a script that ends without a reply.
+/// A script of a link that gives no reply, and what is expected of a call over it.
 #[derive(Clone, Copy)]
 struct Unanswered {
+    /// What each receive gives.
     receipts: &'static [Meets],
+    /// Whether each send succeeds.
     sends: &'static [bool],
     tries: u32,
     fails: Fails,
+    /// The datagrams that are sent, in order.
     sent: &'static [Sent],
-    /// How many calls the link counts then.
+    /// The number of calls of the link.
     calls: u64,
-    /// How many datagrams came.
+    /// The number of datagrams received.
     received: u64,
 }
 
-/// Whether a call fails as scripted, and the next request has the next number.
+/// Returns whether a call fails as expected, and the next request has the next number.
 fn is_unanswered(alloc: Global, told: &Unanswered) -> bool {
     let Ok(mut link) = link_of(alloc, told.receipts, told.sends) else {
         return false;
@@ -105,7 +110,7 @@ fn is_unanswered(alloc: Global, told: &Unanswered) -> bool {
         && client.submit(draw()) == Ok(request(2))
 }
 
-/// One try, and nothing comes.
+/// One try, in which no datagram arrives.
 const NO_REPLY: Unanswered = Unanswered {
     receipts: &[],
     sends: &[true],
@@ -121,7 +126,7 @@ fn call_without_a_reply_is_given_up(rt: HostRuntime) {
     assert!(rt; is_unanswered(rt.alloc(), &NO_REPLY));
 }
 
-/// Two tries, and more datagrams than they read.
+/// Two tries, and one datagram more than they receive.
 const SEVENTEEN: Unanswered = Unanswered {
     receipts: &[OTHER; 17],
     sends: &[true, true],
@@ -137,6 +142,7 @@ fn a_try_reads_eight_datagrams(rt: HostRuntime) {
     assert!(rt; is_unanswered(rt.alloc(), &SEVENTEEN));
 }
 
+/// The first send fails, a receive fails, the second send fails, or no second send is left.
 const FAILING_LINKS: &'static [Unanswered] = &[
     Unanswered {
         receipts: &[],
@@ -183,7 +189,7 @@ fn failing_links_end_a_call(rt: HostRuntime) {
     }
 }
 
-/// Whether a fault is written as this text.
+/// Returns whether a fault has this text.
 fn has_text(alloc: Global, fails: Fails, text: &str) -> bool {
     match fault(fails).to_string(alloc) {
         Ok(found) => found.as_str() == text,

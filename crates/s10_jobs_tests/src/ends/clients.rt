@@ -1,4 +1,4 @@
-//! Clients, and what they take for replies.
+//! Clients, and the datagrams that they accept as replies.
 
 use crate::ends::fixtures::{draw, request};
 use crate::expect::holds_at;
@@ -9,31 +9,32 @@ use std::process::Abort;
 /// The datagram of customer 7's Draw of RA GB with number 5.
 const REQUEST: &[u8] = b"S1\x01\x02\0\0\0\x07\0\0\0\x05RAGB";
 
-/// Its reply, RA000000005GB issued on day 20000.
+/// The reply to it: RA000000005GB, issued on day 20000.
 const REPLY: &[u8] = b"S1\x01\x82\0\0\0\x07\0\0\0\x05RAGB\0\0\0\x4e\x20RA000000005GB";
 
-/// NoRange, in reply to customer 8's Draw of RA GB with number 5.
+/// A reply to another request: NoRange to customer 8's Draw of RA GB with number 5.
 const OTHER: &[u8] = b"S1\x01\x82\0\0\0\x08\0\0\0\x05RAGB\x04";
 
-/// What a client of customer 7 does.
+/// A step of a client of customer 7.
 #[derive(Clone, Copy)]
 enum Step {
-    /// It has taken no number, and has nothing to send.
+    /// It has used no number and has nothing to send.
     IsUnused,
-    /// It submits a Draw with this number.
+    /// It submits a Draw, which gets this number.
     Takes(u32),
-    /// It submits no Draw.
+    /// It submits no Draw, with this fault.
     Refuses(SubmitFault),
     /// It sends this datagram for its pending Draw with this number.
     Sends(u32, &'static [u8]),
-    /// It takes this datagram for no reply, for another's or, where it waits for none, for nothing,
-    /// and waits for the same as before.
+    /// It receives a malformed datagram with this fault, and the same request stays pending.
     Drops(&'static [u8], WireFault),
+    /// It receives a reply to another request, and the same request stays pending.
     PassesOver(&'static [u8]),
+    /// It receives a datagram while idle, and stays idle.
     Ignores(&'static [u8]),
-    /// It accepts this datagram as its reply, and waits for nothing.
+    /// It accepts this datagram as its reply, and is idle then.
     Accepts(&'static [u8]),
-    /// It gives up the Draw with this number, and nothing is pending then.
+    /// It gives up the Draw with this number, and is idle then.
     GivesUp(u32),
 }
 
@@ -78,7 +79,7 @@ fn goes(client: &mut Client, step: Step) -> bool {
     }
 }
 
-/// A client of customer 7 with these numbers goes through the steps.
+/// Asserts that a client of customer 7 with the numbers `first` to `last` performs the steps.
 fn go_through(rt: &impl Abort, first: u32, last: u32, steps: &[Step]) {
     let Ok(mut client) = Client::new(7, first, last) else {
         panic!(rt; "no client");
@@ -88,7 +89,7 @@ fn go_through(rt: &impl Abort, first: u32, last: u32, steps: &[Step]) {
     }
 }
 
-/// A reply comes before its call, after others, and again.
+/// A reply arrives before its request is submitted, after other datagrams, and again.
 const OWN_CALL: &'static [Step] = &[
     Step::IsUnused,
     Step::Ignores(REPLY),

@@ -1,9 +1,10 @@
-//! Days of calls, and the interval of a serial.
+//! Days of calls, and the reuse interval of a serial.
 
 use crate::ends::scripts::Want::Reply;
 use crate::ends::scripts::{DRAW, GRANT, Part, is_played};
 
-/// Three serials, drawn on the days 0, 29 and 30 of an interval.
+/// Three serials are drawn on day 20000. None is free 29 days later, and the first is drawn again
+/// 30 days later.
 const INTERVAL: &'static [Part] = &[(
     &[
         GRANT,
@@ -38,7 +39,7 @@ fn interval_ends_on_the_thirtieth_day(rt: HostRuntime) {
     assert!(rt; is_played(rt.alloc(), 100, INTERVAL));
 }
 
-/// A day that is before the latest.
+/// A call arrives with an earlier day than the one before it.
 const FALLING: &'static [Part] = &[(
     &[
         GRANT,
@@ -62,7 +63,7 @@ fn days_that_fall_are_raised_to_the_latest(rt: HostRuntime) {
     assert!(rt; is_played(rt.alloc(), 100, FALLING));
 }
 
-/// A serial that is drawn, voided, and drawn again once its interval has ended.
+/// A serial is drawn, voided, and drawn again when its interval has ended.
 const VOIDED: &'static [Part] = &[
     (
         &[

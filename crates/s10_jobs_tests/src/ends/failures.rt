@@ -1,4 +1,4 @@
-//! A book that fails at one of its calls.
+//! Servers over a book that fails at one of its calls.
 
 use crate::ends::fixtures::empty_book;
 use crate::ends::scripts::Want::Faulted;
@@ -7,13 +7,14 @@ use s10_book::{Book, BookFault, TripBook};
 use s10_ends::Server;
 use std::alloc::Global;
 
-/// Whether a step is answered as wanted.
+/// Returns whether the server answers a step as expected.
 fn is_answered<B: Book>(server: &mut Server<B>, step: &Step) -> bool {
     let (day, datagram, want) = step;
     is_as_wanted(&server.handle(datagram, *day), want)
 }
 
-/// Whether a step is answered as wanted, handed in again where the store failed, and whether it failed.
+/// Returns whether a step is answered as expected, delivered again if the store failed, and whether
+/// it failed.
 fn is_answered_at_last<B: Book>(server: &mut Server<B>, step: &Step) -> (bool, bool) {
     let (day, datagram, want) = step;
     let answer = server.handle(datagram, *day);
@@ -24,7 +25,7 @@ fn is_answered_at_last<B: Book>(server: &mut Server<B>, step: &Step) -> (bool, b
     }
 }
 
-/// How often a server faults a Grant and a Draw, which are handed in again; none where an answer is wrong.
+/// Returns how many of a Grant and a Draw the server faults once, or `None` if an answer is wrong.
 fn faults_of<B: Book>(server: &mut Server<B>) -> Option<u32> {
     let (is_granted, grant_faulted) = is_answered_at_last(server, &GRANT);
     let (is_drawn, draw_faulted) = is_answered_at_last(server, &DRAW);
@@ -35,7 +36,7 @@ fn faults_of<B: Book>(server: &mut Server<B>) -> Option<u32> {
     }
 }
 
-/// How often a server over this book faults them; none where an answer or the ledger is wrong.
+/// The same for a server over this book, or `None` if the book does not keep both calls.
 fn faults_made_good<B: Book + Drop>(book: B) -> Option<u32> {
     let mut server = Server::new(book);
     let faults = faults_of(&mut server);
@@ -46,7 +47,8 @@ fn faults_made_good<B: Book + Drop>(book: B) -> Option<u32> {
     }
 }
 
-/// Whether each call of the book that fails in turn faults one request, until a run meets no fault.
+/// Returns whether a failure at each call of the book in turn faults one request, up to a call that
+/// is not made.
 fn each_is_made_good(alloc: Global) -> bool {
     for at in 0..100u64 {
         match faults_made_good(TripBook::new(empty_book(alloc, 100), at)) {

@@ -1,4 +1,4 @@
-//! What several of these tests use: servers over books, scripted links, and calls.
+//! Servers over books, scripted links, and calls, for several of these tests.
 
 use s10_book::{Book, PlainBook};
 use s10_core::{Country, Serial, Service};
@@ -10,34 +10,37 @@ use std::alloc::Global;
 use std::net::Net;
 use std::process::Abort;
 
-/// A port of this machine that the system picks.
+/// A port of this machine that the operating system chooses.
 pub const ANY_PORT: Peer = Peer {
     ip: [127, 0, 0, 1],
     port: 0,
 };
 
-/// A link of a socket of this machine, which waits n milliseconds in a receive.
+/// Returns a link of a socket of this machine whose receives wait `wait_ms` milliseconds.
 pub(crate) fn bound<R: Abort + Net>(rt: &R, wait_ms: u32) -> UdpLink {
     UdpLink::bind(rt, ANY_PORT, wait_ms).expect(rt, "a socket")
 }
 
-/// The post's first Grant and its reply: range 1 for customer 7, RA GB 0 to 2.
+/// The post's first Grant: RA GB 0 to 2 to customer 7.
 pub const GRANT: &[u8] = b"S1\x01\x01\0\0\0\0\0\0\0\x01\0\0\0\x07RAGB\0\0\0\0\0\0\0\x02";
 
+/// The reply to it: range 1.
 pub const GRANTED: &[u8] =
     b"S1\x01\x81\0\0\0\0\0\0\0\x01\0\0\0\x07RAGB\0\0\0\0\0\0\0\x02\0\0\0\0\x01";
 
-/// Customer 7's first Draw and its reply: RA000000005GB, issued on day 20000.
+/// Customer 7's first Draw.
 pub const DRAW: &[u8] = b"S1\x01\x02\0\0\0\x07\0\0\0\x01RAGB";
 
+/// The reply to it: RA000000005GB, issued on day 20000.
 pub const DRAWN: &[u8] = b"S1\x01\x82\0\0\0\x07\0\0\0\x01RAGB\0\0\0\x4e\x20RA000000005GB";
 
-/// Customer 7's second Draw and its reply.
+/// Customer 7's second Draw.
 pub const SECOND_DRAW: &[u8] = b"S1\x01\x02\0\0\0\x07\0\0\0\x02RAGB";
 
+/// The reply to it: RA000000014GB, issued on day 20000.
 pub const SECOND_DRAWN: &[u8] = b"S1\x01\x82\0\0\0\x07\0\0\0\x02RAGB\0\0\0\x4e\x20RA000000014GB";
 
-/// A Draw of RA GB.
+/// Returns a Draw of RA GB.
 pub(crate) fn draw() -> Body {
     Body::Draw {
         service: Service::new(*b"RA").unwrap(),
@@ -45,7 +48,7 @@ pub(crate) fn draw() -> Body {
     }
 }
 
-/// A Grant of RA GB 0 to 2 to customer 7.
+/// Returns a Grant of RA GB 0 to 2 to customer 7.
 pub(crate) fn grant() -> Body {
     Body::Grant {
         holder: 7,
@@ -56,7 +59,7 @@ pub(crate) fn grant() -> Body {
     }
 }
 
-/// Customer 7's Draw with this number.
+/// Returns customer 7's Draw of RA GB with this number.
 pub(crate) fn request(number: u32) -> Request {
     Request {
         customer: 7,
@@ -65,24 +68,24 @@ pub(crate) fn request(number: u32) -> Request {
     }
 }
 
-/// An empty book of an interval of 30 days, which takes at most 100 calls.
+/// Returns an empty book with an interval of 30 days and a limit clamped to 1 to 100 calls.
 pub(crate) fn empty_book(alloc: Global, limit: u32) -> PlainBook {
     PlainBook::new(alloc, Settings::new(30, limit.max(1).min(100)).unwrap())
 }
 
-/// A server over an empty book.
+/// Returns a server over an empty book.
 pub(crate) fn new_server(alloc: Global, limit: u32) -> Server<PlainBook> {
     Server::new(empty_book(alloc, limit))
 }
 
-/// A server that took the first Grant.
+/// Returns a server that has executed the first Grant.
 pub(crate) fn granted_server(alloc: Global, limit: u32) -> Server<PlainBook> {
     let mut server = new_server(alloc, limit);
     let _ = server.handle(GRANT, 20_000);
     server
 }
 
-/// Whether the first six calls of two books are the same.
+/// Returns whether two books are equal in length and in their first six calls.
 pub(crate) fn have_one_history<B: Book>(one: &mut B, other: &mut B) -> bool {
     for at in 1..7u32 {
         let (Ok(entry), Ok(same)) = (one.entry(at), other.entry(at)) else {
@@ -95,10 +98,10 @@ pub(crate) fn have_one_history<B: Book>(one: &mut B, other: &mut B) -> bool {
     one.len() == other.len()
 }
 
-/// A datagram, and where it is sent.
+/// The address that a datagram is sent to, and its bytes.
 pub type Sent = (Peer, &'static [u8]);
 
-/// Whether the link sent these datagrams, in this order, and nothing else.
+/// Returns whether the link sent exactly these datagrams, in this order.
 pub(crate) fn has_sent(link: &ScriptLink, sent: &[Sent]) -> bool {
     let log = link.log();
     if log.len() != sent.len() {
@@ -112,7 +115,7 @@ pub(crate) fn has_sent(link: &ScriptLink, sent: &[Sent]) -> bool {
     true
 }
 
-/// Whether the client's next call, in n tries, is answered by this datagram.
+/// Returns whether the client's next call accepts this datagram as its reply, in 1 to 100 tries.
 pub(crate) fn is_answered<L: Link>(
     client: &mut Client,
     link: &mut L,

@@ -1,4 +1,4 @@
-//! Runs of a server for which memory is refused.
+//! Runs of a server that is refused memory.
 
 use crate::ends::fixtures::{have_one_history, new_server};
 use s10_book::Book;
@@ -13,7 +13,7 @@ fn delivery(day: u32, datagram: &[u8]) -> Delivery {
     }
 }
 
-// A Grant, four Draws of which two come twice, and a datagram that is cut short.
+// A Grant, five Draws of which two arrive twice, and a datagram that is cut short.
 fn nine_deliveries() -> [Delivery; 9] {
     [
         delivery(
@@ -44,7 +44,7 @@ fn none_is_faulted(answers: &[Answer]) -> bool {
     true
 }
 
-// Whether a server answers all deliveries, and keeps their calls.
+// Returns whether a server answers all deliveries and keeps their calls.
 fn answers_all<B: Book + Drop>(alloc: Global, mut server: Server<B>) -> bool {
     match server.run(alloc, &nine_deliveries()) {
         Ok(answers) => {
@@ -59,7 +59,8 @@ fn a_run_with_ample_memory_faults_nothing(rt: HostRuntime) {
     assert!(rt; answers_all(rt.alloc(), new_server(rt.alloc(), 100)));
 }
 
-// Whether a server answers a delivery so; none where it meets the refused request itself.
+// Returns whether a server gives this answer to a delivery, or `None` if it is itself refused
+// memory.
 fn is_answered_so<B: Book>(
     server: &mut Server<B>,
     delivery: &Delivery,
@@ -76,8 +77,8 @@ fn is_answered_so<B: Book>(
     }
 }
 
-// Whether a server without the faulted deliveries answers the others alike; none where it meets
-// the refused request itself.
+// Returns whether a server gives the same answers to the deliveries that were not faulted, or
+// `None` if it is itself refused memory.
 fn answers_alike<B: Book>(
     server: &mut Server<B>,
     deliveries: &[Delivery],
@@ -94,8 +95,8 @@ fn answers_alike<B: Book>(
     Some(true)
 }
 
-// Whether a run is that of another server without the faulted deliveries; none where there is no
-// run, or where the other server meets the refused request.
+// Returns whether a run equals that of another server without the faulted deliveries, or `None` if
+// there is no run or the other server is refused memory.
 fn is_run_of_others<B: Book>(
     alloc: Global,
     server: &mut Server<B>,
@@ -109,8 +110,8 @@ fn is_run_of_others<B: Book>(
     }
 }
 
-// Whether such a run is there or wanted memory, and whether both servers have one history where it
-// is there.
+// Returns whether such a run is right or refused memory, and whether both servers have equal
+// histories if it is compared.
 fn is_there_with_its_history<B: Book + Drop>(
     alloc: Global,
     mut server: Server<B>,
@@ -124,7 +125,7 @@ fn is_there_with_its_history<B: Book + Drop>(
 }
 
 // checks/refused_memory.sh refuses each request for memory in turn; without it none is refused. A
-// delivery that the book had no memory for is as if it had not come.
+// delivery for which the book had no memory counts as lost.
 #[test]
 fn a_refused_request_for_memory_leaves_a_run_of_the_other_deliveries(rt: HostRuntime) {
     let server = new_server(rt.alloc(), 100);

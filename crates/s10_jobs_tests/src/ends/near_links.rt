@@ -1,11 +1,11 @@
-//! Calls served over a link that has its server beside it.
+//! Calls over a link with a server in the same process.
 
 use crate::ends::fixtures::{DRAWN, GRANTED, bound, draw, grant, is_answered, new_server};
 use s10_book::Book;
 use s10_ends::{Client, NearLink};
 use s10_link::{Link, Peer};
 
-/// Whether the post's Grant and customer 7's Draw are answered over a link to a server.
+/// Returns whether the post's Grant and customer 7's Draw get their replies over this link.
 fn both_are_answered<L: Link>(link: &mut L, to: Peer) -> bool {
     let mut post = Client::new(0, 1, 1).unwrap();
     let mut customer = Client::new(7, 1, 1).unwrap();

@@ -1,4 +1,4 @@
-//! Datagrams that come twice, and one that no link of ours sends.
+//! Datagrams that arrive twice, and one that no client sends.
 
 use crate::ends::fixtures::{bound, draw, is_answered, new_server, request};
 use crate::expect::holds_at;
@@ -10,7 +10,7 @@ use std::net::{Ipv4Addr, Net, SocketAddr, SocketAddrV4, UdpSocket};
 use std::process::Abort;
 use std::time::Duration;
 
-/// Whether a reply is sent twice.
+/// Sends a reply twice. Returns whether both sends succeed.
 fn is_sent_twice<L: Link>(link: &mut L, to: Peer, datagram: &[u8]) -> bool {
     let Ok(reply) = decode_reply(datagram) else {
         return false;
@@ -19,7 +19,7 @@ fn is_sent_twice<L: Link>(link: &mut L, to: Peer, datagram: &[u8]) -> bool {
     link.send(to, &frame) == Ok(()) && link.send(to, &frame) == Ok(())
 }
 
-/// Whether a reply that is sent twice to the client is that to its next Draw.
+/// Sends a reply twice to the client. Returns whether the client's next Draw accepts it.
 fn is_answered_twice<L: Link>(
     client: &mut Client,
     near: (&mut L, Peer),
@@ -30,7 +30,7 @@ fn is_answered_twice<L: Link>(
         && is_answered(client, near.0, far.1, draw(), 2, datagram)
 }
 
-/// Whether customer 7's Draw with this number comes.
+/// Returns whether the next datagram is customer 7's Draw with this number.
 fn has_come<L: Link>(link: &mut L, from: Peer, number: u32) -> bool {
     let packet = Packet::new(encode_request(&request(number)).bytes());
     link.receive() == Ok(Some((from, packet)))
@@ -40,7 +40,7 @@ fn nothing_comes<L: Link>(link: &mut L) -> bool {
     link.receive() == Ok(None)
 }
 
-/// Customer 7's Draws with the numbers 1 to 3 come, and nothing after them.
+/// Asserts that customer 7's Draws with the numbers 1 to 3 arrive, and nothing after them.
 fn three_draws_come<L: Link>(rt: &impl Abort, link: &mut L, from: Peer) {
     for number in 1..4u32 {
         holds_at(rt, number as usize, has_come(link, from, number));
@@ -73,13 +73,13 @@ fn a_client_that_gets_each_datagram_twice_sends_each_frame_once(rt: HostRuntime)
     three_draws_come(&rt, &mut far, here);
 }
 
-/// Whether a socket is set to wait n milliseconds in a receive.
+/// Lets receives of a socket wait `wait_ms` milliseconds. Returns whether that succeeds.
 fn waits(socket: &UdpSocket, wait_ms: u64) -> bool {
     let wait = Some(Duration::from_millis(wait_ms));
     socket.set_read_timeout(wait).is_ok()
 }
 
-/// A socket of this machine that waits n milliseconds in a receive.
+/// Returns a socket of this machine whose receives wait `wait_ms` milliseconds.
 fn raw_socket<R: Abort + Net>(rt: &R, wait_ms: u64) -> UdpSocket {
     let any = SocketAddr::V4(SocketAddrV4::new(Ipv4Addr::LOCALHOST, 0));
     let socket = UdpSocket::bind(rt, any).expect(rt, "a socket");
@@ -87,7 +87,7 @@ fn raw_socket<R: Abort + Net>(rt: &R, wait_ms: u64) -> UdpSocket {
     socket
 }
 
-/// Where a socket is bound.
+/// Returns the address of a socket.
 fn peer_of(socket: &UdpSocket) -> Option<Peer> {
     match socket.local_addr() {
         Ok(SocketAddr::V4(at)) => Some(Peer {
@@ -98,22 +98,23 @@ fn peer_of(socket: &UdpSocket) -> Option<Peer> {
     }
 }
 
-/// The first Grant with a byte after it.
+/// The first Grant with one byte more at its end.
 const LONGER_GRANT: [u8; 29] = *b"S1\x01\x01\0\0\0\0\0\0\0\x01\0\0\0\x07RAGB\0\0\0\0\0\0\0\x02\0";
 
-/// Whether all bytes are sent to a port of this machine.
+/// Sends bytes to a port of this machine. Returns whether all of them were sent.
 fn sends_raw(socket: &UdpSocket, port: u16, bytes: &[u8]) -> bool {
     let to = SocketAddr::V4(SocketAddrV4::new(Ipv4Addr::LOCALHOST, port));
     socket.send_to(bytes, to).ok() == Some(bytes.len())
 }
 
-/// Whether one turn of the server drops what came from there for its length.
+/// Returns whether the server's next turn drops a datagram of this sender for its length.
 fn drops(server: &mut Server<PlainBook>, link: &mut UdpLink, from: Peer) -> bool {
     serve_one(server, link, 20_000) == Ok(ServerTurn::Dropped(from, WireFault::Length))
         && server.book().len() == 0
 }
 
-/// Whether one turn of the server drops the longer Grant of a socket for its length, and sends it nothing.
+/// Returns whether the server drops the longer Grant of a socket for its length and sends it
+/// nothing.
 fn is_dropped(server: &mut Server<PlainBook>, link: &mut UdpLink, socket: &UdpSocket) -> bool {
     match peer_of(socket) {
         Some(from) => {

@@ -1,4 +1,4 @@
-//! Worlds of strange bytes and of a full book.
+//! Worlds with strange bytes and with a full book.
 
 use crate::ends::fixtures::{DRAW, DRAWN, GRANTED, empty_book};
 use crate::ends::story::{Asked, Happens, STORY, world_after};
@@ -7,7 +7,8 @@ use s10_wire::{Frame, Reply};
 use s10_world::World;
 use std::alloc::Global;
 
-/// Bytes that ask nothing, and a Draw of customer 7 that nobody submitted, before the client's own with that number.
+/// Bytes that are no request, and a Draw of customer 7 that no client submitted, before the
+/// client's own with that number.
 const STRANGE_BYTES: &'static [Happens] = &[
     Happens::Strange(b"S1", 20_000),
     Happens::Submit(0, Asked::Grant),
@@ -21,17 +22,20 @@ const STRANGE_BYTES: &'static [Happens] = &[
     Happens::ToClient(1, 2),
 ];
 
-/// What events come to.
+/// What is expected of a world after its events.
 #[derive(Clone, Copy)]
 pub struct Expected<'a> {
+    /// The server's replies, in order.
     pub replied: &'a [&'a [u8]],
+    /// The number of requests submitted.
     pub submitted: usize,
+    /// The number of replies accepted.
     pub accepted: usize,
-    /// How many calls the book has then.
+    /// The number of calls of the book.
     pub calls: u32,
 }
 
-/// Whether these are the frames, in turn.
+/// Returns whether these are the frames, in order.
 pub(crate) fn are_frames(frames: &[Frame], datagrams: &[&[u8]]) -> bool {
     if frames.len() != datagrams.len() {
         return false;
@@ -44,7 +48,7 @@ pub(crate) fn are_frames(frames: &[Frame], datagrams: &[&[u8]]) -> bool {
     true
 }
 
-/// Whether a client accepted a reply with this number.
+/// Returns whether the client accepted a reply with this number.
 fn has_accepted(accepted: &[(u32, Reply)], client: u32, number: u32) -> bool {
     for (by, reply) in accepted {
         if *by == client && reply.request().number == number {
@@ -54,7 +58,7 @@ fn has_accepted(accepted: &[(u32, Reply)], client: u32, number: u32) -> bool {
     false
 }
 
-/// Whether no client accepted two replies with one number.
+/// Returns whether no client accepted two replies with one number.
 fn are_accepted_once(accepted: &[(u32, Reply)]) -> bool {
     for at in 0..accepted.len() {
         let (client, reply) = &accepted[at];
@@ -65,7 +69,7 @@ fn are_accepted_once(accepted: &[(u32, Reply)]) -> bool {
     true
 }
 
-/// Whether a world is what was expected of it.
+/// Returns whether a world is as expected.
 fn is_as_expected<B: Book>(world: &World<B>, expected: &Expected<'_>) -> bool {
     are_frames(world.replied(), expected.replied)
         && are_accepted_once(world.accepted())
@@ -74,7 +78,7 @@ fn is_as_expected<B: Book>(world: &World<B>, expected: &Expected<'_>) -> bool {
         && world.server().book().len() == expected.calls
 }
 
-/// Whether what happens over a book with room for n calls comes to this.
+/// Returns whether a world is as expected after a story over an empty book with this limit.
 pub(crate) fn comes_to(
     alloc: Global,
     limit: u32,
@@ -87,7 +91,7 @@ pub(crate) fn comes_to(
     }
 }
 
-/// Where bytes that ask for a call are executed once.
+/// The Draw in strange bytes is executed, and the client's own is a repeat of it.
 const ASKED_ONCE: Expected<'static> = Expected {
     replied: &[GRANTED, DRAWN, DRAWN],
     submitted: 2,
@@ -100,7 +104,7 @@ fn strange_bytes_are_executed_once_where_they_ask(rt: HostRuntime) {
     assert!(rt; comes_to(rt.alloc(), 100, STRANGE_BYTES, &ASKED_ONCE));
 }
 
-/// Where a book has room for one call.
+/// A book with a limit of one call keeps only the Grant.
 const FULL: Expected<'static> = Expected {
     replied: &[GRANTED],
     submitted: 3,

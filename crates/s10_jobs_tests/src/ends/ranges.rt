@@ -3,7 +3,7 @@
 use crate::ends::scripts::Want::Reply;
 use crate::ends::scripts::{GRANT, Part, is_played};
 
-/// Grants that share serials with earlier ones and that do not; then each customer draws from its own range alone.
+/// Grants are done and refused. Then each customer draws only from its own range.
 const RANGES: &'static [Part] = &[
     (
         &[
@@ -82,7 +82,7 @@ fn ranges_with_a_serial_in_common_are_refused(rt: HostRuntime) {
     assert!(rt; is_played(rt.alloc(), 100, RANGES));
 }
 
-/// A range of the last two serials.
+/// Customer 7 draws from a range of the last two serials.
 const LAST_SERIALS: &'static [Part] = &[(
     &[
         (
@@ -127,11 +127,11 @@ fn the_last_serials_are_drawn_and_no_more(rt: HostRuntime) {
     assert!(rt; is_played(rt.alloc(), 100, LAST_SERIALS));
 }
 
-/// Calls that are refused, each for its own reason.
+/// Each call gets the refusal of its rule, or the status that it asks for.
 const REFUSALS: &'static [Part] = &[(
     &[
         GRANT,
-        // Customer 8 asks about what is customer 7's.
+        // Customer 8 asks for an identifier of customer 7.
         (
             20000,
             b"S1\x01\x04\0\0\0\x08\0\0\0\x01RA000000005GB",
@@ -142,7 +142,7 @@ const REFUSALS: &'static [Part] = &[(
             b"S1\x01\x03\0\0\0\x08\0\0\0\x02RA000000005GB",
             Reply(b"S1\x01\x83\0\0\0\x08\0\0\0\x02RA000000005GB\x06"),
         ),
-        // The post is told of every identifier, and has none of its own.
+        // The post may query every identifier, and has no range of its own.
         (
             20000,
             b"S1\x01\x04\0\0\0\0\0\0\0\x02RA473124829US",
@@ -163,7 +163,8 @@ const REFUSALS: &'static [Part] = &[(
             b"S1\x01\x03\0\0\0\0\0\0\0\x05RA000000005GB",
             Reply(b"S1\x01\x83\0\0\0\0\0\0\0\x05RA000000005GB\x06"),
         ),
-        // Customer 7 voids what was not issued and what is not its own, and draws where it has no range.
+        // Customer 7 voids an identifier that was not issued and one that is not its own, and draws
+        // of a service in which it has no range.
         (
             20000,
             b"S1\x01\x03\0\0\0\x07\0\0\0\x01RA000000028GB",

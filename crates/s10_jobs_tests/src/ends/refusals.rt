@@ -1,11 +1,11 @@
-//! Bytes that ask nothing, and calls to a book that is full.
+//! Bytes that are no requests, and calls to a full book.
 
 use crate::ends::scripts::Want::{Dropped, Faulted, Reply};
 use crate::ends::scripts::{DRAW, GRANT, Part, is_played};
 use s10_book::BookFault;
 use s10_wire::WireFault;
 
-/// Bytes that ask nothing, and why.
+/// Bytes that are no requests, with the fault of each.
 const DROPPED: &'static [Part] = &[(
     &[
         (
@@ -64,7 +64,7 @@ fn bytes_that_ask_nothing_are_dropped(rt: HostRuntime) {
     assert!(rt; is_played(rt.alloc(), 100, DROPPED));
 }
 
-/// A book with room for three calls, and what comes once it is full.
+/// A book with a limit of three calls, and datagrams that arrive when it is full.
 const FULL: &'static [Part] = &[(
     &[
         GRANT,

@@ -1,4 +1,4 @@
-//! A world for which memory is refused.
+//! A world that is refused memory.
 
 use crate::ends::fixtures::{empty_book, have_one_history};
 use crate::ends::story::{EVENTS, STORY, events_of, new_world};
@@ -6,14 +6,14 @@ use s10_book::{Book, PlainBook};
 use s10_world::{Event, World, WorldFault};
 use std::alloc::{AllocError, Global};
 
-// Whether the lists of two worlds are alike.
+// Returns whether two worlds have the same lists of requests and replies.
 fn are_alike<B: Book>(one: &World<B>, other: &World<B>) -> bool {
     one.submitted() == other.submitted()
         && one.accepted() == other.accepted()
         && one.replied() == other.replied()
 }
 
-// A world after these events, without the one at a place where one is named.
+// Returns the world after these events, without the event at index `left_out` if one is named.
 fn world_without(
     alloc: Global,
     events: &[Event],
@@ -30,7 +30,7 @@ fn world_without(
     Ok(world)
 }
 
-// The world after these events that is alike, or after these without one of their deliveries.
+// Returns the world that equals this one: after all of these events, or without one delivery.
 fn alike_world(
     alloc: Global,
     world: &World<PlainBook>,
@@ -57,7 +57,8 @@ fn end_alike<B: Book + Drop>(one: World<B>, other: World<B>) -> bool {
     have_one_history(&mut book, &mut same)
 }
 
-// Whether a world has the history of the one that is alike; none where there is none.
+// Returns whether a world has the history of the one that equals it, or `None` if none does. Lack
+// of memory for the comparison counts as equal.
 fn has_its_history(alloc: Global, world: World<PlainBook>, events: &[Event]) -> Option<bool> {
     match alike_world(alloc, &world, events) {
         Ok(Some(other)) => Some(end_alike(world, other)),
@@ -66,9 +67,9 @@ fn has_its_history(alloc: Global, world: World<PlainBook>, events: &[Event]) -> 
     }
 }
 
-// checks/refused_memory.sh refuses each request for memory in turn; without it none is refused. What
-// was refused is as if it had not come: the event that wanted memory and those after it, or else
-// the delivery that the book had no memory for.
+// checks/refused_memory.sh refuses each request for memory in turn; without it none is refused.
+// Either the event that was refused memory and those after it have no effect, or the delivery for
+// which the book had no memory counts as lost.
 #[test]
 fn a_refused_request_for_memory_leaves_a_run_of_the_other_events(rt: HostRuntime) {
     let events = events_of(STORY);

@@ -1,4 +1,4 @@
-//! Datagrams that come again.
+//! Datagrams that arrive again.
 
 use crate::ends::scripts::Want::{Dropped, Reply};
 use crate::ends::scripts::{DRAW, GRANT, Part, Step, is_played};
@@ -11,7 +11,7 @@ const LATE_DRAW: Step = (
     Reply(b"S1\x01\x82\0\0\0\x07\0\0\0\x01RAGB\0\0\0\x4e\x20RA000000005GB"),
 );
 
-/// A Grant, five Draws of which two come twice, and a datagram that is cut short.
+/// A Grant, five Draws of which two arrive twice, and a datagram that is cut short.
 const NINE: &'static [Part] = &[(
     &[
         GRANT,
@@ -57,7 +57,7 @@ fn nine_deliveries_get_their_replies(rt: HostRuntime) {
     assert!(rt; is_played(rt.alloc(), 100, NINE));
 }
 
-/// A Draw that comes again after its interval, which leaves the day as it was.
+/// A Draw arrives again after its interval, and the day of the book stays the same.
 const LATER: &'static [Part] = &[
     (&[GRANT, DRAW, LATE_DRAW], 2, 20000),
     (
@@ -76,7 +76,7 @@ fn repeat_on_a_later_day_gets_the_kept_reply(rt: HostRuntime) {
     assert!(rt; is_played(rt.alloc(), 100, LATER));
 }
 
-/// A refused Draw that comes again on a day on which a new one is not refused.
+/// A refused Draw arrives again on a day on which a new Draw is done.
 const REFUSED: &'static [Part] = &[
     (
         &[
@@ -122,7 +122,7 @@ fn repeat_of_a_refused_draw_is_refused_still(rt: HostRuntime) {
     assert!(rt; is_played(rt.alloc(), 100, REFUSED));
 }
 
-/// A number that comes again with another request, and then with its own.
+/// A number arrives again with another request, and then with its own.
 const REUSED: &'static [Part] = &[
     (
         &[

@@ -1,4 +1,4 @@
-//! Scripts of deliveries, each with the answer that it gets.
+//! Deliveries, each with its expected answer.
 
 use crate::ends::fixtures::new_server;
 use s10_book::{Book, BookFault};
@@ -7,7 +7,7 @@ use s10_link::Packet;
 use s10_wire::WireFault;
 use std::alloc::{AllocError, Global};
 
-/// The answer to a delivery.
+/// The expected answer to a delivery.
 #[derive(Clone, Copy)]
 pub enum Want {
     Reply(&'static [u8]),
@@ -15,10 +15,10 @@ pub enum Want {
     Faulted(BookFault),
 }
 
-/// A day, a datagram and its answer.
+/// The day, the datagram, and its expected answer.
 pub type Step = (u32, &'static [u8], Want);
 
-/// Steps that are handed in at once, and how many calls the book has then, and its day.
+/// Steps that are delivered in one run, and the number of calls and the day of the book after it.
 pub type Part = (&'static [Step], u32, u32);
 
 /// The post grants range 1 to customer 7: RA GB 0 to 2.
@@ -28,14 +28,14 @@ pub const GRANT: Step = (
     Want::Reply(b"S1\x01\x81\0\0\0\0\0\0\0\x01\0\0\0\x07RAGB\0\0\0\0\0\0\0\x02\0\0\0\0\x01"),
 );
 
-/// Customer 7's first Draw, which is given serial 0.
+/// Customer 7's first Draw, which gets serial 0.
 pub const DRAW: Step = (
     20000,
     b"S1\x01\x02\0\0\0\x07\0\0\0\x01RAGB",
     Want::Reply(b"S1\x01\x82\0\0\0\x07\0\0\0\x01RAGB\0\0\0\x4e\x20RA000000005GB"),
 );
 
-/// Whether the answer is as wanted.
+/// Returns whether the answer is the expected one.
 pub(crate) fn is_as_wanted(answer: &Answer, want: &Want) -> bool {
     match (answer, want) {
         (Answer::Reply(frame), Want::Reply(bytes)) => frame.bytes() == *bytes,
@@ -45,7 +45,7 @@ pub(crate) fn is_as_wanted(answer: &Answer, want: &Want) -> bool {
     }
 }
 
-/// The datagrams of these steps, on their days.
+/// Returns the deliveries of these steps.
 fn deliveries_of(alloc: Global, steps: &[Step]) -> Result<Vec<Delivery>, AllocError> {
     let mut deliveries = Vec::new(alloc);
     for (day, datagram, _) in steps {
@@ -55,7 +55,7 @@ fn deliveries_of(alloc: Global, steps: &[Step]) -> Result<Vec<Delivery>, AllocEr
     Ok(deliveries)
 }
 
-/// Whether each step has its answer.
+/// Returns whether each step has its expected answer.
 fn are_as_wanted(answers: &[Answer], steps: &[Step]) -> bool {
     if answers.len() != steps.len() {
         return false;
@@ -68,7 +68,8 @@ fn are_as_wanted(answers: &[Answer], steps: &[Step]) -> bool {
     true
 }
 
-/// Whether a server that is handed all datagrams of a part at once answers each as wanted, and has the calls and the day told.
+/// Runs a server over the deliveries of a part. Returns whether each answer, the number of calls
+/// and the day of the book are as expected.
 fn plays<B: Book>(alloc: Global, server: &mut Server<B>, part: &Part) -> Result<bool, AllocError> {
     let (steps, calls, day) = part;
     let deliveries = deliveries_of(alloc, steps)?;
@@ -80,7 +81,7 @@ fn plays<B: Book>(alloc: Global, server: &mut Server<B>, part: &Part) -> Result<
     )
 }
 
-/// Whether a server plays these parts, one after another.
+/// Returns whether a server passes these parts, one after another.
 fn plays_all<B: Book>(alloc: Global, server: &mut Server<B>, parts: &[Part]) -> bool {
     for part in parts {
         if plays(alloc, server, part) != Ok(true) {
@@ -90,7 +91,8 @@ fn plays_all<B: Book>(alloc: Global, server: &mut Server<B>, parts: &[Part]) -> 
     true
 }
 
-/// Whether a server over an empty book of that limit plays these parts, one after another.
+/// Returns whether a server over an empty book with this limit passes these parts, one after
+/// another.
 pub(crate) fn is_played(alloc: Global, limit: u32, parts: &[Part]) -> bool {
     let mut server = new_server(alloc, limit);
     plays_all(alloc, &mut server, parts)

@@ -11,30 +11,36 @@ use s10_wire::Body;
 use s10_world::{Event, World};
 use std::alloc::{AllocError, Global};
 
-/// What a client asks for.
+/// What a client asks.
 #[derive(Clone, Copy)]
 pub enum Asked {
     /// RA GB 0 to 2 for customer 7.
     Grant,
-    /// Of RA GB.
+    /// An identifier of RA GB.
     Draw,
-    /// Of the range with this number.
+    /// The number of the range.
     Withdraw(u32),
 }
 
-/// What happens in a world.
+/// An event of a world.
 #[derive(Clone, Copy)]
 pub enum Happens {
+    /// The client, and what it asks.
     Submit(u32, Asked),
+    /// The client.
     Resend(u32),
+    /// The client.
     GiveUp(u32),
+    /// The index of a frame sent by a client, and the day of its delivery.
     ToServer(usize, u32),
+    /// The bytes of a datagram that no client sent, and the day of its delivery.
     Strange(&'static [u8], u32),
+    /// The client, and the index of a frame sent by the server.
     ToClient(u32, usize),
 }
 
-/// The post grants three serials. Two clients of customer 7 draw: the second's request comes first,
-/// both come twice, and the second client gives up before its reply comes.
+/// The post grants three serials. Two clients of customer 7 draw: the second's request arrives
+/// first, both arrive twice, and the second client gives up before its reply arrives.
 pub const STORY: &'static [Happens] = &[
     Happens::Submit(0, Asked::Grant),
     Happens::Resend(0),
@@ -59,7 +65,7 @@ pub const STORY: &'static [Happens] = &[
 /// The number of events in the story.
 pub const EVENTS: usize = 18;
 
-/// The greatest number of events.
+/// The greatest number of events of a story.
 const MOST: usize = 25;
 
 fn body(asked: Asked) -> Body {
@@ -87,7 +93,7 @@ fn event(happens: Happens) -> Event {
     }
 }
 
-/// The events of what happens, and others after them.
+/// Returns the events of a story, followed by others up to the full length.
 pub(crate) fn events_of(story: &[Happens]) -> [Event; MOST] {
     let mut events = [Event::Resend { client: 0 }; MOST];
     for at in 0..story.len().min(MOST) {
@@ -107,13 +113,17 @@ fn three_clients(alloc: Global) -> Result<Vec<Client>, AllocError>
     Ok(clients)
 }
 
-/// The three clients and a server over this book, before any event.
+/// Returns the world of the three clients and a server over this book, before any event.
+///
+/// # Errors
+///
+/// `AllocError` if the world cannot be allocated.
 pub(crate) fn new_world<B: Book + Drop>(alloc: Global, book: B) -> Result<World<B>, AllocError> {
     let clients = three_clients(alloc)?;
     Ok(World::new(alloc, Server::new(book), clients))
 }
 
-/// The world of this book after the story.
+/// Returns the world of this book after the story, or `None` if memory is refused.
 pub(crate) fn world_after<B: Book + Drop>(
     alloc: Global,
     book: B,

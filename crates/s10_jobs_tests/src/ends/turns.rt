@@ -24,23 +24,26 @@ const OTHER: Peer = Peer {
     port: 4712,
 };
 
-/// Whether the next turn of a server ends so.
+/// Returns whether the next turn of a server ends as expected.
 fn serves<B: GroupCommit, L: Link>(server: &mut Server<B>, link: &mut L, ends: &Ends) -> bool {
     is_as_wanted_reply(&serve_one(server, link, 20_000), ends)
 }
 
-/// What the receives and the sends of a link meet, what the turns over it end in, and what it sends.
+/// A script of a link, and what is expected of the turns over it.
 #[derive(Clone, Copy)]
 struct Script {
+    /// What each receive gives.
     receipts: &'static [Meets],
+    /// Whether each send succeeds.
     sends: &'static [bool],
     turns: &'static [Ends],
+    /// The datagrams that are sent, in order.
     sent: &'static [Sent],
-    /// How many calls the book has then.
+    /// The number of calls of the book at the end.
     calls: u32,
 }
 
-/// The turns of a server over a script go as scripted.
+/// Asserts that the turns of a server over a script end as expected.
 fn go_as_scripted<B: GroupCommit + Drop>(
     rt: &impl Abort,
     alloc: Global,
@@ -57,7 +60,7 @@ fn go_as_scripted<B: GroupCommit + Drop>(
     assert!(rt; server.book().len() == script.calls);
 }
 
-/// A Draw that comes again, as its reply could not be sent.
+/// A Draw arrives again after its reply could not be sent.
 const UNSENT: Script = Script {
     receipts: &[Meets::Bytes(PEER, DRAW), Meets::Bytes(PEER, DRAW)],
     sends: &[false, true],
@@ -72,7 +75,8 @@ fn reply_that_was_not_sent_is_kept(rt: HostRuntime) {
     go_as_scripted(&rt, rt.alloc(), server, &UNSENT);
 }
 
-/// Nothing, two datagrams that ask nothing, a new Draw where the book is full, and the first Grant again.
+/// Nothing, two datagrams that are no requests, a new Draw to a full book, and the first Grant
+/// again, with no send left.
 const UNANSWERED: Script = Script {
     receipts: &[
         Meets::Nothing,
@@ -100,13 +104,16 @@ fn turns_without_a_reply(rt: HostRuntime) {
     go_as_scripted(&rt, rt.alloc(), server, &UNANSWERED);
 }
 
-/// Customer 7's next Draws, with their replies on day 20000.
+/// Customer 7's third Draw.
 const THIRD_DRAW: &[u8] = b"S1\x01\x02\0\0\0\x07\0\0\0\x03RAGB";
 
+/// The reply to it on day 20000.
 const THIRD_DRAWN: &[u8] = b"S1\x01\x82\0\0\0\x07\0\0\0\x03RAGB\0\0\0\x4e\x20RA000000028GB";
 
+/// Customer 7's fourth Draw.
 const FOURTH_DRAW: &[u8] = b"S1\x01\x02\0\0\0\x07\0\0\0\x04RAGB";
 
+/// The reply to it on day 20000.
 const FOURTH_DRAWN: &[u8] = b"S1\x01\x82\0\0\0\x07\0\0\0\x04RAGB\x05";
 
 /// A Grant of three serials and four Draws, each twice in a row.
@@ -123,7 +130,7 @@ const TEN_RECEIPTS: &'static [Meets] = &[
     Meets::Bytes(PEER, FOURTH_DRAW),
 ];
 
-/// Their replies.
+/// The replies to them.
 const TEN_TURNS: &'static [Ends] = &[
     Ends::Replied(PEER, GRANTED),
     Ends::Replied(PEER, GRANTED),
@@ -137,8 +144,8 @@ const TEN_TURNS: &'static [Ends] = &[
     Ends::Replied(PEER, FOURTH_DRAWN),
 ];
 
-/// Whether the ten turns send each reply, and one of them fails so: instead of its reply where that is not sent, and else before
-/// it.
+/// Returns whether the ten turns send each reply, and one turn fails: instead of its reply if the
+/// send fails, before it if the receive fails.
 fn is_survived<B: GroupCommit, L: Link>(
     server: &mut Server<B>,
     link: &mut L,
@@ -158,13 +165,14 @@ fn is_survived<B: GroupCommit, L: Link>(
     true
 }
 
-/// Whether a server over an empty book survives that this turn fails, and then has all five calls.
+/// Returns whether a server over an empty book continues after this failure, and then has all five
+/// calls.
 fn survives(alloc: Global, link: &mut ScriptLink, failing: usize, fault: LinkFault) -> bool {
     let mut server = new_server(alloc, 100);
     is_survived(&mut server, link, failing, fault) && server.book().len() == 5
 }
 
-/// Whether a server survives that this reply is lost.
+/// Returns whether a server continues after the send of this reply fails.
 fn survives_a_lost_reply(alloc: Global, failing: usize) -> bool {
     let mut sends = [true; 10];
     if let Some(send) = sends.get_mut(failing) {
@@ -185,7 +193,7 @@ fn any_one_reply_may_be_lost(rt: HostRuntime) {
     }
 }
 
-/// Whether a server survives that this receive fails.
+/// Returns whether a server continues after this receive fails.
 fn survives_a_failed_receive(alloc: Global, failing: usize) -> bool {
     match link_with_failure(alloc, TEN_RECEIPTS, failing, &[true; 10]) {
         Ok(mut link) => {

@@ -8,7 +8,7 @@ use s10_wire::{Frame, encode_request};
 use std::net::Net;
 use std::process::Abort;
 
-/// Whether two unused links stand at two ports of this machine.
+/// Returns whether two unused links are bound to two ports of this machine.
 fn are_apart(near: &UdpLink, far: &UdpLink) -> bool {
     near.local().ip == ANY_PORT.ip
         && near.local().port != 0
@@ -16,22 +16,23 @@ fn are_apart(near: &UdpLink, far: &UdpLink) -> bool {
         && near.trace() == Trace::new()
 }
 
-/// Whether the frame passes from one link to the other, and comes as this packet.
+/// Sends the frame from one link to the other. Returns whether it arrives as this packet.
 fn passes(from: &mut UdpLink, to: &mut UdpLink, frame: &Frame, packet: Packet) -> bool {
     from.send(to.local(), frame) == Ok(()) && to.receive() == Ok(Some((from.local(), packet)))
 }
 
-/// Whether nothing can be sent to port 0.
+/// Returns whether a send to port 0 fails.
 fn is_refused(link: &mut UdpLink, frame: &Frame) -> bool {
     link.send(ANY_PORT, frame) == Err(LinkFault::Send)
 }
 
-/// Whether the frame passes both ways as this packet, and then to no port 0.
+/// Returns whether the frame arrives as this packet in both directions, and a send to port 0 fails.
 fn passes_both_ways(near: &mut UdpLink, far: &mut UdpLink, frame: &Frame, packet: Packet) -> bool {
     passes(near, far, frame, packet) && passes(far, near, frame, packet) && is_refused(near, frame)
 }
 
-/// Whether a link sent the frame once to the other one, took the packet from it, and failed in a third call.
+/// Returns whether a link sent the frame once to the other link, received the packet from it, and
+/// failed in a third call.
 fn has_counted(near: &UdpLink, far: &UdpLink, frame: Frame, packet: Packet) -> bool {
     near.trace()
         == Trace {
@@ -57,7 +58,8 @@ fn datagrams_pass_over_loopback(rt: HostRuntime) {
     assert!(rt; has_counted(&near, &far, frame, packet));
 }
 
-/// Whether receives that do not wait give the frame once it was sent, and else nothing; and one that waits gives the next.
+/// Returns whether receives that do not wait give the frame after it was sent and otherwise
+/// nothing, and a receive that waits gives the next one.
 fn takes_what_has_come(
     from: &mut UdpLink,
     to: &mut UdpLink,
@@ -71,13 +73,13 @@ fn takes_what_has_come(
         && passes(from, to, frame, packet)
 }
 
-/// Whether the link counts n calls, and n datagrams received.
+/// Returns whether the link counts these calls and received datagrams.
 fn has_received(link: &UdpLink, calls: u64, received: u64) -> bool {
     let trace = link.trace();
     trace.calls == calls && trace.received == received
 }
 
-// A receive that waited would take longer than a test may.
+// A receive that waits would take longer than a test may.
 #[test]
 fn what_has_arrived_is_received_without_waiting(rt: HostRuntime) {
     let mut near = bound(&rt, 100_000);
@@ -88,7 +90,7 @@ fn what_has_arrived_is_received_without_waiting(rt: HostRuntime) {
     assert!(rt; has_received(&far, 4, 2));
 }
 
-/// Whether a receive that waits n milliseconds answers that nothing came.
+/// Returns whether a receive that waits `wait_ms` milliseconds gets nothing and does not fail.
 fn hears_nothing<R: Abort + Net>(rt: &R, wait_ms: u32) -> bool {
     let mut link = bound(rt, wait_ms);
     link.receive() == Ok(None) && link.trace().calls == 1 && link.trace().failures == 0

@@ -1,4 +1,4 @@
-//! A world in which the post withdraws its customer's range.
+//! A world in which the post withdraws a customer's range.
 
 use crate::ends::fixtures::{DRAWN, GRANTED};
 use crate::ends::odd_worlds::{Expected, comes_to};
@@ -10,8 +10,9 @@ const NO_RANGE_2: &[u8] = b"S1\x01\x82\0\0\0\x07\0\0\0\x02RAGB\x04";
 
 const NO_RANGE_10: &[u8] = b"S1\x01\x82\0\0\0\x07\0\0\0\x0aRAGB\x04";
 
-/// Customer 7 has drawn from its range, and its next Draw is overtaken by the post's Withdraw, which is lost once, comes twice,
-/// and whose first reply is late. The first Draw comes once more, and customer 7's second client draws.
+/// Customer 7 draws. The post's Withdraw then overtakes customer 7's next Draw. The Withdraw is
+/// lost once and arrives twice, and its first reply is late. The first Draw arrives again, and
+/// customer 7's second client draws.
 const OVERTAKEN: &'static [Happens] = &[
     Happens::Submit(0, Asked::Grant),
     Happens::Resend(0),

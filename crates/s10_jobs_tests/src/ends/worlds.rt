@@ -9,24 +9,26 @@ use s10_world::World;
 use std::alloc::{AllocError, Global};
 use std::process::Abort;
 
-/// The draws of customer 7's second client and of its first one, with their replies.
+/// The Draw of customer 7's second client.
 const DRAW_10: &[u8] = b"S1\x01\x02\0\0\0\x07\0\0\0\x0aRAGB";
 
+/// The reply to it.
 const DRAWN_10: &[u8] = b"S1\x01\x82\0\0\0\x07\0\0\0\x0aRAGB\0\0\0\x4e\x20RA000000005GB";
 
+/// The reply to the Draw of customer 7's first client.
 const DRAWN_1: &[u8] = b"S1\x01\x82\0\0\0\x07\0\0\0\x01RAGB\0\0\0\x4e\x20RA000000014GB";
 
-/// The clients that submitted, with the datagrams of their requests.
+/// The clients that submitted, and the datagrams of their requests.
 const SUBMITTED: &'static [(u32, &'static [u8])] = &[(0, GRANT), (1, DRAW), (2, DRAW_10)];
 
-/// The clients that accepted, with the datagrams of their replies.
+/// The clients that accepted, and the datagrams of their replies.
 const ACCEPTED: &'static [(u32, &'static [u8])] = &[(0, GRANTED), (1, DRAWN_1)];
 
 const ASKED: &'static [&'static [u8]] = &[GRANT, DRAW, DRAW_10];
 
 const REPLIED: &'static [&'static [u8]] = &[GRANTED, DRAWN_10, DRAWN_1, DRAWN_10, DRAWN_1];
 
-/// Whether these clients submitted the requests of these datagrams, in turn, and no others.
+/// Returns whether these clients submitted exactly these requests, in this order.
 fn are_submitted(submitted: &[(u32, Request)], told: &[(u32, &[u8])]) -> bool {
     if submitted.len() != told.len() {
         return false;
@@ -40,7 +42,7 @@ fn are_submitted(submitted: &[(u32, Request)], told: &[(u32, &[u8])]) -> bool {
     true
 }
 
-/// Whether these clients accepted the replies of these datagrams, in turn, and no others.
+/// Returns whether these clients accepted exactly these replies, in this order.
 fn are_accepted(accepted: &[(u32, Reply)], told: &[(u32, &[u8])]) -> bool {
     if accepted.len() != told.len() {
         return false;
@@ -54,7 +56,7 @@ fn are_accepted(accepted: &[(u32, Reply)], told: &[(u32, &[u8])]) -> bool {
     true
 }
 
-/// Whether the call at a place of a book is of day 20000, with the request and the reply of these datagrams.
+/// Returns whether call number `at` of a book is on day 20000 and has this request and reply.
 fn holds<B: Book>(book: &mut B, at: u32, request: &[u8], reply: &[u8]) -> bool {
     let Ok(Some(entry)) = book.entry(at) else {
         return false;
@@ -69,7 +71,7 @@ fn holds<B: Book>(book: &mut B, at: u32, request: &[u8], reply: &[u8]) -> bool {
     }
 }
 
-/// The lists of a world are those of the story.
+/// Asserts that the lists of a world are those of the story.
 fn are_reported<B: Book>(rt: &impl Abort, world: &World<B>) {
     assert!(rt; are_submitted(world.submitted(), SUBMITTED));
     assert!(rt; are_accepted(world.accepted(), ACCEPTED));
@@ -77,7 +79,7 @@ fn are_reported<B: Book>(rt: &impl Abort, world: &World<B>) {
     assert!(rt; are_frames(world.replied(), REPLIED));
 }
 
-/// A book holds the three calls of the story.
+/// Asserts that a book has the three calls of the story.
 fn are_held<B: Book>(rt: &impl Abort, book: &mut B) {
     assert!(rt; book.len() == 3);
     assert!(rt; holds(book, 1, GRANT, GRANTED));
@@ -94,7 +96,7 @@ fn each_call_is_executed_once_and_answered_to_its_own_client(rt: HostRuntime) {
     are_held(&rt, &mut world.into_server().into_book());
 }
 
-/// Whether the request of an accepted reply is among those submitted, by its client.
+/// Returns whether the client submitted this request.
 fn is_asked_for(submitted: &[(u32, Request)], client: u32, request: &Request) -> bool {
     for sent in submitted {
         if sent.0 == client && sent.1 == *request {
@@ -104,7 +106,7 @@ fn is_asked_for(submitted: &[(u32, Request)], client: u32, request: &Request) ->
     false
 }
 
-/// Whether the book keeps a reply's request with its outcome.
+/// Returns whether the book keeps a reply's request with its outcome.
 fn keeps<B: Book>(book: &mut B, reply: &Reply) -> bool {
     let request = reply.request();
     match book.find(request.customer, request.number) {
@@ -113,7 +115,7 @@ fn keeps<B: Book>(book: &mut B, reply: &Reply) -> bool {
     }
 }
 
-/// Whether what was accepted was asked for, and the book keeps it.
+/// Returns whether each accepted reply was asked for by its client and is kept by the book.
 fn agree<B: Book>(book: &mut B, submitted: &[(u32, Request)], accepted: &[(u32, Reply)]) -> bool {
     for (client, reply) in accepted {
         if !is_asked_for(submitted, *client, &reply.request()) || !keeps(book, reply) {
@@ -123,7 +125,8 @@ fn agree<B: Book>(book: &mut B, submitted: &[(u32, Request)], accepted: &[(u32, 
     true
 }
 
-/// Whether what a world's clients accepted was asked for, and agrees with its history.
+/// Returns whether each reply that a world's clients accepted was asked for and agrees with its
+/// history.
 fn accepted_agree<B: Book + Drop>(alloc: Global, world: World<B>) -> Result<bool, AllocError> {
     let submitted = world.submitted().to_vec(alloc)?;
     let accepted = world.accepted().to_vec(alloc)?;
@@ -131,8 +134,8 @@ fn accepted_agree<B: Book + Drop>(alloc: Global, world: World<B>) -> Result<bool
     Ok(agree(&mut book, &submitted, &accepted))
 }
 
-/// How many replies a world of this book sends; none where one is missing and what its clients accepted does not agree with its
-/// history.
+/// Returns how many replies a world of this book sends, or `None` if these are four and the
+/// accepted replies do not agree with the history.
 fn replies_that_agree<B: Book + Drop>(alloc: Global, book: B) -> Option<usize> {
     let world = world_after(alloc, book, STORY)?;
     let replied = world.replied().len();
@@ -143,7 +146,9 @@ fn replies_that_agree<B: Book + Drop>(alloc: Global, book: B) -> Option<usize> {
     }
 }
 
-/// The first call of a book that the run does not make, or at which it does not go on.
+/// Returns the first call of the book, counted from 0, whose failure does not leave four replies
+/// that agree, and the number of replies then. The run makes no such call if all five replies are
+/// sent.
 fn first_passed_over(alloc: Global) -> (u64, Option<usize>) {
     for at in 0..100u64 {
         let book = TripBook::new(empty_book(alloc, 100), at);
@@ -155,7 +160,7 @@ fn first_passed_over(alloc: Global) -> (u64, Option<usize>) {
     (100, None)
 }
 
-// A book fails at one of its calls, each in turn, and the run goes on.
+// A failure at each call of the book in turn costs one reply, and the run continues.
 #[test]
 fn accepted_replies_agree_with_a_book_that_failed(rt: HostRuntime) {
     let (at, replied) = first_passed_over(rt.alloc());

@@ -1,4 +1,4 @@
-//! Calls over links, and what is printed of them.
+//! Calls over links, and what is printed about them.
 
 ghost use Rattle.std.specs.Prelude.{◌≤◌};
 
@@ -18,10 +18,10 @@ const SERVER: Peer = Peer {
     port: 4711,
 };
 
-// RA000000005GB issued on day 20000 to customer 7's Draw of RA GB with number 1
+// RA000000005GB, issued on day 20000 to customer 7's Draw of RA GB with number 1.
 const DRAWN: &[u8] = b"S1\x01\x82\0\0\0\x07\0\0\0\x01RAGB\0\0\0\x4e\x20RA000000005GB";
 
-// NoneFree, in reply to the same Draw
+// NoneFree, in reply to the same Draw.
 const NONE_FREE: &[u8] = b"S1\x01\x82\0\0\0\x07\0\0\0\x01RAGB\x05";
 
 fn draw() -> Body {
@@ -31,7 +31,7 @@ fn draw() -> Body {
     }
 }
 
-/// Whether a call in n tries has this status and prints this line.
+/// Returns whether a call has this status and prints this line, in 1 to 100 tries.
 fn is_reported<L: Link>(
     alloc: Global,
     client: &mut Client,
@@ -49,8 +49,9 @@ fn is_reported<L: Link>(
     is_text(out, line.as_bytes()) && asked == Ok(status)
 }
 
-/// Whether customer 7's first call over this script, in two tries, has this status and prints this line, and the
-/// next asks nothing: the number is spent, whatever came of it.
+/// Returns whether customer 7's first call over this script, in two tries, has this status and
+/// prints this line. The next call must send nothing, since the number is spent even if the call
+/// failed.
 fn is_asked_once(
     alloc: Global,
     receipts: &[Meets],
@@ -88,7 +89,8 @@ fn a_receive_that_fails_is_printed(rt: HostRuntime) {
     assert!(rt; is_asked_once(rt.alloc(), receipts, &[true], JobStatus::Failed, line));
 }
 
-/// What a call meets that gets a reply at once, and one that gets it in the second try; and what is printed of it.
+/// What the receives give to a call with a reply in the first try, and to one with a reply in the
+/// second, and the status and the line of both.
 type Answered = (&'static [Meets], &'static [Meets], JobStatus, &'static str);
 
 const ANSWERS: &[Answered] = &[
@@ -118,7 +120,7 @@ fn what_came_of_a_call_is_printed(rt: HostRuntime) {
 /// The post's Withdraw of range 1 with number 2.
 const WITHDRAW: &[u8] = b"S1\x02\x06\0\0\0\0\0\0\0\x02\0\0\0\x01";
 
-/// Whether the link sent these bytes alone, to the server.
+/// Returns whether the link sent only these bytes, to the server.
 fn has_sent(link: &ScriptLink, bytes: &[u8]) -> bool {
     match link.log() {
         [(to, frame)] => *to == SERVER && frame.bytes() == bytes,
@@ -126,7 +128,7 @@ fn has_sent(link: &ScriptLink, bytes: &[u8]) -> bool {
     }
 }
 
-/// Whether a withdrawal that gets this reply sends its datagram once, has this status and prints
+/// Returns whether a Withdraw with this reply sends its datagram once, has this status and prints
 /// this line.
 fn is_withdrawn(alloc: Global, reply: &'static [u8], status: JobStatus, line: &str) -> bool {
     let Ok(mut link) = link_of(alloc, &[Meets::Bytes(SERVER, reply)], &[true]) else {
@@ -137,7 +139,7 @@ fn is_withdrawn(alloc: Global, reply: &'static [u8], status: JobStatus, line: &s
     is_reported(alloc, &mut client, &mut link, body, 1, status, line) && has_sent(&link, WITHDRAW)
 }
 
-/// Replies to it, and what is printed of them.
+/// Replies to it, and the status and the line of each.
 const WITHDRAWALS: &[(&[u8], JobStatus, &str)] = &[
     (
         b"S1\x02\x86\0\0\0\0\0\0\0\x02\0\0\0\x01\0",
@@ -164,7 +166,7 @@ const WITHDRAWALS: &[(&[u8], JobStatus, &str)] = &[
         JobStatus::Refused,
         "reply withdraw customer 0 number 2 1 closed\n",
     ),
-    // An overlap is nothing that a withdrawal comes to.
+    // An overlap does not fit a Withdraw.
     (
         b"S1\x02\x86\0\0\0\0\0\0\0\x02\0\0\0\x01\x03",
         JobStatus::Failed,
@@ -179,7 +181,7 @@ fn what_came_of_a_withdrawal_is_printed(rt: HostRuntime) {
     }
 }
 
-/// Whether a call whose line cannot be written was made.
+/// Returns whether a call is complete although its line cannot be written.
 fn is_made_unwritten(alloc: Global) -> bool {
     let Ok(mut link) = link_of(alloc, &[Meets::Bytes(SERVER, DRAWN)], &[true]) else {
         return false;

@@ -4,10 +4,12 @@ use std::alloc::Global;
 use std::io;
 use std::io::Write;
 
-/// A writer that takes n bytes, then fails once, and from then on takes all.
+/// A writer that accepts n bytes, fails once, and accepts everything after that.
 #[derive(Drop)]
 pub struct Hiccup {
+    /// The accepted bytes.
     pub bytes: Vec<u8>,
+    /// The number of bytes that it accepts before it fails.
     room: usize,
     failed: bool,
 }

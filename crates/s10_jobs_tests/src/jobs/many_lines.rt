@@ -1,4 +1,4 @@
-//! A replay of as many lines as an input may have, and of more.
+//! A replay of the greatest number of lines that an input may have, and of one more.
 
 use crate::expect::holds;
 use s10_book::PlainBook;
@@ -9,12 +9,13 @@ use std::alloc::Global;
 use std::io;
 use std::io::{Read, Write};
 
-/// A day and no bytes: what follows the empty lines.
+/// A day and no bytes, the line after the empty lines.
 const LAST: &[u8] = b"1 \n";
 
-/// A reader that makes empty lines as they are read, and then has these bytes.
+/// A reader that gives empty lines, and then these bytes.
 #[derive(Drop)]
 struct Lines<'a> {
+    /// The number of empty lines left.
     empty: u32,
     last: &'a [u8],
 }
@@ -30,7 +31,7 @@ impl Read for Lines<'_> {
     }
 }
 
-/// A writer that counts the lines.
+/// A writer that counts lines.
 #[derive(Drop)]
 struct Counting {
     lines: u32,
@@ -49,8 +50,8 @@ impl Write for Counting {
     }
 }
 
-/// Whether a replay of n empty lines and the last one has this answer, writes n lines and leaves n
-/// bytes unread.
+/// Returns whether a replay of `empty` empty lines and the last one has this answer, writes
+/// `written` lines and leaves `left` bytes unread.
 fn is_replayed(
     alloc: Global,
     empty: u32,
@@ -66,7 +67,7 @@ fn is_replayed(
     answer == want && output.lines == written && input.last.len() == left
 }
 
-/// Empty lines, the answer after them, the lines written, and the bytes left.
+/// Number of empty lines, the answer, the number of lines written, and the number of bytes left.
 const LONG_INPUTS: &[(u32, Result<u32, ReplayFault>, u32, usize)] = &[
     (999_999, Ok(1), 1, 0),
     (1_000_000, Err(ReplayFault::Line(1_000_001)), 0, 2),

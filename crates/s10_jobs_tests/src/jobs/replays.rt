@@ -11,7 +11,7 @@ fn settings() -> Settings {
     Settings::new(30, 100).unwrap()
 }
 
-/// Whether a replay over a ledger of these settings has this answer and writes this text.
+/// Returns whether a replay over a ledger with these settings has this answer and writes this text.
 fn gives<R: Read>(
     alloc: Global,
     settings: Settings,
@@ -24,7 +24,7 @@ fn gives<R: Read>(
     is_text(output, text.as_bytes()) && answer == want
 }
 
-/// Whether a replay of these bytes has this answer and writes this text.
+/// Returns whether a replay of these bytes has this answer and writes this text.
 fn is_replayed(
     alloc: Global,
     mut bytes: &[u8],
@@ -65,8 +65,9 @@ dropped length
 
 #[test]
 fn no_identifier_is_issued_from_a_withdrawn_range(rt: HostRuntime) {
-    // A draw, the withdrawal of range 1, and 400 days later a draw, a sheet, the first draw again, a
-    // void and a query of its identifier, a grant of the last of its serials, and a draw from range 2.
+    // A draw, the withdrawal of range 1, and 400 days later: a draw, a sheet, the first draw again,
+    // a void and a query of its identifier, a grant of the last of its serials, a grant of serial
+    // 4, and a draw from range 2.
     let is_replayed = is_replayed(
         rt.alloc(),
         b"20000 53310101000000000000000100000007524147420000000000000002
@@ -100,8 +101,9 @@ fn no_identifier_is_issued_from_a_withdrawn_range(rt: HostRuntime) {
 
 #[test]
 fn withdrawals_are_done_once_and_by_the_post(rt: HostRuntime) {
-    // By customer 7, of ranges 2 and 0, of range 1 twice with one number, of range 1 with the next,
-    // of range 2 with the number of range 1's, and with the number of the grant.
+    // Withdrawals by customer 7; of ranges 2 and 0; of range 1 twice with one number; of range 1
+    // with the next number; of range 2 with the number of range 1's; and with the number of the
+    // grant. Then one of version 1, and one that is a byte too short.
     let is_replayed = is_replayed(
         rt.alloc(),
         b"20000 53310101000000000000000100000007524147420000000000000002
@@ -133,7 +135,7 @@ dropped length
     assert!(rt; is_replayed);
 }
 
-/// Bytes of an input, and what a replay of them answers and writes.
+/// Bytes of an input, and the answer and the text of its replay.
 type Case = (&'static [u8], Result<u32, ReplayFault>, &'static str);
 
 const SMALL_INPUTS: &[Case] = &[
@@ -150,7 +152,7 @@ const SMALL_INPUTS: &[Case] = &[
     (b"0000020000 53", Ok(1), "dropped short\n"),
     (b"4294967295 53", Ok(1), "dropped short\n"),
     (b"4294967296 53", Err(ReplayFault::Line(1)), ""),
-    // Empty lines are counted and passed over, also with a carriage return.
+    // Empty lines are counted and skipped, also with a carriage return.
     (b"\n\r\n\n20000 x\n", Err(ReplayFault::Line(4)), ""),
     (b"\n\r\n\n20000 \r\n", Ok(1), "dropped short\n"),
     (b"20000 \r\r\n", Err(ReplayFault::Line(1)), ""),
@@ -190,7 +192,8 @@ fn digits_of_both_cases_are_read_and_small_ones_written(rt: HostRuntime) {
     assert!(rt; is_replayed);
 }
 
-/// Whether the longest line, a day of ten digits and 512 bytes, is read whole where it has n bytes with its end.
+/// Returns whether the longest line, a day of ten digits and 512 bytes, is read whole if it has
+/// `len` bytes with its end.
 fn is_read_whole(alloc: Global, len: usize) -> bool {
     let mut line = [b'0'; 1037];
     line[5] = b'2';
@@ -206,7 +209,7 @@ fn longest_line_is_read_whole(rt: HostRuntime) {
     holds(&rt, &1037, is_read_whole(rt.alloc(), 1037));
 }
 
-/// As many digits as the longest line has bytes.
+/// A digit for each byte of the longest line.
 const ZEROS: [u8; 1037] = [b'0'; 1037];
 
 #[test]
@@ -228,7 +231,8 @@ fn longer_line_is_refused_where_the_input_ends(rt: HostRuntime) {
 
 #[test]
 fn full_ledger_is_reported(rt: HostRuntime) {
-    // The post grants range 1 to customer 7: RA GB 0 to 2. Customer 7 draws, draws again, and repeats the first.
+    // The post grants range 1 to customer 7: RA GB 0 to 2. Customer 7 draws, draws again, and
+    // repeats the first draw.
     let mut input: &[u8] = b"20000 53310101000000000000000100000007524147420000000000000002
 20000 53310102000000070000000152414742
 20000 53310102000000070000000252414742
@@ -243,7 +247,7 @@ faulted full
     assert!(rt; gives(rt.alloc(), settings, &mut input, Ok(4), text));
 }
 
-/// A reader that fails once its bytes are read, and is interrupted before each read.
+/// A reader that fails after its bytes, and is interrupted before each read.
 #[derive(Drop)]
 struct Failing<'a> {
     bytes: &'a [u8],
@@ -263,9 +267,10 @@ impl Read for Failing<'_> {
     }
 }
 
-/// A writer with room for n bytes.
+/// A writer that accepts n bytes.
 #[derive(Drop)]
 struct Narrow {
+    /// The number of bytes that it still accepts.
     room: usize,
 }
 
@@ -283,8 +288,8 @@ impl Write for Narrow {
     }
 }
 
-/// Whether a replay of a reader that fails after these bytes ends with this fault, and writes this
-/// text.
+/// Returns whether a replay of a reader that fails after these bytes ends with this fault and
+/// writes this text.
 fn is_read_until(alloc: Global, bytes: &[u8], want: ReplayFault, text: &str) -> bool {
     let mut input = Failing {
         bytes,
@@ -295,8 +300,8 @@ fn is_read_until(alloc: Global, bytes: &[u8], want: ReplayFault, text: &str) -> 
 
 const SHORT: &str = "dropped short\n";
 
-/// Bytes of an input, and what a replay of them answers where the input ends after them, and where it fails there.
-/// After a line that is refused nothing is read, so the two are one there.
+/// Bytes of an input, the answer of its replay if the input ends after them, the fault if it fails
+/// there, and the text. Nothing is read after a refused line, so answer and fault agree there.
 type Stop = (
     &'static [u8],
     Result<u32, ReplayFault>,
@@ -309,7 +314,7 @@ const STOPS: &[Stop] = &[
     (b"20000 \n", Ok(1), ReplayFault::Read, SHORT),
     (b"20000 \n\r\n", Ok(1), ReplayFault::Read, SHORT),
     (b"\r", Ok(0), ReplayFault::Read, ""),
-    // A last line that is refused, without its line feed and with it.
+    // The last line is refused, without its line feed and with it.
     (
         b"20000 \n20000 5",
         Err(ReplayFault::Line(2)),
@@ -322,7 +327,7 @@ const STOPS: &[Stop] = &[
         ReplayFault::Line(2),
         SHORT,
     ),
-    // A line that is refused, before others.
+    // A line before others is refused.
     (
         b"20000 5\n20000 \n",
         Err(ReplayFault::Line(1)),
@@ -343,7 +348,8 @@ const STOPS: &[Stop] = &[
     ),
 ];
 
-/// Whether a replay of an input that ends after these bytes, and of one that fails there, answers so.
+/// Returns whether a replay has this answer if the input ends after these bytes, and this fault if
+/// it fails there.
 fn stops_there(
     alloc: Global,
     bytes: &[u8],
@@ -362,7 +368,8 @@ fn a_refused_line_is_no_unreadable_input(rt: HostRuntime) {
     }
 }
 
-/// Whether a replay of a reader that fails after these bytes has this status, and writes this text.
+/// Returns whether a replay of a reader that fails after these bytes has this status and writes
+/// this text.
 fn is_run_until(alloc: Global, bytes: &[u8], want: JobStatus, text: &str) -> bool {
     let mut input = Failing {
         bytes,
@@ -395,13 +402,13 @@ fn an_input_that_fails_has_its_line_and_status(rt: HostRuntime) {
     }
 }
 
-/// Whether a replay of two lines has this answer where the writer has so much room.
+/// Returns whether a replay of two lines to a writer that accepts `room` bytes has this answer.
 fn is_replayed_into(alloc: Global, room: usize, want: Result<u32, ReplayFault>) -> bool {
     let mut input: &[u8] = b"20000 \n20000 \n";
     replay(alloc, settings(), &mut input, &mut Narrow { room }) == want
 }
 
-/// The room of a writer, and what a replay of two lines answers.
+/// The number of bytes that a writer accepts, and the answer of a replay of two lines.
 const ROOMS: &[(usize, Result<u32, ReplayFault>)] = &[
     (0, Err(ReplayFault::Write)),
     (13, Err(ReplayFault::Write)),

@@ -25,7 +25,7 @@ const ISSUES: &str = "arrival day customer number identifier state
 2 20000 7 1 RA000000005GB issued
 ";
 
-/// The book of a grant of three serials and a draw.
+/// Returns the book of a grant of three serials and a draw.
 fn one_issue(alloc: Global) -> PlainBook {
     let settings = Settings::new(30, 100).unwrap();
     let mut server = Server::new(PlainBook::new(alloc, settings));
@@ -36,7 +36,7 @@ fn one_issue(alloc: Global) -> PlainBook {
     server.into_book()
 }
 
-/// Whether a report of the book has this status and prints this text.
+/// Returns whether a report of the book has this status and prints this text.
 fn prints<B: Book + Drop>(
     alloc: Global,
     mut book: B,
@@ -49,7 +49,7 @@ fn prints<B: Book + Drop>(
     is_text(out, text.as_bytes()) && written == Ok(status)
 }
 
-/// A report of this book is done, and prints this text.
+/// Asserts that a report of this book is done and prints this text.
 fn is_done<R: Abort + AllocGlobal>(rt: &R, book: PlainBook, report: Report, text: &str) {
     holds(
         rt,
@@ -69,7 +69,7 @@ fn reports_are_written_whole(rt: HostRuntime) {
     }
 }
 
-/// The book of a grant, a draw and the withdrawal of the range.
+/// Returns the book of a grant, a draw and the withdrawal of the range.
 fn one_withdrawn(alloc: Global) -> PlainBook {
     let mut server = Server::new(one_issue(alloc));
     let withdraw = b"S1\x02\x06\0\0\0\0\0\0\0\x02\0\0\0\x01";
@@ -77,7 +77,7 @@ fn one_withdrawn(alloc: Global) -> PlainBook {
     server.into_book()
 }
 
-/// Reports of a range that was withdrawn, and their texts.
+/// Reports of a withdrawn range, and their texts.
 const WITHDRAWN: &[(Report, &str)] = &[
     (Report::Ranges { day: 20_000 }, RANGES_WITHDRAWN),
     (Report::Issues, ISSUES),
@@ -90,13 +90,13 @@ fn a_withdrawn_range_is_reported_as_closed(rt: HostRuntime) {
     }
 }
 
-/// Whether a report of ranges has the day that is given, or one of its own.
+/// Returns whether a report of ranges has the day that is given, or that of the clock if none is.
 fn has_its_day<R: Clock>(rt: &R) -> bool {
     Report::new(rt, false, Some(7)) == Some(Report::Ranges { day: 7 })
         && Report::new(rt, false, None).is_some()
 }
 
-/// Whether a report of issues has no day.
+/// Returns whether a report of issues has no day.
 fn has_no_day<R: Clock>(rt: &R) -> bool {
     Report::new(rt, true, Some(7)) == Some(Report::Issues)
         && Report::new(rt, true, None) == Some(Report::Issues)
@@ -120,7 +120,7 @@ const FAULTED: &[(Report, &str)] = &[
     ),
 ];
 
-/// Whether a report of a book that fails at its first call prints this text.
+/// Returns whether a report of a book that fails at its first call prints this text.
 fn prints_fault(alloc: Global, report: Report, text: &str) -> bool {
     let book = TripBook::new(one_issue(alloc), 0);
     prints(alloc, book, report, JobStatus::Failed, text)
@@ -133,12 +133,12 @@ fn a_fault_of_the_book_ends_a_report(rt: HostRuntime) {
     }
 }
 
-/// What comes of a report of issues to this writer.
+/// Writes a report of issues.
 fn written<W: Write>(alloc: Global, out: &mut W) -> Result<JobStatus, WriteFault> {
     write_report(&mut one_issue(alloc), Report::Issues, out)
 }
 
-/// Whether a report whose first bytes are refused ends with a line that says so.
+/// Returns whether a report ends with the line `output` if its first bytes are refused.
 fn is_reported_as_ended(alloc: Global) -> bool {
     let mut out = Hiccup::new(alloc, 0);
     let told = written(alloc, &mut out);

@@ -1,15 +1,15 @@
-//! How often a call is tried.
+//! The number of tries of a call.
 
 use crate::expect::holds;
 use s10_jobs::Tries;
 
-/// The number of n tries.
+/// Returns the number of tries that this value gives, if any.
 fn counted(count: u32) -> Option<u32> {
     let tries = Tries::new(count)?;
     Some(tries.count())
 }
 
-/// Numbers, and the tries that they are.
+/// Values, and the number of tries that each gives, if any.
 const TRIES: &[(u32, Option<u32>)] = &[(0, None), (1, Some(1)), (100, Some(100)), (101, None)];
 
 #[test]

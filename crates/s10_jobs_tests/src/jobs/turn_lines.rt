@@ -1,4 +1,4 @@
-//! The lines of a server's turns, and of ledgers and links that failed.
+//! The lines of a server's turns, and of faults of ledgers and links.
 
 use crate::expect::{holds, is_text};
 use crate::jobs::hiccup::Hiccup;
@@ -19,19 +19,19 @@ const PEER: Peer = Peer {
 
 const REPLY: &[u8] = b"S1\x01\x82\0\0\0\x07\0\0\0\x01RAGB\0\0\0\x4e\x20RA000000005GB";
 
-/// What a turn ends in.
+/// How a turn ends.
 #[derive(Clone, Copy)]
 enum Ends {
     Quiet,
     Dropped(WireFault),
     Faulted(BookFault),
     Uncommitted(BookFault),
-    /// In this reply.
+    /// The bytes of the reply.
     Replied(&'static [u8]),
     Failed(LinkFault),
 }
 
-/// The turn of a reply, or one in which nothing came where the bytes are no reply.
+/// Returns the turn of a reply, or a quiet turn if the bytes are no reply.
 fn replied(bytes: &[u8]) -> Turn {
     Ok(match decode_reply(bytes) {
         Ok(reply) => ServerTurn::Replied(PEER, encode_reply(&reply)),
@@ -50,7 +50,7 @@ fn turn(ends: Ends) -> Turn {
     }
 }
 
-/// Whether a writer that fails once, at a place of the turn's line, has got its beginning.
+/// Returns whether a writer that fails after `room` bytes has the beginning of the turn's line.
 fn is_begun(alloc: Global, turn: &Turn, line: &[u8], room: usize) -> bool {
     let mut out = Hiccup::new(alloc, room);
     write_turn(turn, &mut out) == Err(WriteFault)
@@ -58,7 +58,7 @@ fn is_begun(alloc: Global, turn: &Turn, line: &[u8], room: usize) -> bool {
         && line.starts_with(out.bytes.as_slice())
 }
 
-/// Whether this is the line of the turn, and a writer that fails once has got its beginning.
+/// Returns whether this is the line of the turn, and a writer that fails once has its beginning.
 fn is_line_of_turn(alloc: Global, turn: &Turn, line: &[u8]) -> bool {
     for room in 0..line.len() {
         if !is_begun(alloc, turn, line, room) {

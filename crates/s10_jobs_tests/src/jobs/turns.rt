@@ -1,4 +1,4 @@
-//! The turns of a server.
+//! Turns of a server, and what is printed about them.
 
 use crate::expect::holds;
 use crate::jobs::hiccup::Hiccup;
@@ -27,7 +27,7 @@ const DRAW: &[u8] = b"S1\x01\x02\0\0\0\x07\0\0\0\x01RAGB";
 
 const ONE_MORE: &[u8] = b"S1\x01\x02\0\0\0\x07\0\0\0\x02RAGB";
 
-/// A clock that stands still, or none. Standard error is closed.
+/// A clock that always gives this time, or fails if there is none. Standard error is closed.
 #[derive(Drop)]
 struct Standing(Option<Duration>);
 
@@ -51,7 +51,7 @@ impl Eprint for Standing {
     }
 }
 
-/// A standard error that keeps what it is told. There is no clock.
+/// A standard error that keeps what is printed to it. There is no clock.
 #[derive(Drop)]
 struct Listening {
     told: RefCell<Vec<u8>>,
@@ -67,7 +67,7 @@ impl Clock for Listening {
     }
 }
 
-/// Writes a value after what was told.
+/// Appends a value to what was printed.
 fn tell<D: Display + Drop>(told: &mut Vec<u8>, value: D) -> io::Result<()> {
     write!(told, "{value}")
 }
@@ -92,8 +92,8 @@ fn new_server(alloc: Global) -> Server<PlainBook> {
     Server::new(PlainBook::new(alloc, Settings::new(30, 2).unwrap()))
 }
 
-/// What came: a request and nothing with it, nothing, a failure, and together bytes that ask nothing, a draw, its repeat and
-/// one too many.
+/// A request alone, nothing, a failure, and then together: bytes that are no request, a draw, its
+/// repeat, and one draw more than the limit allows.
 const SEVEN: &[Meets] = &[
     Meets::Bytes(PEER, GRANT),
     Meets::Nothing,
@@ -105,7 +105,7 @@ const SEVEN: &[Meets] = &[
     Meets::Bytes(PEER, ONE_MORE),
 ];
 
-/// Which of their replies are sent.
+/// Whether each reply to them is sent.
 const THREE_SENDS: &[bool] = &[true, false, true];
 
 const SEVEN_LINES: &[u8] =
@@ -118,7 +118,7 @@ replied 533101820000000700000001524147420000004e2052413030303030303030354742
 faulted full
 ";
 
-/// The first n lines of a text.
+/// Returns the first `count` lines of a text.
 fn first_lines(text: &[u8], count: u32) -> &[u8] {
     let mut left = count;
     for (at, byte) in text.iter().enumerate() {
@@ -132,7 +132,7 @@ fn first_lines(text: &[u8], count: u32) -> &[u8] {
     text
 }
 
-/// A writer that counts how often it was flushed after a whole line.
+/// A writer that counts how often it is flushed after a whole line.
 #[derive(Drop)]
 struct Flushed {
     bytes: Vec<u8>,
@@ -152,27 +152,33 @@ impl Write for Flushed {
     }
 }
 
-/// Turns on a link of these receipts and sends, and what they come to.
+/// A script of a link, and what is expected of the turns over it.
 #[derive(Clone, Copy)]
 struct Turns<'a> {
+    /// What each receive gives.
     receipts: &'a [Meets],
+    /// Whether each send succeeds.
     sends: &'a [bool],
+    /// The number of turns.
     count: u32,
+    /// The day, or `None` for that of the clock.
     day: Option<u32>,
     status: JobStatus,
+    /// What is printed.
     lines: &'a [u8],
     /// How often whole lines are flushed.
     flushed: u32,
-    /// How many calls the book has then.
+    /// The number of calls of the book at the end.
     calls: u32,
 }
 
-/// Whether the writer has got and flushed the lines of the turns.
+/// Returns whether the writer has received and flushed the lines of the turns.
 fn has_lines(out: Flushed, turns: &Turns<'_>) -> bool {
     out.bytes.as_slice() == turns.lines && out.lines == turns.flushed
 }
 
-/// Whether the turns of a server on the link have their status, and write and flush their lines.
+/// Returns whether the turns of a server over the link have their status, and write and flush their
+/// lines.
 fn come_to<R: Clock + Eprint, B: GroupCommit, L: Link>(
     rt: &R,
     alloc: Global,
@@ -188,7 +194,7 @@ fn come_to<R: Clock + Eprint, B: GroupCommit, L: Link>(
     has_lines(out, turns) && served == Ok(turns.status)
 }
 
-/// Whether the turns of a new server come to what they shall.
+/// Returns whether the turns of a new server are as expected.
 fn are_served<R: Clock + Eprint>(rt: &R, alloc: Global, turns: &Turns<'_>) -> bool {
     let Ok(mut link) = link_of(alloc, turns.receipts, turns.sends) else {
         return false;
@@ -197,7 +203,8 @@ fn are_served<R: Clock + Eprint>(rt: &R, alloc: Global, turns: &Turns<'_>) -> bo
     come_to(rt, alloc, &mut server, &mut link, turns) && server.book().len() == turns.calls
 }
 
-/// n turns on the link of the seven, which have the first of the lines, and leave n calls.
+/// Returns `count` turns over the link of `SEVEN`, with the first of the lines, in `batches`
+/// batches, which leave `calls` calls.
 fn first_turns(count: u32, batches: u32, calls: u32) -> Turns<'static> {
     Turns {
         receipts: SEVEN,
@@ -211,8 +218,8 @@ fn first_turns(count: u32, batches: u32, calls: u32) -> Turns<'static> {
     }
 }
 
-/// Turns, the batches that they are, and the calls of the book then. A grant is the first turn, and a draw whose reply
-/// is not sent the fifth. The last four come together.
+/// Number of turns, of their batches, and of the calls of the book after them. The first turn is a
+/// grant, and the fifth is a draw whose reply is not sent. The last four arrive together.
 const TURNS: &[(u32, u32, u32)] = &[
     (0, 0, 0),
     (1, 1, 1),
@@ -232,7 +239,7 @@ fn each_turn_has_its_line(rt: HostRuntime) {
     }
 }
 
-/// A grant and a draw in one batch, on a day that a clock gives.
+/// A grant and a draw in one batch, on the day of a clock.
 const TWO_TURNS: Turns<'static> = Turns {
     receipts: &[Meets::Bytes(PEER, GRANT), Meets::Bytes(PEER, DRAW)],
     sends: &[true, true],
@@ -253,13 +260,14 @@ fn the_clock_gives_the_day_where_none_is_given(rt: HostRuntime) {
     assert!(rt; are_served(&clock, rt.alloc(), &TWO_TURNS));
 }
 
-/// Who sent what asks nothing.
+/// The sender of datagrams that are no requests.
 const OTHER: Peer = Peer {
     ip: [10, 0, 0, 8],
     port: 40_123,
 };
 
-/// What two ends sent: each what asks nothing, one twice, and between these nothing came and a grant was asked for.
+/// Datagrams of two senders, three of which are no requests, with a grant, a quiet turn and a
+/// failure between them.
 const THREE_DROPPED: &[Meets] = &[
     Meets::Nothing,
     Meets::Bytes(OTHER, b"S1"),
@@ -277,7 +285,8 @@ link receive
 dropped short
 ";
 
-/// Whether n turns on the link of the two ends have the first of the lines, and standard error shows this.
+/// Returns whether `count` turns over the link of `THREE_DROPPED` have the first of the lines, and
+/// standard error has this text.
 fn are_reported(alloc: Global, count: u32, batches: u32, told: &str) -> bool {
     let rt = Listening {
         told: RefCell::new(Vec::new(alloc)),
@@ -295,7 +304,7 @@ fn are_reported(alloc: Global, count: u32, batches: u32, told: &str) -> bool {
     are_served(&rt, alloc, &turns) && rt.told.into_inner().as_slice() == told.as_bytes()
 }
 
-/// Turns, the batches that they are, and what standard error shows.
+/// Number of turns, of their batches, and what standard error shows.
 const REPORTED: &[(u32, u32, &str)] = &[
     (1, 1, ""),
     (2, 2, "dropped from 10.0.0.8:40123\n"),
@@ -324,7 +333,7 @@ fn a_closed_standard_error_ends_no_turn(rt: HostRuntime) {
     assert!(rt; are_served(&Standing(None), rt.alloc(), &first_turns(7, 4, 2)));
 }
 
-/// Turns on a day that no clock gives.
+/// Turns for which no day is given, and no clock gives one.
 const DAYLESS: Turns<'static> = Turns {
     receipts: SEVEN,
     sends: &[],
@@ -341,8 +350,7 @@ fn a_clock_that_gives_no_day_ends_the_turns(rt: HostRuntime) {
     assert!(rt; are_served(&Standing(None), rt.alloc(), &DAYLESS));
 }
 
-/// Whether this is the day of a clock that has stood still for n seconds since 1970, where
-/// none is given.
+/// Returns whether this is the day of a clock `seconds` after 1970 began, if no day is given.
 fn is_day_after(seconds: u64, day: Option<u32>) -> bool {
     let clock = Standing(Some(Duration::from_secs(seconds)));
     today(&clock) == day
@@ -350,7 +358,7 @@ fn is_day_after(seconds: u64, day: Option<u32>) -> bool {
         && day_or_today(&clock, Some(7)) == Some(7)
 }
 
-/// Seconds since 1970, and the day.
+/// Seconds since 1970 began, and the day.
 const DAYS: &[(u64, Option<u32>)] = &[
     (0, Some(0)),
     (86_399, Some(0)),
@@ -370,13 +378,13 @@ fn days_are_whole_days_since_1970(rt: HostRuntime) {
     assert!(rt; today(&rt).is_some());
 }
 
-/// Whether the writer has got the lines up to where it failed.
+/// Returns whether the writer has exactly the first `room` bytes of the lines.
 fn has_beginning(out: Hiccup, room: usize) -> bool {
     out.bytes.len() == room && SEVEN_LINES.starts_with(out.bytes.as_slice())
 }
 
-/// Whether the turns of a server on a link end where a line cannot be written whole, and the writer has got the lines to
-/// there.
+/// Returns whether the turns of a server end when a line cannot be written whole, and the writer
+/// has exactly the first `room` bytes of the lines.
 fn end_where_unwritten<R: Clock + Eprint, B: GroupCommit, L: Link>(
     alloc: Global,
     rt: &R,
@@ -389,7 +397,8 @@ fn end_where_unwritten<R: Clock + Eprint, B: GroupCommit, L: Link>(
     has_beginning(out, room) && served == Err(WriteFault)
 }
 
-/// Whether the turns end at the one whose line cannot be written whole, and the book has its calls and those before.
+/// Returns whether the turns end at the line that cannot be written whole, and the book has the
+/// calls up to the end of its batch.
 fn ends_unwritten<R: Clock + Eprint>(alloc: Global, rt: &R, room: usize) -> bool {
     let Ok(mut link) = link_of(alloc, SEVEN, THREE_SENDS) else {
         return false;
