@@ -1,14 +1,14 @@
-//! What all tests here end with.
+//! The assertions that all tests here use.
 
 use std::fmt::Debug;
 use std::process::Abort;
 
-/// It is so, in the case that is shown.
+/// Asserts the condition, and prints the case otherwise.
 pub(crate) fn holds<C: Debug>(rt: &impl Abort, case: &C, is_so: bool) {
     assert!(rt; is_so, "{case:?}");
 }
 
-/// What was found is what was wanted, in the case that is shown.
+/// Asserts that the found value equals the wanted one, and prints the case otherwise.
 pub(crate) fn same<C: Debug, T: PartialEq + Debug>(
     rt: &impl Abort,
     case: &C,

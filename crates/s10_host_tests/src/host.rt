@@ -1,4 +1,5 @@
-//! Tests of the command line, of jobs over ledgers in tables, and of those over files and sockets of this machine.
+//! Tests of the command line, and of jobs over ledgers in tables, files and sockets of this
+//! machine.
 
 mod buffers;
 mod command_lines;

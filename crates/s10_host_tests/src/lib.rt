@@ -1,5 +1,5 @@
-//! Tests of ledgers in tables and of their rows, of jobs over them and over files and sockets of this machine, and of the
-//! command line.
+//! Tests of ledgers in tables and of their rows, of jobs over ledgers, files and sockets of this
+//! machine, and of the command line.
 #![tactic(auto)]
 
 #[cfg(test)]

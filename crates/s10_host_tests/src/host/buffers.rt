@@ -1,4 +1,4 @@
-//! Buffers of a command line.
+//! The buffered output of a command line.
 
 use crate::host::refusing::Refusing;
 use s10_cli::run_buffered;
@@ -7,17 +7,17 @@ use std::io::Write;
 
 const CHECK: &[&str] = &["s10", "check", "RA473124829US"];
 
-/// What it prints.
+/// The line that it prints.
 const REGISTERED: &str = "RA473124829US valid registered\n";
 
 const NOTHING: &[u8] = b"";
 
-/// The status of a check over this output, and the output after it. None where it is not written out.
+/// Returns the status of a check and the output after it, or `None` if the output fails.
 fn checked<R: Eprint + AllocGlobal, W: Write + Drop>(rt: &R, output: W) -> Option<(Option<u8>, W)> {
     run_buffered(rt, CHECK, NOTHING, output).ok()
 }
 
-/// Whether a check is done over a list of bytes, and its line in there.
+/// Returns whether a check is done and its line is in the output.
 fn is_written_out<R: Eprint + AllocGlobal>(rt: &R) -> bool {
     match checked(rt, Vec::new(rt.alloc())) {
         Some((status, output)) => {
@@ -37,7 +37,7 @@ fn a_buffer_that_cannot_be_written_out_is_an_error(rt: HostRuntime) {
     assert!(rt; checked(&rt, Refusing).is_none());
 }
 
-/// A writer that takes every byte, and fails to pass them on.
+/// A writer that accepts every byte, and cannot be flushed.
 #[derive(Drop)]
 struct Stuck;
 

@@ -1,4 +1,4 @@
-//! Command lines that the program answers without a ledger or a link.
+//! Command lines that need no ledger and no link.
 
 use crate::expect::holds;
 use crate::host::refusing::Refusing;
@@ -10,7 +10,8 @@ use std::process::Abort;
 /// Words, the exit status, and what is printed.
 type Case = (&'static [&'static str], u8, &'static str);
 
-/// Whether a command line over this input has this status, or is left to the program, and prints this text.
+/// Returns whether a command line over this input has this status and prints this text. A status of
+/// `None` means that the line is left to the program.
 pub(crate) fn prints<R: Eprint + AllocGlobal, I: Read>(
     rt: &R,
     words: &[&str],
@@ -22,7 +23,7 @@ pub(crate) fn prints<R: Eprint + AllocGlobal, I: Read>(
     run_line(rt, words, input, &mut output) == status && output.as_slice() == text.as_bytes()
 }
 
-/// Command lines over this input.
+/// Asserts the status and the text of each command line over this input.
 fn run_over<R: Eprint + AllocGlobal + Abort>(rt: &R, input: &[u8], cases: &[Case]) {
     for case in cases {
         let (words, status, text) = case;
@@ -31,7 +32,7 @@ fn run_over<R: Eprint + AllocGlobal + Abort>(rt: &R, input: &[u8], cases: &[Case
     }
 }
 
-/// Command lines that read no input.
+/// Asserts the same for command lines that read no input.
 fn run_cases<R: Eprint + AllocGlobal + Abort>(rt: &R, cases: &[Case]) {
     run_over(rt, b"", cases);
 }
@@ -372,7 +373,7 @@ const WITHDRAWALS: &[Case] = &[
         0,
         "reply withdraw customer 0 number 2 1 closed\n",
     ),
-    // What a withdrawal never comes to: an overlap, and a code after the last one.
+    // Outcomes that do not fit a withdrawal: an overlap, and a code after the last one.
     (
         &["s10", "show", "5331028600000000000000020000000103"],
         1,
@@ -408,7 +409,7 @@ const WRONG_DATAGRAMS: &[Case] = &[
         1,
         "refused kind\n",
     ),
-    // Withdrawals are of version 2.
+    // Withdrawals are of version 2 only.
     (
         &["s10", "show", "53310106000000000000000200000001"],
         1,
@@ -429,7 +430,7 @@ const WRONG_DATAGRAMS: &[Case] = &[
         1,
         "refused field 12\n",
     ),
-    // With 80 hex added to its kind the same datagram is a reply without its outcome.
+    // With 80 hex added to its kind, the same datagram is a reply without an outcome.
     (
         &["s10", "show", "53310182000000070000000152414742"],
         1,
@@ -458,7 +459,7 @@ fn show_reads_two_digits_for_each_byte(rt: HostRuntime) {
     run_cases(&rt, WRONG_DIGITS);
 }
 
-/// Whether n bytes 0 are refused with this line.
+/// Returns whether `count` bytes of value 0 are refused with this line.
 fn are_refused_to_be_shown<R: Eprint + AllocGlobal>(rt: &R, count: usize, line: &str) -> bool {
     let Ok(digits) = "00".repeat(rt.alloc(), count) else {
         return false;
@@ -481,7 +482,7 @@ fn show_reads_at_most_512_bytes(rt: HostRuntime) {
     );
 }
 
-/// The post grants one serial number, and customer 7 draws twice, 29 days apart.
+/// The post grants one serial, and customer 7 draws twice, 29 days apart.
 const TWO_DRAWS: &[u8] = b"20000 53310101000000000000000100000007524147420000000000000000
 20000 53310102000000070000000152414742
 20029 53310102000000070000000252414742
@@ -558,7 +559,7 @@ fn a_fault_of_the_command_line_prints_nothing_to_the_output(rt: HostRuntime) {
     run_cases(&rt, NO_COMMAND_LINES);
 }
 
-/// Whether what a command line prints, with status 0, begins like this.
+/// Returns whether a command line has status 0, and its output begins with this text.
 fn prints_at_first<R: Eprint + AllocGlobal>(rt: &R, words: &[&str], start: &str) -> bool {
     let mut input: &[u8] = b"";
     let mut output = Vec::new(rt.alloc());
@@ -593,7 +594,7 @@ fn help_and_the_version_are_printed_where_they_are_asked_for(rt: HostRuntime) {
     }
 }
 
-/// Whether a command line fails where nothing can be written.
+/// Returns whether a command line fails if nothing can be written.
 fn fails_unwritten<R: Eprint + AllocGlobal>(rt: &R, words: &[&str], mut input: &[u8]) -> bool {
     run_line(rt, words, &mut input, &mut Refusing) == Some(3)
 }

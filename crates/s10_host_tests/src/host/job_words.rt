@@ -1,4 +1,4 @@
-//! What command lines ask of the program itself.
+//! The jobs that command lines ask for.
 
 use crate::expect::holds;
 use crate::host::command_lines::prints;
@@ -10,10 +10,10 @@ use std::alloc::Global;
 use std::fmt::Debug;
 use std::process::Abort;
 
-/// The words of a command line, and what they ask, as it is shown for debugging.
+/// The words of a command line, and the `Debug` text of the job that they ask for.
 type Line = (&'static [&'static str], &'static str);
 
-/// Each subcommand of the program with its required options alone.
+/// Each subcommand of the program, with its required options only.
 const LINES: &[Line] = &[
     (
         &[
@@ -133,12 +133,12 @@ const LINES: &[Line] = &[
     (&["s10", "loop"], "Some(Loop { day: None })"),
 ];
 
-/// Those lines.
+/// Returns `LINES`.
 fn lines() -> &'static [Line] {
     LINES
 }
 
-/// The subcommand of a line, in their order.
+/// The subcommands, in the order of `LINES`.
 #[derive(Clone, Copy, Debug)]
 enum Subcommand {
     Create,
@@ -153,12 +153,12 @@ enum Subcommand {
     Loop,
 }
 
-/// The line of a subcommand.
+/// Returns the line of a subcommand.
 fn line_of(subcommand: Subcommand) -> Option<&'static Line> {
     lines().get(subcommand as usize)
 }
 
-/// Whether a value is shown like this for debugging.
+/// Returns whether this is the `Debug` text of a value.
 fn is_shown_as<T: Debug>(alloc: Global, value: &T, text: &str) -> bool {
     match format!(in alloc; "{value:?}") {
         Ok(shown) => shown.as_str() == text,
@@ -166,7 +166,7 @@ fn is_shown_as<T: Debug>(alloc: Global, value: &T, text: &str) -> bool {
     }
 }
 
-/// Whether this is what the words ask of the program.
+/// Returns whether the words ask for this job.
 fn asks(alloc: Global, words: &[&str], job: &str) -> bool {
     match parse_job(alloc, words) {
         Ok(asked) => is_shown_as(alloc, &asked, job),
@@ -174,14 +174,15 @@ fn asks(alloc: Global, words: &[&str], job: &str) -> bool {
     }
 }
 
-/// Lines ask what is shown beside them.
+/// Asserts that each line asks for its job.
 fn ask_as_shown<R: AllocGlobal + Abort>(rt: &R, lines: &[Line]) {
     for (words, job) in lines {
         holds(rt, words, asks(rt.alloc(), words, job));
     }
 }
 
-/// Whether a command line has this status, or is left to the program, and prints nothing.
+/// Returns whether a command line has this status and prints nothing. A status of `None` means that
+/// the line is left to the program.
 fn is_silent<R: Eprint + AllocGlobal>(rt: &R, words: &[&str], status: Option<u8>) -> bool {
     let mut input: &[u8] = b"";
     prints(rt, words, &mut input, status, "")
@@ -307,7 +308,7 @@ fn numbers_are_read_up_to_their_limits(rt: HostRuntime) {
     ask_as_shown(&rt, LIMITS);
 }
 
-/// The words but for an option and its value. None where memory is refused.
+/// Returns the words without an option and its value, or `None` if memory is refused.
 fn without<'a>(alloc: Global, words: &[&'a str], option: &str) -> Option<Vec<&'a str>> {
     let mut left = Vec::new(alloc);
     let mut follows = false;
@@ -321,7 +322,7 @@ fn without<'a>(alloc: Global, words: &[&'a str], option: &str) -> Option<Vec<&'a
     Some(left)
 }
 
-/// Whether a command line without this option is none, and asks nothing.
+/// Returns whether the words without this option are no command line, and ask for no job.
 fn is_required<R: Eprint + AllocGlobal>(rt: &R, words: &[&str], option: &str) -> bool {
     match without(rt.alloc(), words, option) {
         Some(left) => is_silent(rt, &left, Some(2)) && asks(rt.alloc(), &left, "None"),
@@ -329,7 +330,7 @@ fn is_required<R: Eprint + AllocGlobal>(rt: &R, words: &[&str], option: &str) ->
     }
 }
 
-/// Each option of these words is required.
+/// Asserts that each option of these words is required.
 fn options_are_required<R: Eprint + AllocGlobal + Abort>(rt: &R, words: &[&str]) {
     for word in words {
         if word.starts_with("--") {
@@ -345,10 +346,10 @@ fn each_option_but_the_day_and_the_tries_is_required(rt: HostRuntime) {
     }
 }
 
-/// In place of an option: the value is one word more.
+/// In place of an option: the value is appended as one more word.
 const ONE_MORE: &str = "";
 
-/// The words with another value of an option. None where memory is refused.
+/// Returns the words with another value of an option, or `None` if memory is refused.
 fn with_value<'a>(
     alloc: Global,
     words: &[&'a str],
@@ -367,7 +368,7 @@ fn with_value<'a>(
     Some(changed)
 }
 
-/// Whether the words ask the job that this text shows, but for one field.
+/// Returns whether the words ask for the job of this text with one field changed.
 fn ask_but_for(alloc: Global, words: &[&str], job: &str, field: &str, changed: &str) -> bool {
     let Some((before, after)) = job.split_once(field) else {
         return false;
@@ -378,7 +379,7 @@ fn ask_but_for(alloc: Global, words: &[&str], job: &str, field: &str, changed: &
     }
 }
 
-/// A line, an option and another value of it; a field of the job, and what stands there then.
+/// A subcommand, an option and its new value, a field of the job, and the changed field.
 type Reach = (
     Subcommand,
     &'static str,
@@ -387,7 +388,7 @@ type Reach = (
     &'static str,
 );
 
-/// Whether the line with the other value asks for its job with that field changed.
+/// Returns whether the line with the new value asks for its job with the field changed.
 fn reaches(alloc: Global, reach: &Reach) -> bool {
     let (subcommand, option, value, field, changed) = reach;
     let Some((words, job)) = line_of(*subcommand) else {
@@ -399,7 +400,7 @@ fn reaches(alloc: Global, reach: &Reach) -> bool {
     }
 }
 
-/// Values reach their own fields.
+/// Asserts that each value reaches its own field.
 fn reach_their_fields<R: AllocGlobal + Abort>(rt: &R, values: &[Reach]) {
     for reach in values {
         holds(rt, reach, reaches(rt.alloc(), reach));
@@ -601,10 +602,10 @@ fn each_option_that_may_be_left_out_reaches_its_own_field(rt: HostRuntime) {
     reach_their_fields(&rt, MORE);
 }
 
-/// A line, an option and another value of it.
+/// A subcommand, an option, and its new value.
 type Edit = (Subcommand, &'static str, &'static str);
 
-/// Whether the line with the other value is no command line.
+/// Returns whether the line with the new value is no command line.
 fn is_refused<R: Eprint + AllocGlobal>(rt: &R, edit: &Edit) -> bool {
     let (subcommand, option, value) = edit;
     let Some((words, _)) = line_of(*subcommand) else {
@@ -616,7 +617,7 @@ fn is_refused<R: Eprint + AllocGlobal>(rt: &R, edit: &Edit) -> bool {
     }
 }
 
-/// Lines with other values are no command lines.
+/// Asserts that no line is a command line with its new value.
 fn are_refused<R: Eprint + AllocGlobal + Abort>(rt: &R, edits: &[Edit]) {
     for edit in edits {
         holds(rt, edit, is_refused(rt, edit));
@@ -703,7 +704,7 @@ fn a_withdrawal_is_of_a_whole_range_by_its_number(rt: HostRuntime) {
     are_refused(&rt, PARTS);
 }
 
-/// Whether a text names each option of the words.
+/// Returns whether a text names each option of the words.
 fn names_options(text: &str, words: &[&str]) -> bool {
     for word in words {
         if word.starts_with("--") && !text.contains(*word) {
@@ -713,7 +714,7 @@ fn names_options(text: &str, words: &[&str]) -> bool {
     true
 }
 
-/// Whether a help has an example, and names each option of the words.
+/// Returns whether a help text has an example, and names each option of the words.
 fn explains(help: &[u8], words: &[&str]) -> bool {
     let Ok(text) = std::str::from_utf8(help) else {
         return false;
@@ -721,7 +722,8 @@ fn explains(help: &[u8], words: &[&str]) -> bool {
     text.contains("Example:\n  s10 ") && names_options(text, words)
 }
 
-/// Whether the help of a command line's subcommand explains it.
+/// Returns whether the help text of the subcommand has an example, and names each option of the
+/// words.
 fn is_explained<R: Eprint + AllocGlobal>(rt: &R, words: &[&str]) -> bool {
     let Some(name) = words.get(1) else {
         return false;

@@ -6,14 +6,14 @@ use s10_host::run_job;
 use s10_jobs::{Job, JobStatus};
 use sqlite::Unknown;
 
-/// Whether a job has this status and prints this line.
+/// Returns whether a job ends with this status and prints this line.
 fn is_ended(rt: &HostRuntime, job: &Job<'_>, status: JobStatus, line: &str) -> bool {
     let mut output = Vec::new(rt.alloc());
     let (ended, _left) = run_job(rt, job, Unknown, &mut output);
     ended == Ok(status) && output.as_slice() == line.as_bytes()
 }
 
-/// The same of the job of a command line.
+/// Returns the same for the job of a command line.
 pub(crate) fn ends_with(rt: &HostRuntime, words: &[&str], status: JobStatus, line: &str) -> bool {
     match parse_job(rt.alloc(), words) {
         Ok(Some(job)) => is_ended(rt, &job, status, line),
@@ -21,7 +21,7 @@ pub(crate) fn ends_with(rt: &HostRuntime, words: &[&str], status: JobStatus, lin
     }
 }
 
-/// The words of a command line, and the status and the line that its job ends with.
+/// Words of a command line, and the status and the line of its job.
 const CASES: &[(&[&str], JobStatus, &str)] = &[
     (
         &[

@@ -1,4 +1,4 @@
-//! The worked ledger of nine calls in tables: its replies and reports, and audits of it.
+//! The worked ledger of nine calls in tables: its replies, its reports, and its audits.
 
 use crate::expect::holds;
 use crate::host::refusing::Refusing;
@@ -17,8 +17,9 @@ use std::alloc::Global;
 use std::io::Write;
 use std::process::Abort;
 
-/// The replies of nine calls: the post grants RA GB 0 to 2 to customer 7, who draws serials 0 and 1, voids 1 twice,
-/// draws serial 2, is told that none is free, and 30 days after it draws 0 and 1 again.
+/// The replies to nine calls. The post grants RA GB 0 to 2 to customer 7. Customer 7 draws serials
+/// 0 and 1, voids 1 twice, draws serial 2, and is refused a Draw since none is free. 30 days later
+/// it draws 0 and 1 again.
 const REPLIES: &str = "\
 533101810000000000000001000000075241474200000000000000020000000001
 533101820000000700000001524147420000004e2052413030303030303030354742
@@ -33,7 +34,7 @@ const REPLIES: &str = "\
 533101820000000700000008524147420000004e3e52413030303030303031344742
 ";
 
-/// The ranges, and the issues.
+/// The report of the ranges, followed by the report of the issues.
 const REPORTS: &str = "range customer service country first last used voided free
 1 7 RA GB 00000000 00000002 3 0 1
 arrival day customer number identifier state
@@ -44,7 +45,7 @@ arrival day customer number identifier state
 9 20030 7 8 RA000000014GB issued
 ";
 
-/// The days and the datagrams of the nine calls.
+/// The day and the datagram of each of the nine calls.
 const CALLS: &[(u32, &[u8])] = &[
     (
         20_000,
@@ -64,7 +65,7 @@ fn settings() -> Settings {
     Settings::new(30, 100).unwrap()
 }
 
-/// The nine calls, handed in at once. None where memory is refused.
+/// Returns the deliveries of the nine calls, or `None` if memory is refused.
 fn deliveries(alloc: Global) -> Option<Vec<Delivery>> {
     let mut deliveries = Vec::new(alloc);
     for (day, datagram) in CALLS {
@@ -74,7 +75,7 @@ fn deliveries(alloc: Global) -> Option<Vec<Delivery>> {
     Some(deliveries)
 }
 
-/// Whether answers are written as the nine replies.
+/// Returns whether answers are written as the nine replies.
 fn are_replies(alloc: Global, answers: &[Answer]) -> bool {
     let mut out = Vec::new(alloc);
     for answer in answers {
@@ -85,7 +86,7 @@ fn are_replies(alloc: Global, answers: &[Answer]) -> bool {
     out.as_slice() == REPLIES.as_bytes()
 }
 
-/// Whether a server answers the calls with the nine replies.
+/// Returns whether a server answers these deliveries with the nine replies.
 fn gives_replies<B: Book>(alloc: Global, server: &mut Server<B>, calls: &[Delivery]) -> bool {
     match server.run(alloc, calls) {
         Ok(answers) => are_replies(alloc, &answers),
@@ -93,7 +94,7 @@ fn gives_replies<B: Book>(alloc: Global, server: &mut Server<B>, calls: &[Delive
     }
 }
 
-/// Whether a server answers the nine calls with the nine replies.
+/// Returns whether a server answers the nine calls with the nine replies.
 fn is_worked<B: Book>(alloc: Global, server: &mut Server<B>) -> bool {
     match deliveries(alloc) {
         Some(calls) => gives_replies(alloc, server, &calls),
@@ -101,7 +102,7 @@ fn is_worked<B: Book>(alloc: Global, server: &mut Server<B>) -> bool {
     }
 }
 
-/// Whether a server over this book does, and the book, whose calls are committed.
+/// Returns the same for a server over this book, and the book with its calls committed.
 fn hand_in<B: GroupCommit>(alloc: Global, book: B) -> (bool, B) {
     let mut server = Server::new(book);
     let is_same = is_worked(alloc, &mut server);
@@ -109,13 +110,13 @@ fn hand_in<B: GroupCommit>(alloc: Global, book: B) -> (bool, B) {
     (is_same, server.into_book())
 }
 
-/// Whether a server over this book answers the nine calls with the nine replies.
+/// Returns the same, and drops the book.
 fn gives_nine_replies<B: GroupCommit + Drop>(alloc: Global, book: B) -> bool {
     let (is_same, _left) = hand_in(alloc, book);
     is_same
 }
 
-/// Whether the two reports of a book, one after the other, are as worked by hand.
+/// Returns whether the two reports of a book, one after the other, are as worked by hand.
 fn are_as_worked<B: Book>(alloc: Global, book: &mut B) -> bool {
     let mut out = Vec::new(alloc);
     write_ranges(book, 20_030, &mut out) == Ok(())
@@ -123,14 +124,16 @@ fn are_as_worked<B: Book>(alloc: Global, book: &mut B) -> bool {
         && out.as_slice() == REPORTS.as_bytes()
 }
 
-/// The book after the nine calls. Says whether it gave the nine replies, and whether its reports are then as worked by hand.
+/// Returns the book after the nine calls. Sets `said` to whether it gave the nine replies, and
+/// whether its reports are then as worked by hand.
 fn reported<B: GroupCommit>(alloc: Global, book: B, said: &mut (bool, bool)) -> B {
     let (is_same, mut book) = hand_in(alloc, book);
     *said = (is_same, are_as_worked(alloc, &mut book));
     book
 }
 
-/// The tables of a new ledger after the nine calls, and whether it gave the replies and its reports are as worked by hand.
+/// Returns the tables of a new ledger after the nine calls, whether it gave the nine replies, and
+/// whether its reports are as worked by hand.
 fn worked<R: Abort + AllocGlobal>(rt: &R) -> (Connection<MemStore>, (bool, bool)) {
     let mut said = (false, false);
     let book = reported(rt.alloc(), ledger(rt, settings()), &mut said);
@@ -151,20 +154,20 @@ fn reports_of_tables_are_as_worked_by_hand(rt: HostRuntime) {
     assert!(rt; said.1);
 }
 
-/// The tables of the nine calls.
+/// Returns the tables of the nine calls.
 fn worked_ledger<R: Abort + AllocGlobal>(rt: &R) -> Option<Connection<MemStore>> {
     let (tables, _) = worked(rt);
     Some(tables)
 }
 
-/// Tables after one change.
+/// Returns the tables after one change, or `None` if there are none or the change fails.
 fn changed<S: Alter + Drop>(ledger: Option<Connection<S>>, change: &str) -> Option<Connection<S>> {
     let mut connection = ledger?;
     connection.execute(change, &[]).ok()?;
     Some(connection)
 }
 
-/// How an audit ended. None where there are no tables.
+/// Returns the result of an audit, or `None` if there are no tables.
 fn audited<R: Abort + AllocGlobal, S: Alter + Drop, W: Write>(
     rt: &R,
     ledger: Option<Connection<S>>,
@@ -176,7 +179,7 @@ fn audited<R: Abort + AllocGlobal, S: Alter + Drop, W: Write>(
     Some(done)
 }
 
-/// Whether an audit of the tables ends with this status and prints this line.
+/// Returns whether an audit of the tables ends with this status and prints this line.
 fn is_audited<R: Abort + AllocGlobal, S: Alter + Drop>(
     rt: &R,
     ledger: Option<Connection<S>>,
@@ -265,7 +268,7 @@ const CHANGES: &[(&str, &str)] = &[
     ("INSERT INTO closed VALUES (1, 9)", "ledger damaged 0\n"),
 ];
 
-/// Whether an audit after the change fails with this line.
+/// Returns whether an audit after the change fails with this line.
 fn is_found<R: Abort + AllocGlobal>(rt: &R, change: &str, line: &str) -> bool {
     let ledger = changed(worked_ledger(rt), change);
     is_audited(rt, ledger, JobStatus::Failed, line)

@@ -15,7 +15,7 @@ reply void customer 7 number 3 RA000000005GB done
 reply query customer 7 number 4 RA000000005GB done voided 20000
 ";
 
-/// What came of a loop.
+/// Runs a loop and returns its result.
 fn looped<R: Net + Eprint + AllocGlobal, W: Write>(
     rt: &R,
     out: &mut W,
@@ -24,7 +24,7 @@ fn looped<R: Net + Eprint + AllocGlobal, W: Write>(
     done
 }
 
-/// Whether a loop prints the five replies, on a writer that takes them alone.
+/// Returns whether a loop prints the five replies, and fails if the writer accepts nothing.
 fn prints_five_replies<R: Net + Eprint + AllocGlobal>(rt: &R) -> bool {
     let mut out = Vec::new(rt.alloc());
     looped(rt, &mut out) == Ok(JobStatus::Done)

@@ -1,4 +1,4 @@
-//! The texts of requests, and requests over sockets.
+//! Questions with texts that are refused, and questions over sockets.
 
 use crate::expect::holds;
 use crate::host::refusing::Refusing;
@@ -8,17 +8,19 @@ use s10_sockets::run_question;
 use std::io::Write;
 use std::net::Net;
 
-/// What is asked for: by customer 7, or by the post.
+/// What customer 7 or the post asks.
 #[derive(Clone, Copy)]
 enum Asked {
+    /// The texts of the service and of the country.
     Draw(&'static str, &'static str),
+    /// The text of the identifier.
     Query(&'static str),
     Withdraw,
 }
 
 const SERVER: &str = "127.0.0.1:4711";
 
-/// To whom a question goes, what it asks for, and the status and the line that it ends with.
+/// Address of the server, what is asked, and the status and the line of the question.
 const CASES: &[(&str, Asked, JobStatus, &str)] = &[
     (
         "127.0.0.1",
@@ -95,7 +97,7 @@ const CASES: &[(&str, Asked, JobStatus, &str)] = &[
     ),
 ];
 
-/// What came of a question.
+/// Asks a question and returns its result.
 fn answer_of<R: Net + Eprint, W: Write>(
     rt: &R,
     question: &Question<'_>,
@@ -105,7 +107,8 @@ fn answer_of<R: Net + Eprint, W: Write>(
     done
 }
 
-/// Whether a question has this status and prints this line, on a writer that takes it alone.
+/// Returns whether a question ends with this status and prints this line, and fails if the writer
+/// accepts nothing.
 fn is_reported<R: Net + Eprint + AllocGlobal>(
     rt: &R,
     question: &Question<'_>,
@@ -118,7 +121,7 @@ fn is_reported<R: Net + Eprint + AllocGlobal>(
         && answer_of(rt, question, &mut Refusing) == Err(WriteFault)
 }
 
-/// The same of the first question of the customer or the post.
+/// Returns the same for the question with number 1 of customer 7 or of the post.
 fn asked_is_reported<R: Net + Eprint + AllocGlobal>(
     rt: &R,
     to: &str,

@@ -1,18 +1,18 @@
-//! What is no ledger: each job over it is refused, and leaves its folder as it was.
+//! Jobs over files that are no ledgers: each is refused and leaves its folder unchanged.
 
 use crate::expect::holds;
 use crate::host::jobs::ends_with;
 use s10_jobs::JobStatus;
 use std::fs;
 
-/// Made for each path, and taken away again.
+/// A folder that is created for each case and removed after it.
 const FOLDER: &str = "refused_files_test";
 
 const FILE: &str = "refused_files_test/ledger";
 
 const IN_NO_FOLDER: &str = "refused_files_test/nowhere/ledger";
 
-/// Each job over the file.
+/// The command line of each job over the file.
 const OVER_FILE: &[&[&str]] = &[
     &["s10", "audit", "--ledger", FILE],
     &["s10", "report", "--ledger", FILE, "--day", "20000"],
@@ -28,7 +28,7 @@ const OVER_FILE: &[&[&str]] = &[
     ],
 ];
 
-/// Each job over the path in a folder that is none.
+/// The command line of each job over a path in a folder that does not exist.
 const OVER_NO_FOLDER: &[&[&str]] = &[
     &["s10", "audit", "--ledger", IN_NO_FOLDER],
     &["s10", "report", "--ledger", IN_NO_FOLDER, "--day", "20000"],
@@ -44,7 +44,7 @@ const OVER_NO_FOLDER: &[&[&str]] = &[
     ],
 ];
 
-/// Whether each of the jobs ends with status 3 and this line.
+/// Returns whether each of the jobs ends with status 3 and this line.
 fn are_refused(rt: &HostRuntime, jobs: &[&[&str]], line: &str) -> bool {
     for words in jobs {
         if !ends_with(rt, words, JobStatus::Failed, line) {
@@ -54,18 +54,18 @@ fn are_refused(rt: &HostRuntime, jobs: &[&[&str]], line: &str) -> bool {
     true
 }
 
-/// Makes the folder, with nothing in it. Whether it is there.
+/// Creates the empty folder, and returns whether that succeeds.
 fn make_folder(rt: &HostRuntime) -> bool {
     let _ = fs::remove_dir_all(rt, FOLDER);
     fs::create_dir(rt, FOLDER).is_ok()
 }
 
-/// Takes the folder away. Whether it was empty: one with something in it cannot be taken away.
+/// Removes the folder, and returns whether it was empty: a folder with a file in it stays.
 fn take_folder(rt: &HostRuntime) -> bool {
     fs::remove_dir(rt, FOLDER).is_ok()
 }
 
-/// Takes the file away. Whether these were its bytes.
+/// Removes the file, and returns whether these were its bytes.
 fn take_file(rt: &HostRuntime, bytes: &str) -> bool {
     match fs::read(rt, FILE) {
         Ok(left) => fs::remove_file(rt, FILE).is_ok() && left.as_slice() == bytes.as_bytes(),
@@ -73,13 +73,14 @@ fn take_file(rt: &HostRuntime, bytes: &str) -> bool {
     }
 }
 
-/// Whether they are, and no file is in the folder afterwards.
+/// Returns whether the jobs are refused and the folder is empty after them.
 fn stays_away(rt: &HostRuntime, jobs: &[&[&str]], line: &str) -> bool {
     let refused = make_folder(rt) && are_refused(rt, jobs, line);
     take_folder(rt) && refused
 }
 
-/// Whether they are, and the file keeps its bytes and has no other beside it.
+/// Returns whether the jobs are refused, the file keeps its bytes, and the folder has no other
+/// file.
 fn stays(rt: &HostRuntime, bytes: &str, line: &str) -> bool {
     let refused = make_folder(rt)
         && fs::write(rt, FILE, bytes).is_ok()
@@ -87,13 +88,13 @@ fn stays(rt: &HostRuntime, bytes: &str, line: &str) -> bool {
     take_file(rt, bytes) && take_folder(rt) && refused
 }
 
-/// Jobs over no file, and the line of each.
+/// Jobs without a file, and the line of each.
 const ABSENT: &[(&[&[&str]], &str)] = &[
     (OVER_FILE, "ledger not-a-ledger\n"),
     (OVER_NO_FOLDER, "ledger store\n"),
 ];
 
-/// What stands in a file, and the line of each job over it.
+/// Bytes of a file, and the line of each job over it.
 const OTHERS: &[(&str, &str)] = &[
     ("", "ledger not-a-ledger\n"),
     ("short", "ledger store\n"),

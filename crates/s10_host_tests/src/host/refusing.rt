@@ -1,4 +1,4 @@
-//! A writer that refuses.
+//! A writer that accepts nothing.
 
 use std::io;
 use std::io::Write;

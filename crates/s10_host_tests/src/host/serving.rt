@@ -16,7 +16,7 @@ const ANY: Peer = Peer {
     port: 0,
 };
 
-/// What came of n turns of a new server at the address.
+/// Serves `count` turns of a new server at the address, and returns the result.
 fn served_at<R: Net + Clock + Eprint + AllocGlobal, W: Write>(
     rt: &R,
     at: Peer,
@@ -28,7 +28,8 @@ fn served_at<R: Net + Clock + Eprint + AllocGlobal, W: Write>(
     served
 }
 
-/// Whether n turns of a new server at the address have this status and print this text.
+/// Returns whether `count` turns of a new server at the address have this status and print this
+/// text.
 fn is_served_at<R: Net + Clock + Eprint + AllocGlobal>(
     rt: &R,
     at: Peer,

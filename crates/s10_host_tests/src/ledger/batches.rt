@@ -1,4 +1,4 @@
-//! Batches of a server over a ledger that could not be committed once.
+//! Batches of a server over a ledger whose commit fails once.
 
 use crate::expect::same;
 use crate::ledger::calls::{ledger, settings};
@@ -18,18 +18,20 @@ const OTHER: Peer = Peer {
     port: 4712,
 };
 
-// The post's first Grant: range 1 for customer 7, RA GB 0 to 2.
+// The post's first Grant: RA GB 0 to 2 to customer 7.
 const GRANT: &[u8] = b"S1\x01\x01\0\0\0\0\0\0\0\x01\0\0\0\x07RAGB\0\0\0\0\0\0\0\x02";
 
-// A datagram that comes, whose reply is held back where the commit fails if its call is new, and is sent in a batch after that.
+// A datagram and its reply. If the commit fails, the reply to a new call is withheld, and a later
+// batch sends it.
 struct Case {
     from: Peer,
     request: &'static [u8],
     reply: &'static [u8],
+    // Whether its call is not committed yet.
     is_new: bool,
 }
 
-// Customer 7's first three Draws, of which the first is committed before.
+// Customer 7's first Draw, which is committed before.
 const FIRST: &Case = &Case {
     from: OTHER,
     request: b"S1\x01\x02\0\0\0\x07\0\0\0\x01RAGB",
@@ -37,6 +39,7 @@ const FIRST: &Case = &Case {
     is_new: false,
 };
 
+// Customer 7's second Draw.
 const SECOND: &Case = &Case {
     from: PEER,
     request: b"S1\x01\x02\0\0\0\x07\0\0\0\x02RAGB",
@@ -44,6 +47,7 @@ const SECOND: &Case = &Case {
     is_new: true,
 };
 
+// Customer 7's third Draw.
 const THIRD: &Case = &Case {
     from: OTHER,
     request: b"S1\x01\x02\0\0\0\x07\0\0\0\x03RAGB",
@@ -51,7 +55,7 @@ const THIRD: &Case = &Case {
     is_new: true,
 };
 
-// A link on which both datagrams come twice, and all that is sent passes.
+// Returns a link that delivers both datagrams twice, and whose sends succeed.
 fn link(alloc: Global, cases: (&Case, &Case)) -> Result<ScriptLink, AllocError> {
     let (first, second) = cases;
     let one = Receipt::Deliver(first.from, Packet::new(first.request));
@@ -60,7 +64,7 @@ fn link(alloc: Global, cases: (&Case, &Case)) -> Result<ScriptLink, AllocError> 
     ScriptLink::new(alloc, receipts, [true; 4].to_vec(alloc)?)
 }
 
-// The book once it committed the Grant and the first Draw.
+// Returns the book after it committed the Grant and the first Draw.
 fn committed<B: GroupCommit>(book: B) -> B {
     let mut server = Server::new(book);
     let _ = server.handle(GRANT, 20_000);
@@ -69,7 +73,7 @@ fn committed<B: GroupCommit>(book: B) -> B {
     server.into_book()
 }
 
-// Whether a turn is that of a datagram, where the commit fails or after that.
+// Returns whether a turn is as expected for a datagram, if the commit fails or if it succeeds.
 fn is_turn(turn: &Turn, case: &Case, fails: bool) -> bool {
     let is_held = fails && case.is_new;
     match turn {
@@ -83,7 +87,7 @@ fn is_turn(turn: &Turn, case: &Case, fails: bool) -> bool {
     }
 }
 
-// Whether a batch over both datagrams, or else a turn over the first, ends so.
+// Returns whether a batch over both datagrams, or one turn over the first, ends as expected.
 fn ends<B: GroupCommit>(
     alloc: Global,
     server: &mut Server<B>,
@@ -106,8 +110,8 @@ fn ends<B: GroupCommit>(
     }
 }
 
-// Whether a batch or turn over a book ends as where the commit fails, and whether the next one over the same sends all replies;
-// and the book.
+// Returns the book, whether a batch or turn ends as expected for a failed commit, and whether the
+// next one over the same datagrams sends all replies.
 fn ends_over<B: GroupCommit>(
     alloc: Global,
     book: B,
@@ -123,7 +127,7 @@ fn ends_over<B: GroupCommit>(
     (server.into_book(), [at_first, then])
 }
 
-// The same over a book whose call with this number fails, after those that are committed.
+// The same over a book that fails at call `at`, counted from 0, after those that are committed.
 fn ends_tripping<B: GroupCommit>(
     alloc: Global,
     book: B,
@@ -136,7 +140,8 @@ fn ends_tripping<B: GroupCommit>(
     (book.into_inner(), ends)
 }
 
-// At how many calls of the book the replies wait for a commit. None where one is not sent then.
+// Returns for how many of the first 20 calls of the book a failure withholds the replies, or `None`
+// if one of these replies is not sent afterwards.
 fn waits<R: Abort + AllocGlobal>(rt: &R, cases: (&Case, &Case), in_batch: bool) -> Option<u32> {
     let mut count: u32 = 0;
     for at in 0..20u64 {
@@ -151,7 +156,7 @@ fn waits<R: Abort + AllocGlobal>(rt: &R, cases: (&Case, &Case), in_batch: bool) 
     Some(count)
 }
 
-// Each call of the book fails in turn; one of them is the commit.
+// Asserts that the failure of only one call of the book, the commit, withholds the replies.
 fn wait_once<R: Abort + AllocGlobal>(rt: &R, first: &Case, second: &Case) {
     let found = (
         waits(rt, (first, second), true),

@@ -1,4 +1,4 @@
-//! The same calls over a book in memory and over one in tables.
+//! The same calls over a book in memory and over a ledger in tables.
 
 use crate::expect::same;
 use crate::ledger::calls::Answered::{
@@ -17,34 +17,35 @@ use s10_wire::{Outcome, Status};
 use sqlite::{Connection, MemStore};
 use std::process::Abort;
 
-/// What is read of a book, and what is found.
+/// A read of a book, and what it must find.
 #[derive(Clone, Copy)]
 pub(crate) enum Read {
-    /// How many calls there are, and the day of the last.
+    /// The number of calls, and the day of the last.
     Calls(u32, u32),
-    /// The call of this customer and number: the sixth, or none.
+    /// The call of a customer with a number: the sixth if true, otherwise none.
     Find(u32, u32, bool),
-    /// The call that arrived at this place: the sixth, or none.
+    /// The call with this arrival: the sixth if true, otherwise none.
     Entry(u32, bool),
-    /// The range with this number: the first, or none.
+    /// The range with this number: the first if true, otherwise none.
     Range(u32, bool),
-    /// The range of this holder after that number: the first, or none.
+    /// The next range of a holder after a number: the first if true, otherwise none.
     NextRange(u32, u32, bool),
-    /// The range over the serials from one to the other: the first, or none.
+    /// The range with a serial from the first value to the second: the first if true, otherwise
+    /// none.
     Covering(u32, u32, bool),
-    /// The last issue of a serial.
+    /// A serial, and its last issue.
     LastIssue(u32, Option<Issue>),
-    /// What the first range gives next: a serial, and its last issue.
+    /// The serial that range 1 gives next, and its last issue.
     Candidate(u32, Issue),
-    /// The usage of the first range on a day.
+    /// A day, and the usage of range 1 on it.
     Usage(u32, Usage),
 }
 
-/// Nothing is read.
+/// No reads.
 const UNREAD: &'static [Read] = &[];
 
-/// What is found of a book after steps: the places of the first step that was not answered as its row says, and of the first that
-/// is not read so; how many calls there are, the day of the last, and the settings.
+/// What is found in a book after steps: the index of the first step with a wrong answer, the index
+/// of the first wrong read, the number of calls, the day of the last, and the settings.
 pub(crate) type Found = (Option<usize>, Option<usize>, u32, u32, Settings);
 
 fn found<B: Book>(book: &mut B, steps: &[Step], reads: &[Read]) -> Found {
@@ -63,18 +64,18 @@ fn found_in_memory<R: AllocGlobal>(
     found(&mut book, steps, reads)
 }
 
-/// The same of a ledger.
+/// Executes the steps and the reads over a ledger, and returns what is found.
 pub(crate) fn found_in(book: &mut SqlBook<MemStore>, steps: &[Step], reads: &[Read]) -> Found {
     found(book, steps, reads)
 }
 
-/// Whether a ledger answers each step as its row says; otherwise the place of the first that it doesn't.
+/// Executes the steps and returns the index of the first whose answer differs from its row, if any.
 pub(crate) fn first_unlike_in(book: &mut SqlBook<MemStore>, steps: &[Step]) -> Option<usize> {
     let (step, _, _, _, _) = found_in(book, steps, UNREAD);
     step
 }
 
-/// The same of a new ledger with this limit, and its connection.
+/// Returns the same for a new ledger with this limit, and its connection.
 pub(crate) fn first_unlike_of<R: Abort + AllocGlobal>(
     rt: &R,
     limit: u32,
@@ -85,7 +86,8 @@ pub(crate) fn first_unlike_of<R: Abort + AllocGlobal>(
     (unlike, closed(book))
 }
 
-/// The connection of a ledger after these steps, which it and a book in memory answer, and are read then, as the rows say.
+/// Asserts that a ledger and a book in memory answer the steps and the reads as the rows say.
+/// Returns the connection of the ledger.
 fn both_after<R: Abort + AllocGlobal>(
     rt: &R,
     name: &str,
@@ -101,7 +103,7 @@ fn both_after<R: Abort + AllocGlobal>(
     closed(tables)
 }
 
-/// The same of a ledger whose limit is 100 and that is not read.
+/// The same for a ledger with a limit of 100 calls, without reads.
 pub(crate) fn tables_after<R: Abort + AllocGlobal>(
     rt: &R,
     name: &str,
@@ -110,7 +112,7 @@ pub(crate) fn tables_after<R: Abort + AllocGlobal>(
     both_after(rt, name, 100, steps, UNREAD)
 }
 
-/// Both books answer the steps and are read then as the rows say.
+/// Asserts that both books answer the steps and the reads as the rows say.
 fn both_answer<R: Abort + AllocGlobal>(
     rt: &R,
     name: &str,
@@ -248,7 +250,7 @@ fn refusals_are_answered_alike(rt: HostRuntime) {
     );
 }
 
-/// The range of the opening, where it is the one that is meant.
+/// Returns the range of the opening, or `None` if `is_there` is false.
 fn first_range(is_there: bool) -> Option<Range> {
     let range = Range {
         num: 1,
@@ -261,7 +263,7 @@ fn first_range(is_there: bool) -> Option<Range> {
     if is_there { Some(range) } else { None }
 }
 
-/// The sixth call, a Draw of the last serial, where it is the one that is meant.
+/// Returns the sixth call, a Draw of the last serial, or `None` if `is_there` is false.
 fn sixth(is_there: bool) -> Option<Entry> {
     let entry = Entry {
         request: request(7, 5, Draw),
@@ -274,7 +276,7 @@ fn sixth(is_there: bool) -> Option<Entry> {
     if is_there { Some(entry) } else { None }
 }
 
-/// The usage of the book's first range.
+/// Returns the usage of range 1 on a day, if the range exists.
 fn usage_of_first<B: Book>(book: &mut B, day: u32) -> Result<Option<Usage>, BookFault> {
     let found = book.range(1)?;
     let Some(range) = found else {
@@ -284,7 +286,7 @@ fn usage_of_first<B: Book>(book: &mut B, day: u32) -> Result<Option<Usage>, Book
     Ok(Some(usage))
 }
 
-/// What the book's first range gives next.
+/// Returns the candidate of range 1, if the range exists.
 fn candidate_of_first<B: Book>(book: &mut B) -> Result<Option<Candidate>, BookFault> {
     let found = book.range(1)?;
     let Some(range) = found else {
@@ -294,17 +296,18 @@ fn candidate_of_first<B: Book>(book: &mut B) -> Result<Option<Candidate>, BookFa
     Ok(Some(candidate))
 }
 
-/// Whether this call is the sixth, or none.
+/// Returns whether the sixth call was found, or none if `is_there` is false.
 fn is_sixth(found: &Result<Option<Entry>, BookFault>, is_there: bool) -> bool {
     *found == Ok(sixth(is_there))
 }
 
-/// Whether this range is the first, or none.
+/// Returns whether range 1 was found, or none if `is_there` is false.
 fn is_first(found: &Result<Option<Range>, BookFault>, is_there: bool) -> bool {
     *found == Ok(first_range(is_there))
 }
 
-/// Whether the range that a holder has after that number is the first, or none.
+/// Returns whether the next range of a holder after number `after` is range 1, or none if
+/// `is_there` is false.
 fn has_after<B: Book>(book: &mut B, holder: u32, after: u32, is_there: bool) -> bool {
     let held = HolderKey {
         holder,
@@ -314,7 +317,7 @@ fn has_after<B: Book>(book: &mut B, holder: u32, after: u32, is_there: bool) -> 
     is_first(&book.next_range(&held, after), is_there)
 }
 
-/// Whether the range over these serials is the first, or none.
+/// Returns whether the range with one of these serials is range 1, or none if `is_there` is false.
 fn has_over<B: Book>(book: &mut B, first: u32, last: u32, is_there: bool) -> bool {
     let span = SerialSpan {
         service: ra(),
@@ -325,7 +328,7 @@ fn has_over<B: Book>(book: &mut B, first: u32, last: u32, is_there: bool) -> boo
     is_first(&book.covering(&span), is_there)
 }
 
-/// Whether the first range gives this serial next, which was issued last so.
+/// Returns whether range 1 gives this serial next, and this is its last issue.
 fn gives_next<B: Book>(book: &mut B, value: u32, issue: Issue) -> bool {
     let candidate = Candidate {
         serial: serial(value),
@@ -334,7 +337,7 @@ fn gives_next<B: Book>(book: &mut B, value: u32, issue: Issue) -> bool {
     candidate_of_first(book) == Ok(Some(candidate))
 }
 
-/// Whether a book is read as the row says.
+/// Returns whether a read of the book finds what its row says.
 fn is_as_read<B: Book>(book: &mut B, read: Read) -> bool {
     match read {
         Read::Calls(calls, day) => book.len() == calls && book.day() == day,
@@ -349,7 +352,7 @@ fn is_as_read<B: Book>(book: &mut B, read: Read) -> bool {
     }
 }
 
-/// Whether a book is read as each row says; otherwise the place of the first that it isn't read so.
+/// Returns the index of the first read that finds something else than its row says, if any.
 fn first_unread<B: Book>(book: &mut B, reads: &[Read]) -> Option<usize> {
     for (place, read) in reads.iter().enumerate() {
         if !is_as_read(book, *read) {
@@ -359,6 +362,7 @@ fn first_unread<B: Book>(book: &mut B, reads: &[Read]) -> Option<usize> {
     None
 }
 
+/// The last issue of serial 1 after six calls.
 const VOIDED: Issue = Issue {
     day: 20000,
     voided: true,
@@ -366,6 +370,7 @@ const VOIDED: Issue = Issue {
     number: 2,
 };
 
+/// The last issue of serial 0 after six calls.
 const FIRST: Issue = Issue {
     day: 20000,
     voided: false,
@@ -373,6 +378,7 @@ const FIRST: Issue = Issue {
     number: 1,
 };
 
+/// The last issue of serial 2 after nine calls.
 const LAST: Issue = Issue {
     day: 20000,
     voided: false,
@@ -380,6 +386,7 @@ const LAST: Issue = Issue {
     number: 5,
 };
 
+/// The last issue of serial 1 after nine calls.
 const AGAIN: Issue = Issue {
     day: 20030,
     voided: false,

@@ -1,4 +1,4 @@
-//! Calls in rows, and books that they are handed in to.
+//! Requests and their expected answers as rows, and ledgers that execute them.
 
 use s10_book::{Book, BookFault, GroupCommit, decide};
 use s10_core::{Country, Id, Serial, Service};
@@ -9,28 +9,33 @@ use s10_wire::{Body, Outcome, Request, Status};
 use sqlite::{Connection, MemStore};
 use std::process::Abort;
 
-/// What a request asks, of RA GB where no other letters are named.
+/// What a request asks, of RA GB unless the name of the variant says otherwise.
 #[derive(Clone, Copy)]
 pub(crate) enum Asked {
-    /// The holder, and the serials from the first to the last.
+    /// The holder, the first and the last serial.
     Grant(u32, u32, u32),
+    /// The holder, the first and the last serial.
     GrantOfRb(u32, u32, u32),
     Draw,
     DrawOfRb,
+    /// The serial.
     Void(u32),
+    /// The serial.
     Query(u32),
+    /// The serial.
     QueryOfUs(u32),
-    /// The range with this number.
+    /// The number of the range.
     Withdraw(u32),
 }
 
-/// What is answered.
+/// The expected answer.
 #[derive(Clone, Copy)]
 pub(crate) enum Answered {
-    /// The day, and the serial of RA GB.
+    /// The day and the serial, of RA GB.
     Drawn(u32, u32),
-    /// The range with this number.
+    /// The number of the range.
     Granted(u32),
+    /// The status of the identifier.
     Told(Status),
     Voided,
     Withdrawn,
@@ -45,28 +50,32 @@ pub(crate) enum Answered {
     NumberReused,
     NoSuchRange,
     Closed,
-    /// The book is full.
+    /// The book is full and keeps no call.
     Full,
 }
 
-/// Customer and number, what is asked, the day that it is handed in on, and what is answered.
+/// A call: customer, number, what it asks, its day, and the expected answer.
 pub(crate) type Step = (u32, u32, Asked, u32, Answered);
 
 /// Customer 7 is granted range 1: the serials 0 to 2.
 pub(crate) const OPENING: Step = (0, 1, Asked::Grant(7, 0, 2), 20000, Answered::Granted(1));
 
-/// Its first Draw.
+/// Customer 7 draws serial 0.
 pub(crate) const FIRST_DRAW: Step = (7, 1, Asked::Draw, 20000, Answered::Drawn(20000, 0));
 
+/// Customer 7 draws serial 1.
 const SECOND_DRAW: Step = (7, 2, Asked::Draw, 20000, Answered::Drawn(20000, 1));
 
+/// Customer 7 voids serial 1.
 const VOID: Step = (7, 3, Asked::Void(1), 20000, Answered::Voided);
 
+/// Customer 7 voids serial 1 again, with a new number.
 const SECOND_VOID: Step = (7, 4, Asked::Void(1), 20000, Answered::AlreadyVoid);
 
+/// Customer 7 draws serial 2.
 const LAST_DRAW: Step = (7, 5, Asked::Draw, 20000, Answered::Drawn(20000, 2));
 
-/// One range of three serials is drawn, voided and drawn again: the first six calls.
+/// The first six of the nine calls: customer 7 draws three serials and voids one of them twice.
 pub(crate) const SIX_CALLS: &'static [Step] = &[
     OPENING,
     FIRST_DRAW,
@@ -76,7 +85,7 @@ pub(crate) const SIX_CALLS: &'static [Step] = &[
     LAST_DRAW,
 ];
 
-/// The six calls, a Draw that is refused, and two Draws once the interval is over.
+/// The six calls, a Draw that is refused, and two Draws after the interval.
 pub(crate) const NINE_CALLS: &'static [Step] = &[
     OPENING,
     FIRST_DRAW,
@@ -101,12 +110,12 @@ pub(crate) fn gb() -> Country {
     Country::new(*b"GB").unwrap()
 }
 
-/// The serial of this value, or the last one where there is none of it.
+/// Returns the serial of this value, or the last serial for greater values.
 pub(crate) fn serial(value: u32) -> Serial {
     Serial::new(value.min(99_999_999)).unwrap()
 }
 
-/// The identifier of RA GB.
+/// Returns the identifier of RA GB with this serial.
 pub(crate) fn id(value: u32) -> Id {
     Id {
         service: ra(),
@@ -132,7 +141,7 @@ fn draw(service: Service) -> Body {
     }
 }
 
-/// A Query of the identifier of RA US.
+/// Returns a Query of the identifier of RA US with this serial.
 fn query_of_us(value: u32) -> Body {
     Body::Query {
         id: Id {
@@ -155,7 +164,7 @@ fn body(asked: Asked) -> Body {
     }
 }
 
-/// A customer's request with this number.
+/// Returns the customer's request with this number.
 pub(crate) fn request(customer: u32, number: u32, asked: Asked) -> Request {
     Request {
         customer,
@@ -164,6 +173,7 @@ pub(crate) fn request(customer: u32, number: u32, asked: Asked) -> Request {
     }
 }
 
+/// Returns settings with an interval of 30 days and this limit, and aborts if it is out of range.
 pub(crate) fn settings<R: Abort>(rt: &R, limit: u32) -> Settings {
     match Settings::new(30, limit) {
         Some(settings) => settings,
@@ -171,7 +181,7 @@ pub(crate) fn settings<R: Abort>(rt: &R, limit: u32) -> Settings {
     }
 }
 
-/// What a ledger holds whose interval is 30 days and whose limit is 100 calls.
+/// Returns the summary of a ledger with an interval of 30 days and a limit of 100 calls.
 pub(crate) fn whole(len: u32, day: u32) -> LedgerSummary {
     LedgerSummary {
         settings: Settings::new(30, 100).unwrap(),
@@ -180,7 +190,7 @@ pub(crate) fn whole(len: u32, day: u32) -> LedgerSummary {
     }
 }
 
-/// A new ledger in memory.
+/// Returns a new ledger in memory, and aborts if there is a fault.
 pub(crate) fn ledger<R: Abort + AllocGlobal>(rt: &R, settings: Settings) -> SqlBook<MemStore> {
     match SqlBook::in_memory(rt.alloc(), settings) {
         Ok(book) => book,
@@ -188,13 +198,18 @@ pub(crate) fn ledger<R: Abort + AllocGlobal>(rt: &R, settings: Settings) -> SqlB
     }
 }
 
-/// The connection of a ledger, once its calls are committed.
+/// Commits the calls of a ledger, closes it, and returns its connection.
 pub(crate) fn closed(mut book: SqlBook<MemStore>) -> Connection<MemStore> {
     let _ = book.commit();
     book.close()
 }
 
-/// What a server does with a request: a kept one is answered from the book, a new one is decided and kept.
+/// Executes a request as a server does: repeats the kept outcome, or decides and keeps a new call.
+///
+/// # Errors
+///
+/// - `Full` if the request is new and the book has as many calls as its limit.
+/// - `Memory` or `Store` if a call of the book fails.
 pub(crate) fn answer<B: Book>(
     book: &mut B,
     request: &Request,
@@ -220,7 +235,11 @@ pub(crate) fn answer<B: Book>(
     Ok(outcome)
 }
 
-/// The answer that a row says.
+/// Returns the answer that a row names.
+///
+/// # Errors
+///
+/// `Full` if the row names a full book.
 pub(crate) fn said(answered: Answered) -> Result<Outcome, BookFault> {
     Ok(match answered {
         Answered::Drawn(day, value) => Outcome::Drawn { day, id: id(value) },
@@ -243,7 +262,7 @@ pub(crate) fn said(answered: Answered) -> Result<Outcome, BookFault> {
     })
 }
 
-/// Whether a book answers each step as its row says; otherwise the place of the first that it doesn't.
+/// Executes the steps and returns the index of the first whose answer differs from its row, if any.
 pub(crate) fn first_unlike<B: Book>(book: &mut B, steps: &[Step]) -> Option<usize> {
     for (place, (customer, number, asked, day, answered)) in steps.iter().enumerate() {
         let request = request(*customer, *number, *asked);

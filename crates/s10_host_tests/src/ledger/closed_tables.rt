@@ -1,4 +1,5 @@
-//! A ledger with a closed range in it, made by statements, and what opening finds where its table of closed ranges is damaged.
+//! A ledger with a closed range, created by statements, and what an opening finds if its table of
+//! closed ranges is damaged.
 
 use crate::expect::same;
 use crate::ledger::books::tables_after;
@@ -11,7 +12,8 @@ use s10_ledger::OpenFault;
 use sqlite::{Connection, Error, MemStore};
 use std::alloc::Global;
 
-/// The post grants RA GB 0 to 2 to customer 7, which draws serial 0, and withdraws that range.
+/// The post grants RA GB 0 to 2 to customer 7. Customer 7 draws serial 0, and the post withdraws
+/// the range.
 const THREE_REPLIES: &str = "INSERT INTO calls (arrival, customer, number, day, reply) VALUES
 (1, 0, 1, 20000, x'533101810000000000000001000000075241474200000000000000020000000001'),
 (2, 7, 1, 20000, x'533101820000000700000001524147420000004e2052413030303030303030354742'),
@@ -41,12 +43,12 @@ fn a_ledger_with_a_closed_range_opens(rt: HostRuntime) {
     same(&rt, &"withdrawn", &found, &Ok(Some(wanted)));
 }
 
-/// Another row than a call's is told to be wrong, and these tables are left.
+/// Returns the expected finding: a derived row is wrong, and these tables are left.
 fn damaged(tables: (usize, bool)) -> Result<Option<Left>, Error> {
     Ok(Some((Err(OpenFault::Damaged(0)), true, tables, Ok(None))))
 }
 
-/// A damage, and the tables after it.
+/// A damage, and the tables that are left after it.
 const DAMAGES: &[(&str, (usize, bool))] = &[
     ("DROP TABLE closed", INCOMPLETE),
     ("DELETE FROM closed", COMPLETE),
@@ -74,7 +76,7 @@ fn each_closed_range_is_compared(rt: HostRuntime) {
     same(&rt, &damage, &found, &damaged(COMPLETE));
 }
 
-/// A ledger's second range is closed before its first.
+/// The second range of a ledger is closed before the first.
 const BOTH_CLOSED: &'static [Step] = &[
     OPENING,
     (0, 2, Grant(7, 4, 6), 20000, Granted(2)),

@@ -1,4 +1,4 @@
-//! Calls that are pending, and their commit.
+//! Pending calls, and their commit.
 
 use crate::expect::same;
 use crate::ledger::books::first_unlike_in;
@@ -16,7 +16,7 @@ use std::process::Abort;
 
 const GRANT: &'static [Step] = &[(0, 1, Asked::Grant(7, 0, 999), 20000, Answered::Granted(1))];
 
-/// The first of these numbers with which a Draw is refused.
+/// Returns the first of these numbers with which a Draw fails, if any.
 fn first_refused<B: Book>(book: &mut B, numbers: Range<u32>) -> Option<u32> {
     for number in numbers {
         if answer(book, &request(7, number, Asked::Draw), 20000).is_err() {
@@ -26,19 +26,19 @@ fn first_refused<B: Book>(book: &mut B, numbers: Range<u32>) -> Option<u32> {
     None
 }
 
-/// Whether the book keeps a Grant, and n Draws after it.
+/// Returns whether the book keeps a Grant, and `draws` Draws after it.
 fn keeps<B: Book>(book: &mut B, draws: u32) -> bool {
     first_unlike(book, GRANT).is_none() && first_refused(book, 0..draws).is_none()
 }
 
-/// A new ledger, and whether it keeps them.
+/// Returns a new ledger, and whether it keeps a Grant and `draws` Draws.
 fn kept<R: Abort + AllocGlobal>(rt: &R, draws: u32) -> (SqlBook<MemStore>, bool) {
     let mut book = ledger(rt, settings(rt, 1000));
     let is_kept = keeps(&mut book, draws);
     (book, is_kept)
 }
 
-/// How many calls are found of a ledger that is closed as it is.
+/// Closes a ledger without a commit, and returns how many calls an opening then finds.
 fn calls_found(alloc: Global, book: SqlBook<MemStore>) -> Option<u32> {
     let (answer, _conn) = found(alloc, book.close())?;
     match answer {
@@ -47,14 +47,15 @@ fn calls_found(alloc: Global, book: SqlBook<MemStore>) -> Option<u32> {
     }
 }
 
-/// Whether the calls are kept and committed, and how many are found then.
+/// Returns whether a Grant and `draws` Draws are kept and committed, and how many calls are found
+/// then.
 fn committed<R: Abort + AllocGlobal>(rt: &R, draws: u32) -> (bool, Option<u32>) {
     let (mut book, is_kept) = kept(rt, draws);
     let is_committed = book.commit().is_ok();
     (is_kept && is_committed, calls_found(rt.alloc(), book))
 }
 
-/// Draws after a Grant, and how many calls are committed.
+/// Number of Draws after a Grant, and number of calls that are committed.
 const COMMITTED_CALLS: &[(u32, u32)] = &[(0, 1), (1, 2), (63, 64), (64, 65)];
 
 #[test]
@@ -64,13 +65,15 @@ fn committed_calls_are_found_after_reopening(rt: HostRuntime) {
     }
 }
 
-/// Whether the calls are kept, and how many are found where nobody commits them.
+/// Returns whether a Grant and `draws` Draws are kept, and how many calls are found if there is no
+/// commit.
 fn uncommitted<R: Abort + AllocGlobal>(rt: &R, draws: u32) -> (bool, Option<u32>) {
     let (book, is_kept) = kept(rt, draws);
     (is_kept, calls_found(rt.alloc(), book))
 }
 
-/// Draws after a Grant, and how many calls were committed to make room.
+/// Number of Draws after a Grant, and number of calls that are committed since no more may be
+/// pending.
 const FULL_BATCHES: &[(u32, u32)] = &[(0, 0), (1, 0), (63, 0), (64, 64), (127, 64), (128, 128)];
 
 #[test]
@@ -82,8 +85,8 @@ fn pending_calls_are_committed_by_the_first_beyond_the_maximum(rt: HostRuntime) 
 
 const REPEATED: &'static [Step] = &[(7, 1, Asked::Draw, 20001, Answered::Drawn(20000, 1))];
 
-/// Whether three Draws are kept and the second is answered as it was while it is pending, and how many calls the ledger has and
-/// leaves.
+/// Returns whether three Draws are kept and the pending second one is repeated, the number of calls
+/// of the ledger, and the number found after it is closed without a commit.
 fn repeated<R: Abort + AllocGlobal>(rt: &R) -> (bool, u32, Option<u32>) {
     let (mut book, is_kept) = kept(rt, 3);
     let is_repeated = first_unlike_in(&mut book, REPEATED).is_none();
@@ -96,14 +99,14 @@ fn a_pending_call_is_found(rt: HostRuntime) {
     same(&rt, &"repeated", &repeated(&rt), &(true, 4, Some(0)));
 }
 
-/// What is reported for a commit: which of four calls are committed before it, what it answers, which are committed after it, and how many
-/// calls the book has then.
+/// What is reported for a commit: which of four calls are committed before it, its result, which
+/// are committed after it, and the number of calls of the book then.
 pub(crate) type Told = ([bool; 4], Result<(), BookFault>, [bool; 4], u32);
 
-/// The third call is committed by the commit alone.
+/// The commit succeeds, and the third call is committed.
 pub(crate) const COMMITTED: Told = ([true, true, false, true], Ok(()), [true; 4], 5);
 
-/// The commit fails, and what was pending stays so.
+/// The commit fails, and the third call stays pending.
 pub(crate) const UNCOMMITTED: Told = (
     [true, true, false, true],
     Err(BookFault::Store),
@@ -111,7 +114,8 @@ pub(crate) const UNCOMMITTED: Told = (
     5,
 );
 
-/// Whether the calls of these keys are committed. The last is the key of no call.
+/// Returns whether the calls of these keys are committed. There is no call with the last key, so it
+/// counts as committed.
 fn committed_keys<B: GroupCommit>(book: &B) -> [bool; 4] {
     [
         book.is_committed(0, 1),
@@ -123,7 +127,7 @@ fn committed_keys<B: GroupCommit>(book: &B) -> [bool; 4] {
 
 const GRANT_OF_TEN: &'static [Step] = &[(0, 1, Asked::Grant(7, 0, 9), 20000, Answered::Granted(1))];
 
-/// Whether the book commits a Grant and a Draw, and keeps three Draws after them.
+/// Returns whether the book commits a Grant and a Draw, and keeps three Draws after them.
 fn keeps_three<B: GroupCommit>(book: &mut B) -> bool {
     first_unlike(book, GRANT_OF_TEN).is_none()
         && first_refused(book, 1..2).is_none()
@@ -131,7 +135,8 @@ fn keeps_three<B: GroupCommit>(book: &mut B) -> bool {
         && first_refused(book, 2..5).is_none()
 }
 
-/// What is reported for a commit after three more calls than are committed. None where the first two are not committed.
+/// Commits three Draws after two committed calls, and returns what is reported, or `None` if the
+/// book does not keep them.
 fn commits_three<B: GroupCommit>(book: &mut B) -> Option<Told> {
     if !keeps_three(book) {
         return None;
@@ -141,7 +146,8 @@ fn commits_three<B: GroupCommit>(book: &mut B) -> Option<Told> {
     Some((before, answer, committed_keys(book), book.len()))
 }
 
-/// The same of a new ledger in this connection, which is handed back. None where it is not made.
+/// The same for a new ledger in this connection, which is returned. `None` also if the ledger is
+/// not created.
 pub(crate) fn commits_three_in<S: Alter>(
     alloc: Global,
     settings: Settings,
@@ -161,7 +167,7 @@ pub(crate) fn commits_three_in<S: Alter>(
     }
 }
 
-/// The same of a ledger in memory.
+/// The same for a ledger in memory.
 fn reported_in_memory(alloc: Global, settings: Settings) -> Option<Told> {
     let conn = Connection::open_in_memory(alloc).ok()?;
     let (told, _conn) = commits_three_in(alloc, settings, conn);

@@ -1,4 +1,4 @@
-//! A ledger is made in an empty database, and in no other.
+//! Creation of a ledger, in an empty database only.
 
 use crate::expect::same;
 use crate::ledger::books::{Read, first_unlike_of, found_in};
@@ -24,7 +24,7 @@ const NEW: &'static [Shown] = &[
     ("SELECT num FROM closed", 1, &[]),
 ];
 
-/// The one row of the head, and those of the nine calls.
+/// The one row of the head, and the rows of the nine calls.
 const NINE_KEPT: &'static [Shown] = &[
     HEAD,
     (
@@ -52,7 +52,8 @@ fn a_new_ledger_has_its_settings_and_no_call(rt: HostRuntime) {
     same(&rt, &"new, idle, its rows", &found, &(true, true, Ok(None)));
 }
 
-/// What the making of a ledger is refused for, and the connection.
+/// Returns the fault of a creation that is refused, and the connection. Aborts if a ledger is
+/// created.
 fn refusal<R: Abort + AllocGlobal>(
     rt: &R,
     conn: Connection<MemStore>,
@@ -67,7 +68,7 @@ fn refusal<R: Abort + AllocGlobal>(
     }
 }
 
-/// A ledger of nine calls.
+/// Returns the connection of a ledger of nine calls.
 pub(crate) fn nine_kept<R: Abort + AllocGlobal>(rt: &R) -> Connection<MemStore> {
     let (unlike, conn) = first_unlike_of(rt, 100, NINE_CALLS);
     same(rt, &"nine calls", &unlike, &None);
@@ -82,7 +83,7 @@ fn a_ledger_is_not_made_over_a_ledger(rt: HostRuntime) {
     same(&rt, &"the fault, its rows", &(fault, unshown), &wanted);
 }
 
-/// A database in which that statement was executed.
+/// Returns a database in which this statement was executed.
 fn database_of<R: Abort + AllocGlobal>(rt: &R, text: &str) -> Connection<MemStore> {
     let Ok(mut conn) = Connection::open_in_memory(rt.alloc()) else {
         panic!(rt; "no connection")
@@ -93,7 +94,7 @@ fn database_of<R: Abort + AllocGlobal>(rt: &R, text: &str) -> Connection<MemStor
     conn
 }
 
-/// A table, and what a ledger beside it is refused for.
+/// A statement that creates a table, and the fault of a creation beside it.
 const TABLES: &[(&str, OpenFault)] = &[
     (
         "CREATE TABLE head (one INTEGER) STRICT",
@@ -118,7 +119,8 @@ const TABLES: &[(&str, OpenFault)] = &[
     ("CREATE TABLE other (one INTEGER) STRICT", OpenFault::Store),
 ];
 
-/// What a ledger in a database made by that statement is refused for, and how many tables and views are left there.
+/// Returns the fault of a creation in a database in which this statement was executed, and the
+/// number of tables and of views left.
 fn refused_beside<R: Abort + AllocGlobal>(rt: &R, text: &str) -> (OpenFault, usize, usize) {
     let (fault, conn) = refusal(rt, database_of(rt, text), settings(rt, 100));
     let schema = conn.schema();

@@ -24,7 +24,7 @@ const GRANTED: &'static [Shown] = &[
     ("SELECT mark FROM ranges", 1, &[0]),
 ];
 
-/// A row for each serial that was drawn, and one range whose mark is after them.
+/// One row per serial that was drawn, and one range whose mark is after them.
 const DRAWN: &'static [Shown] = &[
     ("SELECT count(*) FROM serials", 1, &[10_000]),
     ("SELECT mark FROM ranges", 1, &[10_000]),
@@ -37,7 +37,7 @@ fn a_grant_writes_no_row_of_a_serial(rt: HostRuntime) {
     same(&rt, &"the Grant", &(unlike, unshown), &(None, Ok(None)));
 }
 
-/// Whether of ten thousand Draws the k-th gives serial k - 1; otherwise the first serial that is not given so.
+/// Makes ten thousand Draws, and returns the first serial that is not given in order, if any.
 fn first_not_drawn<B: Book>(book: &mut B) -> Option<u32> {
     for value in 0..10_000u32 {
         let drawn = answer(book, &request(7, value + 1, Asked::Draw), 20000);
@@ -48,7 +48,7 @@ fn first_not_drawn<B: Book>(book: &mut B) -> Option<u32> {
     None
 }
 
-/// The last Draw's issue.
+/// The issue of the last Draw.
 const LAST_ISSUE: Issue = Issue {
     day: 20000,
     voided: false,
@@ -56,8 +56,9 @@ const LAST_ISSUE: Issue = Issue {
     number: 10_000,
 };
 
-/// What is found where all is granted and drawn: the first call that is answered otherwise, the last Draw's issue, and how many
-/// calls there are.
+/// What is found after the Grant and the Draws: the index of the first step with a wrong answer,
+/// the first serial that is not given in order, the issue of the last Draw, and the number of
+/// calls.
 type Drawn = (
     Option<usize>,
     Option<u32>,

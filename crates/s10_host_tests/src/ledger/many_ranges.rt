@@ -1,4 +1,4 @@
-//! A thousand ranges of many holders, granted in an order that is not that of their serials, over both books.
+//! A thousand ranges of nine holders, not granted in the order of their serials, over both books.
 
 ghost use Rattle.std.specs.Prelude.{◌≤◌};
 
@@ -15,12 +15,13 @@ const RANGES: u32 = 1_000;
 
 const HOLDERS: u32 = 9;
 
-// Whether both books answer the request alike.
+// Returns whether both books give the same answer to the request.
 fn answer_alike<A: Book, B: Book>(one: &mut A, other: &mut B, request: &Request) -> bool {
     answer(one, request, 20000) == answer(other, request, 20000)
 }
 
-// Whether the books answer Grants of one to ten serials alike, which go through the serials in steps of seventy.
+// Returns whether both books give the same answers to Grants of one to ten serials, whose first
+// serials advance in steps of seventy and wrap around.
 fn grants_are_alike<A: Book, B: Book>(one: &mut A, other: &mut B, grants: u32) -> bool
     requires { grants ≤ 1000 }
 {
@@ -36,7 +37,7 @@ fn grants_are_alike<A: Book, B: Book>(one: &mut A, other: &mut B, grants: u32) -
     true
 }
 
-// Whether they answer Grants alike that overlap one range, or several, or none.
+// The same for Grants that overlap one range, or several, or none.
 fn overlaps_are_alike<A: Book, B: Book>(one: &mut A, other: &mut B, grants: u32) -> bool
     requires { grants ≤ 1000 }
 {
@@ -51,7 +52,7 @@ fn overlaps_are_alike<A: Book, B: Book>(one: &mut A, other: &mut B, grants: u32)
     true
 }
 
-// Whether they answer as many Draws of the holders in turn alike.
+// The same for `draws` Draws of the holders in rotation.
 fn draws_are_alike<A: Book, B: Book>(one: &mut A, other: &mut B, draws: u32) -> bool {
     for place in 0..draws {
         let request = request(1 + place % HOLDERS, 1 + place / HOLDERS, Asked::Draw);
@@ -62,7 +63,8 @@ fn draws_are_alike<A: Book, B: Book>(one: &mut A, other: &mut B, draws: u32) -> 
     true
 }
 
-// Whether they have the same range of that number, and find the same ones.
+// Returns whether both books give the same answers for this number: the range with it, the range
+// with one of its serials, and the next range of a holder after it.
 fn range_is_alike<A: Book, B: Book>(one: &mut A, other: &mut B, place: u32) -> bool
     requires { place ≤ 2000 }
 {
@@ -93,7 +95,7 @@ fn ranges_are_alike<A: Book, B: Book>(one: &mut A, other: &mut B, ranges: u32) -
     true
 }
 
-// The ledger, committed, closed and opened again.
+// Commits and closes the ledger, and opens it again.
 fn opened_again<R: Abort + AllocGlobal>(rt: &R, mut book: SqlBook<MemStore>) -> SqlBook<MemStore> {
     let _ = book.commit();
     match SqlBook::open(rt.alloc(), book.close(), &mut NoObserver) {
@@ -107,18 +109,18 @@ fn new_books<R: Abort + AllocGlobal>(rt: &R) -> (PlainBook, SqlBook<MemStore>) {
     (PlainBook::new(rt.alloc(), settings), ledger(rt, settings))
 }
 
-// What both books are asked.
+// A part of the comparison of both books.
 #[derive(Clone, Copy)]
 enum Part {
     Grants,
-    // Grants that overlap them.
+    // Grants that may overlap the ranges.
     Overlaps,
     Draws(u32),
     Ranges,
     Length,
 }
 
-// Whether they answer it alike.
+// Returns whether both books agree in a part.
 fn is_alike<A: Book, B: Book>(one: &mut A, other: &mut B, part: Part) -> bool {
     match part {
         Part::Grants => grants_are_alike(one, other, RANGES),
@@ -138,15 +140,15 @@ fn are_alike<A: Book, B: Book>(one: &mut A, other: &mut B, parts: &[Part]) -> bo
     true
 }
 
-// Whether a book in memory and a ledger answer each part alike.
+// Returns whether a book in memory and a ledger agree in each part.
 fn both_alike(plain: &mut PlainBook, tables: &mut SqlBook<MemStore>, parts: &[Part]) -> bool {
     are_alike(plain, tables, parts)
 }
 
-// All Grants, all that overlap them, and Draws.
+// All Grants, all Grants that may overlap them, and Draws.
 const CALLS: &[Part] = &[Part::Grants, Part::Overlaps, Part::Draws(1_000)];
 
-// The ranges that are found then, and how many calls are kept.
+// The ranges that are found then, and the number of calls.
 const FOUND: &[Part] = &[Part::Ranges, Part::Length];
 
 #[test]
@@ -158,10 +160,10 @@ fn ranges_of_many_holders_are_answered_alike(rt: HostRuntime) {
     same(&rt, &"calls, books", &(calls, found), &(true, true));
 }
 
-// All Grants and Draws.
+// All Grants, and Draws.
 const BEFORE: &[Part] = &[Part::Grants, Part::Draws(500)];
 
-// The same ranges, and Grants that overlap them.
+// The ranges that are found then, Grants that may overlap them, and the number of calls.
 const AFTER: &[Part] = &[Part::Ranges, Part::Overlaps, Part::Length];
 
 #[test]

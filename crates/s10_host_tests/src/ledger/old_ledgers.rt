@@ -1,4 +1,4 @@
-//! Ledgers of the build that had no table of closed ranges, with other tables beside them and without.
+//! Ledgers of an earlier build, which had no table of closed ranges, with and without other tables.
 
 use crate::expect::same;
 use crate::ledger::books::first_unlike_in;
@@ -17,16 +17,16 @@ use std::process::Abort;
 
 const DROP: &'static str = "DROP TABLE closed";
 
-/// A table of the office's own, with a row.
+/// A table of the office's own, with one row.
 const NOTE: &'static str =
     "CREATE TABLE note (n INTEGER NOT NULL) STRICT; INSERT INTO note (n) VALUES (5);";
 
-/// What is left of an old ledger that is changed so.
+/// Opens an old ledger after these changes, and returns what is left of it.
 fn left_of_old(alloc: Global, changes: &[&str], shown: &[Shown]) -> Result<Option<Left>, Error> {
     tables_left(alloc, database(alloc, &OLD_LEDGER), changes, shown)
 }
 
-/// What is left of nine calls as this build keeps them that are changed so.
+/// Opens a ledger of nine calls of this build after these changes, and returns what is left of it.
 fn left_of_kept<R: Abort + AllocGlobal>(
     rt: &R,
     changes: &[&str],
@@ -44,7 +44,7 @@ fn a_ledger_without_closed_ranges_gets_their_table(rt: HostRuntime) {
     same(&rt, &"of an earlier one", &of_an_earlier_one, &wanted);
 }
 
-/// The damage, and what opening answers then.
+/// A damage, and the fault of an opening after it.
 const DAMAGES: &[(&str, OpenFault)] = &[
     (
         "UPDATE serials SET day = 20001 WHERE serial = 2",
@@ -68,7 +68,8 @@ fn a_damaged_ledger_gets_no_table_of_closed_ranges(rt: HostRuntime) {
     }
 }
 
-/// The ledger in a connection, after these steps. None where it does not open.
+/// Opens the ledger in a connection and executes these steps. Returns the connection, or `None` if
+/// it does not open.
 fn served<R: Abort + AllocGlobal>(
     rt: &R,
     conn: Connection<MemStore>,
@@ -93,7 +94,7 @@ fn served<R: Abort + AllocGlobal>(
     }
 }
 
-/// A Draw, a withdrawal and a Draw after the nine calls, and two of them once more.
+/// After the nine calls: a Draw, a withdrawal and a Draw, then repeats of the first two.
 const LATER_CALLS: &'static [Step] = &[
     (7, 9, Draw, 20030, Drawn(20030, 2)),
     (0, 2, Withdraw(1), 20031, Withdrawn),
@@ -104,7 +105,7 @@ const LATER_CALLS: &'static [Step] = &[
 
 const ONE_CLOSED: &'static [Shown] = &[(CLOSED, 2, &[1, 11])];
 
-/// What is left of an old ledger that answers the nine calls as they were answered, and later ones.
+/// Returns what is left of an old ledger that repeats the nine calls and executes later ones.
 fn left_of_served<R: Abort + AllocGlobal>(rt: &R) -> Option<Left> {
     let conn = database(rt.alloc(), &OLD_LEDGER).ok()?;
     let conn = served(rt, conn, NINE_CALLS)?;
@@ -121,7 +122,7 @@ fn a_ledger_of_an_earlier_build_is_served_on(rt: HostRuntime) {
 /// The office's table has its row.
 const NOTE_ALONE: &'static [Shown] = &[("SELECT n FROM note", 1, &[5])];
 
-/// What is left of the nine calls with a table of the office beside them, and later calls.
+/// Returns what is left of a ledger of nine calls beside a table of the office, after later calls.
 fn left_beside_note<R: Abort + AllocGlobal>(rt: &R) -> Option<Left> {
     let mut conn = nine_kept(rt);
     conn.execute_batch(NOTE).ok()?;
@@ -145,7 +146,8 @@ const NOTE_AND_CALLS: &'static [Shown] = &[
     ("SELECT count(*) FROM calls", 1, &[9]),
 ];
 
-/// What else may stand beside an old ledger, the rows that are left, and the tables.
+/// A statement that adds something to an old ledger's database, the rows that are left, and the
+/// tables.
 const BESIDE: &[(&str, &'static [Shown], (usize, bool))] = &[
     (NOTE, NOTE_AND_CALLS, (5, false)),
     (

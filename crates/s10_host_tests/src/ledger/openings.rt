@@ -9,12 +9,12 @@ use s10_ledger::OpenFault;
 use std::alloc::Global;
 use std::process::Abort;
 
-/// A ledger without calls.
+/// What is found in a ledger without calls.
 const WHOLE: Finding = Ok((30, 100, 0, 0));
 
 const OTHER_HEAD: &str = "INSERT INTO head (one, schema, interval, cap) VALUES (2, 1, 30, 100)";
 
-/// What one table of a ledger has, the tables, and the head.
+/// How one table differs from that of a ledger, and the statements for the tables and the head.
 const OTHERS: &[(&str, &[&str])] = &[
     (
         "a column of another type",
@@ -147,7 +147,7 @@ fn schema_of_a_ledger_is_known(rt: HostRuntime) {
     }
 }
 
-/// What is made after the tables of a ledger, and what is found.
+/// A statement that is executed after those for the tables of a ledger, and what is found.
 const CASES: &[Change] = &[
     (HEAD, WHOLE),
     ("", NO_LEDGER),
@@ -159,12 +159,13 @@ const CASES: &[Change] = &[
         "INSERT INTO head (one, schema, interval, cap) VALUES (1, 1, 3651, 100)",
         NO_LEDGER,
     ),
-    // A table of the office's own, its index and a view.
+    // A table of the office's own, its index, and a view.
     (
         "INSERT INTO head (one, schema, interval, cap) VALUES (1, 1, 30, 100); CREATE TABLE note (n INTEGER NOT NULL) STRICT; CREATE INDEX by_n ON note (n); CREATE VIEW late AS SELECT arrival FROM calls WHERE day > 20000",
         WHOLE,
     ),
-    // A table of the office's own that refers to another of them, and one that refers to calls.
+    // A table of the office's own that refers to another of them, then tables that refer to a
+    // ledger's.
     (
         "INSERT INTO head (one, schema, interval, cap) VALUES (1, 1, 30, 100); CREATE TABLE note (n INTEGER NOT NULL PRIMARY KEY) STRICT; CREATE TABLE page (n INTEGER NOT NULL REFERENCES note) STRICT",
         WHOLE,
@@ -185,7 +186,7 @@ const CASES: &[Change] = &[
         "INSERT INTO head (one, schema, interval, cap) VALUES (1, 1, 30, 100); CREATE INDEX by_arrival ON closed (arrival)",
         NO_LEDGER,
     ),
-    // The table of closed ranges after one of the office's own.
+    // The table of closed ranges comes after one of the office's own.
     (
         "INSERT INTO head (one, schema, interval, cap) VALUES (1, 1, 30, 100); DROP TABLE closed; CREATE TABLE note (n INTEGER NOT NULL) STRICT; CREATE TABLE closed (num INTEGER NOT NULL PRIMARY KEY, arrival INTEGER NOT NULL) STRICT",
         NO_LEDGER,
@@ -211,7 +212,7 @@ fn other_databases_are_no_ledgers(rt: HostRuntime) {
     );
 }
 
-// What the nine calls are found to be once they are changed, and then once they are changed again.
+// Returns what is found in the nine calls after one change, and then after a second change.
 fn found_twice(alloc: Global, first: &str, then: &str) -> Option<(Finding, Finding)> {
     let Ok(conn) = database(alloc, NINE_CALLS) else {
         return None;
@@ -227,7 +228,7 @@ fn nine_calls_are_found_again_and_again(rt: HostRuntime) {
     same(&rt, &"nine calls", &found, &Some((NINE_FOUND, NINE_FOUND)));
 }
 
-/// The damage, where it is found, and what mends it.
+/// A damage, the call in which it is found, and the statement that repairs it.
 const MENDED: &[(&str, u32, &str)] = &[
     (
         "UPDATE serials SET day = 20001 WHERE serial = 2",

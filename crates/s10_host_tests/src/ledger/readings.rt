@@ -1,4 +1,4 @@
-//! Calls and usage, read off rows.
+//! Calls and usage that are read from rows.
 
 use crate::expect::same;
 use s10_book::{BookFault, PlainBook};
@@ -25,8 +25,8 @@ fn pairs_are_four_letters_as_a_number(rt: HostRuntime) {
     same(&rt, &"RA GB", &pair_number(ra, gb), &1380009794);
 }
 
-// What comes of the row of customer 7's first Draw as the second call of a ledger, with that day and that reply. None where there
-// is no memory for it.
+// Replays the row of customer 7's first Draw, with this day and this reply, as the second call of a
+// ledger. Returns the result, or `None` if memory is refused.
 fn replayed(alloc: Global, day: i64, reply: &[u8]) -> Option<Result<(), OpenFault>> {
     let Ok(grant) = Vec::from_slice(alloc, GRANT) else {
         return None;
@@ -45,7 +45,7 @@ const LONG: &[u8] =
 
 const REQUEST: &[u8] = b"S1\x01\x02\x00\x00\x00\x07\x00\x00\x00\x01RAGB";
 
-/// The day and the reply of a row, and what comes of it.
+/// The day and the reply of a row, and the result of its replay.
 const ROWS: &[(i64, &[u8], Result<(), OpenFault>)] = &[
     (20000, REPLY, Ok(())),
     (20000, LONG, Err(OpenFault::Damaged(2))),
@@ -62,7 +62,7 @@ fn rows_that_do_not_read_are_damage(rt: HostRuntime) {
     }
 }
 
-/// Serials 0 and 1 of RA GB as customer 7 drew them first, the second of which was voided; and as it drew them again on day 20030.
+/// Serial 0, as customer 7 drew it first.
 const FIRST: SerialRow = SerialRow {
     pair: RA_GB,
     serial: 0,
@@ -73,6 +73,7 @@ const FIRST: SerialRow = SerialRow {
     voided: 0,
 };
 
+/// Serial 1, as customer 7 drew it first and voided it.
 const VOIDED: SerialRow = SerialRow {
     pair: RA_GB,
     serial: 1,
@@ -83,6 +84,7 @@ const VOIDED: SerialRow = SerialRow {
     voided: 1,
 };
 
+/// Serial 0, as customer 7 drew it again on day 20030.
 const FIRST_AGAIN: SerialRow = SerialRow {
     pair: RA_GB,
     serial: 0,
@@ -93,6 +95,7 @@ const FIRST_AGAIN: SerialRow = SerialRow {
     voided: 0,
 };
 
+/// Serial 1, as customer 7 drew it again on day 20030.
 const SECOND_AGAIN: SerialRow = SerialRow {
     pair: RA_GB,
     serial: 1,
@@ -114,8 +117,8 @@ const THIRD: SerialRow = SerialRow {
     voided: 0,
 };
 
-/// The rows of the range RA GB 0 to 2, a day, and the usage of the range: three draws, of which one was voided; thirty days on, two
-/// more; and no row.
+/// Rows of the range RA GB 0 to 2, a day, and the usage of the range: after three draws, one of
+/// them voided; after two more, 30 days later; and without a row.
 const USED: &[(&[SerialRow], u32, Result<Usage, BookFault>)] = &[
     (
         &[FIRST, VOIDED, THIRD],

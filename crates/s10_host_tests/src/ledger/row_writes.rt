@@ -1,4 +1,4 @@
-//! The rows that calls make.
+//! The rows that calls write.
 
 use crate::expect::same;
 use s10_core::{Country, Id, Serial, Service};
@@ -10,12 +10,12 @@ use std::process::Abort;
 
 const RA_GB: i64 = 1380009794;
 
-/// The serial of this value, or the last one where there is none of it.
+/// Returns the serial of this value, or the last serial for greater values.
 fn serial(value: u32) -> Serial {
     Serial::new(value.min(99_999_999)).unwrap()
 }
 
-/// Customer 7's range 1, RA GB 0 to 2.
+/// Returns range 1: RA GB 0 to 2 of customer 7.
 fn first_range() -> Range {
     Range {
         num: 1,
@@ -27,7 +27,7 @@ fn first_range() -> Range {
     }
 }
 
-/// Its row, where it gave no serial.
+/// The row of that range before it has given a serial.
 const NEW_RANGE: RangeRow = RangeRow {
     num: 1,
     holder: 7,
@@ -37,7 +37,7 @@ const NEW_RANGE: RangeRow = RangeRow {
     mark: 0,
 };
 
-/// An issue of a serial of that range to customer 7.
+/// Returns an issuance of a serial of that range to customer 7.
 fn issuance(range: &Range, value: u32, arrival: u32, day: u32, number: u32) -> Issuance {
     Issuance {
         id: Id {

@@ -1,4 +1,4 @@
-//! The rows that calls leave.
+//! The rows that calls leave in the tables.
 
 use crate::expect::same;
 use crate::ledger::books::tables_after;
@@ -12,10 +12,14 @@ use sqlite::{Connection, Error, MemStore};
 use std::alloc::Global;
 use std::process::Abort;
 
-/// A query, how many numbers a row shows, and all that it shows, row after row.
+/// A query, the number of columns of its rows, and all numbers that it shows, row after row.
 pub(crate) type Shown = (&'static str, usize, &'static [i64]);
 
-/// Whether the tables show these rows; otherwise the place of the first query that shows others.
+/// Returns the index of the first query that shows other rows than these, if any.
+///
+/// # Errors
+///
+/// `Error` if a query fails.
 pub(crate) fn first_unshown(
     alloc: Global,
     conn: &mut Connection<MemStore>,
@@ -29,8 +33,9 @@ pub(crate) fn first_unshown(
     Ok(None)
 }
 
-/// What opening finds, whether it finds that again, how many tables there are then and whether one is of closed ranges, and the
-/// place of the first query that shows other rows than these.
+/// What is found in a database: the result of an opening, whether a second opening has the same
+/// result, how many tables there are then and whether one is that of closed ranges, and the index
+/// of the first query that shows other rows, if any.
 pub(crate) type Left = (
     Result<LedgerSummary, OpenFault>,
     bool,
@@ -38,13 +43,13 @@ pub(crate) type Left = (
     Result<Option<usize>, Error>,
 );
 
-/// All tables of a ledger.
+/// All five tables of a ledger.
 pub(crate) const COMPLETE: (usize, bool) = (5, true);
 
-/// All but that of closed ranges.
+/// The four tables without that of closed ranges.
 pub(crate) const INCOMPLETE: (usize, bool) = (4, false);
 
-/// What is left of a database that is opened. None where a transaction was begun.
+/// Opens a database and returns what is found, or `None` if it is in a transaction.
 pub(crate) fn left(alloc: Global, conn: Connection<MemStore>, shown: &[Shown]) -> Option<Left> {
     let (answer, mut conn) = found(alloc, conn)?;
     let unshown = first_unshown(alloc, &mut conn, shown);
@@ -54,7 +59,11 @@ pub(crate) fn left(alloc: Global, conn: Connection<MemStore>, shown: &[Shown]) -
     Some((answer, again == answer, tables, unshown))
 }
 
-/// The same of a database that is changed so before.
+/// The same for a database after these changes.
+///
+/// # Errors
+///
+/// `Error` if there is no database, or a change fails.
 pub(crate) fn tables_left(
     alloc: Global,
     conn: Result<Connection<MemStore>, Error>,
@@ -66,7 +75,7 @@ pub(crate) fn tables_left(
     Ok(left(alloc, conn, shown))
 }
 
-/// Both books answer the steps, and these rows are in the tables then.
+/// Asserts that both books answer the steps, and that the tables then have these rows.
 fn leave<R: Abort + AllocGlobal>(rt: &R, name: &str, steps: &[Step], shown: &[Shown]) {
     let mut conn = tables_after(rt, name, steps);
     let unshown = first_unshown(rt.alloc(), &mut conn, shown);

@@ -1,11 +1,12 @@
-//! A ledger with a sheet in it, made by statements, and what opening finds where a row of it is damaged.
+//! A ledger with a sheet, created by statements, and what an opening finds if a row of it is
+//! damaged.
 
 use crate::ledger::tables::{
     CALLS_TABLE, CLOSED_TABLE, Change, HEAD, HEAD_TABLE, RANGES_TABLE, SERIALS_TABLE, are_found,
 };
 use s10_ledger::OpenFault;
 
-/// The post grants RA GB 0 to 2 and 4 to 5 to customer 7, which draws a sheet of five.
+/// The post grants RA GB 0 to 2 and 4 to 5 to customer 7, who draws a sheet of five.
 const THREE_REPLIES: &str = "INSERT INTO calls (arrival, customer, number, day, reply) VALUES
 (1, 0, 1, 20000, x'533101810000000000000001000000075241474200000000000000020000000001'),
 (2, 0, 2, 20000, x'533101810000000000000002000000075241474200000004000000050000000002'),
@@ -41,7 +42,7 @@ fn a_ledger_with_a_sheet_opens(rt: HostRuntime) {
     are_found(&rt, SHEET_LEDGER, &[("", Ok((30, 100, 3, 20000)))]);
 }
 
-/// The damage, and what is found then.
+/// A damage, and what is found after it.
 const DAMAGES: &[Change] = &[
     (
         "UPDATE serials SET day = 20001 WHERE serial = 0",

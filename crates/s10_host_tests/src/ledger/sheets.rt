@@ -10,14 +10,14 @@ use s10_wire::WireFault;
 use std::alloc::{AllocError, Global};
 use std::process::Abort;
 
-/// The answer to a delivery.
+/// The expected answer to a delivery.
 #[derive(Clone, Copy)]
 pub enum Want {
     Reply(&'static [u8]),
     Dropped(WireFault),
 }
 
-/// A day, a datagram and its answer.
+/// The day, the datagram, and its expected answer.
 pub(crate) type Step = (u32, &'static [u8], Want);
 
 pub(crate) const GRANT: Step = (
@@ -52,10 +52,10 @@ const WRAPPING: Step = (
     ),
 );
 
-/// Sheets from one range of three serials, until the thirtieth day.
+/// Sheets of one range of three serials on day 20000.
 const FIRST_BATCH: &[Step] = &[GRANT, SHEET, SHEET, NONE_FREE, THIRD_SERIAL];
 
-/// The same, and on that day, on which it wraps around.
+/// The same, and sheets on day 20030, the first of which wraps around.
 const ONE_RANGE: &[Step] = &[
     GRANT,
     SHEET,
@@ -92,10 +92,10 @@ const OF_BOTH: Step = (
 
 const TWO_GRANTS: &[Step] = &[GRANT, SECOND_GRANT];
 
-/// A sheet that goes on in the customer's second range.
+/// A sheet continues in the customer's second range.
 const TWO_RANGES: &[Step] = &[GRANT, SECOND_GRANT, OF_BOTH];
 
-/// The longest sheet.
+/// The longest sheet, of sixteen identifiers.
 const SIXTEEN: &[Step] = &[
     (
         20_000,
@@ -114,7 +114,8 @@ const SIXTEEN: &[Step] = &[
     ),
 ];
 
-/// What asks for no sheet: no label, seventeen, and the kinds of one version under the other.
+/// Datagrams that ask for no sheet: without a label, with seventeen, and with a kind of the other
+/// version.
 const REFUSED: &[Step] = &[
     (
         20_000,
@@ -146,7 +147,7 @@ fn is_as_wanted(answer: &Answer, want: Want) -> bool {
     }
 }
 
-/// The datagrams of these steps, on their days.
+/// Returns the deliveries of these steps.
 fn deliveries_of(alloc: Global, steps: &[Step]) -> Result<Vec<Delivery>, AllocError> {
     let mut deliveries = Vec::new(alloc);
     for (day, datagram, _) in steps {
@@ -156,7 +157,8 @@ fn deliveries_of(alloc: Global, steps: &[Step]) -> Result<Vec<Delivery>, AllocEr
     Ok(deliveries)
 }
 
-/// Which of the steps a server that is handed all at once answers otherwise than wanted.
+/// Runs a server over the steps, and returns the index of the first whose answer is not the
+/// expected one, if any.
 fn first_unlike<B: Book>(
     alloc: Global,
     server: &mut Server<B>,
@@ -172,10 +174,10 @@ fn first_unlike<B: Book>(
     Ok(None)
 }
 
-/// How many calls a book keeps, and the ranges that it reports.
+/// The number of calls of a book, and its report of the ranges.
 pub(crate) type Left = (u32, &'static [u8]);
 
-/// Whether a book is left so, where that is told.
+/// Returns whether this is left in the book, or true if nothing is named.
 fn is_left<B: Book>(alloc: Global, book: &mut B, left: Option<Left>) -> bool {
     let Some((calls, ranges)) = left else {
         return true;
@@ -186,10 +188,11 @@ fn is_left<B: Book>(alloc: Global, book: &mut B, left: Option<Left>) -> bool {
         && book.len() == calls
 }
 
-/// Which of the steps a book answers otherwise than wanted, and whether it is left so then.
+/// The index of the first step with a wrong answer, if any, and whether the book is left as
+/// expected.
 type After = (Result<Option<usize>, AllocError>, bool);
 
-/// That, and the book.
+/// Runs a server over a book, and returns the book and that.
 fn behind<B: Book>(alloc: Global, book: B, steps: &[Step], left: Option<Left>) -> (B, After) {
     let mut server = Server::new(book);
     let unlike = first_unlike(alloc, &mut server, steps);
@@ -198,7 +201,8 @@ fn behind<B: Book>(alloc: Global, book: B, steps: &[Step], left: Option<Left>) -
     (book, (unlike, is_left))
 }
 
-/// A book in memory and one in tables answer the steps as wanted, and are left so.
+/// Asserts that a book in memory and a ledger answer the steps as expected, and are left as
+/// expected.
 pub(crate) fn are_answered<R: Abort + AllocGlobal>(
     rt: &R,
     name: &str,
@@ -227,13 +231,14 @@ fn sheets_are_answered_as_worked_by_hand(rt: HostRuntime) {
     are_answered(&rt, "refused", REFUSED, None);
 }
 
-/// Draws with numbers that no sheet above has.
+/// Draws whose numbers no sheet above has.
 const THREE_DRAWS: &[&[u8]] = &[
     b"S1\x01\x02\0\0\0\x07\0\0\0\x0aRAGB",
     b"S1\x01\x02\0\0\0\x07\0\0\0\x0bRAGB",
     b"S1\x01\x02\0\0\0\x07\0\0\0\x0cRAGB",
 ];
 
+/// Draws whose numbers no sheet above has.
 const FIVE_DRAWS: &[&[u8]] = &[
     b"S1\x01\x02\0\0\0\x07\0\0\0\x0aRAGB",
     b"S1\x01\x02\0\0\0\x07\0\0\0\x0bRAGB",
@@ -242,7 +247,7 @@ const FIVE_DRAWS: &[&[u8]] = &[
     b"S1\x01\x02\0\0\0\x07\0\0\0\x0eRAGB",
 ];
 
-/// These datagrams on this day.
+/// Returns the deliveries of these datagrams on one day.
 fn deliveries_on(
     alloc: Global,
     day: u32,
@@ -258,7 +263,7 @@ fn deliveries_on(
     Ok(deliveries)
 }
 
-/// What replies say from the byte of that place on, one after the other.
+/// Returns the bytes of the replies from offset `from`, one reply after the other.
 fn texts_of(alloc: Global, answers: &[Answer], from: usize) -> Result<Vec<u8>, AllocError> {
     let mut text = Vec::new(alloc);
     for answer in answers {
@@ -271,7 +276,7 @@ fn texts_of(alloc: Global, answers: &[Answer], from: usize) -> Result<Vec<u8>, A
     Ok(text)
 }
 
-/// What the replies say to datagrams that a server gets at once.
+/// Runs a server over these datagrams, and returns the bytes of its replies from offset `from`.
 fn text_from<B: Book>(
     alloc: Global,
     server: &mut Server<B>,
@@ -284,7 +289,7 @@ fn text_from<B: Book>(
     texts_of(alloc, &answers, from)
 }
 
-/// The same over a book that gets them on that day after those steps; and the book.
+/// The same over a book after these steps; also returns the book.
 fn text_after<B: Book>(
     alloc: Global,
     book: B,
@@ -313,7 +318,7 @@ fn told<R: Abort + AllocGlobal>(
     text
 }
 
-/// Whether a sheet after those steps has the identifiers that n Draws have in its place.
+/// Returns whether a sheet after these steps has the identifiers that n Draws instead of it have.
 fn is_as_draws<R: Abort + AllocGlobal>(
     rt: &R,
     steps: &[Step],

@@ -1,5 +1,5 @@
-//! Ledgers over files that stop at one of their calls: one of the build that had no table of closed ranges is opened, and a new
-//! one commits its calls.
+//! Ledgers over files that stop at one of their calls: a ledger of an earlier build, which had no
+//! table of closed ranges, is opened, and a new ledger commits its calls.
 
 use crate::expect::same;
 use crate::ledger::calls::settings;
@@ -19,12 +19,13 @@ enum Ended {
     /// The files are no database.
     Unconnected,
     Refused(OpenFault),
-    /// With n calls, and a table of closed ranges.
+    /// With this number of calls, and the table of closed ranges.
     Found(u32),
+    /// Without the table of closed ranges.
     Incomplete,
 }
 
-/// How a connection keeps its pages, and how many calls each file answers before it stops.
+/// The options of a connection, and the number of calls that each file answers before it stops.
 #[derive(Clone, Copy)]
 struct Stops {
     options: Options,
@@ -32,10 +33,11 @@ struct Stops {
     db: u64,
 }
 
-/// The number of no call.
+/// A number of calls that no file reaches.
 const NEVER: u64 = u64::MAX;
 
-/// Few pages are kept in memory, and the log is copied into the database file at once, so that both files are called until the end.
+/// Few pages are kept in memory, and the log is copied into the database file at once. So both
+/// files are called until the end.
 const TIGHT: Options = Options {
     cache_pages: 2,
     spill_pages: 2,
@@ -46,15 +48,15 @@ const TIGHT: Options = Options {
 /// What is done in a connection.
 #[derive(Clone, Copy)]
 enum Act {
-    /// The statements of the ledger of the nine calls are run.
+    /// Executes the statements of the ledger of the nine calls.
     Fill,
-    /// Its ledger is opened.
+    /// Opens its ledger.
     Open(Global),
-    /// A new ledger with these settings commits three calls.
+    /// Creates a ledger with these settings and commits three calls.
     GroupCommit(Global, Settings),
 }
 
-/// A file of these bytes, all of them synced, that stops at one of its calls.
+/// Returns a file with these bytes, all synced, that stops at call `stop`, or `None` if that fails.
 fn file_of(alloc: Global, bytes: &[u8], stop: u64) -> Option<Fuse<Memory>> {
     let mut file = Memory::new(alloc);
     if file.write_at(0, bytes).is_ok() && file.sync().is_ok() {
@@ -64,14 +66,14 @@ fn file_of(alloc: Global, bytes: &[u8], stop: u64) -> Option<Fuse<Memory>> {
     }
 }
 
-/// Whole files with the same bytes, which stop so.
+/// Returns files with the same bytes that stop as `stops` says, or `None` if that fails.
 fn copied(alloc: Global, files: &Files<Fuse<Memory>>, stops: Stops) -> Option<Files<Fuse<Memory>>> {
     let log = file_of(alloc, files.log.inner().bytes(), stops.log)?;
     let db = file_of(alloc, files.db.inner().bytes(), stops.db)?;
     Some(Files { log, db })
 }
 
-/// What is found of a connection whose ledger has n calls.
+/// Returns how the opening of a connection whose ledger has `calls` calls ended.
 fn ending_of<S: Alter>(conn: &Connection<S>, calls: u32) -> Ended {
     if conn.schema().table_named(b"closed").is_some() {
         Ended::Found(calls)
@@ -80,7 +82,7 @@ fn ending_of<S: Alter>(conn: &Connection<S>, calls: u32) -> Ended {
     }
 }
 
-/// How the ledger in a connection opens, and its connection.
+/// Opens the ledger in a connection. Returns how that ended, and the connection.
 fn ledger_in<S: Alter + Drop>(alloc: Global, conn: Connection<S>) -> (Ended, Connection<S>) {
     if !conn.is_autocommit() {
         return (Ended::Unconnected, conn);
@@ -95,7 +97,8 @@ fn ledger_in<S: Alter + Drop>(alloc: Global, conn: Connection<S>) -> (Ended, Con
     }
 }
 
-/// How a connection ends that is filled, and the connection.
+/// Fills a connection with the ledger of the nine calls. Returns how that ended, and the
+/// connection.
 fn ledger_filled<S: Alter + Drop>(mut conn: Connection<S>) -> (Ended, Connection<S>) {
     let ended = if run_batches(&mut conn, &OLD_LEDGER).is_ok() {
         ending_of(&conn, 0)
@@ -105,7 +108,7 @@ fn ledger_filled<S: Alter + Drop>(mut conn: Connection<S>) -> (Ended, Connection
     (ended, conn)
 }
 
-/// What is found of a connection in which this is done, what is reported for a commit in it, and its store.
+/// Does this in a connection. Returns how that ended, what is reported for a commit, and the store.
 fn done<S: Alter + Drop>(conn: Connection<S>, act: Act) -> (Ended, Option<Told>, S) {
     match act {
         Act::Fill => {
@@ -123,7 +126,7 @@ fn done<S: Alter + Drop>(conn: Connection<S>, act: Act) -> (Ended, Option<Told>,
     }
 }
 
-/// The same of a connection over files.
+/// The same for a connection over files.
 fn done_over<D: Disk + Drop>(
     conn: Connection<FileStore<D>>,
     act: Act,
@@ -131,7 +134,8 @@ fn done_over<D: Disk + Drop>(
     done(conn, act)
 }
 
-/// These files with the ledger of the nine calls, copied into the database file.
+/// Returns these files with the ledger of the nine calls in the database file, or `None` if that
+/// fails.
 fn filled<D: Disk + Drop>(alloc: Global, files: Files<D>) -> Option<Files<D>> {
     if !files.may_be_used() {
         return None;
@@ -145,14 +149,14 @@ fn filled<D: Disk + Drop>(alloc: Global, files: Files<D>) -> Option<Files<D>> {
     if is_written { Some(files) } else { None }
 }
 
-/// The files of the ledger of the nine calls.
+/// Returns the files of the ledger of the nine calls, or `None` if that fails.
 fn old_ledger(alloc: Global) -> Option<Files<Fuse<Memory>>> {
     let log = Fuse::new(Memory::new(alloc), NEVER);
     let db = Fuse::new(Memory::new(alloc), NEVER);
     filled(alloc, Files { log, db })
 }
 
-/// The same of a connection over these files, and the files.
+/// The same for a connection over these files; returns the files instead of the store.
 fn done_in<D: Disk + Drop>(
     alloc: Global,
     files: Files<D>,
@@ -171,13 +175,14 @@ fn done_in<D: Disk + Drop>(
     }
 }
 
-/// How the ledger in files opens, and the files.
+/// Opens the ledger in files. Returns how that ended, and the files.
 fn opened<D: Disk + Drop>(alloc: Global, files: Files<D>, options: Options) -> (Ended, Files<D>) {
     let (ended, _, files) = done_in(alloc, files, options, Act::Open(alloc));
     (ended, files)
 }
 
-/// How it opens over whole files with the same bytes that do not stop. None where these are not made.
+/// Returns how the ledger opens over files with the same bytes that do not stop, or `None` if there
+/// are none.
 fn again(alloc: Global, files: &Files<Fuse<Memory>>) -> Option<Ended> {
     let stops = Stops {
         options: Options::new(7),
@@ -188,8 +193,8 @@ fn again(alloc: Global, files: &Files<Fuse<Memory>>) -> Option<Ended> {
     Some(ended)
 }
 
-/// How the ledger opens where its files stop so; and whether it is found whole then over whole files, with all that was written, and
-/// with what was synced alone.
+/// Opens the ledger over files that stop. Returns how that ended, and whether the ledger is then
+/// whole in files that do not stop: with all bytes written, and with only the bytes synced.
 fn stopped(alloc: Global, old: &Files<Fuse<Memory>>, stops: Stops) -> Option<(Ended, bool)> {
     let (ended, mut files) = opened(alloc, copied(alloc, old, stops)?, stops.options);
     let written = again(alloc, &files);
@@ -200,8 +205,9 @@ fn stopped(alloc: Global, old: &Files<Fuse<Memory>>, stops: Stops) -> Option<(En
     Some((ended, written == whole && synced == whole))
 }
 
-/// At how many calls of one file the ledger is refused for want of its store, before it opens with no stop met. None where it is
-/// refused for another reason, or is not found whole after a stop.
+/// Returns for how many calls of one file a stop refuses the ledger with `Store`, before it opens
+/// and reaches no stop. Returns `None` if the ledger is refused for another reason, or is not whole
+/// after a stop.
 fn refused(
     alloc: Global,
     old: &Files<Fuse<Memory>>,
@@ -242,8 +248,8 @@ fn a_ledger_whose_completion_stopped_is_whole(rt: HostRuntime) {
     same(&rt, &counts, &are_met, &[true; 4]);
 }
 
-/// What is told over empty files where the log stops at one of its calls, and what is found then over whole files with what was
-/// synced alone.
+/// Commits three calls over empty files whose log stops at call `at`. Returns what is reported, and
+/// how the ledger then opens in files that do not stop, with only the bytes synced.
 fn committed_until(alloc: Global, settings: Settings, at: u64) -> Option<(Option<Told>, Ended)> {
     let log = Fuse::new(Memory::new(alloc), at);
     let db = Fuse::new(Memory::new(alloc), NEVER);
@@ -254,8 +260,9 @@ fn committed_until(alloc: Global, settings: Settings, at: u64) -> Option<(Option
     Some((told, again(alloc, &files)?))
 }
 
-/// At how many calls of the log the commit fails, before it passes. None where a committed call is lost, or a call that was not is
-/// reported as committed or is found without the others.
+/// Returns for how many calls of the log a stop fails the commit, before it succeeds. Returns
+/// `None` if a committed call is lost, or if an uncommitted call is reported as committed or found
+/// without the others.
 fn failed_commits(alloc: Global, settings: Settings) -> Option<u32> {
     let mut count: u32 = 0;
     for at in 0..1000u64 {

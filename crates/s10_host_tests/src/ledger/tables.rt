@@ -1,4 +1,4 @@
-//! Databases made by statements, and what opening finds in them.
+//! Databases created by statements, and what an opening finds in them.
 
 use crate::expect::same;
 use s10_book::Book;
@@ -26,8 +26,9 @@ pub(crate) const CLOSED_TABLE: &str =
 pub(crate) const HEAD: &str =
     "INSERT INTO head (one, schema, interval, cap) VALUES (1, 1, 30, 100);";
 
-/// The post grants RA GB 0 to 2 to customer 7, which draws serials 0 and 1, voids 1 twice, draws serial 2, is told that none is
-/// free, and 30 days after it draws 0 and 1 again.
+/// The replies to nine calls. The post grants RA GB 0 to 2 to customer 7. Customer 7 draws serials
+/// 0 and 1, voids 1 twice, draws serial 2, and is refused a Draw since none is free. 30 days later
+/// it draws 0 and 1 again.
 const NINE_REPLIES: &str = "INSERT INTO calls (arrival, customer, number, day, reply) VALUES
 (1, 0, 1, 20000, x'533101810000000000000001000000075241474200000000000000020000000001'),
 (2, 7, 1, 20000, x'533101820000000700000001524147420000004e2052413030303030303030354742'),
@@ -39,7 +40,7 @@ const NINE_REPLIES: &str = "INSERT INTO calls (arrival, customer, number, day, r
 (8, 7, 7, 20030, x'533101820000000700000007524147420000004e3e52413030303030303030354742'),
 (9, 7, 8, 20030, x'533101820000000700000008524147420000004e3e52413030303030303031344742');";
 
-/// Range 1 is customer 7's, RA GB 0 to 2, and gives serial 2 next.
+/// Range 1 of customer 7, RA GB 0 to 2, which gives serial 2 next.
 const ONE_RANGE: &str =
     "INSERT INTO ranges (num, holder, pair, low, high, mark) VALUES (1, 7, 1380009794, 0, 2, 2);";
 
@@ -62,7 +63,7 @@ pub(crate) const TABLES: [&str; 5] = [
     CLOSED_TABLE,
 ];
 
-/// The tables, and the rows of the nine calls.
+/// The statements for the tables and for the rows of the nine calls.
 pub(crate) const NINE_CALLS: &'static [&'static str] = &[
     HEAD_TABLE,
     CALLS_TABLE,
@@ -87,7 +88,7 @@ pub(crate) const NINE_WITHOUT_SERIALS: &'static [&'static str] = &[
     ONE_RANGE,
 ];
 
-/// The tables, and the rows of the nine calls, as the build wrote them that had no table of closed ranges.
+/// The same as an earlier build wrote them, without the table of closed ranges.
 pub(crate) const OLD_LEDGER: [&str; 8] = [
     HEAD_TABLE,
     CALLS_TABLE,
@@ -99,17 +100,18 @@ pub(crate) const OLD_LEDGER: [&str; 8] = [
     THREE_SERIALS,
 ];
 
-/// What a ledger is found to be: its interval, its limit, how many calls it keeps, and the day of the last one; or why it is none.
+/// What an opening finds: interval in days, limit, number of calls, and day of the last one; or why
+/// there is no ledger.
 pub(crate) type Finding = Result<(u32, u32, u32, u32), OpenFault>;
 
 pub(crate) const NINE_FOUND: Finding = Ok((30, 100, 9, 20030));
 
 pub(crate) const NO_LEDGER: Finding = Err(OpenFault::NotALedger);
 
-/// What is changed of a database, and what it is found to be then.
+/// A change of a database, and what is found after it.
 pub(crate) type Change = (&'static str, Finding);
 
-// Runs the statements of each text in turn.
+// Executes the statements of each text, in order.
 pub(crate) fn run_batches<S: Alter>(conn: &mut Connection<S>, texts: &[&str]) -> Result<(), Error> {
     for text in texts {
         conn.execute_batch(text)?;
@@ -117,14 +119,14 @@ pub(crate) fn run_batches<S: Alter>(conn: &mut Connection<S>, texts: &[&str]) ->
     Ok(())
 }
 
-// A database in memory, made by the statements.
+// Returns a database in memory after these statements.
 pub(crate) fn database(alloc: Global, texts: &[&str]) -> Result<Connection<MemStore>, Error> {
     let mut conn = Connection::open_in_memory(alloc)?;
     run_batches(&mut conn, texts)?;
     Ok(conn)
 }
 
-// What opening finds, and the connection. None where a transaction was begun.
+// Opens a ledger. Returns the result and the connection, or `None` if it is in a transaction.
 pub(crate) fn found<S: Alter + Drop>(
     alloc: Global,
     conn: Connection<S>,
@@ -145,7 +147,7 @@ pub(crate) fn found<S: Alter + Drop>(
     }
 }
 
-// What opening answers, in numbers.
+// Returns the result of an opening in numbers.
 fn in_numbers(answer: &Result<LedgerSummary, OpenFault>) -> Finding {
     match answer {
         Ok(opened) => Ok((
@@ -158,7 +160,8 @@ fn in_numbers(answer: &Result<LedgerSummary, OpenFault>) -> Finding {
     }
 }
 
-// What the ledger in a connection is found to be once it is changed so, and the connection. None where the change is refused.
+// Changes a database and opens it. Returns what is found and the connection, or `None` if the
+// change fails.
 pub(crate) fn changed<S: Alter + Drop>(
     alloc: Global,
     mut conn: Connection<S>,
@@ -171,7 +174,8 @@ pub(crate) fn changed<S: Alter + Drop>(
     Some((in_numbers(&answer), conn))
 }
 
-// What the ledger that these statements make is found to be once it is changed so. None where one of them is refused.
+// Returns what is found in a database created by these statements after a change, or `None` if one
+// of them fails.
 pub(crate) fn opening(alloc: Global, texts: &[&str], change: &str) -> Option<Finding> {
     let Ok(conn) = database(alloc, texts) else {
         return None;
@@ -180,7 +184,7 @@ pub(crate) fn opening(alloc: Global, texts: &[&str], change: &str) -> Option<Fin
     Some(finding)
 }
 
-/// The ledger that these statements make is found to be what is told, however it is changed.
+/// Asserts for each change what is found after it in a database created by these statements.
 pub(crate) fn are_found<R: Abort + AllocGlobal>(rt: &R, texts: &[&str], changes: &[Change]) {
     for (change, finding) in changes {
         same(
@@ -192,7 +196,7 @@ pub(crate) fn are_found<R: Abort + AllocGlobal>(rt: &R, texts: &[&str], changes:
     }
 }
 
-// The numbers that a query shows, row after row.
+// Returns the numbers that a query shows, row after row.
 pub(crate) fn numbers(
     alloc: Global,
     conn: &mut Connection<MemStore>,

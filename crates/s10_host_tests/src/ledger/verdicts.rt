@@ -1,4 +1,4 @@
-//! What is found of the rows of a ledger's tables.
+//! What an opening finds in the rows of a ledger's tables.
 
 use crate::ledger::tables::{
     Change, NINE_CALLS, NINE_FOUND, NINE_WITHOUT_SERIALS, NO_LEDGER, THREE_SERIALS, TURNED_SERIALS,
@@ -14,7 +14,7 @@ fn nine_calls_are_a_ledger(rt: HostRuntime) {
     are_found(&rt, NINE_WITHOUT_SERIALS, SERIALS);
 }
 
-/// What is changed of a call, and what is found then.
+/// A change of a call, and what is found after it.
 const CALLS: &[Change] = &[
     (
         "UPDATE calls SET customer = 8 WHERE arrival = 4",
@@ -43,7 +43,7 @@ fn first_wrong_call_is_named(rt: HostRuntime) {
     are_found(&rt, NINE_CALLS, CALLS);
 }
 
-/// What is changed of the head, and what is found then.
+/// A change of the head, and what is found after it.
 const HEADS: &[Change] = &[
     ("UPDATE head SET interval = 31", Err(OpenFault::Damaged(8))),
     ("UPDATE head SET cap = 8", Err(OpenFault::Damaged(9))),
@@ -57,7 +57,7 @@ fn head_says_how_the_calls_were_made(rt: HostRuntime) {
     are_found(&rt, NINE_CALLS, HEADS);
 }
 
-/// What is changed of the other tables, and what is found then.
+/// A change of the other tables, and what is found after it.
 const OTHERS: &[Change] = &[
     ("UPDATE ranges SET high = 3", Err(OpenFault::Damaged(0))),
     ("UPDATE ranges SET mark = 0", Err(OpenFault::Damaged(0))),

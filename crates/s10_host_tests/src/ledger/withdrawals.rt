@@ -14,7 +14,8 @@ const WITHDRAW: Step = (
     Want::Reply(b"S1\x02\x86\0\0\0\0\0\0\0\x02\0\0\0\x01\0"),
 );
 
-/// Range 1 is withdrawn, and what is asked of it then: other withdrawals, draws, a Void and a Query of what it gave, and Grants.
+/// Range 1 is withdrawn. Then come other withdrawals, draws, a Void and a Query of its identifier,
+/// and Grants.
 const WITHDRAWN: &[Step] = &[
     GRANT,
     DRAW,
@@ -76,7 +77,8 @@ const WITHDRAWN_RANGES: &[u8] = b"range customer service country first last used
 1 7 RA GB 00000000 00000002 1 1 2 closed\n\
 2 8 RA GB 00000003 00000003 0 0 1\n";
 
-/// The number of the withdrawal for another range and for a Grant, and then for the withdrawal once more.
+/// The number of the withdrawal is used for another range and for a Grant, then again for the
+/// withdrawal.
 const REUSED: &[Step] = &[
     GRANT,
     DRAW,
@@ -97,7 +99,7 @@ const REUSED: &[Step] = &[
 const REUSED_RANGES: &[u8] = b"range customer service country first last used voided free\n\
 1 7 RA GB 00000000 00000002 1 0 2 closed\n";
 
-/// The number of the Grant for a withdrawal.
+/// The number of the Grant is used for a withdrawal.
 const NOT_WITHDRAWN: &[Step] = &[
     GRANT,
     (

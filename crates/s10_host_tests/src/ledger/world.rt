@@ -1,4 +1,4 @@
-//! A ledger in tables, in a world of its clients and the network between them.
+//! A ledger in tables, in a world of clients and a network.
 
 ghost use Rattle.std.specs.Prelude.{◌≡◌, IfOk, All, length};
 ghost use Rattle.s10_ends.specs.Client.{IsNew};
@@ -15,17 +15,18 @@ use std::process::Abort;
 
 const EVENTS: usize = 18;
 
-// the replies of the story
+// The replies of the story.
 const GRANTED: &[u8] = b"S1\x01\x81\0\0\0\0\0\0\0\x01\0\0\0\x07RAGB\0\0\0\0\0\0\0\x02\0\0\0\0\x01";
 
 const DRAWN_1: &[u8] = b"S1\x01\x82\0\0\0\x07\0\0\0\x01RAGB\0\0\0\x4e\x20RA000000014GB";
 
 const DRAWN_10: &[u8] = b"S1\x01\x82\0\0\0\x07\0\0\0\x0aRAGB\0\0\0\x4e\x20RA000000005GB";
 
-// The server's replies in their order.
+// The server's replies, in order.
 const REPLIED: &[&[u8]] = &[GRANTED, DRAWN_10, DRAWN_1, DRAWN_10, DRAWN_1];
 
-// The replies to the Grant, and to the Draws of both clients, each of which repeats its request.
+// Returns the replies to the Grant and to the Draws of both clients. Each reply repeats its
+// request.
 fn replies(rt: &impl Abort) -> [Reply; 3] {
     match (
         decode_reply(GRANTED),
@@ -37,18 +38,23 @@ fn replies(rt: &impl Abort) -> [Reply; 3] {
     }
 }
 
-/// What happens in the world. A client submits the request of the reply at a place.
+/// An event of the world.
 #[derive(Clone, Copy)]
 enum Happens {
+    /// The client, and the index of the reply to its request.
     Submit(u32, usize),
+    /// The client.
     Resend(u32),
+    /// The client.
     GiveUp(u32),
+    /// The index of a frame sent by a client, and the day of its delivery.
     ToServer(usize, u32),
+    /// The client, and the index of a frame sent by the server.
     ToClient(u32, usize),
 }
 
-/// The post grants three serials. Two clients of customer 7 draw: the second's request comes first,
-/// both come twice, and the second client gives up before its reply comes.
+/// The post grants three serials. Two clients of customer 7 draw: the second's request arrives
+/// first, both arrive twice, and the second client gives up before its reply arrives.
 const STORY: &[Happens] = &[
     Happens::Submit(0, 0),
     Happens::Resend(0),
@@ -83,7 +89,7 @@ fn event(happens: Happens, replies: &[Reply; 3]) -> Event {
     }
 }
 
-/// The events of the story.
+/// Returns the events of the story.
 fn story(replies: &[Reply; 3]) -> [Event; EVENTS] {
     let mut events = [Event::Resend { client: 0 }; EVENTS];
     for at in 0..STORY.len().min(EVENTS) {
@@ -110,7 +116,7 @@ fn three_clients(alloc: Global) -> Result<Vec<Client>, AllocError>
     Ok(clients)
 }
 
-// Whether the server replied so.
+// Returns whether these are the server's replies.
 fn server_replied(frames: &[Frame]) -> bool {
     for (frame, bytes) in frames.iter().zip(REPLIED) {
         if frame.bytes() != *bytes {
@@ -120,8 +126,8 @@ fn server_replied(frames: &[Frame]) -> bool {
     frames.len() == REPLIED.len()
 }
 
-// Whether each client's request was handed in, whether the replies to the post and to the first client were accepted, and whether
-// the server replied so.
+// Returns whether each client's request was submitted, whether the replies to the post and to the
+// first client were accepted, and whether the server sent its replies.
 fn seen<B: Book>(world: &World<B>, replies: &[Reply; 3]) -> [bool; 3] {
     let [granted, first, second] = replies;
     let submitted = [
@@ -144,7 +150,7 @@ fn kept(reply: &Reply) -> Option<Entry> {
     })
 }
 
-// Whether a book keeps each call once, in order of arrival.
+// Returns whether a book keeps each call once, in order of arrival.
 fn are_kept_once<B: Book>(book: &mut B, replies: &[Reply; 3]) -> bool {
     let [granted, first, second] = replies;
     let calls = [book.entry(1), book.entry(2), book.entry(3), book.entry(4)];
@@ -157,7 +163,7 @@ fn are_kept_once<B: Book>(book: &mut B, replies: &[Reply; 3]) -> bool {
         ]
 }
 
-// What is seen of the story over a book, which is handed back. None where there is no memory for it.
+// Runs the story over a book. Returns the book, and what is seen or `None` if memory is refused.
 fn run_story<B: Book>(alloc: Global, book: B, replies: &[Reply; 3]) -> (B, Option<[bool; 3]>) {
     let Ok(clients) = three_clients(alloc) else {
         return (book, None);
@@ -170,7 +176,7 @@ fn run_story<B: Book>(alloc: Global, book: B, replies: &[Reply; 3]) -> (B, Optio
     (world.into_server().into_book(), seen)
 }
 
-// The same, and whether the book keeps each call once then.
+// The same, and whether the book then keeps each call once.
 fn run_and_kept<B: Book>(
     alloc: Global,
     book: B,
@@ -181,7 +187,7 @@ fn run_and_kept<B: Book>(
     (book, (seen, are_kept))
 }
 
-// Each request is executed once, and answered to its own client.
+// Each reply is accepted only by its own client.
 #[test]
 fn a_ledger_in_tables_executes_each_call_of_a_world_once(rt: HostRuntime) {
     let replies = replies(&rt);
