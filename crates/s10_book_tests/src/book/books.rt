@@ -119,6 +119,7 @@ pub const NINE_CALLS: &'static [Step] = &[
     (7, 8, Asked::Draw, 20030, Answered::Drawn(20030, 1)),
 ];
 
+/// Returns the service RA.
 pub(crate) fn ra() -> Service {
     Service::new(*b"RA").unwrap()
 }
@@ -127,6 +128,7 @@ fn rb() -> Service {
     Service::new(*b"RB").unwrap()
 }
 
+/// Returns the country GB.
 pub(crate) fn gb() -> Country {
     Country::new(*b"GB").unwrap()
 }

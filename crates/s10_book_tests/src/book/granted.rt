@@ -6,14 +6,17 @@ use s10_ranges::Ranges;
 use s10_wire::{Body, Outcome, Request};
 use std::process::Abort;
 
+/// Returns the service with these letters, and aborts if there is none.
 pub(crate) fn service(rt: &impl Abort, letters: [u8; 2]) -> Service {
     Service::new(letters).expect(rt, "letters of a service")
 }
 
+/// Returns the country with these letters, and aborts if there is none.
 pub(crate) fn country(rt: &impl Abort, letters: [u8; 2]) -> Country {
     Country::new(letters).expect(rt, "letters of a country")
 }
 
+/// Returns the serial of this value, and aborts if there is none.
 pub(crate) fn serial(rt: &impl Abort, value: u32) -> Serial {
     Serial::new(value).expect(rt, "a serial number")
 }

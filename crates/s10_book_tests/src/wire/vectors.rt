@@ -210,10 +210,12 @@ const REPLIES: &'static [ReplyVector] = &[
     ),
 ];
 
+/// Returns the replies of the table.
 pub(crate) fn replies() -> &'static [ReplyVector] {
     REPLIES
 }
 
+/// Returns the request of a row.
 pub(crate) fn request(rt: &impl Abort, call: &Call) -> Request {
     let (customer, number, asked) = *call;
     Request {
@@ -223,6 +225,7 @@ pub(crate) fn request(rt: &impl Abort, call: &Call) -> Request {
     }
 }
 
+/// Returns the body of a row's request, and aborts if its values are out of range.
 pub(crate) fn body(rt: &impl Abort, asked: Asked) -> Body {
     let service = Service::new(*b"RA").unwrap();
     let country = Country::new(*b"GB").unwrap();
@@ -246,6 +249,7 @@ pub(crate) fn body(rt: &impl Abort, asked: Asked) -> Body {
     }
 }
 
+/// Returns the outcome of a row, and aborts if its values are out of range.
 pub(crate) fn outcome(rt: &impl Abort, came: &Came) -> Outcome {
     match *came {
         Came::Drawn(day, text) => Outcome::Drawn {
@@ -291,6 +295,7 @@ pub(crate) fn reply(rt: &impl Abort, row: &[u8], call: &Call, came: &Came) -> Re
     reply.expect(rt, "an outcome that does not fit")
 }
 
+/// Returns the serial of this value, and aborts if there is none.
 pub(crate) fn serial(rt: &impl Abort, value: u32) -> Serial {
     Serial::new(value).expect(rt, "a serial number")
 }

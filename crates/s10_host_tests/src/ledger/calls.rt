@@ -98,6 +98,7 @@ pub(crate) const NINE_CALLS: &'static [Step] = &[
     (7, 8, Asked::Draw, 20030, Answered::Drawn(20030, 1)),
 ];
 
+/// Returns the service RA.
 pub(crate) fn ra() -> Service {
     Service::new(*b"RA").unwrap()
 }
@@ -106,6 +107,7 @@ fn rb() -> Service {
     Service::new(*b"RB").unwrap()
 }
 
+/// Returns the country GB.
 pub(crate) fn gb() -> Country {
     Country::new(*b"GB").unwrap()
 }

@@ -63,8 +63,8 @@ fn draws_are_alike<A: Book, B: Book>(one: &mut A, other: &mut B, draws: u32) -> 
     true
 }
 
-// Returns whether both books give the same answers for this number: the range with it, the range
-// with one of its serials, and the next range of a holder after it.
+// Returns whether both books give the same answers for this number: the range with it, the range of
+// least number with a serial in a span, and the next range of a holder after it.
 fn range_is_alike<A: Book, B: Book>(one: &mut A, other: &mut B, place: u32) -> bool
     requires { place ≤ 2000 }
 {

@@ -89,6 +89,7 @@ const RANGES: &'static str = "SELECT num, holder, pair, low, high, mark FROM ran
 const SERIALS: &'static str =
     "SELECT pair, serial, arrival, day, customer, number, voided FROM serials ORDER BY pair, serial";
 
+/// The query for the rows of closed ranges.
 pub(crate) const CLOSED: &'static str = "SELECT num, arrival FROM closed ORDER BY num";
 
 const SIX_ROWS: &'static [Shown] = &[
@@ -141,6 +142,7 @@ const REFUSED: &'static [Step] = &[
     (0, 2, Withdraw(2), 20000, NoSuchRange),
 ];
 
+/// No range is closed.
 pub(crate) const NONE_CLOSED: &'static [Shown] = &[(CLOSED, 2, &[])];
 
 #[test]

@@ -20,6 +20,7 @@ pub enum Want {
 /// The day, the datagram, and its expected answer.
 pub(crate) type Step = (u32, &'static [u8], Want);
 
+/// The post grants RA GB 0 to 2 to customer 7.
 pub(crate) const GRANT: Step = (
     20_000,
     b"S1\x01\x01\0\0\0\0\0\0\0\x01\0\0\0\x07RAGB\0\0\0\0\0\0\0\x02",

@@ -8,21 +8,27 @@ use sqlite::{Alter, Connection, Error, MemStore};
 use std::alloc::Global;
 use std::process::Abort;
 
+/// The statement for the table of the settings.
 pub(crate) const HEAD_TABLE: &str =
     "CREATE TABLE head (one INTEGER NOT NULL PRIMARY KEY CHECK (one = 1), schema INTEGER NOT NULL, interval INTEGER NOT NULL, cap INTEGER NOT NULL) STRICT;";
 
+/// The statement for the table of calls.
 pub(crate) const CALLS_TABLE: &str =
     "CREATE TABLE calls (arrival INTEGER NOT NULL PRIMARY KEY, customer INTEGER NOT NULL, number INTEGER NOT NULL, day INTEGER NOT NULL, reply BLOB NOT NULL, UNIQUE (customer, number)) STRICT;";
 
+/// The statement for the table of ranges.
 pub(crate) const RANGES_TABLE: &str =
     "CREATE TABLE ranges (num INTEGER NOT NULL PRIMARY KEY, holder INTEGER NOT NULL, pair INTEGER NOT NULL, low INTEGER NOT NULL, high INTEGER NOT NULL, mark INTEGER NOT NULL) STRICT;";
 
+/// The statement for the table of serials.
 pub(crate) const SERIALS_TABLE: &str =
     "CREATE TABLE serials (pair INTEGER NOT NULL, serial INTEGER NOT NULL, arrival INTEGER NOT NULL, day INTEGER NOT NULL, customer INTEGER NOT NULL, number INTEGER NOT NULL, voided INTEGER NOT NULL, PRIMARY KEY (pair, serial)) STRICT;";
 
+/// The statement for the table of closed ranges.
 pub(crate) const CLOSED_TABLE: &str =
     "CREATE TABLE closed (num INTEGER NOT NULL PRIMARY KEY, arrival INTEGER NOT NULL) STRICT;";
 
+/// The statement for the row of the settings: interval 30 days, limit 100 calls.
 pub(crate) const HEAD: &str =
     "INSERT INTO head (one, schema, interval, cap) VALUES (1, 1, 30, 100);";
 
@@ -55,6 +61,7 @@ pub(crate) const THREE_SERIALS: &str =
 pub(crate) const TURNED_SERIALS: &str =
     "INSERT INTO serials (pair, serial, arrival, day, customer, number, voided) VALUES (1380009794, 2, 6, 20000, 7, 5, 0), (1380009794, 0, 8, 20030, 7, 7, 0), (1380009794, 1, 9, 20030, 7, 8, 0);";
 
+/// The statements for the five tables, in order.
 pub(crate) const TABLES: [&str; 5] = [
     HEAD_TABLE,
     CALLS_TABLE,
@@ -104,8 +111,10 @@ pub(crate) const OLD_LEDGER: [&str; 8] = [
 /// there is no ledger.
 pub(crate) type Finding = Result<(u32, u32, u32, u32), OpenFault>;
 
+/// What is found in the ledger of the nine calls.
 pub(crate) const NINE_FOUND: Finding = Ok((30, 100, 9, 20030));
 
+/// The database is no ledger.
 pub(crate) const NO_LEDGER: Finding = Err(OpenFault::NotALedger);
 
 /// A change of a database, and what is found after it.

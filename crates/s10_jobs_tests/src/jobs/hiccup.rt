@@ -34,6 +34,7 @@ impl Write for Hiccup {
 }
 
 impl Hiccup {
+    /// Returns a writer that accepts `room` bytes before it fails.
     pub(crate) fn new(alloc: Global, room: usize) -> Hiccup {
         Hiccup {
             bytes: Vec::new(alloc),
