@@ -132,8 +132,8 @@ fn reported<B: GroupCommit>(alloc: Global, book: B, said: &mut (bool, bool)) -> 
     book
 }
 
-/// Returns the tables of a new ledger after the nine calls, whether it gave the nine replies, and
-/// whether its reports are as worked by hand.
+/// Returns the tables of a new ledger after the nine calls. Also returns whether it gave the nine
+/// replies, and whether its reports are as worked by hand.
 fn worked<R: Abort + AllocGlobal>(rt: &R) -> (Connection<MemStore>, (bool, bool)) {
     let mut said = (false, false);
     let book = reported(rt.alloc(), ledger(rt, settings()), &mut said);

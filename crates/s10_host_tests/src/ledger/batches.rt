@@ -110,8 +110,8 @@ fn ends<B: GroupCommit>(
     }
 }
 
-// Returns the book, whether a batch or turn ends as expected for a failed commit, and whether the
-// next one over the same datagrams sends all replies.
+// Returns the book, and whether a batch or turn ends as expected for a failed commit. Also returns
+// whether the next one, over the same datagrams, sends all replies.
 fn ends_over<B: GroupCommit>(
     alloc: Global,
     book: B,
@@ -140,8 +140,8 @@ fn ends_tripping<B: GroupCommit>(
     (book.into_inner(), ends)
 }
 
-// Returns for how many of the first 20 calls of the book a failure withholds the replies, or `None`
-// if one of these replies is not sent afterwards.
+// Returns for how many of the first 20 calls of the book a failure withholds the replies. Returns
+// `None` if one of these replies is not sent afterwards.
 fn waits<R: Abort + AllocGlobal>(rt: &R, cases: (&Case, &Case), in_batch: bool) -> Option<u32> {
     let mut count: u32 = 0;
     for at in 0..20u64 {

@@ -44,8 +44,8 @@ pub(crate) enum Read {
 /// No reads.
 const UNREAD: &'static [Read] = &[];
 
-/// What is found in a book after steps: the index of the first step with a wrong answer, the index
-/// of the first wrong read, the number of calls, the day of the last, and the settings.
+/// What is found in a book: the index of the first step with a wrong answer and of the first wrong
+/// read, the number of calls, the day of the last, and the settings.
 pub(crate) type Found = (Option<usize>, Option<usize>, u32, u32, Settings);
 
 fn found<B: Book>(book: &mut B, steps: &[Step], reads: &[Read]) -> Found {

@@ -85,8 +85,8 @@ fn pending_calls_are_committed_by_the_first_beyond_the_maximum(rt: HostRuntime) 
 
 const REPEATED: &'static [Step] = &[(7, 1, Asked::Draw, 20001, Answered::Drawn(20000, 1))];
 
-/// Returns whether three Draws are kept and the pending second one is repeated, the number of calls
-/// of the ledger, and the number found after it is closed without a commit.
+/// Returns whether three Draws are kept and the pending second one is repeated. Also returns the
+/// number of calls of the ledger, and the number found after it is closed without a commit.
 fn repeated<R: Abort + AllocGlobal>(rt: &R) -> (bool, u32, Option<u32>) {
     let (mut book, is_kept) = kept(rt, 3);
     let is_repeated = first_unlike_in(&mut book, REPEATED).is_none();

@@ -56,9 +56,8 @@ const LAST_ISSUE: Issue = Issue {
     number: 10_000,
 };
 
-/// What is found after the Grant and the Draws: the index of the first step with a wrong answer,
-/// the first serial that is not given in order, the issue of the last Draw, and the number of
-/// calls.
+/// What is found after the Grant and the Draws: the index of a wrong answer to the Grant, the first
+/// serial that is not given in order, the last issue, and the number of calls.
 type Drawn = (
     Option<usize>,
     Option<u32>,

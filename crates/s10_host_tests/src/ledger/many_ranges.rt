@@ -20,7 +20,7 @@ fn answer_alike<A: Book, B: Book>(one: &mut A, other: &mut B, request: &Request)
     answer(one, request, 20000) == answer(other, request, 20000)
 }
 
-// Returns whether both books give the same answers to Grants of one to ten serials, whose first
+// Returns whether both books give the same answers to Grants of one to ten serials. Their first
 // serials advance in steps of seventy and wrap around.
 fn grants_are_alike<A: Book, B: Book>(one: &mut A, other: &mut B, grants: u32) -> bool
     requires { grants ≤ 1000 }

@@ -33,9 +33,9 @@ pub(crate) fn first_unshown(
     Ok(None)
 }
 
-/// What is found in a database: the result of an opening, whether a second opening has the same
-/// result, how many tables there are then and whether one is that of closed ranges, and the index
-/// of the first query that shows other rows, if any.
+/// What is left of a database: the result of an opening, and whether a second opening has the same
+/// result. Then the number of tables, whether one is that of closed ranges, and the index of the
+/// first query that shows other rows, if any.
 pub(crate) type Left = (
     Result<LedgerSummary, OpenFault>,
     bool,

@@ -126,8 +126,8 @@ fn server_replied(frames: &[Frame]) -> bool {
     frames.len() == REPLIED.len()
 }
 
-// Returns whether each client's request was submitted, whether the replies to the post and to the
-// first client were accepted, and whether the server sent its replies.
+// Returns whether each client's request was submitted, whether the post and the first client
+// accepted their replies, and whether the server sent its replies.
 fn seen<B: Book>(world: &World<B>, replies: &[Reply; 3]) -> [bool; 3] {
     let [granted, first, second] = replies;
     let submitted = [

@@ -95,8 +95,8 @@ fn answers_alike<B: Book>(
     Some(true)
 }
 
-// Returns whether a run equals that of another server without the faulted deliveries, or `None` if
-// there is no run or the other server is refused memory.
+// Returns whether a run equals that of another server without the faulted deliveries. Returns
+// `None` if there is no run, or if the other server is refused memory.
 fn is_run_of_others<B: Book>(
     alloc: Global,
     server: &mut Server<B>,

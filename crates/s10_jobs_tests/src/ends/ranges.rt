@@ -163,7 +163,7 @@ const REFUSALS: &'static [Part] = &[(
             b"S1\x01\x03\0\0\0\0\0\0\0\x05RA000000005GB",
             Reply(b"S1\x01\x83\0\0\0\0\0\0\0\x05RA000000005GB\x06"),
         ),
-        // Customer 7 voids an identifier that was not issued and one that is not its own, and draws
+        // Customer 7 voids an identifier that was not issued, and one that is not its own. It draws
         // of a service in which it has no range.
         (
             20000,

@@ -67,9 +67,9 @@ fn has_its_history(alloc: Global, world: World<PlainBook>, events: &[Event]) -> 
     }
 }
 
-// checks/refused_memory.sh refuses each request for memory in turn; without it none is refused.
-// Either the event that was refused memory and those after it have no effect, or the delivery for
-// which the book had no memory counts as lost.
+// checks/refused_memory.sh refuses each request for memory in turn; without it none is refused. If
+// an event is refused memory, it and those after it have no effect. If the book is refused memory
+// for a delivery, the delivery counts as lost.
 #[test]
 fn a_refused_request_for_memory_leaves_a_run_of_the_other_events(rt: HostRuntime) {
     let events = events_of(STORY);

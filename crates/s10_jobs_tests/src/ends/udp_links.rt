@@ -58,8 +58,8 @@ fn datagrams_pass_over_loopback(rt: HostRuntime) {
     assert!(rt; has_counted(&near, &far, frame, packet));
 }
 
-/// Returns whether receives that do not wait give the frame after it was sent and otherwise
-/// nothing, and a receive that waits gives the next one.
+/// Returns whether receives that do not wait give the frame only after it was sent, and a receive
+/// that waits gives the next one.
 fn takes_what_has_come(
     from: &mut UdpLink,
     to: &mut UdpLink,

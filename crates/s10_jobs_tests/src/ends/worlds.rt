@@ -134,7 +134,7 @@ fn accepted_agree<B: Book + Drop>(alloc: Global, world: World<B>) -> Result<bool
     Ok(agree(&mut book, &submitted, &accepted))
 }
 
-/// Returns how many replies a world of this book sends, or `None` if these are four and the
+/// Returns how many replies a world of this book sends. Returns `None` if these are four and the
 /// accepted replies do not agree with the history.
 fn replies_that_agree<B: Book + Drop>(alloc: Global, book: B) -> Option<usize> {
     let world = world_after(alloc, book, STORY)?;

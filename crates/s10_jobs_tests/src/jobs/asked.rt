@@ -89,8 +89,8 @@ fn a_receive_that_fails_is_printed(rt: HostRuntime) {
     assert!(rt; is_asked_once(rt.alloc(), receipts, &[true], JobStatus::Failed, line));
 }
 
-/// What the receives give to a call with a reply in the first try, and to one with a reply in the
-/// second, and the status and the line of both.
+/// What the receives give if the reply arrives in the first try, what they give if it arrives in
+/// the second, and the status and the line of both calls.
 type Answered = (&'static [Meets], &'static [Meets], JobStatus, &'static str);
 
 const ANSWERS: &[Answered] = &[

@@ -65,9 +65,9 @@ dropped length
 
 #[test]
 fn no_identifier_is_issued_from_a_withdrawn_range(rt: HostRuntime) {
-    // A draw, the withdrawal of range 1, and 400 days later: a draw, a sheet, the first draw again,
-    // a void and a query of its identifier, a grant of the last of its serials, a grant of serial
-    // 4, and a draw from range 2.
+    // A draw and the withdrawal of range 1. Then, 400 days later: a draw, a sheet, the first draw
+    // again, and a void and a query of its identifier. At last a grant that overlaps range 1, a
+    // grant of serial 4, and a draw from range 2.
     let is_replayed = is_replayed(
         rt.alloc(),
         b"20000 53310101000000000000000100000007524147420000000000000002

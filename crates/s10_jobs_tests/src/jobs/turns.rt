@@ -266,8 +266,8 @@ const OTHER: Peer = Peer {
     port: 40_123,
 };
 
-/// Datagrams of two senders, three of which are no requests, with a grant, a quiet turn and a
-/// failure between them.
+/// Nothing, then datagrams of two senders: three are no requests, one is a grant, and a receive
+/// fails before the last.
 const THREE_DROPPED: &[Meets] = &[
     Meets::Nothing,
     Meets::Bytes(OTHER, b"S1"),
@@ -383,8 +383,8 @@ fn has_beginning(out: Hiccup, room: usize) -> bool {
     out.bytes.len() == room && SEVEN_LINES.starts_with(out.bytes.as_slice())
 }
 
-/// Returns whether the turns of a server end when a line cannot be written whole, and the writer
-/// has exactly the first `room` bytes of the lines.
+/// Returns whether the turns of a server fail at a line that cannot be written whole. The writer
+/// must have exactly the first `room` bytes of the lines then.
 fn end_where_unwritten<R: Clock + Eprint, B: GroupCommit, L: Link>(
     alloc: Global,
     rt: &R,
@@ -397,8 +397,8 @@ fn end_where_unwritten<R: Clock + Eprint, B: GroupCommit, L: Link>(
     has_beginning(out, room) && served == Err(WriteFault)
 }
 
-/// Returns whether the turns end at the line that cannot be written whole, and the book has the
-/// calls up to the end of its batch.
+/// Returns whether the turns end at a line that cannot be written whole. The book must have the
+/// calls up to the end of the batch of that line.
 fn ends_unwritten<R: Clock + Eprint>(alloc: Global, rt: &R, room: usize) -> bool {
     let Ok(mut link) = link_of(alloc, SEVEN, THREE_SENDS) else {
         return false;
