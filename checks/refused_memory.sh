@@ -32,7 +32,7 @@ refuse_each s10_jobs_tests \
     ends::memory::a_run_with_ample_memory_faults_nothing
 refuse_each s10_jobs_tests \
     ends::refused_worlds::a_refused_request_for_memory_leaves_a_run_of_the_other_events \
-    ends::worlds::each_call_is_executed_once_and_answered_to_its_own_client
+    ends::worlds::each_call_is_executed_once_and_its_reply_accepted_by_its_own_client
 refuse_each s10_book_tests \
     book::nine::a_retry_succeeds_after_a_failed_allocation \
     book::nine::nine_calls_with_ample_memory_are_kept_at_once

@@ -16,7 +16,7 @@ mod rows;
 mod sheet_tables;
 mod sheets;
 mod stops;
+mod table_checks;
 mod tables;
-mod verdicts;
 mod withdrawals;
 mod world;

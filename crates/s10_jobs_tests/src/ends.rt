@@ -1,6 +1,5 @@
 //! Tests of the server, the client and the links between them, and of both ends in one world.
 
-mod answered;
 mod batches;
 mod calls;
 mod clients;
@@ -17,6 +16,7 @@ mod refused_worlds;
 mod repeats;
 mod scripts;
 mod story;
+mod turn_ends;
 mod turns;
 mod udp_links;
 mod withdrawals;

@@ -1,8 +1,8 @@
 //! Tests of jobs: calls, reports, turns and their lines.
 
-mod asked;
 mod hiccup;
 mod many_lines;
+mod questions;
 mod refusing;
 mod replays;
 mod reports;

@@ -53,7 +53,7 @@ const FULL_LEDGER: &'static [Step] = &[
 
 const DRAWS_AND_VOIDS: &'static [(&'static str, &'static [Step])] = &[
     (
-        "the interval ends on its thirtieth day; a repeat is not executed and moves no day",
+        "the interval ends on its thirtieth day; a repeat is not executed and changes no day",
         INTERVAL,
     ),
     ("a day that falls counts as the last one", FALLING_DAY),
@@ -66,7 +66,12 @@ const DRAWS_AND_VOIDS: &'static [(&'static str, &'static [Step])] = &[
 #[test]
 fn draws_and_voids_are_answered_as_worked_by_hand(rt: HostRuntime) {
     all_are_answered(&rt, DRAWS_AND_VOIDS);
-    are_answered(&rt, "a full ledger answers what it kept", 3, FULL_LEDGER);
+    are_answered(
+        &rt,
+        "a full ledger repeats its kept replies",
+        3,
+        FULL_LEDGER,
+    );
 }
 
 /// Ranges have no serial in common, and a draw gives only serials of the customer's own ranges.
@@ -173,7 +178,7 @@ const SHEET_OF_SIXTEEN: &'static [Step] = &[
     (7, 3, DrawMany(16), 20030, DrawnMany(20030, (1, 16), (0, 1))),
 ];
 
-const LARGER_DRAWS: &'static [(&'static str, &'static [Step])] = &[
+const SHEETS: &'static [(&'static str, &'static [Step])] = &[
     (
         "all that are asked for or none, and nothing is issued for none",
         ALL_OR_NONE,
@@ -182,13 +187,10 @@ const LARGER_DRAWS: &'static [(&'static str, &'static [Step])] = &[
         "one range after the other, and no more than they have",
         RANGE_AFTER_RANGE,
     ),
-    (
-        "a sheet of sixteen, and one that goes pass",
-        SHEET_OF_SIXTEEN,
-    ),
+    ("a sheet of sixteen wraps around", SHEET_OF_SIXTEEN),
 ];
 
 #[test]
-fn larger_draws_are_answered_as_worked_by_hand(rt: HostRuntime) {
-    all_are_answered(&rt, LARGER_DRAWS);
+fn sheets_are_answered_as_worked_by_hand(rt: HostRuntime) {
+    all_are_answered(&rt, SHEETS);
 }

@@ -301,7 +301,7 @@ pub(crate) fn empty_book(alloc: Global, limit: u32) -> PlainBook
 }
 
 /// Executes the steps and returns the index of the first whose answer differs from its row, if any.
-pub(crate) fn first_unlike<B: Book>(book: &mut B, steps: &[Step]) -> Option<usize> {
+pub(crate) fn first_wrong_step<B: Book>(book: &mut B, steps: &[Step]) -> Option<usize> {
     for (place, (customer, number, asked, day, answered)) in steps.iter().enumerate() {
         let request = request(*customer, *number, *asked);
         if !is_as_answered(&answer(book, &request, *day), answered) {
@@ -312,8 +312,8 @@ pub(crate) fn first_unlike<B: Book>(book: &mut B, steps: &[Step]) -> Option<usiz
 }
 
 /// Asserts that the book answers each step as its row says.
-pub(crate) fn go_on(rt: &impl Abort, name: &str, book: &mut PlainBook, steps: &[Step]) {
-    same(rt, &name, &first_unlike(book, steps), &None);
+pub(crate) fn execute_steps(rt: &impl Abort, name: &str, book: &mut PlainBook, steps: &[Step]) {
+    same(rt, &name, &first_wrong_step(book, steps), &None);
 }
 
 /// Returns a book with an interval of 30 days after these steps.
@@ -322,7 +322,7 @@ fn book_of<R: Abort + AllocGlobal>(rt: &R, name: &str, limit: u32, steps: &[Step
     requires most { limit ≤ 100 }
 {
     let mut book = empty_book(rt.alloc(), limit);
-    go_on(rt, name, &mut book, steps);
+    execute_steps(rt, name, &mut book, steps);
     book
 }
 

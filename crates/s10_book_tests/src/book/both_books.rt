@@ -32,7 +32,7 @@ fn reports<B: Book>(alloc: Global, book: &mut B, day: u32) -> Result<Vec<u8>, Re
 }
 
 /// Returns the first of the days on which the reports of the books differ, if any.
-fn first_day_unlike<A: Book, B: Book>(
+fn first_different_day<A: Book, B: Book>(
     alloc: Global,
     one: &mut A,
     other: &mut B,
@@ -48,7 +48,7 @@ fn first_day_unlike<A: Book, B: Book>(
 
 /// Returns the first number up to `last` at which the books have different calls, or a range that
 /// is closed in only one of them. Returns 0 if the books differ in length or day.
-fn first_call_unlike<A: Book, B: Book>(one: &mut A, other: &mut B, last: u32) -> Option<u32> {
+fn first_different_call<A: Book, B: Book>(one: &mut A, other: &mut B, last: u32) -> Option<u32> {
     if one.len() != other.len() || one.day() != other.day() {
         return Some(0);
     }
@@ -68,12 +68,12 @@ fn unlike<A: Book + Drop, B: Book + Drop>(
     last: u32,
     days: &[u32],
 ) -> (Option<u32>, Result<Option<u32>, ReportFault>) {
-    let call = first_call_unlike(&mut one, &mut other, last);
-    (call, first_day_unlike(alloc, &mut one, &mut other, days))
+    let call = first_different_call(&mut one, &mut other, last);
+    (call, first_different_day(alloc, &mut one, &mut other, days))
 }
 
 /// Asserts that two books have equal calls up to number `last` and equal reports on these days.
-pub(crate) fn are_alike<R: Abort + AllocGlobal, A: Book + Drop, B: Book + Drop>(
+pub(crate) fn have_equal_calls_and_reports<R: Abort + AllocGlobal, A: Book + Drop, B: Book + Drop>(
     rt: &R,
     one: A,
     other: B,

@@ -32,7 +32,7 @@ fn fails_once(alloc: Global, at: u64) -> bool {
 
 /// Executes a step, and again if the store failed. Returns whether the answer is that of its row,
 /// and whether the store failed.
-fn is_answered_at_last<B: Book>(book: &mut B, step: &Step) -> (bool, bool) {
+fn is_answered_after_retry<B: Book>(book: &mut B, step: &Step) -> (bool, bool) {
     let (customer, number, asked, day, answered) = *step;
     let request = request(customer, number, asked);
     let first = answer(book, &request, day);
@@ -48,10 +48,10 @@ fn is_answered_at_last<B: Book>(book: &mut B, step: &Step) -> (bool, bool) {
 
 /// Executes the steps, each again if the store failed. Returns the number of failures, or `None` if
 /// an answer or the number of kept calls is wrong.
-fn failures_made_good<B: Book + Drop>(mut book: B, steps: &[Step]) -> Option<u32> {
+fn failures_retried<B: Book + Drop>(mut book: B, steps: &[Step]) -> Option<u32> {
     let mut failures: u32 = 0;
     for step in steps {
-        let (right, failed) = is_answered_at_last(&mut book, step);
+        let (right, failed) = is_answered_after_retry(&mut book, step);
         if !right {
             return None;
         }
@@ -70,7 +70,7 @@ fn failures_made_good<B: Book + Drop>(mut book: B, steps: &[Step]) -> Option<u32
 /// once, and a failure at the next call never occurs.
 fn make(alloc: Global, steps: &[Step], calls: u64) -> bool {
     for at in 0..=calls {
-        let failures = failures_made_good(failing_book(alloc, at), steps);
+        let failures = failures_retried(failing_book(alloc, at), steps);
         if failures != Some(u32::from(at < calls)) {
             return false;
         }

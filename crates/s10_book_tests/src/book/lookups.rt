@@ -33,7 +33,7 @@ fn have_next(rt: &impl Abort, ranges: &Ranges, wanted: &[(u32, u32, u32)]) {
 
 /// Asserts that the range of least number with a serial from `first` to `last` is range `want`, 0
 /// for none.
-fn has_over(
+fn has_covering(
     rt: &impl Abort,
     ranges: &Ranges,
     letters: [u8; 2],
@@ -99,7 +99,7 @@ fn closed_ranges_are_found_by_number_and_by_serials(rt: HostRuntime) {
     let ranges = three_closed(&rt);
     are_numbered(&rt, &ranges);
     are_closed(&rt, &ranges);
-    are_over(&rt, &ranges);
+    are_covering(&rt, &ranges);
 }
 
 /// Customer, number after which to look, and number of the next open range, 0 for none.
@@ -117,12 +117,12 @@ const NEXT_OPEN: &[(u32, u32, u32)] = &[
 ];
 
 #[test]
-fn open_ranges_alone_are_found_by_holder(rt: HostRuntime) {
+fn only_open_ranges_are_found_by_holder(rt: HostRuntime) {
     have_next(&rt, &three_closed(&rt), NEXT_OPEN);
 }
 
 /// First and last serial to look for, and number of the range, 0 for none.
-const OVER: &[(u32, u32, u32)] = &[
+const COVERING: &[(u32, u32, u32)] = &[
     (10, 10, 2),
     (19, 19, 2),
     (9, 9, 0),
@@ -141,33 +141,33 @@ const OVER: &[(u32, u32, u32)] = &[
     (29, 19, 0),
 ];
 
-/// Asserts that the ranges of RA GB are found by their serials, as `OVER` says.
-fn are_over(rt: &impl Abort, ranges: &Ranges) {
-    for (first, last, want) in OVER {
-        has_over(rt, ranges, *b"RA", *b"GB", *first, *last, *want);
+/// Asserts that the ranges of RA GB are found by their serials, as `COVERING` says.
+fn are_covering(rt: &impl Abort, ranges: &Ranges) {
+    for (first, last, want) in COVERING {
+        has_covering(rt, ranges, *b"RA", *b"GB", *first, *last, *want);
     }
 }
 
 #[test]
-fn of_ranges_over_the_same_serials_the_one_of_least_number_is_found(rt: HostRuntime) {
-    are_over(&rt, &all_granted(&rt));
+fn the_range_of_least_number_covering_a_span_is_found(rt: HostRuntime) {
+    are_covering(&rt, &all_granted(&rt));
 }
 
 #[test]
 fn ranges_of_another_service_or_country_are_not_found(rt: HostRuntime) {
     let ranges = all_granted(&rt);
-    has_over(&rt, &ranges, *b"RB", *b"GB", 0, 99, 7);
-    has_over(&rt, &ranges, *b"RC", *b"GB", 0, 99, 0);
-    has_over(&rt, &ranges, *b"RA", *b"US", 0, 99, 0);
+    has_covering(&rt, &ranges, *b"RB", *b"GB", 0, 99, 7);
+    has_covering(&rt, &ranges, *b"RC", *b"GB", 0, 99, 0);
+    has_covering(&rt, &ranges, *b"RA", *b"US", 0, 99, 0);
 }
 
 #[test]
-fn in_no_ranges_none_is_found(rt: HostRuntime) {
+fn no_range_is_found_without_ranges(rt: HostRuntime) {
     let ranges = Ranges::new(rt.alloc());
     assert!(rt; ranges.range_by_number(1).is_none());
     assert!(rt; !ranges.is_closed(1));
     has_next(&rt, &ranges, 7, 0, 0);
-    has_over(&rt, &ranges, *b"RA", *b"GB", 0, 99_999_999, 0);
+    has_covering(&rt, &ranges, *b"RA", *b"GB", 0, 99_999_999, 0);
 }
 
 /// Asserts that after this Grant there is no range 8.

@@ -3,7 +3,7 @@
 ghost use Rattle.std.specs.Prelude.{◌≤◌, ◌<◌};
 
 use crate::book::books::{Asked, answer, request};
-use crate::book::both_books::{are_alike, indexed_book, plain_book};
+use crate::book::both_books::{have_equal_calls_and_reports, indexed_book, plain_book};
 use crate::expect::same;
 use s10_book::Book;
 use s10_wire::{Outcome, Request};
@@ -16,10 +16,10 @@ const NUMBERS: [u32; 12] = [0, 1, 2, 3, 4, 5, 6, 7, 3, 8, 9, 4];
 
 // Customers 1 to 4 draw in rotation. The other calls are by the post, by holders of ranges, or by
 // any customer.
-fn customer(pass: u32, lap: usize) -> u32
+fn customer(pass: u32, call: usize) -> u32
     requires { pass ≤ 1000 }
 {
-    match lap {
+    match call {
         1 => 1 + (pass + 1) % 4,
         2 => 1 + (pass + 2) % 4,
         3 | 8 | 9 => 1 + (pass + 3) % 4,
@@ -38,12 +38,12 @@ fn customer(pass: u32, lap: usize) -> u32
 // Call 9 draws a sheet of two. Call 10 withdraws range 0, which does not exist, in the first four
 // passes, range 1 in the next four, and so on; customer 1 asks in the second of each four,
 // otherwise the post. All other calls are Draws.
-fn asked(pass: u32, lap: usize) -> Asked
+fn asked(pass: u32, call: usize) -> Asked
     requires { pass ≤ 1000 }
 {
     let slot = pass % 12;
     let serial = 4 * (pass * 5 % 12) + pass % 3;
-    match lap {
+    match call {
         0 => Asked::Grant(1 + slot % 3, 4 * slot, 4 * slot + 2),
         4 => Asked::Void(serial),
         5 => Asked::Query(serial),
@@ -80,10 +80,10 @@ fn kind(outcome: &Outcome) -> usize
 }
 
 // The day rises by five in four passes. Call 2 of each pass has an earlier day.
-fn day(pass: u32, lap: usize) -> u32
+fn day(pass: u32, call: usize) -> u32
     requires { pass ≤ 1000 }
 {
-    if lap == 2 {
+    if call == 2 {
         19_000
     } else {
         20_000 + pass * 5 / 4
@@ -92,7 +92,7 @@ fn day(pass: u32, lap: usize) -> u32
 
 // Executes a request on both books and records the kind of its outcome. Returns whether both give
 // the same outcome and none fails.
-fn turn_is_alike<A: Book, B: Book>(
+fn answers_are_equal<A: Book, B: Book>(
     one: &mut A,
     other: &mut B,
     request: &Request,
@@ -121,10 +121,10 @@ fn pass_agrees<A: Book, B: Book>(
 ) -> bool
     requires { pass ≤ 1000 }
 {
-    for (lap, number) in NUMBERS.iter().enumerate() {
+    for (call, number) in NUMBERS.iter().enumerate() {
         let number = number.saturating_add(10 * pass);
-        let request = request(customer(pass, lap), number, asked(pass, lap));
-        if !turn_is_alike(one, other, &request, day(pass, lap), seen) {
+        let request = request(customer(pass, call), number, asked(pass, call));
+        if !answers_are_equal(one, other, &request, day(pass, call), seen) {
             return false;
         }
     }
@@ -143,10 +143,10 @@ fn passes_agree<A: Book, B: Book>(one: &mut A, other: &mut B) -> (u32, [bool; 17
 }
 
 #[test]
-fn both_books_answer_mixed_calls_alike(rt: HostRuntime) {
+fn both_books_give_equal_answers_to_mixed_calls(rt: HostRuntime) {
     let mut plain = plain_book(rt.alloc());
     let mut indexed = indexed_book(rt.alloc());
     let alike = passes_agree(&mut plain, &mut indexed);
-    same(&rt, &"rounds", &alike, &(PASSES, [true; 17]));
-    are_alike(&rt, plain, indexed, 12 * PASSES, &[20_100]);
+    same(&rt, &"passes", &alike, &(PASSES, [true; 17]));
+    have_equal_calls_and_reports(&rt, plain, indexed, 12 * PASSES, &[20_100]);
 }

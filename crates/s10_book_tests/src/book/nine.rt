@@ -1,9 +1,9 @@
 //! The nine calls over the book with an index and the book without.
 
 use crate::book::books::{
-    Answered, Asked, NINE_CALLS, Step, answer, first_unlike, is_as_answered, request,
+    Answered, Asked, NINE_CALLS, Step, answer, first_wrong_step, is_as_answered, request,
 };
-use crate::book::both_books::{are_alike, indexed_book, plain_book};
+use crate::book::both_books::{have_equal_calls_and_reports, indexed_book, plain_book};
 use crate::expect::same;
 use s10_book::Book;
 use s10_wire::Status;
@@ -11,7 +11,7 @@ use s10_wire::Status;
 /// Executes the nine calls. Returns the index of the first whose answer differs from its row, if
 /// any, and the number of kept calls.
 fn nine_calls_of<B: Book>(book: &mut B) -> (Option<usize>, u32) {
-    (first_unlike(book, NINE_CALLS), book.len())
+    (first_wrong_step(book, NINE_CALLS), book.len())
 }
 
 /// The same for a new book.
@@ -28,7 +28,7 @@ fn nine_calls_are_answered_as_worked_by_hand(rt: HostRuntime) {
     let mut indexed = indexed_book(rt.alloc());
     let found = (nine_calls_of(&mut plain), nine_calls_of(&mut indexed));
     same(&rt, &"answers", &found, &((None, 9), (None, 9)));
-    are_alike(&rt, plain, indexed, 10, DAYS);
+    have_equal_calls_and_reports(&rt, plain, indexed, 10, DAYS);
 }
 
 /// Queries by the post on day 20030, with the status of each serial.
@@ -67,7 +67,7 @@ const REPORTED: &[Step] = &[
 /// the index of the first Query whose answer differs from its row, if any.
 fn reported_after_nine_calls<B: Book + Drop>(mut book: B) -> ((Option<usize>, u32), Option<usize>) {
     let found = nine_calls_of(&mut book);
-    (found, first_unlike(&mut book, REPORTED))
+    (found, first_wrong_step(&mut book, REPORTED))
 }
 
 #[test]
@@ -84,7 +84,7 @@ fn nine_calls_with_ample_memory_are_kept_at_once(rt: HostRuntime) {
 
 /// Executes a step, and again if it failed and no call was kept. Returns whether the answer is that
 /// of its row.
-fn is_right_at_last<B: Book>(book: &mut B, step: &Step) -> bool {
+fn is_right_after_retry<B: Book>(book: &mut B, step: &Step) -> bool {
     let (customer, number, asked, day, answered) = step;
     let request = request(*customer, *number, *asked);
     let kept = book.len();
@@ -97,9 +97,9 @@ fn is_right_at_last<B: Book>(book: &mut B, step: &Step) -> bool {
 
 /// Executes the nine calls, each again if it failed. Returns the index of the first whose answer
 /// differs from its row, if any, and the number of kept calls.
-fn nine_calls_at_last<B: Book + Drop>(mut book: B) -> (Option<usize>, u32) {
+fn nine_calls_with_retries<B: Book + Drop>(mut book: B) -> (Option<usize>, u32) {
     for (place, step) in NINE_CALLS.iter().enumerate() {
-        if !is_right_at_last(&mut book, step) {
+        if !is_right_after_retry(&mut book, step) {
             return (Some(place), book.len());
         }
     }
@@ -108,6 +108,6 @@ fn nine_calls_at_last<B: Book + Drop>(mut book: B) -> (Option<usize>, u32) {
 
 #[test]
 fn a_retry_succeeds_after_a_failed_allocation(rt: HostRuntime) {
-    let found = nine_calls_at_last(indexed_book(rt.alloc()));
+    let found = nine_calls_with_retries(indexed_book(rt.alloc()));
     same(&rt, &"at last", &found, &(None, 9));
 }

@@ -17,7 +17,7 @@ fn range(first: u32, last: u32) -> Range {
 
 /// Returns the serial `count` after `from`, if `from` is in the range and `count` is below its
 /// size.
-fn behind(first: u32, last: u32, from: u32, count: u8) -> Option<u32> {
+fn serial_after(first: u32, last: u32, from: u32, count: u8) -> Option<u32> {
     let range = range(first, last);
     let from = serial(from);
     let is_own = range.first.value() <= from.value() && from.value() <= range.last.value();
@@ -64,7 +64,7 @@ const AFTER: &[(u32, u32, u32, u8, u32)] = &[
 #[test]
 fn after_its_last_serial_a_range_gives_its_first(rt: HostRuntime) {
     for (first, last, from, count, serial) in AFTER {
-        let found = behind(*first, *last, *from, *count);
+        let found = serial_after(*first, *last, *from, *count);
         same(&rt, &(first, last, from, count), &found, &Some(*serial));
     }
 }

@@ -1,7 +1,7 @@
 //! Reads of a book.
 
 use crate::book::books::{
-    Asked, SIX_CALLS, THREE_MORE, book_after, gb, go_on, id, ra, request, serial,
+    Asked, SIX_CALLS, THREE_MORE, book_after, execute_steps, gb, id, ra, request, serial,
 };
 use s10_book::{Book, PlainBook};
 use s10_history::{Candidate, Entry, HolderKey, Issuance, Issue, Range, SerialSpan, Usage};
@@ -91,7 +91,7 @@ fn has_one_range(book: &mut PlainBook) -> bool {
 }
 
 /// Returns whether this is the range found by these serials.
-fn has_over(book: &mut PlainBook, first: u32, last: u32, range: Option<Range>) -> bool {
+fn has_covering(book: &mut PlainBook, first: u32, last: u32, range: Option<Range>) -> bool {
     let span = SerialSpan {
         service: ra(),
         country: gb(),
@@ -135,9 +135,9 @@ fn calls_are_read(rt: &impl Abort, book: &mut PlainBook) {
 
 /// The last of the nine calls issued serial 1 again, and serial 2 is next.
 fn ranges_are_read(rt: &impl Abort, book: &mut PlainBook) {
-    assert!(rt; has_over(book, 2, 5, Some(first_range())));
-    assert!(rt; has_over(book, 3, 5, None));
-    assert!(rt; has_over(book, 2, 1, None));
+    assert!(rt; has_covering(book, 2, 5, Some(first_range())));
+    assert!(rt; has_covering(book, 3, 5, None));
+    assert!(rt; has_covering(book, 2, 1, None));
     assert!(rt; has_one_range(book));
     assert!(rt; was_last_issued(book, issue(20030, false, 8)));
     assert!(rt; gives_next(book, 2, issue(20000, false, 5)));
@@ -159,7 +159,7 @@ fn nine_calls_are_read(rt: &impl Abort, mut book: PlainBook) {
 fn reads_answer_from_the_kept_calls(rt: HostRuntime) {
     let mut book = book_after(&rt, "six calls", SIX_CALLS);
     six_calls_are_read(&rt, &mut book);
-    go_on(&rt, "three more", &mut book, THREE_MORE);
+    execute_steps(&rt, "three more", &mut book, THREE_MORE);
     nine_calls_are_read(&rt, book);
 }
 
@@ -175,22 +175,22 @@ fn sixth_issue() -> Issuance {
 }
 
 /// Returns whether this call, as number 6, issued only this.
-fn made_one(entry: &Entry, issuance: Issuance) -> bool {
+fn issued_one(entry: &Entry, issuance: Issuance) -> bool {
     entry.issued() == 1 && entry.issue(6, 0) == Some(issuance) && entry.issue(6, 1).is_none()
 }
 
 /// Returns whether this call, as number 6, issued nothing.
-fn made_none(entry: &Entry) -> bool {
+fn issued_none(entry: &Entry) -> bool {
     entry.issued() == 0 && entry.issue(6, 0).is_none()
 }
 
 #[test]
-fn a_done_draw_made_one_issue_and_a_refused_one_none(rt: HostRuntime) {
+fn a_done_draw_issues_once_and_a_refused_one_never(rt: HostRuntime) {
     let drawn = sixth();
     let refused = Entry {
         outcome: Outcome::NoneFree,
         ..drawn
     };
-    assert!(rt; made_one(&drawn, sixth_issue()));
-    assert!(rt; made_none(&refused));
+    assert!(rt; issued_one(&drawn, sixth_issue()));
+    assert!(rt; issued_none(&refused));
 }

@@ -127,7 +127,7 @@ fn the_line_of_a_closed_range_says_so(rt: HostRuntime) {
 }
 
 #[test]
-fn an_empty_ledger_has_headers_alone(rt: HostRuntime) {
+fn an_empty_ledger_has_only_headers(rt: HostRuntime) {
     are_reported(&rt, "empty", &[], &[(Some(20000), NO_RANGES)]);
     are_reported(&rt, "one grant", &[OPENING], &[(None, NO_ISSUES)]);
 }
@@ -146,7 +146,7 @@ fn stops<B: Book + Drop>(alloc: Global, mut book: B, day: Option<u32>, whole: &[
 
 /// Returns the first call of the book, after the nine calls, whose failure does not stop the
 /// report. The report makes this number of calls.
-fn first_passed_over<R: Abort + AllocGlobal>(rt: &R, day: Option<u32>, whole: &[u8]) -> u64 {
+fn first_without_failure<R: Abort + AllocGlobal>(rt: &R, day: Option<u32>, whole: &[u8]) -> u64 {
     for at in 0..100u64 {
         let book = TripBook::new(book_after(rt, "nine calls", NINE_CALLS), at);
         if !stops(rt.alloc(), book, day, whole) {
@@ -159,11 +159,16 @@ fn first_passed_over<R: Abort + AllocGlobal>(rt: &R, day: Option<u32>, whole: &[
 // The report of the issues makes 14 calls of the book, and the report of the ranges makes 4.
 #[test]
 fn a_book_that_fails_leaves_whole_lines(rt: HostRuntime) {
-    same(&rt, &"issues", &first_passed_over(&rt, None, ISSUES), &14);
+    same(
+        &rt,
+        &"issues",
+        &first_without_failure(&rt, None, ISSUES),
+        &14,
+    );
     same(
         &rt,
         &"ranges",
-        &first_passed_over(&rt, Some(20030), RANGES),
+        &first_without_failure(&rt, Some(20030), RANGES),
         &4,
     );
 }
@@ -215,7 +220,7 @@ fn has_text(alloc: Global, fault: &ReportFault, text: &str) -> bool {
 }
 
 #[test]
-fn a_writer_that_fails_once_has_got_the_beginning_of_the_report(rt: HostRuntime) {
+fn a_writer_that_fails_once_has_the_beginning_of_the_report(rt: HostRuntime) {
     let book = book_after(&rt, "nine calls", NINE_CALLS);
     are_cut(&rt, book, &[(None, ISSUES), (Some(20030), RANGES)]);
     for (fault, text) in TEXTS {

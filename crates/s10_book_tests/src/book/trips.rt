@@ -26,7 +26,7 @@ enum Read {
 #[derive(Clone, Copy)]
 enum Question {
     Read(Read),
-    GroupCommit,
+    Commit,
     /// The outcome of a Draw: reads the customer's range and its candidate.
     Candidate,
     /// The identifiers of a sheet of one: reads the customer's range and its first pick.
@@ -49,7 +49,7 @@ const QUESTIONS: &[(&str, Question, u64)] = &[
     ("next range", Question::Read(Read::NextRange), 1),
     ("covering", Question::Read(Read::Covering), 1),
     ("last issue", Question::Read(Read::LastIssue), 1),
-    ("commit", Question::GroupCommit, 1),
+    ("commit", Question::Commit, 1),
     ("candidate", Question::Candidate, 2),
     ("sheet", Question::Sheet, 2),
     ("usage", Question::Usage, 3),
@@ -141,7 +141,7 @@ fn ask<B: GroupCommit>(
 ) -> Result<(), BookFault> {
     match question {
         Question::Read(read) => look_up(book, read, id),
-        Question::GroupCommit => book.commit(),
+        Question::Commit => book.commit(),
         Question::Candidate => decided(book, &asked(7, number, draw_of(id))),
         Question::Sheet => sheet_of_one(book, id),
         Question::Usage => report(alloc, book),
@@ -187,7 +187,7 @@ fn refused_at<R: Abort + AllocGlobal>(rt: &R, question: Question, at: u64) -> Op
 
 /// Returns the first call, counted from 0, whose failure does not show in the one question that
 /// makes it, if any. Each of the two questions makes n calls, and the third makes one.
-fn first_passed_over<R: Abort + AllocGlobal>(
+fn first_without_failure<R: Abort + AllocGlobal>(
     rt: &R,
     question: Question,
     calls: u64,
@@ -203,9 +203,9 @@ fn first_passed_over<R: Abort + AllocGlobal>(
 }
 
 #[test]
-fn each_call_of_the_book_is_counted_and_fails_in_its_turn(rt: HostRuntime) {
+fn a_trip_book_fails_only_at_its_call(rt: HostRuntime) {
     for (name, question, calls) in QUESTIONS {
-        let passed_over = first_passed_over(&rt, *question, *calls);
+        let passed_over = first_without_failure(&rt, *question, *calls);
         same(&rt, name, &passed_over, &None);
     }
 }

@@ -101,7 +101,7 @@ const OTHER_RANGES: &'static [Step] = &[
 
 const AFTER_A_WITHDRAWAL: &'static [(&'static str, &'static [Step])] = &[
     (
-        "what it gave is voided and told of as before",
+        "what it gave is voided and queried as before",
         VOIDED_AS_BEFORE,
     ),
     (
@@ -161,13 +161,13 @@ const DRAWS: &'static [(&'static str, &'static [Step])] = &[
         SHEET_OF_AN_OPEN_RANGE,
     ),
     (
-        "a sheet passes over a closed range between two others",
+        "a sheet skips a closed range between two others",
         SHEET_OVER_A_CLOSED_RANGE,
     ),
 ];
 
 #[test]
-fn draws_go_on_in_the_ranges_that_are_open(rt: HostRuntime) {
+fn draws_continue_in_the_open_ranges(rt: HostRuntime) {
     all_are_answered(&rt, DRAWS);
 }
 
@@ -196,7 +196,7 @@ fn has_open<B: Book>(book: &mut B, after: u32, num: Option<u32>) -> bool {
 }
 
 /// Returns whether the range that contains this serial has this number.
-fn has_over<B: Book>(book: &mut B, value: u32, num: Option<u32>) -> bool {
+fn has_covering<B: Book>(book: &mut B, value: u32, num: Option<u32>) -> bool {
     has_number(book.covering(&SerialSpan::of(&id(value))), num)
 }
 
@@ -219,11 +219,11 @@ fn open_ranges_are_next<B: Book>(rt: &impl Abort, book: &mut B) {
 }
 
 /// Serials, and the number of the range that contains each.
-const OVER: &[(u32, Option<u32>)] = &[(2, Some(1)), (4, Some(2)), (8, Some(3)), (7, None)];
+const COVERING: &[(u32, Option<u32>)] = &[(2, Some(1)), (4, Some(2)), (8, Some(3)), (7, None)];
 
-fn all_ranges_are_over_their_serials<B: Book>(rt: &impl Abort, book: &mut B) {
-    for (value, num) in OVER {
-        assert!(rt; has_over(book, *value, *num));
+fn all_ranges_cover_their_serials<B: Book>(rt: &impl Abort, book: &mut B) {
+    for (value, num) in COVERING {
+        assert!(rt; has_covering(book, *value, *num));
     }
 }
 
@@ -231,7 +231,7 @@ fn all_ranges_are_over_their_serials<B: Book>(rt: &impl Abort, book: &mut B) {
 fn second_is_closed<B: Book + Drop>(rt: &impl Abort, mut book: B) {
     are_closed_as_reported(rt, &mut book);
     open_ranges_are_next(rt, &mut book);
-    all_ranges_are_over_their_serials(rt, &mut book);
+    all_ranges_cover_their_serials(rt, &mut book);
 }
 
 /// The second of three ranges is closed. Refused Withdraws close none.
@@ -245,7 +245,7 @@ const SECOND_OF_THREE_CLOSED: &'static [Step] = &[
 ];
 
 #[test]
-fn a_draw_alone_passes_over_a_closed_range(rt: HostRuntime) {
+fn only_a_draw_skips_a_closed_range(rt: HostRuntime) {
     let book = book_after(
         &rt,
         "the second of three ranges is closed",

@@ -8,7 +8,7 @@ use s10_wire::{
 use std::process::Abort;
 
 /// Asserts that these bytes decode to the request, and that it encodes to these bytes.
-fn stand_for(rt: &impl Abort, bytes: &[u8], request: &Request) {
+fn are_encoded_request(rt: &impl Abort, bytes: &[u8], request: &Request) {
     same(rt, &bytes, &decode_request(bytes), &Ok(*request));
     same(rt, &bytes, &encode_request(request).bytes(), &bytes);
 }
@@ -16,12 +16,12 @@ fn stand_for(rt: &impl Abort, bytes: &[u8], request: &Request) {
 #[test]
 fn requests_decode_and_encode_to_the_same_bytes(rt: HostRuntime) {
     for (bytes, call) in requests() {
-        stand_for(&rt, bytes, &request(&rt, call));
+        are_encoded_request(&rt, bytes, &request(&rt, call));
     }
 }
 
 /// Asserts that these bytes decode to the reply, and that it encodes to these bytes.
-fn stand_for_reply(rt: &impl Abort, bytes: &[u8], reply: &Reply) {
+fn are_encoded_reply(rt: &impl Abort, bytes: &[u8], reply: &Reply) {
     same(rt, &bytes, &decode_reply(bytes), &Ok(*reply));
     same(rt, &bytes, &encode_reply(reply).bytes(), &bytes);
 }
@@ -30,7 +30,7 @@ fn stand_for_reply(rt: &impl Abort, bytes: &[u8], reply: &Reply) {
 fn replies_decode_and_encode_to_the_same_bytes(rt: HostRuntime) {
     for (bytes, call, came) in replies() {
         let reply = reply(&rt, bytes, call, came);
-        stand_for_reply(&rt, bytes, &reply);
+        are_encoded_reply(&rt, bytes, &reply);
         same(&rt, bytes, &reply.request(), &request(&rt, call));
         same(&rt, bytes, &reply.outcome(), &outcome(&rt, came));
     }
@@ -125,7 +125,7 @@ fn change(rt: &impl Abort, bytes: &mut [u8], is_reply: bool, wanted: u32) {
 }
 
 #[test]
-fn changed_bytes_are_refused_or_written_again(rt: HostRuntime) {
+fn changed_bytes_are_refused_or_encoded_again(rt: HostRuntime) {
     let mut draw = *b"S1\x01\x02\x00\x00\x00\x07\x00\x00\x00\x01RAGB";
     let mut void = *b"S1\x01\x03\x00\x00\x00\x07\x00\x00\x00\x03RA000000014GB";
     let mut query = *b"S1\x01\x04\x00\x00\x00\x07\x00\x00\x00\x01RA000000005GB";
@@ -135,7 +135,7 @@ fn changed_bytes_are_refused_or_written_again(rt: HostRuntime) {
 }
 
 #[test]
-fn changed_bytes_of_a_larger_draw_are_refused_or_written_again(rt: HostRuntime) {
+fn changed_bytes_of_a_draw_many_are_refused_or_encoded_again(rt: HostRuntime) {
     let mut asked = *b"S1\x02\x05\x00\x00\x00\x07\x00\x00\x00\x01RAGB\x02";
     let mut done =
         *b"S1\x02\x85\x00\x00\x00\x07\x00\x00\x00\x01RAGB\x02\x00\x00\x00\x4e\x20RA000000005GBRA000000014GB";
@@ -146,7 +146,7 @@ fn changed_bytes_of_a_larger_draw_are_refused_or_written_again(rt: HostRuntime) 
 }
 
 #[test]
-fn changed_bytes_of_a_withdrawal_are_refused_or_written_again(rt: HostRuntime) {
+fn changed_bytes_of_a_withdrawal_are_refused_or_encoded_again(rt: HostRuntime) {
     let mut asked = *b"S1\x02\x06\x00\x00\x00\x00\x00\x00\x00\x02\x00\x00\x00\x01";
     let mut done = *b"S1\x02\x86\x00\x00\x00\x00\x00\x00\x00\x02\x00\x00\x00\x01\x00";
     let mut refused = *b"S1\x02\x86\x00\x00\x00\x00\x00\x00\x00\x03\x00\x00\x00\x01\x0b";
@@ -182,6 +182,6 @@ const TEXTS: &[&[u8]] = &[
 fn a_sheet_of_sixteen_is_the_longest_reply(rt: HostRuntime) {
     let call: Call = (7, 1, Asked::DrawMany(16));
     let reply = reply(&rt, SHEET, &call, &Came::DrawnMany(20_000, TEXTS));
-    stand_for_reply(&rt, SHEET, &reply);
+    are_encoded_reply(&rt, SHEET, &reply);
     same(&rt, &SHEET, &SHEET.len(), &230);
 }

@@ -14,7 +14,7 @@ fn is_known_by_its_bytes(rt: &impl Abort, frame: &Frame, bytes: &[u8]) {
 }
 
 #[test]
-fn requests_have_equal_frames_where_their_bytes_are_equal(rt: HostRuntime) {
+fn requests_have_equal_frames_if_their_bytes_are_equal(rt: HostRuntime) {
     for (bytes, call) in requests() {
         is_known_by_its_bytes(&rt, &encode_request(&request(&rt, call)), bytes);
     }

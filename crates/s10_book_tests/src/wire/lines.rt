@@ -246,7 +246,7 @@ fn is_reply_cut_everywhere(rt: &impl Abort, alloc: Global, reply: &Reply, line: 
 }
 
 #[test]
-fn a_writer_that_fails_once_has_got_the_beginning_of_the_line(rt: HostRuntime) {
+fn a_writer_that_fails_once_has_the_beginning_of_the_line(rt: HostRuntime) {
     for (call, line) in REQUEST_LINES {
         is_cut_everywhere(&rt, rt.alloc(), &request(&rt, call), line);
     }

@@ -67,7 +67,7 @@ fn fits(rt: &impl Abort, outcome: &Outcome) -> [bool; 6] {
 }
 
 #[test]
-fn a_reply_is_made_of_an_outcome_that_fits(rt: HostRuntime) {
+fn a_reply_has_only_an_outcome_that_fits(rt: HostRuntime) {
     for (came, wanted) in FITTING {
         let outcome = outcome(&rt, came);
         same(&rt, &outcome, &fits(&rt, &outcome), wanted);

@@ -54,7 +54,7 @@ const PAIRS: &[(u8, usize, usize, usize, bool)] = &[
 ];
 
 #[test]
-fn packets_are_equal_where_their_bytes_are(rt: HostRuntime) {
+fn packets_are_equal_if_their_bytes_are(rt: HostRuntime) {
     for (byte, one, other, changed, equal) in PAIRS {
         let found = are_equal(*byte, *one, *other, *changed);
         same(&rt, &(byte, one, other, changed), &found, equal);

@@ -60,7 +60,7 @@ const REQUESTS: &[(&[u8], WireFault)] = &[
 ];
 
 #[test]
-fn a_request_is_refused_for_the_first_thing_wrong(rt: HostRuntime) {
+fn a_request_is_refused_for_its_first_fault(rt: HostRuntime) {
     are_no_requests(&rt, REQUESTS);
 }
 
@@ -88,11 +88,11 @@ const REPLIES: &[(&[u8], WireFault)] = &[
 ];
 
 #[test]
-fn a_reply_is_refused_for_the_first_thing_wrong(rt: HostRuntime) {
+fn a_reply_is_refused_for_its_first_fault(rt: HostRuntime) {
     are_no_replies(&rt, REPLIES);
 }
 
-const LARGER_DRAWS: &[(&[u8], WireFault)] = &[
+const SHEETS: &[(&[u8], WireFault)] = &[
     (
         b"S1\x02\x05\x00\x00\x00\x07\x00\x00\x00\x01RAGB",
         WireFault::Length,
@@ -160,11 +160,11 @@ const LARGER_DRAWS: &[(&[u8], WireFault)] = &[
 ];
 
 #[test]
-fn a_larger_draw_is_refused_for_the_first_thing_wrong(rt: HostRuntime) {
-    are_no_requests(&rt, LARGER_DRAWS);
+fn a_draw_many_is_refused_for_its_first_fault(rt: HostRuntime) {
+    are_no_requests(&rt, SHEETS);
 }
 
-const REPLIES_TO_LARGER_DRAWS: &[(&[u8], WireFault)] = &[
+const REPLIES_TO_SHEETS: &[(&[u8], WireFault)] = &[
     (
         b"S1\x02\x85\x00\x00\x00\x07\x00\x00\x00\x01RAGB\x02",
         WireFault::Length,
@@ -236,8 +236,8 @@ const REPLIES_TO_LARGER_DRAWS: &[(&[u8], WireFault)] = &[
 ];
 
 #[test]
-fn a_reply_to_a_larger_draw_is_refused_for_the_first_thing_wrong(rt: HostRuntime) {
-    are_no_replies(&rt, REPLIES_TO_LARGER_DRAWS);
+fn a_reply_to_a_draw_many_is_refused_for_its_first_fault(rt: HostRuntime) {
+    are_no_replies(&rt, REPLIES_TO_SHEETS);
 }
 
 const WITHDRAWALS: &[(&[u8], WireFault)] = &[
@@ -269,7 +269,7 @@ const WITHDRAWALS: &[(&[u8], WireFault)] = &[
 ];
 
 #[test]
-fn a_withdrawal_is_refused_for_the_first_thing_wrong(rt: HostRuntime) {
+fn a_withdrawal_is_refused_for_its_first_fault(rt: HostRuntime) {
     are_no_requests(&rt, WITHDRAWALS);
 }
 
@@ -317,7 +317,7 @@ const REPLIES_TO_WITHDRAWALS: &[(&[u8], WireFault)] = &[
 ];
 
 #[test]
-fn a_reply_to_a_withdrawal_is_refused_for_the_first_thing_wrong(rt: HostRuntime) {
+fn a_reply_to_a_withdrawal_is_refused_for_its_first_fault(rt: HostRuntime) {
     are_no_replies(&rt, REPLIES_TO_WITHDRAWALS);
 }
 
@@ -329,7 +329,7 @@ fn have_no_outcome(rt: &impl Abort, refused: &[&[u8]]) {
 }
 
 #[test]
-fn outcomes_of_the_other_kinds_are_none_of_a_withdrawal(rt: HostRuntime) {
+fn outcomes_of_other_kinds_do_not_fit_a_withdrawal(rt: HostRuntime) {
     let mut bytes = *b"S1\x02\x86\x00\x00\x00\x00\x00\x00\x00\x02\x00\x00\x00\x01\x00";
     for code in 2..=8u8 {
         bytes[16] = code;
@@ -351,7 +351,7 @@ const OUTCOMES_OF_WITHDRAWALS: &[&[u8]] = &[
 ];
 
 #[test]
-fn outcomes_of_a_withdrawal_are_none_of_the_other_kinds(rt: HostRuntime) {
+fn outcomes_of_a_withdrawal_fit_no_other_kind(rt: HostRuntime) {
     have_no_outcome(&rt, OUTCOMES_OF_WITHDRAWALS);
 }
 

@@ -107,7 +107,7 @@ fn receives_at_once(link: &mut ScriptLink, packet: Packet) -> bool {
 }
 
 #[test]
-fn receive_now_takes_the_next_receipt(rt: HostRuntime) {
+fn try_receive_gives_the_next_receipt(rt: HostRuntime) {
     let packet = Packet::new(b"a datagram");
     let mut link = new_link(&rt, packet);
     assert!(rt; receives_at_once(&mut link, packet));
@@ -137,16 +137,20 @@ const ALIKE: &[(Peer, u32, u64)] = &[
 ];
 
 /// Sends a Draw. Returns the result, and the number of equal sends in a row after it.
-fn sent_alike(link: &mut ScriptLink, to: Peer, number: u32) -> (Result<(), LinkFault>, u64) {
+fn send_and_count_equal(
+    link: &mut ScriptLink,
+    to: Peer,
+    number: u32,
+) -> (Result<(), LinkFault>, u64) {
     let sent = link.send(to, &draw(number));
     (sent, link.trace().alike)
 }
 
 #[test]
-fn alike_counts_the_last_sends_in_a_row(rt: HostRuntime) {
+fn alike_counts_the_last_equal_sends(rt: HostRuntime) {
     let mut link = six_sends(rt.alloc()).expect(&rt, "a link");
     for (to, number, alike) in ALIKE {
-        let found = sent_alike(&mut link, *to, *number);
+        let found = send_and_count_equal(&mut link, *to, *number);
         same(&rt, &(to, number), &found, &(Ok(()), *alike));
     }
     assert!(rt; link.trace().sends == 6 && link.log().len() == 6);

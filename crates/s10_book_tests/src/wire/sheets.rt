@@ -105,7 +105,7 @@ fn labels_are_counted_from_0(rt: HostRuntime) {
 }
 
 #[test]
-fn sheets_are_the_same_by_their_labels_in_order(rt: HostRuntime) {
+fn sheets_are_equal_if_their_labels_are_equal_in_order(rt: HostRuntime) {
     let ids = seventeen(&rt);
     let pair = [id(&rt, 0), id(&rt, 1)];
     let turned = [id(&rt, 1), id(&rt, 0)];

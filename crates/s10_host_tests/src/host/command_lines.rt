@@ -99,7 +99,7 @@ const LABELS: &[Case] = &[
 ];
 
 #[test]
-fn check_reads_a_label_only_where_it_is_asked_to(rt: HostRuntime) {
+fn check_reads_a_label_only_if_asked_to(rt: HostRuntime) {
     run_cases(&rt, LABELS);
 }
 
@@ -588,7 +588,7 @@ const HELP: &[(&[&str], &str)] = &[
 ];
 
 #[test]
-fn help_and_the_version_are_printed_where_they_are_asked_for(rt: HostRuntime) {
+fn help_and_the_version_are_printed_if_asked_for(rt: HostRuntime) {
     for (words, start) in HELP {
         holds(&rt, words, prints_at_first(&rt, words, start));
     }

@@ -189,7 +189,7 @@ fn is_silent<R: Eprint + AllocGlobal>(rt: &R, words: &[&str], status: Option<u8>
 }
 
 #[test]
-fn what_needs_files_or_sockets_is_left_to_the_program(rt: HostRuntime) {
+fn jobs_over_files_or_sockets_are_left_to_the_program(rt: HostRuntime) {
     for (words, _) in lines() {
         holds(&rt, words, is_silent(&rt, words, None));
     }
@@ -688,7 +688,7 @@ const CUSTOMERS: &[Edit] = &[
 ];
 
 #[test]
-fn what_the_post_alone_asks_names_no_customer(rt: HostRuntime) {
+fn requests_of_the_post_have_no_customer_option(rt: HostRuntime) {
     are_refused(&rt, CUSTOMERS);
 }
 

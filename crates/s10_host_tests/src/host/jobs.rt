@@ -78,7 +78,7 @@ const CASES: &[(&[&str], JobStatus, &str)] = &[
 ];
 
 #[test]
-fn what_cannot_be_done_has_its_line_and_status(rt: HostRuntime) {
+fn a_job_that_fails_has_its_line_and_status(rt: HostRuntime) {
     for (words, status, line) in CASES {
         holds(&rt, words, ends_with(&rt, words, *status, line));
     }

@@ -103,7 +103,7 @@ fn is_worked<B: Book>(alloc: Global, server: &mut Server<B>) -> bool {
 }
 
 /// Returns the same for a server over this book, and the book with its calls committed.
-fn hand_in<B: GroupCommit>(alloc: Global, book: B) -> (bool, B) {
+fn serve_nine_calls<B: GroupCommit>(alloc: Global, book: B) -> (bool, B) {
     let mut server = Server::new(book);
     let is_same = is_worked(alloc, &mut server);
     let _ = server.commit();
@@ -112,7 +112,7 @@ fn hand_in<B: GroupCommit>(alloc: Global, book: B) -> (bool, B) {
 
 /// Returns the same, and drops the book.
 fn gives_nine_replies<B: GroupCommit + Drop>(alloc: Global, book: B) -> bool {
-    let (is_same, _left) = hand_in(alloc, book);
+    let (is_same, _left) = serve_nine_calls(alloc, book);
     is_same
 }
 
@@ -127,7 +127,7 @@ fn are_as_worked<B: Book>(alloc: Global, book: &mut B) -> bool {
 /// Returns the book after the nine calls. Sets `said` to whether it gave the nine replies, and
 /// whether its reports are then as worked by hand.
 fn reported<B: GroupCommit>(alloc: Global, book: B, said: &mut (bool, bool)) -> B {
-    let (is_same, mut book) = hand_in(alloc, book);
+    let (is_same, mut book) = serve_nine_calls(alloc, book);
     *said = (is_same, are_as_worked(alloc, &mut book));
     book
 }
@@ -191,7 +191,7 @@ fn is_audited<R: Abort + AllocGlobal, S: Alter + Drop>(
 }
 
 #[test]
-fn ledger_as_it_was_kept_is_sound(rt: HostRuntime) {
+fn an_unchanged_ledger_is_sound(rt: HostRuntime) {
     let worked = worked_ledger(&rt);
     assert!(rt; is_audited(&rt, worked, JobStatus::Done, "ledger ok 9\n"));
     let empty = Some(closed(ledger(&rt, settings())));

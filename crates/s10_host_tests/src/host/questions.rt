@@ -145,7 +145,7 @@ fn asked_is_reported<R: Net + Eprint + AllocGlobal>(
 }
 
 #[test]
-fn what_is_not_asked_has_its_line(rt: HostRuntime) {
+fn a_question_that_is_not_sent_has_its_line(rt: HostRuntime) {
     for (at, (to, asked, status, line)) in CASES.iter().enumerate() {
         holds(&rt, &at, asked_is_reported(&rt, to, *asked, *status, line));
     }

@@ -61,12 +61,12 @@ fn make_folder(rt: &HostRuntime) -> bool {
 }
 
 /// Removes the folder, and returns whether it was empty: a folder with a file in it stays.
-fn take_folder(rt: &HostRuntime) -> bool {
+fn delete_folder(rt: &HostRuntime) -> bool {
     fs::remove_dir(rt, FOLDER).is_ok()
 }
 
 /// Removes the file, and returns whether these were its bytes.
-fn take_file(rt: &HostRuntime, bytes: &str) -> bool {
+fn delete_file(rt: &HostRuntime, bytes: &str) -> bool {
     match fs::read(rt, FILE) {
         Ok(left) => fs::remove_file(rt, FILE).is_ok() && left.as_slice() == bytes.as_bytes(),
         Err(_) => false,
@@ -76,7 +76,7 @@ fn take_file(rt: &HostRuntime, bytes: &str) -> bool {
 /// Returns whether the jobs are refused and the folder is empty after them.
 fn stays_away(rt: &HostRuntime, jobs: &[&[&str]], line: &str) -> bool {
     let refused = make_folder(rt) && are_refused(rt, jobs, line);
-    take_folder(rt) && refused
+    delete_folder(rt) && refused
 }
 
 /// Returns whether the jobs are refused, the file keeps its bytes, and the folder has no other
@@ -85,7 +85,7 @@ fn stays(rt: &HostRuntime, bytes: &str, line: &str) -> bool {
     let refused = make_folder(rt)
         && fs::write(rt, FILE, bytes).is_ok()
         && are_refused(rt, OVER_FILE, line);
-    take_file(rt, bytes) && take_folder(rt) && refused
+    delete_file(rt, bytes) && delete_folder(rt) && refused
 }
 
 /// Jobs without a file, and the line of each.
@@ -102,7 +102,7 @@ const OTHERS: &[(&str, &str)] = &[
 ];
 
 #[test]
-fn what_is_no_ledger_stays_as_it_was(rt: HostRuntime) {
+fn a_file_that_is_no_ledger_stays_unchanged(rt: HostRuntime) {
     for (jobs, line) in ABSENT {
         holds(&rt, jobs, stays_away(&rt, jobs, line));
     }

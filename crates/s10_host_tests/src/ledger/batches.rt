@@ -162,7 +162,7 @@ fn wait_once<R: Abort + AllocGlobal>(rt: &R, first: &Case, second: &Case) {
         waits(rt, (first, second), true),
         waits(rt, (first, first), false),
     );
-    same(rt, &"rounds, and turns", &found, &(Some(1), Some(1)));
+    same(rt, &"batches, and turns", &found, &(Some(1), Some(1)));
 }
 
 #[test]
@@ -171,6 +171,6 @@ fn no_reply_is_sent_before_its_call_is_committed(rt: HostRuntime) {
 }
 
 #[test]
-fn a_committed_call_is_answered_though_another_is_pending(rt: HostRuntime) {
+fn a_committed_call_gets_its_reply_while_another_is_pending(rt: HostRuntime) {
     wait_once(&rt, SECOND, FIRST);
 }

@@ -7,7 +7,7 @@ use crate::ledger::calls::Answered::{
 };
 use crate::ledger::calls::Asked::{Draw, DrawOfRb, Grant, GrantOfRb, Query, QueryOfUs, Void};
 use crate::ledger::calls::{
-    FIRST_DRAW, NINE_CALLS, OPENING, SIX_CALLS, Step, closed, first_unlike, gb, id, ledger, ra,
+    FIRST_DRAW, NINE_CALLS, OPENING, SIX_CALLS, Step, closed, first_wrong_step, gb, id, ledger, ra,
     request, serial, settings,
 };
 use s10_book::{Book, BookFault, PlainBook};
@@ -49,7 +49,7 @@ const UNREAD: &'static [Read] = &[];
 pub(crate) type Found = (Option<usize>, Option<usize>, u32, u32, Settings);
 
 fn found<B: Book>(book: &mut B, steps: &[Step], reads: &[Read]) -> Found {
-    let step = first_unlike(book, steps);
+    let step = first_wrong_step(book, steps);
     let read = first_unread(book, reads);
     (step, read, book.len(), book.day(), book.settings())
 }
@@ -70,19 +70,19 @@ pub(crate) fn found_in(book: &mut SqlBook<MemStore>, steps: &[Step], reads: &[Re
 }
 
 /// Executes the steps and returns the index of the first whose answer differs from its row, if any.
-pub(crate) fn first_unlike_in(book: &mut SqlBook<MemStore>, steps: &[Step]) -> Option<usize> {
+pub(crate) fn first_wrong_step_in(book: &mut SqlBook<MemStore>, steps: &[Step]) -> Option<usize> {
     let (step, _, _, _, _) = found_in(book, steps, UNREAD);
     step
 }
 
 /// Returns the same for a new ledger with this limit, and its connection.
-pub(crate) fn first_unlike_of<R: Abort + AllocGlobal>(
+pub(crate) fn first_wrong_step_of<R: Abort + AllocGlobal>(
     rt: &R,
     limit: u32,
     steps: &[Step],
 ) -> (Option<usize>, Connection<MemStore>) {
     let mut book = ledger(rt, settings(rt, limit));
-    let unlike = first_unlike_in(&mut book, steps);
+    let unlike = first_wrong_step_in(&mut book, steps);
     (unlike, closed(book))
 }
 
@@ -169,10 +169,10 @@ const FULL_LEDGER: &'static [Step] = &[
 ];
 
 #[test]
-fn draws_and_voids_are_answered_alike(rt: HostRuntime) {
+fn both_books_give_equal_answers_to_draws_and_voids(rt: HostRuntime) {
     both_answer(
         &rt,
-        "the interval ends on its thirtieth day; a repeat is not executed and moves no day",
+        "the interval ends on its thirtieth day; a repeat is not executed and changes no day",
         100,
         INTERVAL_ENDS,
         UNREAD,
@@ -193,7 +193,7 @@ fn draws_and_voids_are_answered_alike(rt: HostRuntime) {
     );
     both_answer(
         &rt,
-        "a full ledger answers what it kept",
+        "a full ledger repeats its kept replies",
         3,
         FULL_LEDGER,
         UNREAD,
@@ -216,7 +216,7 @@ const GRANTS: &'static [Step] = &[
 ];
 
 #[test]
-fn grants_are_answered_alike(rt: HostRuntime) {
+fn both_books_give_equal_answers_to_grants(rt: HostRuntime) {
     both_answer(
         &rt,
         "grants are refused in their order, and a draw stays in its own ranges",
@@ -240,7 +240,7 @@ const REFUSALS: &'static [Step] = &[
 ];
 
 #[test]
-fn refusals_are_answered_alike(rt: HostRuntime) {
+fn both_books_give_equal_refusals(rt: HostRuntime) {
     both_answer(
         &rt,
         "who may draw, void and query what",
@@ -318,7 +318,7 @@ fn has_after<B: Book>(book: &mut B, holder: u32, after: u32, is_there: bool) -> 
 }
 
 /// Returns whether the range with one of these serials is range 1, or none if `is_there` is false.
-fn has_over<B: Book>(book: &mut B, first: u32, last: u32, is_there: bool) -> bool {
+fn has_covering<B: Book>(book: &mut B, first: u32, last: u32, is_there: bool) -> bool {
     let span = SerialSpan {
         service: ra(),
         country: gb(),
@@ -345,7 +345,7 @@ fn is_as_read<B: Book>(book: &mut B, read: Read) -> bool {
         Read::Entry(at, is_there) => is_sixth(&book.entry(at), is_there),
         Read::Range(number, is_there) => is_first(&book.range(number), is_there),
         Read::NextRange(holder, after, is_there) => has_after(book, holder, after, is_there),
-        Read::Covering(first, last, is_there) => has_over(book, first, last, is_there),
+        Read::Covering(first, last, is_there) => has_covering(book, first, last, is_there),
         Read::LastIssue(value, issue) => book.last_issue(&id(value)) == Ok(issue),
         Read::Candidate(value, issue) => gives_next(book, value, issue),
         Read::Usage(day, usage) => usage_of_first(book, day) == Ok(Some(usage)),
@@ -445,7 +445,7 @@ const NINE_CALLS_READ: &'static [Read] = &[
 ];
 
 #[test]
-fn reads_of_both_books_are_alike(rt: HostRuntime) {
+fn reads_of_both_books_are_equal(rt: HostRuntime) {
     both_answer(&rt, "six calls", 100, SIX_CALLS, SIX_CALLS_READ);
     both_answer(&rt, "nine calls", 100, NINE_CALLS, NINE_CALLS_READ);
 }

@@ -265,7 +265,7 @@ pub(crate) fn said(answered: Answered) -> Result<Outcome, BookFault> {
 }
 
 /// Executes the steps and returns the index of the first whose answer differs from its row, if any.
-pub(crate) fn first_unlike<B: Book>(book: &mut B, steps: &[Step]) -> Option<usize> {
+pub(crate) fn first_wrong_step<B: Book>(book: &mut B, steps: &[Step]) -> Option<usize> {
     for (place, (customer, number, asked, day, answered)) in steps.iter().enumerate() {
         let request = request(*customer, *number, *asked);
         if answer(book, &request, *day) != said(*answered) {

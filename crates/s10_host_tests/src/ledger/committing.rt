@@ -1,9 +1,9 @@
 //! Pending calls, and their commit.
 
 use crate::expect::same;
-use crate::ledger::books::first_unlike_in;
+use crate::ledger::books::first_wrong_step_in;
 use crate::ledger::calls::{
-    Answered, Asked, Step, answer, first_unlike, ledger, request, settings,
+    Answered, Asked, Step, answer, first_wrong_step, ledger, request, settings,
 };
 use crate::ledger::tables::found;
 use s10_book::{Book, BookFault, GroupCommit};
@@ -28,7 +28,7 @@ fn first_refused<B: Book>(book: &mut B, numbers: Range<u32>) -> Option<u32> {
 
 /// Returns whether the book keeps a Grant, and `draws` Draws after it.
 fn keeps<B: Book>(book: &mut B, draws: u32) -> bool {
-    first_unlike(book, GRANT).is_none() && first_refused(book, 0..draws).is_none()
+    first_wrong_step(book, GRANT).is_none() && first_refused(book, 0..draws).is_none()
 }
 
 /// Returns a new ledger, and whether it keeps a Grant and `draws` Draws.
@@ -89,7 +89,7 @@ const REPEATED: &'static [Step] = &[(7, 1, Asked::Draw, 20001, Answered::Drawn(2
 /// number of calls of the ledger, and the number found after it is closed without a commit.
 fn repeated<R: Abort + AllocGlobal>(rt: &R) -> (bool, u32, Option<u32>) {
     let (mut book, is_kept) = kept(rt, 3);
-    let is_repeated = first_unlike_in(&mut book, REPEATED).is_none();
+    let is_repeated = first_wrong_step_in(&mut book, REPEATED).is_none();
     let calls = book.len();
     (is_kept && is_repeated, calls, calls_found(rt.alloc(), book))
 }
@@ -129,7 +129,7 @@ const GRANT_OF_TEN: &'static [Step] = &[(0, 1, Asked::Grant(7, 0, 9), 20000, Ans
 
 /// Returns whether the book commits a Grant and a Draw, and keeps three Draws after them.
 fn keeps_three<B: GroupCommit>(book: &mut B) -> bool {
-    first_unlike(book, GRANT_OF_TEN).is_none()
+    first_wrong_step(book, GRANT_OF_TEN).is_none()
         && first_refused(book, 1..2).is_none()
         && book.commit().is_ok()
         && first_refused(book, 2..5).is_none()

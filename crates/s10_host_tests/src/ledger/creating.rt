@@ -1,7 +1,7 @@
 //! Creation of a ledger, in an empty database only.
 
 use crate::expect::same;
-use crate::ledger::books::{Read, first_unlike_of, found_in};
+use crate::ledger::books::{Read, first_wrong_step_of, found_in};
 use crate::ledger::calls::{NINE_CALLS, closed, ledger, settings};
 use crate::ledger::rows::{Shown, first_unshown};
 use s10_history::Settings;
@@ -70,13 +70,13 @@ fn refusal<R: Abort + AllocGlobal>(
 
 /// Returns the connection of a ledger of nine calls.
 pub(crate) fn nine_kept<R: Abort + AllocGlobal>(rt: &R) -> Connection<MemStore> {
-    let (unlike, conn) = first_unlike_of(rt, 100, NINE_CALLS);
+    let (unlike, conn) = first_wrong_step_of(rt, 100, NINE_CALLS);
     same(rt, &"nine calls", &unlike, &None);
     conn
 }
 
 #[test]
-fn a_ledger_is_not_made_over_a_ledger(rt: HostRuntime) {
+fn a_ledger_is_not_created_over_a_ledger(rt: HostRuntime) {
     let (fault, mut conn) = refusal(&rt, nine_kept(&rt), settings(&rt, 50));
     let unshown = first_unshown(rt.alloc(), &mut conn, NINE_KEPT);
     let wanted = (OpenFault::NotEmpty, Ok(None));
@@ -128,14 +128,14 @@ fn refused_beside<R: Abort + AllocGlobal>(rt: &R, text: &str) -> (OpenFault, usi
 }
 
 #[test]
-fn a_ledger_is_not_made_beside_other_tables(rt: HostRuntime) {
+fn a_ledger_is_not_created_beside_other_tables(rt: HostRuntime) {
     for (text, fault) in TABLES {
         same(&rt, text, &refused_beside(&rt, text), &(*fault, 1, 0));
     }
 }
 
 #[test]
-fn a_ledger_is_not_made_beside_a_view(rt: HostRuntime) {
+fn a_ledger_is_not_created_beside_a_view(rt: HostRuntime) {
     let found = refused_beside(&rt, "CREATE VIEW one AS SELECT 1");
     same(&rt, &"a view", &found, &(OpenFault::Store, 0, 1));
 }

@@ -1,9 +1,9 @@
 //! A range of all serials, and ten thousand draws from it.
 
 use crate::expect::same;
-use crate::ledger::books::first_unlike_of;
+use crate::ledger::books::first_wrong_step_of;
 use crate::ledger::calls::{
-    Answered, Asked, Step, answer, closed, first_unlike, id, ledger, request, said, settings,
+    Answered, Asked, Step, answer, closed, first_wrong_step, id, ledger, request, said, settings,
 };
 use crate::ledger::rows::{Shown, first_unshown};
 use s10_book::{Book, BookFault};
@@ -32,7 +32,7 @@ const DRAWN: &'static [Shown] = &[
 
 #[test]
 fn a_grant_writes_no_row_of_a_serial(rt: HostRuntime) {
-    let (unlike, mut conn) = first_unlike_of(&rt, 20_000, GRANT);
+    let (unlike, mut conn) = first_wrong_step_of(&rt, 20_000, GRANT);
     let unshown = first_unshown(rt.alloc(), &mut conn, GRANTED);
     same(&rt, &"the Grant", &(unlike, unshown), &(None, Ok(None)));
 }
@@ -67,7 +67,7 @@ type Drawn = (
 
 fn all_drawn<B: Book>(book: &mut B) -> Drawn {
     (
-        first_unlike(book, GRANT),
+        first_wrong_step(book, GRANT),
         first_not_drawn(book),
         book.last_issue(&id(9_999)),
         book.len(),
@@ -75,7 +75,7 @@ fn all_drawn<B: Book>(book: &mut B) -> Drawn {
 }
 
 #[test]
-fn ten_thousand_draws_give_the_serials_in_turn(rt: HostRuntime) {
+fn ten_thousand_draws_give_the_serials_in_order(rt: HostRuntime) {
     let mut book = ledger(&rt, settings(&rt, 20_000));
     let drawn = all_drawn(&mut book);
     let mut conn = closed(book);

@@ -16,7 +16,7 @@ const RANGES: u32 = 1_000;
 const HOLDERS: u32 = 9;
 
 // Returns whether both books give the same answer to the request.
-fn answer_alike<A: Book, B: Book>(one: &mut A, other: &mut B, request: &Request) -> bool {
+fn answers_are_equal<A: Book, B: Book>(one: &mut A, other: &mut B, request: &Request) -> bool {
     answer(one, request, 20000) == answer(other, request, 20000)
 }
 
@@ -30,7 +30,7 @@ fn grants_are_alike<A: Book, B: Book>(one: &mut A, other: &mut B, grants: u32) -
         let first = slot * 10;
         let asked = Asked::Grant(1 + place % HOLDERS, first, first + slot % 10);
         let request = request(0, place + 1, asked);
-        if !answer_alike(one, other, &request) {
+        if !answers_are_equal(one, other, &request) {
             return false;
         }
     }
@@ -45,7 +45,7 @@ fn overlaps_are_alike<A: Book, B: Book>(one: &mut A, other: &mut B, grants: u32)
         let first = place * 37;
         let asked = Asked::Grant(1, first, first + place % 20);
         let request = request(0, 2000 + place, asked);
-        if !answer_alike(one, other, &request) {
+        if !answers_are_equal(one, other, &request) {
             return false;
         }
     }
@@ -56,7 +56,7 @@ fn overlaps_are_alike<A: Book, B: Book>(one: &mut A, other: &mut B, grants: u32)
 fn draws_are_alike<A: Book, B: Book>(one: &mut A, other: &mut B, draws: u32) -> bool {
     for place in 0..draws {
         let request = request(1 + place % HOLDERS, 1 + place / HOLDERS, Asked::Draw);
-        if !answer_alike(one, other, &request) {
+        if !answers_are_equal(one, other, &request) {
             return false;
         }
     }
@@ -152,7 +152,7 @@ const CALLS: &[Part] = &[Part::Grants, Part::Overlaps, Part::Draws(1_000)];
 const FOUND: &[Part] = &[Part::Ranges, Part::Length];
 
 #[test]
-fn ranges_of_many_holders_are_answered_alike(rt: HostRuntime) {
+fn both_books_give_equal_answers_for_many_ranges(rt: HostRuntime) {
     let (mut plain, mut tables) = new_books(&rt);
     let calls = both_alike(&mut plain, &mut tables, CALLS);
     let found = both_alike(&mut plain, &mut tables, FOUND);
@@ -167,11 +167,11 @@ const BEFORE: &[Part] = &[Part::Grants, Part::Draws(500)];
 const AFTER: &[Part] = &[Part::Ranges, Part::Overlaps, Part::Length];
 
 #[test]
-fn ranges_are_found_as_before_once_the_ledger_is_opened_again(rt: HostRuntime) {
+fn ranges_are_found_as_before_after_reopening(rt: HostRuntime) {
     let (mut plain, mut tables) = new_books(&rt);
     let before = both_alike(&mut plain, &mut tables, BEFORE);
     let mut opened = opened_again(&rt, tables);
-    let behind = both_alike(&mut plain, &mut opened, AFTER);
+    let after = both_alike(&mut plain, &mut opened, AFTER);
     let _ = closed(opened);
-    same(&rt, &"before, behind", &(before, behind), &(true, true));
+    same(&rt, &"before, after", &(before, after), &(true, true));
 }

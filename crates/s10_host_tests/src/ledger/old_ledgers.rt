@@ -1,7 +1,7 @@
 //! Ledgers of an earlier build, which had no table of closed ranges, with and without other tables.
 
 use crate::expect::same;
-use crate::ledger::books::first_unlike_in;
+use crate::ledger::books::first_wrong_step_in;
 use crate::ledger::calls::Answered::{Drawn, NoRange, Withdrawn};
 use crate::ledger::calls::Asked::{Draw, Withdraw};
 use crate::ledger::calls::{NINE_CALLS, Step, closed, whole};
@@ -80,7 +80,7 @@ fn served<R: Abort + AllocGlobal>(
     }
     match SqlBook::open(rt.alloc(), conn, &mut NoObserver) {
         Ok(mut book) => {
-            let unlike = first_unlike_in(&mut book, steps);
+            let unlike = first_wrong_step_in(&mut book, steps);
             let conn = closed(book);
             same(rt, &"served on", &unlike, &None);
             Some(conn)
@@ -114,7 +114,7 @@ fn left_of_served<R: Abort + AllocGlobal>(rt: &R) -> Option<Left> {
 }
 
 #[test]
-fn a_ledger_of_an_earlier_build_is_served_on(rt: HostRuntime) {
+fn a_ledger_of_an_earlier_build_is_completed_and_served(rt: HostRuntime) {
     let wanted = (Ok(whole(12, 20031)), true, COMPLETE, Ok(None));
     same(&rt, &"served on", &left_of_served(&rt), &Some(wanted));
 }
@@ -159,7 +159,7 @@ const BESIDE: &[(&str, &'static [Shown], (usize, bool))] = &[
 ];
 
 #[test]
-fn an_old_ledger_beside_a_table_of_the_office_is_left_as_it_is(rt: HostRuntime) {
+fn an_old_ledger_beside_a_table_of_the_office_is_refused_and_unchanged(rt: HostRuntime) {
     for (beside, shown, tables) in BESIDE {
         let found = left_of_old(rt.alloc(), &[beside], shown);
         let wanted = (Err(OpenFault::NotALedger), true, *tables, Ok(None));

@@ -127,7 +127,7 @@ const OTHERS: &[(&str, &[&str])] = &[
         ],
     ),
     (
-        "a closed range that may stand twice",
+        "a closed range that may occur twice",
         &[
             HEAD_TABLE,
             CALLS_TABLE,
@@ -140,7 +140,7 @@ const OTHERS: &[(&str, &[&str])] = &[
 ];
 
 #[test]
-fn schema_of_a_ledger_is_known(rt: HostRuntime) {
+fn only_the_exact_schema_is_a_ledger(rt: HostRuntime) {
     are_found(&rt, &TABLES, &[(HEAD, WHOLE)]);
     for (name, texts) in OTHERS {
         same(&rt, name, &opening(rt.alloc(), texts, ""), &Some(NO_LEDGER));
@@ -223,7 +223,7 @@ fn found_twice(alloc: Global, first: &str, then: &str) -> Option<(Finding, Findi
 }
 
 #[test]
-fn nine_calls_are_found_again_and_again(rt: HostRuntime) {
+fn nine_calls_are_found_by_each_opening(rt: HostRuntime) {
     let found = found_twice(rt.alloc(), "", "");
     same(&rt, &"nine calls", &found, &Some((NINE_FOUND, NINE_FOUND)));
 }

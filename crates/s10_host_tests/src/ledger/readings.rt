@@ -55,7 +55,7 @@ const ROWS: &[(i64, &[u8], Result<(), OpenFault>)] = &[
 ];
 
 #[test]
-fn rows_that_do_not_read_are_damage(rt: HostRuntime) {
+fn rows_that_cannot_be_decoded_are_damage(rt: HostRuntime) {
     for (day, reply, told) in ROWS {
         let found = replayed(rt.alloc(), *day, reply);
         same(&rt, &(*day, reply.len()), &found, &Some(*told));
@@ -150,7 +150,7 @@ const USED: &[(&[SerialRow], u32, Result<Usage, BookFault>)] = &[
 ];
 
 #[test]
-fn usage_is_that_of_the_report(rt: HostRuntime) {
+fn usage_is_counted_from_the_rows(rt: HostRuntime) {
     let range = Range {
         num: 1,
         holder: 7,

@@ -75,7 +75,7 @@ fn new_range_gives_its_first_serial_next(rt: HostRuntime) {
 }
 
 #[test]
-fn a_closed_range_is_kept_with_the_arrival_of_its_withdrawal(rt: HostRuntime) {
+fn only_a_done_withdraw_writes_a_closed_row(rt: HostRuntime) {
     let rows = [
         (Outcome::Withdrawn, Some(ClosedRow { num: 1, arrival: 3 })),
         (Outcome::NotThePost, None),

@@ -54,7 +54,7 @@ const WRAPPING: Step = (
 );
 
 /// Sheets of one range of three serials on day 20000.
-const FIRST_BATCH: &[Step] = &[GRANT, SHEET, SHEET, NONE_FREE, THIRD_SERIAL];
+const ON_FIRST_DAY: &[Step] = &[GRANT, SHEET, SHEET, NONE_FREE, THIRD_SERIAL];
 
 /// The same, and sheets on day 20030, the first of which wraps around.
 const ONE_RANGE: &[Step] = &[
@@ -160,7 +160,7 @@ fn deliveries_of(alloc: Global, steps: &[Step]) -> Result<Vec<Delivery>, AllocEr
 
 /// Runs a server over the steps, and returns the index of the first whose answer is not the
 /// expected one, if any.
-fn first_unlike<B: Book>(
+fn first_wrong_step<B: Book>(
     alloc: Global,
     server: &mut Server<B>,
     steps: &[Step],
@@ -194,9 +194,9 @@ fn is_left<B: Book>(alloc: Global, book: &mut B, left: Option<Left>) -> bool {
 type After = (Result<Option<usize>, AllocError>, bool);
 
 /// Runs a server over a book, and returns the book and that.
-fn behind<B: Book>(alloc: Global, book: B, steps: &[Step], left: Option<Left>) -> (B, After) {
+fn book_after<B: Book>(alloc: Global, book: B, steps: &[Step], left: Option<Left>) -> (B, After) {
     let mut server = Server::new(book);
-    let unlike = first_unlike(alloc, &mut server, steps);
+    let unlike = first_wrong_step(alloc, &mut server, steps);
     let mut book = server.into_book();
     let is_left = is_left(alloc, &mut book, left);
     (book, (unlike, is_left))
@@ -212,8 +212,8 @@ pub(crate) fn are_answered<R: Abort + AllocGlobal>(
 ) {
     let settings = settings(rt, 100);
     let plain = PlainBook::new(rt.alloc(), settings);
-    let (_, in_memory) = behind(rt.alloc(), plain, steps, left);
-    let (tables, in_tables) = behind(rt.alloc(), ledger(rt, settings), steps, left);
+    let (_, in_memory) = book_after(rt.alloc(), plain, steps, left);
+    let (tables, in_tables) = book_after(rt.alloc(), ledger(rt, settings), steps, left);
     let _ = closed(tables);
     let wanted = (Ok(None), true);
     same(
@@ -300,7 +300,7 @@ fn text_after<B: Book>(
     from: usize,
 ) -> (B, Result<Vec<u8>, AllocError>) {
     let mut server = Server::new(book);
-    let _ = first_unlike(alloc, &mut server, steps);
+    let _ = first_wrong_step(alloc, &mut server, steps);
     let text = text_from(alloc, &mut server, day, datagrams, from);
     (server.into_book(), text)
 }
@@ -338,12 +338,12 @@ fn is_as_draws<R: Abort + AllocGlobal>(
 
 #[test]
 fn a_sheet_of_n_has_the_identifiers_of_n_draws(rt: HostRuntime) {
-    let is_batch = is_as_draws(&rt, FIRST_BATCH, WRAPPING, THREE_DRAWS);
+    let is_wrapping = is_as_draws(&rt, ON_FIRST_DAY, WRAPPING, THREE_DRAWS);
     let is_of_both = is_as_draws(&rt, TWO_GRANTS, OF_BOTH, FIVE_DRAWS);
     same(
         &rt,
-        &"going round, two ranges",
-        &(is_batch, is_of_both),
+        &"wrapping, two ranges",
+        &(is_wrapping, is_of_both),
         &(true, true),
     );
 }

@@ -53,7 +53,7 @@ enum Act {
     /// Opens its ledger.
     Open(Global),
     /// Creates a ledger with these settings and commits three calls.
-    GroupCommit(Global, Settings),
+    Commit(Global, Settings),
 }
 
 /// Returns a file with these bytes, all synced, that stops at call `stop`, or `None` if that fails.
@@ -119,7 +119,7 @@ fn done<S: Alter + Drop>(conn: Connection<S>, act: Act) -> (Ended, Option<Told>,
             let (ended, conn) = ledger_in(alloc, conn);
             (ended, None, conn.into_store())
         }
-        Act::GroupCommit(alloc, settings) => {
+        Act::Commit(alloc, settings) => {
             let (told, conn) = commits_three_in(alloc, settings, conn);
             (Ended::Unconnected, told, conn.into_store())
         }
@@ -253,7 +253,7 @@ fn a_ledger_whose_completion_stopped_is_whole(rt: HostRuntime) {
 fn committed_until(alloc: Global, settings: Settings, at: u64) -> Option<(Option<Told>, Ended)> {
     let log = Fuse::new(Memory::new(alloc), at);
     let db = Fuse::new(Memory::new(alloc), NEVER);
-    let commit = Act::GroupCommit(alloc, settings);
+    let commit = Act::Commit(alloc, settings);
     let (_, told, mut files) = done_in(alloc, Files { log, db }, Options::new(7), commit);
     files.log.crash();
     files.db.crash();

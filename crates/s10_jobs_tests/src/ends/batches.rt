@@ -1,10 +1,10 @@
 //! Batches of a server over links that follow a script.
 
-use crate::ends::answered::{Ends, is_as_wanted_reply};
 use crate::ends::fixtures::{
     DRAW, DRAWN, GRANT, GRANTED, SECOND_DRAW, SECOND_DRAWN, Sent, granted_server, has_sent,
     new_server,
 };
+use crate::ends::turn_ends::{Ends, is_expected_turn};
 use crate::expect::holds_at;
 use crate::links::{Meets, link_of};
 use s10_book::{Book, BookFault, GroupCommit, TripBook};
@@ -59,12 +59,12 @@ const FOUR_REPLIES: &'static [Sent] = &[
 ];
 
 /// Returns whether the turns end as expected, in order.
-fn are_as_reported(turns: &[Turn], told: &[Ends]) -> bool {
+fn end_as_expected(turns: &[Turn], told: &[Ends]) -> bool {
     if turns.len() != told.len() {
         return false;
     }
     for at in 0..turns.len() {
-        if !is_as_wanted_reply(&turns[at], &told[at]) {
+        if !is_expected_turn(&turns[at], &told[at]) {
             return false;
         }
     }
@@ -83,14 +83,14 @@ fn serves<B: GroupCommit>(
         return false;
     }
     match serve_batch(alloc, server, link, 20_000, most) {
-        Ok(turns) => are_as_reported(&turns, told) && link.log().len() == sent,
+        Ok(turns) => end_as_expected(&turns, told) && link.log().len() == sent,
         Err(_) => false,
     }
 }
 
 /// Returns whether the batches of a script, one after another, and its replies and calls of the
 /// link are as expected.
-fn goes_through<B: GroupCommit>(alloc: Global, server: &mut Server<B>, script: &Script) -> bool {
+fn follows_script<B: GroupCommit>(alloc: Global, server: &mut Server<B>, script: &Script) -> bool {
     let Ok(mut link) = link_of(alloc, script.receipts, script.sends) else {
         return false;
     };
@@ -105,7 +105,7 @@ fn goes_through<B: GroupCommit>(alloc: Global, server: &mut Server<B>, script: &
 /// Returns whether a script over an empty book ends as expected and leaves n calls in the book.
 fn leaves(alloc: Global, script: &Script, calls: u32) -> bool {
     let mut server = new_server(alloc, 100);
-    goes_through(alloc, &mut server, script) && server.book().len() == calls
+    follows_script(alloc, &mut server, script) && server.book().len() == calls
 }
 
 /// All five datagrams are in one batch.
@@ -128,7 +128,7 @@ const ONE_BATCH: Script = Script {
 };
 
 #[test]
-fn each_reply_goes_to_its_peer_in_turn(rt: HostRuntime) {
+fn each_reply_goes_to_its_sender_in_order(rt: HostRuntime) {
     assert!(rt; leaves(rt.alloc(), &ONE_BATCH, 3));
 }
 
@@ -264,7 +264,7 @@ const TWO_DRAWS: Script = Script {
 /// Returns whether a batch of two Draws sends both replies, and the fault of a commit after it.
 fn sent_then_committed<B: GroupCommit + Drop>(alloc: Global, book: B) -> (bool, Option<BookFault>) {
     let mut server = Server::new(book);
-    let is_sent = goes_through(alloc, &mut server, &TWO_DRAWS);
+    let is_sent = follows_script(alloc, &mut server, &TWO_DRAWS);
     (is_sent, server.commit().err())
 }
 
@@ -289,7 +289,7 @@ fn faulted_batches(alloc: Global) -> u64 {
 // commit of the batch and the commit after it. Both replies are sent even if one of these commits
 // fails.
 #[test]
-fn committed_calls_are_answered_though_a_commit_fails(rt: HostRuntime) {
+fn replies_to_committed_calls_are_sent_even_if_a_commit_fails(rt: HostRuntime) {
     let own = faulted_batches(rt.alloc());
     let next = own.saturating_add(1);
     assert!(rt; served_then_committed(rt.alloc(), own) == (true, None));

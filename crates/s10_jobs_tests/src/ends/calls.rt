@@ -138,7 +138,7 @@ const SEVENTEEN: Unanswered = Unanswered {
 };
 
 #[test]
-fn a_try_reads_eight_datagrams(rt: HostRuntime) {
+fn a_try_receives_eight_datagrams(rt: HostRuntime) {
     assert!(rt; is_unanswered(rt.alloc(), &SEVENTEEN));
 }
 

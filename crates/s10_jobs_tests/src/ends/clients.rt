@@ -106,7 +106,7 @@ const OWN_CALL: &'static [Step] = &[
 ];
 
 #[test]
-fn a_reply_is_accepted_by_its_own_call_alone(rt: HostRuntime) {
+fn a_reply_is_accepted_only_by_its_own_call(rt: HostRuntime) {
     go_through(&rt, 5, 5, OWN_CALL);
 }
 

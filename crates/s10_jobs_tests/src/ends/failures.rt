@@ -15,7 +15,7 @@ fn is_answered<B: Book>(server: &mut Server<B>, step: &Step) -> bool {
 
 /// Returns whether a step is answered as expected, delivered again if the store failed, and whether
 /// it failed.
-fn is_answered_at_last<B: Book>(server: &mut Server<B>, step: &Step) -> (bool, bool) {
+fn is_answered_after_retry<B: Book>(server: &mut Server<B>, step: &Step) -> (bool, bool) {
     let (day, datagram, want) = step;
     let answer = server.handle(datagram, *day);
     if is_as_wanted(&answer, &Faulted(BookFault::Store)) {
@@ -27,8 +27,8 @@ fn is_answered_at_last<B: Book>(server: &mut Server<B>, step: &Step) -> (bool, b
 
 /// Returns how many of a Grant and a Draw the server faults once, or `None` if an answer is wrong.
 fn faults_of<B: Book>(server: &mut Server<B>) -> Option<u32> {
-    let (is_granted, grant_faulted) = is_answered_at_last(server, &GRANT);
-    let (is_drawn, draw_faulted) = is_answered_at_last(server, &DRAW);
+    let (is_granted, grant_faulted) = is_answered_after_retry(server, &GRANT);
+    let (is_drawn, draw_faulted) = is_answered_after_retry(server, &DRAW);
     if is_granted && is_drawn {
         Some(grant_faulted as u32 + draw_faulted as u32)
     } else {
@@ -37,7 +37,7 @@ fn faults_of<B: Book>(server: &mut Server<B>) -> Option<u32> {
 }
 
 /// The same for a server over this book, or `None` if the book does not keep both calls.
-fn faults_made_good<B: Book + Drop>(book: B) -> Option<u32> {
+fn faults_retried<B: Book + Drop>(book: B) -> Option<u32> {
     let mut server = Server::new(book);
     let faults = faults_of(&mut server);
     if server.book().len() == 2 {
@@ -49,9 +49,9 @@ fn faults_made_good<B: Book + Drop>(book: B) -> Option<u32> {
 
 /// Returns whether a failure at each call of the book in turn faults one request, up to a call that
 /// is not made.
-fn each_is_made_good(alloc: Global) -> bool {
+fn each_fault_is_retried(alloc: Global) -> bool {
     for at in 0..100u64 {
-        match faults_made_good(TripBook::new(empty_book(alloc, 100), at)) {
+        match faults_retried(TripBook::new(empty_book(alloc, 100), at)) {
             Some(0) => return at > 0,
             Some(1) => {}
             _ => return false,
@@ -61,6 +61,6 @@ fn each_is_made_good(alloc: Global) -> bool {
 }
 
 #[test]
-fn faulted_request_is_handed_in_again(rt: HostRuntime) {
-    assert!(rt; each_is_made_good(rt.alloc()));
+fn a_faulted_request_is_done_when_delivered_again(rt: HostRuntime) {
+    assert!(rt; each_fault_is_retried(rt.alloc()));
 }

@@ -61,7 +61,7 @@ fn a_run_with_ample_memory_faults_nothing(rt: HostRuntime) {
 
 // Returns whether a server gives this answer to a delivery, or `None` if it is itself refused
 // memory.
-fn is_answered_so<B: Book>(
+fn gives_same_answer<B: Book>(
     server: &mut Server<B>,
     delivery: &Delivery,
     answer: &Answer,
@@ -79,14 +79,14 @@ fn is_answered_so<B: Book>(
 
 // Returns whether a server gives the same answers to the deliveries that were not faulted, or
 // `None` if it is itself refused memory.
-fn answers_alike<B: Book>(
+fn gives_same_answers<B: Book>(
     server: &mut Server<B>,
     deliveries: &[Delivery],
     answers: &[Answer],
 ) -> Option<bool> {
     for at in 0..deliveries.len().min(answers.len()) {
         if !is_faulted(&answers[at]) {
-            let is_alike = is_answered_so(server, &deliveries[at], &answers[at]);
+            let is_alike = gives_same_answer(server, &deliveries[at], &answers[at]);
             if is_alike != Some(true) {
                 return is_alike;
             }
@@ -104,7 +104,7 @@ fn is_run_of_others<B: Book>(
 ) -> Option<bool> {
     let deliveries = nine_deliveries();
     match server.run(alloc, &deliveries) {
-        Ok(answers) => answers_alike(other, &deliveries, &answers),
+        Ok(answers) => gives_same_answers(other, &deliveries, &answers),
         Err(_) if server.book().len() == 0 => None,
         Err(_) => Some(false),
     }

@@ -79,7 +79,7 @@ fn is_as_expected<B: Book>(world: &World<B>, expected: &Expected<'_>) -> bool {
 }
 
 /// Returns whether a world is as expected after a story over an empty book with this limit.
-pub(crate) fn comes_to(
+pub(crate) fn ends_as_expected(
     alloc: Global,
     limit: u32,
     story: &[Happens],
@@ -100,8 +100,8 @@ const ASKED_ONCE: Expected<'static> = Expected {
 };
 
 #[test]
-fn strange_bytes_are_executed_once_where_they_ask(rt: HostRuntime) {
-    assert!(rt; comes_to(rt.alloc(), 100, STRANGE_BYTES, &ASKED_ONCE));
+fn strange_bytes_that_are_a_request_are_executed_once(rt: HostRuntime) {
+    assert!(rt; ends_as_expected(rt.alloc(), 100, STRANGE_BYTES, &ASKED_ONCE));
 }
 
 /// A book with a limit of one call keeps only the Grant.
@@ -113,6 +113,6 @@ const FULL: Expected<'static> = Expected {
 };
 
 #[test]
-fn a_full_book_takes_no_new_call(rt: HostRuntime) {
-    assert!(rt; comes_to(rt.alloc(), 1, STORY, &FULL));
+fn a_full_book_keeps_no_new_call(rt: HostRuntime) {
+    assert!(rt; ends_as_expected(rt.alloc(), 1, STORY, &FULL));
 }

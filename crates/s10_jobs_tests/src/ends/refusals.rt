@@ -91,6 +91,6 @@ const FULL: &'static [Part] = &[(
 )];
 
 #[test]
-fn full_book_answers_kept_calls_alone(rt: HostRuntime) {
+fn a_full_book_answers_only_kept_calls(rt: HostRuntime) {
     assert!(rt; is_played(rt.alloc(), 3, FULL));
 }

@@ -7,7 +7,7 @@ use s10_world::{Event, World, WorldFault};
 use std::alloc::{AllocError, Global};
 
 // Returns whether two worlds have the same lists of requests and replies.
-fn are_alike<B: Book>(one: &World<B>, other: &World<B>) -> bool {
+fn have_equal_lists<B: Book>(one: &World<B>, other: &World<B>) -> bool {
     one.submitted() == other.submitted()
         && one.accepted() == other.accepted()
         && one.replied() == other.replied()
@@ -31,19 +31,19 @@ fn world_without(
 }
 
 // Returns the world that equals this one: after all of these events, or without one delivery.
-fn alike_world(
+fn equal_world(
     alloc: Global,
     world: &World<PlainBook>,
     events: &[Event],
 ) -> Result<Option<World<PlainBook>>, AllocError> {
     let whole = world_without(alloc, events, None)?;
-    if are_alike(world, &whole) {
+    if have_equal_lists(world, &whole) {
         return Ok(Some(whole));
     }
     for (place, event) in events.iter().enumerate() {
         if matches!(event, Event::ToServer { .. }) {
             let other = world_without(alloc, events, Some(place))?;
-            if are_alike(world, &other) {
+            if have_equal_lists(world, &other) {
                 return Ok(Some(other));
             }
         }
@@ -51,7 +51,7 @@ fn alike_world(
     Ok(None)
 }
 
-fn end_alike<B: Book + Drop>(one: World<B>, other: World<B>) -> bool {
+fn end_with_equal_histories<B: Book + Drop>(one: World<B>, other: World<B>) -> bool {
     let mut book = one.into_server().into_book();
     let mut same = other.into_server().into_book();
     have_one_history(&mut book, &mut same)
@@ -60,8 +60,8 @@ fn end_alike<B: Book + Drop>(one: World<B>, other: World<B>) -> bool {
 // Returns whether a world has the history of the one that equals it, or `None` if none does. Lack
 // of memory for the comparison counts as equal.
 fn has_its_history(alloc: Global, world: World<PlainBook>, events: &[Event]) -> Option<bool> {
-    match alike_world(alloc, &world, events) {
-        Ok(Some(other)) => Some(end_alike(world, other)),
+    match equal_world(alloc, &world, events) {
+        Ok(Some(other)) => Some(end_with_equal_histories(world, other)),
         Ok(None) => None,
         Err(_) => Some(true),
     }

@@ -118,7 +118,7 @@ const REFUSED: &'static [Part] = &[
 ];
 
 #[test]
-fn repeat_of_a_refused_draw_is_refused_still(rt: HostRuntime) {
+fn repeat_of_a_refused_draw_gets_the_same_refusal(rt: HostRuntime) {
     assert!(rt; is_played(rt.alloc(), 100, REFUSED));
 }
 

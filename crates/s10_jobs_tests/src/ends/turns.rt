@@ -1,10 +1,10 @@
 //! Turns of a server over links that follow a script.
 
-use crate::ends::answered::{Ends, is_as_wanted_reply};
 use crate::ends::fixtures::{
     DRAW, DRAWN, GRANT, GRANTED, SECOND_DRAW, SECOND_DRAWN, Sent, granted_server, has_sent,
     new_server,
 };
+use crate::ends::turn_ends::{Ends, is_expected_turn};
 use crate::expect::holds_at;
 use crate::links::{Meets, link_of, link_with_failure};
 use s10_book::{Book, BookFault, GroupCommit};
@@ -26,7 +26,7 @@ const OTHER: Peer = Peer {
 
 /// Returns whether the next turn of a server ends as expected.
 fn serves<B: GroupCommit, L: Link>(server: &mut Server<B>, link: &mut L, ends: &Ends) -> bool {
-    is_as_wanted_reply(&serve_one(server, link, 20_000), ends)
+    is_expected_turn(&serve_one(server, link, 20_000), ends)
 }
 
 /// A script of a link, and what is expected of the turns over it.
@@ -44,7 +44,7 @@ struct Script {
 }
 
 /// Asserts that the turns of a server over a script end as expected.
-fn go_as_scripted<B: GroupCommit + Drop>(
+fn follow_script<B: GroupCommit + Drop>(
     rt: &impl Abort,
     alloc: Global,
     mut server: Server<B>,
@@ -72,7 +72,7 @@ const UNSENT: Script = Script {
 #[test]
 fn reply_that_was_not_sent_is_kept(rt: HostRuntime) {
     let server = granted_server(rt.alloc(), 100);
-    go_as_scripted(&rt, rt.alloc(), server, &UNSENT);
+    follow_script(&rt, rt.alloc(), server, &UNSENT);
 }
 
 /// Nothing, two datagrams that are no requests, a new Draw to a full book, and the first Grant
@@ -99,9 +99,9 @@ const UNANSWERED: Script = Script {
 };
 
 #[test]
-fn turns_without_a_reply(rt: HostRuntime) {
+fn turns_without_a_reply_send_nothing(rt: HostRuntime) {
     let server = granted_server(rt.alloc(), 1);
-    go_as_scripted(&rt, rt.alloc(), server, &UNANSWERED);
+    follow_script(&rt, rt.alloc(), server, &UNANSWERED);
 }
 
 /// Customer 7's third Draw.

@@ -60,7 +60,7 @@ fn datagrams_pass_over_loopback(rt: HostRuntime) {
 
 /// Returns whether receives that do not wait give the frame only after it was sent, and a receive
 /// that waits gives the next one.
-fn takes_what_has_come(
+fn receives_what_has_arrived(
     from: &mut UdpLink,
     to: &mut UdpLink,
     frame: &Frame,
@@ -86,7 +86,7 @@ fn what_has_arrived_is_received_without_waiting(rt: HostRuntime) {
     let mut far = bound(&rt, 100_000);
     let packet = Packet::new(DRAW);
     let frame = encode_request(&request(1));
-    assert!(rt; takes_what_has_come(&mut near, &mut far, &frame, packet));
+    assert!(rt; receives_what_has_arrived(&mut near, &mut far, &frame, packet));
     assert!(rt; has_received(&far, 4, 2));
 }
 
@@ -97,7 +97,7 @@ fn hears_nothing<R: Abort + Net>(rt: &R, wait_ms: u32) -> bool {
 }
 
 #[test]
-fn wait_that_ran_out_is_nothing(rt: HostRuntime) {
+fn a_wait_without_a_datagram_is_no_failure(rt: HostRuntime) {
     holds_at(&rt, 0, hears_nothing(&rt, 0));
     holds_at(&rt, 1, hears_nothing(&rt, 1));
     holds_at(&rt, 20, hears_nothing(&rt, 20));

@@ -1,7 +1,7 @@
 //! A world in which the post withdraws a customer's range.
 
 use crate::ends::fixtures::{DRAWN, GRANTED};
-use crate::ends::odd_worlds::{Expected, comes_to};
+use crate::ends::odd_worlds::{Expected, ends_as_expected};
 use crate::ends::story::{Asked, Happens};
 
 const WITHDRAWN: &[u8] = b"S1\x02\x86\0\0\0\0\0\0\0\x02\0\0\0\x01\0";
@@ -57,6 +57,6 @@ const ONE_RANGE: Expected<'static> = Expected {
 };
 
 #[test]
-fn a_range_is_withdrawn_once_and_gives_no_more(rt: HostRuntime) {
-    assert!(rt; comes_to(rt.alloc(), 100, OVERTAKEN, &ONE_RANGE));
+fn a_range_is_withdrawn_once_and_gives_no_more_identifiers(rt: HostRuntime) {
+    assert!(rt; ends_as_expected(rt.alloc(), 100, OVERTAKEN, &ONE_RANGE));
 }

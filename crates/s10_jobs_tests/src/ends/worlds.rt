@@ -88,7 +88,7 @@ fn are_held<B: Book>(rt: &impl Abort, book: &mut B) {
 }
 
 #[test]
-fn each_call_is_executed_once_and_answered_to_its_own_client(rt: HostRuntime) {
+fn each_call_is_executed_once_and_its_reply_accepted_by_its_own_client(rt: HostRuntime) {
     let Some(world) = world_after(rt.alloc(), empty_book(rt.alloc(), 100), STORY) else {
         panic!(rt; "the story");
     };
@@ -149,7 +149,7 @@ fn replies_that_agree<B: Book + Drop>(alloc: Global, book: B) -> Option<usize> {
 /// Returns the first call of the book, counted from 0, whose failure does not leave four replies
 /// that agree, and the number of replies then. The run makes no such call if all five replies are
 /// sent.
-fn first_passed_over(alloc: Global) -> (u64, Option<usize>) {
+fn first_without_failure(alloc: Global) -> (u64, Option<usize>) {
     for at in 0..100u64 {
         let book = TripBook::new(empty_book(alloc, 100), at);
         let replied = replies_that_agree(alloc, book);
@@ -163,7 +163,7 @@ fn first_passed_over(alloc: Global) -> (u64, Option<usize>) {
 // A failure at each call of the book in turn costs one reply, and the run continues.
 #[test]
 fn accepted_replies_agree_with_a_book_that_failed(rt: HostRuntime) {
-    let (at, replied) = first_passed_over(rt.alloc());
+    let (at, replied) = first_without_failure(rt.alloc());
     assert!(rt; replied == Some(5), "at {at}");
     assert!(rt; 4 < at);
 }

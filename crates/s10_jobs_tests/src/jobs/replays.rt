@@ -181,7 +181,7 @@ fn small_inputs_are_read_as_lines(rt: HostRuntime) {
 }
 
 #[test]
-fn digits_of_both_cases_are_read_and_small_ones_written(rt: HostRuntime) {
+fn hex_digits_of_both_cases_are_read_and_lower_case_is_written(rt: HostRuntime) {
     let is_replayed = is_replayed(
         rt.alloc(),
         b"20000 53310101000000000000000100000007524147420000000A0000000c",
@@ -225,7 +225,7 @@ fn longer_line_is_refused_without_reading_more(rt: HostRuntime) {
 }
 
 #[test]
-fn longer_line_is_refused_where_the_input_ends(rt: HostRuntime) {
+fn longer_line_is_refused_at_the_end_of_the_input(rt: HostRuntime) {
     assert!(rt; is_replayed(rt.alloc(), &ZEROS, Err(ReplayFault::Line(1)), ""));
 }
 
@@ -361,7 +361,7 @@ fn stops_there(
 }
 
 #[test]
-fn a_refused_line_is_no_unreadable_input(rt: HostRuntime) {
+fn a_refused_line_is_not_reported_as_unreadable_input(rt: HostRuntime) {
     for (bytes, ends, fails, text) in STOPS {
         let stops = stops_there(rt.alloc(), bytes, *ends, *fails, text);
         holds(&rt, bytes, stops);

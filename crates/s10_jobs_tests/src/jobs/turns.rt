@@ -179,7 +179,7 @@ fn has_lines(out: Flushed, turns: &Turns<'_>) -> bool {
 
 /// Returns whether the turns of a server over the link have their status, and write and flush their
 /// lines.
-fn come_to<R: Clock + Eprint, B: GroupCommit, L: Link>(
+fn are_as_expected<R: Clock + Eprint, B: GroupCommit, L: Link>(
     rt: &R,
     alloc: Global,
     server: &mut Server<B>,
@@ -200,7 +200,7 @@ fn are_served<R: Clock + Eprint>(rt: &R, alloc: Global, turns: &Turns<'_>) -> bo
         return false;
     };
     let mut server = new_server(alloc);
-    come_to(rt, alloc, &mut server, &mut link, turns) && server.book().len() == turns.calls
+    are_as_expected(rt, alloc, &mut server, &mut link, turns) && server.book().len() == turns.calls
 }
 
 /// Returns `count` turns over the link of `SEVEN`, with the first of the lines, in `batches`
@@ -254,7 +254,7 @@ replied 533101820000000700000001524147420000004e2052413030303030303030354742
 };
 
 #[test]
-fn the_clock_gives_the_day_where_none_is_given(rt: HostRuntime) {
+fn the_clock_gives_the_day_if_none_is_given(rt: HostRuntime) {
     // The last second of day 20000.
     let clock = Standing(Some(Duration::from_secs(20_001 * 86_400 - 1)));
     assert!(rt; are_served(&clock, rt.alloc(), &TWO_TURNS));

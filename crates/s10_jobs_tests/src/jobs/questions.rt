@@ -76,7 +76,7 @@ const UNANSWERED: &[(&[bool], &str)] = &[
 ];
 
 #[test]
-fn what_came_of_a_call_without_a_reply_is_printed(rt: HostRuntime) {
+fn a_call_without_a_reply_prints_its_fault(rt: HostRuntime) {
     for (sends, line) in UNANSWERED {
         let is_asked = is_asked_once(rt.alloc(), &[], sends, JobStatus::Failed, line);
         holds(&rt, line, is_asked);
@@ -109,7 +109,7 @@ const ANSWERS: &[Answered] = &[
 ];
 
 #[test]
-fn what_came_of_a_call_is_printed(rt: HostRuntime) {
+fn the_reply_to_a_call_is_printed(rt: HostRuntime) {
     for (at_once, late, status, line) in ANSWERS {
         let is_first = is_asked_once(rt.alloc(), at_once, &[true], *status, line);
         let is_second = is_asked_once(rt.alloc(), late, &[true, true], *status, line);
@@ -175,7 +175,7 @@ const WITHDRAWALS: &[(&[u8], JobStatus, &str)] = &[
 ];
 
 #[test]
-fn what_came_of_a_withdrawal_is_printed(rt: HostRuntime) {
+fn the_reply_to_a_withdrawal_is_printed(rt: HostRuntime) {
     for (reply, status, line) in WITHDRAWALS {
         holds(&rt, line, is_withdrawn(rt.alloc(), reply, *status, line));
     }

@@ -53,7 +53,7 @@ const HEADS: &[Change] = &[
 ];
 
 #[test]
-fn head_says_how_the_calls_were_made(rt: HostRuntime) {
+fn calls_are_checked_under_the_settings_of_the_head(rt: HostRuntime) {
     are_found(&rt, NINE_CALLS, HEADS);
 }
 
@@ -76,6 +76,6 @@ const OTHERS: &[Change] = &[
 ];
 
 #[test]
-fn other_tables_are_those_that_the_calls_make(rt: HostRuntime) {
+fn stored_rows_that_differ_from_the_derived_ones_are_damage(rt: HostRuntime) {
     are_found(&rt, NINE_CALLS, OTHERS);
 }

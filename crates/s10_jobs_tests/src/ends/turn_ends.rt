@@ -36,7 +36,7 @@ fn has_ended(turn: &ServerTurn, ends: &Ends) -> bool {
 }
 
 /// Returns whether a turn ends as expected.
-pub(crate) fn is_as_wanted_reply(turn: &Turn, ends: &Ends) -> bool {
+pub(crate) fn is_expected_turn(turn: &Turn, ends: &Ends) -> bool {
     match (turn, ends) {
         (Ok(turn), _) => has_ended(turn, ends),
         (Err(fault), Ends::Failed(failure)) => fault == failure,

@@ -83,7 +83,7 @@ const TWO_OF_THREE_DRAWN: &'static [Step] = &[
 ];
 
 #[test]
-fn a_sheet_from_one_range_has_its_serials_in_turn(rt: HostRuntime) {
+fn a_sheet_from_one_range_has_its_serials_in_order(rt: HostRuntime) {
     are_right(&rt, TWO_OF_THREE_DRAWN, SHEETS_OF_ONE_RANGE);
 }
 
@@ -108,7 +108,7 @@ const THREE_GRANTS: &'static [Step] = &[
 ];
 
 #[test]
-fn a_sheet_goes_on_in_the_next_range(rt: HostRuntime) {
+fn a_sheet_continues_in_the_next_range(rt: HostRuntime) {
     are_right(&rt, THREE_GRANTS, SHEETS_OF_TWO_RANGES);
 }
 
@@ -128,6 +128,6 @@ const SECOND_OF_THREE_CLOSED: &'static [Step] = &[
 ];
 
 #[test]
-fn a_sheet_passes_over_a_closed_range(rt: HostRuntime) {
+fn a_sheet_skips_a_closed_range(rt: HostRuntime) {
     are_right(&rt, SECOND_OF_THREE_CLOSED, SHEETS_OVER_A_CLOSED_RANGE);
 }
