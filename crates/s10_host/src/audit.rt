@@ -26,7 +26,7 @@ use std::io::Write;
 pub fn run_audit<S: Alter, K: Observer, W: Write>(
     alloc: Global,
     connection: Connection<S>,
-    watch: &mut K,
+    observer: &mut K,
     output: &mut W,
 ) -> (Result<JobStatus, WriteFault>, Connection<S>)
     requires idle { connection.in_transaction ≡ false }
@@ -34,7 +34,7 @@ pub fn run_audit<S: Alter, K: Observer, W: Write>(
         × IfOk result.0 (λ status. (status ≡ audit_status found)
         × Appends (W.contents output.old) (W.contents output.new) (audit_line found)) }
 {
-    let (found, left) = audit_ledger(alloc, connection, watch);
+    let (found, left) = audit_ledger(alloc, connection, observer);
     (write_audit(found, output), left)
 }
 
@@ -42,12 +42,12 @@ pub fn run_audit<S: Alter, K: Observer, W: Write>(
 fn audit_ledger<S: Alter, K: Observer>(
     alloc: Global,
     connection: Connection<S>,
-    watch: &mut K,
+    observer: &mut K,
 ) -> (Result<u32, OpenFault>, Connection<S>)
     requires idle { connection.in_transaction ≡ false }
     ensures { HasFound S.Store connection result.1 result.0 }
 {
-    match SqlBook::open(alloc, connection, watch) {
+    match SqlBook::open(alloc, connection, observer) {
         Ok(book) => {
             let count = book.len();
             (Ok(count), book.close())

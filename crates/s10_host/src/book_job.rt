@@ -62,7 +62,7 @@ pub fn run_book_job<A: Alter, K: Observer, W: Write>(
     rt: &HostRuntime,
     connection: Connection<A>,
     work: BookJob,
-    watch: &mut K,
+    observer: &mut K,
     out: &mut W,
 ) -> Result<BookJobEnd<A>, Refused<A>>
     requires idle { connection.in_transaction ≡ false }
@@ -72,7 +72,7 @@ pub fn run_book_job<A: Alter, K: Observer, W: Write>(
         r.fault) }
     ensures silent { IfErr result (λ _. W.contents out.new ≡ W.contents out.old) }
 {
-    let book = book_for(rt.alloc(), connection, &work, watch)?;
+    let book = book_for(rt.alloc(), connection, &work, observer)?;
     Ok(run_and_close_book(rt, book, work, out))
 }
 
@@ -81,7 +81,7 @@ fn book_for<A: Alter, K: Observer>(
     alloc: Global,
     connection: Connection<A>,
     work: &BookJob,
-    watch: &mut K,
+    observer: &mut K,
 ) -> Result<SqlBook<A>, Refused<A>>
     requires idle { connection.in_transaction ≡ false }
     ensures made { (terms : Terms) → work.now ≡ BookJob.Create terms
@@ -92,8 +92,8 @@ fn book_for<A: Alter, K: Observer>(
         r.fault) }
 {
     match work {
-        BookJob::Create(settings) => SqlBook::create(alloc, connection, *settings, watch),
-        _ => SqlBook::open(alloc, connection, watch),
+        BookJob::Create(settings) => SqlBook::create(alloc, connection, *settings, observer),
+        _ => SqlBook::open(alloc, connection, observer),
     }
 }
 

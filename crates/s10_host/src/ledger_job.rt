@@ -40,7 +40,7 @@ pub fn run_ledger_job<A: Alter + Drop, K: Observer, W: Write>(
     rt: &HostRuntime,
     connection: Connection<A>,
     task: LedgerJob,
-    watch: &mut K,
+    observer: &mut K,
     out: &mut W,
 ) -> LedgerJobEnd<A>
     requires idle { connection.in_transaction ≡ false }
@@ -60,12 +60,12 @@ pub fn run_ledger_job<A: Alter + Drop, K: Observer, W: Write>(
         × (doubt (A.Store.view left.store).is_clean ≤ doubt (A.Store.view store).is_clean) }
 {
     match task {
-        LedgerJob::BookJob(work) => match run_book_job(rt, connection, work, watch, out) {
+        LedgerJob::BookJob(work) => match run_book_job(rt, connection, work, observer, out) {
             Ok(worked) => LedgerJobEnd::BookJobEnd(worked),
             Err(refused) => LedgerJobEnd::Refused(refused),
         },
         LedgerJob::Audit => {
-            let (audited, left) = run_audit(rt.alloc(), connection, watch, out);
+            let (audited, left) = run_audit(rt.alloc(), connection, observer, out);
             LedgerJobEnd::Audited(audited, left.into_store())
         }
     }

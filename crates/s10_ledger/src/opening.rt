@@ -32,7 +32,7 @@ fn replay_tables<S: Alter, W: Observer>(
     alloc: Global,
     conn: &mut Connection<S>,
     form: TableLayout,
-    watch: &mut W,
+    observer: &mut W,
 ) -> Result<(LedgerSummary, CallIndex), OpenFault>
     requires settled { IsQuiescent S.Store conn.old }
     requires form { IsOfTableLayout form (state S.Store conn.old).now.schema }
@@ -46,10 +46,10 @@ fn replay_tables<S: Alter, W: Observer>(
         → IsTrue (state S.Store conn.new).is_open
         → IfErr result (IsOpeningRefusal (state S.Store conn.old).now) }
 {
-    let (made, rows) = match read_tables(alloc, conn, form, watch) {
+    let (made, rows) = match read_tables(alloc, conn, form, observer) {
         Ok(rows) => rows,
         Err(error) => {
-            watch.statement_failed(&error);
+            observer.statement_failed(&error);
             return Err(opening_fault(error));
         }
     };
@@ -61,7 +61,7 @@ fn replay_tables<S: Alter, W: Observer>(
 fn complete<S: Alter, W: Observer>(
     conn: &mut Connection<S>,
     form: TableLayout,
-    watch: &mut W,
+    observer: &mut W,
 ) -> Result<(), OpenFault>
     requires settled { IsQuiescent S.Store conn.old }
     ensures settled { IsQuiescent S.Store conn.new }
@@ -82,7 +82,7 @@ fn complete<S: Alter, W: Observer>(
         TableLayout::Old => match create_closed(conn) {
             Ok(()) => Ok(()),
             Err(error) => {
-                watch.statement_failed(&error);
+                observer.statement_failed(&error);
                 Err(opening_fault(error))
             }
         },
@@ -94,7 +94,7 @@ fn complete<S: Alter, W: Observer>(
 pub(crate) fn ledger_in<S: Alter, W: Observer>(
     alloc: Global,
     conn: &mut Connection<S>,
-    watch: &mut W,
+    observer: &mut W,
 ) -> Result<(LedgerSummary, CallIndex), OpenFault>
     requires settled { IsQuiescent S.Store conn.old }
     ensures settled { IsQuiescent S.Store conn.new }
@@ -125,8 +125,8 @@ pub(crate) fn ledger_in<S: Alter, W: Observer>(
     let Some(form) = table_layout_of(conn.schema()) else {
         return Err(OpenFault::NotALedger);
     };
-    let found = replay_tables(alloc, conn, form, watch)?;
-    complete(conn, form, watch)?;
+    let found = replay_tables(alloc, conn, form, observer)?;
+    complete(conn, form, observer)?;
     Ok(found)
 }
 
@@ -163,7 +163,7 @@ impl<S: Alter> SqlBook<S> {
     pub fn open<W: Observer>(
         alloc: Global,
         mut conn: Connection<S>,
-        watch: &mut W,
+        observer: &mut W,
     ) -> Result<SqlBook<S>, Refused<S>>
         requires idle { conn.in_transaction ≡ false }
         ensures new { IfOk result (λ b. b.faults ≡ no_faults) }
@@ -200,7 +200,7 @@ impl<S: Alter> SqlBook<S> {
     {
         // Brings into scope that a connection in no transaction has nothing to commit.
         prove!(conn.is_autocommit());
-        match ledger_in(alloc, &mut conn, watch) {
+        match ledger_in(alloc, &mut conn, observer) {
             Ok((opened, index)) => Ok(SqlBook::over(alloc, conn, opened.settings, index)),
             Err(fault) => Err(Refused {
                 fault,

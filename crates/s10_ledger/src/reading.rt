@@ -24,7 +24,7 @@ use std::alloc::Global;
 fn read_call_rows<S: Alter, W: Observer>(
     alloc: Global,
     conn: &mut Connection<S>,
-    watch: &mut W,
+    observer: &mut W,
 ) -> Result<(Vec<HeadRow>, Vec<CallRow>), Error>
     ensures leaves { LeavesTables S.Store conn.old conn.new }
     ensures opened { HasCleanDisk (state S.Store conn.new)
@@ -34,7 +34,7 @@ fn read_call_rows<S: Alter, W: Observer>(
         → IfOk result (λ kept. HasCallRows (state S.Store conn.old).now kept.0.items kept.1.items) }
 {
     let heads = all_heads(alloc, conn)?;
-    let calls = all_calls(alloc, conn, watch)?;
+    let calls = all_calls(alloc, conn, observer)?;
     Ok((heads, calls))
 }
 
@@ -59,7 +59,7 @@ fn closed_rows<S: Alter>(
 fn read_derived_rows<S: Alter, W: Observer>(
     alloc: Global,
     conn: &mut Connection<S>,
-    watch: &mut W,
+    observer: &mut W,
 ) -> Result<(Vec<RangeRow>, Vec<SerialRow>), Error>
     ensures leaves { LeavesTables S.Store conn.old conn.new }
     ensures opened { HasCleanDisk (state S.Store conn.new)
@@ -70,7 +70,7 @@ fn read_derived_rows<S: Alter, W: Observer>(
         made.1.items) }
 {
     let ranges = all_ranges(alloc, conn)?;
-    let serials = all_serials(alloc, conn, watch)?;
+    let serials = all_serials(alloc, conn, observer)?;
     Ok((ranges, serials))
 }
 
@@ -79,7 +79,7 @@ pub(crate) fn read_tables<S: Alter, W: Observer>(
     alloc: Global,
     conn: &mut Connection<S>,
     form: TableLayout,
-    watch: &mut W,
+    observer: &mut W,
 ) -> Result<(Result<ReplayedBook, OpenFault>, StoredRows), Error>
     requires form { IsOfTableLayout form (state S.Store conn.old).now.schema }
     ensures leaves { LeavesTables S.Store conn.old conn.new }
@@ -92,9 +92,9 @@ pub(crate) fn read_tables<S: Alter, W: Observer>(
         × ((calls : List StoredCall) × IsReplayedBook heads calls made))) }
 {
     let closed = closed_rows(alloc, conn, form)?;
-    let (heads, calls) = read_call_rows(alloc, conn, watch)?;
+    let (heads, calls) = read_call_rows(alloc, conn, observer)?;
     let made = ReplayedBook::of(alloc, heads, calls);
-    let (ranges, serials) = read_derived_rows(alloc, conn, watch)?;
+    let (ranges, serials) = read_derived_rows(alloc, conn, observer)?;
     let rows = StoredRows {
         ranges,
         serials,

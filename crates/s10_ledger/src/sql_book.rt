@@ -93,7 +93,7 @@ impl<S: Alter> SqlBook<S> {
         alloc: Global,
         conn: Connection<S>,
         settings: Settings,
-        watch: &mut W,
+        observer: &mut W,
     ) -> Result<SqlBook<S>, Refused<S>>
         requires idle { conn.in_transaction ≡ false }
         ensures new { IfOk result (λ b. (b.terms ≡ settings) × (b.faults ≡ no_faults)) }
@@ -124,7 +124,7 @@ impl<S: Alter> SqlBook<S> {
             return Err(Refused { fault, connection });
         }
         if let Err(error) = create_tables(&mut connection, settings) {
-            watch.statement_failed(&error);
+            observer.statement_failed(&error);
             let fault = opening_fault(error);
             return Err(Refused { fault, connection });
         }

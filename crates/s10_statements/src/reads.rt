@@ -79,7 +79,7 @@ pub fn all_heads<S: Alter>(alloc: Global, conn: &mut Connection<S>) -> Result<Ve
 pub fn all_calls<S: Alter, W: Observer>(
     alloc: Global,
     conn: &mut Connection<S>,
-    watch: &mut W,
+    observer: &mut W,
 ) -> Result<Vec<CallRow>, Error>
     ensures leaves { LeavesTables S.Store conn.old conn.new }
     ensures opened { IsClean S.Store conn.new → OnOk result (IsOpen S.Store conn.new) }
@@ -100,7 +100,7 @@ pub fn all_calls<S: Alter, W: Observer>(
         conn,
         "SELECT arrival, customer, number, day, reply FROM calls ORDER BY arrival",
         &[],
-        watch,
+        observer,
     )
 }
 
@@ -170,7 +170,7 @@ pub fn serials_within<S: Alter>(
 pub fn all_serials<S: Alter, W: Observer>(
     alloc: Global,
     conn: &mut Connection<S>,
-    watch: &mut W,
+    observer: &mut W,
 ) -> Result<Vec<SerialRow>, Error>
     ensures leaves { LeavesTables S.Store conn.old conn.new }
     ensures opened { IsClean S.Store conn.new → OnOk result (IsOpen S.Store conn.new) }
@@ -186,7 +186,7 @@ pub fn all_serials<S: Alter, W: Observer>(
         alloc,
         conn,
         "SELECT pair, serial, arrival, day, customer, number, voided, rowid FROM serials ORDER BY pair, serial",
-        watch,
+        observer,
     )
 }
 

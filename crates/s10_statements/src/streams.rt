@@ -30,7 +30,7 @@ pub(crate) fn stream_calls<S: Alter, W: Observer>(
     conn: &mut Connection<S>,
     sql: &str,
     params: &[ValueRef<'_>],
-    watch: &mut W,
+    observer: &mut W,
 ) -> Result<Vec<CallRow>, Error>
     requires plain { (o : Schema) → IsPlain (understood (with_others o) sql.now) }
     ensures leaves { LeavesTables S.Store conn.old conn.new }
@@ -49,7 +49,7 @@ pub(crate) fn stream_calls<S: Alter, W: Observer>(
             return Ok(calls);
         };
         calls.push(call_row_in(row)?)?;
-        watch.rows_read("calls", done + 1);
+        observer.rows_read("calls", done + 1);
     }
     Err(TOO_MANY)
 }
@@ -60,7 +60,7 @@ pub(crate) fn stream_serials<S: Alter, W: Observer>(
     alloc: Global,
     conn: &mut Connection<S>,
     sql: &str,
-    watch: &mut W,
+    observer: &mut W,
 ) -> Result<Vec<SerialRow>, Error>
     requires plain { (o : Schema) → IsPlain (understood (with_others o) sql.now) }
     ensures leaves { LeavesTables S.Store conn.old conn.new }
@@ -79,7 +79,7 @@ pub(crate) fn stream_serials<S: Alter, W: Observer>(
             return Ok(serials);
         };
         serials.push(serial_with_rowid_in(row)?)?;
-        watch.rows_read("serials", done + 1);
+        observer.rows_read("serials", done + 1);
     }
     Err(TOO_MANY)
 }
