@@ -105,7 +105,8 @@ pub trait Book {
     fn closed(&mut self, num: u32) -> Result<bool, BookFault>
         ensures faults { CountsResult result (faults self.old) (faults self.new) }
         ensures unchanged { Unchanged history terms honest self.old self.new }
-        ensures answer { honest self.new → IfOk result (λ b. b ≡ is_closed (history self.old) num) };
+        ensures answer { honest self.new
+            → IfOk result (λ b. b ≡ is_closed (history self.old) num) };
 
     /// Returns the open range of a holder key with the least number above `after`, if there is one.
     ///

@@ -28,7 +28,8 @@ pub trait GroupCommit: Book {
         ensures unchanged { Unchanged Self.history Self.terms Self.honest self.old self.new }
         ensures done { Self.honest self.new
             → OnOk result (committed self.new ≡ Self.history self.new) }
-        ensures left { Self.honest self.new → OnErr result (committed self.new ≡ committed self.old) };
+        ensures left { Self.honest self.new
+            → OnErr result (committed self.new ≡ committed self.old) };
 
     /// Returns whether no pending call has this key.
     fn is_committed(&self, customer: u32, number: u32) -> bool

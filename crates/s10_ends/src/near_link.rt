@@ -52,7 +52,8 @@ impl<B: GroupCommit, F: Link, N: Link> Link for NearLink<B, F, N> {
 
     ghost trace_of = { λ link. N.trace_of link.near };
 
-    ghost step = { IsNearStep B.faults B.honest B.terms B.history B.committed F.trace_of N.trace_of };
+    ghost step = { IsNearStep B.faults B.honest B.terms B.history B.committed F.trace_of
+        N.trace_of };
 
     fn receive(&mut self) -> Result<Option<(Peer, Packet)>, LinkFault>
         ensures trace { Receives (N.trace_of self.old.near) (N.trace_of self.new.near) result }

@@ -57,8 +57,8 @@ fn record_issues(issues: &mut HashMap<(u32, u32), Issue>, entry: &Entry)
 // Records an issuance, in memory reserved for one more.
 fn record_issue(issues: &mut HashMap<(u32, u32), Issue>, issuance: &Issuance)
     requires room { 0 < spare issues.old }
-    ensures recorded { RecordsIssue (id_key issuance.now.id) (as_issue issuance.now false) issues.old
-        issues.new }
+    ensures recorded { RecordsIssue (id_key issuance.now.id) (as_issue issuance.now false)
+        issues.old issues.new }
     ensures spare { spare issues.old ≤ spare issues.new + 1 }
     ensures parts { IsId issuance.now.id }
 {
