@@ -15,7 +15,7 @@ pub struct Packet {
 impl Model for Packet {
     ghost use Rattle.std.specs.Prelude.{ℕ, List, take, length};
     ghost use Rattle.std.proofs.Common.{sym};
-    ghost use Rattle.s10_wire.specs.Padding.{IsZeroPadded, padded_with_first};
+    ghost use Rattle.s10_wire.specs.Padding.{IsZeroPadded, zero_padded};
 
     ghost Value = { List ℕ };
 
@@ -23,7 +23,7 @@ impl Model for Packet {
 
     ghost invariant = { λ packet. IsZeroPadded 512 packet.room packet.len };
 
-    ghost inverse = { λ bytes. record { room = padded_with_first 512 bytes; len = length bytes } };
+    ghost inverse = { λ bytes. record { room = zero_padded 512 bytes; len = length bytes } };
 
     ghost inverse_ok = { λ packet known i. record { room = sym known.rest i; len = known.long i } };
 }

@@ -6,23 +6,23 @@ use Rattle.std.proofs.Math.Seq.{take-append_seam, drop-append-add}
 use Rattle.std.proofs.lemmas.List.{drop-replicate, take-append-drop}
 use Rattle.std.proofs.lemmas.Slice.{take-put_mid, drop-put_mid}
 use borrow.Rule.Slice.PartMut.{put_mid}
-use Rattle.s10_wire.specs.Padding.{padded_with_first, IsZeroPadded}
+use Rattle.s10_wire.specs.Padding.{zero_padded, IsZeroPadded}
 
 -- The bytes in front of the zeros are those that were padded.
 pub front_is : (size : ℕ) (room : List ℕ) (len : ℕ) (bytes : List ℕ) → len ≡ length bytes
-    → room ≡ padded_with_first size bytes → take len room ≡ bytes
+    → room ≡ zero_padded size bytes → take len room ≡ bytes
 front_is size room len bytes long rest = ap₂ take long rest
     ∙ take-append_seam bytes (replicate (size - length bytes) 0)
 
 pub is_roomed : (size : ℕ) (room : List ℕ) (len : ℕ) (bytes : List ℕ) → len ≤ size
-    → len ≡ length bytes → room ≡ padded_with_first size bytes → IsZeroPadded size room len
+    → len ≡ length bytes → room ≡ zero_padded size bytes → IsZeroPadded size room len
 is_roomed size room len bytes few long rest =
     let front : take len room ≡ bytes = front_is size room len bytes long rest in
     record {
       few = few;
       long = ap length front ∙ sym long;
       rest = rest
-          ∙ sym (ap (padded_with_first size) front);
+          ∙ sym (ap (zero_padded size) front);
     }
 
 -- An array of zeros holds the bytes that are written at its front.
@@ -34,15 +34,15 @@ fill_roomed size len front bytes long few same =
     is_roomed size _ len bytes few long (ap₂ (λ (l m : List ℕ). l ++ m) same zeros)
 
 -- Equal arrays that hold the same number of bytes hold the same bytes.
-pub one_front : (size : ℕ) (a b : List ℕ) → padded_with_first size a ≡ padded_with_first size b
+pub one_front : (size : ℕ) (a b : List ℕ) → zero_padded size a ≡ zero_padded size b
     → length a ≡ length b → a ≡ b
-one_front size a b rooms lens = sym (front_is size (padded_with_first size a) (length a) a refl refl)
-    ∙ front_is size (padded_with_first size a) (length a) b lens rooms
+one_front size a b rooms lens = sym (front_is size (zero_padded size a) (length a) a refl refl)
+    ∙ front_is size (zero_padded size a) (length a) b lens rooms
 
 -- The array once bytes are appended to those that it holds.
 pub put_is : (size : ℕ) (room : List ℕ) (len k : ℕ) (ys bytes : List ℕ) → IsZeroPadded size room len
     → len + length bytes ≤ size → k ≡ length bytes → ys ≡ bytes
-    → put_mid len k room ys ≡ padded_with_first size (take len room ++ bytes)
+    → put_mid len k room ys ≡ zero_padded size (take len room ++ bytes)
 put_is size room len k ys bytes is fits count same =
     let front : List ℕ = take len room in
     let zeros : List ℕ = replicate (size - length front) 0 in

@@ -12,7 +12,7 @@ pub struct Frame {
 impl Model for Frame {
     ghost use Rattle.std.specs.Prelude.{ℕ, List, take, length};
     ghost use Rattle.std.proofs.Common.{sym};
-    ghost use Rattle.s10_wire.specs.Padding.{IsZeroPadded, padded_with_first};
+    ghost use Rattle.s10_wire.specs.Padding.{IsZeroPadded, zero_padded};
 
     ghost Value = { List ℕ };
 
@@ -20,7 +20,7 @@ impl Model for Frame {
 
     ghost invariant = { λ frame. IsZeroPadded 256 frame.room frame.len };
 
-    ghost inverse = { λ bytes. record { room = padded_with_first 256 bytes; len = length bytes } };
+    ghost inverse = { λ bytes. record { room = zero_padded 256 bytes; len = length bytes } };
 
     ghost inverse_ok = { λ frame known i. record { room = sym known.rest i; len = known.long i } };
 }

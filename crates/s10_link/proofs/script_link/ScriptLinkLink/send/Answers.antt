@@ -14,14 +14,14 @@ fitting next sends len under is short = omega arith
 
 -- The log has capacity for one more frame.
 room_left : (log sends room next : ℕ) → log + sends ≤ room + next → next < sends → log < room
-room_left log sends room next padded_with_first under = omega arith
+room_left log sends room next zero_padded under = omega arith
 
 room_sent : (log sends room next log' room' : ℕ) → log + sends ≤ room + next → log' ≡ log + 1
     → room' ≡ room → log' + sends ≤ room' + (next + 1)
-room_sent log sends room next log' room' padded_with_first is same = omega arith
+room_sent log sends room next log' room' zero_padded is same = omega arith
 
 room_kept : (log sends room next : ℕ) → log + sends ≤ room + next → log + sends ≤ room + (next + 1)
-room_kept log sends room next padded_with_first = omega arith
+room_kept log sends room next zero_padded = omega arith
 
 one_more : (next sends : ℕ) → next < sends → next + 1 ≤ sends
 one_more next sends under = omega arith
