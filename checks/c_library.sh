@@ -1,0 +1,96 @@
+#!/usr/bin/env bash
+# Builds the C library and tries it as a C programmer would: the symbols that it needs and exports, the header as C11 and
+# C++17, demo.c alone, under the sanitizers and under valgrind, the example of contrib/c/README.md, and a build for 64-bit ARM
+# under qemu. Says what it skipped because the machine lacks it. The last line is `c library ok`, or the status is not 0.
+#
+#     checks/c_library.sh
+set -euo pipefail
+top=$(dirname "$(dirname "$(readlink -f "${BASH_SOURCE[0]}")")")
+c=$top/contrib/c
+work=$(mktemp -d)
+trap 'rm -rf "$work"' EXIT
+cd "$work"
+strict="-Wall -Wextra -Wpedantic -Werror"
+
+fail() {
+    echo "failed: $1" >&2
+    exit 1
+}
+
+# have TOOL..: whether the machine has each of them; says so if not.
+have() {
+    for tool in "$@"; do
+        if ! command -v "$tool" >/dev/null; then
+            echo "skipped $what: no $tool"
+            return 1
+        fi
+    done
+}
+
+echo "build, install, check"
+make -s -C "$c" BUILD="$work/build" PREFIX="$work/prefix" all check install >make.log 2>&1 || { cat make.log; fail make; }
+grep passed make.log
+library=$work/build/libs10.a
+shared=$work/prefix/lib/libs10.so
+[ "$(sed -n 's/^VERSION = //p' "$c/Makefile")" = "$(sed -n 's/^## //p' "$top/CHANGELOG.md" | head -n 1)" ] || fail "the version is not that of CHANGELOG.md"
+
+# Memory functions of C and nothing else are needed; what the header declares and nothing else is exported.
+needed=$(nm -u "$library" | awk '$1 == "U" {print $2}' | sort -u | xargs)
+[ "$needed" = "memcpy memmove memset" ] || fail "the library needs $needed"
+exported=$(nm -D --defined-only "$shared" | awk '{print $3}' | sort | xargs)
+declared=$(grep -oE '\bs10_[a-z_]+\(' "$c/s10.h" | tr -d '(' | sort -u | xargs)
+[ "$exported" = "$declared" ] || fail "exported $exported, declared $declared"
+echo "needs $needed; exports $(wc -w <<<"$exported") functions"
+
+echo '#include "s10.h"' >header.c
+cp header.c header.cc
+for compiler in gcc clang; do
+    what="header with $compiler"
+    have $compiler && $compiler -std=c11 $strict -I"$c" -fsyntax-only header.c
+done
+for compiler in g++ clang++; do
+    what="header with $compiler"
+    have $compiler && $compiler -std=c++17 $strict -I"$c" -fsyntax-only header.cc
+done
+
+what="demo with sanitizers"
+if have clang; then
+    clang -std=c11 $strict -I"$c" -g -O1 -fsanitize=address,undefined -fno-sanitize-recover=all "$c/demo.c" "$library" -o sanitized
+    ./sanitized
+fi
+what="demo under valgrind"
+if have valgrind; then
+    valgrind -q --error-exitcode=9 build/demo
+fi
+
+# The example of the page, by pkg-config, as C and as C++, over the installed library.
+awk '/^```c$/ {inside = 1; next} /^```/ {inside = 0} inside' "$c/README.md" >label.c
+awk '/^\$ \.\/label / {inside = 1} /^```/ {inside = 0} inside' "$c/README.md" >shown
+cp label.c label.cc
+what="example of contrib/c/README.md"
+if have pkg-config; then
+    export PKG_CONFIG_PATH=$work/prefix/lib/pkgconfig LD_LIBRARY_PATH=$work/prefix/lib
+    flags=$(pkg-config --cflags --libs s10)
+    for compile in "cc -std=c11 label.c" "c++ -std=c++17 label.cc"; do
+        $compile $strict $flags -o label
+        bash -c "$(sed -n 's/^\$ //p' shown)" >came
+        diff <(tail -n +2 shown) came || fail "$compile"
+    done
+fi
+
+# The same source is proved and compiled for another processor in a copy, since out/ has the library of this one.
+what="64-bit ARM"
+if have aarch64-linux-gnu-gcc qemu-aarch64; then
+    mkdir -p copy/crates
+    cp "$top/HANDLES" copy
+    for crate in s10_core s10_wire s10_lines s10_plain s10_c; do
+        grep -E "^$crate( staticlib)?:" "$top/crates.txt" >>copy/crates.txt
+        mkdir "copy/crates/$crate"
+        tar -C "$top/crates/$crate" --exclude=out --exclude=must-fail -c . | tar -C "copy/crates/$crate" -x
+    done
+    (cd copy/crates/s10_c && rt lib --target aarch64-unknown-linux-gnu) >arm.log 2>&1 || { tail -n 20 arm.log; fail "ARM build"; }
+    grep -o 'logic=proved functions=[0-9]* target=[^ ]*' arm.log | tail -n 1
+    aarch64-linux-gnu-gcc -std=c11 $strict -I"$c" -static -O2 "$c/demo.c" copy/crates/s10_c/out/libs10_c.a -o arm
+    qemu-aarch64 ./arm
+fi
+echo "c library ok"
