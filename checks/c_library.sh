@@ -1,9 +1,11 @@
 #!/usr/bin/env bash
 # Builds the C library and tries it as a C programmer would: the symbols that it needs and exports, the header as C11 and
-# C++17, demo.c alone, under the sanitizers and under valgrind, the example of contrib/c/README.md, and a build for 64-bit ARM
-# under qemu. Says what it skipped because the machine lacks it. The last line is `c library ok`, or the status is not 0.
+# C++17, demo.c alone, under the sanitizers and under valgrind, the example of contrib/c/README.md, the client with notes,
+# and a build for 64-bit ARM under qemu. The client draws from PROGRAM, by default crates/s10/out/s10, and is killed KILLS
+# times, by default 100. Says what it skipped because the machine lacks it. The last line is `c library ok`, or the status
+# is not 0.
 #
-#     checks/c_library.sh
+#     checks/c_library.sh [PROGRAM [KILLS]]
 set -euo pipefail
 top=$(dirname "$(dirname "$(readlink -f "${BASH_SOURCE[0]}")")")
 c=$top/contrib/c
@@ -79,6 +81,17 @@ if have pkg-config; then
 fi
 
 # The same source is proved and compiled for another processor in a copy, since out/ has the library of this one.
+# The client with notes, killed at random moments over a network that loses datagrams.
+what="client with notes"
+program=$(readlink -f "${1:-$top/crates/s10/out/s10}")
+make -s -C "$c" BUILD="$work/build" LIBRARY="$top/crates/s10_c/out/libs10_c.a" s10_draw
+g++ -std=c++17 $strict -I"$c" -x c++ -fsyntax-only "$c/s10_client.h"
+if [ -x "$program" ] && have python3; then
+    S10=$program python3 "$c/test_s10_client.py" build/s10_draw "${2:-100}"
+else
+    echo "skipped $what: $program is not built"
+fi
+
 what="64-bit ARM"
 if have aarch64-linux-gnu-gcc qemu-aarch64; then
     mkdir -p copy/crates

@@ -1,0 +1,99 @@
+/* Draws identifiers from an s10 server.
+ *
+ *     s10_draw create NOTES CUSTOMER FIRST LAST
+ *     s10_draw NOTES ADDRESS PORT SERVICE COUNTRY [COUNT [WAIT]]
+ *
+ * The first form creates the notes of a client. The second asks the last request of the notes again
+ * and then draws COUNT identifiers, by default 1. It sends a request up to 5 times and waits WAIT
+ * milliseconds after each, by default 1000. It prints a line for each reply: the number of the
+ * request, and the day and the identifier, or the code of the refusal. A line with a number that
+ * was printed before repeats that line.
+ *
+ * Status: 0 done, 1 refused by a rule, 2 wrong words, 3 no reply, or the notes or the socket
+ * failed. */
+#include "s10_client.h"
+#include <errno.h>
+#include <stdio.h>
+#include <stdlib.h>
+#include <string.h>
+
+static int usage(void) {
+    fputs("s10_draw create NOTES CUSTOMER FIRST LAST\n"
+          "s10_draw NOTES ADDRESS PORT SERVICE COUNTRY [COUNT [WAIT]]\n",
+          stderr);
+    return 2;
+}
+
+/* Prints why a call failed. */
+static int fail(int code) {
+    struct s10_word word;
+    s10_word((uint32_t)code, &word);
+    fprintf(stderr, "s10_draw: %s\n",
+            code == S10_SYSTEM        ? strerror(errno)
+            : code == S10_GAVE_UP     ? "gave-up"
+            : code == S10_BAD_NOTES   ? "no notes"
+            : code == S10_BAD_ADDRESS ? "no IPv4 address"
+                                      : word.text);
+    return code == S10_BAD_ADDRESS || (code >= S10_BAD_KIND && code <= S10_BAD_COUNT) ? 2 : 3;
+}
+
+/* Reads a number of 32 bits. */
+static int number(const char *text, uint32_t *out) {
+    char *end;
+    errno = 0;
+    unsigned long long value = strtoull(text, &end, 10);
+    *out = (uint32_t)value;
+    return *text >= '0' && *text <= '9' && *end == '\0' && errno == 0 && value <= UINT32_MAX;
+}
+
+/* Prints a reply. Returns whether the request is done. */
+static int print(const struct s10_frame *sent, const struct s10_outcome *outcome) {
+    struct s10_request request;
+    s10_decode(sent->bytes, sent->len, &request);
+    if (outcome->code != S10_DONE)
+        printf("%u refused %u\n", request.number, outcome->code);
+    else if (outcome->count == 0)
+        printf("%u done\n", request.number);
+    for (int i = 0; i < outcome->count; i++)
+        printf("%u day %u %s\n", request.number, outcome->day, outcome->texts[i]);
+    fflush(stdout);
+    return outcome->code == S10_DONE;
+}
+
+int main(int argc, char **argv) {
+    uint32_t customer, first, last, port, count = 1, wait = 1000;
+    if (argc == 6 && strcmp(argv[1], "create") == 0) {
+        if (!number(argv[3], &customer) || !number(argv[4], &first) || !number(argv[5], &last))
+            return usage();
+        int code = s10_notes_create(argv[2], customer, first, last);
+        return code == 0 ? 0 : fail(code);
+    }
+    if (argc < 6 || argc > 8 || !number(argv[3], &port) || port > 65535 || strlen(argv[4]) != 2 ||
+        strlen(argv[5]) != 2 || (argc > 6 && !number(argv[6], &count)) ||
+        (argc > 7 && (!number(argv[7], &wait) || wait > 60000)))
+        return usage();
+
+    struct s10_request draw = {.kind = S10_DRAW};
+    memcpy(draw.service, argv[4], 2);
+    memcpy(draw.country, argv[5], 2);
+    struct s10_session session;
+    struct s10_outcome outcome;
+    int code = s10_session_open(&session, argv[1], argv[2], (uint16_t)port);
+    if (code != 0) return fail(code);
+    session.wait = (int)wait;
+    int done = 1;
+    struct s10_frame sent = session.client.pending;
+    if (sent.len > 0 && (code = s10_session_again(&session, &outcome)) == 0) print(&sent, &outcome);
+    for (; code == 0 && done && count > 0; count--) {
+        struct s10_client before = session.client;
+        code = s10_session_call(&session, &draw, &outcome);
+        if (code == 0) {
+            draw.customer = before.customer;
+            draw.number = (uint32_t)(before.first + before.taken);
+            s10_encode(&draw, &sent);
+            done = print(&sent, &outcome);
+        }
+    }
+    s10_session_close(&session);
+    return code != 0 ? fail(code) : !done;
+}

@@ -1,0 +1,123 @@
+"""Tests of s10_client.c against the real server: killed at random moments, under loss.
+
+    S10=/path/to/s10 python3 test_s10_client.py S10_DRAW [KILLS]
+
+S10_DRAW is the program built from s10_draw.c. It draws through a proxy that loses, repeats, delays
+and reorders datagrams, and is killed with SIGKILL KILLS times, by default 1000.
+"""
+
+import os
+import random
+import signal
+import subprocess
+import sys
+import tempfile
+import time
+from collections import Counter
+from pathlib import Path
+
+sys.path.insert(0, str(Path(__file__).resolve().parent.parent))
+from s10client import Client                      # noqa: E402
+from test_s10client import DAY, Proxy, Server, s10  # noqa: E402
+
+DRAW = os.path.abspath(sys.argv[1])
+KILLS = int(sys.argv[2]) if len(sys.argv) > 2 else 1000
+WAIT = 20                                       # milliseconds
+
+
+class Log:
+    """What the runs of the client printed: an identifier for each number."""
+
+    def __init__(self):
+        self.drawn = {}
+        self.repeated = 0
+
+    def add(self, output):
+        """Adds the whole lines of a run. A number that comes again has the same identifier."""
+        for line in output[:output.rfind("\n") + 1].splitlines():
+            number, word, day, identifier = line.split()
+            assert word == "day" and int(day) == DAY, line
+            self.repeated += int(number) in self.drawn
+            assert self.drawn.setdefault(int(number), identifier) == identifier, line
+
+
+class Networks:
+    """A network that loses, repeats and delays. It is a new one after 100 runs, since a proxy has a
+    socket for each port that it hears from."""
+
+    def __init__(self, server):
+        self.server, self.runs, self.proxy, self.counts = server, 0, None, Counter()
+
+    def address(self):
+        """The address for one more run."""
+        if self.runs % 100 == 0:
+            self.stop()
+            self.proxy = Proxy(self.server, seed=self.runs, lost=0.15, repeated=0.2, late=0.2)
+        self.runs += 1
+        return self.proxy.address
+
+    def stop(self):
+        """Ends the network."""
+        if self.proxy is not None:
+            self.proxy.stop()
+            self.counts.update(self.proxy.counts)
+            self.proxy = None
+
+
+def run(notes, address, count, kill_after=None):
+    """Runs the client, kills it after some seconds, and returns what it printed and its status."""
+    words = [DRAW, notes, address[0], str(address[1]), "RA", "GB", str(count), str(WAIT)]
+    with subprocess.Popen(words, stdout=subprocess.PIPE, stderr=subprocess.DEVNULL,
+                          text=True) as process:
+        if kill_after is not None:
+            time.sleep(kill_after)
+            process.send_signal(signal.SIGKILL)
+        output = process.stdout.read()
+    return output, process.returncode
+
+
+def main():
+    choose = random.Random(1)
+    with tempfile.TemporaryDirectory() as folder:
+        server = Server(folder)
+        networks = Networks(server.address)
+        to = "{}:{}".format(*server.address)
+        granted = s10("grant", "--to", to, "--number", 1, "--holder", 7, "--service", "RA",
+                      "--country", "GB", "--first", 0, "--last", 99999)
+        assert granted.endswith(" done range 1\n"), granted
+        notes = os.path.join(folder, "notes")
+        create = [DRAW, "create", notes, "7", "1", "1000000"]
+        assert subprocess.run(create, check=False).returncode == 0
+        assert subprocess.run(create, stderr=subprocess.DEVNULL, check=False).returncode == 3
+        log, killed = Log(), 0
+        while killed < KILLS:
+            output, status = run(notes, networks.address(), 1000000, choose.uniform(0, 0.15))
+            log.add(output)
+            killed += status == -signal.SIGKILL
+            assert status in (-signal.SIGKILL, 3), status       # 3: it gave up before the kill
+        while (last := run(notes, server.address, 1))[1] == 3:
+            log.add(last[0])
+        log.add(last[0])
+        networks.stop()
+
+        # The client in Python continues with the same notes, and this one after it.
+        with Client.open(notes, server.address) as client:
+            number = client.number_of_request
+            assert client.is_open and client.again().identifier == log.drawn[number]
+            log.drawn[number + 1] = client.draw("RA", "GB").identifier
+        output, status = run(notes, server.address, 1)
+        log.add(output)
+        assert status == 0 and len(log.drawn) == number + 2
+
+        server.stop()
+        assert sorted(log.drawn) == list(range(1, len(log.drawn) + 1)), "a number is missing"
+        assert len(set(log.drawn.values())) == len(log.drawn), "an identifier is on two draws"
+        drawn = sorted((7, number, identifier) for number, identifier in log.drawn.items())
+        assert sorted(server.issues()) == drawn, "the report has others"
+        audit = s10("audit", "--ledger", server.ledger)
+        assert audit.startswith("ledger ok "), audit
+        print(f"{len(log.drawn)} draws in {killed} runs that were killed; "
+              f"{log.repeated} lines repeated; datagrams {dict(networks.counts)}; {audit}", end="")
+
+
+main()
