@@ -45,7 +45,10 @@ def all_crates():
 
 
 def libraries():
-    return [it for it in folders() if (it / "src/lib.rt").exists()]
+    """The libraries of the service: all but those of the C library."""
+    rows = [line.split(":")[0].split() for line in (ROOT / "crates.txt").read_text(encoding="utf-8").split("\n")]
+    exported = {row[0] for row in rows if "staticlib" in row} | {"s10_plain"}
+    return [it for it in folders() if (it / "src/lib.rt").exists() and it.name not in exported]
 
 
 def tests():
