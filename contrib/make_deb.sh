@@ -1,11 +1,11 @@
 #!/usr/bin/env bash
-# Makes a Debian package of the built program, with the unit, the man page, the completions, the dissector and the
-# documents. The man page and the completions are written from the help texts of this very program.
+# Builds a Debian package of the built program, with the unit, the man page, the completions, the dissector and the
+# pages. The man page and the completions are written from the help texts of this program.
 #
 #   bash make_deb.sh PROGRAM [FOLDER]
 #
-# Says the name of the package, which is put into FOLDER (by default the current one). MAINTAINER names who packages, as
-# 'Name <address>'; by default it is the name and the address that git knows.
+# Prints the name of the package, which is put into FOLDER (by default the current one). MAINTAINER is the packager, as
+# 'Name <address>'; by default git's user.name and user.email.
 set -euo pipefail
 
 if [ $# -lt 1 ] || [ $# -gt 2 ]; then
@@ -28,7 +28,7 @@ trap 'rm -rf "$work"' EXIT
 tree=$work/tree
 umask 022
 
-# put MODE FILE PLACE: a file of this repository, at its place in the package.
+# put MODE FILE PATH: copies a file of this repository to its path in the package.
 put() {
     install -D -m "$1" "$2" "$tree$3"
 }
@@ -46,7 +46,7 @@ put 644 "$contrib/s10.service" /lib/systemd/system/s10.service
 put 644 "$contrib/s10.lua" "/usr/lib/$(dpkg-architecture -qDEB_HOST_MULTIARCH)/wireshark/plugins/s10.lua"
 
 doc=/usr/share/doc/s10
-for page in README.md docs/OPERATING.md docs/DATAGRAMS.md docs/LEDGER.md docs/RULES.md docs/AT_MOST_ONCE.md; do
+for page in README.md docs/OPERATING.md docs/TROUBLESHOOTING.md docs/DATAGRAMS.md docs/LEDGER.md docs/RULES.md docs/AT_MOST_ONCE.md; do
     put 644 "$root/$page" "$doc/$(basename "$page")"
 done
 put 644 "$contrib/README.md" "$doc/contrib.md"
@@ -72,7 +72,7 @@ License: Apache-2.0
  /usr/share/common-licenses/Apache-2.0.
 END
 
-# What of the C library the program needs.
+# Which version of the C library the program needs.
 mkdir -p "$work/depends/debian"
 printf 'Source: s10\n\nPackage: s10\nArchitecture: any\n' > "$work/depends/debian/control"
 depends=$(cd "$work/depends" && dpkg-shlibdeps -O "$tree/usr/bin/s10" 2> /dev/null | sed -n 's/^shlibs:Depends=//p')
@@ -98,7 +98,7 @@ Description: server and tools for S10 identifiers of postal items
  file, asks a server, and checks identifiers.
 END
 
-# The unit is neither enabled nor started: a ledger is made first.
+# The unit is neither enabled nor started: a ledger must be created first.
 cat > "$tree/DEBIAN/postinst" <<'END'
 #!/bin/sh
 set -e
@@ -126,7 +126,7 @@ END
 cat > "$tree/DEBIAN/postrm" <<'END'
 #!/bin/sh
 set -e
-# The ledger stays, whatever is removed.
+# The ledger is never removed.
 if [ "$1" = remove ]; then
     if [ -d /run/systemd/system ]; then
         systemctl --system daemon-reload > /dev/null || true

@@ -2,8 +2,8 @@
 --
 --   tshark -X lua_script:s10.lua -r FILE
 --
--- The Info column is the line that `s10 show` prints for the bytes. UDP datagrams that begin as a version does are
--- found at any port; with -d udp.port==PORT,s10 every datagram of a port is read, and the refusals are shown too.
+-- The Info column is the line that `s10 show` prints for the bytes. UDP datagrams that begin with the magic, a version and
+-- a kind of it are found at any port. With -d udp.port==PORT,s10 every datagram of a port is read, and refusals are shown.
 
 local s10 = Proto("s10", "S10 item identifiers")
 
@@ -58,7 +58,7 @@ local refused = ProtoExpert.new("s10.refused", "This is no datagram of s10", exp
     expert.severity.ERROR)
 s10.experts = { refused }
 
--- The check digit of eight digits, as a character.
+-- Returns the check digit of eight digits, as a character.
 local function check_digit(digits)
     local sum = 0
     for at = 1, 8 do sum = sum + WEIGHTS[at] * tonumber(digits:sub(at, at)) end
@@ -76,7 +76,7 @@ end
 
 local function is_serial(number) return number < 100000000 end
 
--- What the bytes say: kind, whether it is a reply, the words of its line; else nil and the first refusal.
+-- Decodes the bytes: kind, whether it is a reply, and its line; or returns nil and the first refusal.
 local function read(bytes)
     local function u8(at) return bytes:byte(at + 1) end
     local function u32(at)
@@ -143,7 +143,7 @@ local function read(bytes)
             if status >= 2 then say(day) end
         end
     end
-    -- A number as a word has no fraction.
+    -- Numbers are printed without a fraction.
     for place, word in ipairs(words) do
         if type(word) == "number" then words[place] = ("%d"):format(word) end
     end
@@ -155,7 +155,7 @@ local function add_day(tree, range)
     tree:add(f.date, range, os.date("!%Y-%m-%d", range:uint() * 86400)):set_generated()
 end
 
--- The fields of a datagram that was read.
+-- Adds the fields of a decoded datagram.
 local function show(tree, range, found)
     local kind, at = found.kind, LENGTHS[found.kind]
     tree:add(f.magic, range(0, 2))
@@ -196,7 +196,7 @@ local function show(tree, range, found)
     end
 end
 
--- The first frame of each request, by server and bytes; the last one, by client too; what each frame belongs to.
+-- The first frame of each request, by server and bytes; its last frame, by client too; for each frame, the one it refers to.
 local firsts, lasts, belongs = {}, {}, {}
 function s10.init() firsts, lasts, belongs = {}, {}, {} end
 

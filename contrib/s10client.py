@@ -1,4 +1,4 @@
-"""A client of an s10 server, of Python's standard library alone. It speaks versions 1 and 2 of the datagrams.
+"""A client of an s10 server, with Python's standard library only. It uses versions 1 and 2 of the datagrams.
 
     from s10client import Client, make_notes
 
@@ -6,19 +6,19 @@
 
     with Client.open("printer.notes", ("127.0.0.1", 4000)) as client:
         if client.is_open:
-            print(client.again())           # what the last request of the run before came to
+            print(client.again())           # the reply to the last request of the run before
         print(client.draw("RA", "GB").identifier)
         for drawn in client.draw_many("RA", "GB", 16):              # a sheet of labels, all or none
             print(drawn.identifier)
 
-A request is written down with its number before it is sent, so that it is never asked again under
-another number. Where no reply comes, `GaveUp` is raised and the request stays open: `again` asks
-it again, and the server executes it once at most. No other request is taken until it is answered.
-A client opened from notes begins with its last request open, since the notes do not tell whether
-it was answered; a repeat costs the server no write and changes nothing.
+A request is written down with its number before it is sent, so that it is never sent again with
+another number. If no reply arrives, `GaveUp` is raised and the request stays open: `again` sends
+it again, and the server executes it at most once. Until it is answered, no other request is accepted.
+A client opened from notes begins with its last request open, since the notes do not record whether
+it was answered. A repeat costs the server no write and changes nothing.
 
-A refusal by the server is an exception of its own, below `Refused`. A text or a number that fits
-no datagram is a `ValueError`, and takes no number. A client is for one thread at a time.
+Each refusal by the server is a subclass of `Refused`. A text or a number that fits no datagram
+raises `ValueError`, and uses no number. A client is for one thread at a time.
 """
 
 import json
@@ -49,15 +49,15 @@ _LONGEST = 512
 
 
 class S10Error(Exception):
-    """What a client raises besides `ValueError` and `OSError`."""
+    """The base of the exceptions of a client. It also raises `ValueError` and `OSError`."""
 
 
 class GaveUp(S10Error):
-    """No reply came within the tries. The request was executed once or not at all: `again`."""
+    """No reply arrived within the tries. The request was executed once or not at all. Call `again`."""
 
 
 class Unanswered(S10Error):
-    """The request before has no reply yet, so that no other is taken: `again`."""
+    """The request before has no reply yet, so no other is accepted. Call `again`."""
 
 
 class NumbersSpent(S10Error):
@@ -65,7 +65,7 @@ class NumbersSpent(S10Error):
 
 
 class Refused(S10Error):
-    """A rule of the server refused the request, whose number is used up by it."""
+    """A rule of the server refused the request. Its number is used."""
 
 
 class NotThePost(Refused):
@@ -136,27 +136,27 @@ class Drawn(NamedTuple):
 
 
 class Told(NamedTuple):
-    """What became of an identifier: `unknown`, `never`, `issued` or `voided`; the day of its last
-    issue, or 0."""
+    """The status of an identifier (`unknown`, `never`, `issued` or `voided`), and the day of its
+    last issue, or 0."""
 
     status: str
     day: int
 
 
 def check_digit(serial):
-    """The check digit of a serial number, by the standard's weights."""
+    """Returns the check digit of a serial number, by the standard's weights."""
     total = sum(w * int(d) for w, d in zip((8, 6, 4, 2, 3, 5, 9, 7), f"{serial:08}"))
     return {10: 0, 11: 5}.get(11 - total % 11, 11 - total % 11)
 
 
 class Client:
-    """A client of one server, as one customer, with numbers that no other client of it has.
+    """A client of one server, for one customer, with numbers that no other client of it has.
 
     `server` is an IPv4 address and a port. `write_down` is called with the datagram of each new
-    request before it is sent; where it raises, nothing is sent and the number is not used. It has
-    to keep the datagram so that it is there after a crash. The next number is `number`, the last
-    one `last`. `request` is the last datagram that was written down by the run before, if there is
-    one. A request is sent up to `tries` times, each time with `wait` seconds for its reply.
+    request before it is sent. If it raises, nothing is sent and the number is not used. It must
+    store the datagram durably. `number` is the next number, `last` the last one. `request` is the
+    last datagram that the run before has written down, if any. A request is sent up to `tries`
+    times, each time with `wait` seconds for its reply.
     """
 
     def __init__(self, server, customer, number, write_down, *, last=LAST_NUMBER, request=None,
@@ -180,7 +180,7 @@ class Client:
 
     @classmethod
     def open(cls, path, server, *, tries=5, wait=1.0):
-        """A client that keeps its notes in a file, which `make_notes` made."""
+        """Opens a client that keeps its notes in a file created by `make_notes`."""
         notes = _Notes(path)
         try:
             client = cls(server, notes.customer, notes.next, notes.write_down, last=notes.last,
@@ -192,7 +192,7 @@ class Client:
         return client
 
     def close(self):
-        """Closes the socket, and frees the notes for another client."""
+        """Closes the socket, and unlocks the notes."""
         self._link.close()
         if self._notes is not None:
             self._notes.close()
@@ -204,35 +204,35 @@ class Client:
         self.close()
 
     def grant(self, holder, service, country, first, last):
-        """Grants serials to a customer, as the post; answers the number of the range."""
+        """Grants serials to a customer, as the post. Returns the number of the range."""
         body = struct.pack(">I2s2sII", _u32(holder, "holder"), _letters(service, "service"),
                            _letters(country, "country"), _serial(first), _serial(last))
         return self._ask(GRANT, body)
 
     def withdraw(self, range_number):
-        """Closes a range for ever, as the post, by the number that its grant was answered with."""
+        """Closes a range for ever, as the post. The reply to its grant has its number."""
         self._ask(WITHDRAW, _u32(range_number, "range").to_bytes(4, "big"))
 
     def draw(self, service, country):
-        """Draws the next free identifier of a service and country: a `Drawn`."""
+        """Draws the next free identifier of a service and country. Returns a `Drawn`."""
         return self._ask(DRAW, _letters(service, "service") + _letters(country, "country"))
 
     def draw_many(self, service, country, count):
-        """Draws a sheet of 1 to 16 identifiers of a service and country, all or none: a list of `Drawn`."""
+        """Draws a sheet of 1 to 16 identifiers, all or none. Returns a list of `Drawn`."""
         if not (isinstance(count, int) and 1 <= count <= MOST):
             raise ValueError(f"a sheet has 1 to {MOST} identifiers, not {count!r}")
         return self._ask(DRAW_MANY, _letters(service, "service") + _letters(country, "country") + bytes([count]))
 
     def void(self, identifier):
-        """Gives an identifier up."""
+        """Voids an identifier."""
         self._ask(VOID, _identifier(identifier))
 
     def query(self, identifier):
-        """Asks what became of an identifier: a `Told`."""
+        """Queries an identifier. Returns a `Told`."""
         return self._ask(QUERY, _identifier(identifier))
 
     def again(self):
-        """Asks the last request again, with its number, and answers as it did or would have done."""
+        """Sends the last request again, with its number. Returns or raises what it did, or would have."""
         if self.request is None:
             raise ValueError("nothing was asked yet")
         outcome, answer = self._call()
@@ -244,7 +244,7 @@ class Client:
 
     @property
     def number_of_request(self):
-        """The number of the last request."""
+        """The number of the last request, or None."""
         return None if self.request is None else _HEADER.unpack_from(self.request)[4]
 
     def _ask(self, kind, body):
@@ -258,7 +258,7 @@ class Client:
         self.request, self.is_open = request, True
         return self.again()
 
-    # The outcome byte of the reply to the request, and what else it tells.
+    # Returns the outcome byte of the reply to the request, and the answer in it.
     def _call(self):
         cause = None
         for _ in range(self.tries):
@@ -273,7 +273,7 @@ class Client:
                     datagram = self._link.recv(_LONGEST)
                 except socket.timeout:
                     break
-                except OSError as error:        # as where no server listens: it may come yet
+                except OSError as error:        # no server listens yet, for example
                     cause = error
                     time.sleep(min(left, 0.05))
                     continue
@@ -284,7 +284,7 @@ class Client:
 
 
 def _read_reply(request, datagram):
-    """The outcome byte and the answer, or None where the bytes are no reply to this request."""
+    """Returns the outcome byte and the answer, or None if the bytes are no reply to this request."""
     at, kind = len(request), request[3]
     if datagram[:at] != request[:3] + bytes([kind | _REPLY]) + request[4:] or len(datagram) == at:
         return None
@@ -339,9 +339,9 @@ def _serial(number):
 
 
 def make_notes(path, customer, first=1, last=LAST_NUMBER):
-    """Makes the notes of a client that has the numbers from `first` to `last`.
+    """Creates the notes of a client that has the numbers from `first` to `last`.
 
-    No file may be at the path. Lost notes are made anew with numbers that were surely never used.
+    No file may be at the path. If notes are lost, create new ones with numbers that were surely never used.
     """
     if _u32(first, "number") > _u32(last, "number"):
         raise ValueError("the first number is above the last")
@@ -355,7 +355,7 @@ class _Notes:
     """A file with the customer, the next number, the last number and the last request."""
 
     def __init__(self, path):
-        import fcntl                            # of POSIX alone
+        import fcntl                            # POSIX only
         self._path = os.fspath(path)
         self._lock = open(self._path + ".lock", "a", encoding="ascii")
         try:
@@ -381,7 +381,7 @@ class _Notes:
             raise ValueError(f"{self._path} holds no notes: {fault}") from fault
 
     def write_down(self, request):
-        """The notes are whole before and behind the renaming, which is on the disk at the end."""
+        """Replaces the notes by a rename, so that they are whole at any moment. The rename is on disk at the end."""
         number = _HEADER.unpack_from(request)[4]
         beside = self._path + ".new"
         with open(beside, "w", encoding="ascii") as file:

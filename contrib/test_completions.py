@@ -2,8 +2,8 @@
 
     S10=/path/to/s10 python3 test_completions.py
 
-In each shell, with its completion from this folder: the commands behind `s10`, behind `s10 help`, the long options of
-each command, the options that are left behind one with a value, and files behind the options that take one. Without S10
+In each shell, with its completion from this folder: the commands after `s10` and after `s10 help`, the long options of
+each command, the options that are left after one with a value, and files after the options that take one. Without S10
 the program `s10` of the PATH is used.
 """
 
@@ -25,7 +25,7 @@ HERE = Path(__file__).resolve().parent
 
 
 def by_bash(line, folder):
-    """What bash completes at the end of the line."""
+    """Returns what bash completes at the end of the line."""
     script = f"""
         source {HERE}/s10.bash
         compopt() {{ :; }}
@@ -37,14 +37,14 @@ def by_bash(line, folder):
 
 
 def by_fish(line, folder):
-    """What fish completes at the end of the line."""
+    """Returns what fish completes at the end of the line."""
     script = f"complete -e s10; source {HERE}/s10.fish; complete -C '{line}'"
     done = subprocess.run(["fish", "--no-config", "-c", script], capture_output=True, text=True, check=True, cwd=folder,
                           env={**os.environ, "PATH": f"{Path(PROGRAM).parent}:{os.environ['PATH']}"})
     return {found.split("\t")[0] for found in done.stdout.splitlines()}
 
 
-# Instead of adding what completes, it is written to a file; END stands behind all of it.
+# The completions are written to a file instead of to the line. END is the last one.
 ZSH = r"""
 stty -echo
 unsetopt beep
@@ -66,7 +66,7 @@ print READY > $found
 
 
 class Zsh:
-    """A zsh on a terminal of its own, where a key writes down what it completes."""
+    """A zsh on a terminal of its own, in which a key writes the completions to a file."""
 
     def __init__(self, folder, own):
         self.found = Path(own, "found")
@@ -84,7 +84,7 @@ class Zsh:
         os.write(self.terminal, text.encode())
 
     def wait(self, last):
-        """What was written down, once its last line is there."""
+        """Waits for the last line, and returns what was written before it."""
         end = time.monotonic() + 20
         while time.monotonic() < end:
             while select.select([self.terminal], [], [], 0.02)[0]:
@@ -95,7 +95,7 @@ class Zsh:
         raise RuntimeError("zsh does not answer")
 
     def complete(self, line):
-        """What zsh completes at the end of the line."""
+        """Returns what zsh completes at the end of the line."""
         self.found.write_text("", encoding="ascii")
         self.send("\x15" + line + "\x14")
         return set(self.wait("END"))
@@ -108,7 +108,7 @@ class Zsh:
 
 
 def main():
-    """Compares, and says how many completions were compared."""
+    """Compares, and prints how many completions were compared."""
     top = write_texts.read_help(write_texts.ask(PROGRAM, "--help"))
     names = [entry.names[0] for entry in top.lists["Commands"]]
     asked = [("s10 ", set(names)), ("s10 help ", set(names) - {"help"}), ("s10 dr", {"draw"})]

@@ -1,10 +1,9 @@
-"""Compares what tshark prints of datagrams, by the dissector s10.lua, with what `s10 show` prints.
+"""Compares what tshark prints for datagrams, with the dissector s10.lua, with what `s10 show` prints.
 
     S10=/path/to/s10 python3 test_dissector.py [FILE.pcap]
 
-The datagrams are right ones of each kind, cut, lengthened and changed by a seeded choice. They go into a file of
-packets, which is made at FILE.pcap if one is named, and which tshark reads. Without S10 the program `s10` of the PATH is
-used.
+The datagrams are valid ones of each kind, and valid ones cut, lengthened or changed by a seeded choice. They are written
+to a file of packets, FILE.pcap if it is given, which tshark reads. Without S10 the program `s10` of the PATH is used.
 """
 
 import os
@@ -24,7 +23,7 @@ ID, OTHER_ID = b"RA000000014GB", b"RA000000005GB"
 
 
 def right_ones():
-    """Each kind of request, and each reply with each outcome that fits it."""
+    """Returns each kind of request, and each reply with each outcome that fits it."""
     def head(kind, customer=7, number=1):
         return struct.pack(">2sBBII", b"S1", 2 if kind & 0x7f >= 5 else 1, kind, customer, number)
 
@@ -45,7 +44,7 @@ def right_ones():
 
 
 def changed(datagram, choose):
-    """The datagram with a few bytes changed, or cut, or lengthened."""
+    """Returns the datagram with a few bytes changed, or cut, or lengthened."""
     data = bytearray(datagram)
     way = choose.randrange(8)
     if way == 0:
@@ -60,7 +59,7 @@ def changed(datagram, choose):
 
 
 def write_packets(path, datagrams):
-    """A pcap file of IPv4 packets without a link layer; replies go the other way."""
+    """Writes a pcap file of IPv4 packets without a link layer. Replies go the other way."""
     def checksum(data):
         total = sum(struct.unpack(f">{len(data) // 2}H", data))
         total = (total & 0xffff) + (total >> 16)
@@ -79,7 +78,7 @@ def write_packets(path, datagrams):
 
 
 def main():
-    """Compares, and says how many were compared."""
+    """Compares, and prints how many were compared."""
     choose = random.Random(1)
     rights = right_ones()
     datagrams = rights + [changed(choose.choice(rights), choose) for _ in range(COUNT)]

@@ -1,4 +1,4 @@
-"""Tests of s10client against the real server, under loss.
+"""Tests of s10client against the program, under loss.
 
     S10=/path/to/s10 python3 test_s10client.py
 
@@ -27,13 +27,13 @@ DAY = 20000
 
 
 def s10(*words):
-    """What the program prints for these words."""
+    """Returns what the program prints for these words."""
     done = subprocess.run([PROGRAM, *map(str, words)], capture_output=True, text=True, check=False)
     return done.stdout
 
 
 class Server:
-    """A server of the real program over a ledger of its own."""
+    """A server of the program over a ledger of its own."""
 
     def __init__(self, folder, interval=30, limit=100000):
         self.ledger = os.path.join(folder, "ledger")
@@ -50,22 +50,22 @@ class Server:
         raise RuntimeError("the server does not start")
 
     def stop(self):
-        """Ends the server; its ledger can be read afterwards."""
+        """Ends the server. Its ledger can be read afterwards."""
         self.process.terminate()
         self.process.wait()
         self.process.stderr.close()
 
     def issues(self):
-        """Customer, number and identifier of each issue, in order of arrival."""
+        """Returns customer, number and identifier of each issue, in order of arrival."""
         lines = s10("report", "--ledger", self.ledger, "--issues").splitlines()[1:]
         return [(int(c), int(n), i) for _, _, c, n, i, _ in map(str.split, lines)]
 
 
 class Proxy:
-    """Stands between the clients and a server; loses, repeats and holds back datagrams both ways.
+    """Relays between the clients and a server. Loses, repeats and delays datagrams both ways.
 
-    Of each datagram a seeded choice says whether it is lost, and else how often it is passed on and
-    whether a copy of it is held back until some later ones have passed.
+    A seeded choice decides whether a datagram is lost. If not, it decides how often it is sent, and
+    whether a copy of it is sent after some later ones.
     """
 
     def __init__(self, server, seed, lost=0.3, repeated=0.3, late=0.2):
@@ -82,7 +82,7 @@ class Proxy:
         self.thread.start()
 
     def run(self):
-        """Passes datagrams on until it is stopped."""
+        """Relays datagrams until it is stopped."""
         while not self.ends:
             sockets = [self.front, *self.backs.values()]
             for ready in select.select(sockets, [], [], 0.05)[0]:
@@ -96,7 +96,7 @@ class Proxy:
                     self.pass_on(self.front, datagram, client)
 
     def pass_on(self, link, datagram, to):
-        """One datagram, by the choice that is next."""
+        """Relays one datagram by the next choice."""
         if self.choose.random() < self.lost:
             self.counts["lost"] += 1
             return
@@ -132,7 +132,7 @@ class ServedTest(unittest.TestCase):
         self.addCleanup(self.server.stop)
 
     def client(self, customer, number=1, address=None, **more):
-        """A client whose requests are written down in a list."""
+        """Returns a client whose requests are written down in a list."""
         noted = []
         client = Client(address or self.server.address, customer, number, noted.append, **more)
         client.noted = noted
@@ -252,7 +252,7 @@ class Loss(ServedTest):
     DRAWS = 60
 
     def draw_all(self, client, count):
-        """So many draws, each asked again once it is answered; asked as long as it takes."""
+        """Draws `count` times, each until it is answered, and repeats each once."""
         drawn = {}
         for _ in range(count):
             try:
@@ -264,7 +264,7 @@ class Loss(ServedTest):
         return drawn
 
     def ask_again(self, client):
-        """The reply to the last request, however often it has to be asked."""
+        """Returns the reply to the last request, asking up to a hundred times."""
         for _ in range(100):
             try:
                 return client.again()
@@ -301,7 +301,7 @@ class Loss(ServedTest):
         self.assertEqual(len(drawn), total)
         self.assertEqual(len(set(drawn.values())), total)
 
-        # The numbers asked once more over a network that loses nothing: the same identifiers.
+        # The same numbers over a network that loses nothing: the same identifiers.
         for (customer, number), identifier in drawn.items():
             self.assertEqual(self.client(customer, number).draw("RA", "GB").identifier, identifier)
 
@@ -382,7 +382,7 @@ class Notes(ServedTest):
         self.client(0).grant(7, "RA", "GB", 0, 9)
 
     def open(self, address=None, **more):
-        """A client with its notes in the file."""
+        """Returns a client with its notes in the file."""
         client = Client.open(self.path, address or self.server.address, **more)
         self.addCleanup(client.close)
         return client

@@ -2,7 +2,7 @@
 """Writes the man page and the completions of s10 from the help texts of the program.
 
     python3 write_texts.py PROGRAM [FOLDER]            writes s10.1, s10.bash, _s10 and s10.fish
-    python3 write_texts.py --check PROGRAM [FOLDER]    says which of them differ from the help texts
+    python3 write_texts.py --check PROGRAM [FOLDER]    prints which of them differ from the help texts
 """
 
 import itertools
@@ -16,15 +16,15 @@ from typing import NamedTuple
 # The day of each version, for the foot of the man page.
 DAYS = {"0.1.0": "2026-11-23"}
 
-# The values that are names of files; all others are words of the person's own.
+# The values that are names of files. All others are free text.
 FILES = {"FILE"}
 
 
 class Entry(NamedTuple):
-    """A command, an argument or an option, as a list of the help has it."""
+    """A command, an argument or an option, from a list of the help."""
 
     names: tuple            # ("--ledger",), ("-h", "--help"), ("<TEXT>",), ("draw",)
-    value: str              # "FILE", or "" where it takes none
+    value: str              # "FILE", or "" if it has none
     text: str
 
 
@@ -34,16 +34,16 @@ class Help(NamedTuple):
     about: str
     usage: str
     lists: dict             # "Commands", "Arguments" and "Options": lists of Entry
-    rest: list              # the lines behind the lists
+    rest: list              # the lines after the lists
 
 
 def ask(program, *words):
-    """What the program prints."""
+    """Returns what the program prints."""
     return subprocess.run([program, *words], capture_output=True, text=True, check=True).stdout
 
 
 def read_help(text):
-    """Takes a help text apart. Whatever has another form ends the run."""
+    """Parses a help text. Any other form ends the run."""
     about, usage, *blocks = re.split(r"\n\n+", text.rstrip("\n"))
     assert usage.startswith("Usage: "), usage
     lists, rest = {}, []
@@ -58,10 +58,10 @@ def read_help(text):
 
 
 def read_list(lines):
-    """The entries of a list: a text may begin behind the name or on the next line."""
+    """Returns the entries of a list. A text begins after the name or on the next line."""
     entries = []
     for line in lines.split("\n"):
-        if re.match(r" {10}", line):                            # more of the text before
+        if re.match(r" {10}", line):                            # continues the text before
             names, value, text = entries[-1]
             entries[-1] = Entry(names, value, f"{text} {line.strip()}".strip())
             continue
@@ -72,20 +72,20 @@ def read_list(lines):
 
 
 def roff(text):
-    """A line of text, safe for roff, with `words` in bold."""
+    """Escapes a line of text for roff, with `words` in bold."""
     text = text.replace("\\", "\\e").replace("-", "\\-").replace("'", "\\(aq").replace("^", "\\(ha")
     text = re.sub(r"`([^`]*)`", r"\\fB\1\\fP", text)
     return "\\&" + text if text.startswith(".") else text
 
 
 def roff_filled(text):
-    """Lines of text that roff fills."""
+    """Wraps a text into lines that roff fills."""
     return ["\\&" + line if line.startswith(".") else line
             for line in textwrap.wrap(roff(text), 78, break_long_words=False, break_on_hyphens=False)]
 
 
 def roff_entry(entry):
-    """An argument or an option with its text."""
+    """Formats an argument or an option with its text."""
     shown = ", ".join(f"\\fB{roff(name)}\\fP" if name.startswith("-") else f"\\fI{roff(name.strip('<>'))}\\fP"
                       for name in entry.names)
     value = f" \\fI{roff(entry.value)}\\fP" if entry.value else ""
@@ -93,7 +93,7 @@ def roff_entry(entry):
 
 
 def roff_rest(lines):
-    """Paragraphs are filled; indented lines stand as they are."""
+    """Formats the lines after the lists: paragraphs are filled, indented lines are kept."""
     out = []
     for is_block, group in itertools.groupby(lines, lambda line: line.startswith("  ")):
         if is_block:
@@ -106,7 +106,7 @@ def roff_rest(lines):
 
 
 def man_page(version, top, commands):
-    """The man page."""
+    """Returns the man page."""
     out = [
         '.\\" Written by write_texts.py from the help texts of the program.',
         f'.TH S10 1 "{DAYS[version]}" "s10 {version}" "User Commands"',
@@ -139,12 +139,12 @@ def man_page(version, top, commands):
 
 
 def options_of(one):
-    """The long options of a command, with their values and texts."""
+    """Returns the long options of a command, with their values and texts."""
     return [(entry.names[-1], entry.value, entry.text) for entry in one.lists["Options"]]
 
 
 def bash(top, commands):
-    """The completion for bash."""
+    """Returns the completion for bash."""
     names = " ".join(name for name, _ in commands)
     words = names + " help"
     out = [
@@ -187,12 +187,12 @@ def bash(top, commands):
 
 
 def quoted(text):
-    """A word in single quotes, for any of the shells."""
+    """Quotes a word for any of the shells."""
     return "'" + text.replace("'", "'\\''") + "'"
 
 
 def zsh(top, commands):
-    """The completion for zsh."""
+    """Returns the completion for zsh."""
     def spec(option, value, text, others=""):
         text = re.sub(r"([\[\]:\\])", r"\\\1", text)
         if others:
@@ -239,7 +239,7 @@ def zsh(top, commands):
 
 
 def fish(top, commands):
-    """The completion for fish."""
+    """Returns the completion for fish."""
     def text_of(text):
         return "'" + text.replace("\\", "\\\\").replace("'", "\\'") + "'"
 
