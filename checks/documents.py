@@ -1,173 +1,512 @@
 #!/usr/bin/env python3
-"""Types what the pages say and compares what comes with what they show: the tour of README.md, the looks into a ledger of
-docs/LEDGER.md, and the log and the client of docs/OPERATING.md. It wants port 4000 of this machine, and `sqlite3`.
+"""Runs the commands of the pages, and compares their output with what the pages show.
 
   python3 checks/documents.py [PROGRAM]
+
+The pages are README.md, SECURITY.md, CHANGELOG.md, docs/*.md and contrib/README.md. Each fenced command is run, or is in NOT_RUN
+with the reason. A command that is neither run nor in NOT_RUN is a failure, and so is an entry of NOT_RUN without a command.
+The numbers in the pages are compared by counts.py. Needs port 4000 of this machine, `sqlite3`, and `rt` of the Rattle kit.
 """
 
 import os
+import re
+import shutil
 import signal
 import subprocess
 import sys
 import tempfile
 import time
+from dataclasses import dataclass, field
 from pathlib import Path
 
-HERE = Path(__file__).resolve().parent
-PROGRAM = Path(sys.argv[1] if len(sys.argv) > 1 else HERE / "../crates/s10/out/s10").resolve()
+import counts
+
+ROOT = Path(__file__).resolve().parent.parent
+PROGRAM = Path(sys.argv[1] if len(sys.argv) > 1 else ROOT / "crates/s10/out/s10").resolve()
+
+# The commands that are not run: how each begins, `# ` for root, and why.
+NOT_RUN = (
+    ("./s10 check", "builds the program, which takes minutes"),
+    (".ci/run", "proves and tests everything, which takes an hour"),
+    ("./s10 --version && sudo", "installs, as root"),
+    ("# install -d", "root and systemd"),
+    ("# s10 create", "root and systemd"),
+    ("# systemctl", "root and systemd"),
+    ("# ps ", "root and systemd"),
+    ("# s10 draw", "root and systemd"),
+    ("# kill", "root and systemd"),
+    ("systemd-analyze", "systemd"),
+    ("journalctl", "systemd"),
+    ("mandoc", "mandoc"),
+    ("groff", "groff"),
+    ("man ", "man"),
+    ("python3 test_completions.py", "zsh and fish"),
+    ("tshark", "tshark"),
+    ("python3 test_dissector.py", "tshark"),
+    ("bash make_deb.sh", "dpkg-dev"),
+    ("# lintian", "root and lintian"),
+    ("# dpkg", "root"),
+    ("# ls /var/lib/private", "root and systemd"),
+)
+
+# The first words by which a fence without a language is taken for commands.
+PROGRAMS = "./s10 .ci/run s10 rt rattle bash sh python3 cd cp mv rm ls cat sqlite3 git sudo nft awk grep".split()
+
+# The commands whose output the pages leave out.
+OUTPUT_LEFT_OUT = re.compile(r"SELECT |^date ")
+
+TIME_LIMIT = 300
 SERVE = "s10 serve --ledger {} --bind 127.0.0.1:4000 --count 3600 --day 20000"
-DRAW = "s10 draw --to 127.0.0.1:4000 --customer 7 --number {} --service RA --country GB"
-GRANT = "s10 grant --to 127.0.0.1:4000 --number 1 --holder 7 --service RA --country GB --first 0 --last {}"
+CREATE = "s10 create --ledger {} --interval 30 --limit 1000"
+TO = "--to 127.0.0.1:4000"
+GRANT = "s10 grant " + TO + " --number {} --holder 7 --service RA --country GB --first {} --last {}"
+DRAW = "s10 draw " + TO + " --customer 7 --number {} --service RA --country GB"
 
 
-class Other(Exception):
-    """What came is not what the page shows."""
+class Failure(Exception):
+    """The output is not what the page shows, or what its text says."""
 
 
-def blocks(page):
-    """The fenced blocks of a page, as lists of lines."""
-    parts = (HERE.parent / page).read_text(encoding="utf-8").split("\n```")
-    return [part.split("\n")[1:] for part in parts[1::2]]
+# Pages.
 
 
-def commands(block):
-    """The commands of a block, each with the lines that are shown below it."""
-    found = []
-    for line in block:
-        if line.startswith("$ "):
-            found.append([line[2:], []])
-        elif line.startswith(">") and found and found[-1][0].endswith("\\"):
-            found[-1][0] += "\n" + line[1:]
-        elif found:
-            found[-1][1].append(line)
+@dataclass
+class Command:
+    """A command of a page, and the lines that the page shows after it."""
+
+    page: str
+    line: int
+    text: str
+    shown: list = field(default_factory=list)
+    is_run: bool = False
+
+    def head(self):
+        """Returns the command from its first line that is no comment on. A root command is one line."""
+        lines = self.text.split("\n")
+        while len(lines) > 1 and lines[0].startswith("#"):
+            lines = lines[1:]
+        return "\n".join(lines)
+
+    def where(self):
+        return f"{self.page}:{self.line}: {self.head()}"
+
+
+@dataclass
+class Stop:
+    """The end of the server by Ctrl-C, and the lines of the server that the page shows before it."""
+
+    shown: list
+
+
+@dataclass
+class Block:
+    """A fenced block, with the number of its first line."""
+
+    language: str
+    line: int
+    lines: list
+
+
+def page_names():
+    """Returns the paths of the pages from the root."""
+    paths = [*ROOT.glob("*.md"), *ROOT.glob("docs/*.md"), ROOT / "contrib/README.md"]
+    return sorted(str(path.relative_to(ROOT)) for path in paths)
+
+
+def blocks_of(page):
+    """Returns the fenced blocks of a page."""
+    found, block = [], None
+    for number, line in enumerate((ROOT / page).read_text(encoding="utf-8").split("\n"), 1):
+        if line.startswith("```") and block is None:
+            block = Block(line[3:].strip(), number + 1, [])
+        elif line.startswith("```"):
+            found.append(block)
+            block = None
+        elif block is not None:
+            block.lines.append(line)
     return found
 
 
+def steps_of(page, block):
+    """Returns the commands of a block, and the stops between them."""
+    if block.language in ("sh", "bash"):
+        return [Command(page, block.line, "\n".join(block.lines))]
+    if block.language or not block.lines:
+        return []
+    if block.lines[0].split(" ")[0] in PROGRAMS:
+        return [Command(page, block.line + at, line.split("  # ")[0].rstrip()) for at, line in enumerate(block.lines) if line]
+    return prompted(page, block)
+
+
+def prompted(page, block):
+    """Returns the commands of a block after `$ ` and `# `, and its stops."""
+    steps, loose = [], []
+    for at, line in enumerate(block.lines):
+        if line == "^C":
+            steps.append(Stop(loose))
+            loose = []
+        elif line.startswith("$ "):
+            steps.append(Command(page, block.line + at, line[2:]))
+        elif line.startswith("# "):
+            steps.append(Command(page, block.line + at, line))
+        elif not steps or isinstance(steps[-1], Stop):
+            loose.append(line)
+        elif line.startswith(">") and steps[-1].text.endswith("\\"):
+            steps[-1].text += "\n" + line[1:]
+        else:
+            steps[-1].shown.append(line)
+    return steps
+
+
+def read_pages():
+    """Returns the steps of each page."""
+    return {page: [step for block in blocks_of(page) for step in steps_of(page, block)] for page in page_names()}
+
+
+def commands_in(steps):
+    return [step for step in steps if isinstance(step, Command)]
+
+
+def python_block(page, words):
+    """Returns the block of Python on a page that has these words."""
+    texts = ["\n".join(block.lines) for block in blocks_of(page) if block.language == "python"]
+    return next(text for text in texts if words in text)
+
+
+# A folder in which commands are run.
+
+
 class Room:
-    """A folder to type in, with `s10` on the path, and at most one server."""
+    """A folder with `s10` on the path, and at most one server."""
 
     def __init__(self, folder):
-        self.folder = folder
+        self.folder = Path(folder)
         self.server = None
-        os.mkdir(f"{folder}/bin")
-        os.symlink(PROGRAM, f"{folder}/bin/s10")
+        self.notes = {}
+        (self.folder / "bin").mkdir()
+        (self.folder / "bin/s10").symlink_to(PROGRAM)
         self.env = {**os.environ, "PATH": f"{folder}/bin:{os.environ['PATH']}"}
+        self.env.pop("S10", None)
 
-    def type(self, command):
-        done = subprocess.run(["bash", "-c", command], cwd=self.folder, env=self.env, capture_output=True, text=True, check=False)
-        return done.stdout.splitlines()
+    def run(self, text, stderr=subprocess.PIPE):
+        """Runs a command. Returns its exit status and the lines of its output."""
+        done = subprocess.run(
+            ["bash", "-c", text], cwd=self.folder, env=self.env, stdin=subprocess.DEVNULL, stdout=subprocess.PIPE, stderr=stderr,
+            text=True, check=False, timeout=TIME_LIMIT,
+        )  # fmt: skip
+        return done.returncode, done.stdout.splitlines()
 
-    def serve(self, command):
-        """Starts a server, and waits until it says where it is; answers what it said until then."""
-        self.server = subprocess.Popen(
-            ["bash", "-c", f"exec {command} > turns"], cwd=self.folder, env=self.env, stderr=subprocess.PIPE, text=True
-        )
-        said = []
+    def must(self, text, *words):
+        """Runs a command that the pages do not show. Returns its output, which must have the words."""
+        status, came = self.run(text)
+        if status != 0 or not all(word in " ".join(came) for word in words):
+            raise Failure("\n".join([text, f"status {status}", *came]))
+        return came
+
+    def serve(self, text):
+        """Starts a server and waits for its address. Returns the lines of its standard error up to then."""
+        self.stop()
+        command = ["bash", "-c", f"exec {text} > turns"]
+        self.server = subprocess.Popen(command, cwd=self.folder, env=self.env, stderr=subprocess.PIPE, text=True)
+        lines = []
         for line in self.server.stderr:
-            said.append(line.rstrip("\n"))
+            lines.append(line.rstrip("\n"))
             if line.startswith("serving on "):
-                return said
-        raise Other(f"{command}\n{said}")
+                return lines
+        raise Failure("\n".join([text, *lines]))
 
-    def stop(self, number):
-        """Ends the server by a signal; answers its turns."""
+    def stop(self, number=signal.SIGINT):
+        """Ends the server by a signal, if there is one. Returns its turns."""
+        if self.server is None:
+            return []
+        if number == signal.SIGINT:
+            time.sleep(0.3)  # The lines of a batch are printed after its replies are sent.
         self.server.send_signal(number)
         self.server.wait()
+        self.server.stderr.close()
         self.server = None
-        return Path(f"{self.folder}/turns").read_text(encoding="utf-8").splitlines()
+        return (self.folder / "turns").read_text(encoding="utf-8").splitlines()
+
+    def serve_new(self, first, last, draws):
+        """Serves a new ledger with one granted range, from which customer 7 has drawn under the numbers from 1."""
+        self.stop()
+        self.run("rm -f ledger* copy* turns")
+        self.must(CREATE.format("ledger"), "created")
+        self.serve(SERVE.format("ledger"))
+        self.must(GRANT.format(1, first, last), "done")
+        for number in range(1, draws + 1):
+            self.must(DRAW.format(number), "done")
 
 
-def compare(what, shown, came):
+# Running a command and comparing.
+
+
+def compare(where, shown, came):
     if shown != came:
-        raise Other("\n".join([what, "shown:", *shown, "came:", *came]))
+        raise Failure("\n".join([where, "the page shows:", *shown, "the command prints:", *came]))
 
 
 def busy(lines):
-    return [it for it in lines if it not in ("quiet", "^C")]
+    """Returns the lines of a server without those of quiet seconds."""
+    return [line for line in lines if line != "quiet"]
 
 
-def tour(room):
-    """The tour of README.md, with its server; leaves its ledger."""
-    typed = 0
-    for block in blocks("README.md"):
-        if "^C" in block:
-            compare("the first terminal", busy(block), busy(room.stop(signal.SIGINT)))
-        for command, shown in commands(block):
-            typed += 1
-            if command.startswith("s10 serve"):
-                compare(command, busy(shown), room.serve(command))
-                time.sleep(2.5)
-            else:
-                compare(command, shown, room.type(command))
-    return typed
+def run_and_compare(room, command):
+    """Runs a command. Its output must be what the page shows; if the page shows nothing, its status must be 0."""
+    if command.head().startswith("s10 serve "):
+        compare(command.where(), busy(command.shown), room.serve(command.text))
+        return
+    status, came = room.run(command.text)
+    if not command.shown and status != 0:
+        raise Failure("\n".join([command.where(), f"status {status}", *came]))
+    if command.shown or not OUTPUT_LEFT_OUT.search(command.text):
+        compare(command.where(), command.shown, came)
 
 
-def look_in(room):
-    """The looks of docs/LEDGER.md into the ledger of the tour."""
-    typed = 0
-    for block in blocks("docs/LEDGER.md"):
-        for command, shown in commands(block):
-            typed += 1
-            came = room.type(f"{command}; echo status $?")
-            if came[-1] != "status 0" or (shown and came[:-1] != shown) or ("SELECT num" in command and len(came) < 2):
-                raise Other("\n".join([command, *came]))
-    compare("an audit beside a table of the office's own", ["ledger ok 9"], room.type("s10 audit --ledger ledger"))
-    return typed
+def without_numbers(lines):
+    return [re.sub(r"[\d.]*\d", "N", line) for line in lines]
 
 
-def prepare(room, draws):
-    """A ledger that is served, with a grant of three serials and so many draws."""
-    room.type("rm -f ledger* copy*")
-    compare("create", ["created"], room.type("s10 create --ledger ledger --interval 30 --limit 1000"))
+def run_and_compare_words(room, command):
+    """Runs a command, with its standard error. Its output must be what the page shows, but for the numbers."""
+    _, came = room.run(command.text, stderr=subprocess.STDOUT)
+    compare(command.where(), without_numbers(command.shown), without_numbers(came))
+
+
+def reason_not_to_run(command):
+    return next((why for head, why in NOT_RUN if command.head().startswith(head)), None)
+
+
+def handler_of(command, handlers):
+    return next((it for head, it in handlers.items() if command.head().startswith(head)), run_and_compare)
+
+
+def run_page(room, steps, handlers):
+    """Runs the commands of a page in order. A handler runs each command that begins as its key does."""
+    for step in steps:
+        if isinstance(step, Stop):
+            turns = room.stop()
+            if step.shown:
+                compare("the lines of the server", busy(step.shown), busy(turns))
+        elif reason_not_to_run(step) is None:
+            handler_of(step, handlers)(room, step)
+            step.is_run = True
+
+
+# docs/OPERATING.md
+
+
+def withdraw(room, command):
+    """Withdraws the second of two ranges."""
     room.serve(SERVE.format("ledger"))
-    for command in (GRANT.format(9), *(DRAW.format(it + 1) for it in range(draws))):
-        if " done " not in " ".join(room.type(command)):
-            raise Other(command)
+    room.must(GRANT.format(1, 0, 2), "range 1")
+    room.must(GRANT.format(2, 4, 9), "range 2")
+    run_and_compare(room, command)
+    room.stop()
 
 
-def operate(room):
-    """The log and the client of docs/OPERATING.md."""
-    page = blocks("docs/OPERATING.md")
-    log = next(it for it in page if "$ rm copy-wal" in it)
-    client = next(it for it in page if "import socket, struct, sys" in it)
-    run = next(it for it in page if "$ python3 draw.py 5 1" in it)
-    day = next(it for it in page if any("max(day)" in line for line in it))
-    prepare(room, 5)
+def serve_and_stop(room, command):
+    run_and_compare(room, command)
+    room.stop()
+
+
+def serve_in_a_loop(room, command):
+    """Runs the script that serves and copies, with few turns, until it has made two copies."""
+    text = command.text.replace("--count 90000", "--count 1")
+    copies = room.folder / "audits"
+    with open(copies, "w", encoding="utf-8") as output:
+        loop = subprocess.Popen(
+            ["bash", "-c", text], cwd=room.folder, env=room.env, stdout=output, stderr=subprocess.DEVNULL, start_new_session=True
+        )
+        end = time.monotonic() + 30
+        while time.monotonic() < end and copies.read_text(encoding="utf-8").count("\n") < 2:
+            time.sleep(0.2)
+        os.killpg(loop.pid, signal.SIGTERM)
+        loop.wait()
+    lines = copies.read_text(encoding="utf-8").splitlines()
+    if len(lines) < 2 or not all(re.fullmatch(r"ledger ok \d+", line) for line in lines):
+        raise Failure("\n".join([command.where(), *lines]))
+
+
+def copy_of_a_killed_server(room, command):
+    """Copies both files after a server was killed after a grant and five draws."""
+    room.serve_new(0, 9, draws=5)
     room.stop(signal.SIGKILL)
-    for command, shown in commands(log):
-        compare(command, shown, room.type(command))
-    room.serve(SERVE.format("copy"))
-    room.type(GRANT.format(9))
-    compare("served without its log", [True], [room.type(DRAW.format(1))[0].endswith(" RA000000005GB")])
-    room.stop(signal.SIGINT)
-    room.type("rm -f ledger* copy*; s10 create --ledger ledger --interval 30 --limit 1000")
-    room.serve(SERVE.format("ledger"))
-    for command in (GRANT.format(2), DRAW.format(1), DRAW.format(2)):
-        room.type(command)
-    Path(f"{room.folder}/draw.py").write_text("\n".join(client), encoding="utf-8")
-    for command, shown in commands(run):
-        compare(command, shown, room.type(command))
-    room.stop(signal.SIGINT)
-    for command, _ in commands(day):
-        if not room.type(command):
-            raise Other(command)
-    return sum(len(commands(it)) for it in (log, run, day))
+    run_and_compare(room, command)
+
+
+def copy_without_its_log(room, command):
+    """Removes the log of the copy. A server over such a copy accepts the grant again, and issues its first identifier again."""
+    run_and_compare(room, command)
+    room.run("cp copy bare")
+    room.serve(SERVE.format("bare"))
+    room.must(GRANT.format(1, 0, 9), "done")
+    room.must(DRAW.format(1), " RA000000005GB")
+    room.stop()
+
+
+def copy_while_served(room, command):
+    """Runs the script that copies a ledger which is being served. The copy must have each answered call."""
+    room.serve_new(0, 9, draws=3)
+    time.sleep(0.3)
+    status, came = room.run(command.text)
+    found = re.fullmatch(r"ledger ok (\d+)\nanswered before: (\d+)", "\n".join(came))
+    if status != 0 or not found or not 4 == int(found[2]) <= int(found[1]):
+        raise Failure("\n".join([command.where(), *came]))
+    room.stop()
+
+
+OPERATING = {
+    "s10 withdraw": withdraw,
+    "s10 serve": serve_and_stop,
+    "while s10 serve": serve_in_a_loop,
+    "cp ledger copy &&": copy_of_a_killed_server,
+    "rm copy-wal": copy_without_its_log,
+    "answered=": copy_while_served,
+}
+
+
+# docs/SCALING.md
+
+
+def find_ranges_granted_twice(room, command):
+    """Runs the script over two ledgers that have no serial in common, and over two that have one."""
+    ranges = (("ledger.a", 0, 9), ("ledger.b", 10, 19), ("ledger.c", 19, 29))
+    for at, (ledger, first, last) in enumerate(ranges):
+        room.must(CREATE.format(ledger), "created")
+        room.serve(SERVE.format(ledger))
+        room.must(GRANT.format(1, first, last), "done")
+        room.stop()
+        expected = ["granted twice: RA GB 00000019 00000029 ledger.c"] if at == 2 else []
+        compare(command.where(), expected, room.run(command.text)[1])
+
+
+SCALING = {"for ledger in": find_ranges_granted_twice}
+
+
+# contrib/README.md
+
+
+def draw_by_the_client(room, command):
+    """Runs the client of the page, on a server on which customer 7 has drawn two of its three serials."""
+    client = room.folder / "draw.py"
+    if not client.exists():
+        client.write_text(python_block("contrib/README.md", "def draw("), encoding="utf-8")
+        room.serve_new(0, 2, draws=2)
+    run_and_compare(room, command)
+
+
+def checksums(room, command):
+    """Prints the checksums of a served ledger, before and after `health`, which must not change them."""
+    if "checksums" not in room.notes:
+        room.serve_new(0, 2, draws=0)
+        for number in (1000001, 1000001):
+            room.must(DRAW.format(number), "done")
+        room.must(f"s10 void {TO} --customer 7 --number 1000003 --id RA000000005GB", "done")
+        room.must(f"s10 query {TO} --customer 7 --number 1000004 --id RA000000005GB", "done")
+        room.notes["checksums"] = room.must(command.text)
+    compare(command.where(), room.notes["checksums"], room.must(command.text))
+    compare(command.where(), [line.split()[-1] for line in command.shown], [line.split()[-1] for line in room.notes["checksums"]])
+
+
+def count_turns(room, command):
+    """Draws once more by s10client.py, stops the server, and counts its turns. The number of quiet seconds is any."""
+    (room.folder / "example.py").write_text(python_block("contrib/README.md", "make_notes("), encoding="utf-8")
+    compare("the example of s10client.py", ["RA000000014GB"], room.must("python3 example.py"))
+    room.stop()
+    _, came = room.run(command.text)
+    kinds = [sorted(line for line in lines if not line.endswith(" quiet")) for lines in (command.shown, came)]
+    compare(command.where(), *kinds)
+
+
+CONTRIB = {
+    "python3 test_s10client.py": run_and_compare_words,
+    "python3 draw.py": draw_by_the_client,
+    "cksum": checksums,
+    "awk -f turns.awk": count_turns,
+}
+
+
+# All pages.
+
+
+def run_alone(steps, handlers):
+    """Runs a page in a folder of its own."""
+    with tempfile.TemporaryDirectory() as folder:
+        room = Room(folder)
+        try:
+            run_page(room, steps, handlers)
+        finally:
+            room.stop(signal.SIGKILL)
+
+
+def run_tour_and_ledger(pages):
+    """Runs the tour, and then docs/LEDGER.md over its ledger."""
+    with tempfile.TemporaryDirectory() as folder:
+        room = Room(folder)
+        try:
+            run_page(room, pages["docs/TOUR.md"], {})
+            run_page(room, pages["docs/LEDGER.md"], {})
+            compare("an audit beside a table of the office's own", ["ledger ok 9"], room.must("s10 audit --ledger ledger"))
+        finally:
+            room.stop(signal.SIGKILL)
+
+
+def run_contrib(steps):
+    """Runs contrib/README.md in a copy of contrib."""
+    with tempfile.TemporaryDirectory() as folder:
+        copy = Path(folder, "contrib")
+        shutil.copytree(ROOT / "contrib", copy)
+        room = Room(copy)
+        try:
+            run_page(room, steps, CONTRIB)
+        finally:
+            room.stop(signal.SIGKILL)
+
+
+def run_pages(pages):
+    """Runs all pages that have commands. Returns the failures."""
+    runs = {
+        "README.md": lambda: run_alone(pages["README.md"], {}),
+        "docs/TOUR.md, docs/LEDGER.md": lambda: run_tour_and_ledger(pages),
+        "docs/OPERATING.md": lambda: run_alone(pages["docs/OPERATING.md"], OPERATING),
+        "docs/SCALING.md": lambda: run_alone(pages["docs/SCALING.md"], SCALING),
+        "contrib/README.md": lambda: run_contrib(pages["contrib/README.md"]),
+    }
+    failures = []
+    for names, run in runs.items():
+        try:
+            run()
+        except (Failure, subprocess.TimeoutExpired) as failure:
+            failures.append(f"{names}\n{failure}")
+    return failures
+
+
+def uncovered(pages):
+    """Returns the commands that are neither run nor in NOT_RUN, and the entries of NOT_RUN without a command."""
+    commands = [it for steps in pages.values() for it in commands_in(steps)]
+    missed = [it for it in commands if not it.is_run and reason_not_to_run(it) is None]
+    stale = [head for head, _ in NOT_RUN if not any(it.head().startswith(head) for it in commands)]
+    return [f"{it.where()}\nneither run nor in NOT_RUN" for it in missed] + [f"NOT_RUN: no page has {head}" for head in stale]
+
+
+def print_counts(pages):
+    """Prints how many commands of each page were run."""
+    for page, steps in pages.items():
+        is_run = [it.is_run for it in commands_in(steps)]
+        if is_run:
+            print(f"{page}: {is_run.count(True)} commands run, {is_run.count(False)} not run")
 
 
 def main():
-    for page, do in (("README.md", [tour]), ("docs/LEDGER.md", [tour, look_in]), ("docs/OPERATING.md", [operate])):
-        with tempfile.TemporaryDirectory() as folder:
-            room = Room(folder)
-            try:
-                typed = [it(room) for it in do][-1]
-            finally:
-                if room.server:
-                    room.server.kill()
-        print(f"{page}: {typed} commands, each as shown", flush=True)
+    pages = read_pages()
+    failures = counts.check() + run_pages(pages)
+    failures += uncovered(pages)
+    print_counts(pages)
+    for failure in failures:
+        print(f"failed: {failure}")
+    return 1 if failures else 0
 
 
-try:
-    main()
-except Other as why:
-    print(f"failed: {why}")
-    sys.exit(1)
+if __name__ == "__main__":
+    sys.exit(main())
