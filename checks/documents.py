@@ -26,9 +26,9 @@ PROGRAM = Path(sys.argv[1] if len(sys.argv) > 1 else ROOT / "crates/s10/out/s10"
 
 # The commands that are not run: how each begins, `# ` for root, and why.
 NOT_RUN = (
-    ("./s10 check", "builds the program, which takes minutes"),
+    ("./s10 ", "builds the program, which takes minutes"),
     (".ci/run", "proves and tests everything, which takes an hour"),
-    ("./s10 --version && sudo", "installs, as root"),
+    ("python3 contrib/write_texts.py", "writes into the repository"),
     ("# install -d", "root and systemd"),
     ("# s10 create", "root and systemd"),
     ("# systemctl", "root and systemd"),
