@@ -8,6 +8,7 @@ with the reason. A command that is neither run nor in NOT_RUN is a failure, and 
 The numbers in the pages are compared by counts.py. Needs port 4000 of this machine, `sqlite3`, and `rt` of the Rattle kit.
 """
 
+import contextlib
 import os
 import re
 import shutil
@@ -270,7 +271,8 @@ def without_numbers(lines):
 def run_and_compare_words(room, command):
     """Runs a command, with its standard error. Its output must be what the page shows, but for the numbers."""
     _, came = room.run(command.text, stderr=subprocess.STDOUT)
-    compare(command.where(), without_numbers(command.shown), without_numbers(came))
+    if without_numbers(command.shown) != without_numbers(came):
+        compare(command.where(), command.shown, came)
 
 
 def reason_not_to_run(command):
@@ -281,16 +283,26 @@ def handler_of(command, handlers):
     return next((it for head, it in handlers.items() if command.head().startswith(head)), run_and_compare)
 
 
+def run_step(room, step, handlers):
+    """Runs a command, or stops the server."""
+    if isinstance(step, Stop):
+        turns = room.stop()
+        if step.shown:
+            compare("the lines of the server", busy(step.shown), busy(turns))
+    elif reason_not_to_run(step) is None:
+        step.is_run = True
+        handler_of(step, handlers)(room, step)
+
+
 def run_page(room, steps, handlers):
-    """Runs the commands of a page in order. A handler runs each command that begins as its key does."""
+    """Runs the steps of a page in order. A handler runs each command that begins as its key does. Returns the failures."""
+    failures = []
     for step in steps:
-        if isinstance(step, Stop):
-            turns = room.stop()
-            if step.shown:
-                compare("the lines of the server", busy(step.shown), busy(turns))
-        elif reason_not_to_run(step) is None:
-            handler_of(step, handlers)(room, step)
-            step.is_run = True
+        try:
+            run_step(room, step, handlers)
+        except (Failure, subprocess.TimeoutExpired) as failure:
+            failures.append(str(failure))
+    return failures
 
 
 # docs/OPERATING.md
@@ -419,8 +431,15 @@ def count_turns(room, command):
     compare(command.where(), *kinds)
 
 
+def check_texts(room, command):
+    """Compares the texts of the repository with the help texts, in place of those that the command before has written."""
+    shutil.copytree(ROOT / "contrib", room.folder, dirs_exist_ok=True)
+    run_and_compare(room, command)
+
+
 CONTRIB = {
     "python3 test_s10client.py": run_and_compare_words,
+    "python3 write_texts.py --check": check_texts,
     "python3 draw.py": draw_by_the_client,
     "cksum": checksums,
     "awk -f turns.awk": count_turns,
@@ -430,56 +449,55 @@ CONTRIB = {
 # All pages.
 
 
-def run_alone(steps, handlers):
-    """Runs a page in a folder of its own."""
+@contextlib.contextmanager
+def new_room():
+    """A room in a new folder. Its server ends with it."""
     with tempfile.TemporaryDirectory() as folder:
         room = Room(folder)
         try:
-            run_page(room, steps, handlers)
+            yield room
         finally:
             room.stop(signal.SIGKILL)
+
+
+def run_alone(steps, handlers):
+    """Runs a page in a folder of its own. Returns the failures."""
+    with new_room() as room:
+        return run_page(room, steps, handlers)
+
+
+def audit_beside_a_table(room):
+    """Audits the ledger to which docs/LEDGER.md has added a table of the office's own. Returns the failures."""
+    try:
+        compare("an audit beside a table of the office's own", ["ledger ok 9"], room.must("s10 audit --ledger ledger"))
+    except Failure as failure:
+        return [str(failure)]
+    return []
 
 
 def run_tour_and_ledger(pages):
-    """Runs the tour, and then docs/LEDGER.md over its ledger."""
-    with tempfile.TemporaryDirectory() as folder:
-        room = Room(folder)
-        try:
-            run_page(room, pages["docs/TOUR.md"], {})
-            run_page(room, pages["docs/LEDGER.md"], {})
-            compare("an audit beside a table of the office's own", ["ledger ok 9"], room.must("s10 audit --ledger ledger"))
-        finally:
-            room.stop(signal.SIGKILL)
+    """Runs the tour, and then docs/LEDGER.md over its ledger. Returns the failures."""
+    with new_room() as room:
+        tour = run_page(room, pages["docs/TOUR.md"], {})
+        return tour + run_page(room, pages["docs/LEDGER.md"], {}) + audit_beside_a_table(room)
 
 
 def run_contrib(steps):
-    """Runs contrib/README.md in a copy of contrib."""
-    with tempfile.TemporaryDirectory() as folder:
-        copy = Path(folder, "contrib")
-        shutil.copytree(ROOT / "contrib", copy)
-        room = Room(copy)
-        try:
-            run_page(room, steps, CONTRIB)
-        finally:
-            room.stop(signal.SIGKILL)
+    """Runs contrib/README.md in a copy of contrib. Returns the failures."""
+    with new_room() as room:
+        shutil.copytree(ROOT / "contrib", room.folder, dirs_exist_ok=True)
+        return run_page(room, steps, CONTRIB)
 
 
 def run_pages(pages):
     """Runs all pages that have commands. Returns the failures."""
-    runs = {
-        "README.md": lambda: run_alone(pages["README.md"], {}),
-        "docs/TOUR.md, docs/LEDGER.md": lambda: run_tour_and_ledger(pages),
-        "docs/OPERATING.md": lambda: run_alone(pages["docs/OPERATING.md"], OPERATING),
-        "docs/SCALING.md": lambda: run_alone(pages["docs/SCALING.md"], SCALING),
-        "contrib/README.md": lambda: run_contrib(pages["contrib/README.md"]),
-    }
-    failures = []
-    for names, run in runs.items():
-        try:
-            run()
-        except (Failure, subprocess.TimeoutExpired) as failure:
-            failures.append(f"{names}\n{failure}")
-    return failures
+    return [
+        *run_alone(pages["README.md"], {}),
+        *run_tour_and_ledger(pages),
+        *run_alone(pages["docs/OPERATING.md"], OPERATING),
+        *run_alone(pages["docs/SCALING.md"], SCALING),
+        *run_contrib(pages["contrib/README.md"]),
+    ]
 
 
 def uncovered(pages):
