@@ -3,7 +3,7 @@
 
   python3 checks/documents.py [PROGRAM]
 
-The pages are README.md, SECURITY.md, CHANGELOG.md, docs/*.md and contrib/README.md. Each fenced command is run, or is in NOT_RUN
+The pages are README.md, SECURITY.md, CHANGELOG.md, docs/*.md and those of contrib. Each fenced command is run, or is in NOT_RUN
 with the reason. A command that is neither run nor in NOT_RUN is a failure, and so is an entry of NOT_RUN without a command.
 The numbers in the pages are compared by counts.py. Needs port 4000 of this machine, `sqlite3`, and `rt` of the Rattle kit.
 """
@@ -48,6 +48,14 @@ NOT_RUN = (
     ("# lintian", "root and lintian"),
     ("# dpkg", "root"),
     ("# ls /var/lib/private", "root and systemd"),
+    ("make", "the C library, which takes minutes to prove; checks/c_library.sh tries it"),
+    ("sudo make install", "root"),
+    ("cc -std=c11 label.c", "the C library; checks/c_library.sh tries it"),
+    ("./label", "the C library; checks/c_library.sh tries it"),
+    ("s10_draw", "the C library; checks/c_library.sh tries it"),
+    ("cat printer.notes", "the C library"),
+    ("S10=$(command -v s10) python3 test_s10_client.py", "the C library; checks/c_library.sh tries it"),
+    ("(cd crates/s10_c && rt lib", "the C library for another processor, which takes minutes"),
 )
 
 # The first words by which a fence without a language is taken for commands.
@@ -110,7 +118,7 @@ class Block:
 
 def page_names():
     """Returns the paths of the pages from the root."""
-    paths = [*ROOT.glob("*.md"), *ROOT.glob("docs/*.md"), ROOT / "contrib/README.md"]
+    paths = [*ROOT.glob("*.md"), *ROOT.glob("docs/*.md"), *ROOT.glob("contrib/**/*.md")]
     return sorted(str(path.relative_to(ROOT)) for path in paths)
 
 
