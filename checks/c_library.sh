@@ -34,7 +34,7 @@ make -s -C "$c" BUILD="$work/build" PREFIX="$work/prefix" all check install >mak
 grep passed make.log
 library=$work/build/libs10.a
 shared=$work/prefix/lib/libs10.so
-[ "$(sed -n 's/^VERSION = //p' "$c/Makefile")" = "$(sed -n 's/^## //p' "$top/CHANGELOG.md" | head -n 1)" ] || fail "the version is not that of CHANGELOG.md"
+[ "$(sed -n 's/^VERSION = //p' "$c/Makefile")" = "$(sed -n 's/^## \([0-9.]*\).*/\1/p' "$top/CHANGELOG.md" | head -n 1)" ] || fail "the version is not that of CHANGELOG.md"
 
 # Memory functions of C and nothing else are needed; what the header declares and nothing else is exported.
 needed=$(nm -u "$library" | awk '$1 == "U" {print $2}' | sort -u | xargs)

@@ -27,7 +27,8 @@ CLAUSE = re.compile(r"\b(requires|ensures)\b")
 
 def pages():
     """The pages of the repository."""
-    return sorted(path for folder in (".", "docs", "contrib") for path in (ROOT / folder).glob("*.md"))
+    found = [*ROOT.glob("*.md"), *ROOT.glob("docs/*.md"), *ROOT.glob("contrib/**/*.md")]
+    return sorted(found)
 
 
 def folders():
