@@ -52,85 +52,50 @@ no_letters = 0 ∷ 0 ∷ []
 abbrev pub no_text : List ℕ
 no_text = replicate 14 0
 
+-- The struct of a kind alone has customer, number and kind; all other fields are zero.
+abbrev pub plain_of_kind : ℕ → ℕ → ℕ → PlainRequest
+plain_of_kind customer number kind = record {
+  customer = customer;
+  number = number;
+  holder = 0;
+  first = 0;
+  «last» = 0;
+  range = 0;
+  kind = kind;
+  count = 0;
+  service = no_letters;
+  country = no_letters;
+  text = no_text;
+}
+
 -- The struct of a body has its fields, and zero for those that its kind lacks.
 abbrev pub plain_body_of : ℕ → ℕ → Body → PlainRequest
-plain_body_of customer number (Grant holder service country first lst) = record {
-  customer = customer;
-  number = number;
-  holder = holder;
-  first = first;
-  «last» = lst;
-  range = 0;
-  kind = 1;
-  count = 0;
+plain_body_of customer number (Grant holder service country first lst) =
+    record (plain_of_kind customer number 1) {
+      holder = holder;
+      first = first;
+      «last» = lst;
+      service = letters_of service;
+      country = letters_of country;
+    }
+plain_body_of customer number (Draw service country) = record (plain_of_kind customer number 2) {
   service = letters_of service;
   country = letters_of country;
-  text = no_text;
 }
-plain_body_of customer number (Draw service country) = record {
-  customer = customer;
-  number = number;
-  holder = 0;
-  first = 0;
-  «last» = 0;
-  range = 0;
-  kind = 2;
-  count = 0;
-  service = letters_of service;
-  country = letters_of country;
-  text = no_text;
-}
-plain_body_of customer number (Void id) = record {
-  customer = customer;
-  number = number;
-  holder = 0;
-  first = 0;
-  «last» = 0;
-  range = 0;
-  kind = 3;
-  count = 0;
-  service = no_letters;
-  country = no_letters;
+plain_body_of customer number (Void id) = record (plain_of_kind customer number 3) {
   text = spelling_of id ++ 0 ∷ [];
 }
-plain_body_of customer number (Query id) = record {
-  customer = customer;
-  number = number;
-  holder = 0;
-  first = 0;
-  «last» = 0;
-  range = 0;
-  kind = 4;
-  count = 0;
-  service = no_letters;
-  country = no_letters;
+plain_body_of customer number (Query id) = record (plain_of_kind customer number 4) {
   text = spelling_of id ++ 0 ∷ [];
 }
-plain_body_of customer number (DrawMany service country count) = record {
-  customer = customer;
-  number = number;
-  holder = 0;
-  first = 0;
-  «last» = 0;
-  range = 0;
-  kind = 5;
-  count = count;
-  service = letters_of service;
-  country = letters_of country;
-  text = no_text;
-}
-plain_body_of customer number (Withdraw range) = record {
-  customer = customer;
-  number = number;
-  holder = 0;
-  first = 0;
-  «last» = 0;
+plain_body_of customer number (DrawMany service country count) =
+    record (plain_of_kind customer number 5) {
+      count = count;
+      service = letters_of service;
+      country = letters_of country;
+    }
+plain_body_of customer number (Withdraw range) = record (plain_of_kind customer number 6) {
   range = range;
-  kind = 6;
-  count = 0;
-  service = no_letters;
-  country = no_letters;
-  text = no_text;
 }
 
 -- The struct of a request has its customer, its number and its body.

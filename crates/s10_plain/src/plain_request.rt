@@ -1,6 +1,6 @@
 //! A request as a C struct.
 ghost use Rattle.std.specs.Prelude.{◌≡◌};
-ghost use Rattle.s10_plain.specs.Requests.{plain_request_of};
+ghost use Rattle.s10_plain.specs.Requests.{plain_of_kind, plain_request_of};
 
 use crate::plain_id::closed_text;
 use s10_wire::{Body, Request};
@@ -38,21 +38,6 @@ pub struct PlainRequest {
 pub fn plain(request: &Request) -> PlainRequest
     ensures { result ≡ plain_request_of request.now }
 {
-    let customer = request.customer;
-    let number = request.number;
-    let none = PlainRequest {
-        customer,
-        number,
-        holder: 0,
-        first: 0,
-        last: 0,
-        range: 0,
-        kind: 0,
-        count: 0,
-        service: [0; 2],
-        country: [0; 2],
-        text: [0; 14],
-    };
     match request.body {
         Body::Grant {
             holder,
@@ -61,45 +46,58 @@ pub fn plain(request: &Request) -> PlainRequest
             first,
             last,
         } => PlainRequest {
-            kind: 1,
             holder,
             service: service.bytes(),
             country: country.bytes(),
             first: first.value(),
             last: last.value(),
-            ..none
+            ..of_kind(request, 1)
         },
         Body::Draw { service, country } => PlainRequest {
-            kind: 2,
             service: service.bytes(),
             country: country.bytes(),
-            ..none
+            ..of_kind(request, 2)
         },
         Body::Void { id } => PlainRequest {
-            kind: 3,
             text: closed_text(&id),
-            ..none
+            ..of_kind(request, 3)
         },
         Body::Query { id } => PlainRequest {
-            kind: 4,
             text: closed_text(&id),
-            ..none
+            ..of_kind(request, 4)
         },
         Body::DrawMany {
             service,
             country,
             count,
         } => PlainRequest {
-            kind: 5,
             service: service.bytes(),
             country: country.bytes(),
             count: count.value(),
-            ..none
+            ..of_kind(request, 5)
         },
         Body::Withdraw { range } => PlainRequest {
-            kind: 6,
             range,
-            ..none
+            ..of_kind(request, 6)
         },
+    }
+}
+
+// Returns the struct with the customer, the number and this kind, and no body.
+fn of_kind(request: &Request, kind: u8) -> PlainRequest
+    ensures { result ≡ plain_of_kind request.now.customer request.now.number kind }
+{
+    PlainRequest {
+        customer: request.customer,
+        number: request.number,
+        holder: 0,
+        first: 0,
+        last: 0,
+        range: 0,
+        kind,
+        count: 0,
+        service: [0; 2],
+        country: [0; 2],
+        text: [0; 14],
     }
 }
