@@ -1,19 +1,66 @@
 -- One call after another.
-use Rattle.std.proofs.Common.{◌∙◌, refl, List}
+use Rattle.std.proofs.Common.{◌≡◌, ◌++◌, ◌∙◌, refl, sym, ap, List, [], ◌∷◌, append-nil}
+use Rattle.std.proofs.Common.{append_assoc}
 use Rattle.s10_history.specs.declared.entry.Entry.{Entry}
 use Rattle.s10_history.specs.Settings.{Terms}
-use Rattle.s10_book.specs.Book.{Unchanged}
+use Rattle.s10_book.specs.Book.{Grows, Unchanged}
 
-pub Unchanged-refl : {B : Type 0} {history : B → List Entry} {terms : B → Terms}
-    {honest : B → Type 0} (a : B) → Unchanged history terms honest a a
-Unchanged-refl a = record { was_honest = λ h. h; same_history = λ _. refl; same_terms = λ _. refl }
+pub grows_none : (xs : List Entry) → Grows xs xs
+grows_none xs = ([], sym (append-nil xs))
 
-pub Unchanged-trans : {B : Type 0} {history : B → List Entry} {terms : B → Terms}
+-- Equal lists: each begins with the other.
+pub grows_same : (xs ys : List Entry) → ys ≡ xs → Grows xs ys
+grows_same xs ys same = ([], same ∙ sym (append-nil xs))
+
+pub grows_trans : (xs ys zs : List Entry) → Grows xs ys → Grows ys zs → Grows xs zs
+grows_trans xs ys zs first second = (
+  first.0 ++ second.0,
+  second.1 ∙ (ap (λ l. l ++ second.0) first.1 ∙ append_assoc xs first.0 second.0),
+)
+
+pub Unchanged-refl : {B : Type 0} {history committed : B → List Entry} {terms : B → Terms}
+    {honest : B → Type 0} (a : B) → Unchanged history committed terms honest a a
+Unchanged-refl {B} {history} {committed} {terms} {honest} a =
+    record {
+      was_honest = λ h. h;
+      same_history = λ _. refl;
+      same_terms = λ _. refl;
+      stays_committed = λ _. grows_none (committed a);
+    }
+
+pub Unchanged-trans : {B : Type 0} {history committed : B → List Entry} {terms : B → Terms}
     {honest : B → Type 0} {a b c : B}
-    → Unchanged history terms honest a b → Unchanged history terms honest b c
-    → Unchanged history terms honest a c
-Unchanged-trans first second = record {
+    → Unchanged history committed terms honest a b → Unchanged history committed terms honest b c
+    → Unchanged history committed terms honest a c
+Unchanged-trans {B} {history} {committed} {terms} {honest} {a} {b} {c} first second = record {
   was_honest = λ h. first.was_honest (second.was_honest h);
   same_history = λ h. second.same_history h ∙ first.same_history (second.was_honest h);
   same_terms = λ h. second.same_terms h ∙ first.same_terms (second.was_honest h);
+  stays_committed = λ h. grows_trans (committed a) (committed b) (committed c)
+      (first.stays_committed (second.was_honest h)) (second.stays_committed h);
 }
+
+-- A list that equals itself followed by more is followed by nothing.
+no_more : (xs ys zs : List Entry) → xs ≡ (xs ++ ys) ++ zs → ys ≡ []
+no_more [] [] zs same = refl
+no_more [] (y ∷ ys) zs same = absurd cc
+no_more (x ∷ xs) ys zs same = no_more xs ys zs (cc)
+
+-- If all calls were committed and the history is the same, all calls are still committed.
+pub whole_stays : (committed history committed' history' : List Entry) → committed ≡ history
+    → history' ≡ history → Grows committed committed' → Grows committed' history'
+    → committed' ≡ history'
+whole_stays committed history committed' history' whole same grew first =
+    let e : committed ≡ (committed ++ grew.0) ++ first.0 =
+    whole ∙ (sym same ∙ (first.1 ∙ ap (λ l. l ++ first.0) grew.1)) in
+    grew.1 ∙ (ap (λ l. committed ++ l) (no_more committed grew.0 first.0 e)
+    ∙ (append-nil committed ∙ (whole ∙ sym same)))
+
+-- The same for two books of which the call left one unchanged.
+pub whole_kept : {B : Type 0} {history committed : B → List Entry} {terms : B → Terms}
+    {honest : B → Type 0} (a b : B)
+    → Unchanged history committed terms honest a b → honest b → Grows (committed b) (history b)
+    → committed a ≡ history a → committed b ≡ history b
+whole_kept {B} {history} {committed} {terms} {honest} a b unchanged h first whole =
+    whole_stays (committed a) (history a) (committed b) (history b) whole (unchanged.same_history h)
+    (unchanged.stays_committed h) first

@@ -28,12 +28,18 @@ pub trait Book {
     ghost use Rattle.s10_history.specs.Usage.{usage_of};
     ghost use Rattle.s10_book.specs.Rules.{MayFollow, IsLegal};
     ghost use Rattle.s10_book.specs.BookFault.{CountsResult};
-    ghost use Rattle.s10_book.specs.Book.{Unchanged};
+    ghost use Rattle.s10_book.specs.Book.{Grows, Unchanged};
     ghost use Rattle.std.specs.Prelude.{◌≡◌, ℕ, ◌++◌, ◌∷◌, [], ◌<◌, ◌≤◌, ◌==◌, List, length, find};
     ghost use Rattle.std.specs.Prelude.{IfOk, IfSome, IsTrue, OnErr, OnOk, Contains, slice_get};
 
     /// The kept calls.
     ghost history: { Self → List Entry };
+
+    /// The committed calls. They survive the process, and come first in the history.
+    ghost committed: { Self → List Entry };
+
+    /// Whether a `keep` that returns `Ok` has committed its call and all calls before it.
+    ghost durable: { Type 0 };
 
     /// The settings.
     ghost terms: { Self → Terms };
@@ -65,7 +71,7 @@ pub trait Book {
     /// - `Store` if the store fails.
     fn find(&mut self, customer: u32, number: u32) -> Result<Option<Entry>, BookFault>
         ensures faults { CountsResult result (faults self.old) (faults self.new) }
-        ensures unchanged { Unchanged history terms honest self.old self.new }
+        ensures unchanged { Unchanged history committed terms honest self.old self.new }
         ensures answer { honest self.new
             → IfOk result (λ e. e ≡ find_entry (history self.old) customer number) }
 
@@ -81,7 +87,7 @@ pub trait Book {
     /// - `Store` if the store fails.
     fn entry(&mut self, at: u32) -> Result<Option<Entry>, BookFault>
         ensures faults { CountsResult result (faults self.old) (faults self.new) }
-        ensures unchanged { Unchanged history terms honest self.old self.new }
+        ensures unchanged { Unchanged history committed terms honest self.old self.new }
         ensures answer { honest self.new → IfOk result (λ e. e ≡ entry_at (history self.old) at) };
 
     /// Returns the range with this number, from 1, if there is one.
@@ -92,7 +98,7 @@ pub trait Book {
     /// - `Store` if the store fails.
     fn range(&mut self, num: u32) -> Result<Option<Range>, BookFault>
         ensures faults { CountsResult result (faults self.old) (faults self.new) }
-        ensures unchanged { Unchanged history terms honest self.old self.new }
+        ensures unchanged { Unchanged history committed terms honest self.old self.new }
         ensures answer { honest self.new
             → IfOk result (λ r. r ≡ find (λ x. x.num == num) (ranges_of (history self.old))) };
 
@@ -104,7 +110,7 @@ pub trait Book {
     /// - `Store` if the store fails.
     fn closed(&mut self, num: u32) -> Result<bool, BookFault>
         ensures faults { CountsResult result (faults self.old) (faults self.new) }
-        ensures unchanged { Unchanged history terms honest self.old self.new }
+        ensures unchanged { Unchanged history committed terms honest self.old self.new }
         ensures answer { honest self.new
             → IfOk result (λ b. b ≡ is_closed (history self.old) num) };
 
@@ -116,7 +122,7 @@ pub trait Book {
     /// - `Store` if the store fails.
     fn next_range(&mut self, held: &HolderKey, after: u32) -> Result<Option<Range>, BookFault>
         ensures faults { CountsResult result (faults self.old) (faults self.new) }
-        ensures unchanged { Unchanged history terms honest self.old self.new }
+        ensures unchanged { Unchanged history committed terms honest self.old self.new }
         ensures above { IfOk result (λ found. IfSome found (λ r. after < r.num)) }
         ensures answer { honest self.new
             → IfOk result (λ found. found
@@ -131,7 +137,7 @@ pub trait Book {
     /// - `Store` if the store fails.
     fn covering(&mut self, span: &SerialSpan) -> Result<Option<Range>, BookFault>
         ensures faults { CountsResult result (faults self.old) (faults self.new) }
-        ensures unchanged { Unchanged history terms honest self.old self.new }
+        ensures unchanged { Unchanged history committed terms honest self.old self.new }
         ensures answer { honest self.new
             → IfOk result (λ found. found
             ≡ find (overlaps span.now.service span.now.country span.now.first span.now.last)
@@ -145,7 +151,7 @@ pub trait Book {
     /// - `Store` if the store fails.
     fn last_issue(&mut self, id: &Id) -> Result<Option<Issue>, BookFault>
         ensures faults { CountsResult result (faults self.old) (faults self.new) }
-        ensures unchanged { Unchanged history terms honest self.old self.new }
+        ensures unchanged { Unchanged history committed terms honest self.old self.new }
         ensures answer { honest self.new
             → IfOk result (λ i. i ≡ last_issue_of (history self.old) id.now) };
 
@@ -159,7 +165,7 @@ pub trait Book {
     fn candidate(&mut self, range: &Range) -> Result<Candidate, BookFault>
         requires { honest self.old → Contains (ranges_of (history self.old)) range.now }
         ensures faults { CountsResult result (faults self.old) (faults self.new) }
-        ensures unchanged { Unchanged history terms honest self.old self.new }
+        ensures unchanged { Unchanged history committed terms honest self.old self.new }
         ensures answer { honest self.new
             → IfOk result (λ c. c ≡ candidate_of (history self.old) range.now) };
 
@@ -176,7 +182,7 @@ pub trait Book {
         requires there { honest self.old → Contains (ranges_of (history self.old)) range.now }
         requires fewer { issued < size_of range.now }
         ensures faults { CountsResult result (faults self.old) (faults self.new) }
-        ensures unchanged { Unchanged history terms honest self.old self.new }
+        ensures unchanged { Unchanged history committed terms honest self.old self.new }
         ensures answer { honest self.new
             → IfOk result (λ c. c ≡ candidate_after_of (history self.old) range.now issued) };
 
@@ -192,7 +198,7 @@ pub trait Book {
     fn usage(&mut self, range: &Range, day: u32) -> Result<Usage, BookFault>
         requires { honest self.old → Contains (ranges_of (history self.old)) range.now }
         ensures faults { CountsResult result (faults self.old) (faults self.new) }
-        ensures unchanged { Unchanged history terms honest self.old self.new }
+        ensures unchanged { Unchanged history committed terms honest self.old self.new }
         ensures answer { honest self.new
             → IfOk result (λ u. u ≡ usage_of (history self.old) range.now day
             (terms self.old).interval) };
@@ -213,8 +219,15 @@ pub trait Book {
         ensures same_terms { honest self.new → terms self.new ≡ terms self.old }
         ensures ok { honest self.new → OnOk result (history self.new ≡ history self.old ++ entry
             ∷ []) }
-        ensures err { honest self.new → OnErr result (history self.new ≡ history self.old) };
+        ensures err { honest self.new → OnErr result (history self.new ≡ history self.old) }
+        ensures stays_committed { honest self.new
+            → Grows (committed self.old) (committed self.new) }
+        ensures committed { durable → honest self.new
+            → OnOk result (committed self.new ≡ history self.new) };
 
     // The history of an honest book is legal.
     ghost legal: { (book : Self) → honest book → IsLegal (history book) (terms book) };
+
+    // The committed calls come first in the history.
+    ghost first: { (book : Self) → honest book → Grows (committed book) (history book) };
 }

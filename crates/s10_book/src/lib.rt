@@ -1,6 +1,7 @@
 //! The rules, which give each request its outcome, and books, which keep a history by these rules.
 #![tactic(auto)]
 
+mod batched;
 mod book;
 mod book_fault;
 mod draws;
@@ -12,6 +13,7 @@ mod plain_book;
 mod rules;
 mod trip_book;
 
+pub use batched::Batched;
 pub use book::Book;
 pub use book_fault::BookFault;
 pub use draws::successive_draws;

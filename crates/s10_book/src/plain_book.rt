@@ -135,7 +135,13 @@ fn candidate_after_in(
 
 // A read of a book in memory always succeeds and changes nothing.
 impl Book for PlainBook {
+    ghost use Rattle.std.proofs.Common.{sym, append-nil};
+
     ghost history = { λ b. b.entries.items };
+
+    ghost committed = { λ b. b.entries.items };
+
+    ghost durable = { ⊤ };
 
     ghost terms = { λ b. b.settings };
 
@@ -144,6 +150,8 @@ impl Book for PlainBook {
     ghost honest = { λ b. ⊤ };
 
     ghost legal = { λ b h. b.legal };
+
+    ghost first = { λ b h. ([], sym (append-nil b.entries.items)) };
 
     fn settings(&self) -> Settings {
         self.settings
@@ -277,11 +285,9 @@ impl Book for PlainBook {
 
 // A book in memory has no durable store, so each of its calls counts as committed.
 impl GroupCommit for PlainBook {
-    ghost use Rattle.std.proofs.Common.{sym, append-nil};
-
-    ghost committed = { λ b. b.entries.items };
-
-    ghost first = { λ b h. ([], sym (append-nil b.entries.items)) };
+    fn append(&mut self, entry: Entry) -> Result<(), BookFault> {
+        self.keep(entry)
+    }
 
     fn commit(&mut self) -> Result<(), BookFault> {
         Ok(())

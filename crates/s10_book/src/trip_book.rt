@@ -28,6 +28,7 @@ impl<B: Book> TripBook<B> {
     /// Returns a book over `inner` whose call number `at`, from 0, fails.
     pub fn new(inner: B, at: u64) -> TripBook<B>
         ensures history { ⟦<TripBook<B> as Book>⟧.history result ≡ B.history inner }
+        ensures committed { ⟦<TripBook<B> as Book>⟧.committed result ≡ B.committed inner }
         ensures terms { ⟦<TripBook<B> as Book>⟧.terms result ≡ B.terms inner }
         ensures faults { ⟦<TripBook<B> as Book>⟧.faults result ≡ B.faults inner }
         ensures was_honest { ⟦<TripBook<B> as Book>⟧.honest result → B.honest inner }
@@ -43,6 +44,7 @@ impl<B: Book> TripBook<B> {
     /// Returns the inner book, as the calls that did not fail left it.
     pub fn into_inner(self) -> B
         ensures history { B.history result ≡ ⟦<TripBook<B> as Book>⟧.history self }
+        ensures committed { B.committed result ≡ ⟦<TripBook<B> as Book>⟧.committed self }
         ensures terms { B.terms result ≡ ⟦<TripBook<B> as Book>⟧.terms self }
         ensures honest { ⟦<TripBook<B> as Book>⟧.honest self → B.honest result }
     {
@@ -70,6 +72,10 @@ impl<B: Book> TripBook<B> {
 impl<B: Book> Book for TripBook<B> {
     ghost history = { λ b. B.history b.inner };
 
+    ghost committed = { λ b. B.committed b.inner };
+
+    ghost durable = { B.durable };
+
     ghost terms = { λ b. B.terms b.inner };
 
     ghost faults = { λ b. with_trip b.tripped (B.faults b.inner) };
@@ -77,6 +83,8 @@ impl<B: Book> Book for TripBook<B> {
     ghost honest = { λ b. B.honest b.inner };
 
     ghost legal = { λ b h. B.legal b.inner h };
+
+    ghost first = { λ b h. B.first b.inner h };
 
     fn settings(&self) -> Settings {
         self.inner.settings()
@@ -169,9 +177,12 @@ impl<B: Book> Book for TripBook<B> {
 }
 
 impl<B: GroupCommit> GroupCommit for TripBook<B> {
-    ghost committed = { λ b. B.committed b.inner };
-
-    ghost first = { λ b h. B.first b.inner h };
+    fn append(&mut self, entry: Entry) -> Result<(), BookFault> {
+        if self.trips() {
+            return Err(BookFault::Store);
+        }
+        self.inner.append(entry)
+    }
 
     fn commit(&mut self) -> Result<(), BookFault> {
         if self.trips() {

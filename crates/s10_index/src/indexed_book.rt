@@ -110,7 +110,13 @@ impl IndexedBook {
 
 // A read of a book in memory always succeeds and changes nothing.
 impl Book for IndexedBook {
+    ghost use Rattle.std.proofs.Common.{sym, append-nil};
+
     ghost history = { λ b. b.index.entries.items };
+
+    ghost committed = { λ b. b.index.entries.items };
+
+    ghost durable = { ⊤ };
 
     ghost terms = { λ b. b.settings };
 
@@ -119,6 +125,8 @@ impl Book for IndexedBook {
     ghost honest = { λ b. ⊤ };
 
     ghost legal = { λ b h. b.legal };
+
+    ghost first = { λ b h. ([], sym (append-nil b.index.entries.items)) };
 
     fn settings(&self) -> Settings {
         self.settings
@@ -255,11 +263,9 @@ impl Book for IndexedBook {
 
 // A book in memory commits a call when it keeps it: nothing is ever pending.
 impl GroupCommit for IndexedBook {
-    ghost use Rattle.std.proofs.Common.{sym, append-nil};
-
-    ghost committed = { λ b. b.index.entries.items };
-
-    ghost first = { λ b h. ([], sym (append-nil b.index.entries.items)) };
+    fn append(&mut self, entry: Entry) -> Result<(), BookFault> {
+        self.keep(entry)
+    }
 
     fn commit(&mut self) -> Result<(), BookFault> {
         Ok(())

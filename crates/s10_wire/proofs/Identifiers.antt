@@ -84,7 +84,8 @@ passed a b d1 d2 d3 d4 d5 d6 d7 d8 k c d e =
       record {
         in_range = in_range;
         spelled = ap (λ (x : ℕ). a ∷ b ∷ digits ++ x ∷ c ∷ d ∷ [])
-            check ∙ ap (λ (x : List ℕ). a ∷ b ∷ x ++ character_of (check_digit_of (number_of digits))
+            check ∙ ap (λ (x : List ℕ). a ∷ b ∷ x ++ character_of
+            (check_digit_of (number_of digits))
             ∷ c ∷ d ∷ []) (sym (digits_of-number_of d1 d2 d3 d4 d5 d6 d7 d8 all));
       },
     )

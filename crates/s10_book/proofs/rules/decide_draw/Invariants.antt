@@ -11,7 +11,8 @@ invariant-loop-range g l =
     let history = g.B.Book.history l.fn.book in
     record {
       faults : g.B.Book.faults l.book ≡ g.B.Book.faults l.fn.book;
-      unchanged : Unchanged g.B.Book.history g.B.Book.terms g.B.Book.honest l.fn.book l.book;
+      unchanged : Unchanged g.B.Book.history g.B.Book.committed g.B.Book.terms g.B.Book.honest
+          l.fn.book l.book;
       interval : g.B.Book.honest l.book → l.interval ≡ (g.B.Book.terms l.fn.book).interval;
       remaining : g.B.Book.honest l.book
           → Remaining (has_free_pick (issues_of history) l.day l.interval)

@@ -8,7 +8,8 @@ abbrev pub invariant-loop-low : goal.invariant-loop-low
 invariant-loop-low g l =
     record {
       faults : g.B.Book.faults l.book ≡ g.B.Book.faults l.fn.book;
-      unchanged : Unchanged g.B.Book.history g.B.Book.terms g.B.Book.honest l.fn.book l.book;
+      unchanged : Unchanged g.B.Book.history g.B.Book.committed g.B.Book.terms g.B.Book.honest
+          l.fn.book l.book;
       few : l.high ≤ MAX_LIMIT;
       ordered : l.low ≤ l.high;
       between : g.B.Book.honest l.book → (l.low ≤ length (ranges_of (g.B.Book.history l.fn.book)))

@@ -10,7 +10,8 @@ abbrev pub invariant-loop-done : goal.invariant-loop-done
 invariant-loop-done g l =
     record {
       faults : g.B.Book.faults l.book ≡ g.B.Book.faults l.fn.book;
-      unchanged : Unchanged g.B.Book.history g.B.Book.terms g.B.Book.honest l.fn.book l.book;
+      unchanged : Unchanged g.B.Book.history g.B.Book.committed g.B.Book.terms g.B.Book.honest
+          l.fn.book l.book;
       written : g.B.Book.honest l.book → Appends (g.W.Write.contents l.fn.out)
           (g.W.Write.contents l.out)
           (joined (take (issued_by (g.B.Book.history l.fn.book) l.done + 1)

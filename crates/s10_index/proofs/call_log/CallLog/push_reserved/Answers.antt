@@ -14,7 +14,8 @@ invariant_of-self c =
     let rows : length c.push_item.new.list.items ≡ length was.rows.items + 1 =
     ap length c.push_item.ensures ∙ length-append was.rows.items (c.of-row.result ∷ []) in
     let one = one_sheet c.args.entry.outcome in (
-      named-push (length was.sheets.items) _ was.rows.items _ c.of-row.result (omega (arith, sheets))
+      named-push (length was.sheets.items) _ was.rows.items _ c.of-row.result
+          (omega (arith, sheets))
           c.push_item.ensures c.self.invariant.0 c.of-row.ensures.named,
       omega (arith, sheets, rows, one, c.self.invariant.1),
     )
