@@ -1,8 +1,8 @@
 -- What a read leaves of a ledger, and what it returns.
 use Rattle.std.proofs.Common.{◌≡◌, ℕ, Bool, true, IsTrue, ◌++◌, Result, Ok, Err, IfOk, OnOk, ap}
-use Rattle.std.proofs.Common.{subst, refl, arith}
+use Rattle.std.proofs.Common.{subst, refl, arith, length}
 use Rattle.std.specs.Result.{is_ok}
-use Rattle.std.proofs.Math.Logic.{∥∥₁_elim}
+use Rattle.std.proofs.Math.Logic.{∥∥₁_elim, ∥∥₁_map}
 use Rattle.sqlite_trees.specs.declared.store.Store.{Ghosts}
 use Rattle.sqlite.specs.Effect.{Database}
 use Rattle.sqlite.specs.State.{HasCleanDisk}
@@ -11,10 +11,13 @@ use Rattle.s10_book.specs.Rules.{IsLegal}
 use Rattle.s10_book.specs.Book.{Unchanged}
 use Rattle.s10_book.specs.declared.faults.Faults.{Faults}
 use Rattle.s10_history.specs.Settings.{Terms}
+use Rattle.s10_history.specs.History.{day_of}
 use Rattle.s10_schema.specs.Schema.{IsLedgerSchema, IsClosedSchema}
 use Rattle.s10_statements.specs.ConnectionState.{IsQuiescent}
 use Rattle.s10_statements.specs.Statements.{LeavesTables}
+use Rattle.s10_book.proofs.Calls.{grows_same}
 use Rattle.s10_ledger.specs.Ledger.{Ledger, IsLedger, IsHonest, history_in, history_of}
+use Rattle.s10_ledger.specs.Ledger.{committed_of}
 use Rattle.s10_statements.proofs.Apart.{is_ledger-prop, is_closed-prop}
 
 -- What is always true of a ledger's connection.
@@ -47,7 +50,7 @@ module _ {S : Type 0} (g : Ghosts S) (old new : Held S) (t : Terms) (len day : �
 pub read_keeps : {S : Type 0} (g : Ghosts S) (old : Ledger S) (conn : Held S) (faults : Faults)
     → LeavesTables g old.conn conn → IsQuiescent g old.conn → IsKept g old.conn old.terms old.len
     old.day
-    → Unchanged (history_of g) (λ (l : Ledger S). l.terms) (IsHonest g) old
+    → Unchanged (history_of g) (committed_of g) (λ (l : Ledger S). l.terms) (IsHonest g) old
     (record old { conn = conn; faults = faults })
 read_keeps g old conn faults leaves settled kept = record {
   was_honest = λ h. record {
@@ -62,6 +65,9 @@ read_keeps g old conn faults leaves settled kept = record {
   same_history = λ h. ap (λ (d : Database). history_in d ++ old.pending)
       (same_tables g old.conn conn old.terms old.len old.day leaves settled kept h.clean h.is_open);
   same_terms = λ h. refl;
+  stays_committed = λ h. grows_same (history_in (state g old.conn).now)
+      (history_in (state g conn).now) (ap history_in (same_tables g old.conn conn old.terms old.len
+      old.day leaves settled kept h.clean h.is_open));
 }
 
 pub answered : {A T E : Type 0} → IsSet T → (r : Result T E) (x : T) → ∥ A ∥₁
@@ -74,3 +80,17 @@ pub if_answered : {T E : Type 0} (r : Result T E) (P : Type 0) (answered : Bool)
     → answered ≡ is_ok r → OnOk r P → answered ≡ true → P
 if_answered (Ok x) P answered is p so = p
 if_answered (Err e) P answered is p so = absurd cc
+
+-- The length and the day of a ledger are those of its history.
+pub ledger_again : (db : Database) (t u : Terms) (len day : ℕ) → IsLedger db t len day → t ≡ u
+    → IsLedger db u (length (history_in db)) (day_of (history_in db))
+ledger_again db t u len day it same = subst (λ (v : Terms). IsLedger db v (length (history_in db))
+    (day_of (history_in db))) same (record {
+      legal = it.legal;
+      held = ∥∥₁_map it.held (λ h. record {
+        tables = h.tables;
+        calls = h.calls;
+        len_is = refl;
+        day_is = refl;
+      });
+    })

@@ -2,6 +2,7 @@
 use Rattle.std.proofs.Common.{◌≡◌, ℕ, ◌⊎◌, inl, inr, IsTrue, List, [], ◌∷◌, map, length, refl, sym}
 use Rattle.std.proofs.Common.{ap, subst, ◌∙◌, arith}
 use Rattle.std.proofs.lemmas.List.{length-map}
+use Rattle.sqlite_trees.specs.Tree.{Trees}
 use Rattle.sqlite_trees.specs.declared.store.Store.{Ghosts}
 use Rattle.sqlite.specs.Effect.{Database}
 use Rattle.sqlite.specs.State.{HasCleanDisk}
@@ -18,8 +19,10 @@ use Rattle.s10_replay.specs.RightRows.{kept_of, entry_of}
 use Rattle.s10_replay.specs.CheckedTables.{IsConsistent}
 use Rattle.s10_replay.proofs.SameRows.{same_length}
 use Rattle.s10_replay.proofs.Compared.{right_calls}
-use Rattle.s10_schema.specs.Schema.{IsClosedSchema}
+use Rattle.s10_schema.specs.Schema.{IsClosedSchema, ledger_schema, four_tables}
 use Rattle.s10_statements.specs.ConnectionState.{IsQuiescent, StaysUnclean, WasSound}
+use Rattle.s10_statements.specs.ConnectionState.{AddsNoCrashState}
+use Rattle.s10_statements.proofs.CrashLemmas.{either}
 use Rattle.s10_statements.specs.Shown.{HasTables, HasOldTables, shown_head, shown_range}
 use Rattle.s10_statements.specs.Shown.{shown_serial, head_columns}
 use Rattle.s10_statements.specs.Statements.{LeavesTables}
@@ -27,6 +30,14 @@ use Rattle.s10_ledger.specs.declared.table_layout.TableLayout.{TableLayout}
 use Rattle.s10_ledger.specs.declared.table_layout.TableLayout.TheVariants.{Whole, Old}
 use Rattle.s10_ledger.specs.TableLayout.{IsOfTableLayout, HasTableLayout}
 use Rattle.s10_ledger.specs.Ledger.{IsLedger, IsOldLedger, IsAnyLedger, history_in}
+use Rattle.s10_ledger.specs.Ledger.{IsCompletedIn, MayComplete}
+use Rattle.s10_ledger.proofs.BookLemmas.{closed_is}
+use Rattle.s10_ledger.proofs.HistoryLemmas.{history_is}
+use Rattle.std.proofs.Math.Logic.{∥∥₁_elim, ∥∥₁_map}
+use Rattle.std.specs.Coded.{coded_list}
+use base.Stored.{Coded-set}
+use Rattle.s10_history.specs.contracts.entry.Entry as entry
+use Rattle.s10_book.specs.Rules.{IsLegal}
 use Rattle.s10_ledger.specs.Refusals.{IsOpeningRefusal}
 use Rattle.s10_ledger.specs.AllRows.{IsFound}
 use Rattle.s10_ledger.proofs.Forms.{form_ledger, four_lack}
@@ -136,3 +147,45 @@ pub refused_by_store : (db : Database) (fault : OpenFault) → (fault ≡ Memory
     → IsOpeningRefusal db fault
 refused_by_store db fault (inl is) = subst (λ (f : OpenFault). IsOpeningRefusal db f) (sym is) tt
 refused_by_store db fault (inr is) = subst (λ (f : OpenFault). IsOpeningRefusal db f) (sym is) tt
+
+-- The five tables have the ledger that the four had.
+completed_in : (was : Database) (db : Trees) → was.schema ≡ four_tables
+    → ((tables : Tables) → HasOldTables was tables
+    → HasTables (record { schema = ledger_schema; trees = db }) tables) → IsCompletedIn was db
+completed_in was db four made t len day (inl now) =
+    absurd (four_lack was.schema four (closed_is was t len day now))
+completed_in was db four made t len day (inr old) =
+    let new : Database = record { schema = ledger_schema; trees = db } in
+    let same : history_in new ≡ history_in was =
+    ∥∥₁_elim old.held (Coded-set (coded_list entry.the_row.coded) _ _)
+    (λ h. history_is new (history_in was) t h.calls (made (tables_of (history_in was) t) h.tables))
+    in (
+      same,
+      record {
+        legal = subst (λ (h : List Entry). IsLegal h t) (sym same) old.legal;
+        held = ∥∥₁_map old.held (λ h. record {
+          tables = rw same (made (tables_of (history_in was) t) h.tables);
+          calls = rw same h.calls;
+          len_is = h.len_is ∙ ap length (sym same);
+          day_is = h.day_is ∙ ap day_of (sym same);
+        });
+      },
+    )
+
+-- What an opening finds after a stop.
+pub completes : {S : Type 0} (g : Ghosts S) (old read new : Held S) (form : TableLayout)
+    → IsOfTableLayout form (state g old).now.schema → IsQuiescent g old → LeavesTables g old read
+    → AddsNoCrashState g old read → WasSound g read new
+    → (HasCleanDisk (state g new) → (db : Trees) → (state g new).may_leave db
+    → (state g read).may_leave db ⊎ ((form ≡ Old) × IsTrue (state g read).is_open
+    × ((tables : Tables) → HasOldTables (state g read).now tables
+    → HasTables (record { schema = ledger_schema; trees = db }) tables)))
+    → MayComplete g old new
+completes g old read new form declared settled leaves spares sound crash clean db left =
+    let was = (sound clean).0 in
+    let has = form_ledger form (state g old).now.schema declared in
+    either (crash clean db left) (λ before. spares was has db before)
+    (λ made. completed_in (state g old).now db
+    (subst (λ (f : TableLayout). IsOfTableLayout f (state g old).now.schema) made.0 declared)
+    (λ tables held. made.2 tables (subst (λ (d : Database). HasOldTables d tables)
+    (sym (leaves.now was made.1 settled has)) held)))

@@ -1,10 +1,13 @@
 -- How the pending calls are kept and committed.
-use Rattle.std.proofs.Common.{◌≡◌, ℕ, ◌-◌, ◌<◌, ◌≤◌, length, Bool, false, if◌then◌else◌, IsTrue}
+use Rattle.std.proofs.Common.{◌≡◌, ℕ, ◌-◌, ◌<◌, ◌≤◌, ◌==◌, length, Bool, true, false, if◌then◌else◌}
+use Rattle.std.proofs.Common.{IsTrue}
 use Rattle.std.proofs.Common.{List, [], ◌∷◌, ◌++◌, All, Result, Ok, Err, OnOk, OnErr, sym, ap}
 use Rattle.std.proofs.Common.{subst, refl, ◌∙◌, arith, length-append}
 use Rattle.std.specs.Coded.{coded_list}
 use Rattle.std.specs.Result.{is_ok, is_err}
+use Rattle.std.proofs.lemmas.Bool.{eqb-true, true≢false}
 use Rattle.std.proofs.lemmas.List.{append-nil, append_assoc, map-append, take-append-le}
+use Rattle.std.proofs.lemmas.List.{nil_from_length}
 use Rattle.std.proofs.Math.Seq.{take-length}
 use Rattle.std.proofs.lemmas.List.Elements.{All-nil, All-append, All-push}
 use Rattle.std.proofs.Math.Logic.{∥∥₁_elim, ∥∥₁_map, ∥∥₁_prop}
@@ -22,6 +25,8 @@ use Rattle.s10_history.specs.History.{day_of}
 use Rattle.s10_book.specs.Rules.{IsLegal, MayFollow}
 use Rattle.s10_book.specs.declared.faults.Faults.{Faults}
 use Rattle.s10_book.specs.BookFault.{no_faults}
+use Rattle.s10_book.specs.Book.{Grows}
+use Rattle.s10_book.proofs.Calls.{grows_same}
 use Rattle.s10_book.proofs.Push.{IsLegal-push}
 use Rattle.s10_index.specs.declared.call_index.CallIndex.{CallIndex}
 use Rattle.s10_index.specs.CallIndex.{Indexes}
@@ -34,7 +39,9 @@ use Rattle.s10_statements.specs.Shown.{HasTables, StandsFor}
 use Rattle.s10_statements.specs.Statements.{LeavesTables}
 use Rattle.s10_ledger.specs.declared.sql_book.TheConstants.{MAX_PENDING}
 use Rattle.s10_ledger.specs.Ledger.{Ledger, IsLedger, Holds, IsHonest, IsCommittedIn, history_in}
+use Rattle.s10_ledger.specs.Ledger.{with_pending, history_of, committed_of}
 use Rattle.s10_ledger.specs.Pending.{calls_of, committed_among, HoldsPending, IsFollowed, IsSound}
+use Rattle.s10_ledger.specs.Pending.{IsWriteOf, IsWrittenWith}
 use Rattle.s10_ledger.proofs.HistoryLemmas.{history_is}
 use Rattle.s10_ledger.proofs.BookLemmas.{same_tables}
 
@@ -75,8 +82,9 @@ nothing_pending db t index indexed legal = record {
 }
 
 -- Once the pending calls are written, the tables stand for the history with them.
-module _ (old new : Database) (t : Terms) (len day : ℕ) (index : CallIndex) (ws : List CallWrite)
-    (was : IsLedger old t len day) (followed : IsFollowed old t index ws)
+module _ (old new : Database) (t : Terms) (len day : ℕ) (ws : List CallWrite)
+    (was : IsLedger old t len day) (legal : IsLegal (history_in old ++ calls_of ws) t)
+    (held : ∥ HoldsPending old t ws ∥₁)
     (made : (before after : Tables) → AreWritten ws before after → HasTables old before
     → HasTables new after) where
   all_calls : Holds old t len day → HoldsPending old t ws
@@ -90,14 +98,14 @@ module _ (old new : Database) (t : Terms) (len day : ℕ) (index : CallIndex) (w
 
   pub written_history : history_in new ≡ history_in old ++ calls_of ws
   written_history = ∥∥₁_elim was.held (Coded-set (coded_list entry.the_row.coded) _ _)
-      (λ h. ∥∥₁_elim followed.held (Coded-set (coded_list entry.the_row.coded) _ _)
+      (λ h. ∥∥₁_elim held (Coded-set (coded_list entry.the_row.coded) _ _)
       (λ p. history_is new (history_in old ++ calls_of ws) t (all_calls h p) (stands h p)))
 
   pub written_ledger : (len' day' : ℕ) → len' ≡ length (history_in old ++ calls_of ws)
       → day' ≡ day_of (history_in old ++ calls_of ws) → IsLedger new t len' day'
   written_ledger len' day' p q = record {
-    legal = rw written_history followed.legal;
-    held = ∥∥₁_elim was.held ∥∥₁_prop (λ h. ∥∥₁_map followed.held (λ r. record {
+    legal = rw written_history legal;
+    held = ∥∥₁_elim was.held ∥∥₁_prop (λ h. ∥∥₁_map held (λ r. record {
       tables = rw written_history (stands h r);
       calls = rw written_history (all_calls h r);
       len_is = p ∙ ap length (sym written_history);
@@ -105,10 +113,11 @@ module _ (old new : Database) (t : Terms) (len day : ℕ) (index : CallIndex) (w
     }));
   }
 
-  pub written_followed : IsFollowed new t index []
-  written_followed = nothing_pending new t index (subst (Indexes index) (sym written_history)
-      followed.indexed) (subst (λ (h : List Entry). IsLegal h t) (sym written_history)
-      followed.legal)
+  pub written_followed : (index : CallIndex) → Indexes index (history_in old ++ calls_of ws)
+      → IsFollowed new t index []
+  written_followed index indexed = nothing_pending new t index
+      (subst (Indexes index) (sym written_history) indexed)
+      (subst (λ (h : List Entry). IsLegal h t) (sym written_history) legal)
 
 -- What is always true of a book shows that it is honest.
 abbrev pub ledger_of : {S : Type 0} → Held S → Terms → CallIndex → List CallWrite → Faults
@@ -149,7 +158,8 @@ sound_at_first g conn t index ws answered none few settled opened ledger indexed
       few_pending = omega arith;
       settled = settled;
       opened = λ so clean. opened clean;
-      ledger = λ clean is_open. subst (λ (es : List Entry). IsLedger (state g conn).now t (length es)
+      ledger = λ clean is_open. subst (λ (es : List Entry). IsLedger (state g conn).now t
+          (length es)
           (day_of es)) (sym (all_committed index.entries.items)) (ledger clean is_open);
       followed = λ clean is_open. nothing_pending (state g conn).now t index (indexed clean is_open)
           (ledger clean is_open).legal;
@@ -231,12 +241,14 @@ module _ {S : Type 0} (g : Ghosts S) (old new : Held S) (t : Terms) (index : Cal
     ledger = λ is is_open.
         let followed = sound.followed (was_clean is) (was_open is is_open) in
         let all = all_committed index.entries.items ∙ followed.indexed.calls in
-        written_ledger (state g old).now (state g new).now t _ _ index ws
-        (sound.ledger (was_clean is) (was_open is is_open)) followed (made is) _ _
-        (ap length all) (ap day_of all);
-    followed = λ is is_open. written_followed (state g old).now (state g new).now t _ _ index ws
-        (sound.ledger (was_clean is) (was_open is is_open))
-        (sound.followed (was_clean is) (was_open is is_open)) (made is);
+        written_ledger (state g old).now (state g new).now t _ _ ws
+        (sound.ledger (was_clean is) (was_open is is_open)) followed.legal followed.held (made is) _
+        _ (ap length all) (ap day_of all);
+    followed = λ is is_open.
+        let followed = sound.followed (was_clean is) (was_open is is_open) in
+        written_followed (state g old).now (state g new).now t _ _ ws
+        (sound.ledger (was_clean is) (was_open is is_open)) followed.legal followed.held (made is)
+        index followed.indexed;
   }
 
   sound_unwritten : (HasCleanDisk (state g new) → IsTrue (state g new).is_open → (state g new).now
@@ -276,48 +288,68 @@ module _ {S : Type 0} (g : Ghosts S) (old new : Held S) (t : Terms) (index : Cal
   same_after_write (Ok x) made same emptied left is is_open =
       ap (λ (v : List CallWrite). history_in (state g new).now ++ calls_of v) emptied
       ∙ append-nil (history_in (state g new).now)
-      ∙ written_history (state g old).now (state g new).now t _ _ index ws
-      (sound.ledger (was_clean is) (was_open is is_open))
-      (sound.followed (was_clean is) (was_open is is_open)) (made is)
+      ∙ (let followed = sound.followed (was_clean is) (was_open is is_open) in
+      written_history (state g old).now (state g new).now t _ _ ws
+      (sound.ledger (was_clean is) (was_open is is_open)) followed.legal followed.held (made is))
   same_after_write (Err x) made same emptied left is is_open =
       ap (λ (d : Database). history_in d ++ calls_of now) (same is is_open)
       ∙ ap (λ (v : List CallWrite). history_in (state g old).now ++ calls_of v) left
 
--- One more call after those of the index.
-module _ (db : Database) (t : Terms) (len day : ℕ) (index after : CallIndex) (ws : List CallWrite)
+  -- No committed call is lost.
+  pub grows_after_write : {T E : Type 0} (r : Result T E)
+      → (HasCleanDisk (state g new) → OnOk r ((a b : Tables) → AreWritten ws a b
+      → HasTables (state g old).now a → HasTables (state g new).now b))
+      → (HasCleanDisk (state g new) → IsTrue (state g new).is_open
+      → OnErr r ((state g new).now ≡ (state g old).now))
+      → HasCleanDisk (state g new) → IsTrue (state g new).is_open
+      → Grows (history_in (state g old).now) (history_in (state g new).now)
+  grows_after_write (Ok x) made same is is_open =
+      let followed = sound.followed (was_clean is) (was_open is is_open) in (
+        calls_of ws,
+        written_history (state g old).now (state g new).now t _ _ ws
+            (sound.ledger (was_clean is) (was_open is is_open)) followed.legal followed.held
+            (made is),
+      )
+  grows_after_write (Err x) made same is is_open =
+      grows_same (history_in (state g old).now) (history_in (state g new).now)
+      (ap history_in (same is is_open))
+
+-- One more call after the pending ones.
+module _ (db : Database) (t : Terms) (len day : ℕ) (index : CallIndex) (ws : List CallWrite)
     (w : CallWrite) (e : Entry) (was : IsLedger db t len day) (followed : IsFollowed db t index ws)
     (follows : MayFollow (history_in db ++ calls_of ws) t e) (call : w.entry ≡ e) where
-  longer : history_in db ++ calls_of (ws ++ w ∷ []) ≡ (history_in db ++ calls_of ws) ++ e ∷ []
-  longer =
-      ap (λ (p : List Entry). history_in db ++ p) (map-append (λ (v : CallWrite). v.entry) ws
-      (w ∷ []) ∙ ap (λ (d : Entry). calls_of ws ++ d ∷ []) call)
+  pub longer_calls : calls_of (ws ++ w ∷ []) ≡ calls_of ws ++ e ∷ []
+  longer_calls = map-append (λ (v : CallWrite). v.entry) ws (w ∷ [])
+      ∙ ap (λ (d : Entry). calls_of ws ++ d ∷ []) call
+
+  pub longer : history_in db ++ calls_of (ws ++ w ∷ []) ≡ (history_in db ++ calls_of ws) ++ e ∷ []
+  longer = ap (λ (p : List Entry). history_in db ++ p) longer_calls
       ∙ sym (append_assoc (history_in db) (calls_of ws) (e ∷ []))
 
-  pub followed_push : (All IsCall (history_in db ++ calls_of ws) → IsCall e
-      × Writes w (tables_of (history_in db ++ calls_of ws) t)
-      (tables_of ((history_in db ++ calls_of ws) ++ e ∷ []) t))
+  pub legal_push : IsLegal (history_in db ++ calls_of (ws ++ w ∷ [])) t
+  legal_push = subst (λ (h : List Entry). IsLegal h t) (sym longer)
+      (IsLegal-push (history_in db ++ calls_of ws) t e followed.legal follows)
+
+  pub held_push : IsWriteOf index e w → ∥ HoldsPending db t (ws ++ w ∷ []) ∥₁
+  held_push writes = ∥∥₁_elim was.held ∥∥₁_prop (λ h. ∥∥₁_map followed.held (λ p.
+      let it = writes (history_in db ++ calls_of ws) t followed.legal follows
+      (All-append IsCall (history_in db) (calls_of ws) h.calls p.calls) followed.indexed in
+      record {
+        calls = subst (All IsCall) (sym longer_calls)
+            (All-push IsCall (calls_of ws) e p.calls it.0);
+        written = subst (λ (h : List Entry). AreWritten (ws ++ w ∷ [])
+            (tables_of (history_in db) t) (tables_of h t)) (sym longer)
+            (written_push ws w _ _ _ p.written it.1);
+      }))
+
+  pub followed_push : (after : CallIndex) → IsWriteOf index e w
       → Indexes after ((history_in db ++ calls_of ws) ++ e ∷ [])
       → IsFollowed db t after (ws ++ w ∷ [])
-  followed_push writes indexed = record {
+  followed_push after writes indexed = record {
     indexed = subst (Indexes after) (sym longer) indexed;
-    legal = subst (λ (h : List Entry). IsLegal h t) (sym longer)
-        (IsLegal-push (history_in db ++ calls_of ws) t e followed.legal follows);
-    held = ∥∥₁_elim was.held ∥∥₁_prop (λ h. ∥∥₁_map followed.held (λ p.
-        let it = writes (All-append IsCall (history_in db) (calls_of ws) h.calls p.calls) in
-        record {
-          calls = subst (All IsCall) (sym (map-append (λ (v : CallWrite). v.entry) ws (w ∷ [])
-              ∙ ap (λ (d : Entry). calls_of ws ++ d ∷ []) call))
-              (All-push IsCall (calls_of ws) e p.calls it.0);
-          written = subst (λ (h : List Entry). AreWritten (ws ++ w ∷ [])
-              (tables_of (history_in db) t) (tables_of h t)) (sym longer)
-              (written_push ws w _ _ _ p.written it.1);
-        }));
+    legal = legal_push;
+    held = held_push writes;
   }
-
--- What a call writes after those of the index.
-abbrev pub IsWriteOf : CallIndex → Entry → CallWrite → Type 0
-IsWriteOf index e w = (h : List Entry) (t : Terms) → IsLegal h t → MayFollow h t e → All IsCall h
-    → Indexes index h → IsCall e × Writes w (tables_of h t) (tables_of (h ++ e ∷ []) t)
 
 pub written_calls : {T E : Type 0} (index : CallIndex) (ws now : List CallWrite) (e : Entry)
     (r : Result T E) → OnOk r ((w : CallWrite) × (now ≡ ws ++ w ∷ []) × (w.entry ≡ e)
@@ -353,9 +385,8 @@ module _ {S : Type 0} (g : Ghosts S) (conn : Held S) (t : Terms) (index after : 
         followed = λ clean is_open.
             let f = sound.followed clean is_open in
             let may = follows clean is_open in
-            followed_push (state g conn).now t _ _ index after ws w e (sound.ledger clean is_open) f
-            may call (λ all. writes _ t f.legal may all f.indexed)
-            (indexed _ t f.legal may f.indexed);
+            followed_push (state g conn).now t _ _ index ws w e (sound.ledger clean is_open) f may
+            call after writes (indexed _ t f.legal may f.indexed);
       }
 
   sound_unheld : after.entries.items ≡ index.entries.items → ((h : List Entry) → Indexes index h
@@ -412,11 +443,12 @@ pub written_in : {S : Type 0} (g : Ghosts S) (conn : Held S) (t : Terms) (index 
 written_in g conn t index ws answered faults db sound clean opened made =
     let old = (state g conn).now in
     let new : Database = record old { trees = db } in
+    let followed = sound.followed clean opened in
     record {
-      history = written_history old new t _ _ index ws (sound.ledger clean opened)
-          (sound.followed clean opened) made;
-      ledger = written_ledger old new t _ _ index ws (sound.ledger clean opened)
-          (sound.followed clean opened) made _ _ refl refl;
+      history = written_history old new t _ _ ws (sound.ledger clean opened) followed.legal
+          followed.held made;
+      ledger = written_ledger old new t _ _ ws (sound.ledger clean opened) followed.legal
+          followed.held made _ _ refl refl;
     }
 
 -- An append that succeeded.
@@ -424,3 +456,173 @@ pub pushed : {T E : Type 0} (r : Result T E) (new old : List CallWrite) (w : Cal
     → is_err r ≡ false → new ≡ (if is_ok r then old ++ w ∷ [] else old) → new ≡ old ++ w ∷ []
 pushed (Ok x) new old w passed is = is
 pushed (Err e) new old w passed is = absurd cc
+
+pub not_pushed : {T E : Type 0} (r : Result T E) (new old : List CallWrite) (w : CallWrite)
+    → is_err r ≡ true → new ≡ (if is_ok r then old ++ w ∷ [] else old) → new ≡ old
+not_pushed (Ok x) new old w failed is = absurd cc
+not_pushed (Err e) new old w failed is = is
+
+-- Lemmas about a call that was kept with all pending ones, or was not.
+module _ {S : Type 0} (g : Ghosts S) (old new : Held S) (t : Terms) (index after : CallIndex)
+    (ws : List CallWrite) (e : Entry) (before : Bool) (sound : IsSound g old t index ws before)
+    (follows : HasCleanDisk (state g old) → IsTrue (state g old).is_open
+    → MayFollow (history_in (state g old).now ++ calls_of ws) t e) where
+  -- What the tables hold once all these calls are written.
+  module _ (db : Database) (clean : HasCleanDisk (state g old))
+      (opened : IsTrue (state g old).is_open)
+      (made : IsWrittenWith (state g old).now db index ws e) where
+    kept_legal : IsLegal (history_in (state g old).now ++ calls_of (ws ++ made.0 ∷ [])) t
+    kept_legal = legal_push (state g old).now t _ _ index ws made.0 e (sound.ledger clean opened)
+        (sound.followed clean opened) (follows clean opened) made.1
+
+    kept_held : ∥ HoldsPending (state g old).now t (ws ++ made.0 ∷ []) ∥₁
+    kept_held = held_push (state g old).now t _ _ index ws made.0 e (sound.ledger clean opened)
+        (sound.followed clean opened) (follows clean opened) made.1 made.2
+
+    kept_longer : history_in (state g old).now ++ calls_of (ws ++ made.0 ∷ [])
+        ≡ (history_in (state g old).now ++ calls_of ws) ++ e ∷ []
+    kept_longer = longer (state g old).now t _ _ index ws made.0 e (sound.ledger clean opened)
+        (sound.followed clean opened) (follows clean opened) made.1
+
+    pub kept_history : history_in db ≡ (history_in (state g old).now ++ calls_of ws) ++ e ∷ []
+    kept_history = written_history (state g old).now db t _ _ (ws ++ made.0 ∷ [])
+        (sound.ledger clean opened) kept_legal kept_held made.3 ∙ kept_longer
+
+    pub kept_ledger : (len day : ℕ)
+        → len ≡ length ((history_in (state g old).now ++ calls_of ws) ++ e ∷ [])
+        → day ≡ day_of ((history_in (state g old).now ++ calls_of ws) ++ e ∷ [])
+        → IsLedger db t len day
+    kept_ledger len day p q = written_ledger (state g old).now db t _ _ (ws ++ made.0 ∷ [])
+        (sound.ledger clean opened) kept_legal kept_held made.3 len day
+        (p ∙ ap length (sym kept_longer)) (q ∙ ap day_of (sym kept_longer))
+
+    pub kept_followed : Indexes after ((history_in (state g old).now ++ calls_of ws) ++ e ∷ [])
+        → IsFollowed db t after []
+    kept_followed indexed = written_followed (state g old).now db t _ _ (ws ++ made.0 ∷ [])
+        (sound.ledger clean opened) kept_legal kept_held made.3 after
+        (subst (Indexes after) (sym kept_longer) indexed)
+
+  -- What a stop leaves once all these calls are written.
+  pub kept_in : (faults : Faults) (db : Trees) → HasCleanDisk (state g old)
+      → IsTrue (state g old).is_open
+      → IsWrittenWith (state g old).now (record (state g old).now { trees = db }) index ws e
+      → IsCommittedIn g (with_pending (ledger_of old t index ws faults) e) db
+  kept_in faults db clean opened made =
+      let same = append_assoc (history_in (state g old).now) (calls_of ws) (e ∷ []) in
+      record {
+        history = kept_history _ clean opened made ∙ same;
+        ledger = kept_ledger _ clean opened made _ _ (ap length (sym same)) (ap day_of (sym same));
+      }
+
+  module _ (now : List CallWrite) (answered : Bool)
+      (few : length index.entries.items ≤ MAX_LIMIT → length after.entries.items ≤ MAX_LIMIT)
+      (settled : IsQuiescent g new) (clean : StaysUnclean g old new)
+      (was_open : HasCleanDisk (state g new) → IsTrue (state g new).is_open
+      → IsTrue (state g old).is_open)
+      (opened : IsOpenIf g new answered) where
+    old_clean : HasCleanDisk (state g new) → HasCleanDisk (state g old)
+    old_clean is = omega (arith, clean)
+
+    sound_kept : after.entries.items ≡ index.entries.items ++ e ∷ []
+        → ((h : List Entry) (u : Terms) → IsLegal h u → MayFollow h u e → Indexes index h
+        → Indexes after (h ++ e ∷ []))
+        → (HasCleanDisk (state g new) → IsWrittenWith (state g old).now (state g new).now index ws
+        e)
+        → IsSound g new t after [] answered
+    sound_kept calls indexed made = record {
+      few = few sound.few;
+      few_pending = omega arith;
+      settled = settled;
+      opened = opened;
+      ledger = λ is is_open.
+          let f = sound.followed (old_clean is) (was_open is is_open) in
+          let all = all_committed after.entries.items ∙ calls
+          ∙ ap (λ (es : List Entry). es ++ e ∷ []) f.indexed.calls in
+          kept_ledger (state g new).now (old_clean is) (was_open is is_open) (made is) _ _
+          (ap length all) (ap day_of all);
+      followed = λ is is_open.
+          let f = sound.followed (old_clean is) (was_open is is_open) in
+          kept_followed (state g new).now (old_clean is) (was_open is is_open) (made is)
+          (indexed _ t f.legal (follows (old_clean is) (was_open is is_open)) f.indexed);
+    }
+
+    sound_not_kept : after.entries.items ≡ index.entries.items
+        → ((h : List Entry) → Indexes index h → Indexes after h)
+        → (HasCleanDisk (state g new) → IsTrue (state g new).is_open → (state g new).now
+        ≡ (state g old).now) → IsSound g new t after ws answered
+    sound_not_kept calls indexed same = record {
+      few = few sound.few;
+      few_pending = sound.few_pending;
+      settled = settled;
+      opened = opened;
+      ledger = λ is is_open. rw (same is is_open, calls)
+          (sound.ledger (old_clean is) (was_open is is_open));
+      followed = λ is is_open.
+          let f = sound.followed (old_clean is) (was_open is is_open) in
+          rw (same is is_open)
+          (record { indexed = indexed _ f.indexed; legal = f.legal; held = f.held });
+    }
+
+    pub sound_after_keep : {T E : Type 0} (r : Result T E)
+        → OnOk r (after.entries.items ≡ index.entries.items ++ e ∷ [])
+        → OnErr r (after.entries.items ≡ index.entries.items)
+        → ((h : List Entry) (u : Terms) → IsLegal h u → MayFollow h u e → Indexes index h
+        → OnOk r (Indexes after (h ++ e ∷ [])))
+        → ((h : List Entry) → Indexes index h → OnErr r (Indexes after h))
+        → (HasCleanDisk (state g new) → OnOk r (IsWrittenWith (state g old).now (state g new).now
+        index ws e))
+        → (HasCleanDisk (state g new) → IsTrue (state g new).is_open
+        → OnErr r ((state g new).now ≡ (state g old).now))
+        → OnOk r (now ≡ []) → OnErr r (now ≡ ws) → IsSound g new t after now answered
+    sound_after_keep (Ok x) calls same_calls indexed same_index made same emptied left =
+        subst (λ (v : List CallWrite). IsSound g new t after v answered) (sym emptied)
+        (sound_kept calls indexed made)
+    sound_after_keep (Err x) calls same_calls indexed same_index made same emptied left =
+        subst (λ (v : List CallWrite). IsSound g new t after v answered) (sym left)
+        (sound_not_kept same_calls same_index same)
+
+    -- If the call was kept, the history has one more call.
+    pub longer_if_kept : {T E : Type 0} (r : Result T E)
+        → (HasCleanDisk (state g new) → OnOk r (IsWrittenWith (state g old).now (state g new).now
+        index ws e)) → OnOk r (now ≡ []) → HasCleanDisk (state g new)
+        → IsTrue (state g new).is_open
+        → OnOk r (history_in (state g new).now ++ calls_of now
+        ≡ (history_in (state g old).now ++ calls_of ws) ++ e ∷ [])
+    longer_if_kept (Ok x) made emptied is is_open =
+        ap (λ (v : List CallWrite). history_in (state g new).now ++ calls_of v) emptied
+        ∙ append-nil (history_in (state g new).now)
+        ∙ kept_history (state g new).now (old_clean is) (was_open is is_open) (made is)
+    longer_if_kept (Err x) made emptied is is_open = tt
+
+    -- No committed call is lost.
+    pub grows_after_keep : {T E : Type 0} (r : Result T E)
+        → (HasCleanDisk (state g new) → OnOk r (IsWrittenWith (state g old).now (state g new).now
+        index ws e))
+        → (HasCleanDisk (state g new) → IsTrue (state g new).is_open
+        → OnErr r ((state g new).now ≡ (state g old).now))
+        → HasCleanDisk (state g new) → IsTrue (state g new).is_open
+        → Grows (history_in (state g old).now) (history_in (state g new).now)
+    grows_after_keep (Ok x) made same is is_open = (
+      calls_of ws ++ e ∷ [],
+      kept_history (state g new).now (old_clean is) (was_open is is_open) (made is)
+          ∙ append_assoc (history_in (state g old).now) (calls_of ws) (e ∷ []),
+    )
+    grows_after_keep (Err x) made same is is_open =
+        grows_same (history_in (state g old).now) (history_in (state g new).now)
+        (ap history_in (same is is_open))
+
+pub no_calls : (ws : List CallWrite) (n : ℕ) → (n == 0) ≡ true → length ws ≡ n
+    → calls_of ws ≡ []
+no_calls ws n empty is = ap calls_of (nil_from_length ws (is ∙ eqb-true n 0 empty))
+
+pub some_calls : (ws : List CallWrite) (n : ℕ) → (n == 0) ≡ false → length ws ≡ n
+    → calls_of ws ≡ [] → ⊥
+some_calls [] n some is none = true≢false (ap (λ (k : ℕ). k == 0) is ∙ some)
+some_calls (w ∷ ws) n some is none = absurd cc
+
+-- If no call is pending, all calls are committed.
+pub all_are_committed : {S : Type 0} (g : Ghosts S) (book : Ledger S) {T E : Type 0}
+    (r : Result T E) → OnOk r (book.pending ≡ [])
+    → OnOk r (committed_of g book ≡ history_of g book)
+all_are_committed g book (Ok x) none = rw none (sym (append-nil (committed_of g book)))
+all_are_committed g book (Err x) none = tt

@@ -5,7 +5,8 @@ use Rattle.sqlite.specs.Effect.{Database}
 use Rattle.sqlite.specs.State.{HasCleanDisk}
 use Rattle.sqlite.specs.Held.{Held, state}
 use Rattle.s10_schema.specs.Schema.{IsLedgerSchema}
-use Rattle.s10_statements.specs.ConnectionState.{IsQuiescent}
+use Rattle.s10_statements.specs.ConnectionState.{IsQuiescent, StaysUnclean}
+use Rattle.s10_statements.specs.ConnectionState.{AddsNoCrashState}
 use Rattle.s10_statements.specs.Statements.{LeavesTables}
 
 module _ {S : Type 0} (g : Ghosts S) (old mid new : Held S) (first : LeavesTables g old mid)
@@ -31,3 +32,12 @@ module _ {S : Type 0} (g : Ghosts S) (old mid new : Held S) (first : LeavesTable
         (schema_between clean opened settled has) ∙ same_between clean opened settled has;
     settled = λ settled. second.settled (first.settled settled);
   }
+
+-- If a stop in the second of two calls may leave trees, they could be left before the first.
+pub both_spare : {S : Type 0} (g : Ghosts S) (old mid new : Held S) → StaysUnclean g mid new
+    → (HasCleanDisk (state g mid) → IsLedgerSchema (state g old).now.schema
+    → (state g mid).now.schema ≡ (state g old).now.schema)
+    → AddsNoCrashState g old mid → AddsNoCrashState g mid new → AddsNoCrashState g old new
+both_spare g old mid new stays same first second clean has db left =
+    let was : HasCleanDisk (state g mid) = omega (arith, stays, clean) in
+    first was has db (second clean (subst IsLedgerSchema (sym (same was has)) has) db left)

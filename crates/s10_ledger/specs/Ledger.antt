@@ -1,6 +1,6 @@
 -- Defines what a ledger in tables holds, and when it is honest.
-use Rattle.std.specs.Prelude.{◌≡◌, ◌⊎◌, ℕ, zero, suc, ◌+◌, ℤ, pos, IsTrue, List, [], ◌++◌, length}
-use Rattle.std.specs.Prelude.{map, filter, All, refl}
+use Rattle.std.specs.Prelude.{◌≡◌, ◌⊎◌, ℕ, zero, suc, ◌+◌, ℤ, pos, IsTrue, List, [], ◌∷◌, ◌++◌}
+use Rattle.std.specs.Prelude.{length, map, filter, All, refl}
 use Rattle.std.specs.Coded.{Coded, code_by, coded×, coded_ℕ, coded_list}
 use Rattle.sqlite_value.specs.declared.value.Value.{Value}
 use Rattle.sqlite_value.specs.declared.value.Value.TheVariants.{Null, Int, Real, Text, Blob}
@@ -22,6 +22,7 @@ use Rattle.s10_rows.specs.CallRow.{StoredCall}
 use Rattle.s10_replay.specs.RightRows.{entry_of}
 use Rattle.s10_rows.specs.Selected.{IsCall, arrives_between}
 use Rattle.s10_rows.specs.Tables.{tables_of}
+use Rattle.s10_schema.specs.Schema.{ledger_schema}
 use Rattle.s10_statements.specs.Shown.{HasOldTables, StandsFor, call_columns}
 
 -- The integer of a value, 0 for a value of another type.
@@ -157,3 +158,37 @@ pub record IsCommittedIn {S : Type 0} (g : Ghosts S) (l : Ledger S) (db : Trees)
   pub history : history_in (record (state g l.conn).now { trees = db }) ≡ history_of g l
   pub ledger : IsLedger (record (state g l.conn).now { trees = db }) l.terms
       (length (history_of g l)) (day_of (history_of g l))
+
+-- The ledger with one more pending call.
+abbrev pub with_pending : {S : Type 0} → Ledger S → Entry → Ledger S
+with_pending l e = record l { pending = l.pending ++ e ∷ [] }
+
+-- After a stop during the call, the trees are those that were committed before it.
+abbrev pub LeavesCommitted : {S : Type 0} → Ghosts S → Ledger S → Held S → Type 0
+LeavesCommitted g old conn = IsHonest g old → HasCleanDisk (state g conn) → (db : Trees)
+    → (state g conn).may_leave db → db ≡ (state g old.conn).now.trees
+
+-- After a stop during the call, the trees are those that were committed before it, or they hold the
+-- whole ledger with all its pending calls committed.
+abbrev pub MayCommit : {S : Type 0} → Ghosts S → Ledger S → Ledger S → Held S → Type 0
+MayCommit g old whole conn = IsHonest g old → HasCleanDisk (state g conn) → (db : Trees)
+    → (state g conn).may_leave db
+    → (db ≡ (state g old.conn).now.trees) ⊎ IsCommittedIn g whole db
+
+-- What a stop may leave could be left before the call, or it is a ledger with no call.
+abbrev pub MayCreate : {S : Type 0} → Ghosts S → Terms → Held S → Held S → Type 0
+MayCreate g t old new = HasCleanDisk (state g new) → (db : Trees) → (state g new).may_leave db
+    → (state g old).may_leave db
+    ⊎ ((history_in (record { schema = ledger_schema; trees = db }) ≡ [])
+    × IsLedger (record { schema = ledger_schema; trees = db }) t 0 0)
+
+-- The trees have five tables, and the history of the ledger that the database had.
+abbrev pub IsCompletedIn : Database → Trees → Type 0
+IsCompletedIn was db = (t : Terms) (len day : ℕ) → IsAnyLedger was t len day
+    → (history_in (record { schema = ledger_schema; trees = db }) ≡ history_in was)
+    × IsLedger (record { schema = ledger_schema; trees = db }) t len day
+
+-- What a stop may leave could be left before the call, or it is the same ledger with five tables.
+abbrev pub MayComplete : {S : Type 0} → Ghosts S → Held S → Held S → Type 0
+MayComplete g old new = HasCleanDisk (state g new) → (db : Trees) → (state g new).may_leave db
+    → (state g old).may_leave db ⊎ IsCompletedIn (state g old).now db

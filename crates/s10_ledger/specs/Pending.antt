@@ -1,5 +1,6 @@
 -- Defines what is always true of a book and its pending calls.
-use Rattle.std.specs.Prelude.{◌≤◌, ◌-◌, Bool, IsTrue, List, ◌++◌, length, map, take, All}
+use Rattle.std.specs.Prelude.{◌≡◌, ◌≤◌, ◌-◌, Bool, IsTrue, List, [], ◌∷◌, ◌++◌, length, map, take}
+use Rattle.std.specs.Prelude.{All}
 use Rattle.sqlite_trees.specs.declared.store.Store.{Ghosts}
 use Rattle.sqlite.specs.Effect.{Database}
 use Rattle.sqlite.specs.State.{HasCleanDisk}
@@ -8,13 +9,14 @@ use Rattle.s10_history.specs.declared.entry.Entry.{Entry}
 use Rattle.s10_history.specs.declared.settings.TheConstants.{MAX_LIMIT}
 use Rattle.s10_history.specs.Settings.{Terms}
 use Rattle.s10_history.specs.History.{day_of}
-use Rattle.s10_book.specs.Rules.{IsLegal}
+use Rattle.s10_book.specs.Rules.{IsLegal, MayFollow}
 use Rattle.s10_index.specs.declared.call_index.CallIndex.{CallIndex}
 use Rattle.s10_index.specs.CallIndex.{Indexes}
 use Rattle.s10_rows.specs.declared.call_write.CallWrite.{CallWrite}
-use Rattle.s10_rows.specs.CallWrite.{AreWritten}
+use Rattle.s10_rows.specs.CallWrite.{AreWritten, Writes}
 use Rattle.s10_rows.specs.Selected.{IsCall}
-use Rattle.s10_rows.specs.Tables.{tables_of}
+use Rattle.s10_rows.specs.Tables.{Tables, tables_of}
+use Rattle.s10_statements.specs.Shown.{HasTables}
 use Rattle.s10_statements.specs.ConnectionState.{IsQuiescent, IsOpenIf}
 use Rattle.s10_ledger.specs.declared.sql_book.TheConstants.{MAX_PENDING}
 use Rattle.s10_ledger.specs.Ledger.{IsLedger, history_in}
@@ -27,12 +29,24 @@ calls_of ws = map (λ w. w.entry) ws
 abbrev pub committed_among : List CallWrite → List Entry → List Entry
 committed_among ws es = take (length es - length ws) es
 
+-- A write is that of a call after those of the index if it makes the tables of the longer history
+-- out of those of their history.
+abbrev pub IsWriteOf : CallIndex → Entry → CallWrite → Type 0
+IsWriteOf index e w = (h : List Entry) (t : Terms) → IsLegal h t → MayFollow h t e → All IsCall h
+    → Indexes index h → IsCall e × Writes w (tables_of h t) (tables_of (h ++ e ∷ []) t)
+
 -- The writes of the pending calls make the tables of the whole history out of those of the
 -- committed one.
 pub record HoldsPending (db : Database) (t : Terms) (ws : List CallWrite) : Type 0 where
   pub calls : All IsCall (calls_of ws)
   pub written : AreWritten ws (tables_of (history_in db) t)
       (tables_of (history_in db ++ calls_of ws) t)
+
+-- The new database has the tables of the old one with the pending calls and then this call written.
+abbrev pub IsWrittenWith : Database → Database → CallIndex → List CallWrite → Entry → Type 0
+IsWrittenWith old new index ws e = (w : CallWrite) × (w.entry ≡ e) × IsWriteOf index e w
+    × ((before after : Tables) → AreWritten (ws ++ w ∷ []) before after → HasTables old before
+    → HasTables new after)
 
 -- The index holds the committed calls followed by the pending ones, and these are a legal history.
 pub record IsFollowed (db : Database) (t : Terms) (index : CallIndex) (ws : List CallWrite) :

@@ -2,6 +2,7 @@
 //! in the process.
 #![tactic(auto)]
 
+mod closed_book;
 mod faults;
 mod lookups;
 mod opening;
@@ -11,6 +12,7 @@ mod refused;
 mod sql_book;
 mod table_layout;
 
+pub use closed_book::ClosedBook;
 pub use refused::Refused;
 pub use s10_rows::OpenFault;
 pub use s10_statements::{NoObserver, Observer};

@@ -45,6 +45,7 @@ pub(crate) fn usage_in<S: Alter>(
     day: u32,
     interval: u32,
 ) -> Result<Usage, BookFault>
+    ensures spares { AddsNoCrashState S.Store conn.old conn.new }
     ensures leaves { LeavesTables S.Store conn.old conn.new }
     ensures opened { HasCleanDisk (state S.Store conn.new)
         → OnOk result (IsTrue (state S.Store conn.new).is_open) }

@@ -3,17 +3,19 @@
 ghost use Rattle.std.specs.Prelude.{◌≡◌, ◌≤◌, ◌⊎◌, length, IfOk, IfErr, OnOk, OnErr, IsTrue};
 ghost use Rattle.s10_history.specs.History.{day_of};
 ghost use Rattle.s10_history.specs.declared.settings.TheConstants.{MAX_LIMIT};
+ghost use Rattle.sqlite_trees.specs.Tree.{Trees};
 ghost use Rattle.sqlite.specs.Held.{state};
 ghost use Rattle.sqlite.specs.State.{HasCleanDisk};
 ghost use Rattle.s10_rows.specs.Tables.{Tables};
-ghost use Rattle.s10_schema.specs.Schema.{IsClosedSchema};
-ghost use Rattle.s10_statements.specs.Shown.{HasTables};
-ghost use Rattle.s10_statements.specs.ConnectionState.{IsQuiescent, WasSound};
+ghost use Rattle.s10_schema.specs.Schema.{IsClosedSchema, ledger_schema};
+ghost use Rattle.s10_statements.specs.Shown.{HasTables, HasOldTables};
+ghost use Rattle.s10_statements.specs.ConnectionState.{IsQuiescent, WasSound, AddsNoCrashState};
 ghost use Rattle.s10_statements.specs.Statements.{LeavesTables};
-ghost use Rattle.s10_ledger.specs.declared.table_layout.TableLayout.TheVariants.{Whole};
+ghost use Rattle.s10_ledger.specs.declared.table_layout.TableLayout.TheVariants.{Whole, Old};
 ghost use Rattle.s10_ledger.specs.TableLayout.{IsOfTableLayout, HasTableLayout};
 ghost use Rattle.s10_ledger.specs.AllRows.{IsFound};
 ghost use Rattle.s10_ledger.specs.Ledger.{IsLedger, IsAnyLedger, IsIndexed, history_in};
+ghost use Rattle.s10_ledger.specs.Ledger.{MayComplete};
 ghost use Rattle.s10_ledger.specs.Refusals.{IsOpeningRefusal};
 
 use crate::faults::opening_fault;
@@ -36,6 +38,7 @@ fn replay_tables<S: Alter, W: Observer>(
 ) -> Result<(LedgerSummary, CallIndex), OpenFault>
     requires settled { IsQuiescent S.Store conn.old }
     requires form { IsOfTableLayout form (state S.Store conn.old).now.schema }
+    ensures spares { AddsNoCrashState S.Store conn.old conn.new }
     ensures leaves { LeavesTables S.Store conn.old conn.new }
     ensures opened { HasCleanDisk (state S.Store conn.new)
         → OnOk result (IsTrue (state S.Store conn.new).is_open) }
@@ -75,6 +78,11 @@ fn complete<S: Alter, W: Observer>(
     ensures same { form ≡ Whole → (state S.Store conn.new).now ≡ (state S.Store conn.old).now }
     ensures none { HasCleanDisk (state S.Store conn.new) → IsTrue (state S.Store conn.new).is_open
         → OnErr result ((state S.Store conn.new).now ≡ (state S.Store conn.old).now) }
+    ensures crash { HasCleanDisk (state S.Store conn.new) → (db : Trees)
+        → (state S.Store conn.new).may_leave db → (state S.Store conn.old).may_leave db
+        ⊎ ((form ≡ Old) × IsTrue (state S.Store conn.old).is_open
+        × ((tables : Tables) → HasOldTables (state S.Store conn.old).now tables
+        → HasTables (record { schema = ledger_schema; trees = db }) tables)) }
     ensures fault { IfErr result (λ f. (f ≡ OpenFault.Memory) ⊎ (f ≡ OpenFault.Store)) }
 {
     match form {
@@ -118,6 +126,7 @@ pub(crate) fn ledger_in<S: Alter, W: Observer>(
         → IfOk result (λ found. IsAnyLedger (state S.Store conn.old).now found.0.settings
         (length found.1.entries.items) (day_of found.1.entries.items)) }
     ensures indexed { IfOk result (λ found. IsIndexed S.Store conn.new found.1) }
+    ensures crash { MayComplete S.Store conn.old conn.new }
     ensures refused { HasCleanDisk (state S.Store conn.new)
         → IsTrue (state S.Store conn.new).is_open
         → IfErr result (IsOpeningRefusal (state S.Store conn.old).now) }
@@ -138,7 +147,8 @@ impl<S: Alter> SqlBook<S> {
     ghost use Rattle.s10_book.specs.BookFault.{no_faults};
     ghost use Rattle.s10_statements.specs.ConnectionState.{WasSound};
     ghost use Rattle.s10_schema.specs.Schema.{IsClosedSchema};
-    ghost use Rattle.s10_ledger.specs.Ledger.{IsAnyLedger, IsHonest, history_in};
+    ghost use Rattle.s10_ledger.specs.Ledger.{IsAnyLedger, IsHonest, history_in, history_of};
+    ghost use Rattle.s10_ledger.specs.Ledger.{committed_of, MayComplete};
     ghost use Rattle.s10_ledger.specs.Refusals.{IsOpeningRefusal};
 
     /// Opens a ledger: executes all its calls again, and compares the rows of the other tables with
@@ -184,16 +194,20 @@ impl<S: Alter> SqlBook<S> {
             → IsClosedSchema (state S.Store b.conn).now.schema) }
         ensures committed { IfOk result (λ b. IsHonest S.Store b → (state S.Store b.conn).committed
             ≡ (state S.Store b.conn).now) }
+        ensures crash { IfOk result (λ b. MayComplete S.Store conn b.conn) }
         ensures none_pending { IfOk result (λ b. b.pending ≡ []) }
+        ensures whole { IfOk result (λ b. IsHonest S.Store b → committed_of S.Store b
+            ≡ history_of S.Store b) }
         ensures left_idle { IfErr result (λ r. r.connection.in_transaction ≡ false) }
         ensures was_refused { IfErr result (λ r. WasSound S.Store conn r.connection) }
+        ensures crash_refused { IfErr result (λ r. MayComplete S.Store conn r.connection) }
         ensures refused { IfErr result (λ r. HasCleanDisk (state S.Store r.connection)
             → IsTrue (state S.Store r.connection).is_open
             → IsOpeningRefusal (state S.Store conn).now r.fault) }
         ensures kept { IfErr result (λ r. HasCleanDisk (state S.Store r.connection)
             → IsTrue (state S.Store r.connection).is_open → (state S.Store r.connection).now
             ≡ (state S.Store conn).now) }
-        ensures whole { IfErr result (λ r. HasCleanDisk (state S.Store r.connection)
+        ensures accepted { IfErr result (λ r. HasCleanDisk (state S.Store r.connection)
             → IsTrue (state S.Store r.connection).is_open
             → (t : Terms) (len day : ℕ) → AreTerms t → IsAnyLedger (state S.Store conn).now t len
             day → (r.fault ≡ OpenFault.Memory) ⊎ (r.fault ≡ OpenFault.Store)) }

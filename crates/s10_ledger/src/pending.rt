@@ -1,7 +1,7 @@
-//! The pending calls: appends a call to them, and commits them.
+//! The pending calls: appends a call to them, and commits them, with one more call or without.
 
-ghost use Rattle.std.specs.Prelude.{◌≡◌, ◌≢◌, ◌⊎◌, ◌≤◌, ◌+◌, ◌++◌, ◌∷◌, [], List, length, map, All};
-ghost use Rattle.std.specs.Prelude.{Err, IsTrue, OnOk, OnErr};
+ghost use Rattle.std.specs.Prelude.{◌≡◌, ◌≢◌, ◌⊎◌, ◌<◌, ◌≤◌, ◌++◌, ◌∷◌, [], List, length, Err};
+ghost use Rattle.std.specs.Prelude.{IsTrue, IfOk, OnOk, OnErr};
 ghost use Rattle.std.specs.List.{list_any};
 ghost use Rattle.sqlite_trees.specs.Tree.{Trees};
 ghost use Rattle.sqlite_trees.specs.View.{doubt};
@@ -13,14 +13,14 @@ ghost use Rattle.s10_history.specs.History.{has_key};
 ghost use Rattle.s10_history.specs.Settings.{Terms};
 ghost use Rattle.s10_history.specs.declared.settings.TheConstants.{MAX_LIMIT};
 ghost use Rattle.s10_book.specs.Rules.{IsLegal, MayFollow};
-ghost use Rattle.s10_index.specs.CallIndex.{Indexes};
+ghost use Rattle.s10_index.specs.CallIndex.{Indexes, HasRoomFor};
 ghost use Rattle.s10_rows.specs.declared.call_write.CallWrite.{CallWrite};
-ghost use Rattle.s10_rows.specs.CallWrite.{AreWritten, Writes};
-ghost use Rattle.s10_rows.specs.Selected.{IsCall};
-ghost use Rattle.s10_rows.specs.Tables.{Tables, tables_of};
+ghost use Rattle.s10_rows.specs.CallWrite.{AreWritten};
+ghost use Rattle.s10_rows.specs.Tables.{Tables};
+ghost use Rattle.s10_wire.specs.Kind.{fits};
 ghost use Rattle.s10_statements.specs.ConnectionState.{IsQuiescent};
 ghost use Rattle.s10_statements.specs.Shown.{HasTables};
-ghost use Rattle.s10_ledger.specs.Pending.{calls_of};
+ghost use Rattle.s10_ledger.specs.Pending.{calls_of, IsWriteOf, IsWrittenWith};
 
 use crate::faults::fault_of;
 use s10_book::BookFault;
@@ -70,6 +70,34 @@ pub(crate) fn commit_calls<S: Alter>(
     }
 }
 
+// Reserves memory for the call in the index, whose calls are unchanged, and returns what the call
+// writes after those of the index. `Store` if the limit is reached, `Memory` if out of memory.
+fn prepared_write(
+    alloc: Global,
+    index: &mut CallIndex,
+    limit: u32,
+    entry: &Entry,
+) -> Result<CallWrite, BookFault>
+    requires limit { limit ≤ MAX_LIMIT }
+    ensures fault { result ≢ Err Full }
+    ensures same_calls { index.new.entries.items ≡ index.old.entries.items }
+    ensures same_index { (h : List Entry) → Indexes index.old h → Indexes index.new h }
+    ensures few { OnOk result (length index.new.entries.items < MAX_LIMIT) }
+    ensures room { OnOk result (HasRoomFor index.new entry.now) }
+    ensures fits { OnOk result (IsTrue (fits entry.now.request.body entry.now.outcome)) }
+    ensures entry { IfOk result (λ write. write.entry ≡ entry.now) }
+    ensures writes { IfOk result (IsWriteOf index.old entry.now) }
+{
+    let held = index.calls().len();
+    if held >= limit as usize {
+        return Err(BookFault::Store);
+    }
+    if index.reserve(entry).is_err() {
+        return Err(BookFault::Memory);
+    }
+    call_write(alloc, index, held as u32 + 1, entry)
+}
+
 // Appends the call to the index and to the pending calls, or leaves both as they are. `Store` if
 // the limit is reached, `Memory` if out of memory.
 pub(crate) fn append_pending(
@@ -88,27 +116,74 @@ pub(crate) fn append_pending(
     ensures same_calls { OnErr result (index.new.entries.items ≡ index.old.entries.items) }
     ensures written { OnOk result ((write : CallWrite)
         × (pending.new.items ≡ pending.old.items ++ write ∷ []) × (write.entry ≡ entry.now)
-        × ((h : List Entry) (t : Terms) → IsLegal h t → MayFollow h t entry.now → All IsCall h
-        → Indexes index.old h → IsCall entry.now × Writes write (tables_of h t)
-        (tables_of (h ++ entry.now ∷ []) t))) }
+        × IsWriteOf index.old entry.now write) }
     ensures left { OnErr result (pending.new.items ≡ pending.old.items) }
     ensures followed { (h : List Entry) (t : Terms) → IsLegal h t → MayFollow h t entry.now
         → Indexes index.old h → OnOk result (Indexes index.new (h ++ entry.now ∷ [])) }
     ensures same_index { (h : List Entry) → Indexes index.old h
         → OnErr result (Indexes index.new h) }
 {
-    let held = index.calls().len();
-    if held >= limit as usize {
-        return Err(BookFault::Store);
-    }
-    if index.reserve(entry).is_err() {
-        return Err(BookFault::Memory);
-    }
-    let write = call_write(alloc, index, held as u32 + 1, entry)?;
+    let write = prepared_write(alloc, index, limit, entry)?;
     if pending.push(write).is_err() {
         return Err(BookFault::Memory);
     }
     index.follow(*entry);
+    Ok(())
+}
+
+// Commits the pending calls and then this one in one transaction, after which none is pending. On
+// an error none of them is committed, and the index and the pending calls are unchanged. The index
+// follows only after the commit, since no call can be removed from it.
+pub(crate) fn keep_call<S: Alter>(
+    alloc: Global,
+    conn: &mut Connection<S>,
+    index: &mut CallIndex,
+    pending: &mut Vec<CallWrite>,
+    limit: u32,
+    entry: Entry,
+) -> Result<(), BookFault>
+    requires limit { limit ≤ MAX_LIMIT }
+    requires settled { IsQuiescent S.Store conn.old }
+    ensures fault { result ≢ Err Full }
+    ensures few { length index.old.entries.items ≤ MAX_LIMIT → length index.new.entries.items
+        ≤ MAX_LIMIT }
+    ensures calls { OnOk result (index.new.entries.items ≡ index.old.entries.items ++ entry
+        ∷ []) }
+    ensures same_calls { OnErr result (index.new.entries.items ≡ index.old.entries.items) }
+    ensures followed { (h : List Entry) (t : Terms) → IsLegal h t → MayFollow h t entry
+        → Indexes index.old h → OnOk result (Indexes index.new (h ++ entry ∷ [])) }
+    ensures same_index { (h : List Entry) → Indexes index.old h
+        → OnErr result (Indexes index.new h) }
+    ensures emptied { OnOk result (pending.new.items ≡ []) }
+    ensures left { OnErr result (pending.new.items ≡ pending.old.items) }
+    ensures settled { IsQuiescent S.Store conn.new }
+    ensures opened { HasCleanDisk (state S.Store conn.new)
+        → OnOk result (IsTrue (state S.Store conn.new).is_open) }
+    ensures clean { doubt (state S.Store conn.old).is_clean
+        ≤ doubt (state S.Store conn.new).is_clean }
+    ensures was_open { HasCleanDisk (state S.Store conn.new)
+        → IsTrue (state S.Store conn.new).is_open → IsTrue (state S.Store conn.old).is_open }
+    ensures ok { HasCleanDisk (state S.Store conn.new)
+        → OnOk result (IsWrittenWith (state S.Store conn.old).now (state S.Store conn.new).now
+        index.old pending.old.items entry) }
+    ensures err { HasCleanDisk (state S.Store conn.new) → IsTrue (state S.Store conn.new).is_open
+        → OnErr result ((state S.Store conn.new).now ≡ (state S.Store conn.old).now) }
+    ensures crash { HasCleanDisk (state S.Store conn.new) → (db : Trees)
+        → (state S.Store conn.new).may_leave db
+        → (state S.Store conn.old).may_leave db
+        ⊎ IsWrittenWith (state S.Store conn.old).now
+        (record (state S.Store conn.old).now { trees = db }) index.old pending.old.items
+        entry }
+{
+    let last = prepared_write(alloc, index, limit, &entry)?;
+    if pending.push(last).is_err() {
+        return Err(BookFault::Memory);
+    }
+    if let Err(fault) = commit_calls(conn, pending) {
+        let _ = pending.pop();
+        return Err(fault);
+    }
+    index.follow(entry);
     Ok(())
 }
 

@@ -1,13 +1,13 @@
 //! Reads the tables of a ledger. The rows of `calls` are executed again, and dropped before the
 //! derived rows are read.
 
-ghost use Rattle.std.specs.Prelude.{List, IfOk, OnOk, IsTrue};
+ghost use Rattle.std.specs.Prelude.{◌≡◌, List, IfOk, OnOk, IsTrue};
 ghost use Rattle.sqlite.specs.Held.{state};
 ghost use Rattle.sqlite.specs.State.{HasCleanDisk};
 ghost use Rattle.s10_rows.specs.declared.head_row.HeadRow.{HeadRow};
 ghost use Rattle.s10_rows.specs.CallRow.{StoredCall};
 ghost use Rattle.s10_schema.specs.Schema.{IsLedgerSchema};
-ghost use Rattle.s10_statements.specs.ConnectionState.{IsQuiescent};
+ghost use Rattle.s10_statements.specs.ConnectionState.{IsQuiescent, AddsNoCrashState};
 ghost use Rattle.s10_statements.specs.Statements.{LeavesTables};
 ghost use Rattle.s10_ledger.specs.TableLayout.{IsOfTableLayout, AreClosed};
 ghost use Rattle.s10_index.specs.ReplayedBook.{IsReplayedBook};
@@ -26,6 +26,7 @@ fn read_call_rows<S: Alter, W: Observer>(
     conn: &mut Connection<S>,
     observer: &mut W,
 ) -> Result<(Vec<HeadRow>, Vec<CallRow>), Error>
+    ensures spares { IsQuiescent S.Store conn.old → AddsNoCrashState S.Store conn.old conn.new }
     ensures leaves { LeavesTables S.Store conn.old conn.new }
     ensures opened { HasCleanDisk (state S.Store conn.new)
         → OnOk result (IsTrue (state S.Store conn.new).is_open) }
@@ -45,7 +46,10 @@ fn closed_rows<S: Alter>(
     form: TableLayout,
 ) -> Result<Vec<ClosedRow>, Error>
     requires form { IsOfTableLayout form (state S.Store conn.old).now.schema }
+    ensures spares { IsQuiescent S.Store conn.old → AddsNoCrashState S.Store conn.old conn.new }
     ensures leaves { LeavesTables S.Store conn.old conn.new }
+    ensures same { IsQuiescent S.Store conn.old → HasCleanDisk (state S.Store conn.new)
+        → OnOk result ((state S.Store conn.new).now.schema ≡ (state S.Store conn.old).now.schema) }
     ensures rows { HasCleanDisk (state S.Store conn.new)
         → IfOk result (λ rows. AreClosed form (state S.Store conn.old).now rows.items) }
 {
@@ -61,6 +65,7 @@ fn read_derived_rows<S: Alter, W: Observer>(
     conn: &mut Connection<S>,
     observer: &mut W,
 ) -> Result<(Vec<RangeRow>, Vec<SerialRow>), Error>
+    ensures spares { IsQuiescent S.Store conn.old → AddsNoCrashState S.Store conn.old conn.new }
     ensures leaves { LeavesTables S.Store conn.old conn.new }
     ensures opened { HasCleanDisk (state S.Store conn.new)
         → OnOk result (IsTrue (state S.Store conn.new).is_open) }
@@ -82,6 +87,7 @@ pub(crate) fn read_tables<S: Alter, W: Observer>(
     observer: &mut W,
 ) -> Result<(Result<ReplayedBook, OpenFault>, StoredRows), Error>
     requires form { IsOfTableLayout form (state S.Store conn.old).now.schema }
+    ensures spares { IsQuiescent S.Store conn.old → AddsNoCrashState S.Store conn.old conn.new }
     ensures leaves { LeavesTables S.Store conn.old conn.new }
     ensures opened { HasCleanDisk (state S.Store conn.new)
         → OnOk result (IsTrue (state S.Store conn.new).is_open) }

@@ -6,9 +6,10 @@ ghost use Rattle.s10_book.specs.BookFault.{CountsResult, no_faults};
 ghost use Rattle.sqlite.specs.Held.{state};
 ghost use Rattle.s10_ledger.specs.Ledger.{history_in, IsHonest};
 
+use crate::closed_book::ClosedBook;
 use crate::faults::opening_fault;
 use crate::lookups::{ask, usage_in};
-use crate::pending::{append_pending, commit_calls, is_pending};
+use crate::pending::{append_pending, commit_calls, is_pending, keep_call};
 use crate::refused::Refused;
 use s10_book::{Book, BookFault, Faults, GroupCommit};
 use s10_core::Id;
@@ -25,8 +26,9 @@ pub const MAX_PENDING: usize = 64;
 
 /// A book over the tables of a connection.
 ///
-/// A kept call is pending in the process until the book commits it. All pending calls are committed
-/// in one transaction. A pending call is in the history but is lost if the process dies.
+/// A call that the book keeps is committed, in one transaction with all pending calls. A call that
+/// it appends is pending in the process until the book commits. A pending call is in the history
+/// but is lost if the process dies.
 pub struct SqlBook<S: Alter> {
     // The allocator of the index and of the rows that are read.
     alloc: Global,
@@ -69,12 +71,14 @@ impl<S: Alter> Model for SqlBook<S> {
 }
 
 impl<S: Alter> SqlBook<S> {
-    ghost use Rattle.std.specs.Prelude.{◌≡◌, ◌≤◌, IfOk, IfErr, IsTrue, [], length, false};
+    ghost use Rattle.std.specs.Prelude.{◌≡◌, ◌≤◌, IfOk, IfErr, OnOk, OnErr, IsTrue, [], length};
+    ghost use Rattle.std.specs.Prelude.{false};
     ghost use Rattle.s10_history.specs.History.{day_of};
     ghost use Rattle.s10_history.specs.declared.settings.TheConstants.{MAX_LIMIT};
     ghost use Rattle.sqlite.specs.Held.{state};
     ghost use Rattle.sqlite.specs.State.{HasCleanDisk};
     ghost use Rattle.s10_ledger.specs.Ledger.{Ledger, IsLedger, IsIndexed, IsHonest, history_in};
+    ghost use Rattle.s10_ledger.specs.Ledger.{history_of, committed_of, MayCommit, MayCreate};
     ghost use Rattle.s10_statements.specs.ConnectionState.{IsQuiescent, WasSound};
     ghost use Rattle.s10_statements.specs.Creating.{HasOneOfTheNames, IsCreateRefusal};
     ghost use Rattle.s10_schema.specs.Schema.{ledger_schema};
@@ -110,9 +114,13 @@ impl<S: Alter> SqlBook<S> {
             ≡ (state S.Store b.conn).now) }
         ensures honest { IfOk result (λ b. HasCleanDisk (state S.Store b.conn)
             → IsTrue (state S.Store b.conn).is_open → IsHonest S.Store b) }
+        ensures crash { IfOk result (λ b. MayCreate S.Store settings conn b.conn) }
         ensures none_pending { IfOk result (λ b. b.pending ≡ []) }
+        ensures whole { IfOk result (λ b. IsHonest S.Store b → committed_of S.Store b
+            ≡ history_of S.Store b) }
         ensures left_idle { IfErr result (λ r. r.connection.in_transaction ≡ false) }
         ensures was_refused { IfErr result (λ r. WasSound S.Store conn r.connection) }
+        ensures crash_refused { IfErr result (λ r. MayCreate S.Store settings conn r.connection) }
         ensures refused { IfErr result (λ r. IsCreateRefusal (state S.Store conn).now.schema
             r.fault) }
         ensures kept { IfErr result (λ r. HasCleanDisk (state S.Store r.connection)
@@ -182,18 +190,49 @@ impl<S: Alter> SqlBook<S> {
         &self.conn
     }
 
-    /// Closes the book and returns its connection.
+    /// Commits the pending calls and closes the book.
     ///
-    /// If it is open and its disk is clean, its tables stand for the committed calls. The pending
-    /// calls are dropped: no server sent a reply to them.
-    pub fn close(self) -> Connection<S>
+    /// Returns the connection and the result of the commit. If no call is pending, the connection
+    /// is unchanged. After an error the tables stand for the calls that were committed before, and
+    /// the pending calls are lost.
+    pub fn close(mut self) -> ClosedBook<S>
+        ensures idle { result.connection.in_transaction ≡ false }
+        ensures committed { HasCleanDisk (state S.Store result.connection)
+            → IsTrue (state S.Store result.connection).is_open
+            → (state S.Store result.connection).committed ≡ (state S.Store result.connection).now }
+        ensures ledger { HasCleanDisk (state S.Store result.connection)
+            → IsTrue (state S.Store result.connection).is_open
+            → let db = (state S.Store result.connection).now in
+            IsLedger db self.terms (length (history_in db)) (day_of (history_in db)) }
+        ensures honest { HasCleanDisk (state S.Store result.connection)
+            → IsTrue (state S.Store result.connection).is_open → IsHonest S.Store self }
+        ensures whole { HasCleanDisk (state S.Store result.connection)
+            → IsTrue (state S.Store result.connection).is_open
+            → OnOk result.committed (history_in (state S.Store result.connection).now
+            ≡ history_of S.Store self) }
+        ensures left { HasCleanDisk (state S.Store result.connection)
+            → IsTrue (state S.Store result.connection).is_open
+            → OnErr result.committed (history_in (state S.Store result.connection).now
+            ≡ committed_of S.Store self) }
+        ensures same { self.pending ≡ [] → result.connection ≡ self.conn }
+        ensures none_pending { self.pending ≡ [] → OnErr result.committed ⊥ }
+        ensures crash { MayCommit S.Store self self result.connection }
+    {
+        let committed = self.commit_rest();
+        let connection = self.into_connection();
+        ClosedBook {
+            connection,
+            committed,
+        }
+    }
+
+    // Returns the connection, unchanged.
+    fn into_connection(self) -> Connection<S>
         ensures same { result ≡ self.conn }
         ensures idle { result.in_transaction ≡ false }
         ensures committed { HasCleanDisk (state S.Store result)
             → IsTrue (state S.Store result).is_open → (state S.Store result).committed
             ≡ (state S.Store result).now }
-        ensures ledger { HasCleanDisk (state S.Store result) → IsTrue (state S.Store result).is_open
-            → IsLedger (state S.Store result).now self.terms self.len self.day }
         ensures honest { HasCleanDisk (state S.Store result) → IsTrue (state S.Store result).is_open
             → IsHonest S.Store self }
     {
@@ -214,7 +253,7 @@ impl SqlBook<MemStore> {
     ghost use Rattle.std.specs.Prelude.{◌≡◌, ◌⊎◌, IfOk, IfErr, [], false};
     ghost use Rattle.sqlite.specs.Held.{state};
     ghost use Rattle.sqlite.specs.Steps.{over_memory};
-    ghost use Rattle.s10_ledger.specs.Ledger.{IsHonest, history_in};
+    ghost use Rattle.s10_ledger.specs.Ledger.{IsHonest, history_in, history_of, committed_of};
     ghost use Rattle.s10_schema.specs.Schema.{ledger_schema};
 
     /// Creates an empty ledger with these settings in memory.
@@ -232,6 +271,8 @@ impl SqlBook<MemStore> {
         ensures empty { IfOk result (λ b. history_in (state over_memory b.conn).now ≡ []) }
         ensures alone { IfOk result (λ b. (state over_memory b.conn).now.schema ≡ ledger_schema) }
         ensures none_pending { IfOk result (λ b. b.pending ≡ []) }
+        ensures whole { IfOk result (λ b. IsHonest over_memory b → committed_of over_memory b
+            ≡ history_of over_memory b) }
         ensures refused { IfErr result (λ f. (f ≡ OpenFault.Memory) ⊎ (f ≡ OpenFault.Store)) }
     {
         let Ok(conn) = Connection::open_in_memory(alloc) else {
@@ -265,28 +306,31 @@ impl<S: Alter> SqlBook<S> {
     ghost use Rattle.std.specs.Prelude.{◌⊎◌, ◌++◌, ◌∷◌, ◌<◌, length, IfOk, IsTrue, OnErr, OnOk};
     ghost use Rattle.std.specs.Prelude.{Contains};
     ghost use Rattle.std.specs.List.{list_any};
-    ghost use Rattle.sqlite_trees.specs.Tree.{Trees};
     ghost use Rattle.sqlite.specs.State.{HasCleanDisk};
     ghost use Rattle.s10_history.specs.History.{has_key, ranges_of};
     ghost use Rattle.s10_history.specs.Usage.{usage_of};
     ghost use Rattle.s10_book.specs.Rules.{MayFollow};
     ghost use Rattle.s10_book.specs.Book.{Unchanged};
-    ghost use Rattle.s10_ledger.specs.Ledger.{IsCommittedIn, history_of, committed_of};
+    ghost use Rattle.s10_ledger.specs.Ledger.{history_of, committed_of, LeavesCommitted, MayCommit};
+    ghost use Rattle.s10_statements.specs.ConnectionState.{StaysUnclean};
 
     // Reads the settings if the connection did not answer the last statement, so that nothing is
     // returned over a closed connection.
     fn ask_again(&mut self) -> Result<(), BookFault>
         ensures faults { CountsResult result self.old.faults self.new.faults }
-        ensures unchanged { Unchanged (history_of S.Store) (λ b. b.terms) (IsHonest S.Store)
-            self.old self.new }
+        ensures unchanged { Unchanged (history_of S.Store) (committed_of S.Store) (λ b. b.terms)
+            (IsHonest S.Store) self.old self.new }
         ensures opened { HasCleanDisk (state S.Store self.new.conn)
             → OnOk result (IsTrue (state S.Store self.new.conn).is_open) }
+        ensures honest { HasCleanDisk (state S.Store self.new.conn)
+            → IsTrue (state S.Store self.new.conn).is_open → IsHonest S.Store self.new }
+        ensures quiescent { HasCleanDisk (state S.Store self.new.conn)
+            → IsTrue (state S.Store self.new.conn).is_open → (state S.Store self.new.conn).committed
+            ≡ (state S.Store self.new.conn).now }
         ensures same_pending { self.new.pending ≡ self.old.pending }
         ensures same { IsHonest S.Store self.new → (state S.Store self.new.conn).now
             ≡ (state S.Store self.old.conn).now }
-        ensures spares { IsHonest S.Store self.old → HasCleanDisk (state S.Store self.new.conn)
-            → (db : Trees) → (state S.Store self.new.conn).may_leave db
-            → db ≡ (state S.Store self.old.conn).now.trees }
+        ensures crash { LeavesCommitted S.Store self.old self.new.conn }
     {
         if self.answered {
             return Ok(());
@@ -300,16 +344,19 @@ impl<S: Alter> SqlBook<S> {
     // Commits the pending calls in one transaction.
     fn commit_pending(&mut self) -> Result<(), BookFault>
         ensures faults { CountsResult result self.old.faults self.new.faults }
-        ensures unchanged { Unchanged (history_of S.Store) (λ b. b.terms) (IsHonest S.Store)
-            self.old self.new }
+        ensures unchanged { Unchanged (history_of S.Store) (committed_of S.Store) (λ b. b.terms)
+            (IsHonest S.Store) self.old self.new }
         ensures opened { HasCleanDisk (state S.Store self.new.conn)
             → OnOk result (IsTrue (state S.Store self.new.conn).is_open) }
+        ensures honest { HasCleanDisk (state S.Store self.new.conn)
+            → IsTrue (state S.Store self.new.conn).is_open → IsHonest S.Store self.new }
+        ensures quiescent { HasCleanDisk (state S.Store self.new.conn)
+            → IsTrue (state S.Store self.new.conn).is_open → (state S.Store self.new.conn).committed
+            ≡ (state S.Store self.new.conn).now }
         ensures left { IsHonest S.Store self.new
             → OnErr result (committed_of S.Store self.new ≡ committed_of S.Store self.old) }
         ensures none_pending { OnOk result (self.new.pending ≡ []) }
-        ensures crash { IsHonest S.Store self.old → HasCleanDisk (state S.Store self.new.conn)
-            → (db : Trees) → (state S.Store self.new.conn).may_leave db
-            → (db ≡ (state S.Store self.old.conn).now.trees) ⊎ IsCommittedIn S.Store self.old db }
+        ensures crash { MayCommit S.Store self.old self.old self.new.conn }
     {
         let written = commit_calls(&mut self.conn, &mut self.pending);
         let answered = written.is_ok();
@@ -317,20 +364,36 @@ impl<S: Alter> SqlBook<S> {
         counted(&mut self.faults, written)
     }
 
+    // Commits the pending calls, if there are any.
+    fn commit_rest(&mut self) -> Result<(), BookFault>
+        ensures unchanged { Unchanged (history_of S.Store) (committed_of S.Store) (λ b. b.terms)
+            (IsHonest S.Store) self.old self.new }
+        ensures done { IsHonest S.Store self.new
+            → OnOk result (committed_of S.Store self.new ≡ history_of S.Store self.new) }
+        ensures left { IsHonest S.Store self.new
+            → OnErr result (committed_of S.Store self.new ≡ committed_of S.Store self.old) }
+        ensures same { self.old.pending ≡ [] → self.new.conn ≡ self.old.conn }
+        ensures none_pending { self.old.pending ≡ [] → OnErr result ⊥ }
+        ensures crash { MayCommit S.Store self.old self.old self.new.conn }
+    {
+        if !self.pending.is_empty() {
+            return self.commit_pending();
+        }
+        Ok(())
+    }
+
     // Commits if `MAX_PENDING` calls are pending. Otherwise asks the connection, as the reads do.
     fn make_room(&mut self) -> Result<(), BookFault>
         ensures faults { CountsResult result self.old.faults self.new.faults }
-        ensures unchanged { Unchanged (history_of S.Store) (λ b. b.terms) (IsHonest S.Store)
-            self.old self.new }
+        ensures unchanged { Unchanged (history_of S.Store) (committed_of S.Store) (λ b. b.terms)
+            (IsHonest S.Store) self.old self.new }
         ensures opened { HasCleanDisk (state S.Store self.new.conn)
             → OnOk result (IsTrue (state S.Store self.new.conn).is_open) }
         ensures room { OnOk result (length self.new.pending < MAX_PENDING) }
         ensures uncommitted { IsHonest S.Store self.new → length self.old.pending < MAX_PENDING
             → ((state S.Store self.new.conn).now ≡ (state S.Store self.old.conn).now)
             × (self.new.pending ≡ self.old.pending) }
-        ensures crash { IsHonest S.Store self.old → HasCleanDisk (state S.Store self.new.conn)
-            → (db : Trees) → (state S.Store self.new.conn).may_leave db
-            → (db ≡ (state S.Store self.old.conn).now.trees) ⊎ IsCommittedIn S.Store self.old db }
+        ensures crash { MayCommit S.Store self.old self.old self.new.conn }
     {
         if self.pending.len() >= MAX_PENDING {
             return self.commit();
@@ -361,10 +424,12 @@ impl<S: Alter> SqlBook<S> {
         requires there { IsHonest S.Store self.old
             → Contains (ranges_of (history_of S.Store self.old)) range.now }
         ensures faults { CountsResult result self.old.faults self.new.faults }
-        ensures unchanged { Unchanged (history_of S.Store) (λ b. b.terms) (IsHonest S.Store)
-            self.old self.new }
+        ensures unchanged { Unchanged (history_of S.Store) (committed_of S.Store) (λ b. b.terms)
+            (IsHonest S.Store) self.old self.new }
         ensures opened { HasCleanDisk (state S.Store self.new.conn)
             → OnOk result (IsTrue (state S.Store self.new.conn).is_open) }
+        ensures crash { LeavesCommitted S.Store self.old self.new.conn }
+        ensures clean { StaysUnclean S.Store self.old.conn self.new.conn }
         ensures answer { IsHonest S.Store self.new
             → IfOk result (λ u. u ≡ usage_of (history_of S.Store self.old) range.now day
             self.old.terms.interval) }
@@ -379,32 +444,62 @@ impl<S: Alter> SqlBook<S> {
 }
 
 impl<S: Alter> GroupCommit for SqlBook<S> {
-    ghost use Rattle.std.specs.Prelude.{◌⊎◌, IsTrue, OnErr, OnOk, refl};
-    ghost use Rattle.sqlite_trees.specs.Tree.{Trees};
+    ghost use Rattle.std.specs.Prelude.{◌++◌, ◌∷◌, ◌<◌, length, IsTrue, OnErr, OnOk};
     ghost use Rattle.sqlite.specs.State.{HasCleanDisk};
-    ghost use Rattle.s10_book.specs.Book.{Unchanged};
-    ghost use Rattle.s10_ledger.specs.Ledger.{IsCommittedIn, history_of, committed_of};
+    ghost use Rattle.s10_book.specs.Rules.{MayFollow};
+    ghost use Rattle.s10_book.specs.Book.{Grows, Unchanged};
+    ghost use Rattle.s10_ledger.specs.Ledger.{history_of, committed_of, MayCommit};
 
-    ghost committed = { committed_of S.Store };
-
-    ghost first = { λ book honest. (book.pending, refl) };
+    /// Appends the call to the pending ones, in the process. If `MAX_PENDING` calls are pending,
+    /// commits these first.
+    ///
+    /// If the book was honest and its disk is clean, a crash leaves the committed calls as they
+    /// were, or followed by all calls that were pending.
+    fn append(&mut self, entry: Entry) -> Result<(), BookFault>
+        requires { IsHonest S.Store self.old → MayFollow (history_of S.Store self.old)
+            self.old.terms entry }
+        ensures faults { CountsResult result self.old.faults self.new.faults }
+        ensures was_honest { IsHonest S.Store self.new → IsHonest S.Store self.old }
+        ensures same_terms { IsHonest S.Store self.new → self.new.terms ≡ self.old.terms }
+        ensures opened { HasCleanDisk (state S.Store self.new.conn)
+            → OnOk result (IsTrue (state S.Store self.new.conn).is_open) }
+        ensures crash { MayCommit S.Store self.old self.old self.new.conn }
+        ensures ok { IsHonest S.Store self.new
+            → OnOk result (history_of S.Store self.new ≡ history_of S.Store self.old ++ entry
+            ∷ []) }
+        ensures err { IsHonest S.Store self.new
+            → OnErr result (history_of S.Store self.new ≡ history_of S.Store self.old) }
+        ensures stays_committed { IsHonest S.Store self.new
+            → Grows (committed_of S.Store self.old) (committed_of S.Store self.new) }
+        ensures uncommitted { IsHonest S.Store self.new → length self.old.pending < MAX_PENDING
+            → OnOk result (((state S.Store self.new.conn).now ≡ (state S.Store self.old.conn).now)
+            × (self.new.pending ≡ self.old.pending ++ entry ∷ [])) }
+    {
+        if let Err(fault) = self.make_room() {
+            return Err(fault);
+        }
+        self.append_call(&entry)
+    }
 
     /// Commits all pending calls in one transaction. On an error they stay pending, and a book that
     /// is honest has committed none of them.
     fn commit(&mut self) -> Result<(), BookFault>
         ensures faults { CountsResult result self.old.faults self.new.faults }
-        ensures unchanged { Unchanged (history_of S.Store) (λ b. b.terms) (IsHonest S.Store)
-            self.old self.new }
+        ensures unchanged { Unchanged (history_of S.Store) (committed_of S.Store) (λ b. b.terms)
+            (IsHonest S.Store) self.old self.new }
         ensures opened { HasCleanDisk (state S.Store self.new.conn)
             → OnOk result (IsTrue (state S.Store self.new.conn).is_open) }
+        ensures honest { HasCleanDisk (state S.Store self.new.conn)
+            → IsTrue (state S.Store self.new.conn).is_open → IsHonest S.Store self.new }
+        ensures quiescent { HasCleanDisk (state S.Store self.new.conn)
+            → IsTrue (state S.Store self.new.conn).is_open → (state S.Store self.new.conn).committed
+            ≡ (state S.Store self.new.conn).now }
         ensures done { IsHonest S.Store self.new
             → OnOk result (committed_of S.Store self.new ≡ history_of S.Store self.new) }
         ensures left { IsHonest S.Store self.new
             → OnErr result (committed_of S.Store self.new ≡ committed_of S.Store self.old) }
         ensures none_pending { OnOk result (self.new.pending ≡ []) }
-        ensures crash { IsHonest S.Store self.old → HasCleanDisk (state S.Store self.new.conn)
-            → (db : Trees) → (state S.Store self.new.conn).may_leave db
-            → (db ≡ (state S.Store self.old.conn).now.trees) ⊎ IsCommittedIn S.Store self.old db }
+        ensures crash { MayCommit S.Store self.old self.old self.new.conn }
     {
         if self.pending.is_empty() {
             return self.ask_again();
@@ -418,8 +513,8 @@ impl<S: Alter> GroupCommit for SqlBook<S> {
 }
 
 impl<S: Alter> Book for SqlBook<S> {
-    ghost use Rattle.std.specs.Prelude.{◌⊎◌, ◌++◌, ◌∷◌, ◌<◌, ◌==◌, length, find, IfOk, IfSome};
-    ghost use Rattle.std.specs.Prelude.{IsTrue, OnErr, OnOk, Contains};
+    ghost use Rattle.std.specs.Prelude.{◌++◌, ◌∷◌, ◌<◌, ◌==◌, find, IfOk, IfSome, IsTrue, OnErr};
+    ghost use Rattle.std.specs.Prelude.{OnOk, Contains, ⊤, refl};
     ghost use Rattle.sqlite.specs.State.{HasCleanDisk};
     ghost use Rattle.s10_wire.specs.Kind.{fits};
     ghost use Rattle.s10_history.specs.History.{find_entry, entry_at, ranges_of, is_closed};
@@ -428,11 +523,15 @@ impl<S: Alter> Book for SqlBook<S> {
     ghost use Rattle.s10_history.specs.Issues.{size_of};
     ghost use Rattle.s10_history.specs.Usage.{usage_of};
     ghost use Rattle.s10_book.specs.Rules.{MayFollow};
-    ghost use Rattle.s10_book.specs.Book.{Unchanged};
-    ghost use Rattle.s10_ledger.specs.Ledger.{history_of, IsCommittedIn};
-    ghost use Rattle.sqlite_trees.specs.Tree.{Trees};
+    ghost use Rattle.s10_book.specs.Book.{Grows, Unchanged};
+    ghost use Rattle.s10_ledger.specs.Ledger.{history_of, committed_of, with_pending};
+    ghost use Rattle.s10_ledger.specs.Ledger.{LeavesCommitted, MayCommit};
 
     ghost history = { history_of S.Store };
+
+    ghost committed = { committed_of S.Store };
+
+    ghost durable = { ⊤ };
 
     ghost terms = { λ b. b.terms };
 
@@ -441,6 +540,8 @@ impl<S: Alter> Book for SqlBook<S> {
     ghost honest = { IsHonest S.Store };
 
     ghost legal = { λ b h. h.legal };
+
+    ghost first = { λ b honest. (b.pending, refl) };
 
     fn settings(&self) -> Settings {
         self.settings
@@ -456,10 +557,11 @@ impl<S: Alter> Book for SqlBook<S> {
 
     fn find(&mut self, customer: u32, number: u32) -> Result<Option<Entry>, BookFault>
         ensures faults { CountsResult result self.old.faults self.new.faults }
-        ensures unchanged { Unchanged (history_of S.Store) (λ b. b.terms) (IsHonest S.Store)
-            self.old self.new }
+        ensures unchanged { Unchanged (history_of S.Store) (committed_of S.Store) (λ b. b.terms)
+            (IsHonest S.Store) self.old self.new }
         ensures opened { HasCleanDisk (state S.Store self.new.conn)
             → OnOk result (IsTrue (state S.Store self.new.conn).is_open) }
+        ensures crash { LeavesCommitted S.Store self.old self.new.conn }
         ensures answer { IsHonest S.Store self.new
             → IfOk result (λ e. e ≡ find_entry (history_of S.Store self.old) customer number) }
         ensures fits { IfOk result
@@ -473,10 +575,11 @@ impl<S: Alter> Book for SqlBook<S> {
 
     fn entry(&mut self, at: u32) -> Result<Option<Entry>, BookFault>
         ensures faults { CountsResult result self.old.faults self.new.faults }
-        ensures unchanged { Unchanged (history_of S.Store) (λ b. b.terms) (IsHonest S.Store)
-            self.old self.new }
+        ensures unchanged { Unchanged (history_of S.Store) (committed_of S.Store) (λ b. b.terms)
+            (IsHonest S.Store) self.old self.new }
         ensures opened { HasCleanDisk (state S.Store self.new.conn)
             → OnOk result (IsTrue (state S.Store self.new.conn).is_open) }
+        ensures crash { LeavesCommitted S.Store self.old self.new.conn }
         ensures answer { IsHonest S.Store self.new
             → IfOk result (λ e. e ≡ entry_at (history_of S.Store self.old) at) }
     {
@@ -488,10 +591,11 @@ impl<S: Alter> Book for SqlBook<S> {
 
     fn range(&mut self, num: u32) -> Result<Option<Range>, BookFault>
         ensures faults { CountsResult result self.old.faults self.new.faults }
-        ensures unchanged { Unchanged (history_of S.Store) (λ b. b.terms) (IsHonest S.Store)
-            self.old self.new }
+        ensures unchanged { Unchanged (history_of S.Store) (committed_of S.Store) (λ b. b.terms)
+            (IsHonest S.Store) self.old self.new }
         ensures opened { HasCleanDisk (state S.Store self.new.conn)
             → OnOk result (IsTrue (state S.Store self.new.conn).is_open) }
+        ensures crash { LeavesCommitted S.Store self.old self.new.conn }
         ensures answer { IsHonest S.Store self.new
             → IfOk result
             (λ r. r ≡ find (λ x. x.num == num) (ranges_of (history_of S.Store self.old))) }
@@ -504,10 +608,11 @@ impl<S: Alter> Book for SqlBook<S> {
 
     fn closed(&mut self, num: u32) -> Result<bool, BookFault>
         ensures faults { CountsResult result self.old.faults self.new.faults }
-        ensures unchanged { Unchanged (history_of S.Store) (λ b. b.terms) (IsHonest S.Store)
-            self.old self.new }
+        ensures unchanged { Unchanged (history_of S.Store) (committed_of S.Store) (λ b. b.terms)
+            (IsHonest S.Store) self.old self.new }
         ensures opened { HasCleanDisk (state S.Store self.new.conn)
             → OnOk result (IsTrue (state S.Store self.new.conn).is_open) }
+        ensures crash { LeavesCommitted S.Store self.old self.new.conn }
         ensures answer { IsHonest S.Store self.new
             → IfOk result (λ b. b ≡ is_closed (history_of S.Store self.old) num) }
     {
@@ -519,10 +624,11 @@ impl<S: Alter> Book for SqlBook<S> {
 
     fn next_range(&mut self, held: &HolderKey, after: u32) -> Result<Option<Range>, BookFault>
         ensures faults { CountsResult result self.old.faults self.new.faults }
-        ensures unchanged { Unchanged (history_of S.Store) (λ b. b.terms) (IsHonest S.Store)
-            self.old self.new }
+        ensures unchanged { Unchanged (history_of S.Store) (committed_of S.Store) (λ b. b.terms)
+            (IsHonest S.Store) self.old self.new }
         ensures opened { HasCleanDisk (state S.Store self.new.conn)
             → OnOk result (IsTrue (state S.Store self.new.conn).is_open) }
+        ensures crash { LeavesCommitted S.Store self.old self.new.conn }
         ensures above { IfOk result (λ found. IfSome found (λ r. after < r.num)) }
         ensures answer { IsHonest S.Store self.new
             → IfOk result (λ found. found ≡ find (is_open_after (history_of S.Store self.old) after
@@ -541,10 +647,11 @@ impl<S: Alter> Book for SqlBook<S> {
 
     fn covering(&mut self, span: &SerialSpan) -> Result<Option<Range>, BookFault>
         ensures faults { CountsResult result self.old.faults self.new.faults }
-        ensures unchanged { Unchanged (history_of S.Store) (λ b. b.terms) (IsHonest S.Store)
-            self.old self.new }
+        ensures unchanged { Unchanged (history_of S.Store) (committed_of S.Store) (λ b. b.terms)
+            (IsHonest S.Store) self.old self.new }
         ensures opened { HasCleanDisk (state S.Store self.new.conn)
             → OnOk result (IsTrue (state S.Store self.new.conn).is_open) }
+        ensures crash { LeavesCommitted S.Store self.old self.new.conn }
         ensures answer { IsHonest S.Store self.new
             → IfOk result (λ found. found
             ≡ find (overlaps span.now.service span.now.country span.now.first span.now.last)
@@ -562,10 +669,11 @@ impl<S: Alter> Book for SqlBook<S> {
 
     fn last_issue(&mut self, id: &Id) -> Result<Option<Issue>, BookFault>
         ensures faults { CountsResult result self.old.faults self.new.faults }
-        ensures unchanged { Unchanged (history_of S.Store) (λ b. b.terms) (IsHonest S.Store)
-            self.old self.new }
+        ensures unchanged { Unchanged (history_of S.Store) (committed_of S.Store) (λ b. b.terms)
+            (IsHonest S.Store) self.old self.new }
         ensures opened { HasCleanDisk (state S.Store self.new.conn)
             → OnOk result (IsTrue (state S.Store self.new.conn).is_open) }
+        ensures crash { LeavesCommitted S.Store self.old self.new.conn }
         ensures answer { IsHonest S.Store self.new
             → IfOk result (λ i. i ≡ last_issue_of (history_of S.Store self.old) id.now) }
     {
@@ -579,10 +687,11 @@ impl<S: Alter> Book for SqlBook<S> {
         requires { IsHonest S.Store self.old → Contains (ranges_of (history_of S.Store self.old))
             range.now }
         ensures faults { CountsResult result self.old.faults self.new.faults }
-        ensures unchanged { Unchanged (history_of S.Store) (λ b. b.terms) (IsHonest S.Store)
-            self.old self.new }
+        ensures unchanged { Unchanged (history_of S.Store) (committed_of S.Store) (λ b. b.terms)
+            (IsHonest S.Store) self.old self.new }
         ensures opened { HasCleanDisk (state S.Store self.new.conn)
             → OnOk result (IsTrue (state S.Store self.new.conn).is_open) }
+        ensures crash { LeavesCommitted S.Store self.old self.new.conn }
         ensures answer { IsHonest S.Store self.new
             → IfOk result (λ c. c ≡ candidate_of (history_of S.Store self.old) range.now) }
     {
@@ -597,10 +706,11 @@ impl<S: Alter> Book for SqlBook<S> {
             → Contains (ranges_of (history_of S.Store self.old)) range.now }
         requires fewer { issued < size_of range.now }
         ensures faults { CountsResult result self.old.faults self.new.faults }
-        ensures unchanged { Unchanged (history_of S.Store) (λ b. b.terms) (IsHonest S.Store)
-            self.old self.new }
+        ensures unchanged { Unchanged (history_of S.Store) (committed_of S.Store) (λ b. b.terms)
+            (IsHonest S.Store) self.old self.new }
         ensures opened { HasCleanDisk (state S.Store self.new.conn)
             → OnOk result (IsTrue (state S.Store self.new.conn).is_open) }
+        ensures crash { LeavesCommitted S.Store self.old self.new.conn }
         ensures answer { IsHonest S.Store self.new
             → IfOk result (λ c. c ≡ candidate_after_of (history_of S.Store self.old) range.now
             issued) }
@@ -616,10 +726,11 @@ impl<S: Alter> Book for SqlBook<S> {
         requires { IsHonest S.Store self.old → Contains (ranges_of (history_of S.Store self.old))
             range.now }
         ensures faults { CountsResult result self.old.faults self.new.faults }
-        ensures unchanged { Unchanged (history_of S.Store) (λ b. b.terms) (IsHonest S.Store)
-            self.old self.new }
+        ensures unchanged { Unchanged (history_of S.Store) (committed_of S.Store) (λ b. b.terms)
+            (IsHonest S.Store) self.old self.new }
         ensures opened { HasCleanDisk (state S.Store self.new.conn)
             → OnOk result (IsTrue (state S.Store self.new.conn).is_open) }
+        ensures crash { MayCommit S.Store self.old self.old self.new.conn }
         ensures answer { IsHonest S.Store self.new
             → IfOk result (λ u. u ≡ usage_of (history_of S.Store self.old) range.now day
             self.old.terms.interval) }
@@ -630,11 +741,11 @@ impl<S: Alter> Book for SqlBook<S> {
         self.usage_committed(range, day)
     }
 
-    /// Appends the call to the pending ones, in the process. If `MAX_PENDING` calls are pending,
-    /// commits these first.
+    /// Commits the call, in one transaction with all pending calls before it. On an error the
+    /// history and the pending calls are unchanged, and an honest book has committed none of them.
     ///
     /// If the book was honest and its disk is clean, a crash leaves the committed calls as they
-    /// were, or followed by all calls that were pending.
+    /// were, or followed by all calls that were pending and the new one.
     fn keep(&mut self, entry: Entry) -> Result<(), BookFault>
         requires { IsHonest S.Store self.old → MayFollow (history_of S.Store self.old)
             self.old.terms entry }
@@ -643,21 +754,32 @@ impl<S: Alter> Book for SqlBook<S> {
         ensures same_terms { IsHonest S.Store self.new → self.new.terms ≡ self.old.terms }
         ensures opened { HasCleanDisk (state S.Store self.new.conn)
             → OnOk result (IsTrue (state S.Store self.new.conn).is_open) }
-        ensures crash { IsHonest S.Store self.old → HasCleanDisk (state S.Store self.new.conn)
-            → (db : Trees) → (state S.Store self.new.conn).may_leave db
-            → (db ≡ (state S.Store self.old.conn).now.trees) ⊎ IsCommittedIn S.Store self.old db }
+        ensures crash { MayCommit S.Store self.old (with_pending self.old entry) self.new.conn }
         ensures ok { IsHonest S.Store self.new
             → OnOk result (history_of S.Store self.new ≡ history_of S.Store self.old ++ entry
             ∷ []) }
         ensures err { IsHonest S.Store self.new
             → OnErr result (history_of S.Store self.new ≡ history_of S.Store self.old) }
-        ensures uncommitted { IsHonest S.Store self.new → length self.old.pending < MAX_PENDING
-            → OnOk result (((state S.Store self.new.conn).now ≡ (state S.Store self.old.conn).now)
-            × (self.new.pending ≡ self.old.pending ++ entry ∷ [])) }
+        ensures stays_committed { IsHonest S.Store self.new
+            → Grows (committed_of S.Store self.old) (committed_of S.Store self.new) }
+        ensures committed { IsHonest S.Store self.new
+            → OnOk result (committed_of S.Store self.new ≡ history_of S.Store self.new) }
+        ensures left { IsHonest S.Store self.new
+            → OnErr result (committed_of S.Store self.new ≡ committed_of S.Store self.old) }
+        ensures none_pending { OnOk result (self.new.pending ≡ []) }
+        ensures same_pending { OnErr result (self.new.pending ≡ self.old.pending) }
     {
-        if let Err(fault) = self.make_room() {
-            return Err(fault);
-        }
-        self.append_call(&entry)
+        let limit = self.settings.limit();
+        let kept = keep_call(
+            self.alloc,
+            &mut self.conn,
+            &mut self.index,
+            &mut self.pending,
+            limit,
+            entry,
+        );
+        let answered = kept.is_ok();
+        self.answered = answered;
+        counted(&mut self.faults, kept)
     }
 }

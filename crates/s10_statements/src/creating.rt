@@ -1,7 +1,8 @@
 //! Creates the five tables of a new ledger.
 
-ghost use Rattle.std.specs.Prelude.{◌≡◌, ℕ, ◌++◌, ◌∷◌, [], codes, false, IsSome, IfSome, None, Ok};
-ghost use Rattle.std.specs.Prelude.{OnOk, OnErr};
+ghost use Rattle.std.specs.Prelude.{◌≡◌, ◌⊎◌, ℕ, ◌++◌, ◌∷◌, [], codes, false, IsSome, IfSome, None};
+ghost use Rattle.std.specs.Prelude.{Ok, OnOk, OnErr};
+ghost use Rattle.sqlite_trees.specs.Tree.{Trees};
 ghost use Rattle.sqlite.specs.Held.{state};
 ghost use Rattle.sqlite.specs.State.{KeepsCommit, Survives, Executes};
 ghost use Rattle.sqlite_schema.specs.Names.{table_named};
@@ -63,6 +64,8 @@ fn create_each_table<S: Alter>(tx: &mut Transaction<'_, S>) -> Result<(), Error>
         → OnOk result (IsInTransaction S.Store tx.new.conn.now) }
     ensures kept { IsClean S.Store tx.new.conn.now → IsInTransaction S.Store tx.old.conn.now
         → KeepsCommit (state S.Store tx.old.conn.now) (state S.Store tx.new.conn.now) }
+    ensures survives { Survives (state S.Store tx.old.conn.now) (state S.Store tx.new.conn.now)
+        (λ _. ⊥) }
     ensures clean { StaysUnclean S.Store tx.old.conn.now tx.new.conn.now }
 {
     run(tx, HEAD)?;
@@ -86,6 +89,8 @@ fn insert_head<S: Alter>(tx: &mut Transaction<'_, S>, settings: Settings) -> Res
         → OnOk result (IsInTransaction S.Store tx.new.conn.now) }
     ensures kept { IsClean S.Store tx.new.conn.now → IsInTransaction S.Store tx.old.conn.now
         → KeepsCommit (state S.Store tx.old.conn.now) (state S.Store tx.new.conn.now) }
+    ensures survives { Survives (state S.Store tx.old.conn.now) (state S.Store tx.new.conn.now)
+        (λ _. ⊥) }
     ensures clean { StaysUnclean S.Store tx.old.conn.now tx.new.conn.now }
 {
     let interval = settings.interval();
@@ -114,6 +119,10 @@ pub fn create_tables<S: Alter>(conn: &mut Connection<S>, settings: Settings) -> 
         → OnOk result ((state S.Store conn.new).now.schema ≡ ledger_schema) }
     ensures none { IsClean S.Store conn.new → IsOpen S.Store conn.new
         → OnErr result ((state S.Store conn.new).now ≡ (state S.Store conn.old).now) }
+    ensures crash { IsClean S.Store conn.new → (state S.Store conn.old).now.schema ≡ no_schema
+        → (db : Trees) → (state S.Store conn.new).may_leave db
+        → (state S.Store conn.old).may_leave db
+        ⊎ StandsFor (record { schema = ledger_schema; trees = db }) [] settings }
 {
     // Brings into scope that a connection in no transaction has nothing to commit.
     prove!(conn.is_autocommit());

@@ -81,6 +81,7 @@ pub fn all_calls<S: Alter, W: Observer>(
     conn: &mut Connection<S>,
     observer: &mut W,
 ) -> Result<Vec<CallRow>, Error>
+    ensures spares { AddsNoCrashState S.Store conn.old conn.new }
     ensures leaves { LeavesTables S.Store conn.old conn.new }
     ensures opened { IsClean S.Store conn.new → OnOk result (IsOpen S.Store conn.new) }
     ensures rows { IsClean S.Store conn.new
@@ -172,6 +173,7 @@ pub fn all_serials<S: Alter, W: Observer>(
     conn: &mut Connection<S>,
     observer: &mut W,
 ) -> Result<Vec<SerialRow>, Error>
+    ensures spares { AddsNoCrashState S.Store conn.old conn.new }
     ensures leaves { LeavesTables S.Store conn.old conn.new }
     ensures opened { IsClean S.Store conn.new → OnOk result (IsOpen S.Store conn.new) }
     ensures rows { IsClean S.Store conn.new

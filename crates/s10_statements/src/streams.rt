@@ -64,6 +64,7 @@ pub(crate) fn stream_serials<S: Alter, W: Observer>(
 ) -> Result<Vec<SerialRow>, Error>
     requires plain { (o : Schema) → IsPlain (understood (with_others o) sql.now) }
     ensures leaves { LeavesTables S.Store conn.old conn.new }
+    ensures spares { AddsNoCrashState S.Store conn.old conn.new }
     ensures opened { IsClean S.Store conn.new → OnOk result (IsOpen S.Store conn.new) }
     ensures rows { IsClean S.Store conn.new
         → IfOk result (λ serials. IsLedgerSchema (state S.Store conn.old).now.schema

@@ -1,8 +1,9 @@
-use Rattle.std.proofs.Common.{rules, ◌≡◌, refl, subst}
+use Rattle.std.proofs.Common.{rules, ◌≡◌, inl, refl, subst}
 use Rattle.sqlite.specs.Held.{state}
 use Rattle.s10_ledger.specs.declared.table_layout.TableLayout.{TableLayout}
 use Rattle.s10_ledger.specs.declared.table_layout.TableLayout.TheVariants.{Whole, Old}
 use Rattle.s10_ledger.specs.TableLayout.{HasTableLayout}
+use Rattle.s10_statements.proofs.CrashLemmas.{either}
 use Rattle.s10_ledger.proofs.OpeningLemmas.{sound_before}
 use Rattle.s10_ledger.proofs.opening.complete.Goals as goal
 
@@ -75,3 +76,16 @@ returns-in-Err-clause-none g c = c.in-Err.ensures.none
 
 pub returns-in-Err-clause-fault : goal.returns-in-Err-clause-fault
 returns-in-Err-clause-fault g c = c.opening_fault.ensures.fault
+
+pub returns-in-Whole-clause-crash : goal.returns-in-Whole-clause-crash
+returns-in-Whole-clause-crash g c = λ clean db left. inl left
+
+pub returns-in-Ok-clause-crash : goal.returns-in-Ok-clause-crash
+returns-in-Ok-clause-crash g c =
+    λ clean db left. either (c.create_closed.ensures.crash clean db left)
+    (λ before. before) (λ made. (c.in-Old.is, made.0, made.1))
+
+pub returns-in-Err-clause-crash : goal.returns-in-Err-clause-crash
+returns-in-Err-clause-crash g c =
+    λ clean db left. either (c.create_closed.ensures.crash clean db left)
+    (λ before. before) (λ made. (c.in-Old.is, made.0, made.1))

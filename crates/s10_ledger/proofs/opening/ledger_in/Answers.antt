@@ -7,7 +7,7 @@ use Rattle.s10_ledger.specs.Refusals.{HasSomeTableLayout}
 use Rattle.s10_ledger.proofs.Forms.{form_ledger}
 use Rattle.s10_ledger.proofs.OpeningLemmas.{sound_before, was_sound, as_read, as_it_was}
 use Rattle.s10_ledger.proofs.OpeningLemmas.{same_history, completed_ledger, completed_index}
-use Rattle.s10_ledger.proofs.OpeningLemmas.{found_ledger, refused_by_store}
+use Rattle.s10_ledger.proofs.OpeningLemmas.{found_ledger, refused_by_store, completes}
 use Rattle.s10_ledger.proofs.opening.ledger_in.Goals as goal
 
 pub replay_tables-requires-clause-form : goal.replay_tables-requires-clause-form
@@ -263,3 +263,29 @@ returns-clause-kept g c = λ clean opened. tt
 
 pub returns-clause-refused : goal.returns-clause-refused
 returns-clause-refused g c = λ clean opened. tt
+
+pub returns-in_default-clause-crash : goal.returns-in_default-clause-crash
+returns-in_default-clause-crash g c = λ clean db left. inl left
+
+pub returns-in_err-found-clause-crash : goal.returns-in_err-found-clause-crash
+returns-in_err-found-clause-crash g c = λ clean db left.
+    let declared = subst (λ (s : Schema). IsOfTableLayout c.in-Some.form s) c.schema.ensures.value
+    c.in-Some.ensures.some in
+    inl (c.replay_tables.ensures.spares clean (form_ledger c.in-Some.form
+    (state g.S.Store c.args.conn.now).now.schema declared) db left)
+
+pub returns-in_err-complete-clause-crash : goal.returns-in_err-complete-clause-crash
+returns-in_err-complete-clause-crash g c =
+    let declared = subst (λ (s : Schema). IsOfTableLayout c.in-Some.form s) c.schema.ensures.value
+    c.in-Some.ensures.some in
+    completes g.S.Store c.args.conn.now c.replay_tables.new.conn c.complete.new.conn c.in-Some.form
+    declared c.requires.settled c.replay_tables.ensures.leaves c.replay_tables.ensures.spares
+    c.complete.ensures.was c.complete.ensures.crash
+
+pub returns-clause-crash : goal.returns-clause-crash
+returns-clause-crash g c =
+    let declared = subst (λ (s : Schema). IsOfTableLayout c.in-Some.form s) c.schema.ensures.value
+    c.in-Some.ensures.some in
+    completes g.S.Store c.args.conn.now c.replay_tables.new.conn c.complete.new.conn c.in-Some.form
+    declared c.requires.settled c.replay_tables.ensures.leaves c.replay_tables.ensures.spares
+    c.complete.ensures.was c.complete.ensures.crash

@@ -47,3 +47,12 @@ returns-in_err-made-clause-leaves g c = c.read_tables.ensures.leaves
 
 pub returns-in-Err-clause-leaves : goal.returns-in-Err-clause-leaves
 returns-in-Err-clause-leaves g c = c.read_tables.ensures.leaves
+
+pub returns-clause-spares : goal.returns-clause-spares
+returns-clause-spares g c = c.read_tables.ensures.spares c.requires.settled
+
+pub returns-in_err-made-clause-spares : goal.returns-in_err-made-clause-spares
+returns-in_err-made-clause-spares g c = c.read_tables.ensures.spares c.requires.settled
+
+pub returns-in-Err-clause-spares : goal.returns-in-Err-clause-spares
+returns-in-Err-clause-spares g c = c.read_tables.ensures.spares c.requires.settled

@@ -1,9 +1,10 @@
-use Rattle.std.proofs.Common.{map, subst}
+use Rattle.std.proofs.Common.{map, ap, subst}
 use Rattle.std.proofs.lemmas.Result.{err_from_is_err_and}
 use Rattle.sqlite.specs.Effect.{Database}
 use Rattle.s10_rows.specs.Tables.{HaveSameRows}
 use Rattle.s10_statements.specs.Shown.{shown_call, call_columns}
 use Rattle.s10_ledger.proofs.ReadingLemmas.{clean_between, same_between, schema_between, both_leave}
+use Rattle.s10_ledger.proofs.ReadingLemmas.{both_spare}
 use Rattle.s10_ledger.proofs.reading.read_call_rows.Goals as goal
 
 pub returns-clause-leaves : goal.returns-clause-leaves
@@ -58,3 +59,22 @@ pub returns-in_err-heads-clause-rows : goal.returns-in_err-heads-clause-rows
 returns-in_err-heads-clause-rows g c clean opened settled has =
     let p = err_from_is_err_and c.from_residual.result c.from_residual.ensures.1 in
     rw p.1 tt
+
+pub returns-in_err-heads-clause-spares : goal.returns-in_err-heads-clause-spares
+returns-in_err-heads-clause-spares g c = λ quiet. c.all_heads.ensures.spares
+
+pub returns-in_err-calls-clause-spares : goal.returns-in_err-calls-clause-spares
+returns-in_err-calls-clause-spares g c = λ quiet. both_spare g.S.Store c.args.conn.now
+    c.all_heads.new.conn c.all_calls.new.conn
+    c.all_calls.ensures.leaves.clean
+    (λ was has. ap (λ (d : Database). d.schema) (c.all_heads.ensures.leaves.now was
+    (c.in_ok-heads.ensures.opened was) quiet has)) c.all_heads.ensures.spares
+    c.all_calls.ensures.spares
+
+pub returns-clause-spares : goal.returns-clause-spares
+returns-clause-spares g c = λ quiet. both_spare g.S.Store c.args.conn.now c.all_heads.new.conn
+    c.all_calls.new.conn
+    c.all_calls.ensures.leaves.clean
+    (λ was has. ap (λ (d : Database). d.schema) (c.all_heads.ensures.leaves.now was
+    (c.in_ok-heads.ensures.opened was) quiet has)) c.all_heads.ensures.spares
+    c.all_calls.ensures.spares

@@ -1,10 +1,11 @@
-use Rattle.std.proofs.Common.{map, subst}
+use Rattle.std.proofs.Common.{map, ap, subst}
 use Rattle.std.proofs.lemmas.Result.{err_from_is_err_and}
 use Rattle.sqlite.specs.Effect.{Database}
 use Rattle.std.specs.List.{AllByRecursion}
 use Rattle.s10_rows.specs.Tables.{HaveSameRows}
 use Rattle.s10_statements.specs.Shown.{shown_serial, serial_columns, HasIntegerRowid}
 use Rattle.s10_ledger.proofs.ReadingLemmas.{clean_between, same_between, schema_between, both_leave}
+use Rattle.s10_ledger.proofs.ReadingLemmas.{both_spare}
 use Rattle.s10_ledger.proofs.reading.read_derived_rows.Goals as goal
 
 pub returns-clause-leaves : goal.returns-clause-leaves
@@ -62,3 +63,22 @@ pub returns-in_err-ranges-clause-rows : goal.returns-in_err-ranges-clause-rows
 returns-in_err-ranges-clause-rows g c clean opened settled has =
     let p = err_from_is_err_and c.from_residual.result c.from_residual.ensures.1 in
     rw p.1 tt
+
+pub returns-in_err-ranges-clause-spares : goal.returns-in_err-ranges-clause-spares
+returns-in_err-ranges-clause-spares g c = λ quiet. c.all_ranges.ensures.spares
+
+pub returns-in_err-serials-clause-spares : goal.returns-in_err-serials-clause-spares
+returns-in_err-serials-clause-spares g c = λ quiet. both_spare g.S.Store c.args.conn.now
+    c.all_ranges.new.conn c.all_serials.new.conn
+    c.all_serials.ensures.leaves.clean
+    (λ was has. ap (λ (d : Database). d.schema) (c.all_ranges.ensures.leaves.now was
+    (c.in_ok-ranges.ensures.opened was) quiet has)) c.all_ranges.ensures.spares
+    c.all_serials.ensures.spares
+
+pub returns-clause-spares : goal.returns-clause-spares
+returns-clause-spares g c = λ quiet. both_spare g.S.Store c.args.conn.now c.all_ranges.new.conn
+    c.all_serials.new.conn
+    c.all_serials.ensures.leaves.clean
+    (λ was has. ap (λ (d : Database). d.schema) (c.all_ranges.ensures.leaves.now was
+    (c.in_ok-ranges.ensures.opened was) quiet has)) c.all_ranges.ensures.spares
+    c.all_serials.ensures.spares

@@ -1,4 +1,4 @@
-use Rattle.std.proofs.Common.{◌∙◌, refl, sym, subst, arith, IsTrue}
+use Rattle.std.proofs.Common.{◌∙◌, ap, refl, sym, subst, arith, IsTrue}
 use Rattle.std.proofs.lemmas.Result.{IfOk-weaker}
 use Rattle.sqlite.specs.Effect.{Database}
 use Rattle.sqlite.specs.Held.{state}
@@ -8,6 +8,7 @@ use Rattle.s10_rows.specs.Tables.{Tables}
 use Rattle.s10_ledger.specs.AllRows.{HasCallRows, HasDerivedRows}
 use Rattle.s10_statements.proofs.StateLemmas.{leaves_then}
 use Rattle.s10_ledger.proofs.Forms.{form_ledger, form_has}
+use Rattle.s10_ledger.proofs.ReadingLemmas.{both_spare}
 use Rattle.s10_ledger.proofs.reading.read_tables.Goals as goal
 
 pub returns-in_err-heads-clause-leaves : goal.returns-in_err-heads-clause-leaves
@@ -82,3 +83,40 @@ returns-clause-rows g c clean opened settled =
       ok = c.of-made.ensures.ok;
       err = c.of-made.ensures.err tables refl refl;
     }
+
+pub returns-in_err-closed-clause-spares : goal.returns-in_err-closed-clause-spares
+returns-in_err-closed-clause-spares g c = λ quiet. c.closed_rows.ensures.spares quiet
+
+pub returns-in_err-heads-clause-spares : goal.returns-in_err-heads-clause-spares
+returns-in_err-heads-clause-spares g c = λ quiet. both_spare g.S.Store c.args.conn.now
+    c.closed_rows.new.conn c.read_call_rows.new.conn c.read_call_rows.ensures.leaves.clean
+    (λ was has. c.in_ok-closed.ensures.same quiet was) (c.closed_rows.ensures.spares quiet)
+    (c.read_call_rows.ensures.spares (c.closed_rows.ensures.leaves.settled quiet))
+
+pub returns-in_err-ranges-clause-spares : goal.returns-in_err-ranges-clause-spares
+returns-in_err-ranges-clause-spares g c = λ quiet.
+    let both = leaves_then g.S.Store c.args.conn.now c.closed_rows.new.conn
+    c.read_call_rows.new.conn c.closed_rows.ensures.leaves c.read_call_rows.ensures.leaves in
+    both_spare g.S.Store c.args.conn.now c.read_call_rows.new.conn c.read_derived_rows.new.conn
+    c.read_derived_rows.ensures.leaves.clean
+    (λ was has. ap (λ (d : Database). d.schema) (both.now was (c.in_ok-heads.ensures.opened was)
+    quiet has))
+    (both_spare g.S.Store c.args.conn.now
+    c.closed_rows.new.conn c.read_call_rows.new.conn c.read_call_rows.ensures.leaves.clean
+    (λ was has. c.in_ok-closed.ensures.same quiet was) (c.closed_rows.ensures.spares quiet)
+    (c.read_call_rows.ensures.spares (c.closed_rows.ensures.leaves.settled quiet)))
+    (c.read_derived_rows.ensures.spares (both.settled quiet))
+
+pub returns-clause-spares : goal.returns-clause-spares
+returns-clause-spares g c = λ quiet.
+    let both = leaves_then g.S.Store c.args.conn.now c.closed_rows.new.conn
+    c.read_call_rows.new.conn c.closed_rows.ensures.leaves c.read_call_rows.ensures.leaves in
+    both_spare g.S.Store c.args.conn.now c.read_call_rows.new.conn c.read_derived_rows.new.conn
+    c.read_derived_rows.ensures.leaves.clean
+    (λ was has. ap (λ (d : Database). d.schema) (both.now was (c.in_ok-heads.ensures.opened was)
+    quiet has))
+    (both_spare g.S.Store c.args.conn.now
+    c.closed_rows.new.conn c.read_call_rows.new.conn c.read_call_rows.ensures.leaves.clean
+    (λ was has. c.in_ok-closed.ensures.same quiet was) (c.closed_rows.ensures.spares quiet)
+    (c.read_call_rows.ensures.spares (c.closed_rows.ensures.leaves.settled quiet)))
+    (c.read_derived_rows.ensures.spares (both.settled quiet))

@@ -4,7 +4,7 @@ use Rattle.sqlite.specs.State.{HasCleanDisk}
 use Rattle.sqlite.specs.Held.{state}
 use Rattle.s10_statements.proofs.MakeLemmas.{all_made, all_declared}
 use Rattle.s10_statements.proofs.StepLemmas.{Passed, passed_then, clean_then, inside_then}
-use Rattle.s10_statements.proofs.StepLemmas.{kept_then}
+use Rattle.s10_statements.proofs.StepLemmas.{kept_then, survives_both}
 use Rattle.s10_statements.proofs.creating.create_each_table.Goals as goal
 
 pub returns-clause-made : goal.returns-clause-made
@@ -325,3 +325,28 @@ returns-clause-clean g c =
     } in
     clean_then (state g.S.Store c.run-5.new.tx.conn.now)
     (passed_then (passed_then (passed_then head calls) ranges) serials) c.run-5.ensures.clean
+
+pub returns-in_err-run-clause-survives : goal.returns-in_err-run-clause-survives
+returns-in_err-run-clause-survives g c =
+    c.run.ensures.survives
+
+pub returns-in_err-run-2-clause-survives : goal.returns-in_err-run-2-clause-survives
+returns-in_err-run-2-clause-survives g c =
+    survives_both c.run.ensures.survives c.run-2.ensures.survives
+
+pub returns-in_err-run-3-clause-survives : goal.returns-in_err-run-3-clause-survives
+returns-in_err-run-3-clause-survives g c =
+    survives_both (survives_both c.run.ensures.survives c.run-2.ensures.survives)
+    c.run-3.ensures.survives
+
+pub returns-in_err-run-4-clause-survives : goal.returns-in_err-run-4-clause-survives
+returns-in_err-run-4-clause-survives g c =
+    survives_both (survives_both (survives_both c.run.ensures.survives c.run-2.ensures.survives)
+    c.run-3.ensures.survives) c.run-4.ensures.survives
+
+pub returns-clause-survives : goal.returns-clause-survives
+returns-clause-survives g c =
+    survives_both
+    (survives_both
+    (survives_both (survives_both c.run.ensures.survives c.run-2.ensures.survives)
+    c.run-3.ensures.survives) c.run-4.ensures.survives) c.run-5.ensures.survives

@@ -8,7 +8,8 @@ use Rattle.sqlite.specs.Given.{Advances, row_if}
 use Rattle.sqlite.specs.Held.{state}
 use Rattle.sqlite.specs.State.{HasCleanDisk}
 use Rattle.s10_statements.specs.Shown.{shown_serial, serial_front}
-use Rattle.s10_statements.proofs.RowByRow.{failed_leaves, begun, stepped, stepped_leaves, ended}
+use Rattle.s10_statements.proofs.RowByRow.{failed_leaves, begun_spares, stepped_spares, begun}
+use Rattle.s10_statements.proofs.RowByRow.{stepped, stepped_leaves, ended}
 use Rattle.s10_statements.proofs.RowByRow.{failed_moves, map_push, map_snoc, on_err, if_err}
 use Rattle.s10_statements.proofs.streams.stream_serials.Goals as goal
 
@@ -177,3 +178,57 @@ returns-clause-opened g c = λ clean. tt
 
 pub returns-clause-rows : goal.returns-clause-rows
 returns-clause-rows g c = λ clean. tt
+
+pub returns-in_err-shown-clause-spares : goal.returns-in_err-shown-clause-spares
+returns-in_err-shown-clause-spares g c =
+    let refused = on_err c.query.result _ c.in_err-shown.field-0.0 c.in_err-shown.was
+    c.query.follows.holds-at-none in
+    begun_spares g.S.Store c.args.sql.now [] c.requires.plain c.args.conn.now
+    c.query.follows.lender-at-none refused.survives.clean refused.mode refused.survives
+
+pub returns-in_err-advance-clause-spares : goal.returns-in_err-advance-clause-spares
+returns-in_err-advance-clause-spares g c =
+    let moved = c.in_err-advance.ensures in
+    let same = c.conn-in_err-advance-1.given.1
+    (sym (moved.same_reference ∙ c.rows.invariant.same_reference
+    ∙ c.in_ok-shown.ensures.same_reference)) ∙ c.drop-shown.ensures in
+    rw same (stepped_spares g.S.Store c.args.sql.now [] c.requires.plain _
+    c.args.conn.now c.rows.shown.conn.now c.advance.new.self.conn.now c.rows.invariant.so_far
+    moved.mode moved.survives)
+
+pub returns-in_err-serial_with_rowid_in-clause-spares :
+    goal.returns-in_err-serial_with_rowid_in-clause-spares
+returns-in_err-serial_with_rowid_in-clause-spares g c =
+    let moved = c.in_ok-advance.ensures in
+    let same = c.conn-in_err-serial_with_rowid_in-1.given.1
+    (sym (moved.same_reference ∙ c.rows.invariant.same_reference
+    ∙ c.in_ok-shown.ensures.same_reference)) ∙ c.drop-shown-in_err-serial_with_rowid_in.ensures in
+    rw same (stepped_spares g.S.Store c.args.sql.now [] c.requires.plain _
+    c.args.conn.now c.rows.shown.conn.now c.advance.new.self.conn.now c.rows.invariant.so_far
+    moved.mode moved.survives)
+
+pub returns-in_err-push-clause-spares : goal.returns-in_err-push-clause-spares
+returns-in_err-push-clause-spares g c =
+    let moved = c.in_ok-advance.ensures in
+    let same = c.conn-in_err-push-1.given.1
+    (sym (moved.same_reference ∙ c.rows.invariant.same_reference
+    ∙ c.in_ok-shown.ensures.same_reference)) ∙ c.drop-shown-in_err-push.ensures in
+    rw same (stepped_spares g.S.Store c.args.sql.now [] c.requires.plain _
+    c.args.conn.now c.rows.shown.conn.now c.advance.new.self.conn.now c.rows.invariant.so_far
+    moved.mode moved.survives)
+
+pub returns-in_default-clause-spares : goal.returns-in_default-clause-spares
+returns-in_default-clause-spares g c =
+    let moved = c.in_ok-advance.ensures in
+    let same = c.conn-in_default-1.given.1
+    (sym (moved.same_reference ∙ c.rows.invariant.same_reference
+    ∙ c.in_ok-shown.ensures.same_reference)) ∙ c.drop-shown-in_default.ensures in
+    rw same (stepped_spares g.S.Store c.args.sql.now [] c.requires.plain _
+    c.args.conn.now c.rows.shown.conn.now c.advance.new.self.conn.now c.rows.invariant.so_far
+    moved.mode moved.survives)
+
+pub returns-clause-spares : goal.returns-clause-spares
+returns-clause-spares g c =
+    rw (c.conn-2-1.given.1
+    (sym (c.rows.invariant.same_reference ∙ c.in_ok-shown.ensures.same_reference))
+    ∙ c.drop-shown-2.ensures) c.rows.invariant.so_far.spares

@@ -5,7 +5,7 @@ use Rattle.s10_history.specs.History.{day_of}
 use Rattle.s10_ledger.specs.Ledger.{Ledger}
 use Rattle.s10_ledger.specs.Pending.{committed_among}
 use Rattle.s10_ledger.proofs.BookLemmas.{schema_is, same_tables, if_answered, read_keeps}
-use Rattle.s10_ledger.proofs.PendingLemmas.{ledger_of, sound_after_read}
+use Rattle.s10_ledger.proofs.PendingLemmas.{ledger_of, sound_after_read, sound_is_honest}
 use Rattle.s10_ledger.proofs.sql_book.SqlBook.ask_again.Goals as goal
 
 pub invariant_of-self : goal.invariant_of-self
@@ -31,8 +31,8 @@ returns-clause-same g c =
     c.self.invariant.settled c.self.invariant.ledger
     honest.clean honest.is_open)
 
-pub returns-clause-spares : goal.returns-clause-spares
-returns-clause-spares g c = rw (← c.self.view_is) (λ honest clean db left.
+pub returns-clause-crash : goal.returns-clause-crash
+returns-clause-crash g c = rw (← c.self.view_is) (λ honest clean db left.
     let kept = committed_among c.self.inside.pending.items c.self.inside.index.entries.items in
     let conn = c.self.inside.conn in
     g.met.S.Store.settled conn.store db honest.is_open
@@ -44,8 +44,13 @@ returns-clause-spares g c = rw (← c.self.view_is) (λ honest clean db left.
 pub returns-then-self-clause-opened : goal.returns-then-self-clause-opened
 returns-then-self-clause-opened g c = search rules
 
-pub returns-then-self-clause-spares : goal.returns-then-self-clause-spares
-returns-then-self-clause-spares g c = rw (← c.self.view_is) (λ honest clean db left.
+pub returns-then-self-clause-crash : goal.returns-then-self-clause-crash
+returns-then-self-clause-crash g c = rw (← c.self.view_is) (λ honest clean db left.
     g.met.S.Store.settled c.self.inside.conn.store db honest.is_open left
     ∙ ap (λ (d : Database). d.trees) (c.self.invariant.settled.committed honest.clean
     honest.is_open))
+
+pub returns-clause-honest : goal.returns-clause-honest
+returns-clause-honest g c = λ clean opened. sound_is_honest g.S.Store c.ask-asked.new.conn
+    c.self.inside.settings c.self.inside.index c.self.inside.pending.items c.is_ok-answered.result
+    c.counted.new.faults (invariant_of-self g c) clean opened

@@ -1,21 +1,41 @@
-use Rattle.std.proofs.Common.{refl}
-use Rattle.s10_ledger.proofs.PendingLemmas.{sound_is_honest}
+use Rattle.std.proofs.Common.{◌≡◌, ◌∙◌, Result, Ok, Err, OnOk, List}
+use Rattle.sqlite.specs.Held.{state}
+use Rattle.s10_history.specs.declared.entry.Entry.{Entry}
+use Rattle.s10_ledger.proofs.BookLemmas.{ledger_again}
 use Rattle.s10_ledger.proofs.sql_book.SqlBook.close.Goals as goal
 
-pub returns-clause-same : goal.returns-clause-same
-returns-clause-same g c = rw (← c.self.view_is) refl
-
-pub returns-clause-idle : goal.returns-clause-idle
-returns-clause-idle g c = c.self.invariant.settled.idle
-
-pub returns-clause-committed : goal.returns-clause-committed
-returns-clause-committed g c = λ clean opened. c.self.invariant.settled.committed clean opened
+then_same : {T E : Type 0} (r : Result T E) (a b c : List Entry) → OnOk r (a ≡ b) → b ≡ c
+    → OnOk r (a ≡ c)
+then_same (Ok x) a b c first second = first ∙ second
+then_same (Err x) a b c first second = tt
 
 pub returns-clause-ledger : goal.returns-clause-ledger
-returns-clause-ledger g c =
-    rw (← c.self.view_is) (λ clean opened. c.self.invariant.ledger clean opened)
+returns-clause-ledger g c clean opened =
+    let honest = c.into_connection-connection.ensures.honest clean opened in
+    rw c.into_connection-connection.ensures.same
+    (ledger_again (state g.S.Store c.commit_rest-committed.new.self.conn).now _ _ _ _ honest.ledger
+    (c.commit_rest-committed.ensures.unchanged.same_terms honest))
 
 pub returns-clause-honest : goal.returns-clause-honest
-returns-clause-honest g c = rw (← c.self.view_is) (λ clean opened.
-    sound_is_honest g.S.Store c.self.inside.conn c.self.inside.settings c.self.inside.index
-    c.self.inside.pending.items c.self.inside.answered _ c.self.invariant clean opened)
+returns-clause-honest g c = λ clean opened. c.commit_rest-committed.ensures.unchanged.was_honest
+    (c.into_connection-connection.ensures.honest clean opened)
+
+pub returns-clause-whole : goal.returns-clause-whole
+returns-clause-whole g c = λ clean opened.
+    let honest = c.into_connection-connection.ensures.honest clean opened in
+    rw c.into_connection-connection.ensures.same
+    (then_same c.commit_rest-committed.result _ _ _ (c.commit_rest-committed.ensures.done honest)
+    (c.commit_rest-committed.ensures.unchanged.same_history honest))
+
+pub returns-clause-left : goal.returns-clause-left
+returns-clause-left g c = λ clean opened.
+    let honest = c.into_connection-connection.ensures.honest clean opened in
+    rw c.into_connection-connection.ensures.same (c.commit_rest-committed.ensures.left honest)
+
+pub returns-clause-same : goal.returns-clause-same
+returns-clause-same g c = λ none. c.into_connection-connection.ensures.same
+    ∙ c.commit_rest-committed.ensures.same none
+
+pub returns-clause-crash : goal.returns-clause-crash
+returns-clause-crash g c =
+    rw c.into_connection-connection.ensures.same c.commit_rest-committed.ensures.crash

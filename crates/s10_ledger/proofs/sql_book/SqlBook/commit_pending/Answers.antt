@@ -4,6 +4,7 @@ use Rattle.sqlite.specs.Held.{state}
 use Rattle.s10_ledger.proofs.BookLemmas.{if_answered}
 use Rattle.s10_ledger.proofs.PendingLemmas.{sound_after_write, same_after_write, sound_is_honest}
 use Rattle.s10_ledger.proofs.PendingLemmas.{calls_if_emptied, unwritten_history, written_in}
+use Rattle.s10_ledger.proofs.PendingLemmas.{grows_after_write}
 use Rattle.s10_statements.proofs.CrashLemmas.{either}
 use Rattle.s10_ledger.proofs.sql_book.SqlBook.commit_pending.Goals as goal
 
@@ -35,6 +36,14 @@ returns-clause-unchanged g c =
           c.is_ok-answered.ensures.value (w.opened clean) so)
           c.commit_calls-written.result w.ok w.err w.emptied w.left h.clean h.is_open;
       same_terms = λ h. refl;
+      stays_committed = λ h. grows_after_write g.S.Store c.self.inside.conn
+          c.commit_calls-written.new.conn c.self.inside.settings c.self.inside.index
+          c.self.inside.pending.items c.commit_calls-written.new.pending.items
+          c.self.inside.answered c.is_ok-answered.result
+          c.self.invariant w.settled w.clean w.was_open
+          (λ so clean. if_answered c.commit_calls-written.result _ c.is_ok-answered.result
+          c.is_ok-answered.ensures.value (w.opened clean) so)
+          c.commit_calls-written.result w.ok w.err h.clean h.is_open;
     })
 
 pub returns-clause-left : goal.returns-clause-left
@@ -58,3 +67,9 @@ returns-clause-crash g c = rw (← c.self.view_is) (λ honest clean db left.
     (λ made. written_in g.S.Store conn c.self.inside.settings c.self.inside.index
     c.self.inside.pending.items c.self.inside.answered c.self.inside.faults db c.self.invariant
     honest.clean honest.is_open made))
+
+pub returns-clause-honest : goal.returns-clause-honest
+returns-clause-honest g c = λ clean opened. sound_is_honest g.S.Store
+    c.commit_calls-written.new.conn c.self.inside.settings c.self.inside.index
+    c.commit_calls-written.new.pending.items c.is_ok-answered.result c.counted.new.faults
+    (invariant_of-self g c) clean opened

@@ -1,6 +1,7 @@
 use Rattle.std.proofs.Common.{◌≡◌, ◌⊎◌, inl, inr, List, length, arith, refl, ap, sym, subst}
 use Rattle.std.proofs.lemmas.List.{append-nil}
 use Rattle.sqlite_schema.specs.declared.schema.Schema.{Schema}
+use Rattle.sqlite.specs.Effect.{Database}
 use Rattle.sqlite.specs.Held.{state}
 use Rattle.s10_history.specs.declared.entry.Entry.{Entry}
 use Rattle.s10_history.specs.History.{day_of}
@@ -8,6 +9,8 @@ use Rattle.s10_book.specs.Rules.{IsLegal}
 use Rattle.s10_index.specs.CallIndex.{Indexes}
 use Rattle.s10_rows.specs.declared.open_fault.OpenFault.{OpenFault}
 use Rattle.s10_rows.specs.declared.open_fault.OpenFault.TheVariants.{Memory, Store}
+use Rattle.s10_schema.specs.Schema.{ledger_schema}
+use Rattle.s10_statements.proofs.CrashLemmas.{either}
 use Rattle.s10_statements.specs.Creating.{HasOneOfTheNames, IsCreateRefusal}
 use Rattle.s10_ledger.specs.Ledger.{IsLedger, history_in}
 use Rattle.s10_ledger.proofs.NewLedger.{no_history, new_ledger}
@@ -180,3 +183,24 @@ pub returns-in-Err-clause-refused : goal.returns-in-Err-clause-refused
 returns-in-Err-clause-refused g c = not_made (state g.S.Store c.args.conn).now.schema
     c.opening_fault-fault.result (c.refusal_of.ensures.fresh c.in_default.is)
     c.opening_fault-fault.ensures.fault
+
+pub returns-clause-crash : goal.returns-clause-crash
+returns-clause-crash g c = rw c.over.ensures (λ clean db left.
+    let new : Database = record { schema = ledger_schema; trees = db } in
+    either (c.create_tables.ensures.crash clean (c.refusal_of.ensures.none c.in_default.is) db left)
+    (λ before. before) (λ stands. (
+      no_history new c.args.settings stands,
+      new_ledger new c.args.settings stands,
+    )))
+
+pub returns-in-Err-clause-crash_refused : goal.returns-in-Err-clause-crash_refused
+returns-in-Err-clause-crash_refused g c = λ clean db left.
+    let new : Database = record { schema = ledger_schema; trees = db } in
+    either (c.create_tables.ensures.crash clean (c.refusal_of.ensures.none c.in_default.is) db left)
+    (λ before. before) (λ stands. (
+      no_history new c.args.settings stands,
+      new_ledger new c.args.settings stands,
+    ))
+
+pub returns-in-Some-clause-crash_refused : goal.returns-in-Some-clause-crash_refused
+returns-in-Some-clause-crash_refused g c = λ clean db left. inl left

@@ -8,8 +8,8 @@ use Rattle.s10_ledger.proofs.BookLemmas.{closed_is}
 use Rattle.s10_ledger.proofs.RefusalLemmas.{ledger_opens}
 use Rattle.s10_ledger.proofs.sql_book.SqlBook.open.Goals as goal
 
-pub returns-in-Err-clause-whole : goal.returns-in-Err-clause-whole
-returns-in-Err-clause-whole g c clean opened t len day limits it =
+pub returns-in-Err-clause-accepted : goal.returns-in-Err-clause-accepted
+returns-in-Err-clause-accepted g c clean opened t len day limits it =
     ledger_opens (state g.S.Store c.args.conn).now t len day limits it c.in-Err.fault
     (c.in-Err.ensures.refused clean opened)
 
@@ -88,3 +88,9 @@ returns-in-Err-clause-refused g c = λ clean opened. c.in-Err.ensures.refused cl
 
 pub returns-in-Err-clause-kept : goal.returns-in-Err-clause-kept
 returns-in-Err-clause-kept g c = λ clean opened. c.in-Err.ensures.kept clean opened
+
+pub returns-in-Ok-clause-crash : goal.returns-in-Ok-clause-crash
+returns-in-Ok-clause-crash g c = rw c.over.ensures c.ledger_in.ensures.crash
+
+pub returns-in-Err-clause-crash_refused : goal.returns-in-Err-clause-crash_refused
+returns-in-Err-clause-crash_refused g c = c.ledger_in.ensures.crash

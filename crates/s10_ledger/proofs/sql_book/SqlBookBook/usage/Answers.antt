@@ -1,5 +1,9 @@
-use Rattle.std.proofs.Common.{rules, List, subst, sym}
+use Rattle.std.proofs.Common.{rules, List, ◌∙◌, ap, arith, subst, sym}
 use Rattle.std.specs.Prelude.{Contains}
+use Rattle.sqlite_trees.specs.Tree.{Trees}
+use Rattle.sqlite.specs.Effect.{Database}
+use Rattle.sqlite.specs.State.{HasCleanDisk}
+use Rattle.sqlite.specs.Held.{state}
 use Rattle.s10_book.proofs.Calls.{Unchanged-trans}
 use Rattle.s10_history.specs.declared.entry.Entry.{Entry}
 use Rattle.s10_history.specs.History.{ranges_of}
@@ -42,3 +46,19 @@ returns-clause-answer g c = λ honest.
     let before = c.usage_committed.ensures.unchanged.was_honest honest in
     rw (unchanged.same_history before, unchanged.same_terms before)
     at (c.usage_committed.ensures.answer honest)
+
+pub returns-in-Err-clause-crash : goal.returns-in-Err-clause-crash
+returns-in-Err-clause-crash g c = c.in-Err.ensures.crash
+
+pub returns-clause-crash : goal.returns-clause-crash
+returns-clause-crash g c = λ honest clean db left.
+    let mid = c.commit.new.self.conn in
+    let was_clean : HasCleanDisk (state g.S.Store mid) =
+    omega (arith, c.usage_committed.ensures.clean, clean) in
+    let was_open = c.in_default.ensures.opened was_clean in
+    let was_honest = c.in_default.ensures.honest was_clean was_open in
+    c.in_default.ensures.crash honest was_clean db
+    (subst (λ (d : Trees). (state g.S.Store mid).may_leave d)
+    (ap (λ (d : Database). d.trees) (c.in_default.ensures.quiescent was_clean was_open)
+    ∙ sym (c.usage_committed.ensures.crash was_honest clean db left))
+    (g.met.S.Store.stays mid.store was_open))

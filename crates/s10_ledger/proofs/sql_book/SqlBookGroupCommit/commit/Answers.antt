@@ -1,12 +1,8 @@
-use Rattle.std.proofs.Common.{◌≡◌, ℕ, ◌∙◌, ◌==◌, List, [], true, Result, Ok, Err, OnOk, OnErr, inl}
-use Rattle.std.proofs.Common.{length, sym, ap, arith}
-use Rattle.std.proofs.lemmas.Bool.{eqb-true}
-use Rattle.std.proofs.lemmas.List.{append-nil, nil_from_length}
+use Rattle.std.proofs.Common.{◌≡◌, ◌∙◌, [], Result, Ok, Err, OnOk, OnErr, inl, sym, ap, arith}
+use Rattle.std.proofs.lemmas.List.{append-nil}
 use Rattle.std.specs.Prelude.{vec_len}
-use Rattle.sqlite_trees.specs.declared.store.Store.{Ghosts}
-use Rattle.s10_rows.specs.declared.call_write.CallWrite.{CallWrite}
-use Rattle.s10_ledger.specs.Ledger.{Ledger, history_in, history_of, committed_of}
-use Rattle.s10_ledger.specs.Pending.{calls_of}
+use Rattle.s10_ledger.specs.Ledger.{history_in, committed_of}
+use Rattle.s10_ledger.proofs.PendingLemmas.{no_calls, all_are_committed}
 use Rattle.s10_ledger.proofs.sql_book.SqlBookGroupCommit.commit.Goals as goal
 
 given : {T E : Type 0} (r : Result T E) (P : Type 0) → P → OnOk r P
@@ -16,14 +12,6 @@ given (Err x) P p = tt
 given_err : {T E : Type 0} (r : Result T E) (P : Type 0) → P → OnErr r P
 given_err (Ok x) P p = tt
 given_err (Err x) P p = p
-
-no_calls : (ws : List CallWrite) (n : ℕ) → (n == 0) ≡ true → length ws ≡ n → calls_of ws ≡ []
-no_calls ws n empty is = ap calls_of (nil_from_length ws (is ∙ eqb-true n 0 empty))
-
-all_are_committed : {S : Type 0} (g : Ghosts S) (book : Ledger S) {T E : Type 0} (r : Result T E)
-    → OnOk r (book.pending ≡ []) → OnOk r (committed_of g book ≡ history_of g book)
-all_are_committed g book (Ok x) none = rw none (sym (append-nil (committed_of g book)))
-all_are_committed g book (Err x) none = tt
 
 pub returns-then-is_empty-clause-faults : goal.returns-then-is_empty-clause-faults
 returns-then-is_empty-clause-faults g c = c.ask_again.ensures.faults
@@ -74,7 +62,7 @@ returns-then-is_empty-clause-none_pending g c =
 
 pub returns-then-is_empty-clause-crash : goal.returns-then-is_empty-clause-crash
 returns-then-is_empty-clause-crash g c =
-    λ honest clean db left. inl (c.ask_again.ensures.spares honest clean db left)
+    λ honest clean db left. inl (c.ask_again.ensures.crash honest clean db left)
 
 pub returns-clause-done : goal.returns-clause-done
 returns-clause-done g c = λ honest. all_are_committed g.S.Store c.commit_pending.new.self

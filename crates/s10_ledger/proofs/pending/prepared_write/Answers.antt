@@ -1,0 +1,60 @@
+use Rattle.std.proofs.Common.{◌≡◌, ◌∙◌, ◌++◌, ◌∷◌, [], List, Result, Ok, Err, IfOk, OnOk, All, ap}
+use Rattle.std.proofs.Common.{false, sym, length, arith}
+use Rattle.std.specs.Result.{is_err}
+use Rattle.s10_history.specs.declared.entry.Entry.{Entry}
+use Rattle.s10_history.specs.Settings.{Terms}
+use Rattle.s10_book.specs.Rules.{IsLegal, MayFollow}
+use Rattle.s10_index.specs.declared.call_index.CallIndex.{CallIndex}
+use Rattle.s10_index.specs.CallIndex.{Indexes}
+use Rattle.s10_rows.specs.declared.call_write.CallWrite.{CallWrite}
+use Rattle.s10_rows.specs.CallWrite.{Writes}
+use Rattle.s10_rows.specs.Selected.{IsCall}
+use Rattle.s10_rows.specs.Tables.{tables_of}
+use Rattle.s10_ledger.specs.Pending.{IsWriteOf}
+use Rattle.s10_ledger.proofs.pending.prepared_write.Goals as goal
+
+given : {T E : Type 0} (r : Result T E) (P : Type 0) → P → OnOk r P
+given (Ok x) P p = p
+given (Err x) P p = tt
+
+alone : {T E : Type 0} (r : Result T E) (P : Type 0) → IfOk r (λ _. P) → OnOk r P
+alone (Ok x) P p = p
+alone (Err x) P p = tt
+
+where_passed : {T E : Type 0} (r : Result T E) (P : Type 0) → is_err r ≡ false → OnOk r P → P
+where_passed (Ok x) P passed p = p
+where_passed (Err e) P passed p = absurd cc
+
+writes_any : {E : Type 0} (r : Result CallWrite E) (index : CallIndex) (e : Entry)
+    → ((h : List Entry) (t : Terms) → IsLegal h t → MayFollow h t e → All IsCall h
+    → Indexes index h
+    → IfOk r (λ w. IsCall e × Writes w (tables_of h t) (tables_of (h ++ e ∷ []) t)))
+    → IfOk r (IsWriteOf index e)
+writes_any (Ok w) index e each = each
+writes_any (Err x) index e each = tt
+
+pub returns-clause-writes : goal.returns-clause-writes
+returns-clause-writes c = writes_any c.call_write.result c.args.index.now c.args.entry.now
+    (λ h t legal follows calls indexed. c.call_write.ensures.answer h t legal follows calls
+    (c.reserve.ensures.same h indexed)
+    (omega (arith, ap length (c.calls.ensures ∙ indexed.calls))))
+
+pub returns-clause-room : goal.returns-clause-room
+returns-clause-room c = given c.call_write.result _ (where_passed c.reserve.result _
+    (sym c.if-is_err.ensures.value) c.reserve.ensures.room)
+
+pub returns-clause-fits : goal.returns-clause-fits
+returns-clause-fits c = alone c.call_write.result _ c.call_write.ensures.fits
+
+pub returns-clause-few : goal.returns-clause-few
+returns-clause-few c = given c.call_write.result _ (omega (
+  arith,
+  ap length c.reserve.ensures.calls,
+  ap length c.calls.ensures,
+))
+
+pub overflow_cast-held : goal.overflow_cast-held
+overflow_cast-held c = omega arith
+
+pub overflow_add-held : goal.overflow_add-held
+overflow_add-held c = omega arith

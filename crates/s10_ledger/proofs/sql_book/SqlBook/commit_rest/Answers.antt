@@ -1,0 +1,50 @@
+use Rattle.std.proofs.Common.{◌≡◌, ◌∙◌, [], inl, sym, ap, arith}
+use Rattle.std.proofs.lemmas.List.{append-nil}
+use Rattle.std.specs.Prelude.{vec_len}
+use Rattle.sqlite.specs.Effect.{Database}
+use Rattle.s10_book.proofs.Calls.{Unchanged-refl}
+use Rattle.s10_ledger.specs.Ledger.{committed_of}
+use Rattle.s10_ledger.proofs.PendingLemmas.{no_calls, some_calls, all_are_committed}
+use Rattle.s10_ledger.proofs.sql_book.SqlBook.commit_rest.Goals as goal
+
+pub returns-clause-unchanged : goal.returns-clause-unchanged
+returns-clause-unchanged g c = Unchanged-refl c.args.self.now
+
+pub returns-clause-done : goal.returns-clause-done
+returns-clause-done g c = λ honest.
+    let none : c.args.self.now.pending ≡ [] = rw (← c.self.view_is)
+    (no_calls c.self.inside.pending.items (vec_len c.self.inside.pending)
+    (cc) (omega (arith, c.self.inside.pending.ok.0))) in
+    rw none (sym (append-nil (committed_of g.S.Store c.args.self.now)))
+
+pub returns-clause-crash : goal.returns-clause-crash
+returns-clause-crash g c = rw (← c.self.view_is) (λ honest clean db left.
+    inl (g.met.S.Store.settled c.self.inside.conn.store db honest.is_open left
+    ∙ ap (λ (d : Database). d.trees) (c.self.invariant.settled.committed honest.clean
+    honest.is_open)))
+
+pub returns-then-not-is_empty-clause-unchanged : goal.returns-then-not-is_empty-clause-unchanged
+returns-then-not-is_empty-clause-unchanged g c = c.commit_pending.ensures.unchanged
+
+pub returns-then-not-is_empty-clause-done : goal.returns-then-not-is_empty-clause-done
+returns-then-not-is_empty-clause-done g c = λ honest. all_are_committed g.S.Store
+    c.commit_pending.new.self
+    c.commit_pending.result c.commit_pending.ensures.none_pending
+
+pub returns-then-not-is_empty-clause-left : goal.returns-then-not-is_empty-clause-left
+returns-then-not-is_empty-clause-left g c = c.commit_pending.ensures.left
+
+pub returns-then-not-is_empty-clause-crash : goal.returns-then-not-is_empty-clause-crash
+returns-then-not-is_empty-clause-crash g c = c.commit_pending.ensures.crash
+
+pub returns-then-not-is_empty-clause-same : goal.returns-then-not-is_empty-clause-same
+returns-then-not-is_empty-clause-same g c = λ none. absurd (some_calls c.self.inside.pending.items
+    (vec_len c.self.inside.pending) (cc)
+    (omega (arith, c.self.inside.pending.ok.0)) (rw (← c.self.view_is) at none))
+
+pub returns-then-not-is_empty-clause-none_pending :
+    goal.returns-then-not-is_empty-clause-none_pending
+returns-then-not-is_empty-clause-none_pending g c =
+    λ none. absurd (some_calls c.self.inside.pending.items
+    (vec_len c.self.inside.pending) (cc)
+    (omega (arith, c.self.inside.pending.ok.0)) (rw (← c.self.view_is) at none))

@@ -1,0 +1,116 @@
+use Rattle.std.proofs.Common.{◌≡◌, ◌∙◌, ◌++◌, ◌∷◌, [], List, Result, Ok, Err, OnOk, OnErr, sym, ap}
+use Rattle.std.proofs.lemmas.List.{append_assoc}
+use Rattle.sqlite_trees.specs.declared.store.Store.{Ghosts}
+use Rattle.sqlite.specs.Held.{Held, state}
+use Rattle.s10_history.specs.declared.entry.Entry.{Entry}
+use Rattle.s10_book.specs.Rules.{MayFollow}
+use Rattle.s10_book.specs.Book.{Unchanged}
+use Rattle.s10_ledger.specs.Ledger.{Ledger, IsHonest, history_in, history_of, committed_of}
+use Rattle.s10_ledger.proofs.sql_book.SqlBookGroupCommit.append.Goals as goal
+
+given : {T E : Type 0} (r : Result T E) (P : Type 0) → P → OnOk r P
+given (Ok x) P p = p
+given (Err x) P p = tt
+
+follows_still : {S : Type 0} (g : Ghosts S) (old mid : Ledger S) (e : Entry)
+    → Unchanged (history_of g) (committed_of g) (λ (l : Ledger S). l.terms) (IsHonest g) old mid
+    → (IsHonest g old → MayFollow (history_of g old) old.terms e) → IsHonest g mid
+    → MayFollow (history_of g mid) mid.terms e
+follows_still g old mid e unchanged may honest = rw (
+  unchanged.same_history honest,
+  unchanged.same_terms honest,
+) (may (unchanged.was_honest honest))
+
+module _ {S : Type 0} (g : Ghosts S) (old mid new : Ledger S) (e : Entry)
+    (same : new.conn ≡ mid.conn) where
+  held_after : {T E : Type 0} (r : Result T E) → OnOk r (new.pending ≡ mid.pending ++ e ∷ [])
+      → history_of g mid ≡ history_of g old → OnOk r (history_of g new ≡ history_of g old ++ e ∷ [])
+  held_after (Ok x) held kept =
+      ap (λ (c : Held S). history_in (state g c).now ++ new.pending) same
+      ∙ ap (λ (p : List Entry). history_in (state g mid.conn).now ++ p) held
+      ∙ sym (append_assoc (history_in (state g mid.conn).now) mid.pending (e ∷ []))
+      ∙ ap (λ (h : List Entry). h ++ e ∷ []) kept
+  held_after (Err x) held kept = tt
+
+  not_held : {T E : Type 0} (r : Result T E) → OnErr r (new.pending ≡ mid.pending)
+      → history_of g mid ≡ history_of g old → OnErr r (history_of g new ≡ history_of g old)
+  not_held (Ok x) left kept = tt
+  not_held (Err x) left kept = ap (λ (c : Held S). history_in (state g c).now ++ new.pending) same
+      ∙ ap (λ (p : List Entry). history_in (state g mid.conn).now ++ p) left ∙ kept
+
+  held_alone : {T E : Type 0} (r : Result T E) → OnOk r (new.pending ≡ mid.pending ++ e ∷ [])
+      → ((state g mid.conn).now ≡ (state g old.conn).now) × (mid.pending ≡ old.pending)
+      → OnOk r (((state g new.conn).now ≡ (state g old.conn).now)
+      × (new.pending ≡ old.pending ++ e ∷ []))
+  held_alone (Ok x) held uncommitted = (
+    ap (λ (c : Held S). (state g c).now) same ∙ uncommitted.0,
+    held ∙ ap (λ (p : List Entry). p ++ e ∷ []) uncommitted.1,
+  )
+  held_alone (Err x) held uncommitted = tt
+
+pub returns-in-Err-clause-faults : goal.returns-in-Err-clause-faults
+returns-in-Err-clause-faults g c = c.in-Err.ensures.faults
+
+pub returns-in-Err-clause-was_honest : goal.returns-in-Err-clause-was_honest
+returns-in-Err-clause-was_honest g c = c.in-Err.ensures.unchanged.was_honest
+
+pub returns-in-Err-clause-same_terms : goal.returns-in-Err-clause-same_terms
+returns-in-Err-clause-same_terms g c = c.in-Err.ensures.unchanged.same_terms
+
+pub returns-in-Err-clause-opened : goal.returns-in-Err-clause-opened
+returns-in-Err-clause-opened g c = λ clean. tt
+
+pub returns-in-Err-clause-crash : goal.returns-in-Err-clause-crash
+returns-in-Err-clause-crash g c = c.in-Err.ensures.crash
+
+pub returns-in-Err-clause-ok : goal.returns-in-Err-clause-ok
+returns-in-Err-clause-ok g c = λ honest. tt
+
+pub returns-in-Err-clause-err : goal.returns-in-Err-clause-err
+returns-in-Err-clause-err g c = c.in-Err.ensures.unchanged.same_history
+
+pub returns-in-Err-clause-uncommitted : goal.returns-in-Err-clause-uncommitted
+returns-in-Err-clause-uncommitted g c = λ honest few. tt
+
+pub append_call-requires-clause-room : goal.append_call-requires-clause-room
+append_call-requires-clause-room g c = c.in_default.ensures.room
+
+pub append_call-requires-clause-follows : goal.append_call-requires-clause-follows
+append_call-requires-clause-follows g c = follows_still g.S.Store c.args.self.now
+    c.make_room.new.self c.args.entry c.in_default.ensures.unchanged c.requires
+
+pub returns-clause-faults : goal.returns-clause-faults
+returns-clause-faults g c = rw c.in_default.ensures.faults at c.append_call.ensures.faults
+
+pub returns-clause-was_honest : goal.returns-clause-was_honest
+returns-clause-was_honest g c = λ honest. c.in_default.ensures.unchanged.was_honest
+    (c.append_call.ensures.was_honest honest)
+
+pub returns-clause-same_terms : goal.returns-clause-same_terms
+returns-clause-same_terms g c = λ honest. c.append_call.ensures.same_terms
+    ∙ c.in_default.ensures.unchanged.same_terms (c.append_call.ensures.was_honest honest)
+
+pub returns-clause-opened : goal.returns-clause-opened
+returns-clause-opened g c = rw c.append_call.ensures.same_conn (λ clean. given c.append_call.result
+    _ (c.in_default.ensures.opened clean))
+
+pub returns-clause-crash : goal.returns-clause-crash
+returns-clause-crash g c = rw c.append_call.ensures.same_conn c.in_default.ensures.crash
+
+pub returns-clause-ok : goal.returns-clause-ok
+returns-clause-ok g c = λ honest.
+    held_after g.S.Store c.args.self.now c.make_room.new.self c.append_call.new.self c.args.entry
+    c.append_call.ensures.same_conn c.append_call.result c.append_call.ensures.ok
+    (c.in_default.ensures.unchanged.same_history (c.append_call.ensures.was_honest honest))
+
+pub returns-clause-err : goal.returns-clause-err
+returns-clause-err g c = λ honest.
+    not_held g.S.Store c.args.self.now c.make_room.new.self c.append_call.new.self c.args.entry
+    c.append_call.ensures.same_conn c.append_call.result c.append_call.ensures.err
+    (c.in_default.ensures.unchanged.same_history (c.append_call.ensures.was_honest honest))
+
+pub returns-clause-uncommitted : goal.returns-clause-uncommitted
+returns-clause-uncommitted g c = λ honest few.
+    held_alone g.S.Store c.args.self.now c.make_room.new.self c.append_call.new.self c.args.entry
+    c.append_call.ensures.same_conn c.append_call.result c.append_call.ensures.ok
+    (c.in_default.ensures.uncommitted (c.append_call.ensures.was_honest honest) few)
