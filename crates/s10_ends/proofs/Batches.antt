@@ -1,26 +1,27 @@
 -- Lemmas about the parts of a batch.
-use Rattle.std.proofs.Common.{◌≡◌, ℕ, ◌<◌, ◌≤◌, List, [], ◌∷◌, ◌++◌, length, length-append, Option}
+use Rattle.std.proofs.Common.{◌≡◌, ◌∙◌, ℕ, ◌<◌, ◌≤◌, Bool, true, false, List, [], ◌∷◌, ◌++◌}
+use Rattle.std.proofs.Common.{length, length-append, Option}
 use Rattle.std.proofs.Common.{Some, None, Result, Ok, Err, refl, sym, ap, subst, inl, inr, arith}
-use Rattle.std.specs.Prelude.{IsErrAnd}
+use Rattle.std.specs.Prelude.{⊤, IsErrAnd, ◌||◌}
+use Rattle.std.proofs.lemmas.Bool.{false≢true}
 use Rattle.s10_link.specs.declared.trace.Trace.{Trace}
+use Rattle.s10_link.specs.declared.peer.Peer.{Peer}
 use Rattle.s10_link.specs.declared.link_fault.LinkFault.{LinkFault}
 use Rattle.s10_history.specs.declared.entry.Entry.{Entry}
 use Rattle.s10_history.specs.Settings.{Terms}
 use Rattle.s10_book.specs.declared.book_fault.BookFault.{BookFault}
 use Rattle.s10_book.specs.declared.faults.Faults.{Faults}
+use Rattle.s10_book.proofs.Calls.{Unchanged-refl}
 use Rattle.s10_ends.specs.declared.answer.Answer.{Answer}
+use Rattle.s10_ends.specs.declared.answer.Answer.TheVariants.{Reply, Dropped, Faulted}
 use Rattle.s10_ends.specs.declared.exchange.Exchange.{Exchange}
 use Rattle.s10_ends.specs.declared.server_turn.ServerTurn.TheVariants as turns
 use Rattle.s10_ends.specs.Turn.{Turn, Handles, Commits, Takes, AsksCommitted, Answers}
 use Rattle.s10_ends.specs.Batch.{ReceivesAll, EndsReceiving, ReceivesBatch, ServesBatch}
-use Rattle.s10_ends.specs.Batch.{turns_of_batch}
+use Rattle.s10_ends.specs.Batch.{turns_of_batch, is_reply}
 use Rattle.s10_ends.specs.Batch.ReceivesAll.{none as taken_none, more as taken_more}
 use Rattle.s10_ends.specs.Batch.AnswersAll.{none as answered_none, more as answered_more}
 use Rattle.s10_ends.proofs.Turns.{same_error}
-
-pub no_push : {X : Type 0} (xs : List X) (x : X) → ¬ (xs ++ x ∷ [] ≡ [])
-no_push [] x wrong = absurd cc
-no_push (y ∷ xs) x wrong = absurd cc
 
 module _ {B : Type 0} (Handled : B → B → List ℕ → Answer → Type 0) (most : ℕ)
     (old : Trace × B) where
@@ -44,12 +45,13 @@ module _ {B : Type 0} (Handled : B → B → List ℕ → Answer → Type 0) (mo
         → Type 0 = λ o. Takes Handled between new (Ok o) in subst P is count_receive)
 
     -- Receiving ends if nothing more had arrived.
-    pub no_more : (new : Trace × B) (found : Option Exchange) → Takes Handled between new (Ok found)
-        → found ≡ None → ReceivesBatch Handled most old new taken (Ok tt)
-    no_more new found count_receive is =
+    pub no_more : (new : Trace × B) (found : Option Exchange) → length taken < most
+        → Takes Handled between new (Ok found) → found ≡ None
+        → ReceivesBatch Handled most old new taken (Ok tt)
+    no_more new found few count_receive is =
         let P : Option Exchange → Type 0 = λ o. Takes Handled between new (Ok o) in
         let none = subst P is count_receive in
-        record { handled = between; takes = takes; ends = inr none.0; same = none.1 }
+        record { handled = between; takes = takes; ends = inr (few, none.0); same = none.1 }
 
     -- Receiving ends if a receive failed.
     pub failed : (new : Trace × B) (fault : LinkFault) (ended : Result (Unit {0}) LinkFault)
@@ -93,11 +95,26 @@ pub turns_few : {B : Type 0} (Handled : B → B → List ℕ → Answer → Type
 turns_few Handled most old new taken ended answered batch some few many =
     turns_at_most most taken batch.handled.0 new.0 ended answered batch.ends some few many
 
+-- A flag or false is the flag.
+alone : (x : Bool) → (x || false) ≡ x
+alone true = refl
+alone false = refl
+
+-- A turn with no condition on its call is one that is right once the calls are committed.
+answered_committed : (Honest : Type 0) (IsCommitted : List ℕ → Type 0) (old new : Trace) (to : Peer)
+    (b : List ℕ) (answer : Answer) (turn : Turn)
+    → Answers ⊤ (λ _. ⊤) old new (Ok tt) to b answer turn
+    → Answers Honest IsCommitted old new (Ok tt) to b answer turn
+answered_committed Honest IsCommitted old new to b (Reply frame) turn is = is
+answered_committed Honest IsCommitted old new to b (Dropped fault) turn is = is
+answered_committed Honest IsCommitted old new to b (Faulted fault) turn is = is
+
 -- Batches of at most one datagram.
 module _ {B : Type 0} (faults : B → Faults) (honest : B → Type 0) (terms : B → Terms)
     (history committed : B → List Entry) (day : ℕ) (old between : Trace × B) where
   abbrev Handled : B → B → List ℕ → Answer → Type 0
-  Handled before after b answer = Handles faults honest terms history before after day b answer
+  Handled before after b answer = Handles faults honest terms history committed before after day b
+      answer
 
   -- A batch in which nothing was received.
   unanswered : (ended : Result (Unit {0}) LinkFault) (batch : List Turn)
@@ -111,7 +128,7 @@ module _ {B : Type 0} (faults : B → Faults) (honest : B → Type 0) (terms : B
     answered = [];
     answers = record {
       commit_result = Ok tt;
-      commits = λ some. absurd (some refl);
+      commits = λ some. absurd (false≢true some);
       unasked = λ it. refl;
       answers = answered_none;
     };
@@ -129,16 +146,18 @@ module _ {B : Type 0} (faults : B → Faults) (honest : B → Type 0) (terms : B
   pub one_quiet : (found : Option Exchange) → Takes Handled old between (Ok found) → found ≡ None
       → ServesBatch faults honest terms history committed day 1 old between (Ok turns.Quiet ∷ [])
   one_quiet found count_receive is = unanswered (Ok tt) (Ok turns.Quiet ∷ [])
-      (no_more Handled 1 old old [] taken_none between found count_receive is) refl
+      (no_more Handled 1 old old [] taken_none between found (omega arith) count_receive is) refl
 
   pub one_served : (new : Trace × B) (found : Option Exchange) (taken : Exchange)
       (commit_result : Result (Unit {0}) BookFault) (turn : Turn)
       → Takes Handled old between (Ok found) → found ≡ Some taken
-      → Commits faults honest terms history committed between.1 new.1 commit_result
+      → (is_reply taken.answer ≡ true
+      → Commits faults honest terms history committed between.1 new.1 commit_result)
+      → (is_reply taken.answer ≡ false → new.1 ≡ between.1)
       → Answers (honest new.1) (AsksCommitted (committed new.1) (history new.1)) between.0 new.0
       commit_result taken.from taken.packet taken.answer turn
       → ServesBatch faults honest terms history committed day 1 old new (turn ∷ [])
-  one_served new found taken commit_result turn count_receive is commits answers = record {
+  one_served new found taken commit_result turn count_receive is commits same answers = record {
     taken = taken ∷ [];
     between = between;
     ended = Ok tt;
@@ -147,9 +166,28 @@ module _ {B : Type 0} (faults : B → Faults) (honest : B → Type 0) (terms : B
     answered = turn ∷ [];
     answers = record {
       commit_result = commit_result;
-      commits = λ some. commits;
-      unasked = λ none. absurd cc;
+      commits = λ some. commits (sym (alone (is_reply taken.answer)) ∙ some);
+      unasked = λ none. same (sym (alone (is_reply taken.answer)) ∙ none);
       answers = answered_more taken turn answered_none answers;
     };
     are = refl;
   }
+
+  -- A batch of one datagram whose calls were all committed before the replies.
+  pub one_committed : (trace : Trace) (found : Option Exchange) (taken : Exchange) (turn : Turn)
+      → Takes Handled old between (Ok found) → found ≡ Some taken
+      → (honest between.1 → committed between.1 ≡ history between.1)
+      → Answers ⊤ (λ _. ⊤) between.0 trace (Ok tt) taken.from taken.packet taken.answer turn
+      → ServesBatch faults honest terms history committed day 1 old (trace, between.1) (turn ∷ [])
+  one_committed trace found taken turn count_receive is whole answers =
+      one_served (trace, between.1) found taken (Ok tt) turn count_receive is
+      (λ some. record {
+        counts = refl;
+        unchanged = Unchanged-refl between.1;
+        done = whole;
+        left = λ h. tt;
+      })
+      (λ none. refl)
+      (answered_committed (honest between.1) (AsksCommitted (committed between.1)
+      (history between.1))
+      between.0 trace taken.from taken.packet taken.answer turn answers)

@@ -93,7 +93,8 @@ issued arrival (y ∷ ys) zero e c at carries =
     let P : Entry → Type 0 = λ z. Contains (issues_at arrival z) (made_by e arrival c) in (
       arrival,
       Contains-append_left (issues_at arrival y) (issues_from (arrival + 1) ys)
-          (made_by e arrival c) (subst P (sym (same_Some y e at)) (issued_here arrival e c carries)),
+          (made_by e arrival c)
+          (subst P (sym (same_Some y e at)) (issued_here arrival e c carries)),
     )
 issued arrival (y ∷ ys) (suc k) e c at carries =
     let there = issued (arrival + 1) ys k e c at carries in (

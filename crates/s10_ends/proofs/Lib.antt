@@ -14,3 +14,5 @@ pub mod Listening
 pub mod Trying
 pub mod Near
 pub mod Standing
+pub mod Composing
+pub mod ReceiveCount

@@ -1,11 +1,14 @@
 -- Lemmas about the replies of a batch, which the committed calls give.
-use Rattle.std.proofs.Common.{◌≡◌, ◌≢◌, ◌∙◌, refl, sym, ap, subst, ℕ, Bool, false, List, [], ◌∷◌}
+use Rattle.std.proofs.Common.{◌≡◌, ◌∙◌, refl, sym, ap, subst, ℕ, Bool, true, false, List, [], ◌∷◌}
 use Rattle.std.proofs.Common.{◌++◌, map, Option, Result, Ok, Err, inl, inr}
-use Rattle.std.specs.Prelude.{◌↔◌, IsTrue, All, OnOk}
+use Rattle.std.specs.Prelude.{◌↔◌, IsTrue, All, Contains, OnOk, ◌||◌}
 use Rattle.std.specs.List.{AllZip}
 use Rattle.std.proofs.lemmas.Bool.{false≢true}
 use Rattle.std.proofs.lemmas.List.{map-append}
+use Rattle.std.proofs.lemmas.List.Folds.{list_any-append}
 use Rattle.std.proofs.lemmas.List.Elements.{All-nil, All-cons, All-head, All-tail, All-push}
+use Rattle.std.proofs.lemmas.List.Elements.{All-weaker, Contains-push, Contains-append_left}
+use Rattle.std.proofs.lemmas.List.Elements.{Contains-append_right}
 use Rattle.s10_wire.specs.declared.frame.Frame.{Frame}
 use Rattle.s10_wire.specs.declared.request.Request.{Request}
 use Rattle.s10_wire.specs.Datagrams.{Asks}
@@ -24,16 +27,15 @@ use Rattle.s10_ends.specs.declared.answer.Answer.{Answer}
 use Rattle.s10_ends.specs.declared.answer.Answer.TheVariants.{Reply, Dropped, Faulted}
 use Rattle.s10_ends.specs.declared.exchange.Exchange.{Exchange}
 use Rattle.s10_ends.specs.declared.server_turn.ServerTurn.TheVariants as turns
-use Rattle.s10_ends.specs.Served.{Dated, AskNothing, GivesOutcome, IsOwed, IsReplyIn, IsAnswered}
+use Rattle.s10_ends.specs.Served.{Dated, AskNothing, GivesOutcome, IsOwed, IsAnswered}
 use Rattle.s10_ends.specs.Served.{Served}
 use Rattle.s10_ends.specs.Turn.{Turn, Handles, Commits, AsksCommitted, SendsReply, WithholdsReply}
 use Rattle.s10_ends.specs.Turn.{Answers, sent_turn}
 use Rattle.s10_ends.specs.Batch.{ReceivesAll, AnswersAll, ServesBatch, IsSentCommitted}
-use Rattle.s10_ends.specs.Batch.{turns_of_batch}
+use Rattle.s10_ends.specs.Batch.{IsOwedReply, is_reply, has_reply, turns_of_batch}
 use Rattle.s10_ends.specs.Batch.ReceivesAll.{none as taken_none, more as taken_more}
 use Rattle.s10_ends.specs.Batch.AnswersAll.{none as answered_none, more as answered_more}
 use Rattle.s10_ends.proofs.Whole.{Served-nil, Served-push}
-use Rattle.s10_ends.proofs.Batches.{no_push}
 
 -- The request in the bytes is committed if the call of that request is.
 pub own_committed : (committed h : List Entry) (b : List ℕ) (q : Request) (answer : Bool) → Asks b q
@@ -72,86 +74,137 @@ last_of : {X : Type 0} (P : X → Type 0) (xs : List X) (x : X) → All P (xs ++
 last_of P [] x all = All-head P x [] all
 last_of P (y ∷ ys) x all = last_of P ys x (All-tail P y (ys ++ x ∷ []) all)
 
+-- Flags joined by or are true if one of them is.
+first_set : (x y : Bool) → x ≡ true → (x || y) ≡ true
+first_set true y is = refl
+first_set false y is = absurd (false≢true is)
+
+last_set : (x y : Bool) → y ≡ true → (x || (y || false)) ≡ true
+last_set true y is = refl
+last_set false true is = refl
+last_set false false is = absurd (false≢true is)
+
+-- A batch has a reply if its first datagrams have one, or its last one has.
+replies_first : (ts : List Exchange) (next : Exchange) → has_reply ts ≡ true
+    → has_reply (ts ++ next ∷ []) ≡ true
+replies_first ts next is =
+    list_any-append (λ (t : Exchange). is_reply t.answer) ts (next ∷ [])
+    ∙ first_set (has_reply ts) (has_reply (next ∷ [])) is
+
+replies_last : (ts : List Exchange) (next : Exchange) → is_reply next.answer ≡ true
+    → has_reply (ts ++ next ∷ []) ≡ true
+replies_last ts next is =
+    list_any-append (λ (t : Exchange). is_reply t.answer) ts (next ∷ [])
+    ∙ last_set (has_reply ts) (is_reply next.answer) is
+
 -- Lemmas about one turn.
-module _ (Honest : Type 0) (committed h : List Entry) (at : Honest) where
+module _ (Honest : Type 0) (committed h : List Entry) (ds : List Dated) (day : ℕ)
+    (at : Honest) where
   abbrev Own : List ℕ → Type 0
   Own = AsksCommitted committed h
 
-  stands : (b : List ℕ) (frame : Frame) → IsOwed h b frame → Own b → IsReplyIn committed frame
+  -- The committed calls owe the frame to a delivery.
+  abbrev Owes : Frame → Type 0
+  Owes frame = (d : Dated) × Contains ds d × IsOwed committed d.0 frame
+
+  stands : (b : List ℕ) (frame : Frame) → IsOwed h b frame → Own b → IsOwed committed b frame
   stands b frame owed own =
       let same : owed.0 ≡ own.0 = one_request b owed.0 own.0 owed.2 own.1 in
       let P : Request → Type 0 = λ q. find_entry committed q.customer q.number
       ≡ find_entry h q.customer q.number in
       let Q : Option Entry → Type 0 = λ kept. GivesOutcome kept owed.0 owed.1 in
-      (owed.0, owed.1, subst Q (sym (subst P (sym same) own.2)) owed.3, owed.4)
+      (owed.0, owed.1, owed.2, subst Q (sym (subst P (sym same) own.2)) owed.3, owed.4)
 
   owed_stands : (b : List ℕ) (frame : Frame) → committed ≡ h → IsOwed h b frame
-      → IsReplyIn committed frame
-  owed_stands b frame same owed = let P : List Entry → Type 0 = λ l. IsReplyIn l frame in
-      subst P (sym same) (owed.0, owed.1, owed.3, owed.4)
+      → IsOwed committed b frame
+  owed_stands b frame same owed = let P : List Entry → Type 0 = λ l. IsOwed l b frame in
+      subst P (sym same) owed
 
-  by_result : (to : Peer) (frame : Frame) (r : SendResult) → IsReplyIn committed frame
-      → IsSentCommitted committed (sent_turn to frame r)
+  by_result : (to : Peer) (frame : Frame) (r : SendResult) → Owes frame
+      → IsOwedReply committed ds (sent_turn to frame r)
   by_result to frame (Ok _) is = is
   by_result to frame (Err fault) is = tt
 
   sent : (old new : Trace) (to : Peer) (frame : Frame) (turn : Turn)
-      → SendsReply old new to frame turn → IsReplyIn committed frame
-      → IsSentCommitted committed turn
-  sent old new to frame turn sends is = subst (IsSentCommitted committed) (sym sends.2)
+      → SendsReply old new to frame turn → Owes frame → IsOwedReply committed ds turn
+  sent old new to frame turn sends is = subst (IsOwedReply committed ds) (sym sends.2)
       (by_result to frame sends.0 is)
 
   held : (old new : Trace) (fault : BookFault) (to : Peer) (turn : Turn)
-      → WithholdsReply old new to fault turn → IsSentCommitted committed turn
-  held old new fault to turn holds = subst (IsSentCommitted committed) (sym holds.1) tt
+      → WithholdsReply old new to fault turn → IsOwedReply committed ds turn
+  held old new fault to turn holds = subst (IsOwedReply committed ds) (sym holds.1) tt
 
   unasked : (old new : Trace) (told turn : Turn) → (new ≡ old) × (turn ≡ told)
-      → IsSentCommitted committed told → IsSentCommitted committed turn
-  unasked old new told turn is told_is = subst (IsSentCommitted committed) (sym is.1) told_is
+      → IsOwedReply committed ds told → IsOwedReply committed ds turn
+  unasked old new told turn is told_is = subst (IsOwedReply committed ds) (sym is.1) told_is
 
   turn_stands : (old new : Trace) (commit_result : Result (Unit {0}) BookFault) (to : Peer)
-      (b : List ℕ) (answer : Answer) (turn : Turn) → OnOk commit_result (committed ≡ h)
-      → IsAnswered h b answer → Answers Honest Own old new commit_result to b answer turn
-      → IsSentCommitted committed turn
-  turn_stands old new (Ok _) to b (Reply frame) turn done owed answers =
-      sent old new to frame turn answers (owed_stands b frame done owed)
-  turn_stands old new (Err fault) to b (Reply frame) turn done owed answers = elim answers [
-    | inl w ↦ sent old new to frame turn w.1 (stands b frame owed (w.0 at))
+      (b : List ℕ) (answer : Answer) (turn : Turn)
+      → (is_reply answer ≡ true → OnOk commit_result (committed ≡ h))
+      → Contains ds (b, day) → IsAnswered h b answer
+      → Answers Honest Own old new commit_result to b answer turn
+      → IsOwedReply committed ds turn
+  turn_stands old new (Ok _) to b (Reply frame) turn done inside owed answers =
+      sent old new to frame turn answers ((b, day), inside, owed_stands b frame (done refl) owed)
+  turn_stands old new (Err fault) to b (Reply frame) turn done inside owed answers = elim answers [
+    | inl w ↦ sent old new to frame turn w.1 ((b, day), inside, stands b frame owed (w.0 at))
     | inr w ↦ held old new fault to turn w.1
   ]
-  turn_stands old new commit_result to b (Dropped fault) turn done is answers =
+  turn_stands old new commit_result to b (Dropped fault) turn done inside is answers =
       unasked old new (Ok (turns.Dropped to fault)) turn answers tt
-  turn_stands old new commit_result to b (Faulted fault) turn done is answers =
+  turn_stands old new commit_result to b (Faulted fault) turn done inside is answers =
       unasked old new (Ok (turns.Faulted to fault)) turn answers tt
 
+  -- The datagram is one of the deliveries.
+  abbrev IsInside : Exchange → Type 0
+  IsInside t = Contains ds (t.packet, day)
+
   all_stand : (commit_result : Result (Unit {0}) BookFault) (old new : Trace) (ts : List Exchange)
-      (answered : List Turn) → (ts ≢ [] → OnOk commit_result (committed ≡ h))
-      → All (IsTakenAnswered h) ts
+      (answered : List Turn) → (has_reply ts ≡ true → OnOk commit_result (committed ≡ h))
+      → All (IsTakenAnswered h) ts → All IsInside ts
       → AnswersAll Honest Own commit_result old ts answered new
-      → All (IsSentCommitted committed) answered
-  all_stand commit_result old _ _ _ done owed answered_none = All-nil (IsSentCommitted committed)
-  all_stand commit_result old new _ _ done owed (answered_more {between = between} {taken = ts}
-      {answered = answered} next turn before answers) =
-      let some : ts ++ next ∷ [] ≢ [] = no_push ts next in
-      All-push (IsSentCommitted committed) answered turn
-      (all_stand commit_result old between ts answered (λ it. done some)
-      (first_of (IsTakenAnswered h) ts next owed) before)
-      (turn_stands between new commit_result next.from next.packet next.answer turn (done some)
+      → All (IsOwedReply committed ds) answered
+  all_stand commit_result old _ _ _ done owed inside answered_none =
+      All-nil (IsOwedReply committed ds)
+  all_stand commit_result old new _ _ done owed inside (answered_more {between = between}
+      {taken = ts} {answered = answered} next turn before answers) =
+      All-push (IsOwedReply committed ds) answered turn
+      (all_stand commit_result old between ts answered (λ it. done (replies_first ts next it))
+      (first_of (IsTakenAnswered h) ts next owed) (first_of IsInside ts next inside) before)
+      (turn_stands between new commit_result next.from next.packet next.answer turn
+      (λ it. done (replies_last ts next it)) (last_of IsInside ts next inside)
       (last_of (IsTakenAnswered h) ts next owed) answers)
 
 -- A property of the turns of the exchanges holds for all turns of the batch.
-told : (committed : List Entry) (ended : Result (Unit {0}) LinkFault) (answered : List Turn)
-    → All (IsSentCommitted committed) answered
-    → All (IsSentCommitted committed) (turns_of_batch ended answered)
-told committed (Err fault) answered all = All-push (IsSentCommitted committed) answered (Err fault)
-    all tt
-told committed (Ok _) [] all = All-cons (IsSentCommitted committed) (Ok turns.Quiet) [] tt all
-told committed (Ok _) (turn ∷ answered) all = all
+told : (committed : List Entry) (ds : List Dated) (ended : Result (Unit {0}) LinkFault)
+    (answered : List Turn) → All (IsOwedReply committed ds) answered
+    → All (IsOwedReply committed ds) (turns_of_batch ended answered)
+told committed ds (Err fault) answered all = All-push (IsOwedReply committed ds) answered
+    (Err fault) all tt
+told committed ds (Ok _) [] all = All-cons (IsOwedReply committed ds) (Ok turns.Quiet) [] tt all
+told committed ds (Ok _) (turn ∷ answered) all = all
+
+-- A reply that the committed calls owe to a delivery is one that they give.
+owed_sent : (committed : List Entry) (ds : List Dated) (turn : Turn)
+    → IsOwedReply committed ds turn → IsSentCommitted committed turn
+owed_sent committed ds (Ok (turns.Replied to frame)) (d, inside, owed) =
+    (owed.0, owed.1, owed.3, owed.4)
+owed_sent committed ds (Ok turns.Quiet) is = tt
+owed_sent committed ds (Ok (turns.Dropped from fault)) is = tt
+owed_sent committed ds (Ok (turns.Faulted from fault)) is = tt
+owed_sent committed ds (Ok (turns.Uncommitted from fault)) is = tt
+owed_sent committed ds (Err fault) is = tt
+
+pub all_sent : (committed : List Entry) (ds : List Dated) (ts : List Turn)
+    → All (IsOwedReply committed ds) ts → All (IsSentCommitted committed) ts
+all_sent committed ds ts all = All-weaker (IsOwedReply committed ds) (IsSentCommitted committed)
+    (owed_sent committed ds) ts all
 
 module _ {B : Type 0} (faults : B → Faults) (honest : B → Type 0) (terms : B → Terms)
     (history committed : B → List Entry) (day : ℕ) where
   abbrev Handled : B → B → List ℕ → Answer → Type 0
-  Handled before after b answer = Handles faults honest terms history before after day b answer
+  Handled before after b answer = Handles faults honest terms history committed before after day b
+      answer
 
   abbrev packets : List Exchange → List Dated
   packets ts = map (λ (t : Exchange). (t.packet, day)) ts
@@ -187,23 +240,35 @@ module _ {B : Type 0} (faults : B → Faults) (honest : B → Type 0) (terms : B
             (subst P before.same_terms (one.served h))));
       }
 
-  -- The book was honest before the commit, with the same history.
-  honest_before : (old new : B) (ts : List Exchange) (commit_result : Result (Unit {0}) BookFault)
-      → (ts ≢ [] → Commits faults honest terms history committed old new commit_result)
-      → (ts ≡ [] → new ≡ old)
-      → honest new → honest old × (history new ≡ history old)
-  honest_before old new [] commit_result commits same h =
+  by_flag : (flag : Bool) (old new : B) (commit_result : Result (Unit {0}) BookFault)
+      → (flag ≡ true → Commits faults honest terms history committed old new commit_result)
+      → (flag ≡ false → new ≡ old) → honest new → honest old × (history new ≡ history old)
+  by_flag false old new commit_result commits same h =
       (subst honest (same refl) h, ap history (same refl))
-  honest_before old new (t ∷ ts) commit_result commits same h = let kept =
-      (commits (λ e. absurd cc)).unchanged in (kept.was_honest h, kept.same_history h)
+  by_flag true old new commit_result commits same h =
+      let unchanged = (commits refl).unchanged in
+      (unchanged.was_honest h, unchanged.same_history h)
 
-  -- Every reply that a batch sent is one that the committed calls give.
-  pub batch_stands : (most : ℕ) (old new : Trace × B) (turns : List Turn)
-      → ServesBatch faults honest terms history committed day most old new turns → honest new.1
-      → All (IsSentCommitted (committed new.1)) turns
-  batch_stands most old new turns batch h =
-      let before = honest_before batch.between.1 new.1 batch.taken batch.answers.commit_result
-      batch.answers.commits batch.answers.unasked h in
+  -- The datagrams of a batch are among the deliveries.
+  pub inside_of : (ts : List Exchange) (ds : List Dated)
+      → ((d : Dated) → Contains (packets ts) d → Contains ds d)
+      → All (λ (t : Exchange). Contains ds (t.packet, day)) ts
+  inside_of [] ds among = All-nil (λ (t : Exchange). Contains ds (t.packet, day))
+  inside_of (t ∷ ts) ds among =
+      All-cons (λ (u : Exchange). Contains ds (u.packet, day)) t ts
+      (among (t.packet, day) (Contains-append_left ((t.packet, day) ∷ []) (packets ts)
+      (t.packet, day) (Contains-push [] (t.packet, day))))
+      (inside_of ts ds (λ d is. among d (Contains-append_right ((t.packet, day) ∷ [])
+      (packets ts) d is)))
+
+  -- Every reply that a batch sent is owed to one of its datagrams, by the calls that are committed
+  -- after it.
+  pub batch_owes : (most : ℕ) (old new : Trace × B) (turns : List Turn)
+      (batch : ServesBatch faults honest terms history committed day most old new turns)
+      → honest new.1 → All (IsOwedReply (committed new.1) (packets batch.taken)) turns
+  batch_owes most old new turns batch h =
+      let before = by_flag (has_reply batch.taken) batch.between.1 new.1
+      batch.answers.commit_result batch.answers.commits batch.answers.unasked h in
       let same = ap history batch.takes.same in
       let served =
       (serves_taken old batch.takes.handled batch.taken batch.takes.takes
@@ -211,11 +276,21 @@ module _ {B : Type 0} (faults : B → Faults) (honest : B → Type 0) (terms : B
       let P : List Entry → Type 0 = λ l. All (IsTakenAnswered l) batch.taken in
       let owed = subst P (sym (before.1 ∙ same)) (taken_answered (history batch.takes.handled.1) day
       batch.taken served.answered) in
-      let all = all_stand (honest new.1) (committed new.1) (history new.1) h
+      let ds = packets batch.taken in
+      let all = all_stand (honest new.1) (committed new.1) (history new.1) ds day h
       batch.answers.commit_result batch.between.0 new.0 batch.taken batch.answered
-      (λ some. (batch.answers.commits some).done h) owed batch.answers.answers in
-      subst (λ (l : List Turn). All (IsSentCommitted (committed new.1)) l) (sym batch.are)
-      (told (committed new.1) batch.ended batch.answered all)
+      (λ some. (batch.answers.commits some).done h) owed
+      (inside_of batch.taken ds (λ d is. is)) batch.answers.answers in
+      subst (λ (l : List Turn). All (IsOwedReply (committed new.1) ds) l) (sym batch.are)
+      (told (committed new.1) ds batch.ended batch.answered all)
+
+  -- Every reply that a batch sent is one that the committed calls give.
+  pub batch_stands : (most : ℕ) (old new : Trace × B) (turns : List Turn)
+      → ServesBatch faults honest terms history committed day most old new turns → honest new.1
+      → All (IsSentCommitted (committed new.1)) turns
+  batch_stands most old new turns batch h =
+      all_sent (committed new.1) (packets batch.taken) turns
+      (batch_owes most old new turns batch h)
 
   -- The same for a batch of one turn.
   pub turn_of_batch : (old new : Trace × B) (turn : Turn) → ServesBatch faults honest terms history

@@ -290,7 +290,8 @@ stopped_call c c1 c2 c' t m t' to body tries k frame q fault free own asks clien
       own,
       frame,
       asks,
-      stopped_sent t m sent.0 t' (to, frame) k tries fault tried few sent.1 sent.2.0 sent.2.2 sent.2.3
+      stopped_sent t m sent.0 t' (to, frame) k tries fault tried few sent.1 sent.2.0 sent.2.2
+          sent.2.3
           sent.2.4,
     )
 

@@ -47,3 +47,10 @@ failed_take {B} Handled old new book fault r received passed =
     x in
     let here : Takes Handled (old, book) (new, book) (Err fault) = (received, refl) in
     subst P (sym (same_error r fault passed)) here
+
+-- The result of a receive, under another name.
+pub found_as : {B : Type 0} (Handled : B → B → List ℕ → Answer → Type 0) (old new : Trace × B)
+    (found same : Option Exchange) → found ≡ same → Takes Handled old new (Ok found)
+    → Takes Handled old new (Ok same)
+found_as Handled old new found same is took =
+    let P : Option Exchange → Type 0 = λ o. Takes Handled old new (Ok o) in subst P is took

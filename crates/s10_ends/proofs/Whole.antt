@@ -19,8 +19,8 @@ use Rattle.s10_history.specs.History.{has_key, find_entry}
 use Rattle.s10_book.specs.Once.{same_key, first_arrivals, applied, applied_once}
 use Rattle.s10_ends.specs.declared.answer.Answer.{Answer}
 use Rattle.s10_ends.specs.declared.answer.Answer.TheVariants.{Reply, Dropped, Faulted}
-use Rattle.s10_ends.specs.Served.{Dated, AreAsked, IsOnce, GivesOutcome, IsOwed, IsAnswered}
-use Rattle.s10_ends.specs.Served.{IsFullFor, is_faulted, not_faulted, Served}
+use Rattle.s10_ends.specs.Served.{Dated, AreAsked, IsOnce, GivesOutcome, IsOwed, IsReplyIn}
+use Rattle.s10_ends.specs.Served.{IsAnswered, IsFullFor, is_faulted, not_faulted, Served}
 use Rattle.s10_ends.specs.Served.AreAsked.{none, nothing, request}
 
 requests : List Entry → List Request
@@ -103,6 +103,17 @@ IsOwed-more h more b f owed =
       rw (find-append (has_key q.customer q.number) h more)
           (kept_at (find_entry h q.customer q.number) more q owed.1 owed.3),
       owed.4,
+    )
+
+-- A reply that a history gives is given by every longer history.
+pub IsReplyIn-more : (h more : List Entry) (f : List ℕ) → IsReplyIn h f → IsReplyIn (h ++ more) f
+IsReplyIn-more h more f is =
+    let q = is.0 in (
+      q,
+      is.1,
+      rw (find-append (has_key q.customer q.number) h more)
+          (kept_at (find_entry h q.customer q.number) more q is.1 is.2),
+      is.3,
     )
 
 pub IsAnswered-more : (h more : List Entry) (b : List ℕ) (a : Answer) → IsAnswered h b a

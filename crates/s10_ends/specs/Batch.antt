@@ -1,8 +1,10 @@
 -- A batch: datagrams that a server receives together, commits in one transaction, then replies to.
-use Rattle.std.specs.Prelude.{◌≡◌, ◌≢◌, ◌⊎◌, ℕ, ⊤, ◌<◌, List, [], ◌∷◌, ◌++◌, length, Some, Result}
-use Rattle.std.specs.Prelude.{Ok, Err}
+use Rattle.std.specs.Prelude.{◌≡◌, ◌⊎◌, ℕ, ⊤, Bool, true, false, ◌+◌, ◌<◌, ◌≤◌, List, [], ◌∷◌}
+use Rattle.std.specs.Prelude.{◌++◌, length, count_by, Contains, Some, Result, Ok, Err}
+use Rattle.std.specs.List.{list_any}
 use Rattle.s10_link.specs.declared.trace.Trace.{Trace}
 use Rattle.s10_link.specs.declared.link_fault.LinkFault.{LinkFault}
+use Rattle.s10_link.specs.declared.link_fault.LinkFault.TheVariants.{Send}
 use Rattle.s10_link.specs.Trace.{after_call}
 use Rattle.s10_link.specs.Link.{Receives}
 use Rattle.s10_history.specs.declared.entry.Entry.{Entry}
@@ -10,9 +12,10 @@ use Rattle.s10_history.specs.Settings.{Terms}
 use Rattle.s10_book.specs.declared.book_fault.BookFault.{BookFault}
 use Rattle.s10_book.specs.declared.faults.Faults.{Faults}
 use Rattle.s10_ends.specs.declared.answer.Answer.{Answer}
+use Rattle.s10_ends.specs.declared.answer.Answer.TheVariants.{Reply}
 use Rattle.s10_ends.specs.declared.exchange.Exchange.{Exchange}
 use Rattle.s10_ends.specs.declared.server_turn.ServerTurn.TheVariants as turns
-use Rattle.s10_ends.specs.Served.{IsReplyIn}
+use Rattle.s10_ends.specs.Served.{Dated, IsOwed, IsReplyIn}
 use Rattle.s10_ends.specs.Turn.{Turn, Handles, Commits, Takes, AsksCommitted, Answers}
 
 -- Exchanges were received and handled in order, from the first trace and book to the last ones.
@@ -26,7 +29,7 @@ pub data ReceivesAll {B : Type 0} (Handled : B → B → List ℕ → Answer →
 -- Why receiving ended: `most` were received, nothing more had arrived, or a receive failed.
 abbrev pub EndsReceiving : ℕ → List Exchange → Trace → Trace → Result (Unit {0}) LinkFault → Type 0
 EndsReceiving most taken old new (Ok _) = ((length taken ≡ most) × (new ≡ old))
-    ⊎ (new ≡ after_call old)
+    ⊎ ((length taken < most) × (new ≡ after_call old))
 EndsReceiving most taken old new (Err fault) = (length taken < most) × Receives old new (Err fault)
 
 -- At most `most` datagrams were received and handled, and receiving ended for such a reason.
@@ -37,6 +40,15 @@ pub record ReceivesBatch {B : Type 0} (Handled : B → B → List ℕ → Answer
   pub takes : ReceivesAll Handled old taken handled
   pub ends : EndsReceiving most taken handled.0 new.0 ended
   pub same : new.1 ≡ handled.1
+
+-- Whether the answer is a reply.
+abbrev pub is_reply : Answer → Bool
+is_reply (Reply frame) = true
+is_reply answer = false
+
+-- Whether some answer of a batch is a reply.
+abbrev pub has_reply : List Exchange → Bool
+has_reply taken = list_any (λ (t : Exchange). is_reply t.answer) taken
 
 -- Each exchange was replied to in order, and has one turn.
 pub data AnswersAll (Honest : Type 0) (IsCommitted : List ℕ → Type 0)
@@ -61,16 +73,32 @@ abbrev pub IsSentCommitted : List Entry → Turn → Type 0
 IsSentCommitted committed (Ok (turns.Replied to frame)) = IsReplyIn committed frame
 IsSentCommitted committed turn = ⊤
 
+-- If the turn sent a reply, it is one that the committed calls owe to a delivery.
+abbrev pub IsOwedReply : List Entry → List Dated → Turn → Type 0
+IsOwedReply committed deliveries (Ok (turns.Replied to frame)) =
+    (d : Dated) × Contains deliveries d × IsOwed committed d.0 frame
+IsOwedReply committed deliveries turn = ⊤
+
+-- Whether the turn is a failed send.
+abbrev pub is_failed_send : Turn → Bool
+is_failed_send (Err Send) = true
+is_failed_send turn = false
+
+-- Of the calls of the link, at most `most` are not sends.
+abbrev pub ReceivesAtMost : ℕ → Trace → Trace → List Turn → Type 0
+ReceivesAtMost most old new turns = new.calls + old.sends
+    ≤ old.calls + most + new.sends + count_by is_failed_send turns
+
 module _ {B : Type 0} (faults : B → Faults) (honest : B → Type 0) (terms : B → Terms)
     (history committed : B → List Entry) where
-  -- The received calls were committed, and only then replied to. If nothing was received, the book
-  -- is unchanged.
+  -- If some answer is a reply, the calls were committed, and only then were the replies sent.
+  -- Otherwise the book is unchanged.
   pub record CommitsAndReplies (old new : Trace × B) (taken : List Exchange)
       (answered : List Turn) : Type 0 where
     pub commit_result : Result (Unit {0}) BookFault
-    pub commits : taken ≢ [] → Commits faults honest terms history committed old.1 new.1
-        commit_result
-    pub unasked : taken ≡ [] → new.1 ≡ old.1
+    pub commits : has_reply taken ≡ true → Commits faults honest terms history committed old.1
+        new.1 commit_result
+    pub unasked : has_reply taken ≡ false → new.1 ≡ old.1
     pub answers : AnswersAll (honest new.1) (AsksCommitted (committed new.1) (history new.1))
         commit_result old.0 taken answered new.0
 
@@ -80,8 +108,8 @@ module _ {B : Type 0} (faults : B → Faults) (honest : B → Type 0) (terms : B
     pub taken : List Exchange
     pub between : Trace × B
     pub ended : Result (Unit {0}) LinkFault
-    pub takes : ReceivesBatch (λ before after b answer. Handles faults honest terms history before
-        after day b answer) most old between taken ended
+    pub takes : ReceivesBatch (λ before after b answer. Handles faults honest terms history
+        committed before after day b answer) most old between taken ended
     pub answered : List Turn
     pub answers : CommitsAndReplies between new taken answered
     pub are : turns ≡ turns_of_batch ended answered

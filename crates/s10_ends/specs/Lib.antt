@@ -8,3 +8,5 @@ pub mod Batch
 pub mod NearLink
 pub mod Calls
 pub mod UdpLink
+pub mod Composed
+pub mod NearEnds

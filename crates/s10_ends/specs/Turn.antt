@@ -1,5 +1,6 @@
 -- What one turn of a server does to its book and to the link.
-use Rattle.std.specs.Prelude.{◌≡◌, ◌↔◌, ◌⊎◌, ℕ, List, [], ◌∷◌, Option, Some, None, Result, Ok, Err}
+use Rattle.std.specs.Prelude.{◌≡◌, ◌↔◌, ◌⊎◌, ℕ, ⊤, List, [], ◌∷◌, Option, Some, None, Result, Ok}
+use Rattle.std.specs.Prelude.{Err}
 use Rattle.std.specs.Prelude.{OnOk, OnErr}
 use Rattle.s10_link.specs.declared.trace.Trace.{Trace}
 use Rattle.s10_link.specs.declared.peer.Peer.{Peer}
@@ -15,7 +16,7 @@ use Rattle.s10_history.specs.declared.entry.Entry.{Entry}
 use Rattle.s10_book.specs.declared.book_fault.BookFault.{BookFault}
 use Rattle.s10_book.specs.declared.faults.Faults.{Faults}
 use Rattle.s10_book.specs.BookFault.{CountsResult}
-use Rattle.s10_book.specs.Book.{Unchanged}
+use Rattle.s10_book.specs.Book.{Grows, Unchanged}
 use Rattle.s10_book.specs.GroupCommit.{IsCommittedCall}
 use Rattle.s10_history.specs.Settings.{Terms}
 use Rattle.s10_ends.specs.declared.answer.Answer.{Answer}
@@ -31,7 +32,8 @@ Turn = Result ServerTurn LinkFault
 
 -- What handling bytes on a day does to the server's book, with its answer.
 pub record Handles {B : Type 0} (faults : B → Faults) (honest : B → Type 0) (terms : B → Terms)
-    (history : B → List Entry) (old new : B) (day : ℕ) (b : List ℕ) (answer : Answer) : Type 0 where
+    (history committed : B → List Entry) (old new : B) (day : ℕ) (b : List ℕ) (answer : Answer) :
+    Type 0 where
   pub counts : CountsAnswer answer (faults old) (faults new)
   pub dropped : (fault : WireFault) → (answer ≡ Dropped fault)
       ↔ (AskNothing b × IsFirstRefusalOfRequest b fault)
@@ -41,13 +43,14 @@ pub record Handles {B : Type 0} (faults : B → Faults) (honest : B → Type 0) 
   pub served : honest new → Served (history old) (terms old) ((b, day) ∷ []) (answer ∷ [])
       (history new)
   pub unchanged : honest new → UnlessReply answer (history new ≡ history old)
+  pub stays_committed : honest new → Grows (committed old) (committed new)
 
 -- What a commit does to the server's book, by its result.
 pub record Commits {B : Type 0} (faults : B → Faults) (honest : B → Type 0) (terms : B → Terms)
     (history committed : B → List Entry) (old new : B) (result : Result (Unit {0}) BookFault) :
     Type 0 where
   pub counts : CountsResult result (faults old) (faults new)
-  pub unchanged : Unchanged history terms honest old new
+  pub unchanged : Unchanged history committed terms honest old new
   pub done : honest new → OnOk result (committed new ≡ history new)
   pub left : honest new → OnErr result (committed new ≡ committed old)
 
@@ -98,3 +101,28 @@ module _ (Honest : Type 0) (IsCommitted : List ℕ → Type 0) where
       × (turn ≡ Ok (turns.Dropped to fault))
   Answers old new commit_result to b (Faulted fault) turn = (new ≡ old)
       × (turn ≡ Ok (turns.Faulted to fault))
+
+-- All calls of a book are committed after a call if they were before it.
+abbrev pub StaysWhole : {B : Type 0} → (B → Type 0) → (B → List Entry) → (B → List Entry) → B → B
+    → Type 0
+StaysWhole honest history committed old new = honest new → committed old ≡ history old
+    → committed new ≡ history new
+
+-- A turn without a commit, by the result of the receive. If the answer is a reply, it is sent.
+-- Otherwise nothing is sent.
+abbrev pub Tells : {B : Type 0} → Trace × B → Trace × B → Result (Option Exchange) LinkFault → Turn
+    → Type 0
+Tells between new (Ok None) turn = (new ≡ between) × (turn ≡ Ok turns.Quiet)
+Tells between new (Ok (Some taken)) turn = (new.1 ≡ between.1)
+    × Answers ⊤ (λ _. ⊤) between.0 new.0 (Ok tt) taken.from taken.packet taken.answer turn
+Tells between new (Err fault) turn = (new ≡ between) × (turn ≡ Err fault)
+
+-- One receive, the handling of the datagram on the day, and at most one send, without a commit.
+pub record ServesOne {B : Type 0} (faults : B → Faults) (honest : B → Type 0) (terms : B → Terms)
+    (history committed : B → List Entry) (day : ℕ) (old new : Trace × B) (turn : Turn) :
+    Type 0 where
+  pub between : Trace × B
+  pub taken : Result (Option Exchange) LinkFault
+  pub takes : Takes (λ before after b answer. Handles faults honest terms history committed before
+      after day b answer) old between taken
+  pub tells : Tells between new taken turn

@@ -3,10 +3,11 @@
 ghost use Rattle.std.specs.Prelude.{◌≡◌, ◌≤◌, ◌+◌, [], length, All, IfOk, OnErr, vec_capacity, Ok};
 ghost use Rattle.s10_ends.specs.Server.{book_of};
 ghost use Rattle.s10_ends.specs.Batch.{ServesBatch, CommitsAndReplies, IsSentCommitted};
-ghost use Rattle.s10_ends.specs.Batch.{turns_of_batch};
+ghost use Rattle.s10_ends.specs.Batch.{ReceivesAtMost, turns_of_batch};
 
+use crate::committing::commit_if;
 use crate::exchange::Exchange;
-use crate::receiving::receive_batch;
+use crate::receiving::{has_reply, receive_batch};
 use crate::replying::reply_all;
 use crate::server::Server;
 use crate::server_turn::{ServerTurn, Turn};
@@ -15,7 +16,8 @@ use s10_link::{Link, LinkFault};
 use std::alloc::{AllocError, Global};
 
 /// Receives up to `most` datagrams, waiting only for the first, commits their calls in one
-/// transaction, then sends the replies.
+/// transaction, then sends the replies, each to its peer. If no datagram has a reply, nothing is
+/// committed.
 ///
 /// Returns one turn per datagram, in order of arrival, at most `most` in all. A receive that failed
 /// is one more turn, the last one. If no datagram arrived, the only turn is `Quiet`. If the commit
@@ -41,6 +43,8 @@ pub fn serve_batch<B: GroupCommit, L: Link>(
     ensures stands { B.honest (book_of server.new)
         → IfOk result (λ turns. All (IsSentCommitted (B.committed (book_of server.new)))
         turns.items) }
+    ensures receives { IfOk result (λ turns. ReceivesAtMost most (L.trace_of link.old)
+        (L.trace_of link.new) turns.items) }
     ensures some { IfOk result (λ turns. 1 ≤ length turns.items) }
     ensures few { IfOk result (λ turns. length turns.items ≤ most) }
     ensures refused { OnErr result ((L.trace_of link.new ≡ L.trace_of link.old)
@@ -54,8 +58,7 @@ pub fn serve_batch<B: GroupCommit, L: Link>(
     Ok(turns)
 }
 
-// Commits the calls and sends the replies. If nothing was received, the book is not asked to
-// commit.
+// Commits the calls of a batch if some datagram has a reply, then sends the replies.
 fn commit_and_reply<B: GroupCommit, L: Link>(
     server: &mut Server<B>,
     link: &mut L,
@@ -70,10 +73,7 @@ fn commit_and_reply<B: GroupCommit, L: Link>(
     ensures many { length turns.new.items ≡ length taken.now }
     ensures capacity { vec_capacity turns.new ≡ vec_capacity turns.old }
 {
-    if taken.is_empty() {
-        return;
-    }
-    let commit_result = server.commit();
+    let commit_result = commit_if(server, has_reply(taken));
     reply_all(link, server, taken, commit_result, turns);
 }
 

@@ -1,19 +1,22 @@
 //! Links a client to a server in the same process.
 
-ghost use Rattle.std.specs.Prelude.{◌≡◌, ◌∷◌, []};
+ghost use Rattle.std.specs.Prelude.{◌≡◌};
+ghost use Rattle.s10_ends.specs.Server.{book_of};
+ghost use Rattle.s10_ends.specs.Turn.{Turn, ServesOne, StaysWhole};
 
 use crate::server::Server;
 use crate::turn::serve_one;
-use s10_book::GroupCommit;
+use s10_book::Book;
 use s10_link::{Link, LinkFault, Packet, Peer, Trace};
 use s10_wire::Frame;
+use std::marker::Model;
 
 /// The client's end of a network whose server runs in the client's own process.
 ///
 /// Before each receive the server serves at most one datagram at the far end. The result of that
-/// turn is dropped, even if it is a fault.
+/// turn is dropped, even if it is a fault. The server's book commits each call when it keeps it.
 #[derive(Drop)]
-pub struct NearLink<B, F, N> {
+pub struct NearLink<B: Book, F, N> {
     /// The server.
     pub server: Server<B>,
     /// The server's end of the network.
@@ -24,30 +27,29 @@ pub struct NearLink<B, F, N> {
     pub day: u32,
 }
 
-impl<B: GroupCommit, F: Link, N: Link> NearLink<B, F, N> {
-    ghost use Rattle.s10_ends.specs.Server.{book_of};
-    ghost use Rattle.s10_ends.specs.Turn.{Turn};
-    ghost use Rattle.s10_ends.specs.Batch.{ServesBatch};
+impl<B: Book, F, N> Model for NearLink<B, F, N> {
+    ghost use Rattle.s10_ends.specs.NearEnds.{NearEnds};
 
-    fn serve(&mut self)
-        ensures turn { (turn : Turn) × ServesBatch B.faults B.honest B.terms B.history B.committed
-            self.old.day 1
-            (F.trace_of self.old.far, book_of self.old.server) (
-              F.trace_of self.new.far,
-              book_of self.new.server,
-            ) (turn ∷ []) }
-        ensures day { self.new.day ≡ self.old.day }
-        ensures near { self.new.near ≡ self.old.near }
-    {
-        let _ = serve_one(&mut self.server, &mut self.far, self.day);
-    }
+    ghost Value = { NearEnds B F N };
+
+    ghost view = { λ l. record { server = l.server; far = l.far; near = l.near; day = l.day } };
+
+    ghost invariant = { λ l. B.durable };
 }
 
-impl<B: GroupCommit, F: Link, N: Link> Link for NearLink<B, F, N> {
+// Serves at most one datagram at the far end, and drops the result.
+fn serve_far<B: Book, F: Link>(server: &mut Server<B>, far: &mut F, day: u32)
+    requires { B.durable }
+    ensures turn { (turn : Turn) × ServesOne B.faults B.honest B.terms B.history B.committed day
+        (F.trace_of far.old, book_of server.old) (F.trace_of far.new, book_of server.new) turn }
+    ensures whole { StaysWhole B.honest B.history B.committed (book_of server.old)
+        (book_of server.new) }
+{
+    let _ = serve_one(server, far, day);
+}
+
+impl<B: Book, F: Link, N: Link> Link for NearLink<B, F, N> {
     ghost use Rattle.s10_link.specs.Link.{Receives, Sends};
-    ghost use Rattle.s10_ends.specs.Server.{book_of};
-    ghost use Rattle.s10_ends.specs.Turn.{Turn};
-    ghost use Rattle.s10_ends.specs.Batch.{ServesBatch};
     ghost use Rattle.s10_ends.specs.NearLink.{IsNearStep};
 
     ghost trace_of = { λ link. N.trace_of link.near };
@@ -59,17 +61,19 @@ impl<B: GroupCommit, F: Link, N: Link> Link for NearLink<B, F, N> {
         ensures trace { Receives (N.trace_of self.old.near) (N.trace_of self.new.near) result }
 
         // The server serves at most one datagram at the far end.
-        ensures turn { (turn : Turn) × ServesBatch B.faults B.honest B.terms B.history B.committed
-            self.old.day 1
+        ensures turn { (turn : Turn) × ServesOne B.faults B.honest B.terms B.history B.committed
+            self.old.day
             (F.trace_of self.old.far, book_of self.old.server) (
               F.trace_of self.new.far,
               book_of self.new.server,
-            ) (turn ∷ []) }
+            ) turn }
+        ensures whole { StaysWhole B.honest B.history B.committed (book_of self.old.server)
+            (book_of self.new.server) }
         ensures day { self.new.day ≡ self.old.day }
         ensures step { IsNearStep B.faults B.honest B.terms B.history B.committed F.trace_of
             N.trace_of self.old self.new }
     {
-        self.serve();
+        serve_far(&mut self.server, &mut self.far, self.day);
         self.near.receive()
     }
 
@@ -77,17 +81,19 @@ impl<B: GroupCommit, F: Link, N: Link> Link for NearLink<B, F, N> {
         ensures trace { Receives (N.trace_of self.old.near) (N.trace_of self.new.near) result }
 
         // The server serves at most one datagram at the far end.
-        ensures turn { (turn : Turn) × ServesBatch B.faults B.honest B.terms B.history B.committed
-            self.old.day 1
+        ensures turn { (turn : Turn) × ServesOne B.faults B.honest B.terms B.history B.committed
+            self.old.day
             (F.trace_of self.old.far, book_of self.old.server) (
               F.trace_of self.new.far,
               book_of self.new.server,
-            ) (turn ∷ []) }
+            ) turn }
+        ensures whole { StaysWhole B.honest B.history B.committed (book_of self.old.server)
+            (book_of self.new.server) }
         ensures day { self.new.day ≡ self.old.day }
         ensures step { IsNearStep B.faults B.honest B.terms B.history B.committed F.trace_of
             N.trace_of self.old self.new }
     {
-        self.serve();
+        serve_far(&mut self.server, &mut self.far, self.day);
         self.near.try_receive()
     }
 

@@ -3,7 +3,8 @@
 ghost use Rattle.std.specs.Prelude.{◌≡◌, ◌≤◌, [], length, vec_capacity};
 ghost use Rattle.s10_ends.specs.Server.{book_of};
 ghost use Rattle.s10_ends.specs.Turn.{Handles, Takes};
-ghost use Rattle.s10_ends.specs.Batch.{ReceivesBatch};
+ghost use Rattle.s10_ends.specs.Batch.{ReceivesBatch, is_reply as is_a_reply};
+ghost use Rattle.s10_ends.specs.Batch.{has_reply as has_a_reply};
 
 use crate::answer::Answer;
 use crate::exchange::Exchange;
@@ -17,9 +18,12 @@ pub(crate) fn take<B: Book, L: Link>(
     link: &mut L,
     day: u32,
 ) -> Result<Option<Exchange>, LinkFault>
-    ensures { Takes (λ before after b answer. Handles B.faults B.honest B.terms B.history before
-        after day b answer)
+    ensures takes { Takes (λ before after b answer. Handles B.faults B.honest B.terms B.history
+        B.committed before after day b answer)
         (L.trace_of link.old, book_of server.old) (L.trace_of link.new, book_of server.new) result }
+    ensures whole { B.durable → B.honest (book_of server.new) → B.committed (book_of server.old)
+        ≡ B.history (book_of server.old) → B.committed (book_of server.new)
+        ≡ B.history (book_of server.new) }
 {
     let Some((from, packet)) = link.receive()? else {
         return Ok(None);
@@ -38,8 +42,8 @@ fn try_handle_next<B: Book, L: Link>(
     link: &mut L,
     day: u32,
 ) -> Result<Option<Exchange>, LinkFault>
-    ensures { Takes (λ before after b answer. Handles B.faults B.honest B.terms B.history before
-        after day b answer)
+    ensures { Takes (λ before after b answer. Handles B.faults B.honest B.terms B.history
+        B.committed before after day b answer)
         (L.trace_of link.old, book_of server.old) (L.trace_of link.new, book_of server.new) result }
 {
     let Some((from, packet)) = link.try_receive()? else {
@@ -54,8 +58,11 @@ fn try_handle_next<B: Book, L: Link>(
 }
 
 fn handle_packet<B: Book>(server: &mut Server<B>, packet: Packet, day: u32) -> Answer
-    ensures { Handles B.faults B.honest B.terms B.history (book_of server.old) (book_of server.new)
-        day packet result }
+    ensures handles { Handles B.faults B.honest B.terms B.history B.committed (book_of server.old)
+        (book_of server.new) day packet result }
+    ensures whole { B.durable → B.honest (book_of server.new) → B.committed (book_of server.old)
+        ≡ B.history (book_of server.old) → B.committed (book_of server.new)
+        ≡ B.history (book_of server.new) }
 {
     server.handle(packet.bytes(), day)
 }
@@ -73,7 +80,7 @@ pub(crate) fn receive_batch<B: Book, L: Link>(
     requires room { most ≤ vec_capacity taken.old }
     ensures few { length taken.new.items ≤ most }
     ensures taken { ReceivesBatch (λ before after b answer. Handles B.faults B.honest B.terms
-        B.history before after day b answer) most
+        B.history B.committed before after day b answer) most
         (L.trace_of link.old, book_of server.old) (L.trace_of link.new, book_of server.new)
         taken.new.items result }
 {
@@ -88,4 +95,18 @@ pub(crate) fn receive_batch<B: Book, L: Link>(
         taken.push_reserved(next);
     }
     Ok(())
+}
+
+// Returns whether a datagram has a reply.
+pub(crate) fn is_reply(taken: &Exchange) -> bool
+    ensures { result ≡ is_a_reply taken.now.answer }
+{
+    matches!(taken.answer, Answer::Reply(_))
+}
+
+// Returns whether some datagram has a reply.
+pub(crate) fn has_reply(taken: &[Exchange]) -> bool
+    ensures { result ≡ has_a_reply taken.now }
+{
+    taken.iter().any(|t| is_reply(t))
 }

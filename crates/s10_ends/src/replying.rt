@@ -1,6 +1,6 @@
 //! Sends the replies to the datagrams that a server received.
 
-ghost use Rattle.std.specs.Prelude.{◌≡◌, ◌≤◌, ◌+◌, [], length, vec_capacity};
+ghost use Rattle.std.specs.Prelude.{◌≡◌, ◌≤◌, ◌+◌, [], ⊤, length, vec_capacity, Ok};
 ghost use Rattle.s10_ends.specs.Server.{book_of};
 ghost use Rattle.s10_ends.specs.Turn.{Answers, AsksCommitted, SendsReply, SendsCommitted};
 ghost use Rattle.s10_ends.specs.Batch.{AnswersAll};
@@ -27,6 +27,18 @@ pub(crate) fn answer<B: GroupCommit, L: Link>(
 {
     match taken.answer {
         Answer::Reply(frame) => send_committed(link, server, taken, frame, commit_result),
+        Answer::Dropped(fault) => Ok(ServerTurn::Dropped(taken.from, fault)),
+        Answer::Faulted(fault) => Ok(ServerTurn::Faulted(taken.from, fault)),
+    }
+}
+
+// Sends the reply to a datagram whose call is committed, if it has one.
+pub(crate) fn answer_committed<L: Link>(link: &mut L, taken: &Exchange) -> Turn
+    ensures { Answers ⊤ (λ b. ⊤) (L.trace_of link.old) (L.trace_of link.new) (Ok tt) taken.now.from
+        taken.now.packet taken.now.answer result }
+{
+    match taken.answer {
+        Answer::Reply(frame) => send(link, taken.from, frame),
         Answer::Dropped(fault) => Ok(ServerTurn::Dropped(taken.from, fault)),
         Answer::Faulted(fault) => Ok(ServerTurn::Faulted(taken.from, fault)),
     }

@@ -3,6 +3,7 @@
 ghost use Rattle.std.specs.Prelude.{◌≡◌, ◌∷◌, [], IfOk, OnErr, IsTrue, Ok, Err, None};
 ghost use Rattle.s10_wire.specs.Kind.{fits};
 ghost use Rattle.s10_history.specs.History.{find_entry};
+ghost use Rattle.s10_book.specs.Book.{Grows};
 ghost use Rattle.s10_book.specs.Once.{applied_once};
 ghost use Rattle.s10_ends.specs.Served.{GivesOutcome, IsFullFor};
 ghost use Rattle.s10_ends.specs.Respond.{CountsFull};
@@ -30,6 +31,10 @@ fn respond<B: Book>(book: &mut B, request: &Request, day: u32) -> Result<Outcome
     ensures full { B.honest book.new → result ≡ Err BookFault.Full
         → IsFullFor (B.history book.old) (B.terms book.old) request.now }
     ensures fits { IfOk result (λ o. IsTrue (fits request.now.body o)) }
+    ensures stays_committed { B.honest book.new
+        → Grows (B.committed book.old) (B.committed book.new) }
+    ensures committed { B.durable → B.honest book.new → B.committed book.old ≡ B.history book.old
+        → B.committed book.new ≡ B.history book.new }
 {
     if let Some(entry) = book.find(request.customer, request.number)? {
         return Ok(if same_request(&entry.request, request) {
@@ -59,6 +64,10 @@ fn execute<B: Book>(book: &mut B, request: &Request, day: u32) -> Result<Outcome
     ensures full { B.honest book.new → result ≡ Err BookFault.Full
         → IsFullFor (B.history book.old) (B.terms book.old) request.now }
     ensures fits { IfOk result (λ o. IsTrue (fits request.now.body o)) }
+    ensures stays_committed { B.honest book.new
+        → Grows (B.committed book.old) (B.committed book.new) }
+    ensures committed { B.durable → B.honest book.new → B.committed book.old ≡ B.history book.old
+        → B.committed book.new ≡ B.history book.new }
 {
     if book.settings().limit() <= book.len() {
         return Err(BookFault::Full);
@@ -85,6 +94,7 @@ impl<B: Book> Server<B> {
     ghost use Rattle.std.specs.Prelude.{◌≡◌, ◌↔◌, ◌∷◌, [], IfOk, OnErr, Some, All, map};
     ghost use Rattle.s10_wire.specs.declared.wire_fault.WireFault.{WireFault};
     ghost use Rattle.s10_wire.specs.WireFault.{IsFirstRefusalOfRequest};
+    ghost use Rattle.s10_book.specs.Book.{Grows};
     ghost use Rattle.s10_ends.specs.Server.{book_of};
     ghost use Rattle.s10_ends.specs.Served.{AskNothing, Served, UnlessReply, CountsAnswer};
     ghost use Rattle.s10_ends.specs.Runs.{dated, CountsAll, KeepsPromises, IsIssued};
@@ -139,6 +149,14 @@ impl<B: Book> Server<B> {
             (B.history (book_of self.new)) }
         ensures unchanged { B.honest (book_of self.new)
             → UnlessReply result (B.history (book_of self.new) ≡ B.history (book_of self.old)) }
+
+        // Committed calls stay committed. Over a durable book all calls are committed if they were.
+        ensures stays_committed { B.honest (book_of self.new)
+            → Grows (B.committed (book_of self.old))
+            (B.committed (book_of self.new)) }
+        ensures committed { B.durable → B.honest (book_of self.new) → B.committed (book_of self.old)
+            ≡ B.history (book_of self.old) → B.committed (book_of self.new)
+            ≡ B.history (book_of self.new) }
     {
         let request = match decode_request(bytes) {
             Ok(request) => request,
@@ -185,6 +203,14 @@ impl<B: Book> Server<B> {
         // to the reply's request.
         ensures issued { B.honest (book_of self.new)
             → IfOk result (λ answers. All (IsIssued (B.history (book_of self.new))) answers.items) }
+
+        // Committed calls stay committed. Over a durable book all calls are committed if they were.
+        ensures stays_committed { B.honest (book_of self.new)
+            → Grows (B.committed (book_of self.old))
+            (B.committed (book_of self.new)) }
+        ensures committed { B.durable → B.honest (book_of self.new) → B.committed (book_of self.old)
+            ≡ B.history (book_of self.old) → B.committed (book_of self.new)
+            ≡ B.history (book_of self.new) }
 
         // If the answers cannot be allocated, the book is unchanged.
         ensures refused { OnErr result (book_of self.new ≡ book_of self.old) }

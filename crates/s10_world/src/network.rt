@@ -30,6 +30,9 @@ impl<B: Book> Network<B> {
         ensures was_honest { B.honest (book_in self.new) → B.honest (book_in self.old) }
         ensures same_terms { B.honest (book_in self.new) → B.terms (book_in self.new)
             ≡ B.terms (book_in self.old) }
+        ensures committed { B.durable → B.honest (book_in self.new)
+            → B.committed (book_in self.old) ≡ B.history (book_in self.old)
+            → B.committed (book_in self.new) ≡ B.history (book_in self.new) }
 
         // The state is one that the steps reach by the events in order.
         ensures ok { B.honest (book_in self.new)
@@ -56,6 +59,9 @@ impl<B: Book> Network<B> {
         ensures was_honest { B.honest (book_in self.new) → B.honest (book_in self.old) }
         ensures same_terms { B.honest (book_in self.new) → B.terms (book_in self.new)
             ≡ B.terms (book_in self.old) }
+        ensures committed { B.durable → B.honest (book_in self.new)
+            → B.committed (book_in self.old) ≡ B.history (book_in self.old)
+            → B.committed (book_in self.new) ≡ B.history (book_in self.new) }
         ensures ok { B.honest (book_in self.new)
             → OnOk result
             (Step (B.terms (book_in self.old)) (world_state_of B.history B.faults self.old)
@@ -131,6 +137,9 @@ impl<B: Book> Network<B> {
         ensures was_honest { B.honest (book_in self.new) → B.honest (book_in self.old) }
         ensures same_terms { B.honest (book_in self.new) → B.terms (book_in self.new)
             ≡ B.terms (book_in self.old) }
+        ensures committed { B.durable → B.honest (book_in self.new)
+            → B.committed (book_in self.old) ≡ B.history (book_in self.old)
+            → B.committed (book_in self.new) ≡ B.history (book_in self.new) }
         ensures ok { B.honest (book_in self.new)
             → OnOk result (ReachesServer (B.terms (book_in self.old))
             (world_state_of B.history B.faults self.old) bytes.now day
@@ -154,6 +163,9 @@ impl<B: Book> Network<B> {
         ensures was_honest { B.honest (book_in self.new) → B.honest (book_in self.old) }
         ensures same_terms { B.honest (book_in self.new) → B.terms (book_in self.new)
             ≡ B.terms (book_in self.old) }
+        ensures committed { B.durable → B.honest (book_in self.new)
+            → B.committed (book_in self.old) ≡ B.history (book_in self.old)
+            → B.committed (book_in self.new) ≡ B.history (book_in self.new) }
         ensures ok { B.honest (book_in self.new)
             → OnOk result (DeliversRequest (B.terms (book_in self.old))
             (world_state_of B.history B.faults self.old) (slice_get (asked_of self.old) index) day

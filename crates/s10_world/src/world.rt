@@ -120,6 +120,11 @@ impl<B: Book> World<B> {
         ensures same_terms { B.honest (book_in self.new) → B.terms (book_in self.new)
             ≡ B.terms (book_in self.old) }
 
+        // Over a durable book all calls are committed if they were.
+        ensures committed { B.durable → B.honest (book_in self.new)
+            → B.committed (book_in self.old) ≡ B.history (book_in self.old)
+            → B.committed (book_in self.new) ≡ B.history (book_in self.new) }
+
         // The state is one that the steps reach by the events in order.
         ensures ok { B.honest (book_in self.new)
             → OnOk result (Steps (B.terms (book_in self.old))

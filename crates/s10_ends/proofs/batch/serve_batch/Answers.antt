@@ -2,6 +2,7 @@ use Rattle.std.proofs.Common.{◌≡◌, ℕ, ◌+◌, ◌≤◌, List, length, 
 use Rattle.std.proofs.lemmas.Result.{err_from_is_err_and}
 use Rattle.s10_ends.specs.declared.exchange.Exchange.{Exchange}
 use Rattle.s10_ends.proofs.Batches.{turns_some, turns_few}
+use Rattle.s10_ends.proofs.ReceiveCount.{batch_receives}
 use Rattle.s10_ends.proofs.Standing.{batch_stands}
 use Rattle.s10_ends.proofs.batch.serve_batch.Goals as goal
 
@@ -69,6 +70,19 @@ returns-clause-served g c = record {
 pub returns-clause-stands : goal.returns-clause-stands
 returns-clause-stands g c = batch_stands _ _ _ _ _ c.args.day c.args.most _ _ _
     (returns-clause-served g c)
+
+pub returns-clause-receives : goal.returns-clause-receives
+returns-clause-receives g c = batch_receives _ _ _ _ _ c.args.day c.args.most _ _ _
+    (returns-clause-served g c)
+
+pub returns-in_err-taken-clause-receives : goal.returns-in_err-taken-clause-receives
+returns-in_err-taken-clause-receives g c =
+    rw (err_from_is_err_and c.from_residual.result c.from_residual.ensures.1).1 tt
+
+pub returns-in_err-turns-clause-receives : goal.returns-in_err-turns-clause-receives
+returns-in_err-turns-clause-receives g c =
+    rw (err_from_is_err_and c.from_residual-in_err-turns.result
+    c.from_residual-in_err-turns.ensures.1).1 tt
 
 pub returns-in_err-taken-clause-served : goal.returns-in_err-taken-clause-served
 returns-in_err-taken-clause-served g c =

@@ -3,11 +3,11 @@ use Rattle.s10_ends.specs.Server.{book_of}
 use Rattle.s10_ends.specs.Turn.{Handles}
 use Rattle.s10_ends.proofs.receiving.handle_packet.Goals as goal
 
-pub returns : goal.returns
-returns g c =
+pub returns-clause-handles : goal.returns-clause-handles
+returns-clause-handles g c =
     let P : List ℕ → Type 0 = λ b. Handles g.B.Book.faults g.B.Book.honest g.B.Book.terms
-    g.B.Book.history (book_of c.args.server.now) (book_of c.handle.new.self) c.args.day b
-    c.handle.result in
+    g.B.Book.history g.B.Book.committed (book_of c.args.server.now) (book_of c.handle.new.self)
+    c.args.day b c.handle.result in
     subst P c.bytes.ensures.bytes (
     record {
       counts = c.handle.ensures.faults;
@@ -17,4 +17,8 @@ returns g c =
       same_terms = c.handle.ensures.same_terms;
       served = c.handle.ensures.served;
       unchanged = c.handle.ensures.unchanged;
+      stays_committed = c.handle.ensures.stays_committed;
     })
+
+pub returns-clause-whole : goal.returns-clause-whole
+returns-clause-whole g c = c.handle.ensures.committed

@@ -44,12 +44,12 @@ returns-in_err-first-clause-taken g c =
       g.L.Link.trace_of c.args.link.now,
       c.args.server.now.book,
     ) _ [] none _ c.in_err-first.field-0.0 c.from_residual.result
-    (none_yet c.args.most c.requires.some) c.in_err-first.ensures c.from_residual.ensures.1)
+    (none_yet c.args.most c.requires.some) c.in_err-first.ensures.takes c.from_residual.ensures.1)
 
 pub returns-in_default-clause-taken : goal.returns-in_default-clause-taken
 returns-in_default-clause-taken g c =
     rw c.requires.none (no_more _ c.args.most _ _ [] none _ c.in_ok-first.field-0
-    c.in_ok-first.ensures c.in_default.is)
+    (none_yet c.args.most c.requires.some) c.in_ok-first.ensures.takes c.in_default.is)
 
 pub loop-more-init : goal.loop-more-init
 loop-more-init g c = record {
@@ -58,7 +58,7 @@ loop-more-init g c = record {
       c.push_reserved.ensures.len;
   count = rw (c.push_reserved.ensures.items, c.requires.none) refl;
   takes = rw (c.push_reserved.ensures.items, c.requires.none) (one_more _ c.args.most _ _ [] none _
-      c.in_ok-first.field-0 c.in-Some.first c.in_ok-first.ensures c.in-Some.is);
+      c.in_ok-first.field-0 c.in-Some.first c.in_ok-first.ensures.takes c.in-Some.is);
 }
 
 pub returns-in_err-next-clause-taken : goal.returns-in_err-next-clause-taken
@@ -69,7 +69,9 @@ returns-in_err-next-clause-taken g c = failed _ c.args.most _ _ _ c.loop-more.in
 
 pub returns-in_default-2-clause-taken : goal.returns-in_default-2-clause-taken
 returns-in_default-2-clause-taken g c = no_more _ c.args.most _ _ _ c.loop-more.invariant.takes _
-    c.in_ok-next.field-0 c.in_ok-next.ensures c.in_default-2.is
+    c.in_ok-next.field-0
+    (fewer _ c.loop-more._more c.args.most c.loop-more.invariant.count c.loop-more-test.true)
+    c.in_ok-next.ensures c.in_default-2.is
 
 pub loop-more-preserved : goal.loop-more-preserved
 loop-more-preserved g c = record {

@@ -11,7 +11,7 @@ invariant-loop-next g l = record {
   capacity : vec_capacity l.turns ≡ vec_capacity l.fn.turns;
   many : vec_len l.turns ≡ l.next-index;
   answers : AnswersAll (g.B.Book.honest (book_of l.fn.server))
-      (AsksCommitted (g.B.GroupCommit.committed (book_of l.fn.server))
+      (AsksCommitted (g.B.Book.committed (book_of l.fn.server))
       (g.B.Book.history (book_of l.fn.server)))
       l.fn.commit_result (g.L.Link.trace_of l.fn.link) (take l.next-index l.taken) l.turns.items
       (g.L.Link.trace_of l.link);

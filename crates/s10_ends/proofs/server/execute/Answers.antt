@@ -3,6 +3,7 @@ use Rattle.std.proofs.lemmas.Result.{err_from_is_err_and}
 use Rattle.s10_history.specs.declared.entry.Entry.{Entry}
 use Rattle.s10_history.specs.History.{find_entry, day_of}
 use Rattle.s10_history.specs.Settings.{Terms}
+use Rattle.s10_book.proofs.Calls.{grows_none, grows_trans, whole_stays, whole_kept}
 use Rattle.s10_ends.proofs.Faulted.{told_counts, never_full, ok_not_full}
 use Rattle.s10_ends.proofs.Applied.{once_new, kept_new}
 use Rattle.s10_ends.proofs.server.execute.Goals as goal
@@ -186,3 +187,46 @@ returns-clause-full g c = λ h is. absurd (ok_not_full _ is)
 
 pub returns-clause-fits : goal.returns-clause-fits
 returns-clause-fits g c = c.in_ok-decide.ensures.fits
+
+pub returns-then-limit-len-clause-stays_committed :
+    goal.returns-then-limit-len-clause-stays_committed
+returns-then-limit-len-clause-stays_committed g c =
+    λ h. grows_none (g.B.Book.committed c.args.book.now)
+
+pub returns-then-limit-len-clause-committed : goal.returns-then-limit-len-clause-committed
+returns-then-limit-len-clause-committed g c = λ lasting h whole. whole
+
+pub returns-in_err-decide-clause-stays_committed : goal.returns-in_err-decide-clause-stays_committed
+returns-in_err-decide-clause-stays_committed g c = λ h. c.decide.ensures.unchanged.stays_committed h
+
+pub returns-in_err-decide-clause-committed : goal.returns-in_err-decide-clause-committed
+returns-in_err-decide-clause-committed g c = λ lasting h whole. whole_kept c.args.book.now
+    c.decide.new.book c.decide.ensures.unchanged h (g.met.B.Book.first c.decide.new.book h) whole
+
+pub returns-in_err-keep-clause-stays_committed : goal.returns-in_err-keep-clause-stays_committed
+returns-in_err-keep-clause-stays_committed g c = λ h.
+    grows_trans (g.B.Book.committed c.args.book.now) (g.B.Book.committed c.decide.new.book)
+    (g.B.Book.committed c.keep.new.self)
+    (c.decide.ensures.unchanged.stays_committed (c.keep.ensures.was_honest h))
+    (c.keep.ensures.stays_committed h)
+
+pub returns-in_err-keep-clause-committed : goal.returns-in_err-keep-clause-committed
+returns-in_err-keep-clause-committed g c = λ lasting h whole.
+    let kept = whole_kept c.args.book.now c.decide.new.book c.decide.ensures.unchanged
+    (c.keep.ensures.was_honest h) (g.met.B.Book.first c.decide.new.book
+    (c.keep.ensures.was_honest h)) whole in
+    whole_stays (g.B.Book.committed c.decide.new.book) (g.B.Book.history c.decide.new.book)
+    (g.B.Book.committed c.keep.new.self) (g.B.Book.history c.keep.new.self) kept
+    (c.in_err-keep.ensures.err h) (c.keep.ensures.stays_committed h)
+    (g.met.B.Book.first c.keep.new.self
+    h)
+
+pub returns-clause-stays_committed : goal.returns-clause-stays_committed
+returns-clause-stays_committed g c = λ h.
+    grows_trans (g.B.Book.committed c.args.book.now) (g.B.Book.committed c.decide.new.book)
+    (g.B.Book.committed c.keep.new.self)
+    (c.decide.ensures.unchanged.stays_committed (c.keep.ensures.was_honest h))
+    (c.keep.ensures.stays_committed h)
+
+pub returns-clause-committed : goal.returns-clause-committed
+returns-clause-committed g c = λ lasting h whole. c.in_ok-keep.ensures.committed lasting h

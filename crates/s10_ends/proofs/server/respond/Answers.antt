@@ -1,6 +1,7 @@
 use Rattle.std.proofs.Common.{◌≡◌, ◌∙◌, refl, sym, ap, Some}
 use Rattle.std.proofs.lemmas.Result.{err_from_is_err_and}
 use Rattle.s10_history.specs.History.{find_entry}
+use Rattle.s10_book.proofs.Calls.{grows_trans, whole_kept}
 use Rattle.s10_ends.proofs.Faulted.{told_counts, never_full}
 use Rattle.s10_ends.proofs.Applied.{once_kept, reused_fits}
 use Rattle.s10_ends.proofs.server.respond.Goals as goal
@@ -119,3 +120,30 @@ returns-in_err-entry-clause-full g c =
 pub returns-in_err-entry-clause-fits : goal.returns-in_err-entry-clause-fits
 returns-in_err-entry-clause-fits g c =
     rw (err_from_is_err_and c.from_residual.result c.from_residual.ensures.1).1 tt
+
+pub returns-clause-stays_committed : goal.returns-clause-stays_committed
+returns-clause-stays_committed g c = λ h.
+    grows_trans (g.B.Book.committed c.args.book.now) (g.B.Book.committed c.find.new.self)
+    (g.B.Book.committed c.execute.new.book)
+    (c.find.ensures.unchanged.stays_committed (c.execute.ensures.was_honest h))
+    (c.execute.ensures.stays_committed h)
+
+pub returns-clause-committed : goal.returns-clause-committed
+returns-clause-committed g c = λ lasting h whole.
+    let h1 = c.execute.ensures.was_honest h in
+    c.execute.ensures.committed lasting h (whole_kept c.args.book.now c.find.new.self
+    c.find.ensures.unchanged h1 (g.met.B.Book.first c.find.new.self h1) whole)
+
+pub returns-in-Some-clause-stays_committed : goal.returns-in-Some-clause-stays_committed
+returns-in-Some-clause-stays_committed g c = λ h. c.find.ensures.unchanged.stays_committed h
+
+pub returns-in-Some-clause-committed : goal.returns-in-Some-clause-committed
+returns-in-Some-clause-committed g c = λ lasting h whole. whole_kept c.args.book.now c.find.new.self
+    c.find.ensures.unchanged h (g.met.B.Book.first c.find.new.self h) whole
+
+pub returns-in_err-entry-clause-stays_committed : goal.returns-in_err-entry-clause-stays_committed
+returns-in_err-entry-clause-stays_committed g c = λ h. c.find.ensures.unchanged.stays_committed h
+
+pub returns-in_err-entry-clause-committed : goal.returns-in_err-entry-clause-committed
+returns-in_err-entry-clause-committed g c = λ lasting h whole. whole_kept c.args.book.now
+    c.find.new.self c.find.ensures.unchanged h (g.met.B.Book.first c.find.new.self h) whole

@@ -1,22 +1,30 @@
-use Rattle.std.proofs.Common.{inl}
+use Rattle.std.proofs.Common.{inl, refl}
 use Rattle.s10_ends.proofs.near_link.NearLinkLink.receive.Goals as goal
 
+pub serve_far-requires : goal.serve_far-requires
+serve_far-requires g c = c.self.invariant
+
 pub returns-clause-trace : goal.returns-clause-trace
-returns-clause-trace g c = rw c.serve.ensures.near at c.receive.ensures.trace
+returns-clause-trace g c = rw (← c.self.view_is) c.receive.ensures.trace
 
 pub returns-clause-turn : goal.returns-clause-turn
-returns-clause-turn g c = c.serve.ensures.turn
+returns-clause-turn g c = rw (← c.self.view_is) c.serve_far.ensures.turn
+
+pub returns-clause-whole : goal.returns-clause-whole
+returns-clause-whole g c = rw (← c.self.view_is) c.serve_far.ensures.whole
 
 pub returns-clause-day : goal.returns-clause-day
-returns-clause-day g c = c.serve.ensures.day
+returns-clause-day g c = rw (← c.self.view_is) refl
 
 pub returns-clause-step : goal.returns-clause-step
-returns-clause-step g c = record {
-  day = c.serve.ensures.day;
-  call = inl (
-    c.serve.ensures.turn.0,
-    c.receive.result,
-    c.serve.ensures.turn.1,
-    rw c.serve.ensures.near at c.receive.ensures.trace,
-  );
-}
+returns-clause-step g c =
+    rw (← c.self.view_is) (record {
+      day = refl;
+      call = inl (
+        c.serve_far.ensures.turn.0,
+        c.receive.result,
+        c.serve_far.ensures.turn.1,
+        c.serve_far.ensures.whole,
+        c.receive.ensures.trace,
+      );
+    })

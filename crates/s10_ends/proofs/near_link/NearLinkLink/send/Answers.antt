@@ -2,14 +2,14 @@ use Rattle.std.proofs.Common.{refl, inr}
 use Rattle.s10_ends.proofs.near_link.NearLinkLink.send.Goals as goal
 
 pub returns-clause-trace : goal.returns-clause-trace
-returns-clause-trace g c = c.send.ensures.trace
+returns-clause-trace g c = rw (← c.self.view_is) c.send.ensures.trace
 
 pub returns-clause-same : goal.returns-clause-same
-returns-clause-same g c = refl
+returns-clause-same g c = rw (← c.self.view_is) refl
 
 pub returns-clause-step : goal.returns-clause-step
 returns-clause-step g c =
-    record {
+    rw (← c.self.view_is) (record {
       day = refl;
       call = inr (
         (c.args.to, c.args.frame.now),
@@ -18,4 +18,4 @@ returns-clause-step g c =
         refl,
         refl,
       );
-    }
+    })

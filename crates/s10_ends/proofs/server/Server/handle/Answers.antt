@@ -3,6 +3,7 @@ use Rattle.std.proofs.lemmas.Bool.{false≢true}
 use Rattle.s10_wire.specs.declared.request.Request.{Request}
 use Rattle.s10_wire.specs.declared.outcome.Outcome.{Outcome}
 use Rattle.s10_wire.specs.Datagrams.{Replies}
+use Rattle.s10_book.proofs.Calls.{grows_none}
 use Rattle.s10_ends.proofs.One.{only_first, not_dropped, reply_not_dropped, faulted_not_dropped}
 use Rattle.s10_ends.proofs.One.{Served-dropped, Served-reply, Served-faulted}
 use Rattle.s10_ends.proofs.server.Server.handle.Goals as goal
@@ -95,3 +96,23 @@ returns-in-Err-respond-clause-same_terms g c = c.respond.ensures.same_terms
 
 pub returns-in-Err-respond-clause-unchanged : goal.returns-in-Err-respond-clause-unchanged
 returns-in-Err-respond-clause-unchanged g c = c.in-Err-respond.ensures.err
+
+pub returns-in-Err-clause-stays_committed : goal.returns-in-Err-clause-stays_committed
+returns-in-Err-clause-stays_committed g c =
+    λ h. grows_none (g.B.Book.committed c.args.self.now.book)
+
+pub returns-in-Err-clause-committed : goal.returns-in-Err-clause-committed
+returns-in-Err-clause-committed g c = λ lasting h whole. whole
+
+pub returns-in-Some-clause-stays_committed : goal.returns-in-Some-clause-stays_committed
+returns-in-Some-clause-stays_committed g c = c.respond.ensures.stays_committed
+
+pub returns-in-Some-clause-committed : goal.returns-in-Some-clause-committed
+returns-in-Some-clause-committed g c = c.respond.ensures.committed
+
+pub returns-in-Err-respond-clause-stays_committed :
+    goal.returns-in-Err-respond-clause-stays_committed
+returns-in-Err-respond-clause-stays_committed g c = c.respond.ensures.stays_committed
+
+pub returns-in-Err-respond-clause-committed : goal.returns-in-Err-respond-clause-committed
+returns-in-Err-respond-clause-committed g c = c.respond.ensures.committed

@@ -6,6 +6,7 @@ use Rattle.s10_ends.specs.declared.delivery.Delivery.{Delivery}
 use Rattle.s10_ends.specs.declared.answer.Answer.{Answer}
 use Rattle.s10_ends.specs.Served.{Served}
 use Rattle.s10_ends.specs.Runs.{CountsAll}
+use Rattle.s10_book.proofs.Calls.{grows_none, grows_trans}
 use Rattle.s10_ends.proofs.Filling.{room_for_next, room_kept, one_longer}
 use Rattle.s10_ends.proofs.Whole.{Served-nil}
 use Rattle.s10_ends.proofs.Runs.{CountsAll-nil, CountsAll-push, Served-map_push}
@@ -30,6 +31,8 @@ loop-delivery-init g c =
       faults = subst P (sym c.in_ok-answers.ensures.items) (CountsAll-nil (g.B.Book.faults book));
       was_honest = λ h. h;
       same_terms = λ h. refl;
+      stays_committed = λ h. grows_none (g.B.Book.committed book);
+      committed = λ lasting h whole. whole;
       served = λ h. subst Q (sym c.in_ok-answers.ensures.items) (Served-nil (g.B.Book.history book)
           (g.B.Book.terms book));
     }
@@ -45,6 +48,14 @@ loop-delivery-preserved g c =
       was_honest = λ h. before.was_honest (c.handle-answer.ensures.was_honest h);
       same_terms = λ h. c.handle-answer.ensures.same_terms h
           ∙ before.same_terms (c.handle-answer.ensures.was_honest h);
+      stays_committed = λ h.
+          grows_trans (g.B.Book.committed c.args.self.now.book)
+          (g.B.Book.committed c.loop-delivery.self.book)
+          (g.B.Book.committed c.handle-answer.new.self.book)
+          (before.stays_committed (c.handle-answer.ensures.was_honest h))
+          (c.handle-answer.ensures.stays_committed h);
+      committed = λ lasting h whole. c.handle-answer.ensures.committed lasting h
+          (before.committed lasting (c.handle-answer.ensures.was_honest h) whole);
       served = λ h.
           let h0 = c.handle-answer.ensures.was_honest h in
           let one = c.handle-answer.ensures.served h in
@@ -117,3 +128,18 @@ returns-clause-same_terms g c = λ h. c.loop-delivery.invariant.same_terms h
 
 pub returns-clause-refused : goal.returns-clause-refused
 returns-clause-refused g c = tt
+
+pub returns-in_err-answers-clause-stays_committed :
+    goal.returns-in_err-answers-clause-stays_committed
+returns-in_err-answers-clause-stays_committed g c =
+    λ h. grows_none (g.B.Book.committed c.args.self.now.book)
+
+pub returns-in_err-answers-clause-committed : goal.returns-in_err-answers-clause-committed
+returns-in_err-answers-clause-committed g c = λ lasting h whole. whole
+
+pub returns-clause-stays_committed : goal.returns-clause-stays_committed
+returns-clause-stays_committed g c = λ h. c.loop-delivery.invariant.stays_committed h
+
+pub returns-clause-committed : goal.returns-clause-committed
+returns-clause-committed g c = λ lasting h whole. c.loop-delivery.invariant.committed lasting h
+    whole

@@ -1,5 +1,6 @@
 use Rattle.std.proofs.Common.{◌≡◌, ◌≤◌, length, map, take}
 use Rattle.std.specs.Prelude.{vec_len, vec_capacity}
+use Rattle.s10_book.specs.Book.{Grows}
 use Rattle.s10_ends.specs.Served.{Served}
 use Rattle.s10_ends.specs.Runs.{dated, CountsAll}
 use Rattle.s10_ends.proofs.server.Server.run.Given as goal
@@ -12,6 +13,11 @@ invariant-loop-delivery g l = record {
   was_honest : g.B.Book.honest l.self.book → g.B.Book.honest l.fn.self.book;
   same_terms : g.B.Book.honest l.self.book → g.B.Book.terms l.self.book
       ≡ g.B.Book.terms l.fn.self.book;
+  stays_committed : g.B.Book.honest l.self.book → Grows (g.B.Book.committed l.fn.self.book)
+      (g.B.Book.committed l.self.book);
+  committed : g.B.Book.durable → g.B.Book.honest l.self.book → g.B.Book.committed l.fn.self.book
+      ≡ g.B.Book.history l.fn.self.book → g.B.Book.committed l.self.book
+      ≡ g.B.Book.history l.self.book;
   served : g.B.Book.honest l.self.book → Served (g.B.Book.history l.fn.self.book)
       (g.B.Book.terms l.fn.self.book) (map dated (take l.delivery-index l.deliveries))
       l.answers.items (g.B.Book.history l.self.book);

@@ -28,3 +28,9 @@ returns-clause-same_terms g c = c.reach_server.ensures.same_terms
 
 pub returns-clause-err : goal.returns-clause-err
 returns-clause-err g c = c.reach_server.ensures.err
+
+pub returns-in_default-clause-committed : goal.returns-in_default-clause-committed
+returns-in_default-clause-committed g c = λ lasting h whole. whole
+
+pub returns-clause-committed : goal.returns-clause-committed
+returns-clause-committed g c = c.reach_server.ensures.committed

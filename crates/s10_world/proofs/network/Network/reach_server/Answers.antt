@@ -52,3 +52,15 @@ returns-in-Faulted-clause-was_honest g c = c.in-Faulted.ensures.was_honest
 
 pub returns-in-Faulted-clause-same_terms : goal.returns-in-Faulted-clause-same_terms
 returns-in-Faulted-clause-same_terms g c = c.in-Faulted.ensures.same_terms
+
+pub returns-in_err-reserve-clause-committed : goal.returns-in_err-reserve-clause-committed
+returns-in_err-reserve-clause-committed g c = λ lasting h whole. whole
+
+pub returns-in-Reply-clause-committed : goal.returns-in-Reply-clause-committed
+returns-in-Reply-clause-committed g c = c.in-Reply.ensures.committed
+
+pub returns-in-Dropped-clause-committed : goal.returns-in-Dropped-clause-committed
+returns-in-Dropped-clause-committed g c = c.in-Dropped.ensures.committed
+
+pub returns-in-Faulted-clause-committed : goal.returns-in-Faulted-clause-committed
+returns-in-Faulted-clause-committed g c = c.in-Faulted.ensures.committed

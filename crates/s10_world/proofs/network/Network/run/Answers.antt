@@ -22,6 +22,8 @@ loop-place-preserved g c =
       was_honest = λ h. before.was_honest (c.step.ensures.was_honest h);
       same_terms = λ h. c.step.ensures.same_terms h
           ∙ before.same_terms (c.step.ensures.was_honest h);
+      committed = λ lasting h whole. c.step.ensures.committed lasting h
+          (before.committed lasting (c.step.ensures.was_honest h) whole);
       reached = λ h.
           let h0 = c.step.ensures.was_honest h in
           let event = c.index-events-place.result in

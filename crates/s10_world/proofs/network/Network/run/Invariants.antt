@@ -11,6 +11,8 @@ invariant-loop-place g l =
     record {
       was_honest : g.B.Book.honest now → g.B.Book.honest book;
       same_terms : g.B.Book.honest now → g.B.Book.terms now ≡ g.B.Book.terms book;
+      committed : g.B.Book.durable → g.B.Book.honest now → g.B.Book.committed book
+          ≡ g.B.Book.history book → g.B.Book.committed now ≡ g.B.Book.history now;
       reached : g.B.Book.honest now
           → Steps (g.B.Book.terms book) (world_state_of g.B.Book.history g.B.Book.faults l.fn.self)
           (take l.place l.events) (world_state_of g.B.Book.history g.B.Book.faults l.self);

@@ -1,0 +1,66 @@
+-- What batches of a server, one after another, do to its book.
+use Rattle.std.specs.Prelude.{◌≡◌, ℕ, List, [], ◌∷◌, ◌++◌, map, Option, Some, All}
+use Rattle.std.specs.List.{flat_map}
+use Rattle.s10_link.specs.declared.trace.Trace.{Trace}
+use Rattle.s10_history.specs.declared.entry.Entry.{Entry}
+use Rattle.s10_history.specs.Settings.{Terms}
+use Rattle.s10_book.specs.declared.faults.Faults.{Faults}
+use Rattle.s10_book.specs.Book.{Grows}
+use Rattle.s10_ends.specs.declared.answer.Answer.{Answer}
+use Rattle.s10_ends.specs.declared.exchange.Exchange.{Exchange}
+use Rattle.s10_ends.specs.Served.{Dated, Served}
+use Rattle.s10_ends.specs.Runs.{KeepsPromises}
+use Rattle.s10_ends.specs.Turn.{Turn}
+use Rattle.s10_ends.specs.Batch.{ServesBatch, IsSentCommitted, IsOwedReply}
+
+-- The batches lead from the old state to the new, one after another.
+unfoldable pub BatchesLead : {S : Type 0} → (S → List Turn → S → Type 0) → S → List (List Turn) → S
+    → Type 0
+BatchesLead IsStep old [] new = new ≡ old
+BatchesLead IsStep old (batch ∷ batches) new = (next : _) × IsStep old batch next
+    × BatchesLead IsStep next batches new
+
+-- The turns of batches, in order.
+abbrev pub turns_in : List (List Turn) → List Turn
+turns_in batches = flat_map (λ batch. batch) batches
+
+-- The given day, or any day if none is given.
+abbrev pub IsDay : Option ℕ → ℕ → Type 0
+IsDay given day = (d : ℕ) → given ≡ Some d → day ≡ d
+
+module _ {B : Type 0} (faults : B → Faults) (honest : B → Type 0) (terms : B → Terms)
+    (history committed : B → List Entry) where
+  -- One batch on such a day, from a link's trace and a server's book to those after it.
+  abbrev pub IsBatch : Option ℕ → Trace × B → List Turn → Trace × B → Type 0
+  IsBatch given old turns new = (day : ℕ) × IsDay given day × (most : ℕ) × ServesBatch faults honest
+      terms history committed day most old new turns
+
+  -- The datagrams that the batches received, in order, each with the day of its batch.
+  unfoldable pub deliveries_in : (old new : Trace × B) (batches : List (List Turn))
+      (given : Option ℕ) → BatchesLead (IsBatch given) old batches new → List Dated
+  unfolding BatchesLead
+  deliveries_in old new [] given lead = []
+  deliveries_in old new (batch ∷ batches) given (next, (day, is, most, it), rest) =
+      map (λ (t : Exchange). (t.packet, day)) it.taken ++ deliveries_in next new batches given rest
+
+  -- The answers to these datagrams, in order.
+  unfoldable pub answers_in : (old new : Trace × B) (batches : List (List Turn)) (given : Option ℕ)
+      → BatchesLead (IsBatch given) old batches new → List Answer
+  unfolding BatchesLead
+  answers_in old new [] given lead = []
+  answers_in old new (batch ∷ batches) given (next, (day, is, most, it), rest) =
+      map (λ (t : Exchange). t.answer) it.taken ++ answers_in next new batches given rest
+
+  -- Batches with these deliveries, answers and turns led from one book to the other. The history is
+  -- what each distinct request once, in order of first arrival, gives, and keeps its promises.
+  -- Committed calls stay committed. Every reply that was sent is one that the committed calls give,
+  -- and one that they owe to a delivery.
+  pub record ServesAll (old new : B) (deliveries : List Dated) (answers : List Answer)
+      (turns : List Turn) : Type 0 where
+    pub was_honest : honest old
+    pub same_terms : terms new ≡ terms old
+    pub served : Served (history old) (terms old) deliveries answers (history new)
+    pub kept : KeepsPromises (history new) (terms new)
+    pub stays_committed : Grows (committed old) (committed new)
+    pub stands : All (IsSentCommitted (committed new)) turns
+    pub owed : All (IsOwedReply (committed new) deliveries) turns

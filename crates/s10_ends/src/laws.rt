@@ -1,0 +1,24 @@
+//! States that batches one after another give what one run gives.
+
+ghost use Rattle.std.specs.Prelude.{ℕ, List, Option};
+ghost use Rattle.s10_link.specs.declared.trace.Trace.{Trace};
+ghost use Rattle.s10_ends.specs.Turn.{Turn};
+ghost use Rattle.s10_ends.specs.Composed.{BatchesLead, turns_in, IsBatch, deliveries_in};
+ghost use Rattle.s10_ends.specs.Composed.{answers_in, ServesAll};
+
+use s10_book::Book;
+
+/// States that batches of a server, one after another, each on its day, give what one run over all
+/// their datagrams gives, if the book is honest after them.
+///
+/// The calls that are committed at the end give every reply that was sent in any of the batches.
+pub fn batches_compose<B: Book>()
+    ensures { (given : Option ℕ) (old new : Trace × B) (batches : List (List Turn))
+        (lead : BatchesLead (IsBatch B.faults B.honest B.terms B.history B.committed given) old
+        batches new)
+        → B.honest new.1 → ServesAll B.faults B.honest B.terms B.history B.committed old.1 new.1
+        (deliveries_in B.faults B.honest B.terms B.history B.committed old new batches given
+        lead)
+        (answers_in B.faults B.honest B.terms B.history B.committed old new batches given lead)
+        (turns_in batches) }
+{}
